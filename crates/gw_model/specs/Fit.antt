@@ -1,0 +1,34 @@
+-- Which observations an ASDU can carry (IEC 60870-5-101, 7.2.5, 7.2.6).
+use Rattle.std.specs.Prelude.{ℕ, ℤ, pos, ◌+ℤ◌, ◌*ℤ◌, ◌≤ℤ◌, ◌<ℤ◌, ◌≤◌, Bool, not, ◌&&◌, nat_lt, IsTrue}
+use Rattle.gw_model.specs.declared.point.Stamp.{Stamp}
+use Rattle.gw_model.specs.declared.point.Stamp.TheVariants.{Untimed, At, Doubtful}
+use Rattle.gw_model.specs.declared.observation.Value.{Value}
+use Rattle.gw_model.specs.declared.observation.Value.TheVariants.{Single, Double, Scaled, Word, Total}
+use Rattle.gw_model.specs.declared.observation.Quality.{Quality}
+use Rattle.gw_model.specs.declared.observation.Observation.{Observation}
+
+-- the element has these quality bits alone: SIQ and DIQ all but OV, CY and CA, QDS all but CY and CA,
+-- BCR none but IV, CY and CA; a double-point state is at most 3
+abbrev pub is_of_element : Value → Quality → Bool
+is_of_element (Single on) q = not q.ov && not q.cy && not q.ca
+is_of_element (Double state) q = nat_lt state 4 && not q.ov && not q.cy && not q.ca
+is_of_element (Scaled z) q = not q.cy && not q.ca
+is_of_element (Word n) q = not q.cy && not q.ca
+is_of_element (Total n) q = not q.nt && not q.sb && not q.bl && not q.ov
+
+-- the civil year of instant t is 2000 to 2099 where clocks are offset minutes before UTC:
+-- 946684800000 and 4102444800000 are the first milliseconds of 2000 and of 2100
+pub record IsIn21stCentury (offset : ℤ) (t : ℕ) : Type 0 where
+  pub from_2000 : pos 946684800000 ≤ℤ (pos t +ℤ (pos 60000 *ℤ offset))
+  pub before_2100 : (pos t +ℤ (pos 60000 *ℤ offset)) <ℤ pos 4102444800000
+
+-- a time tag can show the stamp, or there is none
+abbrev pub IsInWindow : ℤ → Stamp → Type 0
+IsInWindow offset Untimed = Unit {0}
+IsInWindow offset (At t) = IsIn21stCentury offset t
+IsInWindow offset (Doubtful t) = IsIn21stCentury offset t
+
+pub record IsFit (offset : ℤ) (x : Observation) : Type 0 where
+  pub address : (1 ≤ x.address) × (x.address ≤ 16777215)
+  pub element : IsTrue (is_of_element x.value x.quality)
+  pub stamp : IsInWindow offset x.stamp

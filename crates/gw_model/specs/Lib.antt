@@ -1,0 +1,5 @@
+pub mod Point
+pub mod Keys
+pub mod Fit
+pub mod Show
+pub mod Rows

@@ -1,0 +1,23 @@
+//! What every part of the gateway speaks of: points and reports of DNP3 outstations, observations
+//! for IEC 60870-5-104 clients, controls, settings, and the one error of a call that needs memory.
+#![tactic(auto)]
+
+mod control;
+mod element;
+mod memory;
+mod observation;
+mod point;
+mod poll;
+mod row;
+mod settings;
+mod zone;
+
+pub use control::{Act, Ended, Intent, Order, Shape};
+pub use element::Element;
+pub use memory::Memory;
+pub use observation::{Observation, Quality, Value};
+pub use point::{Kind, PointKey, Raw, Report, Stamp};
+pub use poll::Poll;
+pub use row::{Row, Show};
+pub use settings::Settings;
+pub use zone::Zone;

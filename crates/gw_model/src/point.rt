@@ -1,0 +1,64 @@
+//! Points of an outstation, and what a fragment reports of them.
+ghost use Rattle.std.specs.Prelude.{IsTrue};
+ghost use Rattle.gw_model.specs.Point.{is_of_kind, is_stamped};
+
+/// The kinds of point that an outstation has (IEEE Std 1815, object library).
+#[derive(Clone, Copy, Debug, PartialEq, Eq, Hash)]
+pub enum Kind {
+    /// Binary input: groups 1 and 2.
+    Binary,
+    /// Binary output status: groups 10 and 11.
+    Output,
+    /// Double-bit binary input: groups 3 and 4.
+    Double,
+    /// Counter: groups 20 and 22.
+    Counter,
+    /// Analog input: groups 30 and 32.
+    Analog,
+}
+
+/// Which point: the outstation's position in the settings, the kind, and the point's index.
+#[derive(Clone, Copy, Debug, PartialEq, Eq, Hash)]
+pub struct PointKey {
+    pub outstation: u8,
+    pub kind: Kind,
+    pub index: u16,
+}
+
+/// A point's value as the outstation sends it.
+#[derive(Clone, Copy, Debug, PartialEq, Eq)]
+pub enum Raw {
+    /// The state of a binary input or output.
+    Bit(bool),
+    /// The state of a double-bit input: 0 intermediate, 1 off, 2 on, 3 indeterminate.
+    Two(u8),
+    /// A counter's count.
+    Count(u32),
+    /// An analog input's value.
+    Number(i32),
+}
+
+/// When something happened, in milliseconds since 1970-01-01 UTC.
+#[derive(Clone, Copy, Debug, PartialEq, Eq)]
+pub enum Stamp {
+    /// No time is known.
+    Untimed,
+    /// At this instant.
+    At(u64),
+    /// At this instant by a clock that was not synchronized.
+    Doubtful(u64),
+}
+
+/// What one object of a fragment says of one point.
+#[derive(Clone, Copy, Debug, PartialEq, Eq)]
+pub struct Report {
+    pub key: PointKey,
+    pub raw: Raw,
+    /// The flags octet as it was sent, or 01 (online) for an object without flags.
+    pub flags: u8,
+    pub stamp: Stamp,
+    /// An event, or the static value.
+    pub event: bool,
+    pub ghost of_kind: { IsTrue (is_of_kind key.kind raw) },
+    pub ghost stamped: { IsTrue (is_stamped event stamp) },
+}
