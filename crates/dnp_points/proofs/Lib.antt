@@ -1,0 +1,5 @@
+pub mod Results
+pub mod HeaderLoop
+pub mod HeaderLaws
+pub mod ObjectLoop
+pub mod ReportLaws

@@ -1,0 +1,4 @@
+pub mod Library
+pub mod Headers
+pub mod Objects
+pub mod Meaning
