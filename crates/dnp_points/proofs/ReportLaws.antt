@@ -14,7 +14,8 @@ use Rattle.dnp_points.specs.declared.header.Header.{Header}
 use Rattle.dnp_points.specs.Library.{number, Variation, Range, Count, library, binary_event, variation_of, range_of, is_among, qualifiers}
 use Rattle.dnp_points.specs.Headers.{headers_of, body_length, IsRange, IsHeaderText, StandsAt, AreHeaders, IsPart}
 use Rattle.dnp_points.specs.Objects.{IsObjectText, index_of, AreObjects, object_reports, reports_from, binary_report}
-use Rattle.dnp_points.specs.Meaning.{AreReports, Means, header_reports, reports_of, IsWithin}
+use Rattle.dnp_points.specs.Meaning.{AreReports, Means, header_reports, reports_of, meaning_of, IsWithin}
+use Rattle.dnp_points.proofs.Results.{bind_ok}
 use Rattle.dnp_points.proofs.HeaderLaws.{IsPart-found, IsPart-again, parts_length}
 
 -- ---- what the library has
@@ -182,3 +183,16 @@ pub only : (outstation : ℕ) (part : List ℕ) (hs : List Header) (r : Result (
     → IfOk r (λ v. v.items ≡ reports_of library outstation part hs) → (rs : List Report) → Means library outstation part rs → IfOk r (λ v. v.items ≡ rs)
 only outstation part hs (Ok v) e exact rs means = exact ∙ Means-only outstation part hs rs e means
 only outstation part hs (Err m) e exact rs means = tt
+
+-- ---- reading and meaning are one
+
+pub meaning-again : (outstation : ℕ) (part : List ℕ) (rs : List Report) → Means library outstation part rs → meaning_of library outstation part ≡ Ok rs
+meaning-again outstation part rs means =
+    let only = AreReports-only outstation 0 part part means.0 rs refl means.1 in
+    let read = IsPart-again library part means.0 (only.0, means.2) in
+    rw read (ap (λ (x : List Report). done x) (sym only.1))
+
+pub meaning-found : (outstation : ℕ) (part : List ℕ) (rs : List Report) → meaning_of library outstation part ≡ Ok rs → Means library outstation part rs
+meaning-found outstation part rs e =
+    let one = bind_ok (headers_of library part) (λ hs. Ok (reports_of library outstation part hs)) rs e in
+    subst (Means library outstation part) (ok_is (reports_of library outstation part one.0) rs one.2) (Means-found outstation part one.0 one.1)

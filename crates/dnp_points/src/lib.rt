@@ -5,11 +5,13 @@
 mod examples;
 mod fault;
 mod header;
+mod law;
 mod object;
 mod report;
 
 pub use examples::object_parts_by_example;
 pub use fault::{ObjectFault, Why};
 pub use header::{Header, headers};
+pub use law::one_meaning;
 pub use object::{BinaryEvent, Object};
 pub use report::reports;

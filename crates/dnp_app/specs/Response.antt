@@ -1,0 +1,46 @@
+-- What a response fragment is (IEEE Std 1815, 4.2.2): application control, function 129 or 130, two octets of
+-- internal indications, and an object part.
+use Rattle.std.specs.Prelude.{◌≡◌, ℕ, ◌≤◌, Bool, true, ◌||◌, ◌==◌, List, length, drop, slice_index, Result, Ok, Err, nat_lt, if◌then◌else◌}
+use Rattle.gw_model.specs.declared.point.Report.{Report}
+use Rattle.dnp_points.specs.declared.fault.ObjectFault.{ObjectFault}
+use Rattle.dnp_points.specs.Library.{library}
+use Rattle.dnp_points.specs.Meaning.{Means, meaning_of}
+use Rattle.dnp_points.specs.Headers.{UnlessMemory}
+use Rattle.dnp_app.specs.declared.fault.AppFault.{AppFault}
+use Rattle.dnp_app.specs.declared.fault.AppFault.TheVariants.{Short, NotResponse, Object, Memory}
+
+-- a response: the outstation that it was read for, its octets, and what it reports
+pub record Fragment : Type 0 where
+  pub outstation : ℕ
+  pub octets : List ℕ
+  pub reports : List Report
+
+-- function 129 is a response, 130 an unsolicited response
+abbrev pub is_response : List ℕ → Bool
+is_response octets = (slice_index octets 1 == 129) || (slice_index octets 1 == 130)
+
+-- the octets are a response that reports this
+pub record IsResponse (f : Fragment) : Type 0 where
+  pub long : 4 ≤ length f.octets
+  pub function : is_response f.octets ≡ true
+  pub means : Means library f.outstation (drop 4 f.octets) f.reports
+
+-- the response with an object part that was read, or the fault of that part
+abbrev pub with_reports : ℕ → List ℕ → Result (List Report) ObjectFault → Result Fragment AppFault
+with_reports outstation octets (Ok rs) = Ok (record { outstation = outstation; octets = octets; reports = rs })
+with_reports outstation octets (Err e) = Err (Object e)
+
+-- the response that octets are, or the first fault
+abbrev pub response_of : ℕ → List ℕ → Result Fragment AppFault
+response_of outstation octets =
+    if nat_lt (length octets) 4 then Err Short
+    else if is_response octets then with_reports outstation octets (meaning_of library outstation (drop 4 octets))
+    else Err NotResponse
+
+-- what a function returned, seen by view, is what reading gives, unless memory ran out
+abbrev pub Gives : {X Y : Type 0} → (X → Y) → Result X AppFault → Result Y AppFault → Type 0
+Gives view (Ok x) read = read ≡ Ok (view x)
+Gives view (Err Memory) read = Unit {0}
+Gives view (Err Short) read = read ≡ Err Short
+Gives view (Err NotResponse) read = read ≡ Err NotResponse
+Gives view (Err (Object e)) read = read ≡ Err (Object e)

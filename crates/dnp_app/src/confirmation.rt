@@ -1,0 +1,13 @@
+//! Confirming a fragment.
+ghost use Rattle.std.specs.Prelude.{◌≡◌, ◌<◌};
+ghost use Rattle.dnp_app.specs.Control.{confirmation_of};
+
+/// The confirmation of a fragment with this sequence number; `uns` for an unsolicited one
+/// (IEEE Std 1815, 4.2.2.4 and function 0).
+pub fn confirm(sequence: u8, uns: bool) -> [u8; 2]
+    requires { sequence < 16 }
+    ensures { result ≡ confirmation_of sequence uns }
+{
+    let unsolicited = if uns { 0x10 } else { 0 };
+    [0xC0 + sequence + unsolicited, 0]
+}

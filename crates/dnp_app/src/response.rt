@@ -1,0 +1,145 @@
+//! Responses of an outstation.
+ghost use Rattle.std.specs.Prelude.{◌≡◌, ◌≤◌, ◌<◌, length, List, [], ◌∷◌, Ok, IfOk, slice_index, ◌==◌, true};
+ghost use Rattle.dnp_app.specs.Response.{Fragment, IsResponse, response_of, Gives};
+
+use crate::fault::AppFault;
+use dnp_points::{Why, headers, reports};
+use gw_model::Report;
+use std::alloc::Global;
+use std::marker::Model;
+
+/// The application control octet of a fragment (IEEE Std 1815, 4.2.2.4).
+#[derive(Clone, Copy, Debug, PartialEq, Eq)]
+pub struct Control {
+    /// The first fragment of a message.
+    pub fir: bool,
+    /// The last fragment of a message.
+    pub fin: bool,
+    /// A confirmation is asked for.
+    pub con: bool,
+    /// The message is an unsolicited response, or confirms one.
+    pub uns: bool,
+    /// The sequence number, below 16.
+    pub sequence: u8,
+}
+
+/// A response fragment, read for an outstation: at most 2,048 octets, and what they report.
+#[derive(Debug, Drop)]
+pub struct Response {
+    outstation: u8,
+    octets: Vec<u8>,
+    reports: Vec<Report>,
+}
+
+impl Model for Response {
+    ghost use Rattle.std.specs.Prelude.{◌≤◌, length};
+    ghost use Rattle.dnp_app.specs.Response.{Fragment, IsResponse};
+
+    ghost Value = { Fragment };
+
+    ghost view = { λ r. record { outstation = r.outstation; octets = r.octets.items; reports = r.reports.items } };
+
+    ghost invariant = { λ r. IsResponse (record { outstation = r.outstation; octets = r.octets.items; reports = r.reports.items }) × (length r.octets.items ≤ 2048) };
+}
+
+impl Response {
+    ghost use Rattle.dnp_app.specs.Control.{control_of};
+
+    /// The outstation that the fragment was read for, by its position in the settings.
+    pub fn outstation(&self) -> u8
+        ensures { result ≡ self.now.outstation }
+    {
+        self.outstation
+    }
+
+    /// The octets of the fragment.
+    pub fn octets(&self) -> &[u8]
+        ensures octets { result.now ≡ self.now.octets }
+        ensures response { IsResponse self.now }
+        ensures short { length self.now.octets ≤ 2048 }
+    {
+        self.octets.as_slice()
+    }
+
+    /// What the fragment reports, in order.
+    pub fn reports(&self) -> &[Report]
+        ensures { result.now ≡ self.now.reports }
+    {
+        self.reports.as_slice()
+    }
+
+    /// The application control octet.
+    pub fn control(&self) -> Control
+        ensures control { result ≡ control_of (slice_index self.now.octets 0) }
+        ensures sequence { result.sequence < 16 }
+    {
+        let octet = self.octets[0];
+        Control {
+            fir: octet >= 0x80,
+            fin: octet / 64 % 2 == 1,
+            con: octet / 32 % 2 == 1,
+            uns: octet / 16 % 2 == 1,
+            sequence: octet % 16,
+        }
+    }
+
+    /// Whether the fragment is an unsolicited response (function 130).
+    pub fn is_unsolicited(&self) -> bool
+        ensures { result ≡ (slice_index self.now.octets 1 == 130) }
+    {
+        self.octets[1] == 130
+    }
+
+    /// The two octets of internal indications (IEEE Std 1815, 4.2.2.6).
+    pub fn internal_indications(&self) -> [u8; 2]
+        ensures { result ≡ slice_index self.now.octets 2 ∷ slice_index self.now.octets 3 ∷ [] }
+    {
+        [self.octets[2], self.octets[3]]
+    }
+}
+
+/// Reads a response fragment of an outstation, of at most 2,048 octets.
+///
+/// The faults are tried in their order: `Short`, `NotResponse`, `Object`; `Memory` comes where it was met.
+pub fn read_response(
+    alloc: Global,
+    outstation: u8,
+    octets: Vec<u8>,
+) -> Result<Response, AppFault>
+    requires { length octets.items ≤ 2048 }
+    // What is read is a response of these octets.
+    ensures found { IfOk result (λ r. IsResponse r × (r.octets ≡ octets.items) × (r.outstation ≡ outstation)) }
+    // A response is read, unless memory runs out.
+    ensures only { (f : Fragment) → IsResponse f → f.octets ≡ octets.items → f.outstation ≡ outstation → Gives (λ r. r) result (Ok f) }
+    // Which fault it is.
+    ensures exact { Gives (λ r. r) result (response_of outstation octets.items) }
+{
+    read(alloc, outstation, octets)
+}
+
+fn read(alloc: Global, outstation: u8, octets: Vec<u8>) -> Result<Response, AppFault>
+    requires { length octets.items ≤ 2048 }
+    ensures found { IfOk result (λ r. IsResponse r × (r.octets ≡ octets.items) × (r.outstation ≡ outstation)) }
+    ensures exact { Gives (λ r. r) result (response_of outstation octets.items) }
+{
+    if octets.len() < 4 {
+        return Err(AppFault::Short);
+    }
+    if octets[1] != 129 && octets[1] != 130 {
+        return Err(AppFault::NotResponse);
+    }
+    let part = &octets[4..];
+    let headers = match headers(alloc, part) {
+        Ok(headers) => headers,
+        Err(fault) if fault.why == Why::Memory => return Err(AppFault::Memory),
+        Err(fault) => return Err(AppFault::Object(fault)),
+    };
+    let Ok(reports) = reports(alloc, outstation, &headers, part) else {
+        return Err(AppFault::Memory);
+    };
+    Ok(Response {
+        outstation,
+        octets,
+        reports,
+    })
+}
