@@ -1,5 +1,6 @@
 -- The image of a report: what clients are shown of it.
-use Rattle.std.specs.Prelude.{ℕ, ℤ, pos, negsuc, Bool, true, ◌||◌, not}
+use Rattle.std.specs.Prelude.{ℕ, ℤ, pos, negsuc, Bool, ◌||◌, not, List, Option}
+use Rattle.std.specs.Option.{option_map}
 use Rattle.std.specs.Int.{w32, int_min, int_max, cast_unsigned}
 use Rattle.std.specs.Ordering.{int_eq}
 use Rattle.gw_model.specs.declared.point.Raw.{Raw}
@@ -13,6 +14,7 @@ use Rattle.gw_model.specs.declared.observation.Value.{Value}
 use Rattle.gw_model.specs.declared.observation.Value.TheVariants.{Single, Double, Scaled, Word, Total}
 use Rattle.gw_model.specs.declared.observation.Quality.{Quality}
 use Rattle.gw_model.specs.declared.observation.Observation.{Observation}
+use Rattle.gw_model.specs.Rows.{row_from}
 use Rattle.gw_translate.specs.Quality.{quality_of}
 
 -- the nearest value of 16 bits
@@ -38,3 +40,7 @@ raw_image show (Number z) q address = analog_image show z q address
 -- the image of a report by its own row; no time is told yet
 abbrev pub image_of : Row → Report → Observation
 image_of row report = raw_image row.show report.raw (quality_of report.key.kind report.flags) row.address
+
+-- the image of a report by the rows of a point map: none for a point without a row
+abbrev pub image_in : List Row → Report → Option Observation
+image_in rows report = option_map (λ found. image_of found.1 report) (row_from 0 report.key rows)

@@ -1,0 +1,22 @@
+//! What some lines come to by the definitions alone: `clap`'s rules for the program, as a function
+//! of the words.
+
+ghost use Rattle.std.specs.Prelude.{◌≡◌, [], ◌∷◌, codes, Some};
+ghost use Rattle.clap.specs.Words.{fault_of};
+ghost use Rattle.clap.specs.declared.error.ErrorKind.TheVariants.{DisplayHelp, InvalidSubcommand, MissingSubcommand, UnknownArgument};
+ghost use Rattle.gw_program.specs.CommandLine.{gateway, spelled};
+ghost use Rattle.gw_program.specs.declared.command_line.Asked.TheVariants.{Translate};
+
+/// One line that asks for something, and four that are refused, with the kinds of error that may
+/// say so. A word that is no subcommand may be called an unknown argument too.
+#[tactic(auto, unfolding(clap::proofs::OnLiterals::clap_on_literals))]
+pub fn lines()
+    ensures taken { fault_of gateway (codes "gateway" ∷ codes "translate" ∷ []) ≡ [] }
+    ensures spelled { spelled (codes "gateway" ∷ codes "translate" ∷ []) ≡ Some Translate }
+    ensures alone { fault_of gateway (codes "gateway" ∷ []) ≡ MissingSubcommand ∷ [] }
+    ensures unknown { fault_of gateway (codes "gateway" ∷ codes "nonsense" ∷ [])
+        ≡ UnknownArgument ∷ InvalidSubcommand ∷ [] }
+    ensures extra { fault_of gateway (codes "gateway" ∷ codes "translate" ∷ codes "extra" ∷ [])
+        ≡ UnknownArgument ∷ [] }
+    ensures help { fault_of gateway (codes "gateway" ∷ codes "--help" ∷ []) ≡ DisplayHelp ∷ [] }
+{}

@@ -1,0 +1,186 @@
+use crate::decision::{Decision, decide};
+use crate::hex::{MOST_OCTETS, line_octets};
+use crate::translate::translate;
+use dnp_app::AppFault;
+use dnp_points::{ObjectFault, Why};
+use gw_model::{Memory, Settings};
+use std::io::{self, Read, Write};
+use std::test::Fail;
+
+/// What `translate` writes for an input, and its status.
+fn translated(rt: &HostRuntime, input: &[u8]) -> Result<(Vec<u8>, u8), Fail> {
+    let mut output = Vec::new(rt.alloc());
+    let status = translate(rt.alloc(), &Settings::built_in(), input, &mut output);
+    Ok((output, status))
+}
+
+#[test]
+fn lines(rt: HostRuntime) -> Result<(), Fail> {
+    let rows: [(&str, &str, u8); 14] = [
+        (
+            "E3 81 00 00 02 01 17 01 05 81\n",
+            "confirm C3 00\nasdu 01 01 03 00 01 00 05 10 00 01\n",
+            0,
+        ),
+        // Input 6 has no row; all flags are set.
+        (
+            "C0 81 00 00 02 01 17 02 05 FF 06 81\n",
+            "asdu 01 01 03 00 01 00 05 10 00 F1\n",
+            0,
+        ),
+        // No flag is set.
+        (
+            "C0 81 00 00 02 01 17 01 05 00\n",
+            "asdu 01 01 03 00 01 00 05 10 00 80\n",
+            0,
+        ),
+        // Lower case; an unsolicited response that asks for a confirmation.
+        (
+            "f5 82 00 00 02 01 17 01 05 01\n",
+            "confirm D5 00\nasdu 01 01 03 00 01 00 05 10 00 00\n",
+            0,
+        ),
+        ("C0 81 00 00\n", "", 0),
+        ("C0 81 00\n", "refused 1 Short\n", 1),
+        ("C0 02 00 00\n", "refused 2 NotResponse\n", 1),
+        (
+            "C0 81 00 00 02 01 17 01 05\n",
+            "refused 3 Object 5 ShortData at 0\n",
+            1,
+        ),
+        (
+            "C0 81 00 00 02 01 17 00 C8 01 06 00\n",
+            "refused 3 Object 1 UnknownObject at 4\n",
+            1,
+        ),
+        ("C0 8\n", "refused 0 Hex\n", 1),
+        // What follows a refusal is answered; the last line has no end.
+        (
+            "C0  81\n\nC0 81 00 00 02 01 17 01 05 81",
+            "refused 0 Hex\nasdu 01 01 03 00 01 00 05 10 00 01\n",
+            1,
+        ),
+        // A carriage return, a tab, a space at an end, a NUL, a letter that is no digit.
+        (
+            "C0 81 00 00\r\nC0\t81 00 00\nC0 81 00 00 \n C0\n\0\nC0 81 00 0G\n",
+            "refused 0 Hex\nrefused 0 Hex\nrefused 0 Hex\nrefused 0 Hex\nrefused 0 Hex\nrefused 0 Hex\n",
+            1,
+        ),
+        ("\n\n\n", "", 0),
+        ("", "", 0),
+    ];
+    for (input, want, status) in rows {
+        let (output, ended) = translated(&rt, input.as_bytes())?;
+        assert_eq!(rt; output.as_slice(), want.as_bytes(), "at {input:?}");
+        assert_eq!(rt; ended, status, "at {input:?}");
+    }
+    Ok(())
+}
+
+/// A line of octets that says nothing: a response with empty headers, cut or filled to `count` octets.
+fn long_line(rt: &HostRuntime, count: usize) -> Result<Vec<u8>, Fail> {
+    let mut line = Vec::new(rt.alloc());
+    line.extend_from_slice(b"C0 81 00 00")?;
+    for _ in 4..count {
+        line.extend_from_slice(b" 00")?;
+    }
+    Ok(line)
+}
+
+#[test]
+fn long_lines(rt: HostRuntime) -> Result<(), Fail> {
+    let longest = long_line(&rt, MOST_OCTETS)?;
+    let (output, _) = translated(&rt, longest.as_slice())?;
+    assert_eq!(rt;
+        output.as_slice(),
+        b"refused 3 Object 1 UnknownObject at 0\n".as_slice()
+    );
+    let mut input = long_line(&rt, MOST_OCTETS + 1)?;
+    input.push(b'\n')?;
+    input.extend_from_slice(long_line(&rt, 40_000)?.as_slice())?;
+    input.extend_from_slice(b"\n\xFF\xFE\nC0 81 00\n")?;
+    let (output, status) = translated(&rt, input.as_slice())?;
+    assert_eq!(rt;
+        output.as_slice(),
+        b"refused 0 Hex\nrefused 0 Hex\nrefused 0 Hex\nrefused 1 Short\n".as_slice()
+    );
+    assert_eq!(rt; status, 1);
+    Ok(())
+}
+
+/// A reader that gives an octet at a time and fails at last, and a writer that takes a few octets.
+#[derive(Drop)]
+struct Faulty<'a> {
+    rest: &'a [u8],
+}
+
+impl Read for Faulty<'_> {
+    fn read(&mut self, buf: &mut [u8]) -> io::Result<usize> {
+        match self.rest.split_first() {
+            Some((octet, rest)) if !buf.is_empty() => {
+                buf[0] = *octet;
+                self.rest = rest;
+                Ok(1)
+            }
+            _ => Err(io::Error::from(io::ErrorKind::Other)),
+        }
+    }
+}
+
+impl Write for Faulty<'_> {
+    fn write(&mut self, buf: &[u8]) -> io::Result<usize> {
+        let count = buf.len().min(self.rest.len());
+        if count == 0 && !buf.is_empty() {
+            return Err(io::Error::from(io::ErrorKind::Other));
+        }
+        self.rest = &self.rest[count..];
+        Ok(count)
+    }
+
+    fn flush(&mut self) -> io::Result<()> {
+        Ok(())
+    }
+}
+
+#[test]
+fn faults_of_reader_and_writer(rt: HostRuntime) -> Result<(), Fail> {
+    let line = b"E3 81 00 00 02 01 17 01 05 81\nC0 81";
+    let mut output = Vec::new(rt.alloc());
+    let reader = io::BufReader::new(rt.alloc(), Faulty { rest: line })?;
+    let status = translate(rt.alloc(), &Settings::built_in(), reader, &mut output);
+    assert_eq!(rt;
+        output.as_slice(),
+        b"confirm C3 00\nasdu 01 01 03 00 01 00 05 10 00 01\n".as_slice()
+    );
+    assert_eq!(rt; status, 1);
+    let writer = Faulty { rest: b"room" };
+    assert_eq!(rt;
+        translate(rt.alloc(), &Settings::built_in(), line.as_slice(), writer),
+        1
+    );
+    Ok(())
+}
+
+#[test]
+fn with_ample_memory(rt: HostRuntime) -> Result<(), Fail> {
+    assert!(rt; matches!(line_octets(rt.alloc(), b"C0 81"), Ok(Some(_))));
+    let mut images = Vec::new(rt.alloc());
+    let settings = Settings::built_in();
+    let short = decide(rt.alloc(), &settings, b"C0 81 00", &mut images);
+    assert_eq!(rt; short, Ok(Decision::Refused(AppFault::Short)));
+    let fault = ObjectFault {
+        why: Why::ShortRange,
+        place: 0,
+    };
+    let cut = decide(rt.alloc(), &settings, b"C0 81 00 00 02", &mut images);
+    assert_eq!(rt; cut, Ok(Decision::Refused(AppFault::Object(fault))));
+    let taken: Result<Decision, Memory> = decide(
+        rt.alloc(),
+        &settings,
+        b"E0 81 00 00 02 01 17 01 05 81",
+        &mut images,
+    );
+    assert_eq!(rt; taken, Ok(Decision::Accepted(Some([0xC0, 0]))));
+    assert_eq!(rt; images.len(), 1);
+    Ok(())
+}
