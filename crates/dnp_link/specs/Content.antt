@@ -1,0 +1,21 @@
+-- What values of the program say.
+use Rattle.std.specs.Prelude.{take, Option, Some, None}
+use Rattle.dnp_link.specs.Frame.{Content}
+use Rattle.dnp_link.specs.Stream.{Event, Framed, Dropped}
+use Rattle.dnp_link.specs.declared.frame.Frame.{Frame}
+use Rattle.dnp_link.specs.declared.event.LinkEvent.{LinkEvent}
+use Rattle.dnp_link.specs.declared.event.LinkEvent.TheVariants as events
+
+-- what a frame carries: of its array the first octets alone
+abbrev pub content : Frame → Content
+content f = record { control = f.control; destination = f.destination; source = f.source; user = take f.len f.user }
+
+-- an event, with what its frame carries
+abbrev pub seen : LinkEvent → Event
+seen (events.Frame f) = Framed (content f)
+seen (events.Skipped why) = Dropped why
+
+-- a call's answer, likewise
+abbrev pub seen_if : Option LinkEvent → Option Event
+seen_if None = None
+seen_if (Some e) = Some (seen e)

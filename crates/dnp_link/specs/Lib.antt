@@ -1,0 +1,9 @@
+pub mod Polynomial
+pub mod Crc
+pub mod Frame
+pub mod Stream
+pub mod Content
+pub mod Station
+pub mod Secondary
+pub mod Laws
+pub mod Examples

@@ -1,0 +1,44 @@
+-- The news of a fragment, by the picture as it is when each image comes.
+use Rattle.std.specs.Prelude.{ℕ, List, [], ◌∷◌, ◌++◌, Option, Some, None, slice_get, if◌then◌else◌}
+use Rattle.gw_model.specs.declared.point.Report.{Report}
+use Rattle.gw_model.specs.declared.point.Stamp.TheVariants.{Untimed}
+use Rattle.gw_model.specs.declared.row.Row.{Row}
+use Rattle.gw_model.specs.declared.observation.Observation.{Observation}
+use Rattle.gw_model.specs.Rows.{row_from}
+use Rattle.gw_translate.specs.Image.{image_of}
+use Rattle.gw_translate.specs.News.{is_news_of}
+use Rattle.gw_hub.specs.State.{change}
+
+-- an observation without its time, as a picture shows it
+abbrev pub untimed : Observation → Observation
+untimed x = record x { stamp = Untimed }
+
+-- the image of a report where it is news after what was shown before
+abbrev pub news_after : Report → Option Observation → Observation → List Observation
+news_after r None image = []
+news_after r (Some before) image = if is_news_of r before image then image ∷ [] else []
+
+-- a report's news by a picture; none for a point without a row
+abbrev pub news_at : List Observation → Report → Option (ℕ × Row) → List Observation
+news_at picture r None = []
+news_at picture r (Some found) = news_after r (slice_get picture found.0) (image_of found.1 r)
+
+abbrev pub news_of_report : List Row → List Observation → Report → List Observation
+news_of_report rows picture r = news_at picture r (row_from 0 r.key rows)
+
+-- the picture after a report
+abbrev pub shown_at : List Observation → Report → Option (ℕ × Row) → List Observation
+shown_at picture r None = picture
+shown_at picture r (Some found) = change found.0 (λ _. untimed (image_of found.1 r)) picture
+
+abbrev pub shown_after : List Row → List Observation → Report → List Observation
+shown_after rows picture r = shown_at picture r (row_from 0 r.key rows)
+
+-- of reports taken in turn: their news, and the picture after them
+abbrev pub news_of : List Row → List Observation → List Report → List Observation
+news_of rows picture [] = []
+news_of rows picture (r ∷ rs) = news_of_report rows picture r ++ news_of rows (shown_after rows picture r) rs
+
+abbrev pub picture_after : List Row → List Observation → List Report → List Observation
+picture_after rows picture [] = picture
+picture_after rows picture (r ∷ rs) = picture_after rows (shown_after rows picture r) rs

@@ -1,0 +1,72 @@
+//! The steps of the core, and what it replies.
+
+use crate::apdu::{Apdu, ApduBuf};
+use dnp_app::Response;
+
+/// One event. Outstations and clients go by their position in the settings, moments are in
+/// milliseconds.
+#[derive(Debug, Drop)]
+pub enum Step {
+    /// The connection to an outstation stands.
+    OutstationUp { outstation: u8, moment: u64 },
+    /// A fragment of the outstation that the response was read for.
+    Fragment { response: Response, moment: u64 },
+    /// A client connected.
+    ClientUp { client: u8, moment: u64 },
+    /// A client sent an APDU.
+    Frame { client: u8, apdu: Apdu, moment: u64 },
+    /// A client's writer asks for the next APDU.
+    Pump { client: u8, moment: u64 },
+}
+
+/// Why a fragment isn't taken.
+#[derive(Clone, Copy, Debug, PartialEq, Eq)]
+pub enum Ignored {
+    /// A solicited response, and no request awaits one.
+    NoRequest,
+}
+
+/// What became of a fragment. A confirmation is to be sent where there is one.
+#[derive(Clone, Copy, Debug, PartialEq, Eq)]
+pub enum Verdict {
+    /// It was taken.
+    Accepted { confirm: Option<[u8; 2]> },
+    /// It is the last unsolicited response again, and was not taken again.
+    Repeated { confirm: Option<[u8; 2]> },
+    Ignored(Ignored),
+}
+
+/// Why a client's connection is closed.
+#[derive(Clone, Copy, Debug, PartialEq, Eq)]
+pub enum Why {
+    /// 32 confirmations wait already.
+    Flooded,
+}
+
+/// The reply to a step.
+#[derive(Clone, Copy, Debug, PartialEq, Eq)]
+pub enum Reply {
+    Done,
+    Verdict(Verdict),
+    Apdu(ApduBuf),
+    Taken,
+    Closed(Why),
+    Nothing,
+}
+
+/// Why a step was not made; nothing changed. The first of these in this order, but `Memory` last.
+#[derive(Clone, Copy, Debug, PartialEq, Eq)]
+pub enum StepFault {
+    /// No such outstation.
+    NoOutstation = 1,
+    /// No such client.
+    NoClient = 2,
+    /// The outstation or client is down.
+    NotUp = 3,
+    /// The outstation or client is up already.
+    AlreadyUp = 4,
+    /// Memory ran out.
+    Memory = 5,
+    /// A 64-bit count of steps or news can't rise by what the step needs.
+    Spent = 6,
+}
