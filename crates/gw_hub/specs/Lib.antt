@@ -5,3 +5,4 @@ pub mod History
 pub mod Fates
 pub mod Headline
 pub mod Sound
+pub mod Example

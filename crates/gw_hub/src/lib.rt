@@ -4,11 +4,13 @@
 #![tactic(auto)]
 
 mod apdu;
+mod examples;
 mod law;
 mod picture;
 mod step;
 
 pub use apdu::{Apdu, ApduBuf, Signal, news_format, start_confirmation};
+pub use examples::steps_by_example;
 pub use law::runs_tell_news;
 pub use picture::Picture;
 pub use step::{Ignored, Reply, Step, StepFault, Verdict, Why};
