@@ -3,9 +3,14 @@
 #![tactic(auto)]
 
 mod confirmation;
+mod examples;
 mod fault;
 mod response;
 
 pub use confirmation::confirm;
+pub use examples::{controls_by_example, fragments_by_example};
 pub use fault::AppFault;
 pub use response::{Control, Response, read_response};
+
+#[cfg(test)]
+mod tests;

@@ -1,6 +1,6 @@
 //! Responses of an outstation.
-ghost use Rattle.std.specs.Prelude.{◌≡◌, ◌≤◌, ◌<◌, length, List, [], ◌∷◌, Ok, IfOk, slice_index, ◌==◌, true};
-ghost use Rattle.dnp_app.specs.Response.{Fragment, IsResponse, response_of, Gives};
+ghost use Rattle.std.specs.Prelude.{◌≡◌, ◌≤◌, ◌<◌, length, List, [], ◌∷◌, Ok, IfOk, IsErrOf, slice_index, ◌==◌, true};
+ghost use Rattle.dnp_app.specs.Response.{Fragment, IsResponse, is_response, response_of, Gives};
 
 use crate::fault::AppFault;
 use dnp_points::{Why, headers, reports};
@@ -101,11 +101,7 @@ impl Response {
 /// Reads a response fragment of an outstation, of at most 2,048 octets.
 ///
 /// The faults are tried in their order: `Short`, `NotResponse`, `Object`; `Memory` comes where it was met.
-pub fn read_response(
-    alloc: Global,
-    outstation: u8,
-    octets: Vec<u8>,
-) -> Result<Response, AppFault>
+pub fn read_response(alloc: Global, outstation: u8, octets: Vec<u8>) -> Result<Response, AppFault>
     requires { length octets.items ≤ 2048 }
     // What is read is a response of these octets.
     ensures found { IfOk result (λ r. IsResponse r × (r.octets ≡ octets.items) × (r.outstation ≡ outstation)) }
@@ -113,6 +109,8 @@ pub fn read_response(
     ensures only { (f : Fragment) → IsResponse f → f.octets ≡ octets.items → f.outstation ≡ outstation → Gives (λ r. r) result (Ok f) }
     // Which fault it is.
     ensures exact { Gives (λ r. r) result (response_of outstation octets.items) }
+    // Memory runs out only over the object part of a response.
+    ensures memory { IsErrOf result AppFault.Memory → (4 ≤ length octets.items) × (is_response octets.items ≡ true) }
 {
     read(alloc, outstation, octets)
 }
@@ -121,6 +119,7 @@ fn read(alloc: Global, outstation: u8, octets: Vec<u8>) -> Result<Response, AppF
     requires { length octets.items ≤ 2048 }
     ensures found { IfOk result (λ r. IsResponse r × (r.octets ≡ octets.items) × (r.outstation ≡ outstation)) }
     ensures exact { Gives (λ r. r) result (response_of outstation octets.items) }
+    ensures memory { IsErrOf result AppFault.Memory → (4 ≤ length octets.items) × (is_response octets.items ≡ true) }
 {
     if octets.len() < 4 {
         return Err(AppFault::Short);

@@ -38,7 +38,7 @@ found_at table place (a ∷ []) x e = absurd cc
 found_at table place (a ∷ b ∷ []) x e = absurd cc
 found_at table place (group ∷ variation ∷ code ∷ field) x e =
     let one = bind_ok (some_or place UnknownObject (variation_of table group variation))
-        (λ v. some_or place UnknownQualifier (range_for v code) >>= λ range. range_at place range field >>= λ r. ended_at place group variation v r) x e in
+    (λ v. some_or place UnknownQualifier (range_for v code) >>= λ range. range_at place range field >>= λ r. ended_at place group variation v r) x e in
     let v = one.0 in
     let two = bind_ok (some_or place UnknownQualifier (range_for v code)) (λ range. range_at place range field >>= λ r. ended_at place group variation v r) x one.2 in
     let range = two.0 in

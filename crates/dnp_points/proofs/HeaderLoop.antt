@@ -1,6 +1,6 @@
 -- Reading headers one after the other, as a loop does.
-use Rattle.std.proofs.Common.{◌≡◌, ℕ, zero, suc, ◌-◌, ◌<◌, List, [], ◌∷◌, ◌++◌, length, Result, Ok, Err, refl, sym, ap, ◌∙◌, append_assoc, arith}
-use Rattle.std.proofs.lemmas.List.{append-nil}
+use Rattle.std.proofs.Common.{◌≡◌, ℕ, zero, suc, ◌+◌, ◌-◌, ◌<◌, ◌≤◌, List, [], ◌∷◌, ◌++◌, length, drop, Result, Ok, Err, refl, sym, ap, ◌∙◌, append_assoc, arith}
+use Rattle.std.proofs.lemmas.List.{append-nil, drop-drop}
 use Rattle.dnp_points.specs.declared.fault.ObjectFault.{ObjectFault}
 use Rattle.dnp_points.specs.declared.fault.Why.TheVariants.{TooMany}
 use Rattle.dnp_points.specs.declared.header.Header.{Header}
@@ -46,3 +46,10 @@ pub is_done : (table : List Variation) (total more : ℕ) (bytes : List ℕ) (fr
 unfolding headers_from
 is_done table total more [] front whole none so_far = sym so_far ∙ ap (λ (xs : List Header). Ok xs) (append-nil front)
 is_done table total more (b ∷ bs) front whole none so_far = absurd (omega arith)
+
+-- what is left of a part after a header
+pub still_behind : (part rest after : List ℕ) → rest ≡ drop (length part - length rest) part → after ≡ drop (length rest - length after) rest
+    → length after < length rest → length rest ≤ length part → after ≡ drop (length part - length after) part
+still_behind part rest after at next goes inside =
+    let together : length part - length rest + (length rest - length after) ≡ length part - length after = omega arith in
+    next ∙ (ap (drop (length rest - length after)) at ∙ (drop-drop (length rest - length after) (length part - length rest) part ∙ ap (λ n. drop n part) together))

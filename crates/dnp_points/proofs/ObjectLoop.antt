@@ -13,5 +13,5 @@ goes_on v outstation next n m (b ∷ bs) front whole r e lt at so_far =
     let others : List Report = reports_from v outstation 1 (next + 1) m (drop v.octets bs) in
     let index : b + 256 * 0 ≡ b = omega arith in
     let one : reports_from v outstation 1 next (suc m) (b ∷ bs) ≡ r ∷ others =
-        ap (λ (i : ℕ). object_reports v outstation i (take v.octets bs) ++ others) index ∙ ap (λ (rs : List Report). rs ++ others) at in
+    ap (λ (i : ℕ). object_reports v outstation i (take v.octets bs) ++ others) index ∙ ap (λ (rs : List Report). rs ++ others) at in
     append_assoc front (r ∷ []) others ∙ (ap (λ (rs : List Report). front ++ rs) (sym one) ∙ (ap (λ (k : ℕ). front ++ reports_from v outstation 1 next k (b ∷ bs)) (sym e) ∙ so_far))

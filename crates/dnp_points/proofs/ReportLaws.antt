@@ -51,9 +51,10 @@ header_within place total octets h rest at part long s =
 all_within : (place : ℕ) (part octets : List ℕ) (hs : List Header) → place + length octets ≡ length part → AreHeaders library place octets hs → AllByRecursion (IsWithin part) hs
 all_within place part octets [] at are = tt
 all_within place part octets (h ∷ hs) at are =
-    let lens = parts_length library place octets h are.0 are.1 in
-    (header_within place (length part) octets h are.0 at part refl are.1,
-        all_within (h.start + body_length are.1.variation h) part are.0 hs (omega (arith, lens.0, are.1.starts)) are.2)
+    let lens = parts_length library place octets h are.0 are.1 in (
+      header_within place (length part) octets h are.0 at part refl are.1,
+      all_within (h.start + body_length are.1.variation h) part are.0 hs (omega (arith, lens.0, are.1.starts)) are.2,
+    )
 
 pub headers_within : (part : List ℕ) (hs : List Header) → headers_of library part ≡ Ok hs → All (IsWithin part) hs
 headers_within part hs e = All-from_recursion (IsWithin part) hs (all_within 0 part part hs (omega arith) (IsPart-found library part hs e).0)
@@ -80,9 +81,18 @@ objects_found outstation prefix next (suc n) octets e =
     let index_length : length (take prefix octets) ≡ prefix = omega (arith, length-take prefix octets) in
     let index : ℕ = index_of prefix next (take prefix octets) in
     let parts : octets ≡ take prefix octets ++ (take 1 behind ++ drop 1 behind) =
-        sym (take-append-drop prefix octets) ∙ ap (λ (t : List ℕ). take prefix octets ++ t) (sym (take-append-drop 1 behind)) in
-    (take prefix octets, take 1 behind, drop 1 behind, object_reports binary_event outstation index (take 1 behind), reports_from binary_event outstation prefix (next + 1) n (drop 1 behind),
-        parts, index_length, object_found outstation index (take 1 behind) text_length, refl, objects_found outstation prefix (next + 1) n (drop 1 behind) rest_length)
+    sym (take-append-drop prefix octets) ∙ ap (λ (t : List ℕ). take prefix octets ++ t) (sym (take-append-drop 1 behind)) in (
+      take prefix octets,
+      take 1 behind,
+      drop 1 behind,
+      object_reports binary_event outstation index (take 1 behind),
+      reports_from binary_event outstation prefix (next + 1) n (drop 1 behind),
+      parts,
+      index_length,
+      object_found outstation index (take 1 behind) text_length,
+      refl,
+      objects_found outstation prefix (next + 1) n (drop 1 behind) rest_length,
+    )
 
 objects_only : (outstation prefix next n : ℕ) (octets tail : List ℕ) (rs : List Report) → AreObjects binary_event outstation prefix next n octets rs
     → (length octets ≡ n * (prefix + 1)) × (rs ≡ reports_from binary_event outstation prefix next n (octets ++ tail))
@@ -95,9 +105,10 @@ objects_only outstation prefix next (suc n) octets tail rs are =
     let others = objects_only outstation prefix (next + 1) n rest tail are.4 are.9 in
     let whole : octets ++ tail ≡ index ++ (text ++ (rest ++ tail)) = ap (λ (t : List ℕ). t ++ tail) are.5 ∙ simp append_assoc in
     let one : rs ≡ object_reports binary_event outstation (index_of prefix next index) text ++ reports_from binary_event outstation prefix (next + 1) n (rest ++ tail) =
-        are.8 ∙ (ap (λ (x : List Report). x ++ are.4) object.1 ∙ ap (λ (x : List Report). object_reports binary_event outstation (index_of prefix next index) text ++ x) others.1) in
-    (omega (arith, ap length are.5, length-append index (text ++ rest), length-append text rest, are.6, object.0, others.0),
-        one ∙ sym (rw (whole, take_at index (text ++ (rest ++ tail)) prefix are.6, drop_at index (text ++ (rest ++ tail)) prefix are.6, take_at text (rest ++ tail) 1 object.0, drop_at text (rest ++ tail) 1 object.0) refl))
+    are.8 ∙ (ap (λ (x : List Report). x ++ are.4) object.1 ∙ ap (λ (x : List Report). object_reports binary_event outstation (index_of prefix next index) text ++ x) others.1) in (
+      omega (arith, ap length are.5, length-append index (text ++ rest), length-append text rest, are.6, object.0, others.0),
+      one ∙ sym (rw (whole, take_at index (text ++ (rest ++ tail)) prefix are.6, drop_at index (text ++ (rest ++ tail)) prefix are.6, take_at text (rest ++ tail) 1 object.0, drop_at text (rest ++ tail) 1 object.0) refl),
+    )
 
 -- ---- whole parts
 
@@ -128,12 +139,18 @@ AreReports-found outstation place part octets (h ∷ hs) at are =
     let found = objects_found outstation h.prefix h.first h.count front.body sized in
     let longer = objects_only outstation h.prefix h.first h.count front.body rest _ found in
     let one : header_reports (variation_of library h.group h.variation) outstation h (drop h.start part) ≡ reports_from binary_event outstation h.prefix h.first h.count front.body =
-        of_known outstation h front.variation (drop h.start part) front.spelled.known ∙ (ap (reports_from binary_event outstation h.prefix h.first h.count) behind.0 ∙ sym longer.1) in
+    of_known outstation h front.variation (drop h.start part) front.spelled.known ∙ (ap (reports_from binary_event outstation h.prefix h.first h.count) behind.0 ∙ sym longer.1) in
     let objects : AreObjects front.variation outstation h.prefix h.first h.count front.body (reports_from binary_event outstation h.prefix h.first h.count front.body) =
-        subst (λ (x : Variation). AreObjects x outstation h.prefix h.first h.count front.body (reports_from binary_event outstation h.prefix h.first h.count front.body)) (sym v) found in
-    let others = AreReports-found outstation (h.start + body_length front.variation h) part rest hs behind.1 are.2 in
-    (rest, front, reports_from binary_event outstation h.prefix h.first h.count front.body, reports_of library outstation part hs, objects,
-        ap (λ (x : List Report). x ++ reports_of library outstation part hs) one, others)
+    subst (λ (x : Variation). AreObjects x outstation h.prefix h.first h.count front.body (reports_from binary_event outstation h.prefix h.first h.count front.body)) (sym v) found in
+    let others = AreReports-found outstation (h.start + body_length front.variation h) part rest hs behind.1 are.2 in (
+      rest,
+      front,
+      reports_from binary_event outstation h.prefix h.first h.count front.body,
+      reports_of library outstation part hs,
+      objects,
+      ap (λ (x : List Report). x ++ reports_of library outstation part hs) one,
+      others,
+    )
 
 AreReports-only : (outstation place : ℕ) (part octets : List ℕ) (hs : List Header) (rs : List Report) → octets ≡ drop place part
     → AreReports library outstation place octets hs rs → AreHeaders library place octets hs × (rs ≡ reports_of library outstation part hs)
@@ -144,13 +161,15 @@ AreReports-only outstation place part octets (h ∷ hs) rs at are =
     let v = known_is h.group h.variation front.variation front.spelled.known in
     let behind = behind_header place part octets h rest at front in
     let objects : AreObjects binary_event outstation h.prefix h.first h.count front.body are.2 =
-        subst (λ (x : Variation). AreObjects x outstation h.prefix h.first h.count front.body are.2) v are.4 in
+    subst (λ (x : Variation). AreObjects x outstation h.prefix h.first h.count front.body are.2) v are.4 in
     let only = objects_only outstation h.prefix h.first h.count front.body rest are.2 objects in
     let one : are.2 ≡ header_reports (variation_of library h.group h.variation) outstation h (drop h.start part) =
-        only.1 ∙ sym (of_known outstation h front.variation (drop h.start part) front.spelled.known ∙ ap (reports_from binary_event outstation h.prefix h.first h.count) behind.0) in
-    let others = AreReports-only outstation (h.start + body_length front.variation h) part rest hs are.3 behind.1 are.6 in
-    ((rest, front, others.0), are.5 ∙ (ap (λ (x : List Report). x ++ are.3) one
-        ∙ ap (λ (x : List Report). header_reports (variation_of library h.group h.variation) outstation h (drop h.start part) ++ x) others.1))
+    only.1 ∙ sym (of_known outstation h front.variation (drop h.start part) front.spelled.known ∙ ap (reports_from binary_event outstation h.prefix h.first h.count) behind.0) in
+    let others = AreReports-only outstation (h.start + body_length front.variation h) part rest hs are.3 behind.1 are.6 in (
+      (rest, front, others.0),
+      are.5 ∙ (ap (λ (x : List Report). x ++ are.3) one
+          ∙ ap (λ (x : List Report). header_reports (variation_of library h.group h.variation) outstation h (drop h.start part) ++ x) others.1),
+    )
 
 -- what is read, the part means
 pub Means-found : (outstation : ℕ) (part : List ℕ) (hs : List Header) → headers_of library part ≡ Ok hs → Means library outstation part (reports_of library outstation part hs)

@@ -25,5 +25,4 @@ pub fn object_parts_by_example()
     ensures cut { meaning_of library 0 (0x02 ∷ 0x01 ∷ 0x17 ∷ []) ≡ fault_at 0 ShortRange }
     ensures unknown { meaning_of library 0 (0x02 ∷ 0x01 ∷ 0x17 ∷ 0x01 ∷ 0x05 ∷ 0x81 ∷ 0xC8 ∷ 0x01 ∷ 0x06 ∷ []) ≡ fault_at 6 UnknownObject }
     ensures qualifier { meaning_of library 0 (0x02 ∷ 0x01 ∷ 0x06 ∷ []) ≡ fault_at 0 UnknownQualifier }
-{
-}
+{}

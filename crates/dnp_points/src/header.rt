@@ -1,5 +1,5 @@
 //! Object headers: which objects stand in a part, and where.
-ghost use Rattle.std.specs.Prelude.{◌≡◌, ◌+◌, ◌^◌, ◌<◌, ◌≤◌, length, List, Ok, IfOk};
+ghost use Rattle.std.specs.Prelude.{◌≡◌, ◌≢◌, ◌+◌, ◌-◌, ◌^◌, ◌<◌, ◌≤◌, length, drop, List, Ok, IfOk, IfErr, IsOk};
 ghost use Rattle.std.specs.Option.{option_map};
 ghost use Rattle.dnp_points.specs.Library.{library, variation_of};
 ghost use Rattle.dnp_points.specs.Headers.{Gives, header_at, headers_of, IsPart};
@@ -42,25 +42,43 @@ fn header_at(place: usize, front: &[u8]) -> Result<(Header, &[u8]), ObjectFault>
     requires { place + length front.now < 2 ^ 64 }
     ensures read { Gives (λ x. (x.0, x.1.now)) result (header_at library place front.now) }
     ensures goes { IfOk result (λ x. length x.1.now < length front.now) }
+    ensures place { IfErr result (λ fault. fault.place ≡ place) }
+    ensures no_memory { IfErr result (λ fault. fault.why ≢ Why.Memory) }
+    ensures behind { IfOk result (λ x. x.1.now ≡ drop (length front.now - length x.1.now) front.now) }
 {
     if front.len() < 3 {
-        return Err(ObjectFault { why: Why::ShortRange, place });
+        return Err(ObjectFault {
+            why: Why::ShortRange,
+            place,
+        });
     }
     let (group, variation, code) = (front[0], front[1], front[2]);
     let Some(octets) = octets_of(group, variation) else {
-        return Err(ObjectFault { why: Why::UnknownObject, place });
+        return Err(ObjectFault {
+            why: Why::UnknownObject,
+            place,
+        });
     };
     if code != 0x17 {
-        return Err(ObjectFault { why: Why::UnknownQualifier, place });
+        return Err(ObjectFault {
+            why: Why::UnknownQualifier,
+            place,
+        });
     }
     if front.len() < 4 {
-        return Err(ObjectFault { why: Why::ShortRange, place });
+        return Err(ObjectFault {
+            why: Why::ShortRange,
+            place,
+        });
     }
     let count = front[3];
     let objects = &front[4..];
     let body = usize::from(count) * (1 + octets);
     if objects.len() < body {
-        return Err(ObjectFault { why: Why::ShortData, place });
+        return Err(ObjectFault {
+            why: Why::ShortData,
+            place,
+        });
     }
     let header = Header {
         group,
@@ -76,7 +94,9 @@ fn header_at(place: usize, front: &[u8]) -> Result<(Header, &[u8]), ObjectFault>
 
 /// The headers of a part, read from left to right.
 fn all_headers(alloc: Global, part: &[u8]) -> Result<Vec<Header>, ObjectFault>
-    ensures { Gives (λ v. v.items) result (headers_of library part.now) }
+    ensures exact { Gives (λ v. v.items) result (headers_of library part.now) }
+    ensures place { IfErr result (λ fault. fault.place < length part.now) }
+    ensures memory { IfErr result (λ fault. fault.why ≡ Why.Memory → IsOk (header_at library fault.place (drop fault.place part.now))) }
 {
     let mut found = Vec::new(alloc);
     let mut rest = part;
@@ -113,6 +133,9 @@ pub fn headers(alloc: Global, part: &[u8]) -> Result<Vec<Header>, ObjectFault>
     ensures only { (hs : List Header) → IsPart library part.now hs → Gives (λ v. v.items) result (Ok hs) }
     // Which fault it is.
     ensures exact { Gives (λ v. v.items) result (headers_of library part.now) }
+    // Each fault is told of a header; memory runs out where one is stored.
+    ensures place { IfErr result (λ fault. fault.place < length part.now) }
+    ensures memory { IfErr result (λ fault. fault.why ≡ Why.Memory → IsOk (header_at library fault.place (drop fault.place part.now))) }
 {
     all_headers(alloc, part)
 }

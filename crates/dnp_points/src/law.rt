@@ -7,5 +7,4 @@ ghost use Rattle.dnp_points.specs.Meaning.{Means, meaning_of};
 /// An object part means the reports that reading it gives, and no others; where reading gives a fault, it means nothing.
 pub fn one_meaning()
     ensures { (outstation : ℕ) (part : List ℕ) (rs : List Told) → (meaning_of library outstation part ≡ Ok rs) ↔ Means library outstation part rs }
-{
-}
+{}

@@ -15,3 +15,6 @@ pub use header::{Header, headers};
 pub use law::one_meaning;
 pub use object::{BinaryEvent, Object};
 pub use report::reports;
+
+#[cfg(test)]
+mod tests;

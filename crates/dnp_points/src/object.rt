@@ -12,6 +12,7 @@ use gw_model::{Kind, PointKey, Raw, Report, Stamp};
 pub trait Object {
     /// How many octets an object has.
     const LENGTH: usize;
+
     ghost LENGTH: { ℕ };
 
     /// The variation as the object library has it.
@@ -51,9 +52,13 @@ pub struct BinaryEvent {
 
 impl Object for BinaryEvent {
     const LENGTH: usize = 1;
+
     ghost LENGTH = { 1 };
+
     ghost variation = { binary_event };
+
     ghost Spells = { λ t x. t ≡ x.flags ∷ [] };
+
     ghost told = { λ x outstation index common. binary_report outstation index x.flags };
 
     fn read(octets: &[u8]) -> BinaryEvent {
@@ -75,8 +80,12 @@ impl Object for BinaryEvent {
     }
 
     ghost sized = { λ t x s. ap length s };
+
     ghost one = { λ t x y s r. Prim.search rules };
+
     ghost small = { Prim.search rules };
+
     ghost length_agrees = { refl };
+
     ghost report_agrees = { λ t x outstation index common s. Prim.search rules };
 }

@@ -1,3 +1,4 @@
 pub mod Hex
+pub mod Text
 pub mod Translation
 pub mod CommandLine

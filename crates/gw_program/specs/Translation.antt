@@ -1,5 +1,5 @@
 -- What `translate` answers to a line: a confirmation where one is asked for, and the images of what is reported.
-use Rattle.std.specs.Prelude.{◌≡◌, ℕ, ◌≢◌, List, [], ◌∷◌, ◌++◌, Option, Some, None, Result, Ok, Err, slice_index, if◌then◌else◌}
+use Rattle.std.specs.Prelude.{◌≡◌, ℕ, ◌≢◌, List, [], ◌∷◌, ◌++◌, Option, Some, None, Ok, Err, slice_index, if◌then◌else◌}
 use Rattle.std.specs.Option.{option_to_list}
 use Rattle.gw_model.specs.declared.point.Report.{Report}
 use Rattle.gw_model.specs.declared.observation.Observation.{Observation}

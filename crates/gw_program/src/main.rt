@@ -5,6 +5,7 @@ mod command_line;
 mod decision;
 mod hex;
 mod line;
+mod text;
 mod translate;
 
 use command_line::{Asked, LineFault, command_line as read_words};

@@ -1,16 +1,14 @@
 //! `gateway translate`: DNP3 fragments in, one a line; confirmations and ASDUs out.
-ghost use Rattle.std.specs.Prelude.{◌≤◌};
+ghost use Rattle.std.specs.Prelude.{◌≡◌, ◌≤◌, OnOk};
+ghost use Rattle.gw_program.specs.Text.{accepted_text};
+ghost use Rattle.gw_program.specs.declared.translate.Stop.TheVariants.{Fault, Memory};
 
 use crate::decision::{Decision, decide};
-use crate::hex::push_spaced;
 use crate::line::Line;
+use crate::text::push_accepted;
 use gw_model::{Memory, Observation, Settings};
-use iec_asdu::write_monitor;
 use std::alloc::{AllocError, Global};
 use std::io::{self, BufRead, ErrorKind, Write};
-
-/// The cause of transmission of news: spontaneous (IEC 60870-5-101, 7.2.3).
-const SPONTANEOUS: u8 = 3;
 
 /// Why the program ends before its input does.
 #[derive(Debug, Drop)]
@@ -22,18 +20,24 @@ enum Stop {
 }
 
 impl From<io::Error> for Stop {
+    ghost from_gives = { λ _ stop. stop ≡ Fault };
+
     fn from(_error: io::Error) -> Stop {
         Stop::Fault
     }
 }
 
 impl From<Memory> for Stop {
+    ghost from_gives = { λ _ stop. stop ≡ Memory };
+
     fn from(_error: Memory) -> Stop {
         Stop::Memory
     }
 }
 
 impl From<AllocError> for Stop {
+    ghost from_gives = { λ _ stop. stop ≡ Memory };
+
     fn from(_error: AllocError) -> Stop {
         Stop::Memory
     }
@@ -117,23 +121,19 @@ impl<'a> Translator<'a> {
         Ok(())
     }
 
-    /// Writes the confirmation and the images of a response as text.
-    fn write_accepted(&mut self, confirm: Option<[u8; 2]>) -> Result<(), Memory> {
+    /// Writes the lines of a response as text, in place of those of the response before.
+    fn write_accepted(&mut self, confirm: Option<[u8; 2]>) -> Result<(), Memory>
+        ensures { OnOk result (self.new.text.items ≡ accepted_text self.old.settings.now.common_address confirm self.old.images.items) }
+    {
         self.text.clear();
-        if let Some(octets) = confirm {
-            self.text.extend_from_slice(b"confirm")?;
-            push_spaced(&mut self.text, &octets)?;
-            self.text.push(b'\n')?;
-        }
-        let common = self.settings.common_address();
-        let zone = self.settings.zone();
-        for image in &self.images {
-            let written = write_monitor(&[*image], common, SPONTANEOUS, &zone, &mut self.asdu);
-            self.text.extend_from_slice(b"asdu")?;
-            push_spaced(&mut self.text, &self.asdu[..written.octets])?;
-            self.text.push(b'\n')?;
-        }
-        Ok(())
+        let images = self.images.as_slice();
+        push_accepted(
+            &mut self.text,
+            self.settings,
+            confirm,
+            images,
+            &mut self.asdu,
+        )
     }
 }
 

@@ -1,3 +1,4 @@
 pub mod Quality
 pub mod Image
 pub mod News
+pub mod Example

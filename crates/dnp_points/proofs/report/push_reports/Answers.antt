@@ -17,8 +17,8 @@ loop-preserved g c =
     let after : c.split_at-in-loop.result.1.now ≡ drop v.octets (drop 1 rest) = rw (size, ← c.LENGTH.ensures, ← c.split_at.ensures.back) c.split_at-in-loop.ensures.back in
     let agrees = g.met.O.Object.report_agrees c.split_at-in-loop.result.0.now c.read.result c.args.outstation c.from-index.result Untimed c.read.ensures in
     let one : object_reports v c.args.outstation (get_or rest 0 0) (take v.octets (drop 1 rest)) ≡ c.report-report.result ∷ [] =
-        ap (λ (i : ℕ). object_reports v c.args.outstation i (take v.octets (drop 1 rest))) (sym index)
-        ∙ (ap (object_reports v c.args.outstation c.from-index.result) (sym object) ∙ (agrees ∙ ap (λ (r : Report). r ∷ []) (sym c.report-report.ensures))) in
+    ap (λ (i : ℕ). object_reports v c.args.outstation i (take v.octets (drop 1 rest))) (sym index)
+    ∙ (ap (object_reports v c.args.outstation c.from-index.result) (sym object) ∙ (agrees ∙ ap (λ (r : Report). r ∷ []) (sym c.report-report.ensures))) in
     let next = goes_on v c.args.outstation c.loop.counter _ _ rest c.loop.found.items (c.args.found.now.items ++ reports_from v c.args.outstation 1 0 c.args.count c.args.octets.now) c.report-report.result more long one c.loop.invariant.read in
     let enough = rw more at c.loop.invariant.enough in
     let lens : length c.split_at-in-loop.result.1.now + (1 + g.O.Object.LENGTH) ≡ length rest = omega (arith, c.split_at.ensures.back_len, c.split_at-in-loop.ensures.back_len) in

@@ -1,6 +1,6 @@
-use Rattle.std.proofs.Common.{rules, ◌≡◌, ◌<◌, ◌≤◌, ◌++◌, ◌∷◌, [], length, drop, get_or, Option, Some, None, refl, ap, arith}
+use Rattle.std.proofs.Common.{rules, ◌≡◌, ◌<◌, length, get_or, Some, ap, arith}
 use Rattle.gw_program.specs.Hex.{octet, octets_of}
-use Rattle.gw_program.proofs.HexLaws.{with_front, with_none, goes_on}
+use Rattle.gw_program.proofs.HexLaws.{with_none, goes_on}
 use Rattle.gw_program.proofs.hex.fill.Goals as goal
 
 pub loop-rest-init : goal.loop-rest-init

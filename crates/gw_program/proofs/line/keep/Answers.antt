@@ -1,6 +1,5 @@
-use Rattle.std.proofs.Common.{rules, ◌≡◌, ◌+◌, ◌-◌, ◌≤◌, ◌++◌, length, take, vec_len, IsTrue, sym, ap, ◌∙◌, arith}
-use Rattle.std.specs.Result.{is_ok, IsOk}
-use Rattle.std.proofs.lemmas.List.{length-append}
+use Rattle.std.proofs.Common.{rules, ◌≡◌, ◌++◌, sym, ap, ◌∙◌, arith}
+use Rattle.std.specs.Result.{IsOk}
 use Rattle.gw_program.proofs.HexLaws.{all_kept, front_kept}
 use Rattle.gw_program.proofs.line.keep.Goals as goal
 

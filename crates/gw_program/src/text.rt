@@ -1,0 +1,66 @@
+//! The lines that `translate` writes for an accepted fragment.
+ghost use Rattle.std.specs.Prelude.{◌≡◌, ◌++◌, OnOk};
+ghost use Rattle.gw_program.specs.Text.{accepted_text, asdu_line, asdu_lines, line_of};
+
+use crate::hex::push_spaced;
+use gw_model::{Memory, Observation, Settings};
+use iec_asdu::write_monitor;
+
+/// The cause of transmission of news: spontaneous (IEC 60870-5-101, 7.2.3).
+const SPONTANEOUS: u8 = 3;
+
+/// Adds a line: a word, and octets in hexadecimal.
+fn push_line(text: &mut Vec<u8>, word: &[u8], octets: &[u8]) -> Result<(), Memory>
+    ensures { OnOk result (text.new.items ≡ text.old.items ++ line_of word.now octets.now) }
+{
+    text.extend_from_slice(word)?;
+    push_spaced(text, octets)?;
+    text.push(b'\n')?;
+    Ok(())
+}
+
+/// Adds the line of an observation's ASDU, which is written into a buffer first.
+fn push_asdu(
+    text: &mut Vec<u8>,
+    settings: &Settings,
+    image: &Observation,
+    buffer: &mut [u8; 249],
+) -> Result<(), Memory>
+    ensures { OnOk result (text.new.items ≡ text.old.items ++ asdu_line settings.now.common_address image.now) }
+{
+    let common = settings.common_address();
+    let written = write_monitor(&[*image], common, SPONTANEOUS, &settings.zone(), buffer);
+    push_line(text, b"asdu", &buffer[..written.octets])
+}
+
+/// Adds the lines of an accepted fragment: its confirmation, where it asks for one, and an ASDU for each
+/// of its images.
+pub fn push_accepted(
+    text: &mut Vec<u8>,
+    settings: &Settings,
+    confirm: Option<[u8; 2]>,
+    images: &[Observation],
+    buffer: &mut [u8; 249],
+) -> Result<(), Memory>
+    ensures { OnOk result (text.new.items ≡ text.old.items ++ accepted_text settings.now.common_address confirm images.now) }
+{
+    if let Some(octets) = confirm {
+        push_line(text, b"confirm", &octets)?;
+    }
+    push_asdus(text, settings, images, buffer)
+}
+
+/// Adds a line for each image.
+fn push_asdus(
+    text: &mut Vec<u8>,
+    settings: &Settings,
+    images: &[Observation],
+    buffer: &mut [u8; 249],
+) -> Result<(), Memory>
+    ensures { OnOk result (text.new.items ≡ text.old.items ++ asdu_lines settings.now.common_address images.now) }
+{
+    for image in images {
+        push_asdu(text, settings, image, buffer)?;
+    }
+    Ok(())
+}
