@@ -1,0 +1,10 @@
+pub mod Padding
+pub mod Front
+pub mod Streams
+pub mod Round
+pub mod Fitting
+pub mod Held
+pub mod Only
+pub mod Runs
+pub mod Split
+pub mod Drained

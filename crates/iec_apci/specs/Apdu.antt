@@ -1,0 +1,39 @@
+-- APDUs as they are transmitted (IEC 60870-5-104, clause 5).
+use Rattle.std.specs.Prelude.{ℕ, ◌*◌, ◌/◌, ◌%◌, ◌<◌, ◌≤◌, List, [], ◌∷◌, ◌++◌, length}
+use Rattle.iec_apci.specs.declared.apdu.Signal.{Signal}
+use Rattle.iec_apci.specs.declared.apdu.Signal.TheVariants.{StartAct, StartCon, StopAct, StopCon, TestAct, TestCon}
+
+-- what an APDU carries: N(S), N(R) and an ASDU; N(R); or a control function
+pub data Content : Type 0 where
+  Information : ℕ → ℕ → List ℕ → Content
+  Supervisory : ℕ → Content
+  Unnumbered : Signal → Content
+
+-- a control function's first control octet
+abbrev pub code_of : Signal → ℕ
+code_of StartAct = 0x07
+code_of StartCon = 0x0B
+code_of StopAct = 0x13
+code_of StopCon = 0x23
+code_of TestAct = 0x43
+code_of TestCon = 0x83
+
+-- two octets, the low one first
+abbrev pub word : ℕ → List ℕ
+word n = n % 256 ∷ n / 256 ∷ []
+
+-- four control octets, a number shifted left by one, and in I format the ASDU behind them
+abbrev pub body : Content → List ℕ
+body (Information ns nr asdu) = word (2 * ns) ++ word (2 * nr) ++ asdu
+body (Supervisory nr) = word 1 ++ word (2 * nr)
+body (Unnumbered signal) = word (code_of signal) ++ word 0
+
+-- the start octet 68 hex, how many octets follow, and these
+abbrev pub apdu : Content → List ℕ
+apdu c = 0x68 ∷ length (body c) ∷ body c
+
+-- numbers have 15 bits, and an ASDU at most 249 octets
+abbrev pub Fits : Content → Type 0
+Fits (Information ns nr asdu) = (ns < 32768) × (nr < 32768) × (length asdu ≤ 249)
+Fits (Supervisory nr) = nr < 32768
+Fits (Unnumbered signal) = Unit {0}

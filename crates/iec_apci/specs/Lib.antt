@@ -1,0 +1,5 @@
+pub mod Apdu
+pub mod Stream
+pub mod Content
+pub mod Calls
+pub mod Laws

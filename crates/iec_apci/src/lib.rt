@@ -1,0 +1,18 @@
+//! The transport interface of IEC 60870-5-104 (clause 5): APDUs in a stream of octets, read and written.
+#![tactic(auto)]
+
+mod apdu;
+pub mod examples;
+mod fault;
+mod feed;
+pub mod laws;
+mod reading;
+mod writing;
+
+pub use apdu::{Apdu, Asdu, Signal};
+pub use fault::ApciFault;
+pub use feed::ApduFeed;
+pub use writing::write_apdu;
+
+#[cfg(test)]
+mod tests;

@@ -1,0 +1,12 @@
+//! What is due by the timers.
+
+/// What the timers ask for at a moment.
+#[derive(Clone, Copy, Debug, PartialEq, Eq)]
+pub enum Due {
+    /// Nothing.
+    None,
+    /// A TESTFR act: t3 has passed.
+    Test,
+    /// The end of the connection: t1 has passed.
+    Close,
+}

@@ -1,0 +1,263 @@
+//! The window of one end of a connection.
+ghost use Rattle.std.specs.Prelude.{◌≡◌, ℕ, ◌+◌, ◌^◌, ◌<◌, ◌≤◌, ◌↔◌, IsTrue, IfOk, OnOk, nat_lt, length, slice_get, drop};
+ghost use Rattle.std.specs.VecDeque.{deque_len, deque_capacity};
+ghost use Rattle.iec_window.specs.Counts.{Counts, sent_in_all};
+ghost use Rattle.iec_window.specs.Sequence.{Acknowledges, send_number, receive_number, is_right_send, newly, is_right_receive};
+ghost use Rattle.iec_window.specs.Timers.{passed, ran_out, owes_ack, owes_test, due_at};
+ghost use Rattle.iec_window.specs.Steps.{begun, heard, answer_to_s, after_s, answer_to_i, after_i, settled, after_sending, testing, confirmed};
+
+use crate::due::Due;
+use crate::fault::WindowFault;
+use crate::limits::Limits;
+use gw_model::Memory;
+use std::alloc::Global;
+use std::collections::VecDeque;
+use std::marker::Model;
+
+/// How many sequence numbers there are.
+const NUMBERS: u64 = 32_768;
+
+/// One end of a connection: what it sent and received, and since when its timers run
+/// (IEC 60870-5-104, 5.1 to 5.5). A contract sees the counts without modulus.
+///
+/// Moments are milliseconds of any clock. A moment that lies before an earlier one is taken as it is:
+/// no time has passed then.
+#[derive(Debug, Drop)]
+pub struct Window {
+    limits: Limits,
+    // I formats sent: how many are acknowledged, and when each of the others was sent, the oldest first.
+    acknowledged: u64,
+    waiting: VecDeque<u64>,
+    // I formats received, how many of these are not acknowledged, and when the oldest of them came.
+    received: u64,
+    owed: u64,
+    owed_since: Option<u64>,
+    // When the connection began, or the last frame came.
+    last_heard: u64,
+    // When the TESTFR act was sent that is not confirmed.
+    test: Option<u64>,
+}
+
+impl Model for Window {
+    ghost use Rattle.iec_window.specs.Counts.{Counts};
+
+    ghost Value = { Counts };
+
+    ghost use Rattle.iec_window.specs.Shown.{shown, IsSound};
+
+    ghost view = { shown };
+
+    ghost invariant = { IsSound };
+}
+
+impl Window {
+    /// A window with these parameters, and room for the moments of `k` I formats. `t1`, `t2` and `t3` are
+    /// milliseconds. The connection begins at moment 0: see `begin`.
+    pub fn new(alloc: Global, k: u16, w: u16, t1: u64, t2: u64, t3: u64) -> Result<Window, Memory>
+        requires { k < 32768 }
+        ensures { IfOk result (λ v. v ≡ begun (record { k = k; w = w; t1 = t1; t2 = t2; t3 = t3 }) 0) }
+    {
+        let waiting = VecDeque::with_capacity(alloc, usize::from(k))?;
+        Ok(Window {
+            limits: Limits { k, w, t1, t2, t3 },
+            acknowledged: 0,
+            waiting,
+            received: 0,
+            owed: 0,
+            owed_since: None,
+            last_heard: 0,
+            test: None,
+        })
+    }
+
+    /// A connection begins: all counts are 0, nothing waits, and t3 runs from this moment.
+    pub fn begin(&mut self, moment: u64)
+        ensures { self.new ≡ begun self.old.limits moment }
+    {
+        self.acknowledged = 0;
+        self.waiting.clear();
+        self.received = 0;
+        self.owed = 0;
+        self.owed_since = None;
+        self.test = None;
+        self.heard(moment);
+    }
+
+    /// A frame came that has no number: a U format other than a TESTFR con. t3 runs anew.
+    pub fn heard(&mut self, moment: u64)
+        ensures { self.new ≡ heard moment self.old }
+    {
+        self.last_heard = moment;
+    }
+
+    /// Whether an I format with this N(S) is the next one.
+    pub fn is_right_send(&self, ns: u16) -> bool
+        ensures { result ≡ is_right_send ns self.now }
+    {
+        u64::from(ns) == self.received % NUMBERS
+    }
+
+    /// Whether this N(R) acknowledges no fewer I formats than before, and no more than were sent.
+    pub fn is_right_receive(&self, nr: u16) -> bool
+        ensures value { result ≡ is_right_receive nr self.now }
+        ensures meaning { IsTrue result ↔ ((n : ℕ) × Acknowledges nr self.now n) }
+    {
+        u64::from(nr) < NUMBERS && self.newly(nr) <= self.waiting.len() as u64
+    }
+
+    /// An I format came with these numbers. At `Err` nothing changes.
+    pub fn received(&mut self, ns: u16, nr: u16, moment: u64) -> Result<(), WindowFault>
+        requires { self.old.received + 1 < 2 ^ 64 }
+        ensures answer { result ≡ answer_to_i ns nr self.old }
+        ensures after { self.new ≡ after_i ns nr moment self.old }
+        // N(R) names the count that is acknowledged then.
+        ensures counted { OnOk result (Acknowledges nr self.old self.new.acknowledged) }
+    {
+        if !self.is_right_send(ns) {
+            return Err(WindowFault::WrongSend);
+        }
+        self.acknowledged(nr, moment)?;
+        self.received += 1;
+        if self.owed == 0 {
+            self.owed_since = Some(moment);
+        }
+        self.owed += 1;
+        Ok(())
+    }
+
+    /// An S format came with this N(R). At `Err` nothing changes.
+    pub fn acknowledged(&mut self, nr: u16, moment: u64) -> Result<(), WindowFault>
+        ensures answer { result ≡ answer_to_s nr self.old }
+        ensures after { self.new ≡ after_s nr moment self.old }
+        // N(R) names the count that is acknowledged then.
+        ensures counted { OnOk result (Acknowledges nr self.old self.new.acknowledged) }
+    {
+        if !self.is_right_receive(nr) {
+            return Err(WindowFault::WrongReceive);
+        }
+        let newly = self.newly(nr);
+        forget(&mut self.waiting, newly as usize);
+        self.acknowledged += newly;
+        self.heard(moment);
+        Ok(())
+    }
+
+    /// Whether fewer than k I formats sent are not acknowledged.
+    pub fn may_send(&self) -> bool
+        ensures value { result ≡ nat_lt (length self.now.waiting) self.now.limits.k }
+        ensures bounded { length self.now.waiting ≤ self.now.limits.k }
+    {
+        self.waiting.len() < usize::from(self.limits.k)
+    }
+
+    /// An I format is sent: its N(S) and N(R). It acknowledges all I formats received.
+    pub fn sent(&mut self, moment: u64) -> (u16, u16)
+        requires room { length self.old.waiting < self.old.limits.k }
+        requires count { sent_in_all self.old + 1 < 2 ^ 64 }
+        ensures send { result.0 ≡ send_number self.old }
+        ensures receive { result.1 ≡ receive_number self.old }
+        ensures after { self.new ≡ after_sending moment self.old }
+    {
+        let sent = self.acknowledged + self.waiting.len() as u64;
+        self.waiting.push_back_reserved(moment);
+        let nr = self.ack_sent();
+        ((sent % NUMBERS) as u16, nr)
+    }
+
+    /// Whether an S format is due: w or more I formats received are not acknowledged, or t2 has passed
+    /// since the oldest of them came.
+    pub fn owes_ack(&self, moment: u64) -> bool
+        ensures { result ≡ owes_ack moment self.now }
+    {
+        self.owed > 0
+            && (self.owed >= u64::from(self.limits.w)
+                || has_passed(self.limits.t2, self.owed_since, moment))
+    }
+
+    /// An S format is sent: its N(R). It acknowledges all I formats received.
+    pub fn ack_sent(&mut self) -> u16
+        ensures receive { result ≡ receive_number self.old }
+        ensures after { self.new ≡ settled self.old }
+    {
+        self.owed = 0;
+        self.owed_since = None;
+        (self.received % NUMBERS) as u16
+    }
+
+    /// A TESTFR act is sent. Where an earlier one isn't confirmed yet, t1 runs on from that one.
+    pub fn test_sent(&mut self, moment: u64)
+        ensures { self.new ≡ testing moment self.old }
+    {
+        if self.test.is_none() {
+            self.test = Some(moment);
+        }
+    }
+
+    /// A TESTFR con came.
+    pub fn test_confirmed(&mut self, moment: u64)
+        ensures { self.new ≡ confirmed moment self.old }
+    {
+        self.test = None; // Its t1 ends.
+        self.heard(moment);
+    }
+
+    /// Whether t1 has passed since the oldest I format that isn't acknowledged, or the TESTFR act that isn't
+    /// confirmed. Then the connection is to be closed.
+    pub fn ran_out(&self, moment: u64) -> bool
+        ensures { result ≡ ran_out moment self.now }
+    {
+        has_passed(self.limits.t1, oldest(&self.waiting), moment)
+            || has_passed(self.limits.t1, self.test, moment)
+    }
+
+    /// Whether a TESTFR act is due: t3 has passed since the last frame came, and none waits for its con.
+    pub fn owes_test(&self, moment: u64) -> bool
+        ensures { result ≡ owes_test moment self.now }
+    {
+        self.test.is_none() && has_passed(self.limits.t3, Some(self.last_heard), moment)
+    }
+
+    /// What the timers ask for. It changes nothing: `test_sent` tells that a test was sent.
+    pub fn tick(&self, moment: u64) -> Due
+        ensures { result ≡ due_at moment self.now }
+    {
+        if self.ran_out(moment) {
+            Due::Close
+        } else if self.owes_test(moment) {
+            Due::Test
+        } else {
+            Due::None
+        }
+    }
+
+    /// How many I formats this N(R) acknowledges newly, if it is right.
+    fn newly(&self, nr: u16) -> u64
+        ensures value { result ≡ newly nr self.now }
+        ensures bounded { length self.now.waiting < 32768 }
+    {
+        (u64::from(nr) + NUMBERS - self.acknowledged % NUMBERS) % NUMBERS
+    }
+}
+
+/// Whether as many milliseconds as the limit have passed since that moment, if there is one.
+fn has_passed(limit: u64, since: Option<u64>, moment: u64) -> bool
+    ensures { result ≡ passed limit since moment }
+{
+    since.is_some_and(|since| moment >= since && moment - since >= limit)
+}
+
+/// The first of these moments.
+fn oldest(waiting: &VecDeque<u64>) -> Option<u64>
+    ensures { result ≡ slice_get waiting.now.items 0 }
+{
+    waiting.front().copied()
+}
+
+/// Drops the first of these moments, as many as that.
+fn forget(waiting: &mut VecDeque<u64>, count: usize)
+    requires { count ≤ length waiting.old.items }
+    ensures items { waiting.new.items ≡ drop count waiting.old.items }
+    ensures capacity { deque_capacity waiting.new ≡ deque_capacity waiting.old }
+{
+    waiting.drain(..count);
+}
