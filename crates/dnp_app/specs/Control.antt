@@ -1,5 +1,5 @@
 -- The octets of an application control field (IEEE Std 1815, 4.2.2.4).
-use Rattle.std.specs.Prelude.{ℕ, ◌+◌, ◌/◌, ◌%◌, Bool, ◌==◌, nat_le, List, [], ◌∷◌, if◌then◌else◌}
+use Rattle.std.specs.Prelude.{ℕ, ◌+◌, ◌/◌, ◌%◌, Bool, ◌==◌, nat_le, List, [], ◌∷◌, Option, Some, None, slice_index, if◌then◌else◌}
 use Rattle.dnp_app.specs.declared.response.Control.{Control}
 
 -- bit 7 FIR, 6 FIN, 5 CON, 4 UNS, 0 to 3 the sequence number
@@ -10,3 +10,9 @@ control_of octet =
 -- a confirmation (function 0): FIR and FIN, UNS where an unsolicited response is confirmed, and its sequence number
 abbrev pub confirmation_of : ℕ → Bool → List ℕ
 confirmation_of sequence uns = (192 + sequence + (if uns then 16 else 0)) ∷ 0 ∷ []
+
+-- the confirmation of a fragment, where its application control asks for one
+abbrev pub confirm_of : List ℕ → Option (List ℕ)
+confirm_of octets =
+    let control = control_of (slice_index octets 0) in
+    if control.con then Some (confirmation_of control.sequence control.uns) else None

@@ -2,6 +2,7 @@
 ghost use Rattle.std.specs.Prelude.{◌≡◌, ◌≤◌, ◌<◌, length, List, [], ◌∷◌, Ok, IfOk, IsErrOf, slice_index, ◌==◌, true};
 ghost use Rattle.dnp_app.specs.Response.{Fragment, IsResponse, is_response, response_of, Gives};
 
+use crate::confirmation::confirm;
 use crate::fault::AppFault;
 use dnp_points::{Why, headers, reports};
 use gw_model::Report;
@@ -43,7 +44,7 @@ impl Model for Response {
 }
 
 impl Response {
-    ghost use Rattle.dnp_app.specs.Control.{control_of};
+    ghost use Rattle.dnp_app.specs.Control.{confirm_of, control_of};
 
     /// The outstation that the fragment was read for, by its position in the settings.
     pub fn outstation(&self) -> u8
@@ -80,6 +81,18 @@ impl Response {
             con: octet / 32 % 2 == 1,
             uns: octet / 16 % 2 == 1,
             sequence: octet % 16,
+        }
+    }
+
+    /// The confirmation of the fragment, where it asks for one.
+    pub fn confirmation(&self) -> Option<[u8; 2]>
+        ensures { result ≡ confirm_of self.now.octets }
+    {
+        let control = self.control();
+        if control.con {
+            Some(confirm(control.sequence, control.uns))
+        } else {
+            None
         }
     }
 

@@ -119,6 +119,6 @@ pub step_tied : (setup : Setup) (past : List Entry) (step : Step) (r : Reply) (s
     → IsSound setup.zone.offset_minutes s → outcome setup s step ≡ Ok r → Tied setup past s → Tied setup (entry step (Ok r) ∷ past) (after setup s step)
 step_tied setup past (steps.OutstationUp o m) r s map_is small sound e tied = outstation_up setup past o m r s tied
 step_tied setup past (steps.Fragment f m) r s map_is small sound e tied = fragment_at setup past f m r s (slice_get s.outstations f.outstation) map_is refl e tied
-step_tied setup past (steps.ClientUp c m) r s map_is small sound e tied = client_up setup past c m r s tied
+step_tied setup past (steps.ClientUp c m) r s map_is small sound e tied = client_up setup past c m r s e tied
 step_tied setup past (steps.Frame c apdu m) r s map_is small sound e tied = frame setup past c m apdu r s e tied
 step_tied setup past (steps.Pump c m) r s map_is small sound e tied = pump setup past c m r s small sound e tied

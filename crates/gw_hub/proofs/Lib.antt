@@ -7,3 +7,6 @@ pub mod FragmentTies
 pub mod Runs
 pub mod Images
 pub mod Buffers
+pub mod Seats
+pub mod Counting
+pub mod Taking

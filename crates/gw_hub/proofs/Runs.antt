@@ -1,8 +1,10 @@
 -- The headline over a run, one step after the other.
-use Rattle.std.proofs.Common.{◌≡◌, ℕ, zero, suc, ◌+◌, ◌^◌, ◌<◌, Bool, true, false, ◌&&◌, cond, eqb, ltb, List, [], ◌∷◌, ◌++◌, length, Option, Some, None, Result, Ok, Err, refl, sym, subst, ◌∙◌, arith}
+use Rattle.std.proofs.Common.{◌≡◌, ℕ, zero, suc, ◌+◌, ◌^◌, ◌<◌, Bool, true, false, ◌&&◌, cond, eqb, ltb, List, [], ◌∷◌, ◌++◌, length, take, get_or, Option, Some, None, Result, Ok, Err, refl, sym, ap, subst, ◌∙◌, arith}
+use Rattle.std.proofs.lemmas.List.{length-take, take_more}
 use Rattle.std.specs.Prelude.{slice_get, IfSome, is_some}
 use Rattle.gw_model.specs.declared.observation.Observation.{Observation}
 use Rattle.gw_model.specs.Rows.{Setup, is_point_map}
+use Rattle.dnp_app.specs.Control.{confirm_of}
 use Rattle.dnp_app.specs.Response.{Fragment}
 use Rattle.gw_hub.specs.declared.apdu.Apdu.TheVariants.{U}
 use Rattle.gw_hub.specs.declared.apdu.Signal.TheVariants.{StartAct}
@@ -16,12 +18,12 @@ use Rattle.gw_hub.specs.declared.step.StepFault.{StepFault}
 use Rattle.gw_hub.specs.declared.step.Why.TheVariants.{Flooded}
 use Rattle.gw_hub.specs.State.{State, Outstation, Session, Link, at_first}
 use Rattle.gw_hub.specs.News.{news_of}
-use Rattle.gw_hub.specs.Steps.{is_unsolicited, is_last, accepts, confirm_of, verdict_of, frame_reply, pump_reply, pump_session, pump_queue, buffer, start_con, up_outcome, fragment_outcome, client_outcome, outcome, after, Allowed}
+use Rattle.gw_hub.specs.Steps.{is_unsolicited, is_last, accepts, verdict_of, frame_reply, pump_reply, pump_session, pump_queue, buffer, start_con, up_outcome, fragment_outcome, client_outcome, outcome, after, Allowed}
 use Rattle.gw_hub.specs.History.{Entry, history, last_text, is_started}
-use Rattle.gw_hub.specs.Headline.{link_session, state_after, IsRun, TellsNews, Confirms, ConfirmsLast, Holds, AtEach}
+use Rattle.gw_hub.specs.Headline.{link_session, state_after, IsRun, TellsNews, QuietLast, Confirms, ConfirmsLast, Holds, AtEach}
 use Rattle.gw_hub.specs.Sound.{IsSound, EachSound}
 use Rattle.gw_hub.proofs.Tied.{entry, ClientTied, OutstationTied, Tied, tells}
-use Rattle.gw_hub.proofs.StepTies.{spent_is, fault_tied}
+use Rattle.gw_hub.proofs.StepTies.{spent_is, fault_tied, quiet_step, quiet_fault}
 use Rattle.gw_hub.proofs.FragmentTies.{is_last-true, same_accepted, step_tied}
 
 -- ---- at first
@@ -43,7 +45,7 @@ confirmed : (setup : Setup) (past : List Entry) (f : Fragment) (m : ℕ) (x : Ou
     → Confirms setup (steps.Fragment f m) (Ok (replies.Verdict (cond u (cond l (verdicts.Repeated (confirm_of f.octets)) (verdicts.Accepted (confirm_of f.octets))) (verdicts.Ignored NoRequest)))) past
 confirmed setup past f m x true true eu el last = (sym last ∙ is_last-true x.last f.octets el, refl)
 confirmed setup past f m x true false eu el last = (sym (same_accepted past f x last) ∙ rw (eu, el) refl, refl)
-confirmed setup past f m x false l eu el last = tt
+confirmed setup past f m x false l eu el last = rw eu refl
 
 fragment_confirms : (setup : Setup) (past : List Entry) (f : Fragment) (m : ℕ) (r : Reply) (s : State) (found : Option (Option Outstation)) → OutstationTied f.outstation past found
     → fragment_outcome setup s f found ≡ Ok r → Confirms setup (steps.Fragment f m) (Ok r) past
@@ -124,11 +126,12 @@ tells_some : (setup : Setup) (c : ℕ) (past : List Entry) (k : Option Session) 
 tells_some setup c past None tied = tt
 tells_some setup c past (Some k) tied = tells setup c past k tied
 
-holds : (setup : Setup) (past : List Entry) → Tied setup past (state_after setup past) → ConfirmsLast setup past → Holds setup past
-holds setup past tied last = record {
+holds : (setup : Setup) (past : List Entry) → Tied setup past (state_after setup past) → ((c : ℕ) → QuietLast setup c past) → ConfirmsLast setup past → Holds setup past
+holds setup past tied quiet last = record {
   picture = tied.picture;
   sessions = λ c. started_some setup c past (link_session (slice_get (state_after setup past).clients c)) (tied.clients c);
   news = λ c. tells_some setup c past (link_session (slice_get (state_after setup past).clients c)) (tied.clients c);
+  quiet = quiet;
   confirms = last;
 }
 
@@ -141,7 +144,7 @@ pub record RunTied (setup : Setup) (past : List Entry) (s : State) : Type 0 wher
   pub headline : AtEach (Holds setup) past
 
 pub first_run : (setup : Setup) → RunTied setup [] (at_first setup)
-first_run setup = record { run = tt; state = refl; tied = first_tied setup; headline = holds setup [] (first_tied setup) tt }
+first_run setup = record { run = tt; state = refl; tied = first_tied setup; headline = holds setup [] (first_tied setup) (λ c. tt) tt }
 
 pub run_step : (setup : Setup) (past : List Entry) (s new : State) (step : Step) (reply : Result Reply StepFault) → is_point_map setup.rows ≡ true → setup.common_address < 65536
     → IsSound setup.zone.offset_minutes s → Allowed setup s step reply new → RunTied setup past s → RunTied setup (entry step reply ∷ past) new
@@ -151,12 +154,12 @@ run_step setup past s new step (Ok r) map_is small sound allowed so_far =
     let safe : IsSound setup.zone.offset_minutes before = subst (λ (x : State). IsSound setup.zone.offset_minutes x) so_far.state sound in
     let tied : Tied setup (entry step (Ok r) ∷ past) (after setup before step) = step_tied setup past step r before map_is small safe here.0 so_far.tied in
     let last : Confirms setup step (Ok r) past = confirms setup past step r before here.0 so_far.tied in
-    record { run = ((here.0, refl), so_far.run); state = here.1; tied = tied; headline = (holds setup (entry step (Ok r) ∷ past) tied last, so_far.headline) }
+    record { run = ((here.0, refl), so_far.run); state = here.1; tied = tied; headline = (holds setup (entry step (Ok r) ∷ past) tied (λ c stopped. quiet_step setup past step r before c here.0 so_far.tied stopped) last, so_far.headline) }
 run_step setup past s new step (Err f) map_is small sound allowed so_far =
     let before : State = state_after setup past in
     let here : Allowed setup before step (Err f) new = subst (λ (x : State). Allowed setup x step (Err f) new) so_far.state allowed in
     let tied : Tied setup (entry step (Err f) ∷ past) before = fault_tied setup past step f before so_far.tied in
-    record { run = ((here.0, refl), so_far.run); state = here.1; tied = tied; headline = (holds setup (entry step (Err f) ∷ past) tied (fault_confirms setup past step f), so_far.headline) }
+    record { run = ((here.0, refl), so_far.run); state = here.1; tied = tied; headline = (holds setup (entry step (Err f) ∷ past) tied (λ c stopped. quiet_fault setup step f c) (fault_confirms setup past step f), so_far.headline) }
 
 -- one more step of a list of steps
 pub history-push : (past : List Entry) (ss : List Step) (rs : List (Result Reply StepFault)) (s : Step) (r : Result Reply StepFault) → length ss ≡ length rs
@@ -165,6 +168,18 @@ history-push past [] [] s r e = refl
 history-push past [] (x ∷ rs) s r e = absurd (omega arith)
 history-push past (x ∷ ss) [] s r e = absurd (omega arith)
 history-push past (x ∷ ss) (y ∷ rs) s r e = history-push (entry x y ∷ past) ss rs s r (omega arith)
+
+-- one more step of a run from nothing
+pub run_on : (setup : Setup) (ss : List Step) (rs more : List (Result Reply StepFault)) (i : ℕ) (step : Step) (reply : Result Reply StepFault) (s new : State) → is_point_map setup.rows ≡ true → setup.common_address < 65536
+    → IsSound setup.zone.offset_minutes s → Allowed setup s step reply new → i < length ss → step ≡ get_or ss i step → length rs ≡ i → more ≡ rs ++ reply ∷ []
+    → RunTied setup (history [] (take i ss) rs) s → RunTied setup (history [] (take (i + 1) ss) more) new
+run_on setup ss rs more i step reply s new map_is small sound allowed within is len push so_far =
+    let front : List Step = take i ss in
+    let longer : take (i + 1) ss ≡ front ++ step ∷ [] = take_more ss i step within ∙ ap (λ (x : Step). front ++ x ∷ []) (sym is) in
+    let same : length front ≡ length rs = omega (arith, length-take {A = Step} i ss, len, within) in
+    let grown : history [] (take (i + 1) ss) more ≡ entry step reply ∷ history [] front rs =
+    ap (λ (xs : List Step). history [] xs more) longer ∙ (ap (λ (ys : List (Result Reply StepFault)). history [] (front ++ step ∷ []) ys) push ∙ history-push [] front rs step reply same) in
+    subst (λ (past : List Entry). RunTied setup past new) (sym grown) (run_step setup (history [] front rs) s new step reply map_is small sound allowed so_far)
 
 -- every run tells the news
 pub run_tied : (setup : Setup) (past : List Entry) → is_point_map setup.rows ≡ true → setup.common_address < 65536 → IsRun setup past → EachSound setup past

@@ -1,8 +1,8 @@
 -- Each kind of step keeps what ties the state to the history.
-use Rattle.std.proofs.Common.{◌≡◌, ℕ, ℤ, ◌+◌, ◌-◌, ◌*◌, ◌%◌, ◌^◌, ◌<◌, Bool, true, false, ◌&&◌, cond, eqb, ltb, List, [], ◌∷◌, ◌++◌, length, take, Option, Some, None, Result, Ok, Err, refl, sym, ap, subst, ◌∙◌, arith, inl, inr}
+use Rattle.std.proofs.Common.{◌≡◌, ℕ, ℤ, ◌+◌, ◌-◌, ◌*◌, ◌%◌, ◌^◌, ◌<◌, Bool, true, false, ◌&&◌, ◌==◌, cond, eqb, ltb, List, [], ◌∷◌, ◌++◌, length, take, Option, Some, None, Result, Ok, Err, refl, sym, ap, subst, ◌∙◌, arith, inl, inr}
 use Rattle.std.specs.Prelude.{slice_get, option_map, IfSome, replicate}
 use Rattle.std.specs.List.{AllByRecursion}
-use Rattle.std.proofs.lemmas.Bool.{cases_eq, ne_eqb, eq-eqb}
+use Rattle.std.proofs.lemmas.Bool.{cases_eq, ne_eqb, eq-eqb, true≢false}
 use Rattle.std.proofs.lemmas.List.{append-nil, take_at}
 use Rattle.gw_model.specs.declared.observation.Observation.{Observation}
 use Rattle.gw_model.specs.Rows.{Setup}
@@ -16,11 +16,11 @@ use Rattle.gw_hub.specs.declared.step.Step.TheVariants as steps
 use Rattle.gw_hub.specs.declared.step.Reply.{Reply}
 use Rattle.gw_hub.specs.declared.step.Reply.TheVariants as replies
 use Rattle.gw_hub.specs.declared.step.StepFault.{StepFault}
-use Rattle.gw_hub.specs.declared.step.StepFault.TheVariants.{Spent}
+use Rattle.gw_hub.specs.declared.step.StepFault.TheVariants.{NoClient, Spent}
 use Rattle.gw_hub.specs.declared.step.Why.TheVariants.{Flooded}
 use Rattle.gw_hub.specs.State.{State, Outstation, Session, Link, change}
-use Rattle.gw_hub.specs.Steps.{framed, begun, frame_reply, pumped, put_out as after_put, tail_of, pump_reply, pump_session, pump_queue, buffer, start_con, i_format, client_outcome, outcome, after}
-use Rattle.gw_hub.specs.History.{Entry, log_of, picture_of, last_after, last_text, begins, ends, spontaneous}
+use Rattle.gw_hub.specs.Steps.{framed, begun, frame_reply, pumped, put_out as after_put, tail_of, pump_reply, pump_session, pump_queue, buffer, start_con, i_format, client_outcome, up_outcome, outcome, after}
+use Rattle.gw_hub.specs.History.{Entry, log_of, picture_of, last_after, last_text, begins, ends, is_started, spontaneous}
 use Rattle.gw_hub.specs.Headline.{link_session}
 use Rattle.gw_hub.specs.Sound.{IsSendable, IsSound}
 use Rattle.gw_hub.proofs.Lists.{change-here, change-there}
@@ -85,13 +85,20 @@ fresh_session : (x : Option (Option Link)) → link_session (option_map (λ (_ :
 fresh_session None = refl
 fresh_session (Some x) = refl
 
-pub client_up : (setup : Setup) (past : List Entry) (c m : ℕ) (r : Reply) (s : State) → Tied setup past s
-    → Tied setup (entry (steps.ClientUp c m) (Ok r) ∷ past) (after setup s (steps.ClientUp c m))
-client_up setup past c m r s tied =
+client_up_at : (setup : Setup) (past : List Entry) (c m : ℕ) (r : Reply) (s : State) (found : Option (Option Link)) → slice_get s.clients c ≡ found
+    → up_outcome s NoClient found ≡ Ok r → Tied setup past s → Tied setup (entry (steps.ClientUp c m) (Ok r) ∷ past) (after setup s (steps.ClientUp c m))
+client_up_at setup past c m r s None at e tied = absurd cc
+client_up_at setup past c m r s (Some (Some link)) at e tied = absurd cc
+client_up_at setup past c m r s (Some None) at e tied =
     let step : Step = steps.ClientUp c m in
-    let own : ClientTied setup c (entry step (Ok r) ∷ past) None = client_end setup c past step (Ok r) (eq-eqb c c refl) in
+    let down : ClientTied setup c past None = subst (λ (x : Option (Option Link)). ClientTied setup c past (link_session x)) at (tied.clients c) in
+    let own : ClientTied setup c (entry step (Ok r) ∷ past) None = client_quiet setup c past step (Ok r) None refl refl refl refl down in
     one_client setup past step (Ok r) s (s.steps + 1) c (λ _. Some (record { confirmations = 0; next_send = 0; session = None })) refl (λ o last. refl)
-    (λ d ne. ne_eqb c d ne) (λ d ne. refl) (λ d ne. refl) (rw (fresh_session (slice_get s.clients c)) own) tied
+    (λ d ne. refl) (λ d ne. refl) (λ d ne. refl) (rw (fresh_session (slice_get s.clients c)) own) tied
+
+pub client_up : (setup : Setup) (past : List Entry) (c m : ℕ) (r : Reply) (s : State) → outcome setup s (steps.ClientUp c m) ≡ Ok r → Tied setup past s
+    → Tied setup (entry (steps.ClientUp c m) (Ok r) ∷ past) (after setup s (steps.ClientUp c m))
+client_up setup past c m r s e tied = client_up_at setup past c m r s (slice_get s.clients c) refl e tied
 
 -- ---- Frame
 
@@ -142,14 +149,17 @@ even n = eq-eqb (((2 * n) % 256) % 2) 0 (omega arith)
 
 -- the I format of a sendable observation means it
 sent : (offset : ℤ) (ns common : ℕ) (x : Observation) → common < 65536 → IsSendable offset x → spontaneous offset (i_format ns (spelling common 3 x)) ≡ x ∷ []
-sent offset ns common x small ok = rw (even ns, meant offset common 3 x small ok.width ok.fit) refl
+sent offset ns common x small ok =
+    let asdu : List ℕ = spelling common 3 x in
+    let whole : (4 + length asdu + 2 == length (i_format ns asdu)) ≡ true = eq-eqb (4 + length asdu + 2) (length (i_format ns asdu)) (omega arith) in
+    rw (whole, even ns, meant offset common 3 x small ok.width ok.fit) refl
 
 -- a pump that puts nothing out to the session
 pump_other : (setup : Setup) (past : List Entry) (c m : ℕ) (r : Reply) (k : Option Session) → put_out setup c (steps.Pump c m) (Ok r) ≡ []
     → ClientTied setup c past k → ClientTied setup c (entry (steps.Pump c m) (Ok r) ∷ past) k
 pump_other setup past c m r k nothing tied = client_quiet setup c past (steps.Pump c m) (Ok r) k refl refl refl nothing tied
 
-to_itself : (setup : Setup) (c m : ℕ) (octets : List ℕ) → put_out setup c (steps.Pump c m) (Ok (replies.Apdu (buffer octets))) ≡ spontaneous setup.zone.offset_minutes octets
+pub to_itself : (setup : Setup) (c m : ℕ) (octets : List ℕ) → put_out setup c (steps.Pump c m) (Ok (replies.Apdu (buffer octets))) ≡ spontaneous setup.zone.offset_minutes octets
 to_itself setup c m octets = rw (eq-eqb c c refl, buffered octets) refl
 
 -- a queue after a pump
@@ -185,7 +195,7 @@ pump_own setup past c m r link false small sound e tied =
     (pump_other setup past c m (replies.Apdu (buffer start_con)) link.session (to_itself setup c m start_con) tied)
 
 -- a pump puts nothing out to other clients
-pump_apart : (setup : Setup) (c d m : ℕ) (r : Reply) → (c ≡ d → ⊥) → put_out setup d (steps.Pump c m) (Ok r) ≡ []
+pub pump_apart : (setup : Setup) (c d m : ℕ) (r : Reply) → (c ≡ d → ⊥) → put_out setup d (steps.Pump c m) (Ok r) ≡ []
 pump_apart setup c d m replies.Done ne = refl
 pump_apart setup c d m (replies.Verdict v) ne = refl
 pump_apart setup c d m (replies.Apdu a) ne = rw (ne_eqb c d ne) refl
@@ -235,3 +245,39 @@ outstation_up setup past o m r s tied =
       ];
       clients = λ c. client_quiet setup c past step (Ok r) (link_session (slice_get s.clients c)) refl refl refl refl (tied.clients c);
     }
+
+-- ---- what is put out to a client without a session
+
+quiet_session : (setup : Setup) (past : List Entry) (c m : ℕ) (r : Reply) (link : Link) (k : Option Session) (b : Bool) → ClientTied setup c past k → is_started c past ≡ false
+    → cond b (pump_session setup.common_address link.next_send k) (replies.Apdu (buffer start_con)) ≡ r → put_out setup c (steps.Pump c m) (Ok r) ≡ []
+quiet_session setup past c m r link (Some k) b tied stopped e = absurd (true≢false (sym tied.started ∙ stopped))
+quiet_session setup past c m r link None true tied stopped e = subst (λ (x : Reply). put_out setup c (steps.Pump c m) (Ok x) ≡ []) e refl
+quiet_session setup past c m r link None false tied stopped e = subst (λ (x : Reply). put_out setup c (steps.Pump c m) (Ok x) ≡ []) e (to_itself setup c m start_con)
+
+quiet_own : (setup : Setup) (past : List Entry) (c m : ℕ) (r : Reply) (s : State) (found : Option (Option Link)) → ClientTied setup c past (link_session found) → is_started c past ≡ false
+    → client_outcome s (pump_reply setup.common_address) found ≡ Ok r → put_out setup c (steps.Pump c m) (Ok r) ≡ []
+quiet_own setup past c m r s None tied stopped e = absurd cc
+quiet_own setup past c m r s (Some None) tied stopped e = absurd cc
+quiet_own setup past c m r s (Some (Some link)) tied stopped e =
+    quiet_session setup past c m r link link.session (eqb link.confirmations 0) tied stopped
+    (spent_is (ltb (s.steps + 1) (2 ^ 64) && ltb (s.news + 0) (2 ^ 64)) (pump_reply setup.common_address link) r e)
+
+pub quiet_step : (setup : Setup) (past : List Entry) (step : Step) (r : Reply) (s : State) (d : ℕ) → outcome setup s step ≡ Ok r → Tied setup past s → is_started d past ≡ false
+    → put_out setup d step (Ok r) ≡ []
+quiet_step setup past (steps.OutstationUp o m) r s d e tied stopped = refl
+quiet_step setup past (steps.Fragment f m) r s d e tied stopped = refl
+quiet_step setup past (steps.ClientUp c m) r s d e tied stopped = refl
+quiet_step setup past (steps.Frame c a m) r s d e tied stopped = refl
+quiet_step setup past (steps.Pump c m) r s d e tied stopped =
+    elim (cases_eq c d) [
+      | inl same ↦ subst (λ (x : ℕ). put_out setup x (steps.Pump c m) (Ok r) ≡ []) same
+          (quiet_own setup past c m r s (slice_get s.clients c) (tied.clients c) (subst (λ (x : ℕ). is_started x past ≡ false) (sym same) stopped) e)
+      | inr ne ↦ pump_apart setup c d m r ne
+    ]
+
+pub quiet_fault : (setup : Setup) (step : Step) (f : StepFault) (d : ℕ) → put_out setup d step (Err f) ≡ []
+quiet_fault setup (steps.OutstationUp o m) f d = refl
+quiet_fault setup (steps.Fragment x m) f d = refl
+quiet_fault setup (steps.ClientUp c m) f d = refl
+quiet_fault setup (steps.Frame c a m) f d = refl
+quiet_fault setup (steps.Pump c m) f d = refl

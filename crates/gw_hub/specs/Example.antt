@@ -1,5 +1,5 @@
 -- The worked run: one outstation, one client, binary input 5 shown as single-point 4101 of station 1.
-use Rattle.std.specs.Prelude.{ℕ, ◌≤◌, ◌≤ℤ◌, pos, negsuc, List, [], ◌∷◌, Result, Ok, refl}
+use Rattle.std.specs.Prelude.{List, [], ◌∷◌, refl}
 use Rattle.std.proofs.Common.{lit≤}
 use Rattle.gw_model.specs.declared.point.Kind.TheVariants.{Binary}
 use Rattle.gw_model.specs.declared.row.Row.{Row}
@@ -12,9 +12,8 @@ use Rattle.gw_hub.specs.declared.apdu.Apdu.TheVariants.{U}
 use Rattle.gw_hub.specs.declared.apdu.Signal.TheVariants.{StartAct}
 use Rattle.gw_hub.specs.declared.step.Step.{Step}
 use Rattle.gw_hub.specs.declared.step.Step.TheVariants as steps
-use Rattle.gw_hub.specs.declared.step.Reply.{Reply}
-use Rattle.gw_hub.specs.State.{State, at_first}
-use Rattle.gw_hub.specs.Steps.{outcome, after}
+use Rattle.gw_hub.specs.State.{State}
+use Rattle.gw_hub.specs.Steps.{after}
 
 abbrev pub row : Row
 row = record { key = record { outstation = 0; kind = Binary; index = 5 }; address = 4101; show = Single; from = lit≤ tt; to = lit≤ tt; shown = refl }

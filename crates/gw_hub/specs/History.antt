@@ -1,6 +1,6 @@
 -- What a history tells, apart from any state: the log of news, the picture, and what happened in a client's session.
 -- Histories are newest first.
-use Rattle.std.specs.Prelude.{ℕ, ℤ, ◌%◌, Bool, true, false, ◌&&◌, not, ◌==◌, List, [], ◌∷◌, ◌++◌, map, take, drop, slice_index, Option, Some, None, Result, Ok, if◌then◌else◌}
+use Rattle.std.specs.Prelude.{ℕ, ℤ, ◌+◌, ◌%◌, Bool, true, false, ◌&&◌, not, ◌==◌, List, [], ◌∷◌, ◌++◌, length, map, take, drop, slice_index, Option, Some, None, Result, Ok, if◌then◌else◌}
 use Rattle.gw_model.specs.declared.row.Row.{Row}
 use Rattle.gw_model.specs.declared.observation.Observation.{Observation}
 use Rattle.gw_model.specs.declared.point.Report.{Report}
@@ -81,10 +81,9 @@ abbrev pub begins : ℕ → Step → Result Reply StepFault → Bool
 begins c (steps.Frame d (U StartAct) moment) (Ok replies.Taken) = d == c
 begins c _ _ = false
 
--- the step ends it: the client was closed, or is a new one
+-- the step ends it: the client's connection was closed
 abbrev pub ends : ℕ → Step → Result Reply StepFault → Bool
 ends c (steps.Frame d apdu moment) (Ok (replies.Closed why)) = d == c
-ends c (steps.ClientUp d moment) (Ok r) = d == c
 ends c _ _ = false
 
 abbrev pub is_started : ℕ → List Entry → Bool
@@ -96,9 +95,13 @@ abbrev pub spontaneous_of : Option Asdu → List Observation
 spontaneous_of None = []
 spontaneous_of (Some asdu) = if asdu.cause == 3 then asdu.observations else []
 
+-- octets are an I format: the start octet, as many octets as the next one tells, and a control field whose lowest bit is 0
+abbrev pub is_i_format : List ℕ → Bool
+is_i_format octets = (slice_index octets 0 == 0x68) && (slice_index octets 1 + 2 == length octets) && (slice_index octets 2 % 2 == 0)
+
 abbrev pub spontaneous : ℤ → List ℕ → List Observation
 spontaneous offset octets =
-    if (slice_index octets 2) % 2 == 0 then spontaneous_of (asdu_meaning (monitor_types offset) (drop 6 octets)) else []
+    if is_i_format octets then spontaneous_of (asdu_meaning (monitor_types offset) (drop 6 octets)) else []
 
 -- the spontaneous observations that a step put out to client c
 abbrev pub put_to : ℤ → ℕ → Step → Result Reply StepFault → List Observation

@@ -6,3 +6,5 @@ pub mod Fates
 pub mod Headline
 pub mod Sound
 pub mod Example
+pub mod Seats
+pub mod Hub

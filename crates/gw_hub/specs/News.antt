@@ -1,5 +1,5 @@
 -- The news of a fragment, by the picture as it is when each image comes.
-use Rattle.std.specs.Prelude.{ℕ, List, [], ◌∷◌, ◌++◌, Option, Some, None, slice_get, if◌then◌else◌}
+use Rattle.std.specs.Prelude.{ℕ, List, [], ◌∷◌, ◌++◌, Option, Some, None, slice_get, ◌==◌, if◌then◌else◌}
 use Rattle.gw_model.specs.declared.point.Report.{Report}
 use Rattle.gw_model.specs.declared.point.Stamp.TheVariants.{Untimed}
 use Rattle.gw_model.specs.declared.row.Row.{Row}
@@ -42,3 +42,12 @@ news_of rows picture (r ∷ rs) = news_of_report rows picture r ++ news_of rows 
 abbrev pub picture_after : List Row → List Observation → List Report → List Observation
 picture_after rows picture [] = picture
 picture_after rows picture (r ∷ rs) = picture_after rows (shown_after rows picture r) rs
+
+-- what is shown at a place after a report, and after reports taken in turn
+abbrev pub next_at : Report → ℕ → Observation → Option (ℕ × Row) → Observation
+next_at r position shown None = shown
+next_at r position shown (Some found) = if found.0 == position then untimed (image_of found.1 r) else shown
+
+abbrev pub last_at : List Row → ℕ → Observation → List Report → Observation
+last_at rows position shown [] = shown
+last_at rows position shown (r ∷ rs) = last_at rows position (next_at r position shown (row_from 0 r.key rows)) rs

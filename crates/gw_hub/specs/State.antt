@@ -10,7 +10,7 @@ use Rattle.gw_model.specs.declared.observation.Quality.{Quality}
 use Rattle.gw_model.specs.declared.observation.Observation.{Observation}
 use Rattle.gw_model.specs.Rows.{Setup}
 
--- an outstation that is up: the octets of the last unsolicited response that was accepted since
+-- an outstation that is up: the octets of the last unsolicited response that was accepted since it came up
 pub record Outstation : Type 0 where
   pub last : Option (List ℕ)
 

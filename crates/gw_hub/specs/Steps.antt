@@ -3,7 +3,7 @@ use Rattle.std.specs.Prelude.{◌≡◌, ℕ, ◌+◌, ◌*◌, ◌/◌, ◌%◌
 use Rattle.std.specs.Str.{bytes_eq}
 use Rattle.gw_model.specs.declared.observation.Observation.{Observation}
 use Rattle.gw_model.specs.Rows.{Setup}
-use Rattle.dnp_app.specs.Control.{control_of, confirmation_of}
+use Rattle.dnp_app.specs.Control.{confirm_of}
 use Rattle.dnp_app.specs.Response.{Fragment}
 use Rattle.iec_asdu.specs.Spelling.{spelling}
 use Rattle.gw_hub.specs.declared.apdu.ApduBuf.{ApduBuf}
@@ -30,11 +30,6 @@ is_unsolicited f = slice_index f.octets 1 == 130
 abbrev pub is_last : Option (List ℕ) → List ℕ → Bool
 is_last None octets = false
 is_last (Some last) octets = bytes_eq last octets
-
-abbrev pub confirm_of : List ℕ → Option (List ℕ)
-confirm_of octets =
-    let control = control_of (slice_index octets 0) in
-    if control.con then Some (confirmation_of control.sequence control.uns) else None
 
 abbrev pub verdict_of : Outstation → Fragment → Verdict
 verdict_of o f =
@@ -110,9 +105,12 @@ pumped (Some link) = Some (if link.confirmations == 0 then put_out link link.ses
 
 -- ---- the answer
 
--- Spent where the counts of steps and of news can't rise by one and by n
+-- the counts of steps and of news have 64 bits: they can rise by one and by n
+abbrev pub can_rise : State → ℕ → Bool
+can_rise s n = nat_lt (s.steps + 1) (2 ^ 64) && nat_lt (s.news + n) (2 ^ 64)
+
 abbrev pub unless_spent : State → ℕ → Reply → Result Reply StepFault
-unless_spent s n reply = if nat_lt (s.steps + 1) (2 ^ 64) && nat_lt (s.news + n) (2 ^ 64) then Ok reply else Err Spent
+unless_spent s n reply = if can_rise s n then Ok reply else Err Spent
 
 abbrev pub up_outcome : {A : Type 0} → State → StepFault → Option (Option A) → Result Reply StepFault
 up_outcome s absent None = Err absent
@@ -165,13 +163,13 @@ after setup s (steps.Pump c moment) = counted (record s { clients = change c pum
 
 -- ---- what is allowed
 
--- the steps that may lack memory
-abbrev pub takes_memory : Step → Bool
-takes_memory (steps.Fragment f moment) = true
-takes_memory _ = false
+-- only a response that is taken may lack memory
+abbrev pub is_taken : Result Reply StepFault → Bool
+is_taken (Ok (replies.Verdict (verdicts.Accepted confirm))) = true
+is_taken _ = false
 
 abbrev pub MayFault : Setup → State → Step → StepFault → Type 0
-MayFault setup s step Memory = IsTrue (takes_memory step)
+MayFault setup s step Memory = IsTrue (is_taken (outcome setup s step))
 MayFault setup s step NoOutstation = outcome setup s step ≡ Err NoOutstation
 MayFault setup s step NoClient = outcome setup s step ≡ Err NoClient
 MayFault setup s step NotUp = outcome setup s step ≡ Err NotUp

@@ -1,8 +1,9 @@
 //! What was shown of each row last.
-ghost use Rattle.std.specs.Prelude.{◌≡◌, map, IfOk, IfSome, slice_get};
+ghost use Rattle.std.specs.Prelude.{◌≡◌, ◌<◌, length, map, IfOk, IfSome, IsTrue, slice_get};
+ghost use Rattle.gw_model.specs.Rows.{is_point_map, row_from};
 ghost use Rattle.std.specs.Option.{option_to_list};
 ghost use Rattle.gw_hub.specs.State.{opening, change};
-ghost use Rattle.gw_hub.specs.News.{news_of_report, shown_after, untimed, news_after};
+ghost use Rattle.gw_hub.specs.News.{next_at, news_of, news_of_report, picture_after, shown_after, untimed, news_after};
 ghost use Rattle.gw_translate.specs.Image.{image_of};
 ghost use Rattle.gw_hub.specs.Sound.{IsSendable};
 
@@ -29,7 +30,8 @@ impl Model for Picture {
 impl Picture {
     /// The picture before anything was reported.
     pub fn new(alloc: Global, settings: &Settings) -> Result<Picture, Memory>
-        ensures { IfOk result (λ picture. picture ≡ map opening settings.now.rows) }
+        ensures shown { IfOk result (λ picture. picture ≡ map opening settings.now.rows) }
+        ensures settings { IsTrue (is_point_map settings.now.rows) × (settings.now.common_address < 65536) }
     {
         let shown = opening_of(alloc, settings.rows())?;
         Ok(Picture { shown })
@@ -40,6 +42,13 @@ impl Picture {
         ensures { result.now ≡ self.now }
     {
         self.shown.as_slice()
+    }
+
+    /// How many of these reports, taken in turn, would be news.
+    pub fn news(&self, settings: &Settings, reports: &[Report]) -> u64
+        ensures { result ≡ length (news_of settings.now.rows self.now reports.now) }
+    {
+        count_news(self.shown.as_slice(), settings, reports)
     }
 
     /// Takes a report: gives its image where that is news, and shows it.
@@ -142,5 +151,68 @@ fn take_report(
             let image = image_by(report, row, &settings.zone());
             show_at(shown, position, report, image)
         }
+    }
+}
+
+/// What is shown at a place once reports were taken in turn.
+fn shown_once_taken(
+    shown: &[Observation],
+    settings: &Settings,
+    reports: &[Report],
+    position: usize,
+) -> Option<Observation>
+    ensures { result ≡ slice_get (picture_after settings.now.rows shown.now reports.now) position }
+{
+    let mut last = *shown.get(position)?;
+    for report in reports {
+        last = next_shown(settings, report, position, last);
+    }
+    Some(last)
+}
+
+/// What is shown at a place after one report more.
+fn next_shown(
+    settings: &Settings,
+    report: &Report,
+    position: usize,
+    last: Observation,
+) -> Observation
+    ensures { result ≡ next_at report.now position last (row_from 0 report.now.key settings.now.rows) }
+{
+    match settings.row_of(&report.key) {
+        Some((at, row)) if at == position => without_time(image(report, row, &settings.zone())),
+        _ => last,
+    }
+}
+
+/// How many of these reports, taken in turn, would be news. Since nothing is kept between them it takes
+/// time with the square of their number: it is asked only where a count of 64 bits is nearly used up.
+fn count_news(shown: &[Observation], settings: &Settings, reports: &[Report]) -> u64
+    ensures { result ≡ length (news_of settings.now.rows shown.now reports.now) }
+{
+    let mut news = 0;
+    for position in 0..reports.len() {
+        let (earlier, _) = reports.split_at(position);
+        news += is_news_after(shown, settings, earlier, &reports[position]);
+    }
+    news
+}
+
+/// How many news a report is once others were taken in turn: 0 or 1.
+fn is_news_after(
+    shown: &[Observation],
+    settings: &Settings,
+    earlier: &[Report],
+    report: &Report,
+) -> u64
+    ensures { result ≡ length (news_of_report settings.now.rows (picture_after settings.now.rows shown.now earlier.now) report.now) }
+{
+    let Some((position, row)) = settings.row_of(&report.key) else {
+        return 0;
+    };
+    let image = image(report, row, &settings.zone());
+    match shown_once_taken(shown, settings, earlier, position) {
+        Some(before) if is_news(report, &before, &image) => 1,
+        _ => 0,
     }
 }

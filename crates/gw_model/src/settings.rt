@@ -1,5 +1,5 @@
 //! The settings that the gateway runs with.
-ghost use Rattle.std.specs.Prelude.{◌≡◌, IsTrue, pos, map, [], ◌∷◌};
+ghost use Rattle.std.specs.Prelude.{◌≡◌, ◌<◌, IsTrue, pos, map, [], ◌∷◌};
 ghost use Rattle.std.specs.Option.{option_map};
 ghost use Rattle.gw_model.specs.Rows.{row_from, is_point_map};
 
@@ -17,14 +17,14 @@ pub struct Settings {
 }
 
 impl Model for Settings {
-    ghost use Rattle.std.specs.Prelude.{IsTrue};
+    ghost use Rattle.std.specs.Prelude.{◌<◌, IsTrue};
     ghost use Rattle.gw_model.specs.Rows.{Setup, is_point_map};
 
     ghost Value = { Setup };
 
     ghost view = { λ s. record { common_address = s.common_address; zone = s.zone; rows = s.rows } };
 
-    ghost invariant = { λ s. IsTrue (is_point_map s.rows) };
+    ghost invariant = { λ s. IsTrue (is_point_map s.rows) × (s.common_address < 65536) };
 }
 
 impl Settings {
@@ -65,10 +65,12 @@ impl Settings {
         self.zone
     }
 
-    /// The rows of the point map, in order. No two have one key or one address.
+    /// The rows of the point map, in order. No two have one key or one address; and the common address
+    /// of the station has 16 bits.
     pub fn rows(&self) -> &[Row]
         ensures rows { result.now ≡ self.now.rows }
         ensures unique { IsTrue (is_point_map self.now.rows) }
+        ensures station { self.now.common_address < 65536 }
     {
         &self.rows
     }

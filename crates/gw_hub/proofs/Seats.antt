@@ -1,0 +1,87 @@
+-- A write to one place of the clients, and a walk over all of them.
+use Rattle.std.proofs.Common.{◌≡◌, ℕ, zero, suc, ◌+◌, ◌<◌, ◌≤◌, List, [], ◌∷◌, ◌++◌, map, take, drop, length, get_or, Option, None, refl, sym, ap, subst, ◌∙◌, arith}
+use Rattle.std.specs.Prelude.{slice_get}
+use Rattle.std.specs.List.{AllByRecursion}
+use Rattle.std.proofs.Math.ListN.{set}
+use Rattle.std.proofs.lemmas.List.Edits.{map_over_more}
+use Rattle.gw_hub.specs.State.{Link, change}
+use Rattle.gw_hub.specs.Seats.{Seat, link_of, links_of}
+use Rattle.gw_hub.proofs.Images.{change-past}
+
+pub links-length : (ys : List (Option Seat)) → length (links_of ys) ≡ length ys
+links-length [] = refl
+links-length (y ∷ ys) = ap suc (links-length ys)
+
+pub links-set : (n : ℕ) (y : Option Seat) (ys : List (Option Seat)) → links_of (set ys n y) ≡ set (links_of ys) n (link_of y)
+links-set n y [] = refl
+links-set zero y (x ∷ ys) = refl
+links-set (suc n) y (x ∷ ys) = ap (λ (zs : List (Option Link)). link_of x ∷ zs) (links-set n y ys)
+
+links-get : (n : ℕ) (ys : List (Option Seat)) (d : Option Seat) (l : Option Link) → n < length ys → link_of (get_or ys n d) ≡ get_or (links_of ys) n l
+links-get n [] d l lt = absurd (omega arith)
+links-get zero (y ∷ ys) d l lt = refl
+links-get (suc n) (y ∷ ys) d l lt = links-get n ys d l (omega arith)
+
+set-changed : (n : ℕ) (f : Option Link → Option Link) (ys : List (Option Seat)) (d y : Option Seat) → n < length ys → link_of y ≡ f (link_of (get_or ys n d))
+    → links_of (set ys n y) ≡ change n f (links_of ys)
+set-changed n f [] d y lt e = absurd (omega arith)
+set-changed zero f (x ∷ ys) d y lt e = ap (λ (z : Option Link). z ∷ links_of ys) e
+set-changed (suc n) f (x ∷ ys) d y lt e = ap (λ (zs : List (Option Link)). link_of x ∷ zs) (set-changed n f ys d y (omega arith) e)
+
+-- one client changed
+pub one_changed : (n p : ℕ) (f : Option Link → Option Link) (ys : List (Option Seat)) (d y : Option Seat) → p ≡ n → p < length ys → link_of y ≡ f (link_of (get_or ys p d))
+    → links_of (set ys p y) ≡ change n f (links_of ys)
+one_changed n p f ys d y same lt e = set-changed p f ys d y lt e ∙ ap (λ (m : ℕ). change m f (links_of ys)) same
+
+-- no such client
+pub past_changed : (n : ℕ) (f : Option Link → Option Link) (ys : List (Option Seat)) → length ys ≤ n → links_of ys ≡ change n f (links_of ys)
+past_changed n f ys le = sym (change-past n f (links_of ys) (omega (arith, links-length ys)))
+
+pub past_none : (n : ℕ) (ys : List (Option Seat)) → length ys ≤ n → slice_get (links_of ys) n ≡ None
+past_none n [] le = refl
+past_none zero (y ∷ ys) le = absurd (omega arith)
+past_none (suc n) (y ∷ ys) le = past_none n ys (omega arith)
+
+-- every client changed, one after the other
+pub next_changed : (n : ℕ) (f : Option Link → Option Link) (xs : List (Option Link)) (ys : List (Option Seat)) (d y : Option Seat) → n < length xs → n < length ys
+    → links_of ys ≡ map f (take n xs) ++ drop n xs → link_of y ≡ f (link_of (get_or ys n d)) → links_of (set ys n y) ≡ map f (take (n + 1) xs) ++ drop (n + 1) xs
+next_changed n f xs ys d y lt within so_far e =
+    links-set n y ys ∙ (ap (λ (z : Option Link). set (links_of ys) n z) e ∙ map_over_more f xs (links_of ys) n (link_of (get_or ys n d)) lt so_far (links-get n ys d (link_of (get_or ys n d)) within))
+
+-- the first n places have P, the others Q
+abbrev pub Halves : {A : Type 0} → (A → Type 0) → (A → Type 0) → ℕ → List A → Type 0
+Halves P Q n [] = Unit {0}
+Halves P Q zero (y ∷ ys) = Q y × Halves P Q zero ys
+Halves P Q (suc n) (y ∷ ys) = P y × Halves P Q n ys
+
+pub halves_none : {A : Type 0} (P Q : A → Type 0) (ys : List A) → AllByRecursion Q ys → Halves P Q 0 ys
+halves_none P Q [] all = tt
+halves_none P Q (y ∷ ys) all = (all.0, halves_none P Q ys all.1)
+
+pub halves_at : {A : Type 0} (P Q : A → Type 0) (n : ℕ) (ys : List A) (d : A) → n < length ys → Halves P Q n ys → Q (get_or ys n d)
+halves_at P Q n [] d lt all = absurd (omega arith)
+halves_at P Q zero (y ∷ ys) d lt all = all.0
+halves_at P Q (suc n) (y ∷ ys) d lt all = halves_at P Q n ys d (omega arith) all.1
+
+halves_suc : {A : Type 0} (P Q : A → Type 0) (n : ℕ) (ys : List A) (y : A) → n < length ys → P y → Halves P Q n ys → Halves P Q (suc n) (set ys n y)
+halves_suc P Q n [] y lt p all = tt
+halves_suc P Q zero (x ∷ ys) y lt p all = (p, all.1)
+halves_suc P Q (suc n) (x ∷ ys) y lt p all = (all.0, halves_suc P Q n ys y (omega arith) p all.1)
+
+pub halves_more : {A : Type 0} (P Q : A → Type 0) (n : ℕ) (ys : List A) (y : A) → n < length ys → P y → Halves P Q n ys → Halves P Q (n + 1) (set ys n y)
+halves_more P Q n ys y lt p all = let e : suc n ≡ n + 1 = omega arith in subst (λ (m : ℕ). Halves P Q m (set ys n y)) e (halves_suc P Q n ys y lt p all)
+
+pub halves_all : {A : Type 0} (P Q : A → Type 0) (n : ℕ) (ys : List A) → length ys ≤ n → Halves P Q n ys → AllByRecursion P ys
+halves_all P Q n [] le all = tt
+halves_all P Q zero (y ∷ ys) le all = absurd (omega arith)
+halves_all P Q (suc n) (y ∷ ys) le all = (all.0, halves_all P Q n ys (omega arith) all.1)
+
+pub everywhere : {A : Type 0} (ys : List A) → AllByRecursion (λ _. Unit {0}) ys
+everywhere [] = tt
+everywhere (y ∷ ys) = (tt, everywhere ys)
+
+-- a client whose link stays
+pub same_links : (n : ℕ) (ys : List (Option Seat)) (d y : Option Seat) → link_of y ≡ link_of (get_or ys n d) → links_of (set ys n y) ≡ links_of ys
+same_links n [] d y e = refl
+same_links zero (x ∷ ys) d y e = ap (λ (z : Option Link). z ∷ links_of ys) e
+same_links (suc n) (x ∷ ys) d y e = ap (λ (zs : List (Option Link)). link_of x ∷ zs) (same_links n ys d y e)
