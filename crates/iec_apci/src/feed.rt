@@ -1,11 +1,12 @@
 //! A stream of octets that comes in pieces.
-ghost use Rattle.std.specs.Prelude.{◌≡◌, ◌≤◌, ◌<◌, [], length, drop, IsOk, OnOk, OnErr, IfNone, IfSome, IfOk, vec_len};
+ghost use Rattle.std.specs.Prelude.{◌≡◌, ◌<◌, [], length, IsOk, OnOk, OnErr, IfNone, IfSome, IfOk};
 ghost use Rattle.iec_apci.specs.Stream.{Open};
 ghost use Rattle.iec_apci.specs.Calls.{fed, answer, asked, IsFaulty, IsShort};
 ghost use Rattle.iec_apci.specs.Content.{content_if, IsNumbered, IsPadded};
 
 use crate::apdu::Apdu;
 use crate::fault::ApciFault;
+use crate::octets::Octets;
 use crate::reading::{apdu_at, size_of};
 use gw_model::Memory;
 use std::alloc::Global;
@@ -15,24 +16,21 @@ use std::marker::Model;
 /// fed and that no answer has used up yet, or the fault that was met.
 #[derive(Debug, Drop)]
 pub struct ApduFeed {
-    octets: Vec<u8>,
-    /// How many of them are used up.
-    position: usize,
+    octets: Octets,
     /// The fault that was met.
     fault: Option<ApciFault>,
 }
 
 impl Model for ApduFeed {
-    ghost use Rattle.std.specs.Prelude.{◌≤◌, drop, vec_len};
     ghost use Rattle.iec_apci.specs.Stream.{Ending};
 
     ghost Value = { Ending };
 
-    ghost use Rattle.iec_apci.specs.Calls.{held};
+    ghost use Rattle.iec_apci.specs.Shown.{shown, IsSound};
 
-    ghost view = { λ f. held f.fault (drop f.position f.octets.items) };
+    ghost view = { shown };
 
-    ghost invariant = { λ f. f.position ≤ vec_len f.octets };
+    ghost invariant = { IsSound };
 }
 
 impl ApduFeed {
@@ -41,8 +39,7 @@ impl ApduFeed {
         ensures { result ≡ Open [] }
     {
         ApduFeed {
-            octets: Vec::new(alloc),
-            position: 0,
+            octets: Octets::new(alloc),
             fault: None,
         }
     }
@@ -58,13 +55,7 @@ impl ApduFeed {
         if self.fault.is_some() {
             return Ok(());
         }
-        // What is used up goes once it is as long as what is left, so an octet moves once on average.
-        if self.octets.len() - self.position <= self.position {
-            remove_front(&mut self.octets, self.position);
-            self.position = 0;
-        }
-        self.octets.extend_from_slice(piece)?;
-        Ok(())
+        self.octets.add(piece)
     }
 
     /// The next APDU, if the octets so far show one, or the fault, from then on for ever. It takes no memory.
@@ -82,25 +73,14 @@ impl ApduFeed {
         if let Some(fault) = self.fault {
             return Some(Err(fault));
         }
-        let answer = apdu_at(&self.octets[self.position..])?;
+        let answer = apdu_at(self.octets.left())?;
         match &answer {
-            Ok(apdu) => self.position += size_of(apdu),
+            Ok(apdu) => self.octets.use_up(size_of(apdu)),
             Err(fault) => {
                 self.fault = Some(*fault);
                 self.octets.clear();
-                self.position = 0;
             }
         }
         Some(answer)
     }
-}
-
-/// Removes octets from the front.
-fn remove_front(octets: &mut Vec<u8>, count: usize)
-    requires { count ≤ vec_len octets.old }
-    ensures { octets.new.items ≡ drop count octets.old.items }
-{
-    let left = octets.len() - count;
-    octets.copy_within(count.., 0);
-    octets.truncate(left);
 }

@@ -6,6 +6,7 @@ pub mod examples;
 mod fault;
 mod feed;
 pub mod laws;
+mod octets;
 mod reading;
 mod writing;
 

@@ -46,6 +46,7 @@ fn window_fills(rt: HostRuntime) -> Result<(), Fail> {
         window.acknowledged(0, 1_041),
         Err(WindowFault::WrongReceive)
     );
+    assert_eq!(rt; window.acknowledged(1, 1_042), Ok(()));
     assert_eq!(rt; window.tick(1_119), Due::None);
     assert_eq!(rt; window.tick(1_120), Due::Close);
     assert_eq!(rt; window.acknowledged(3, 1_050), Ok(()));
@@ -86,8 +87,63 @@ fn tests_of_the_line(rt: HostRuntime) -> Result<(), Fail> {
     assert_eq!(rt; window.tick(20_008), Due::None);
     assert!(rt; !window.ran_out(35_006));
     assert!(rt; window.ran_out(35_007));
+    assert_eq!(rt; window.tick(35_006), Due::None);
+    assert_eq!(rt; window.tick(35_007), Due::Close);
     window.test_confirmed(21_000);
     assert_eq!(rt; window.tick(40_999), Due::None);
     assert_eq!(rt; window.tick(41_000), Due::Test);
+    Ok(())
+}
+
+/// A connection begins anew in the middle of another.
+#[test]
+fn begins_anew(rt: HostRuntime) -> Result<(), Fail> {
+    let mut window = Window::new(rt.alloc(), 1, 1, 100, 50, 200)?;
+    window.begin(10);
+    assert_eq!(rt; window.received(0, 0, 20), Ok(()));
+    assert!(rt; window.may_send());
+    assert_eq!(rt; window.sent(30), (0, 1));
+    assert_eq!(rt; window.received(1, 0, 40), Ok(()));
+    window.test_sent(50);
+    assert!(rt; !window.may_send());
+    assert_eq!(rt; window.tick(1_000), Due::Close);
+
+    window.begin(1_000);
+    assert!(rt; window.is_right_send(0));
+    assert!(rt; !window.is_right_receive(1));
+    assert!(rt; !window.owes_ack(9_000));
+    assert_eq!(rt; window.tick(1_199), Due::None);
+    assert_eq!(rt; window.tick(1_200), Due::Test);
+    assert!(rt; window.may_send());
+    assert_eq!(rt; window.sent(1_010), (0, 0));
+    Ok(())
+}
+
+/// The largest window: 32,767 I formats wait, and the next numbers are 32,767 and 0.
+#[test]
+fn largest_window(rt: HostRuntime) -> Result<(), Fail> {
+    let mut window = Window::new(rt.alloc(), 32_767, 8, 15_000, 10_000, 20_000)?;
+    for number in 0..32_767u16 {
+        assert!(rt; window.may_send());
+        assert_eq!(rt; window.sent(5), (number, 0));
+    }
+    assert!(rt; !window.may_send());
+    for (number, is_right) in [(0, true), (32_767, true), (32_768, false)] {
+        assert_eq!(rt; window.is_right_receive(number), is_right, "at {number}");
+    }
+    assert_eq!(rt; window.acknowledged(32_767, 6), Ok(()));
+    assert!(rt; window.may_send());
+    assert_eq!(rt; window.sent(7), (32_767, 0));
+    assert!(rt; window.may_send());
+    assert_eq!(rt; window.sent(8), (0, 0));
+    for (number, is_right) in [
+        (32_766, false),
+        (32_767, true),
+        (0, true),
+        (1, true),
+        (2, false),
+    ] {
+        assert_eq!(rt; window.is_right_receive(number), is_right, "at {number}");
+    }
     Ok(())
 }
