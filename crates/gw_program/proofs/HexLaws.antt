@@ -122,8 +122,8 @@ kept_line line =
     ]
 
 -- what goes on with a line, where there is room for all of it, and where there isn't
-pub all_kept : (xs ys : List ℕ) → length xs + length ys ≤ 6144 → take 6144 (xs ++ ys) ≡ xs ++ ys
-all_kept xs ys room = take_all 6144 (xs ++ ys) (omega (arith, length-append xs ys))
+pub all_kept : (most : ℕ) (xs ys : List ℕ) → length xs + length ys ≤ most → take most (xs ++ ys) ≡ xs ++ ys
+all_kept most xs ys room = take_all most (xs ++ ys) (omega (arith, length-append xs ys))
 
-pub front_kept : (xs ys : List ℕ) (n : ℕ) → length xs + n ≡ 6144 → xs ++ take n ys ≡ take 6144 (xs ++ ys)
-front_kept xs ys n e = sym (take-append-add xs ys n) ∙ ap (λ (k : ℕ). take k (xs ++ ys)) e
+pub front_kept : (most : ℕ) (xs ys : List ℕ) (n : ℕ) → length xs + n ≡ most → xs ++ take n ys ≡ take most (xs ++ ys)
+front_kept most xs ys n e = sym (take-append-add xs ys n) ∙ ap (λ (k : ℕ). take k (xs ++ ys)) e

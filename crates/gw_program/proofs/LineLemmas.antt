@@ -111,17 +111,19 @@ walk_avoids s names w (word ∷ rest) enabled avoids none =
 
 -- ---- a line that is not refused asks for something
 
--- the subcommands are `translate` and `help`
+-- the subcommands are `translate`, `replay` and `help`
 stop_asks : (stop : Option (Text × List Text)) → is_help stop ≡ false → is_some (entered (built gateway) stop) ≡ true → is_some (asked_of (entered (built gateway) stop)) ≡ true
 stop_asks None avoids has = has
-stop_asks (Some stop) avoids has = go (bytes_eq (codes "translate") stop.0) (bytes_eq (codes "help") stop.0) refl refl
+stop_asks (Some stop) avoids has = go (bytes_eq (codes "translate") stop.0) (bytes_eq (codes "replay") stop.0) (bytes_eq (codes "help") stop.0) refl refl refl
   where
-    go : (b d : Bool) → bytes_eq (codes "translate") stop.0 ≡ b → bytes_eq (codes "help") stop.0 ≡ d → is_some (asked_of (entered (built gateway) (Some stop))) ≡ true
-    go true d is_translate is_other = rw is_translate refl
-    go false true is_translate is_other =
+    go : (b d h : Bool) → bytes_eq (codes "translate") stop.0 ≡ b → bytes_eq (codes "replay") stop.0 ≡ d → bytes_eq (codes "help") stop.0 ≡ h
+        → is_some (asked_of (entered (built gateway) (Some stop))) ≡ true
+    go true d h is_translate is_replay is_other = rw is_translate refl
+    go false true h is_translate is_replay is_other = rw (is_translate, is_replay) refl
+    go false false true is_translate is_replay is_other =
         let same : codes "help" ≡ stop.0 = (bytes_eq-Decides _ _).0 is_other in
         absurd (true≢false (rw (← same) at avoids))
-    go false false is_translate is_other = absurd (true≢false (sym (rw (is_translate, is_other) at has)))
+    go false false false is_translate is_replay is_other = absurd (true≢false (sym (rw (is_translate, is_replay, is_other) at has)))
 
 -- the last check wants a subcommand
 has_named : (rows : List Row) (has : Bool) → check_fault (built gateway).top rows has ≡ [] → has ≡ true

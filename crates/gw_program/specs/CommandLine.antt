@@ -8,7 +8,7 @@ use Rattle.clap.specs.declared.error.Error.{Error}
 use Rattle.clap.specs.declared.error.kind.ErrorKind.{ErrorKind}
 use Rattle.clap.specs.declared.error.kind.ErrorKind.TheVariants.{OutOfMemory}
 use Rattle.gw_program.specs.declared.command_line.Asked.{Asked}
-use Rattle.gw_program.specs.declared.command_line.Asked.TheVariants.{Translate}
+use Rattle.gw_program.specs.declared.command_line.Asked.TheVariants.{Translate, Replay}
 use Rattle.gw_program.specs.declared.command_line.LineFault.{LineFault}
 use Rattle.gw_program.specs.declared.command_line.LineFault.TheVariants.{Clap, Memory}
 
@@ -18,17 +18,25 @@ use Rattle.gw_program.specs.declared.command_line.LineFault.TheVariants.{Clap, M
 abbrev pub translate : App
 translate = new_app (codes "translate")
 
+-- `gateway replay`, without arguments
+abbrev pub replay : App
+replay = new_app (codes "replay")
+
 -- the program: a subcommand has to be named
+abbrev pub alone : App
+alone = on_top (λ top. record top { subcommand_required = true }) (new_app (codes "gateway"))
+
 abbrev pub gateway : App
-gateway = with_subcommand
-    (on_top (λ top. record top { subcommand_required = true }) (new_app (codes "gateway")))
-    translate.top
+gateway = with_subcommand (with_subcommand alone translate.top) replay.top
 
 -- ---- what it asks for
 
 -- what a subcommand asks for, by its name and what was found for its arguments
 abbrev pub asked_as : Text → List Row → Option Asked
-asked_as name rows = if bytes_eq name (codes "translate") then Some Translate else None
+asked_as name rows =
+    if bytes_eq name (codes "translate") then Some Translate
+    else if bytes_eq name (codes "replay") then Some Replay
+    else None
 
 -- what the subcommand that a line named asks for
 abbrev pub asked_of : Option (Text × List Row) → Option Asked

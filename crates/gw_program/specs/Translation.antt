@@ -1,5 +1,5 @@
 -- What `translate` answers to a line: a confirmation where one is asked for, and the images of what is reported.
-use Rattle.std.specs.Prelude.{◌≡◌, ℕ, ◌≢◌, List, [], ◌∷◌, ◌++◌, Option, Some, None, Ok, Err, slice_index, if◌then◌else◌}
+use Rattle.std.specs.Prelude.{◌≡◌, ℕ, ◌≢◌, List, [], ◌∷◌, ◌++◌, Some, None, Ok, Err, ◌≤◌, length, true}
 use Rattle.std.specs.Option.{option_to_list}
 use Rattle.gw_model.specs.declared.point.Report.{Report}
 use Rattle.gw_model.specs.declared.observation.Observation.{Observation}
@@ -7,8 +7,8 @@ use Rattle.gw_model.specs.declared.row.Row.{Row}
 use Rattle.gw_model.specs.Rows.{Setup}
 use Rattle.dnp_app.specs.declared.fault.AppFault.{AppFault}
 use Rattle.dnp_app.specs.declared.fault.AppFault.TheVariants.{Short, NotResponse, Object, Memory}
-use Rattle.dnp_app.specs.Control.{control_of, confirmation_of}
-use Rattle.dnp_app.specs.Response.{Fragment, response_of}
+use Rattle.dnp_app.specs.Control.{confirm_of}
+use Rattle.dnp_app.specs.Response.{Fragment, is_response, response_of}
 use Rattle.gw_translate.specs.Image.{image_in}
 use Rattle.gw_program.specs.declared.decision.Decision.{Decision}
 use Rattle.gw_program.specs.declared.decision.Decision.TheVariants.{Empty, NotHex, Refused, Accepted}
@@ -19,15 +19,9 @@ abbrev pub images_of : List Row → List Report → List Observation
 images_of rows [] = []
 images_of rows (r ∷ rs) = option_to_list (image_in rows r) ++ images_of rows rs
 
--- the confirmation of a fragment, where its application control asks for one
-abbrev pub confirm_of : List ℕ → Option (List ℕ)
-confirm_of octets =
-    let control = control_of (slice_index octets 0) in
-    if control.con then Some (confirmation_of control.sequence control.uns) else None
-
--- octets are refused for this fault, unless memory ran out
+-- octets are refused for this fault; memory runs out only over the objects of a response
 abbrev pub IsRefused : AppFault → List ℕ → Type 0
-IsRefused Memory octets = Unit {0}
+IsRefused Memory octets = (4 ≤ length octets) × (is_response octets ≡ true)
 IsRefused Short octets = response_of 0 octets ≡ Err Short
 IsRefused NotResponse octets = response_of 0 octets ≡ Err NotResponse
 IsRefused (Object e) octets = response_of 0 octets ≡ Err (Object e)

@@ -7,7 +7,7 @@ ghost use Rattle.std.specs.Prelude.{◌≡◌, [], IfErr, IfOk, Some, false};
 ghost use Rattle.clap.specs.Words.{app_of, fault_of, subcommand_rows_of};
 ghost use Rattle.clap.specs.Walk.{texts};
 ghost use Rattle.clap.specs.declared.builder.command.Command.TheViews.{out-Command as fields_of};
-ghost use Rattle.gw_program.specs.CommandLine.{IsRefusal, as_fault, asked_of, gateway, spelled, translate};
+ghost use Rattle.gw_program.specs.CommandLine.{IsRefusal, as_fault, asked_of, gateway, replay, spelled, translate};
 ghost use Rattle.gw_program.specs.declared.command_line.LineFault.TheVariants.{Memory};
 
 use clap::error::ErrorKind;
@@ -24,6 +24,8 @@ pub enum Asked {
     /// `gateway translate`: reads DNP3 fragments in hexadecimal, one a line, and writes what they
     /// bring as ASDUs.
     Translate,
+    /// `gateway replay`: makes the steps that lines ask for, and writes the replies.
+    Replay,
 }
 
 /// Why a command line asks for nothing.
@@ -77,7 +79,8 @@ fn gateway_command<'a>(alloc: Global) -> Result<Command<'a>, AllocError>
     Command::new(alloc, "gateway")
         .about("Carries points of DNP3 outstations to IEC 60870-5-104 clients")
         .subcommand_required(true)
-        .subcommand(translate_command(alloc))
+        .subcommand(translate_command(alloc))?
+        .subcommand(replay_command(alloc))
 }
 
 /// `gateway translate`.
@@ -90,12 +93,21 @@ fn translate_command<'a>(alloc: Global) -> Command<'a>
     )
 }
 
+/// `gateway replay`.
+fn replay_command<'a>(alloc: Global) -> Command<'a>
+    ensures app { app_of result ≡ replay }
+    ensures local { (fields_of result).has_globals ≡ false }
+{
+    Command::new(alloc, "replay").about("Makes steps of the core, and writes its replies")
+}
+
 /// What the matches ask for, if they met a subcommand.
 fn asked_by(matches: &ArgMatches<'_>) -> Option<Asked>
     ensures { result ≡ asked_of (subcommand_rows_of matches.now) }
 {
     match matches.subcommand()? {
         ("translate", _) => Some(Asked::Translate),
+        ("replay", _) => Some(Asked::Replay),
         _ => None,
     }
 }

@@ -2,10 +2,10 @@
 ghost use Rattle.std.specs.Prelude.{◌≡◌, ◌++◌, [], IfOk, OnOk};
 ghost use Rattle.std.specs.Option.{option_to_list};
 ghost use Rattle.gw_translate.specs.Image.{image_in};
-ghost use Rattle.gw_program.specs.Translation.{images_of, confirm_of, Decides};
+ghost use Rattle.gw_program.specs.Translation.{images_of, Decides};
 
 use crate::hex::line_octets;
-use dnp_app::{AppFault, Response, confirm, read_response};
+use dnp_app::{AppFault, read_response};
 use gw_model::{Memory, Observation, Report, Settings};
 use gw_translate::image;
 use std::alloc::Global;
@@ -21,18 +21,6 @@ pub enum Decision {
     Refused(AppFault),
     /// The octets are a response, with the confirmation that it asks for.
     Accepted(Option<[u8; 2]>),
-}
-
-/// The confirmation of a response, where it asks for one.
-fn confirmation(response: &Response) -> Option<[u8; 2]>
-    ensures { result ≡ confirm_of response.now.octets }
-{
-    let control = response.control();
-    if control.con {
-        Some(confirm(control.sequence, control.uns))
-    } else {
-        None
-    }
 }
 
 /// Adds the image of a report, where its point has a row.
@@ -87,7 +75,7 @@ pub fn decide(
     match read_response(alloc, 0, octets) {
         Ok(response) => {
             push_images(images, settings, response.reports())?;
-            Ok(Decision::Accepted(confirmation(&response)))
+            Ok(Decision::Accepted(response.confirmation()))
         }
         Err(fault) => Ok(Decision::Refused(fault)),
     }

@@ -7,31 +7,31 @@ use gw_model::Memory;
 use std::alloc::Global;
 use std::marker::Model;
 
-/// How much of a line is kept: one octet more than the longest line that can be right.
-const KEPT: usize = LONGEST_LINE + 1;
+/// How much of a line of fragments is kept: one octet more than the longest line that can be right.
+pub const KEPT: usize = LONGEST_LINE + 1;
 
-/// The front of a line, as much of it as matters.
+/// The front of a line: at most so many octets of it.
 #[derive(Drop)]
-pub struct Line {
+pub struct Line<const MOST: usize> {
     kept: Vec<u8>,
 }
 
-impl Model for Line {
+impl<const MOST: usize> Model for Line<MOST> {
     ghost use Rattle.std.specs.Prelude.{List, ℕ, length, ◌≤◌, vec_capacity};
 
     ghost Value = { List ℕ };
 
     ghost view = { λ l. l.kept.items };
 
-    ghost invariant = { λ l. (length l.kept.items ≤ 6144) × (6144 ≤ vec_capacity l.kept) };
+    ghost invariant = { λ l. (length l.kept.items ≤ MOST) × (MOST ≤ vec_capacity l.kept) };
 }
 
-impl Line {
+impl<const MOST: usize> Line<MOST> {
     /// An empty line, with room for all that is kept.
-    pub fn new(alloc: Global) -> Result<Line, Memory>
+    pub fn new(alloc: Global) -> Result<Line<MOST>, Memory>
         ensures { IfOk result (λ line. line ≡ []) }
     {
-        let kept = Vec::with_capacity(alloc, KEPT)?;
+        let kept = Vec::with_capacity(alloc, MOST)?;
         Ok(Line { kept })
     }
 
@@ -42,11 +42,11 @@ impl Line {
         self.kept.as_slice()
     }
 
-    /// Goes on with the line: its first 6,144 octets are kept.
+    /// Goes on with the line: as many octets as are kept.
     pub fn add(&mut self, piece: &[u8])
-        ensures { self.new ≡ take 6144 (self.old ++ piece.now) }
+        ensures { self.new ≡ take MOST (self.old ++ piece.now) }
     {
-        keep(&mut self.kept, piece);
+        keep(&mut self.kept, MOST, piece);
     }
 
     /// Begins the next line.
@@ -58,13 +58,13 @@ impl Line {
 }
 
 /// Goes on with what is kept, as far as there is room.
-fn keep(kept: &mut Vec<u8>, piece: &[u8])
-    requires short { length kept.old.items ≤ 6144 }
-    requires room { 6144 ≤ vec_capacity kept.old }
-    ensures kept { kept.new.items ≡ take 6144 (kept.old.items ++ piece.now) }
-    ensures room { 6144 ≤ vec_capacity kept.new }
+fn keep(kept: &mut Vec<u8>, most: usize, piece: &[u8])
+    requires short { length kept.old.items ≤ most }
+    requires room { most ≤ vec_capacity kept.old }
+    ensures kept { kept.new.items ≡ take most (kept.old.items ++ piece.now) }
+    ensures room { most ≤ vec_capacity kept.new }
 {
-    let room = KEPT - kept.len();
+    let room = most - kept.len();
     if piece.len() <= room {
         let _ = kept.extend_from_slice(piece);
     } else {

@@ -2,14 +2,21 @@
 #![tactic(auto)]
 
 mod command_line;
+mod decimal;
 mod decision;
 mod hex;
+mod instruction;
+pub mod laws;
 mod line;
+mod reading;
+mod replay;
+mod reply_text;
 mod text;
 mod translate;
 
 use command_line::{Asked, LineFault, command_line as read_words};
 use gw_model::Settings;
+use replay::replay as replay_lines;
 use std::env;
 use std::io::{self, BufReader, BufWriter};
 use std::process::ExitCode;
@@ -28,10 +35,14 @@ fn main(rt: HostRuntime) -> io::Result<ExitCode> {
         words.push(argument.as_str())?;
     }
     match read_words(rt.alloc(), words.as_slice()) {
-        Ok(Asked::Translate) => {
+        Ok(asked) => {
             let reader = BufReader::new(rt.alloc(), rt.reader())?;
             let writer = BufWriter::new(rt.alloc(), io::writer(&rt))?;
-            let status = translate_lines(rt.alloc(), &Settings::built_in(), reader, writer);
+            let settings = Settings::built_in();
+            let status = match asked {
+                Asked::Translate => translate_lines(rt.alloc(), &settings, reader, writer),
+                Asked::Replay => replay_lines(rt.alloc(), settings, reader, writer),
+            };
             Ok(ExitCode::from(status))
         }
         Err(LineFault::Clap(error)) => {

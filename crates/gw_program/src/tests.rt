@@ -1,5 +1,6 @@
 use crate::decision::{Decision, decide};
 use crate::hex::{MOST_OCTETS, line_octets};
+use crate::text::write_refusal;
 use crate::translate::translate;
 use dnp_app::AppFault;
 use dnp_points::{ObjectFault, Why};
@@ -158,6 +159,47 @@ fn faults_of_reader_and_writer(rt: HostRuntime) -> Result<(), Fail> {
         translate(rt.alloc(), &Settings::built_in(), line.as_slice(), writer),
         1
     );
+    Ok(())
+}
+
+/// What is written is not all taken until the writer was flushed, and a failure there is a failure to write.
+#[test]
+fn fault_of_the_last_write(rt: HostRuntime) -> Result<(), Fail> {
+    let line = b"E3 81 00 00 02 01 17 01 05 81\n";
+    for (room, status) in [(48, 1), (49, 0)] {
+        let taken = vec![in rt.alloc(); 0; room]?;
+        let rest = Faulty {
+            rest: taken.as_slice(),
+        };
+        let writer = io::BufWriter::new(rt.alloc(), rest)?;
+        let ended = translate(rt.alloc(), &Settings::built_in(), line.as_slice(), writer);
+        assert_eq!(rt; ended, status, "with room for {room} octets");
+    }
+    Ok(())
+}
+
+/// The words of a refusal are those that the fault itself is shown with.
+#[test]
+fn refusals(rt: HostRuntime) -> Result<(), Fail> {
+    let whys = [
+        Why::UnknownObject,
+        Why::UnknownQualifier,
+        Why::ShortRange,
+        Why::StopBeforeStart,
+        Why::ShortData,
+        Why::TooMany,
+        Why::Memory,
+    ];
+    let mut faults = vec![in rt.alloc(); AppFault::Short, AppFault::NotResponse, AppFault::Memory]?;
+    for why in whys {
+        faults.push(AppFault::Object(ObjectFault { why, place: 2044 }))?;
+    }
+    for fault in faults.as_slice() {
+        let mut output = Vec::new(rt.alloc());
+        write_refusal(&mut output, *fault)?;
+        let shown = format!(in rt.alloc(); "refused {fault}\n")?;
+        assert_eq!(rt; output.as_slice(), shown.as_str().as_bytes());
+    }
     Ok(())
 }
 

@@ -1,10 +1,15 @@
-//! The lines that `translate` writes for an accepted fragment.
+//! The lines that `translate` writes for a fragment.
 ghost use Rattle.std.specs.Prelude.{◌≡◌, ◌++◌, OnOk};
+ghost use Rattle.std.specs.Io.KnownBytes.{Appends};
 ghost use Rattle.gw_program.specs.Text.{accepted_text, asdu_line, asdu_lines, line_of};
+ghost use Rattle.gw_program.specs.Answers.{refusal_text, why_text};
 
 use crate::hex::push_spaced;
+use dnp_app::AppFault;
+use dnp_points::Why;
 use gw_model::{Memory, Observation, Settings};
 use iec_asdu::write_monitor;
+use std::io::{self, Write};
 
 /// The cause of transmission of news: spontaneous (IEC 60870-5-101, 7.2.3).
 const SPONTANEOUS: u8 = 3;
@@ -63,4 +68,35 @@ fn push_asdus(
         push_asdu(text, settings, image, buffer)?;
     }
     Ok(())
+}
+
+/// What is wrong with a header or its objects, in words.
+fn words_of(why: Why) -> &'static str
+    ensures { result.now ≡ why_text why }
+{
+    match why {
+        Why::UnknownObject => "1 UnknownObject",
+        Why::UnknownQualifier => "2 UnknownQualifier",
+        Why::ShortRange => "3 ShortRange",
+        Why::StopBeforeStart => "4 StopBeforeStart",
+        Why::ShortData => "5 ShortData",
+        Why::TooMany => "6 TooMany",
+        Why::Memory => "7 Memory",
+    }
+}
+
+/// Writes the line of a refused fragment.
+pub fn write_refusal<W: Write>(writer: &mut W, fault: AppFault) -> io::Result<()>
+    ensures { OnOk result
+        (Appends (W.contents writer.old) (W.contents writer.new) (refusal_text fault)) }
+{
+    match fault {
+        AppFault::Short => writer.write_all(b"refused 1 Short\n"),
+        AppFault::NotResponse => writer.write_all(b"refused 2 NotResponse\n"),
+        AppFault::Object(fault) => {
+            let words = words_of(fault.why);
+            writeln!(writer, "refused 3 Object {words} at {}", fault.place)
+        }
+        AppFault::Memory => writer.write_all(b"refused 4 Memory\n"),
+    }
 }

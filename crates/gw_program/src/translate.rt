@@ -1,84 +1,35 @@
 //! `gateway translate`: DNP3 fragments in, one a line; confirmations and ASDUs out.
-ghost use Rattle.std.specs.Prelude.{◌≡◌, ◌≤◌, OnOk};
+ghost use Rattle.std.specs.Prelude.{◌≡◌, ◌≤◌, ◌≢◌, true, IfOk, IfSome, OnOk, OnSome};
+ghost use Rattle.std.specs.Io.KnownBytes.{Appends, IsAtEnd};
 ghost use Rattle.gw_program.specs.Text.{accepted_text};
-ghost use Rattle.gw_program.specs.declared.translate.Stop.TheVariants.{Fault, Memory};
+ghost use Rattle.gw_program.specs.Answers.{all_accepted, text_of};
+ghost use Rattle.gw_program.specs.Reading.{AnswersInput, AnswersLine, Moves, after_decision, ended_of};
 
 use crate::decision::{Decision, decide};
-use crate::line::Line;
-use crate::text::push_accepted;
+use crate::line::{KEPT, Line};
+use crate::reading::{Ended, Piece, Stop, read_piece, status_of};
+use crate::text::{push_accepted, write_refusal};
+use dnp_app::AppFault;
 use gw_model::{Memory, Observation, Settings};
-use std::alloc::{AllocError, Global};
-use std::io::{self, BufRead, ErrorKind, Write};
+use std::alloc::Global;
+use std::io::{BufRead, Write};
 
-/// Why the program ends before its input does.
-#[derive(Debug, Drop)]
-enum Stop {
-    /// Reading or writing failed.
-    Fault,
-    /// Memory ran out.
-    Memory,
-}
-
-impl From<io::Error> for Stop {
-    ghost from_gives = { λ _ stop. stop ≡ Fault };
-
-    fn from(_error: io::Error) -> Stop {
-        Stop::Fault
-    }
-}
-
-impl From<Memory> for Stop {
-    ghost from_gives = { λ _ stop. stop ≡ Memory };
-
-    fn from(_error: Memory) -> Stop {
-        Stop::Memory
-    }
-}
-
-impl From<AllocError> for Stop {
-    ghost from_gives = { λ _ stop. stop ≡ Memory };
-
-    fn from(_error: AllocError) -> Stop {
-        Stop::Memory
-    }
-}
-
-/// What one read brought.
-#[derive(Clone, Copy, Debug, PartialEq, Eq)]
-enum Piece {
-    /// A part of a line.
-    Part,
-    /// The rest of a line, with its end.
-    Line,
-    /// The end of the input.
-    End,
-}
-
-/// Reads once, and adds what came to the line, up to the line's end.
-fn read_piece<R: BufRead>(reader: &mut R, line: &mut Line) -> Result<Piece, Stop> {
-    let buffer = match reader.fill_buf() {
-        Ok(buffer) => buffer,
-        Err(error) if error.kind() == ErrorKind::Interrupted => return Ok(Piece::Part),
-        Err(_) => return Err(Stop::Fault),
-    };
-    if buffer.is_empty() {
-        return Ok(Piece::End);
-    }
-    let (taken, piece) = match buffer.iter().position(|octet| *octet == b'\n') {
-        Some(end) => {
-            line.add(&buffer[..end]);
-            (end + 1, Piece::Line)
+impl Ended {
+    /// What became of the lines with one more.
+    fn after(self, decision: Decision) -> Ended
+        ensures { result ≡ after_decision self decision }
+    {
+        match (self, decision) {
+            (_, Decision::Empty | Decision::Accepted(_)) => self,
+            (Ended::ShortOfMemory, _) | (_, Decision::Refused(AppFault::Memory)) => {
+                Ended::ShortOfMemory
+            }
+            (_, Decision::NotHex | Decision::Refused(_)) => Ended::Refused,
         }
-        None => {
-            line.add(buffer);
-            (buffer.len(), Piece::Part)
-        }
-    };
-    reader.consume(taken);
-    Ok(piece)
+    }
 }
 
-/// What is kept from line to line: room, and whether a line was refused.
+/// What is kept from line to line: room, and what became of the lines so far.
 #[derive(Drop)]
 struct Translator<'a> {
     alloc: Global,
@@ -86,33 +37,36 @@ struct Translator<'a> {
     images: Vec<Observation>,
     text: Vec<u8>,
     asdu: [u8; 249],
-    refused: bool,
+    ended: Ended,
 }
 
 impl<'a> Translator<'a> {
-    fn new(alloc: Global, settings: &'a Settings) -> Translator<'a> {
+    fn new(alloc: Global, settings: &'a Settings) -> Translator<'a>
+        ensures ended { result.ended ≡ Ended.Fine }
+        ensures settings { result.settings.now ≡ settings.now }
+    {
         Translator {
             alloc,
             settings,
             images: Vec::new(alloc),
             text: Vec::new(alloc),
             asdu: [0; 249],
-            refused: false,
+            ended: Ended::Fine,
         }
     }
 
     /// Answers one line.
-    fn answer<W: Write>(&mut self, line: &[u8], writer: &mut W) -> Result<(), Stop> {
-        match decide(self.alloc, self.settings, line, &mut self.images)? {
+    fn answer<W: Write>(&mut self, line: &[u8], writer: &mut W) -> Result<(), Stop>
+        ensures settings { OnOk result (self.new.settings.now ≡ self.old.settings.now) }
+        ensures answers { OnOk result (AnswersLine self.old.settings.now line.now
+            self.old.ended self.new.ended (W.contents writer.old) (W.contents writer.new)) }
+    {
+        let decision = decide(self.alloc, self.settings, line, &mut self.images)?;
+        self.ended = self.ended.after(decision);
+        match decision {
             Decision::Empty => {}
-            Decision::NotHex => {
-                self.refused = true;
-                writer.write_all(b"refused 0 Hex\n")?;
-            }
-            Decision::Refused(fault) => {
-                self.refused = true;
-                writeln!(writer, "refused {fault}")?;
-            }
+            Decision::NotHex => writer.write_all(b"refused 0 Hex\n")?,
+            Decision::Refused(fault) => write_refusal(writer, fault)?,
             Decision::Accepted(confirm) => {
                 self.write_accepted(confirm)?;
                 writer.write_all(self.text.as_slice())?;
@@ -123,7 +77,9 @@ impl<'a> Translator<'a> {
 
     /// Writes the lines of a response as text, in place of those of the response before.
     fn write_accepted(&mut self, confirm: Option<[u8; 2]>) -> Result<(), Memory>
-        ensures { OnOk result (self.new.text.items ≡ accepted_text self.old.settings.now.common_address confirm self.old.images.items) }
+        ensures text { OnOk result (self.new.text.items ≡ accepted_text self.old.settings.now.common_address confirm self.old.images.items) }
+        ensures settings { self.new.settings.now ≡ self.old.settings.now }
+        ensures ended { self.new.ended ≡ self.old.ended }
     {
         self.text.clear();
         let images = self.images.as_slice();
@@ -135,31 +91,61 @@ impl<'a> Translator<'a> {
             &mut self.asdu,
         )
     }
+
+    /// Reads once, and answers the line where that ends it; whether the input has ended.
+    fn go_on<R: BufRead, W: Write>(
+        &mut self,
+        line: &mut Line<KEPT>,
+        reader: &mut R,
+        writer: &mut W,
+    ) -> Result<bool, Stop>
+        ensures settings { OnOk result (self.new.settings.now ≡ self.old.settings.now) }
+        ensures moves { IfOk result (λ at_end. Moves self.old.settings.now at_end
+            self.old.ended self.new.ended line.old line.new
+            (R.remaining reader.old) (R.remaining reader.new)
+            (W.contents writer.old) (W.contents writer.new)) }
+    {
+        match read_piece(reader, line)? {
+            Piece::Nothing | Piece::Part => Ok(false),
+            Piece::Line => {
+                self.answer(line.octets(), writer)?;
+                line.clear();
+                Ok(false)
+            }
+            Piece::End => {
+                self.answer(line.octets(), writer)?;
+                Ok(true)
+            }
+        }
+    }
 }
 
-/// Answers the lines of a reader; gives whether none was refused.
+/// Answers the lines of a reader to its end.
 fn run<R: BufRead, W: Write>(
     alloc: Global,
     settings: &Settings,
     reader: &mut R,
     writer: &mut W,
-) -> Result<bool, Stop> {
-    let mut line = Line::new(alloc)?;
+) -> Result<Ended, Stop>
+    ensures end { OnOk result (OnSome (R.remaining reader.old) (IsAtEnd (R.remaining reader.new))) }
+    ensures answers { IfOk result (λ ended. IfSome (R.remaining reader.old) (λ input.
+        AnswersInput settings.now input ended (W.contents writer.old) (W.contents writer.new))) }
+
+    // Where there was memory for each line.
+    ensures ended { IfOk result (λ ended. ended ≢ Ended.ShortOfMemory
+        → IfSome (R.remaining reader.old) (λ input. ended ≡ ended_of input)) }
+    ensures text { IfOk result (λ ended. ended ≢ Ended.ShortOfMemory
+        → IfSome (R.remaining reader.old) (λ input.
+        Appends (W.contents writer.old) (W.contents writer.new) (text_of settings.now input))) }
+{
+    let mut line = Line::<KEPT>::new(alloc)?;
     let mut translator = Translator::new(alloc, settings);
     for _ in 0..u32::MAX {
-        match read_piece(reader, &mut line)? {
-            Piece::Part => {}
-            Piece::Line => {
-                translator.answer(line.octets(), writer)?;
-                line.clear();
-            }
-            Piece::End => {
-                translator.answer(line.octets(), writer)?;
-                return Ok(!translator.refused);
-            }
+        if translator.go_on(&mut line, reader, writer)? {
+            return Ok(translator.ended);
         }
     }
-    Ok(false)
+    Err(Stop::TooManyReads)
 }
 
 /// Reads fragments of outstation 0 in hexadecimal, one a line, and writes for each its confirmation,
@@ -173,17 +159,15 @@ pub fn translate<R: BufRead + Drop, W: Write + Drop>(
     reader: R,
     writer: W,
 ) -> u8
-    ensures { result ≤ 1 }
+    ensures few { result ≤ 1 }
+    ensures accepted { IfSome (R.remaining reader)
+        (λ input. result ≡ 0 → all_accepted input ≡ true) }
 {
     let mut reader = reader;
     let mut writer = writer;
-    let fine = match run(alloc, settings, &mut reader, &mut writer) {
-        Ok(fine) => fine,
-        Err(Stop::Fault) => false,
-        Err(Stop::Memory) => {
-            let _ = writer.write_all(b"refused memory\n");
-            false
-        }
-    };
-    if writer.flush().is_ok() && fine { 0 } else { 1 }
+    let outcome = run(alloc, settings, &mut reader, &mut writer);
+    if outcome == Err(Stop::Memory) {
+        let _ = writer.write_all(b"refused memory\n");
+    }
+    status_of(outcome, writer.flush().is_ok())
 }

@@ -4,9 +4,11 @@ use super::{Asked, LineFault, command_line};
 use clap::error::ErrorKind;
 
 #[test]
-fn translate_is_asked_for(rt: HostRuntime) {
+fn subcommands_are_asked_for(rt: HostRuntime) {
     let asked = command_line(rt.alloc(), ["gateway", "translate"].as_slice());
     assert!(rt; matches!(asked, Ok(Asked::Translate)));
+    let asked = command_line(rt.alloc(), ["gateway", "replay"].as_slice());
+    assert!(rt; matches!(asked, Ok(Asked::Replay)));
 }
 
 #[test]

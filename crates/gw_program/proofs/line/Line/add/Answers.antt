@@ -3,4 +3,4 @@ use Rattle.std.proofs.lemmas.List.{length-take}
 use Rattle.gw_program.proofs.line.Line.add.Goals as goal
 
 pub invariant_of-self : goal.invariant_of-self
-invariant_of-self c = (omega (arith, ap length c.keep.ensures.kept, length-take {A = ℕ} 6144), c.keep.ensures.room)
+invariant_of-self g c = (omega (arith, ap length c.keep.ensures.kept, length-take {A = ℕ} g.row.MOST), c.keep.ensures.room)

@@ -1,0 +1,31 @@
+-- The fragments that a stream of octets carries to a station (IEEE Std 1815-2012, clauses 8 and 9).
+use Rattle.std.specs.Prelude.{ℕ, List, [], ◌∷◌, Option, Some, None, filter_map, if◌then◌else◌}
+use Rattle.std.specs.List.{cons_option}
+use Rattle.dnp_link.specs.Frame.{Content}
+use Rattle.dnp_link.specs.Stream.{Event, Framed, Dropped, reading}
+use Rattle.dnp_link.specs.Station.{Station}
+use Rattle.dnp_link.specs.Secondary.{decided_on, station_after}
+use Rattle.dnp_transport.specs.Fragment.{fragments_of}
+
+-- the frame that an event is, if it is one
+abbrev pub frame_in : Event → Option Content
+frame_in (Framed c) = Some c
+frame_in (Dropped why) = None
+
+-- the frames among events, in order
+abbrev pub frames_of : List Event → List Content
+frames_of events = filter_map frame_in events
+
+-- the user data of a frame, where the station delivers it
+abbrev pub delivered_by : Station → Content → Option (List ℕ)
+delivered_by s c = if (decided_on s c).deliver then Some c.user else None
+
+-- the user data that the station delivers of these frames, which come one after another
+abbrev pub delivered : Station → List Content → List (List ℕ)
+delivered s [] = []
+delivered s (c ∷ more) = cons_option (delivered_by s c) (delivered (station_after s c) more)
+
+-- the fragments of the segments that the frames of a stream deliver to the station at `own`, which was not
+-- reset yet, from the primary station at `peer`
+abbrev pub stream_fragments : ℕ → ℕ → List ℕ → List (List ℕ)
+stream_fragments own peer octets = fragments_of (delivered (record { own = own; peer = peer; expected = None }) (frames_of (reading octets).events))

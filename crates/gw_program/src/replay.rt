@@ -1,0 +1,176 @@
+//! `gateway replay`: steps of the core in, one a line; its replies out.
+ghost use Rattle.std.specs.Prelude.{◌≡◌, ◌≤◌, ◌++◌, OnOk};
+ghost use Rattle.gw_program.specs.Instructions.{meant};
+ghost use Rattle.gw_program.specs.Replay.{IsShort, Plays};
+
+use crate::instruction::{Instruction, read_instruction};
+use crate::line::Line;
+use crate::reading::{Ended, Piece, Stop, read_piece, status_of};
+use crate::reply_text::push_reply;
+use crate::text::write_refusal;
+use dnp_app::{AppFault, read_response};
+use gw_hub::{Apdu, Hub, Reply, Signal, Step, StepFault};
+use gw_model::Settings;
+use std::alloc::Global;
+use std::io::{BufRead, Write};
+
+#[cfg(test)]
+mod tests;
+
+/// How much of a line is kept. A line that is longer is refused, so that a number may begin with some
+/// two thousand zeros.
+const KEPT: usize = 8192;
+
+/// What came of an instruction.
+#[derive(Clone, Copy, Debug, PartialEq, Eq)]
+pub enum Played {
+    /// A step was made, or not for a fault.
+    Replied(Result<Reply, StepFault>),
+    /// The octets are no response, and no step was made.
+    Refused(AppFault),
+    /// How many news wait, and how many were dropped.
+    Waiting { queued: usize, dropped: usize },
+}
+
+/// Makes the step that an instruction asks for.
+pub fn play(alloc: Global, hub: &mut Hub, instruction: Instruction) -> Played
+    requires { IsShort (meant instruction) }
+    ensures { Plays hub.old (meant instruction) result hub.new }
+{
+    let step = match instruction {
+        Instruction::Up { outstation, moment } => Step::OutstationUp { outstation, moment },
+        Instruction::Open { client, moment } => Step::ClientUp { client, moment },
+        Instruction::Start { client, moment } => Step::Frame {
+            client,
+            apdu: Apdu::U(Signal::StartAct),
+            moment,
+        },
+        Instruction::Pump { client, moment } => Step::Pump { client, moment },
+        Instruction::Fragment {
+            outstation,
+            moment,
+            octets,
+        } => match read_response(alloc, outstation, octets) {
+            Ok(response) => Step::Fragment { response, moment },
+            Err(fault) => return Played::Refused(fault),
+        },
+        Instruction::Queue { client } => {
+            return Played::Waiting {
+                queued: hub.queued(client),
+                dropped: hub.dropped(client),
+            };
+        }
+    };
+    Played::Replied(hub.step(&step))
+}
+
+/// What is kept from line to line: the hub, room for text, and what became of the lines so far.
+#[derive(Drop)]
+struct Player {
+    alloc: Global,
+    hub: Hub,
+    text: Vec<u8>,
+    lines: u64,
+    ended: Ended,
+}
+
+impl Player {
+    /// Answers one line; whether the replay goes on.
+    fn answer<W: Write>(&mut self, line: &[u8], writer: &mut W) -> Result<bool, Stop> {
+        self.lines = self.lines.saturating_add(1);
+        if line.is_empty() {
+            return Ok(true);
+        }
+        let instruction = if line.len() < KEPT {
+            read_instruction(self.alloc, line)?
+        } else {
+            None
+        };
+        let Some(instruction) = instruction else {
+            self.ended = Ended::Refused;
+            writeln!(writer, "refused line {}", self.lines)?;
+            return Ok(false);
+        };
+        match play(self.alloc, &mut self.hub, instruction) {
+            Played::Replied(reply) => {
+                self.text.clear();
+                push_reply(&mut self.text, reply)?;
+                writer.write_all(self.text.as_slice())?;
+            }
+            Played::Refused(fault) => {
+                self.ended = Ended::Refused;
+                write_refusal(writer, fault)?;
+            }
+            Played::Waiting { queued, dropped } => {
+                writeln!(writer, "queued {queued} dropped {dropped}")?;
+            }
+        }
+        Ok(true)
+    }
+
+    /// Reads once, and answers the line where that ends it; whether the replay goes on.
+    fn go_on<R: BufRead, W: Write>(
+        &mut self,
+        line: &mut Line<KEPT>,
+        reader: &mut R,
+        writer: &mut W,
+    ) -> Result<bool, Stop> {
+        match read_piece(reader, line)? {
+            Piece::Nothing | Piece::Part => Ok(true),
+            Piece::Line => {
+                let goes_on = self.answer(line.octets(), writer)?;
+                line.clear();
+                Ok(goes_on)
+            }
+            Piece::End => {
+                self.answer(line.octets(), writer)?;
+                Ok(false)
+            }
+        }
+    }
+}
+
+/// Answers the lines of a reader, to its end or to the first line that is no instruction.
+fn run<R: BufRead, W: Write>(
+    alloc: Global,
+    settings: Settings,
+    reader: &mut R,
+    writer: &mut W,
+) -> Result<Ended, Stop> {
+    let mut line = Line::<KEPT>::new(alloc)?;
+    let mut player = Player {
+        alloc,
+        hub: Hub::new(alloc, settings)?,
+        text: Vec::new(alloc),
+        lines: 0,
+        ended: Ended::Fine,
+    };
+    for _ in 0..u32::MAX {
+        if !player.go_on(&mut line, reader, writer)? {
+            return Ok(player.ended);
+        }
+    }
+    Err(Stop::TooManyReads)
+}
+
+/// Makes the steps that lines ask for, and writes the reply to each.
+///
+/// The status is 0, or 1 where a fragment was refused, a line was no instruction (`refused line N`, which
+/// ends it), reading or writing failed, memory ran out (`refused memory`) or 4,294,967,295 reads didn't
+/// reach the end of the input. A fault or a close is no refusal.
+pub fn replay<R: BufRead + Drop, W: Write + Drop>(
+    alloc: Global,
+    settings: Settings,
+    reader: R,
+    writer: W,
+) -> u8
+    ensures few { result ≤ 1 }
+{
+    let mut reader = reader;
+    let mut writer = writer;
+    let outcome = run(alloc, settings, &mut reader, &mut writer);
+    if outcome == Err(Stop::Memory) {
+        let _ = writer.write_all(b"refused memory\n");
+    }
+    status_of(outcome, writer.flush().is_ok())
+}
