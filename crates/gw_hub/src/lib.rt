@@ -1,6 +1,6 @@
-//! The core of the gateway: outstations and clients step by step, as one machine that waits for
-//! nobody. So far: its steps and replies, the step relation with the headline over every run of it,
-//! the picture, and the APDUs that it gives.
+//! The core of the gateway: outstations and clients as one machine, `Hub`, that makes a step at a time
+//! and waits for nobody. Each step is the step relation of `specs/Steps.antt`, and over every run of it
+//! the headline of `specs/Headline.antt` holds. So far one outstation and one client.
 #![tactic(auto)]
 
 mod apdu;

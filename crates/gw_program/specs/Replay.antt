@@ -1,5 +1,6 @@
 -- What comes of an instruction of a replay.
-use Rattle.std.specs.Prelude.{◌≡◌, ◌≤◌, ℕ, List, length, Ok, Err, slice_get}
+use Rattle.std.specs.Prelude.{◌≡◌, ◌≤◌, ℕ, Bool, true, false, nat_lt, List, [], ◌∷◌, ◌++◌, length, codes, Option, Some, None, Ok, Err, slice_get, if◌then◌else◌}
+use Rattle.std.specs.Fmt.{decimal}
 use Rattle.dnp_app.specs.declared.fault.AppFault.{AppFault}
 use Rattle.dnp_app.specs.declared.fault.AppFault.TheVariants.{Short, NotResponse, Object, Memory}
 use Rattle.dnp_app.specs.Response.{Fragment as Meant, response_of}
@@ -11,7 +12,11 @@ use Rattle.gw_hub.specs.Steps.{Allowed}
 use Rattle.gw_hub.specs.Seats.{queued_at, dropped_at}
 use Rattle.gw_program.specs.declared.replay.Played.{Played}
 use Rattle.gw_program.specs.declared.replay.Played.TheVariants.{Replied, Refused, Waiting}
-use Rattle.gw_program.specs.Instructions.{Asked, Up, Fragment, Open, Start, Pump, Queue}
+use Rattle.gw_program.specs.declared.reading.Ended.{Ended}
+use Rattle.gw_program.specs.declared.reading.Ended.TheVariants as ends
+use Rattle.gw_program.specs.Answers.{refusal_text}
+use Rattle.gw_program.specs.Instructions.{Asked, Up, Fragment, Open, Start, Pump, Queue, asked_of}
+use Rattle.gw_program.specs.Replies.{reply_line}
 
 -- octets are refused for this fault, unless memory ran out
 abbrev pub IsRefusedFor : ℕ → List ℕ → AppFault → Type 0
@@ -36,3 +41,31 @@ Plays old (Start c m) (Replied r) new = Allowed old.setup old.state (steps.Frame
 Plays old (Pump c m) (Replied r) new = Allowed old.setup old.state (steps.Pump c m) r new.state × (new.setup ≡ old.setup)
 Plays old (Queue c) (Waiting queued dropped) new = (queued ≡ queued_at (slice_get old.state.clients c)) × (dropped ≡ dropped_at (slice_get old.state.clients c)) × (new ≡ old)
 Plays old asked played new = ⊥
+
+-- ---- one line
+
+-- the text of what came of an instruction
+abbrev pub played_text : Played → List ℕ
+played_text (Replied reply) = reply_line reply
+played_text (Refused fault) = refusal_text fault
+played_text (Waiting queued dropped) = codes "queued " ++ (decimal queued ++ (codes " dropped " ++ (decimal dropped ++ 10 ∷ [])))
+
+-- what became of the lines with one more
+abbrev pub ended_with : Ended → Played → Ended
+ended_with ended (Refused fault) = ends.Refused
+ended_with ended played = ended
+
+-- what a line asks for, of which at most 8,191 octets are right
+abbrev pub asked_in : List ℕ → Option Asked
+asked_in line = if nat_lt (length line) 8192 then asked_of line else None
+
+-- an instruction is played and told; where there is none, the line's number is told, and the replay ends
+abbrev pub AnswersAsked : ℕ → Option Asked → Hub → Hub → Ended → Ended → Bool → List ℕ → Type 0
+AnswersAsked n None old new ended now goes_on text = (new ≡ old) × (now ≡ ends.Refused) × (goes_on ≡ false) × (text ≡ codes "refused line " ++ (decimal n ++ 10 ∷ []))
+AnswersAsked n (Some asked) old new ended now goes_on text =
+    (played : Played) × Plays old asked played new × (now ≡ ended_with ended played) × (goes_on ≡ true) × (text ≡ played_text played)
+
+-- line n was answered: the hub and what became of the lines before and after it, whether the replay goes on, and what was written
+abbrev pub AnswersLine : ℕ → List ℕ → Hub → Hub → Ended → Ended → Bool → List ℕ → Type 0
+AnswersLine n [] old new ended now goes_on text = (new ≡ old) × (now ≡ ended) × (goes_on ≡ true) × (text ≡ [])
+AnswersLine n (c ∷ cs) old new ended now goes_on text = AnswersAsked n (asked_in (c ∷ cs)) old new ended now goes_on text

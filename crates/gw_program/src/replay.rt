@@ -1,7 +1,8 @@
 //! `gateway replay`: steps of the core in, one a line; its replies out.
-ghost use Rattle.std.specs.Prelude.{◌≡◌, ◌≤◌, ◌++◌, OnOk};
+ghost use Rattle.std.specs.Prelude.{◌≡◌, ◌≤◌, ◌<◌, ◌+◌, ◌^◌, ℕ, List, IfOk, IfSome, OnOk, option_map};
+ghost use Rattle.std.specs.Io.KnownBytes.{Appends};
 ghost use Rattle.gw_program.specs.Instructions.{meant};
-ghost use Rattle.gw_program.specs.Replay.{IsShort, Plays};
+ghost use Rattle.gw_program.specs.Replay.{AnswersLine, IsShort, Plays, asked_in, ended_with, played_text};
 
 use crate::instruction::{Instruction, read_instruction};
 use crate::line::Line;
@@ -10,7 +11,7 @@ use crate::reply_text::push_reply;
 use crate::text::write_refusal;
 use dnp_app::{AppFault, read_response};
 use gw_hub::{Apdu, Hub, Reply, Signal, Step, StepFault};
-use gw_model::Settings;
+use gw_model::{Memory, Settings};
 use std::alloc::Global;
 use std::io::{BufRead, Write};
 
@@ -64,6 +65,19 @@ pub fn play(alloc: Global, hub: &mut Hub, instruction: Instruction) -> Played
     Played::Replied(hub.step(&step))
 }
 
+/// What a line asks for. Of a line that is longer than what is kept the end isn't known, and it asks for
+/// nothing.
+fn instruction_in(alloc: Global, line: &[u8]) -> Result<Option<Instruction>, Memory>
+    ensures asked { IfOk result (λ found. option_map meant found ≡ asked_in line.now) }
+    ensures short { IfOk result (λ found. IfSome found (λ instruction. IsShort (meant instruction))) }
+{
+    if line.len() < KEPT {
+        read_instruction(alloc, line)
+    } else {
+        Ok(None)
+    }
+}
+
 /// What is kept from line to line: the hub, room for text, and what became of the lines so far.
 #[derive(Drop)]
 struct Player {
@@ -76,22 +90,38 @@ struct Player {
 
 impl Player {
     /// Answers one line; whether the replay goes on.
-    fn answer<W: Write>(&mut self, line: &[u8], writer: &mut W) -> Result<bool, Stop> {
+    fn answer<W: Write>(&mut self, line: &[u8], writer: &mut W) -> Result<bool, Stop>
+        ensures counted { self.old.lines + 1 < 2 ^ 64 → self.new.lines ≡ self.old.lines + 1 }
+        ensures answers { IfOk result (λ goes_on. (text : List ℕ)
+            × Appends (W.contents writer.old) (W.contents writer.new) text
+            × AnswersLine self.new.lines line.now self.old.hub self.new.hub self.old.ended self.new.ended goes_on text) }
+    {
         self.lines = self.lines.saturating_add(1);
         if line.is_empty() {
             return Ok(true);
         }
-        let instruction = if line.len() < KEPT {
-            read_instruction(self.alloc, line)?
-        } else {
-            None
-        };
-        let Some(instruction) = instruction else {
-            self.ended = Ended::Refused;
-            writeln!(writer, "refused line {}", self.lines)?;
-            return Ok(false);
-        };
-        match play(self.alloc, &mut self.hub, instruction) {
+        match instruction_in(self.alloc, line)? {
+            Some(instruction) => {
+                let played = play(self.alloc, &mut self.hub, instruction);
+                self.tell(played, writer)?;
+                Ok(true)
+            }
+            None => {
+                self.ended = Ended::Refused;
+                writeln!(writer, "refused line {}", self.lines)?;
+                Ok(false)
+            }
+        }
+    }
+
+    /// Writes what came of an instruction.
+    fn tell<W: Write>(&mut self, played: Played, writer: &mut W) -> Result<(), Stop>
+        ensures text { OnOk result (Appends (W.contents writer.old) (W.contents writer.new) (played_text played)) }
+        ensures ended { OnOk result (self.new.ended ≡ ended_with self.old.ended played) }
+        ensures hub { self.new.hub ≡ self.old.hub }
+        ensures lines { self.new.lines ≡ self.old.lines }
+    {
+        match played {
             Played::Replied(reply) => {
                 self.text.clear();
                 push_reply(&mut self.text, reply)?;
@@ -105,7 +135,7 @@ impl Player {
                 writeln!(writer, "queued {queued} dropped {dropped}")?;
             }
         }
-        Ok(true)
+        Ok(())
     }
 
     /// Reads once, and answers the line where that ends it; whether the replay goes on.

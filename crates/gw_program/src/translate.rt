@@ -14,6 +14,8 @@ use gw_model::{Memory, Observation, Settings};
 use std::alloc::Global;
 use std::io::{BufRead, Write};
 
+pub mod examples;
+
 impl Ended {
     /// What became of the lines with one more.
     fn after(self, decision: Decision) -> Ended
