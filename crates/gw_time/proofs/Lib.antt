@@ -1,0 +1,4 @@
+pub mod Calendar
+pub mod Century
+pub mod Parts
+pub mod Round

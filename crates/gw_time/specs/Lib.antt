@@ -1,0 +1,4 @@
+pub mod Tag
+pub mod Window
+pub mod Example
+pub mod Laws

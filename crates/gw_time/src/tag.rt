@@ -1,0 +1,55 @@
+//! Time tags and the stamps that they mean.
+ghost use Rattle.std.specs.Prelude.{◌≡◌, ◌↔◌, IsSome, IfSome, Ok};
+ghost use Rattle.gw_time.specs.Tag.{tag_meaning, stamp_of, plain};
+ghost use Rattle.gw_time.specs.Window.{HasTag, IsFrom2000To2099};
+
+use crate::binary_time::BinaryTime;
+use crate::fault::TagFault;
+use crate::zone::Zone;
+use gw_model::Stamp;
+
+/// What a time tag, CP56Time2a, means at a station with these clocks (IEC 60870-5-101, 7.2.6.18).
+#[tactic(auto, unfolding(crate::specs::Tag::tag_meaning))]
+pub fn from_tag(tag: &[u8; 7], zone: &Zone) -> Result<Stamp, TagFault>
+    ensures { result ≡ tag_meaning zone.now.offset_minutes tag.now }
+{
+    let time = BinaryTime::read(tag);
+    if !time.is_in_range() {
+        return Err(TagFault::Field);
+    }
+    let Some(civil) = time.civil_milliseconds() else {
+        return Err(TagFault::Date);
+    };
+    let instant = zone.instant_of(civil);
+    Ok(if time.invalid {
+        Stamp::Doubtful(instant)
+    } else {
+        Stamp::At(instant)
+    })
+}
+
+/// The time tag that means a stamp, if the stamp has a time of the civil years 2000 to 2099 at a station
+/// with these clocks. Bits that are not looked at are 0.
+pub fn to_tag(stamp: Stamp, zone: &Zone) -> Option<[u8; 7]>
+    ensures window { IsSome result ↔ HasTag zone.now.offset_minutes stamp }
+    ensures meant { IfSome result (λ tag. tag_meaning zone.now.offset_minutes tag ≡ Ok stamp) }
+    ensures plain { IfSome result (λ tag. plain tag ≡ tag) }
+{
+    match stamp {
+        Stamp::Untimed => None,
+        Stamp::At(instant) => tag_at(instant, false, zone),
+        Stamp::Doubtful(instant) => tag_at(instant, true, zone),
+    }
+}
+
+/// The time tag of an instant.
+#[tactic(auto, unfolding(crate::specs::Tag::tag_meaning))]
+fn tag_at(instant: u64, invalid: bool, zone: &Zone) -> Option<[u8; 7]>
+    ensures window { IsSome result ↔ IsFrom2000To2099 zone.now.offset_minutes instant }
+    ensures meant { IfSome result
+        (λ tag. tag_meaning zone.now.offset_minutes tag ≡ Ok (stamp_of invalid instant)) }
+    ensures plain { IfSome result (λ tag. plain tag ≡ tag) }
+{
+    let shown = zone.shown_at(instant)?;
+    Some(BinaryTime::showing(shown, invalid).octets())
+}
