@@ -20,16 +20,16 @@ images_of rows [] = []
 images_of rows (r ∷ rs) = option_to_list (image_in rows r) ++ images_of rows rs
 
 -- octets are refused for this fault; memory runs out only over the objects of a response
-abbrev pub IsRefused : AppFault → List ℕ → Type 0
-IsRefused Memory octets = (4 ≤ length octets) × (is_response octets ≡ true)
-IsRefused Short octets = response_of 0 octets ≡ Err Short
-IsRefused NotResponse octets = response_of 0 octets ≡ Err NotResponse
-IsRefused (Object e) octets = response_of 0 octets ≡ Err (Object e)
+abbrev pub IsRefused : ℕ → AppFault → List ℕ → Type 0
+IsRefused outstation Memory octets = (4 ≤ length octets) × (is_response octets ≡ true)
+IsRefused outstation Short octets = response_of outstation octets ≡ Err Short
+IsRefused outstation NotResponse octets = response_of outstation octets ≡ Err NotResponse
+IsRefused outstation (Object e) octets = response_of outstation octets ≡ Err (Object e)
 
 -- what is decided of a line, with the images that are told
 abbrev pub Decides : Setup → List ℕ → Decision → List Observation → Type 0
 Decides setup line Empty images = (line ≡ []) × (images ≡ [])
 Decides setup line NotHex images = (line ≢ []) × (at_most_2048 (octets_of line) ≡ None) × (images ≡ [])
-Decides setup line (Refused fault) images = (octets : List ℕ) × (at_most_2048 (octets_of line) ≡ Some octets) × IsRefused fault octets × (images ≡ [])
+Decides setup line (Refused fault) images = (octets : List ℕ) × (at_most_2048 (octets_of line) ≡ Some octets) × IsRefused 0 fault octets × (images ≡ [])
 Decides setup line (Accepted confirm) images = (octets : List ℕ) × (fragment : Fragment) × (at_most_2048 (octets_of line) ≡ Some octets)
     × (response_of 0 octets ≡ Ok fragment) × (confirm ≡ confirm_of octets) × (images ≡ images_of setup.rows fragment.reports)
