@@ -1,1 +1,5 @@
 pub mod Responses
+pub mod Rows
+pub mod Within
+pub mod Echoes
+pub mod EchoLaws

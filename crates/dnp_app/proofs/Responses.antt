@@ -1,9 +1,8 @@
 -- A response is read.
-use Rattle.std.proofs.Common.{◌≡◌, ℕ, ◌<◌, List, length, ltb, false, Result, Ok, Err, refl, subst, arith}
+use Rattle.std.proofs.Common.{◌≡◌, ℕ, List, length, ltb, false, Result, Ok, refl, subst}
 use Rattle.std.proofs.lemmas.Bool.{le-ltb}
 use Rattle.dnp_points.proofs.ReportLaws.{meaning-again}
 use Rattle.dnp_app.specs.declared.fault.AppFault.{AppFault}
-use Rattle.dnp_app.specs.declared.fault.AppFault.TheVariants.{Short, NotResponse, Object, Memory}
 use Rattle.dnp_app.specs.Response.{Fragment, IsResponse, response_of, Gives}
 
 response-again : (f : Fragment) → IsResponse f → response_of f.outstation f.octets ≡ Ok f

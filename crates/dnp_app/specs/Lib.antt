@@ -1,2 +1,4 @@
 pub mod Control
 pub mod Response
+pub mod Echo
+pub mod SteppedOver

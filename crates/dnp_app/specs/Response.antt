@@ -2,10 +2,8 @@
 -- internal indications, and an object part.
 use Rattle.std.specs.Prelude.{◌≡◌, ℕ, ◌≤◌, Bool, true, ◌||◌, ◌==◌, List, length, drop, slice_index, Result, Ok, Err, nat_lt, if◌then◌else◌}
 use Rattle.gw_model.specs.declared.point.Report.{Report}
-use Rattle.dnp_points.specs.declared.fault.ObjectFault.{ObjectFault}
-use Rattle.dnp_points.specs.Library.{library}
+use Rattle.dnp_objects.specs.declared.fault.ObjectFault.{ObjectFault}
 use Rattle.dnp_points.specs.Meaning.{Means, meaning_of}
-use Rattle.dnp_points.specs.Headers.{UnlessMemory}
 use Rattle.dnp_app.specs.declared.fault.AppFault.{AppFault}
 use Rattle.dnp_app.specs.declared.fault.AppFault.TheVariants.{Short, NotResponse, Object, Memory}
 
@@ -23,7 +21,7 @@ is_response octets = (slice_index octets 1 == 129) || (slice_index octets 1 == 1
 pub record IsResponse (f : Fragment) : Type 0 where
   pub long : 4 ≤ length f.octets
   pub function : is_response f.octets ≡ true
-  pub means : Means library f.outstation (drop 4 f.octets) f.reports
+  pub means : Means f.outstation (drop 4 f.octets) f.reports
 
 -- the response with an object part that was read, or the fault of that part
 abbrev pub with_reports : ℕ → List ℕ → Result (List Report) ObjectFault → Result Fragment AppFault
@@ -34,7 +32,7 @@ with_reports outstation octets (Err e) = Err (Object e)
 abbrev pub response_of : ℕ → List ℕ → Result Fragment AppFault
 response_of outstation octets =
     if nat_lt (length octets) 4 then Err Short
-    else if is_response octets then with_reports outstation octets (meaning_of library outstation (drop 4 octets))
+    else if is_response octets then with_reports outstation octets (meaning_of outstation (drop 4 octets))
     else Err NotResponse
 
 -- what a function returned, seen by view, is what reading gives, unless memory ran out

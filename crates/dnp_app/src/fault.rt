@@ -1,5 +1,5 @@
 //! Why a fragment was refused.
-use dnp_points::ObjectFault;
+use dnp_objects::ObjectFault;
 use thiserror::Error;
 
 /// What is wrong with a fragment that should be a response.

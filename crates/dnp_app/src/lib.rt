@@ -3,13 +3,20 @@
 #![tactic(auto)]
 
 mod confirmation;
+mod echoed;
 mod examples;
 mod fault;
+mod law;
 mod response;
+mod skipped;
 
 pub use confirmation::confirm;
-pub use examples::{controls_by_example, fragments_by_example};
+pub use echoed::Echo;
+pub use examples::{
+    controls_by_example, echoes_by_example, fragments_by_example, stepped_over_by_example,
+};
 pub use fault::AppFault;
+pub use law::one_echo;
 pub use response::{Control, Response, read_response};
 
 #[cfg(test)]

@@ -1,10 +1,14 @@
 //! Responses of an outstation.
-ghost use Rattle.std.specs.Prelude.{◌≡◌, ◌≤◌, ◌<◌, length, List, [], ◌∷◌, Ok, IfOk, IsErrOf, slice_index, ◌==◌, true};
+ghost use Rattle.std.specs.Prelude.{◌≡◌, ◌≤◌, ◌<◌, length, drop, List, [], ◌∷◌, Ok, Some, IfOk, IfSome, IsErrOf, slice_index, ◌==◌, true};
+ghost use Rattle.dnp_app.specs.declared.echoed.Echo.{Echo as Echoed};
 ghost use Rattle.dnp_app.specs.Response.{Fragment, IsResponse, is_response, response_of, Gives};
 
 use crate::confirmation::confirm;
+use crate::echoed::{Echo, only_echo};
 use crate::fault::AppFault;
-use dnp_points::{Why, headers, reports};
+use crate::skipped::count_stepped_over;
+use dnp_objects::{Why, headers};
+use dnp_points::reports;
 use gw_model::Report;
 use std::alloc::Global;
 use std::marker::Model;
@@ -30,21 +34,28 @@ pub struct Response {
     outstation: u8,
     octets: Vec<u8>,
     reports: Vec<Report>,
+    echo: Option<Echo>,
+    stepped_over: usize,
 }
 
 impl Model for Response {
-    ghost use Rattle.std.specs.Prelude.{◌≤◌, length};
+    ghost use Rattle.std.specs.Prelude.{◌≡◌, ◌≤◌, length};
     ghost use Rattle.dnp_app.specs.Response.{Fragment, IsResponse};
+    ghost use Rattle.dnp_app.specs.Echo.{echo_of};
+    ghost use Rattle.dnp_app.specs.SteppedOver.{stepped_over_of};
 
     ghost Value = { Fragment };
 
     ghost view = { λ r. record { outstation = r.outstation; octets = r.octets.items; reports = r.reports.items } };
 
-    ghost invariant = { λ r. IsResponse (record { outstation = r.outstation; octets = r.octets.items; reports = r.reports.items }) × (length r.octets.items ≤ 2048) };
+    ghost invariant = { λ r. IsResponse (record { outstation = r.outstation; octets = r.octets.items; reports = r.reports.items }) × (length r.octets.items ≤ 2048)
+        × (r.echo ≡ echo_of r.octets.items) × (r.stepped_over ≡ stepped_over_of r.octets.items) };
 }
 
 impl Response {
     ghost use Rattle.dnp_app.specs.Control.{confirm_of, control_of};
+    ghost use Rattle.dnp_app.specs.Echo.{echo_of, IsEcho};
+    ghost use Rattle.dnp_app.specs.SteppedOver.{stepped_over_of};
 
     /// The outstation that the fragment was read for, by its position in the settings.
     pub fn outstation(&self) -> u8
@@ -67,6 +78,23 @@ impl Response {
         ensures { result.now ≡ self.now.reports }
     {
         self.reports.as_slice()
+    }
+
+    /// The command that the fragment echoes: the one object of group 12 variation 1 or group 41 variation 2
+    /// that stands alone under its header.
+    pub fn echo(&self) -> Option<Echo>
+        ensures found { IfSome result (IsEcho (drop 4 self.now.octets)) }
+        ensures only { (e : Echoed) → IsEcho (drop 4 self.now.octets) e → result ≡ Some e }
+        ensures exact { result ≡ echo_of self.now.octets }
+    {
+        self.echo
+    }
+
+    /// How many objects of the fragment were stepped over, since they are of no point.
+    pub fn stepped_over(&self) -> usize
+        ensures { result ≡ stepped_over_of self.now.octets }
+    {
+        self.stepped_over
     }
 
     /// The application control octet.
@@ -149,9 +177,13 @@ fn read(alloc: Global, outstation: u8, octets: Vec<u8>) -> Result<Response, AppF
     let Ok(reports) = reports(alloc, outstation, &headers, part) else {
         return Err(AppFault::Memory);
     };
+    let echo = only_echo(&headers, part);
+    let stepped_over = count_stepped_over(&headers);
     Ok(Response {
         outstation,
         octets,
         reports,
+        echo,
+        stepped_over,
     })
 }

@@ -1,5 +1,7 @@
-pub mod Results
-pub mod HeaderLoop
-pub mod HeaderLaws
-pub mod ObjectLoop
+pub mod Numbers
+pub mod Bits
+pub mod Texts
+pub mod Table
+pub mod Steps
+pub mod Within
 pub mod ReportLaws

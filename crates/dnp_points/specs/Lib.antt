@@ -1,4 +1,5 @@
-pub mod Library
-pub mod Headers
+pub mod Values
 pub mod Objects
+pub mod Layouts
 pub mod Meaning
+pub mod Shown

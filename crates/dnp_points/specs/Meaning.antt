@@ -1,42 +1,116 @@
 -- What an object part means: a list of reports.
-use Rattle.std.specs.Prelude.{◌≡◌, ℕ, ◌+◌, ◌*◌, ◌≤◌, List, [], ◌∷◌, ◌++◌, length, drop, Option, Some, None, Result, Ok, Err}
+use Rattle.std.specs.Prelude.{◌≡◌, ℕ, zero, suc, ◌+◌, ◌≤◌, ◌==◌, List, [], ◌∷◌, ◌++◌, length, take, drop, Option, Some, None, Result, Ok, if◌then◌else◌}
+use Rattle.gw_model.specs.declared.point.Stamp.{Stamp}
+use Rattle.gw_model.specs.declared.point.Stamp.TheVariants.{Untimed, At, Doubtful}
 use Rattle.gw_model.specs.declared.point.Report.{Report}
-use Rattle.dnp_points.specs.declared.fault.ObjectFault.{ObjectFault}
-use Rattle.dnp_points.specs.declared.header.Header.{Header}
-use Rattle.dnp_points.specs.Library.{Variation, variation_of, library, binary_event}
-use Rattle.dnp_points.specs.Headers.{◌>>=◌, headers_of, body_length, StandsAt}
-use Rattle.dnp_points.specs.Objects.{AreObjects, reports_from}
+use Rattle.dnp_objects.specs.declared.fault.ObjectFault.{ObjectFault}
+use Rattle.dnp_objects.specs.declared.header.Header.{Header}
+use Rattle.dnp_objects.specs.declared.object.Size.{Size}
+use Rattle.dnp_objects.specs.declared.object.Size.TheVariants.{Octets, Bits}
+use Rattle.dnp_objects.specs.Library.{Role, Point, CommonTime, Echo, SteppedOver, Variation, object_of, size_of}
+use Rattle.dnp_objects.specs.Headers.{◌>>=◌, number, octets_after, headers_of, IsPart}
+use Rattle.dnp_points.specs.Values.{bits_of}
+use Rattle.dnp_points.specs.Objects.{AreWhole, ArePacked, whole_from, packed_from}
 
--- the octets from this place of a part on are these headers, each followed by its objects, which report this
-abbrev pub AreReports : List Variation → ℕ → ℕ → List ℕ → List Header → List Report → Type 0
-AreReports table outstation place octets [] rs = (octets ≡ []) × (rs ≡ [])
-AreReports table outstation place octets (h ∷ hs) rs = (rest : List ℕ) × (front : StandsAt table place octets h rest) × (one : List Report) × (others : List Report)
-    × AreObjects front.variation outstation h.prefix h.first h.count front.body one
-    × (rs ≡ one ++ others) × AreReports table outstation (h.start + body_length front.variation h) rest hs others
+-- the octets of a header's objects: those from their first one on
+abbrev pub body_of : List ℕ → Variation → Header → List ℕ
+body_of part v h = take (octets_after v h) (drop h.start part)
 
--- an object part means these reports: it is at most 512 headers, each followed by its objects, which report this
-abbrev pub Means : List Variation → ℕ → List ℕ → List Report → Type 0
-Means table outstation part rs = (hs : List Header) × AreReports table outstation 0 part hs rs × (length hs ≤ 512)
+-- ---- the common time
+
+-- a common time of occurrence: variation 1 is of a synchronized clock, 2 of one that isn't
+abbrev pub time_by : ℕ → ℕ → Stamp
+time_by variation milliseconds = if variation == 1 then At milliseconds else Doubtful milliseconds
+
+-- the times that so many octets after each other give, six octets each
+abbrev pub times_from : ℕ → ℕ → List ℕ → List Stamp
+times_from variation zero octets = []
+times_from variation (suc n) octets = time_by variation (number (take 6 octets)) ∷ times_from variation n (drop 6 octets)
+
+-- the times that the objects of a header give: none unless they are common times
+abbrev pub times_told : Role → Header → List ℕ → List Stamp
+times_told CommonTime h body = times_from h.variation h.count body
+times_told (Point kind) h body = []
+times_told Echo h body = []
+times_told SteppedOver h body = []
+
+abbrev pub times_of : List ℕ → Option Variation → Header → List Stamp
+times_of part None h = []
+times_of part (Some v) h = times_told v.role h (body_of part v h)
+
+-- all times that headers of a part give, in order
+abbrev pub all_times : List ℕ → List Header → List Stamp
+all_times part [] = []
+all_times part (h ∷ hs) = times_of part (object_of h.group h.variation) h ++ all_times part hs
+
+-- the last of a list, or another where it is empty
+abbrev pub last_or : Stamp → List Stamp → Stamp
+last_or other [] = other
+last_or other (stamp ∷ stamps) = last_or stamp stamps
+
+-- the common time of an object: the last one that the headers before it in its part give, or none
+abbrev pub common_time : List ℕ → List Header → Stamp
+common_time part before = last_or Untimed (all_times part before)
+
+-- ---- reports of a part
+
+-- the objects of a header of a part, and their reports, where this is the common time before them
+abbrev pub AreSized : Size → Variation → ℕ → Stamp → Header → List ℕ → List Report → Type 0
+AreSized (Octets long) v outstation common h body rs = AreWhole v long outstation common h.prefix h.first h.count body rs
+AreSized (Bits width) v outstation common h body rs = ArePacked v width outstation h.first h.count (bits_of body) rs
+
+abbrev pub AreObjects : List ℕ → Option Variation → ℕ → Stamp → Header → List Report → Type 0
+AreObjects part None outstation common h rs = rs ≡ []
+AreObjects part (Some v) outstation common h rs = AreSized (size_of v) v outstation common h (body_of part v h) rs
+
+-- the objects of headers of a part, where other headers stand before them, report this
+abbrev pub AreReports : ℕ → List ℕ → List Header → List Header → List Report → Type 0
+AreReports outstation part before [] rs = rs ≡ []
+AreReports outstation part before (h ∷ hs) rs = (one : List Report) × (others : List Report)
+    × AreObjects part (object_of h.group h.variation) outstation (common_time part before) h one
+    × (rs ≡ one ++ others) × AreReports outstation part (before ++ h ∷ []) hs others
+
+-- an object part means these reports: it is at most 512 headers, each followed by its objects, which report this in order
+pub record Means (outstation : ℕ) (part : List ℕ) (rs : List Report) : Type 0 where
+  pub headers : List Header
+  pub read : IsPart part headers
+  pub reports : AreReports outstation part [] headers rs
 
 -- ---- by reading
 
--- the reports of a header whose objects stand at the front of octets
-abbrev pub header_reports : Option Variation → ℕ → Header → List ℕ → List Report
-header_reports None outstation h octets = []
-header_reports (Some v) outstation h octets = reports_from v outstation h.prefix h.first h.count octets
+abbrev pub sized_reports : Size → Variation → ℕ → Stamp → Header → List ℕ → List Report
+sized_reports (Octets long) v outstation common h body = whole_from v long outstation common h.prefix h.first h.count body
+sized_reports (Bits width) v outstation common h body = packed_from v width outstation h.first h.count (bits_of body)
+
+-- the reports of a header of a part
+abbrev pub header_reports : List ℕ → Option Variation → ℕ → Stamp → Header → List Report
+header_reports part None outstation common h = []
+header_reports part (Some v) outstation common h = sized_reports (size_of v) v outstation common h (body_of part v h)
+
+-- the reports of headers of a part from left to right, after a common time
+abbrev pub reports_from : ℕ → List ℕ → Stamp → List Header → List Report
+reports_from outstation part common [] = []
+reports_from outstation part common (h ∷ hs) =
+    let known = object_of h.group h.variation in
+    header_reports part known outstation common h ++ reports_from outstation part (last_or common (times_of part known h)) hs
 
 -- the reports of a part with these headers
-abbrev pub reports_of : List Variation → ℕ → List ℕ → List Header → List Report
-reports_of table outstation part [] = []
-reports_of table outstation part (h ∷ hs) = header_reports (variation_of table h.group h.variation) outstation h (drop h.start part) ++ reports_of table outstation part hs
+abbrev pub reports_of : ℕ → List ℕ → List Header → List Report
+reports_of outstation part hs = reports_from outstation part Untimed hs
 
 -- the reports of a part, or its first fault
-abbrev pub meaning_of : List Variation → ℕ → List ℕ → Result (List Report) ObjectFault
-meaning_of table outstation part = headers_of table part >>= λ hs. Ok (reports_of table outstation part hs)
+abbrev pub meaning_of : ℕ → List ℕ → Result (List Report) ObjectFault
+meaning_of outstation part = headers_of part >>= λ hs. Ok (reports_of outstation part hs)
 
--- a header of a part as its reader finds it: a known variation with one octet of index before each object, all within the part
+-- ---- what the functions of the crate know of a header
+
+-- a header of a part as its reader finds it: a known variation, whose objects stand within the part
 pub record IsWithin (part : List ℕ) (h : Header) : Type 0 where
-  pub known : variation_of library h.group h.variation ≡ Some binary_event
-  pub prefix : h.prefix ≡ 1
-  pub first : h.first ≡ 0
-  pub inside : h.start + h.count * 2 ≤ length part
+  pub variation : Variation
+  pub known : object_of h.group h.variation ≡ Some variation
+  pub inside : h.start + octets_after variation h ≤ length part
+
+-- its indexes have 16 bits, and stand in at most two octets
+pub record IsIndexed (h : Header) : Type 0 where
+  pub prefix : h.prefix ≤ 2
+  pub ends : h.first + h.count ≤ 65536

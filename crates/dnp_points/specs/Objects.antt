@@ -1,55 +1,96 @@
 -- What objects report of points (IEEE Std 1815, Annex A): how one is spelled, and reading a header's objects
--- one after the other.
-use Rattle.std.specs.Prelude.{◌≡◌, ℕ, zero, suc, ◌+◌, ◌*◌, nat_le, ◌==◌, true, List, [], ◌∷◌, ◌++◌, length, take, drop, if◌then◌else◌, refl}
+-- one after the other. All of it follows from the table of variations.
+use Rattle.std.specs.Prelude.{◌≡◌, ℕ, zero, suc, ◌+◌, Bool, true, false, List, [], ◌∷◌, ◌++◌, length, take, drop}
 use Rattle.gw_model.specs.declared.point.Kind.{Kind}
-use Rattle.gw_model.specs.declared.point.Kind.TheVariants.{Binary, Output, Double, Counter, Analog}
-use Rattle.gw_model.specs.declared.point.Raw.TheVariants.{Bit}
+use Rattle.gw_model.specs.declared.point.Kind.TheVariants.{Binary}
+use Rattle.gw_model.specs.declared.point.Stamp.{Stamp}
 use Rattle.gw_model.specs.declared.point.Stamp.TheVariants.{Untimed}
 use Rattle.gw_model.specs.declared.point.Report.{Report}
-use Rattle.dnp_points.specs.declared.header.Header.{Header}
-use Rattle.dnp_points.specs.Library.{number, Variation, variation_of}
-use Rattle.dnp_points.specs.Headers.{body_length, StandsAt, IsPart}
-
--- a binary input event without time: bit 7 of the flags is the state
-abbrev pub binary_report : ℕ → ℕ → ℕ → Report
-binary_report outstation index flags =
-    record { key = record { outstation = outstation; kind = Binary; index = index }; raw = Bit (nat_le 128 flags); flags = flags; stamp = Untimed; event = true; of_kind = refl; stamped = refl }
+use Rattle.dnp_objects.specs.Library.{Role, Point, Time, time_octets, Parts, Whole, Variation}
+use Rattle.dnp_objects.specs.Headers.{number}
+use Rattle.dnp_points.specs.Values.{flags_of, stamp_of, number_of_bits, report_of, packed_report_of}
 
 -- ---- how objects are spelled
 
--- octets that spell an object of a point of this kind, and the reports of it: none or one
-abbrev pub IsPointText : Kind → ℕ → ℕ → List ℕ → List Report → Type 0
-IsPointText Binary outstation index text rs = (flags : ℕ) × (text ≡ flags ∷ []) × (rs ≡ binary_report outstation index flags ∷ [])
-IsPointText Output outstation index text rs = ⊥
-IsPointText Double outstation index text rs = ⊥
-IsPointText Counter outstation index text rs = ⊥
-IsPointText Analog outstation index text rs = ⊥
+abbrev pub flags_octets : Bool → ℕ
+flags_octets true = 1
+flags_octets false = 0
 
-abbrev pub IsObjectText : Variation → ℕ → ℕ → List ℕ → List Report → Type 0
-IsObjectText v outstation index text rs = IsPointText v.kind outstation index text rs
+-- octets that spell an object of a point: its flags where it has any, its value, its time; and its report
+pub record IsPointText (kind : Kind) (event has_flags : Bool) (width : ℕ) (time : Time) (outstation index : ℕ) (common : Stamp) (text : List ℕ) (report : Report) : Type 0 where
+  pub flags : List ℕ
+  pub value : List ℕ
+  pub instant : List ℕ
+  pub parts : text ≡ flags ++ (value ++ instant)
+  pub flags_long : length flags ≡ flags_octets has_flags
+  pub value_long : length value ≡ width
+  pub instant_long : length instant ≡ time_octets time
+  pub told : report ≡ report_of outstation index kind event (flags_of flags) value (stamp_of time common instant)
 
--- the index of an object: its prefix where it has one, and else it counts on from the range's start
-abbrev pub index_of : ℕ → ℕ → List ℕ → ℕ
-index_of prefix next octets = if prefix == 0 then next else number octets
+-- octets that spell an object, and its reports: one of its point, or none
+abbrev pub IsTextOf : Role → Parts → Bool → ℕ → ℕ → Stamp → List ℕ → List Report → Type 0
+IsTextOf (Point kind) (Whole has_flags width time) event outstation index common text rs =
+    (r : Report) × IsPointText kind event has_flags width time outstation index common text r × (rs ≡ r ∷ [])
+IsTextOf _ _ event outstation index common text rs = rs ≡ []
 
--- octets that are so many objects, each after its index prefix, and their reports
-abbrev pub AreObjects : Variation → ℕ → ℕ → ℕ → ℕ → List ℕ → List Report → Type 0
-AreObjects v outstation prefix next zero octets rs = (octets ≡ []) × (rs ≡ [])
-AreObjects v outstation prefix next (suc n) octets rs = (index : List ℕ) × (text : List ℕ) × (rest : List ℕ) × (one : List Report) × (others : List Report)
-    × (octets ≡ index ++ (text ++ rest)) × (length index ≡ prefix) × IsObjectText v outstation (index_of prefix next index) text one
-    × (rs ≡ one ++ others) × AreObjects v outstation prefix (next + 1) n rest others
+abbrev pub IsObjectText : Variation → ℕ → ℕ → Stamp → List ℕ → List Report → Type 0
+IsObjectText v = IsTextOf v.role v.parts v.event
+
+-- what a packed object with this state reports
+abbrev pub packed_told : Role → Bool → ℕ → ℕ → ℕ → List Report
+packed_told (Point kind) event outstation index state = packed_report_of outstation index kind event state ∷ []
+packed_told _ event outstation index state = []
+
+abbrev pub packed_reports : Variation → ℕ → ℕ → List ℕ → List Report
+packed_reports v outstation index bits = packed_told v.role v.event outstation index (number_of_bits bits)
+
+-- the index of an object: that before it, where one stands there, and else it counts on from the range's start
+abbrev pub index_of : ℕ → List ℕ → ℕ
+index_of next [] = next
+index_of next (octet ∷ octets) = number (octet ∷ octets)
+
+-- octets that are so many objects of this length, each after its index, and their reports
+abbrev pub AreWhole : Variation → ℕ → ℕ → Stamp → ℕ → ℕ → ℕ → List ℕ → List Report → Type 0
+AreWhole v long outstation common prefix next zero octets rs = (octets ≡ []) × (rs ≡ [])
+AreWhole v long outstation common prefix next (suc n) octets rs = (index : List ℕ) × (text : List ℕ) × (rest : List ℕ) × (one : List Report) × (others : List Report)
+    × (octets ≡ index ++ (text ++ rest)) × (length index ≡ prefix) × (length text ≡ long) × IsObjectText v outstation (index_of next index) common text one
+    × (rs ≡ one ++ others) × AreWhole v long outstation common prefix (next + 1) n rest others
+
+-- bits that begin with so many objects of so many bits, and their reports; the bits that are left over fill up
+abbrev pub ArePacked : Variation → ℕ → ℕ → ℕ → ℕ → List ℕ → List Report → Type 0
+ArePacked v width outstation next zero bits rs = rs ≡ []
+ArePacked v width outstation next (suc n) bits rs = (own : List ℕ) × (rest : List ℕ) × (others : List Report)
+    × (bits ≡ own ++ rest) × (length own ≡ width)
+    × (rs ≡ packed_reports v outstation next own ++ others) × ArePacked v width outstation (next + 1) n rest others
 
 -- ---- reading one after the other
 
-abbrev pub point_reports : Kind → ℕ → ℕ → List ℕ → List Report
-point_reports Binary outstation index (flags ∷ []) = binary_report outstation index flags ∷ []
-point_reports _ outstation index _ = []
+-- what an object of a point with these octets reports
+unfoldable pub point_report : Kind → Bool → Bool → ℕ → Time → ℕ → ℕ → Stamp → List ℕ → Report
+point_report kind event has_flags width time outstation index common text =
+    let behind = drop (flags_octets has_flags) text in
+    report_of outstation index kind event (flags_of (take (flags_octets has_flags) text)) (take width behind) (stamp_of time common (drop width behind))
 
-abbrev pub object_reports : Variation → ℕ → ℕ → List ℕ → List Report
-object_reports v outstation index text = point_reports v.kind outstation index text
+abbrev pub told_of : Role → Parts → Bool → ℕ → ℕ → Stamp → List ℕ → List Report
+told_of (Point kind) (Whole has_flags width time) event outstation index common text = point_report kind event has_flags width time outstation index common text ∷ []
+told_of _ _ event outstation index common text = []
 
-abbrev pub reports_from : Variation → ℕ → ℕ → ℕ → ℕ → List ℕ → List Report
-reports_from v outstation prefix next zero octets = []
-reports_from v outstation prefix next (suc n) octets =
-    object_reports v outstation (index_of prefix next (take prefix octets)) (take v.octets (drop prefix octets))
-    ++ reports_from v outstation prefix (next + 1) n (drop v.octets (drop prefix octets))
+-- what an object with these octets reports
+abbrev pub object_reports : Variation → ℕ → ℕ → Stamp → List ℕ → List Report
+object_reports v = told_of v.role v.parts v.event
+
+abbrev pub whole_from : Variation → ℕ → ℕ → Stamp → ℕ → ℕ → ℕ → List ℕ → List Report
+whole_from v long outstation common prefix next zero octets = []
+whole_from v long outstation common prefix next (suc n) octets =
+    let behind = drop prefix octets in
+    object_reports v outstation (index_of next (take prefix octets)) common (take long behind)
+    ++ whole_from v long outstation common prefix (next + 1) n (drop long behind)
+
+abbrev pub packed_from : Variation → ℕ → ℕ → ℕ → ℕ → List ℕ → List Report
+packed_from v width outstation next zero bits = []
+packed_from v width outstation next (suc n) bits =
+    packed_reports v outstation next (take width bits) ++ packed_from v width outstation (next + 1) n (drop width bits)
+
+-- the report of a binary input event without time (group 2, variation 1)
+abbrev pub binary_report : ℕ → ℕ → ℕ → Report
+binary_report outstation index flags = report_of outstation index Binary true flags [] Untimed

@@ -1,12 +1,15 @@
-//! The object variations that report points.
-ghost use Rattle.std.specs.Prelude.{◌≡◌, ◌≤◌, ℕ, List, [], ◌∷◌, length, refl};
-ghost use Rattle.std.proofs.Common.{rules, ap};
-ghost use Rattle.dnp_points.specs.Library.{Variation, binary_event};
-ghost use Rattle.dnp_points.specs.Objects.{object_reports, binary_report};
-ghost use Rattle.gw_model.specs.declared.point.Report.{Report as Told};
-ghost use Rattle.gw_model.specs.declared.point.Stamp.{Stamp as Common};
+//! Objects that report a point: how each variation is laid out.
+ghost use Rattle.std.specs.Prelude.{◌≡◌, ◌+◌, ◌<◌, ℕ, List, [], ◌∷◌, Some, length, IsTrue, true, false};
+ghost use Rattle.gw_model.specs.Point.{is_of_kind, is_stamped};
+ghost use Rattle.dnp_objects.specs.declared.object.Size.{Size};
+ghost use Rattle.dnp_objects.specs.declared.object.Size.TheVariants.{Octets};
+ghost use Rattle.dnp_objects.specs.Library.{Variation, objects, object_among, size_of, time_octets};
+ghost use Rattle.dnp_points.specs.Values.{stamp_of, stamp_where, IsClock, is_wide_enough};
+ghost use Rattle.dnp_points.specs.Objects.{flags_octets, point_report, object_reports};
+ghost use Rattle.dnp_points.specs.Layouts.{time_of, octets_of};
 
-use gw_model::{Kind, PointKey, Raw, Report, Stamp};
+use crate::value::{flags_of, later, number_16, number_48, raw_of};
+use gw_model::{Kind, PointKey, Report, Stamp};
 
 /// One variation of the object library: octets that report a point.
 pub trait Object {
@@ -17,75 +20,129 @@ pub trait Object {
 
     /// The variation as the object library has it.
     ghost variation: { Variation };
-    /// The octets spell the object.
-    ghost Spells: { List ℕ → Self → Type 0 };
-    /// What the object reports of the point with an outstation and an index, after a common time.
-    ghost told: { Self → ℕ → ℕ → Common → Told };
 
-    /// Reads an object.
-    fn read(octets: &[u8]) -> Self
-        requires { length octets.now ≡ LENGTH }
-        ensures { Spells octets.now result };
+    /// What an object reports of the point with this index, after a common time.
+    fn report(octets: &[u8], outstation: u8, index: u16, common: Stamp) -> Report
+        requires long { length octets.now ≡ LENGTH }
+        requires clock { IsClock common }
+        // It is the library's report, and there is no other.
+        ensures { object_reports variation outstation index common octets.now ≡ result ∷ [] };
 
-    /// What the object reports of its point, where a common time was given before it.
-    fn report(&self, outstation: u8, index: u16, common: Stamp) -> Report
-        ensures { result ≡ told self.now outstation index common };
-
-    /// Each object has its length.
-    ghost sized: { (t : List ℕ) (x : Self) → Spells t x → length t ≡ LENGTH };
-    /// Octets spell one object at most.
-    ghost one: { (t : List ℕ) (x y : Self) → Spells t x → Spells t y → x ≡ y };
-    /// The length fits an octet.
-    ghost small: { LENGTH ≤ 255 };
+    /// The variation stands in the library.
+    ghost known: { object_among objects variation.group variation.number ≡ Some variation };
     /// The length is the library's.
-    ghost length_agrees: { variation.octets ≡ LENGTH };
-    /// The report is the library's.
-    ghost report_agrees: { (t : List ℕ) (x : Self) (outstation index : ℕ) (common : Common) → Spells t x → object_reports variation outstation index t ≡ told x outstation index common ∷ [] };
+    ghost sized: { size_of variation ≡ Octets LENGTH };
+    /// The length fits an octet.
+    ghost small: { LENGTH < 256 };
 }
 
-/// A binary input event without time: group 2, variation 1 (IEEE Std 1815, A.3.1).
+/// Which time stands at the end of an object.
 #[derive(Clone, Copy, Debug, PartialEq, Eq)]
-pub struct BinaryEvent {
-    /// The flags; bit 7 is the state.
-    pub flags: u8,
+pub enum Time {
+    Timeless,
+    /// Milliseconds since 1970, of 48 bits.
+    Absolute,
+    /// Milliseconds since the common time, of 16 bits.
+    Relative,
 }
 
-impl Object for BinaryEvent {
-    const LENGTH: usize = 1;
+/// How an object of a point is laid out: a flags octet or none, the octets of its value, and a time.
+#[derive(Clone, Copy, Debug, PartialEq, Eq)]
+pub struct Layout {
+    pub kind: Kind,
+    pub event: bool,
+    pub flags: bool,
+    pub value: usize,
+    pub time: Time,
+}
 
-    ghost LENGTH = { 1 };
-
-    ghost variation = { binary_event };
-
-    ghost Spells = { λ t x. t ≡ x.flags ∷ [] };
-
-    ghost told = { λ x outstation index common. binary_report outstation index x.flags };
-
-    fn read(octets: &[u8]) -> BinaryEvent {
-        BinaryEvent { flags: octets[0] }
+impl Time {
+    /// The time of an object.
+    fn stamp(self, common: Stamp, octets: &[u8]) -> Stamp
+        requires long { length octets.now ≡ time_octets (time_of self) }
+        requires clock { IsClock common }
+        ensures { result ≡ stamp_of (time_of self) common octets.now }
+    {
+        match self {
+            Time::Timeless => Stamp::Untimed,
+            Time::Absolute => Stamp::At(number_48(octets)),
+            Time::Relative => later(common, number_16(octets)),
+        }
     }
+}
 
-    fn report(&self, outstation: u8, index: u16, _common: Stamp) -> Report {
-        Report {
-            key: PointKey {
-                outstation,
-                kind: Kind::Binary,
-                index,
-            },
-            raw: Raw::Bit(self.flags >= 0x80),
-            flags: self.flags,
-            stamp: Stamp::Untimed,
-            event: true,
+/// A static value has no time.
+fn stamp_where(event: bool, stamp: Stamp) -> Stamp
+    ensures value { result ≡ stamp_where event stamp }
+    ensures fits { IsTrue (is_stamped event result) }
+{
+    if event { stamp } else { Stamp::Untimed }
+}
+
+impl Layout {
+    /// A static value with flags, whose value has so many octets.
+    pub fn with_flags(kind: Kind, value: usize) -> Layout
+        ensures { result ≡ record { kind = kind; event = false; flags = true; value = value; time = Time.Timeless } }
+    {
+        Layout {
+            kind,
+            event: false,
+            flags: true,
+            value,
+            time: Time::Timeless,
         }
     }
 
-    ghost sized = { λ t x s. ap length s };
+    /// A static value without flags.
+    pub fn without_flags(kind: Kind, value: usize) -> Layout
+        ensures { result ≡ record { kind = kind; event = false; flags = false; value = value; time = Time.Timeless } }
+    {
+        Layout {
+            kind,
+            event: false,
+            flags: false,
+            value,
+            time: Time::Timeless,
+        }
+    }
 
-    ghost one = { λ t x y s r. Prim.search rules };
+    /// An event: it has flags.
+    pub fn event(kind: Kind, value: usize, time: Time) -> Layout
+        ensures { result ≡ record { kind = kind; event = true; flags = true; value = value; time = time } }
+    {
+        Layout {
+            kind,
+            event: true,
+            flags: true,
+            value,
+            time,
+        }
+    }
 
-    ghost small = { Prim.search rules };
-
-    ghost length_agrees = { refl };
-
-    ghost report_agrees = { λ t x outstation index common s. Prim.search rules };
+    /// What an object of this layout reports.
+    #[tactic(auto, unfolding(crate::specs::Objects::point_report))]
+    pub fn report(self, octets: &[u8], outstation: u8, index: u16, common: Stamp) -> Report
+        requires wide { IsTrue (is_wide_enough self.kind self.value) }
+        requires long { length octets.now ≡ octets_of self }
+        requires clock { IsClock common }
+        ensures { result ≡ point_report self.kind self.event self.flags self.value (time_of self.time) outstation index common octets.now }
+    {
+        let (flags, behind) = octets.split_at(usize::from(self.flags));
+        let (value, instant) = behind.split_at(self.value);
+        let flags = flags_of(flags);
+        let raw = raw_of(self.kind, flags, value);
+        let stamp = stamp_where(self.event, self.time.stamp(common, instant));
+        let key = PointKey {
+            outstation,
+            kind: self.kind,
+            index,
+        };
+        Report {
+            key,
+            raw,
+            flags,
+            stamp,
+            event: self.event,
+        }
+    }
 }

@@ -6,16 +6,18 @@ use Rattle.std.proofs.lemmas.Slice.Eq.{bytes_eq-Decides}
 use Rattle.gw_model.specs.declared.observation.Observation.{Observation}
 use Rattle.gw_model.specs.Rows.{Setup, is_point_map}
 use Rattle.dnp_app.specs.Response.{Fragment}
+use Rattle.gw_picture.specs.Log.{picture_of}
+use Rattle.gw_picture.specs.Change.{change}
 use Rattle.gw_hub.specs.declared.step.Step.{Step}
 use Rattle.gw_hub.specs.declared.step.Step.TheVariants as steps
 use Rattle.gw_hub.specs.declared.step.Reply.{Reply}
-use Rattle.gw_hub.specs.State.{State, Outstation, Link, change}
-use Rattle.gw_hub.specs.News.{news_of, picture_after}
+use Rattle.gw_hub.specs.State.{State, Outstation, Link}
+use Rattle.gw_picture.specs.News.{news_of, picture_after}
 use Rattle.gw_hub.specs.Steps.{is_unsolicited, is_last, accepts, came, came_to_session, fragment_outcome, outcome, counted, taken, fragment_after, after}
-use Rattle.gw_hub.specs.History.{Entry, log_of, picture_of, last_text, is_accepted, news_after_log}
+use Rattle.gw_hub.specs.History.{Entry, log_of, last_text, is_accepted, news_after_log}
 use Rattle.gw_hub.specs.Headline.{link_session}
 use Rattle.gw_hub.specs.Sound.{IsSound}
-use Rattle.gw_hub.proofs.Lists.{change-here, change-there, map-get}
+use Rattle.gw_picture.proofs.Lists.{change-here, change-there, map-get}
 use Rattle.gw_hub.proofs.Pictures.{news_same}
 use Rattle.gw_hub.proofs.Tied.{entry, brought, OutstationTied, Tied, client_idle, client_quiet}
 use Rattle.gw_hub.proofs.StepTies.{outstation_kept, same_log, client_up, frame, pump, outstation_up}
@@ -57,13 +59,13 @@ taken_tied : (setup : Setup) (past : List Entry) (f : Fragment) (m : ℕ) (r : R
     → Tied setup (entry (steps.Fragment f m) (Ok r) ∷ past) (counted (taken setup s f))
 taken_tied setup past f m r s map_is takes tied =
     let step : Step = steps.Fragment f m in
-    let log : List Observation = log_of setup.rows past in
-    let xs : List Observation = news_after_log setup.rows log f.reports in
+    let log : List Observation = log_of setup past in
+    let xs : List Observation = news_after_log setup log f.reports in
     let parts = and_parts (is_unsolicited f) (not (is_last (last_text f.outstation past) f.octets)) takes in
     let came_in : brought setup past step (Ok r) ≡ xs = rw takes refl in
-    let same = news_same setup.rows log f.reports map_is in
-    let told : news_of setup.rows s.picture f.reports ≡ xs = ap (λ (p : List Observation). news_of setup.rows p f.reports) tied.picture ∙ same.0 in
-    let shown : picture_after setup.rows s.picture f.reports ≡ picture_of setup.rows (log ++ xs) = ap (λ (p : List Observation). picture_after setup.rows p f.reports) tied.picture ∙ same.1 in
+    let same = news_same setup log f.reports map_is in
+    let told : news_of setup.offset setup.rows s.picture f.reports ≡ xs = ap (λ (p : List Observation). news_of setup.offset setup.rows p f.reports) tied.picture ∙ same.0 in
+    let shown : picture_after setup.offset setup.rows s.picture f.reports ≡ picture_of setup.rows (log ++ xs) = ap (λ (p : List Observation). picture_after setup.offset setup.rows p f.reports) tied.picture ∙ same.1 in
     let mark : Option Outstation → Option Outstation = λ _. Some (record { last = Some f.octets }) in
     record {
       picture = shown ∙ ap (λ (ys : List Observation). picture_of setup.rows (log ++ ys)) (sym came_in);
@@ -73,7 +75,7 @@ taken_tied setup past f m r s map_is takes tied =
         | inr ne ↦ rw (change-there f.outstation p mark s.outstations ne) (outstation_kept p past (entry step (Ok r)) (slice_get s.outstations p) (other_last past f p m r ne) (tied.outstations p))
       ];
       clients = λ c.
-          let ys : List Observation = news_of setup.rows s.picture f.reports in
+          let ys : List Observation = news_of setup.offset setup.rows s.picture f.reports in
           let idle = client_idle setup c past step (Ok r) ys (link_session (slice_get s.clients c)) refl refl (came_in ∙ sym told) refl (tied.clients c) in
           rw (map-get (came ys) s.clients c, came_session ys (slice_get s.clients c)) idle;
     }
@@ -116,7 +118,7 @@ fragment_at setup past f m r s (Some (Some x)) map_is at e tied =
 -- ---- every step
 
 pub step_tied : (setup : Setup) (past : List Entry) (step : Step) (r : Reply) (s : State) → is_point_map setup.rows ≡ true → setup.common_address < 65536
-    → IsSound setup.zone.offset_minutes s → outcome setup s step ≡ Ok r → Tied setup past s → Tied setup (entry step (Ok r) ∷ past) (after setup s step)
+    → IsSound setup.offset s → outcome setup s step ≡ Ok r → Tied setup past s → Tied setup (entry step (Ok r) ∷ past) (after setup s step)
 step_tied setup past (steps.OutstationUp o m) r s map_is small sound e tied = outstation_up setup past o m r s tied
 step_tied setup past (steps.Fragment f m) r s map_is small sound e tied = fragment_at setup past f m r s (slice_get s.outstations f.outstation) map_is refl e tied
 step_tied setup past (steps.ClientUp c m) r s map_is small sound e tied = client_up setup past c m r s e tied

@@ -1,12 +1,9 @@
-pub mod Lists
 pub mod Pictures
 pub mod FateLemmas
 pub mod Tied
 pub mod StepTies
 pub mod FragmentTies
 pub mod Runs
-pub mod Images
 pub mod Buffers
 pub mod Seats
-pub mod Counting
 pub mod Taking

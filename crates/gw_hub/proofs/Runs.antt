@@ -1,5 +1,5 @@
 -- The headline over a run, one step after the other.
-use Rattle.std.proofs.Common.{◌≡◌, ℕ, zero, suc, ◌+◌, ◌^◌, ◌<◌, Bool, true, false, ◌&&◌, cond, eqb, ltb, List, [], ◌∷◌, ◌++◌, length, take, get_or, Option, Some, None, Result, Ok, Err, refl, sym, ap, subst, ◌∙◌, arith}
+use Rattle.std.proofs.Common.{◌≡◌, ℕ, ℤ, zero, suc, ◌+◌, ◌^◌, ◌<◌, Bool, true, false, ◌&&◌, cond, eqb, ltb, List, [], ◌∷◌, ◌++◌, length, take, get_or, Option, Some, None, Result, Ok, Err, refl, sym, ap, subst, ◌∙◌, arith}
 use Rattle.std.proofs.lemmas.List.{length-take, take_more}
 use Rattle.std.specs.Prelude.{slice_get, IfSome, is_some}
 use Rattle.gw_model.specs.declared.observation.Observation.{Observation}
@@ -17,7 +17,7 @@ use Rattle.gw_hub.specs.declared.step.Ignored.TheVariants.{NoRequest}
 use Rattle.gw_hub.specs.declared.step.StepFault.{StepFault}
 use Rattle.gw_hub.specs.declared.step.Why.TheVariants.{Flooded}
 use Rattle.gw_hub.specs.State.{State, Outstation, Session, Link, at_first}
-use Rattle.gw_hub.specs.News.{news_of}
+use Rattle.gw_picture.specs.News.{news_of}
 use Rattle.gw_hub.specs.Steps.{is_unsolicited, is_last, accepts, verdict_of, frame_reply, pump_reply, pump_session, pump_queue, buffer, start_con, up_outcome, fragment_outcome, client_outcome, outcome, after, Allowed}
 use Rattle.gw_hub.specs.History.{Entry, history, last_text, is_started}
 use Rattle.gw_hub.specs.Headline.{link_session, state_after, IsRun, TellsNews, QuietLast, Confirms, ConfirmsLast, Holds, AtEach}
@@ -52,7 +52,7 @@ fragment_confirms : (setup : Setup) (past : List Entry) (f : Fragment) (m : ℕ)
 fragment_confirms setup past f m r s None tied e = absurd cc
 fragment_confirms setup past f m r s (Some None) tied e = absurd cc
 fragment_confirms setup past f m r s (Some (Some x)) tied e =
-    let n : ℕ = cond (accepts x f) (length (news_of setup.rows s.picture f.reports)) 0 in
+    let n : ℕ = cond (accepts x f) (length (news_of setup.offset setup.rows s.picture f.reports)) 0 in
     subst (λ (y : Reply). Confirms setup (steps.Fragment f m) (Ok y) past) (spent_is (ltb (s.steps + 1) (2 ^ 64) && ltb (s.news + n) (2 ^ 64)) (replies.Verdict (verdict_of x f)) r e)
     (confirmed setup past f m x (is_unsolicited f) (is_last x.last f.octets) refl refl tied)
 
@@ -81,25 +81,25 @@ frame_confirms setup past c m r s (Some None) e = absurd cc
 frame_confirms setup past c m r s (Some (Some link)) e =
     subst (λ (y : Reply). Confirms setup (steps.Frame c (U StartAct) m) (Ok y) past) (spent_is (ltb (s.steps + 1) (2 ^ 64) && ltb (s.news + 0) (2 ^ 64)) (frame_reply link) r e) (frame_none setup past c m (ltb link.confirmations 32))
 
-queue_none : (setup : Setup) (past : List Entry) (c m common ns : ℕ) (queue : List Observation) → Confirms setup (steps.Pump c m) (Ok (pump_queue common ns queue)) past
-queue_none setup past c m common ns [] = tt
-queue_none setup past c m common ns (x ∷ queue) = tt
+queue_none : (setup : Setup) (past : List Entry) (offset : ℤ) (c m common ns : ℕ) (queue : List Observation) → Confirms setup (steps.Pump c m) (Ok (pump_queue offset common ns queue)) past
+queue_none setup past offset c m common ns [] = tt
+queue_none setup past offset c m common ns (x ∷ queue) = tt
 
-session_none : (setup : Setup) (past : List Entry) (c m common ns : ℕ) (k : Option Session) → Confirms setup (steps.Pump c m) (Ok (pump_session common ns k)) past
-session_none setup past c m common ns None = tt
-session_none setup past c m common ns (Some k) = queue_none setup past c m common ns k.queue
+session_none : (setup : Setup) (past : List Entry) (offset : ℤ) (c m common ns : ℕ) (k : Option Session) → Confirms setup (steps.Pump c m) (Ok (pump_session offset common ns k)) past
+session_none setup past offset c m common ns None = tt
+session_none setup past offset c m common ns (Some k) = queue_none setup past offset c m common ns k.queue
 
 pump_none : (setup : Setup) (past : List Entry) (c m : ℕ) (link : Link) (b : Bool)
-    → Confirms setup (steps.Pump c m) (Ok (cond b (pump_session setup.common_address link.next_send link.session) (replies.Apdu (buffer start_con)))) past
-pump_none setup past c m link true = session_none setup past c m setup.common_address link.next_send link.session
+    → Confirms setup (steps.Pump c m) (Ok (cond b (pump_session setup.offset setup.common_address link.next_send link.session) (replies.Apdu (buffer start_con)))) past
+pump_none setup past c m link true = session_none setup past setup.offset c m setup.common_address link.next_send link.session
 pump_none setup past c m link false = tt
 
-pump_confirms : (setup : Setup) (past : List Entry) (c m : ℕ) (r : Reply) (s : State) (found : Option (Option Link)) → client_outcome s (pump_reply setup.common_address) found ≡ Ok r
+pump_confirms : (setup : Setup) (past : List Entry) (c m : ℕ) (r : Reply) (s : State) (found : Option (Option Link)) → client_outcome s (pump_reply setup.offset setup.common_address) found ≡ Ok r
     → Confirms setup (steps.Pump c m) (Ok r) past
 pump_confirms setup past c m r s None e = absurd cc
 pump_confirms setup past c m r s (Some None) e = absurd cc
 pump_confirms setup past c m r s (Some (Some link)) e =
-    subst (λ (y : Reply). Confirms setup (steps.Pump c m) (Ok y) past) (spent_is (ltb (s.steps + 1) (2 ^ 64) && ltb (s.news + 0) (2 ^ 64)) (pump_reply setup.common_address link) r e)
+    subst (λ (y : Reply). Confirms setup (steps.Pump c m) (Ok y) past) (spent_is (ltb (s.steps + 1) (2 ^ 64) && ltb (s.news + 0) (2 ^ 64)) (pump_reply setup.offset setup.common_address link) r e)
     (pump_none setup past c m link (eqb link.confirmations 0))
 
 confirms : (setup : Setup) (past : List Entry) (step : Step) (r : Reply) (s : State) → outcome setup s step ≡ Ok r → Tied setup past s → Confirms setup step (Ok r) past
@@ -147,11 +147,11 @@ pub first_run : (setup : Setup) → RunTied setup [] (at_first setup)
 first_run setup = record { run = tt; state = refl; tied = first_tied setup; headline = holds setup [] (first_tied setup) (λ c. tt) tt }
 
 pub run_step : (setup : Setup) (past : List Entry) (s new : State) (step : Step) (reply : Result Reply StepFault) → is_point_map setup.rows ≡ true → setup.common_address < 65536
-    → IsSound setup.zone.offset_minutes s → Allowed setup s step reply new → RunTied setup past s → RunTied setup (entry step reply ∷ past) new
+    → IsSound setup.offset s → Allowed setup s step reply new → RunTied setup past s → RunTied setup (entry step reply ∷ past) new
 run_step setup past s new step (Ok r) map_is small sound allowed so_far =
     let before : State = state_after setup past in
     let here : Allowed setup before step (Ok r) new = subst (λ (x : State). Allowed setup x step (Ok r) new) so_far.state allowed in
-    let safe : IsSound setup.zone.offset_minutes before = subst (λ (x : State). IsSound setup.zone.offset_minutes x) so_far.state sound in
+    let safe : IsSound setup.offset before = subst (λ (x : State). IsSound setup.offset x) so_far.state sound in
     let tied : Tied setup (entry step (Ok r) ∷ past) (after setup before step) = step_tied setup past step r before map_is small safe here.0 so_far.tied in
     let last : Confirms setup step (Ok r) past = confirms setup past step r before here.0 so_far.tied in
     record { run = ((here.0, refl), so_far.run); state = here.1; tied = tied; headline = (holds setup (entry step (Ok r) ∷ past) tied (λ c stopped. quiet_step setup past step r before c here.0 so_far.tied stopped) last, so_far.headline) }
@@ -171,7 +171,7 @@ history-push past (x ∷ ss) (y ∷ rs) s r e = history-push (entry x y ∷ past
 
 -- one more step of a run from nothing
 pub run_on : (setup : Setup) (ss : List Step) (rs more : List (Result Reply StepFault)) (i : ℕ) (step : Step) (reply : Result Reply StepFault) (s new : State) → is_point_map setup.rows ≡ true → setup.common_address < 65536
-    → IsSound setup.zone.offset_minutes s → Allowed setup s step reply new → i < length ss → step ≡ get_or ss i step → length rs ≡ i → more ≡ rs ++ reply ∷ []
+    → IsSound setup.offset s → Allowed setup s step reply new → i < length ss → step ≡ get_or ss i step → length rs ≡ i → more ≡ rs ++ reply ∷ []
     → RunTied setup (history [] (take i ss) rs) s → RunTied setup (history [] (take (i + 1) ss) more) new
 run_on setup ss rs more i step reply s new map_is small sound allowed within is len push so_far =
     let front : List Step = take i ss in

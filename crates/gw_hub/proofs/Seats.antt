@@ -4,9 +4,10 @@ use Rattle.std.specs.Prelude.{slice_get}
 use Rattle.std.specs.List.{AllByRecursion}
 use Rattle.std.proofs.Math.ListN.{set}
 use Rattle.std.proofs.lemmas.List.Edits.{map_over_more}
-use Rattle.gw_hub.specs.State.{Link, change}
+use Rattle.gw_picture.specs.Change.{change}
+use Rattle.gw_hub.specs.State.{Link}
 use Rattle.gw_hub.specs.Seats.{Seat, link_of, links_of}
-use Rattle.gw_hub.proofs.Images.{change-past}
+use Rattle.gw_picture.proofs.Lists.{change-past}
 
 pub links-length : (ys : List (Option Seat)) → length (links_of ys) ≡ length ys
 links-length [] = refl

@@ -8,6 +8,8 @@ use Rattle.gw_model.specs.declared.observation.Observation.{Observation}
 use Rattle.gw_model.specs.Rows.{Setup}
 use Rattle.iec_asdu.specs.Spelling.{spelling}
 use Rattle.iec_asdu.proofs.Meant.{meant}
+use Rattle.gw_picture.specs.Log.{picture_of}
+use Rattle.gw_picture.specs.Change.{change}
 use Rattle.gw_hub.specs.declared.apdu.Apdu.{Apdu}
 use Rattle.gw_hub.specs.declared.apdu.Apdu.TheVariants.{U}
 use Rattle.gw_hub.specs.declared.apdu.Signal.TheVariants.{StartAct}
@@ -18,12 +20,12 @@ use Rattle.gw_hub.specs.declared.step.Reply.TheVariants as replies
 use Rattle.gw_hub.specs.declared.step.StepFault.{StepFault}
 use Rattle.gw_hub.specs.declared.step.StepFault.TheVariants.{NoClient, Spent}
 use Rattle.gw_hub.specs.declared.step.Why.TheVariants.{Flooded}
-use Rattle.gw_hub.specs.State.{State, Outstation, Session, Link, change}
+use Rattle.gw_hub.specs.State.{State, Outstation, Session, Link}
 use Rattle.gw_hub.specs.Steps.{framed, begun, frame_reply, pumped, put_out as after_put, tail_of, pump_reply, pump_session, pump_queue, buffer, start_con, i_format, client_outcome, up_outcome, outcome, after}
-use Rattle.gw_hub.specs.History.{Entry, log_of, picture_of, last_after, last_text, begins, ends, is_started, spontaneous}
+use Rattle.gw_hub.specs.History.{Entry, log_of, last_after, last_text, begins, ends, is_started, spontaneous}
 use Rattle.gw_hub.specs.Headline.{link_session}
 use Rattle.gw_hub.specs.Sound.{IsSendable, IsSound}
-use Rattle.gw_hub.proofs.Lists.{change-here, change-there}
+use Rattle.gw_picture.proofs.Lists.{change-here, change-there}
 use Rattle.gw_hub.proofs.Tied.{entry, brought, put_out, ClientTied, OutstationTied, Tied, session_quiet, client_quiet, client_put, client_begin, client_end}
 
 -- ---- small pieces
@@ -40,9 +42,9 @@ outstation_kept o past e (Some (Some x)) same tied = tied ∙ sym same
 
 -- a log to which nothing came
 pub same_log : (setup : Setup) (past : List Entry) (step : Step) (reply : Result Reply StepFault) (s : State) → brought setup past step reply ≡ []
-    → s.picture ≡ picture_of setup.rows (log_of setup.rows past) → s.picture ≡ picture_of setup.rows (log_of setup.rows (entry step reply ∷ past))
+    → s.picture ≡ picture_of setup.rows (log_of setup past) → s.picture ≡ picture_of setup.rows (log_of setup (entry step reply ∷ past))
 same_log setup past step reply s none tied =
-    let log = log_of setup.rows past in
+    let log = log_of setup past in
     tied ∙ sym (ap (λ (xs : List Observation). picture_of setup.rows (log ++ xs)) none ∙ ap (picture_of setup.rows) (append-nil log))
 
 -- ---- a step that leaves all alone
@@ -148,9 +150,9 @@ even : (n : ℕ) → eqb (((2 * n) % 256) % 2) 0 ≡ true
 even n = eq-eqb (((2 * n) % 256) % 2) 0 (omega arith)
 
 -- the I format of a sendable observation means it
-sent : (offset : ℤ) (ns common : ℕ) (x : Observation) → common < 65536 → IsSendable offset x → spontaneous offset (i_format ns (spelling common 3 x)) ≡ x ∷ []
+sent : (offset : ℤ) (ns common : ℕ) (x : Observation) → common < 65536 → IsSendable offset x → spontaneous offset (i_format ns (spelling offset common 3 x)) ≡ x ∷ []
 sent offset ns common x small ok =
-    let asdu : List ℕ = spelling common 3 x in
+    let asdu : List ℕ = spelling offset common 3 x in
     let whole : (4 + length asdu + 2 == length (i_format ns asdu)) ≡ true = eq-eqb (4 + length asdu + 2) (length (i_format ns asdu)) (omega arith) in
     rw (whole, even ns, meant offset common 3 x small ok.width ok.fit) refl
 
@@ -159,35 +161,35 @@ pump_other : (setup : Setup) (past : List Entry) (c m : ℕ) (r : Reply) (k : Op
     → ClientTied setup c past k → ClientTied setup c (entry (steps.Pump c m) (Ok r) ∷ past) k
 pump_other setup past c m r k nothing tied = client_quiet setup c past (steps.Pump c m) (Ok r) k refl refl refl nothing tied
 
-pub to_itself : (setup : Setup) (c m : ℕ) (octets : List ℕ) → put_out setup c (steps.Pump c m) (Ok (replies.Apdu (buffer octets))) ≡ spontaneous setup.zone.offset_minutes octets
+pub to_itself : (setup : Setup) (c m : ℕ) (octets : List ℕ) → put_out setup c (steps.Pump c m) (Ok (replies.Apdu (buffer octets))) ≡ spontaneous setup.offset octets
 to_itself setup c m octets = rw (eq-eqb c c refl, buffered octets) refl
 
 -- a queue after a pump
 pump_queued : (setup : Setup) (past : List Entry) (c m : ℕ) (r : Reply) (link : Link) (queue : List Observation) (dropped : ℕ) → setup.common_address < 65536
-    → AllByRecursion (IsSendable setup.zone.offset_minutes) queue → pump_queue setup.common_address link.next_send queue ≡ r
+    → AllByRecursion (IsSendable setup.offset) queue → pump_queue setup.offset setup.common_address link.next_send queue ≡ r
     → ClientTied setup c past (Some (record { queue = queue; dropped = dropped }))
     → ClientTied setup c (entry (steps.Pump c m) (Ok r) ∷ past) (Some (record { queue = tail_of queue; dropped = dropped }))
 pump_queued setup past c m r link [] dropped small sound e tied =
     subst (λ (x : Reply). ClientTied setup c (entry (steps.Pump c m) (Ok x) ∷ past) (Some (record { queue = []; dropped = dropped }))) e
     (pump_other setup past c m replies.Nothing (Some (record { queue = []; dropped = dropped })) refl tied)
 pump_queued setup past c m r link (x ∷ queue) dropped small sound e tied =
-    let octets : List ℕ = i_format link.next_send (spelling setup.common_address 3 x) in
+    let octets : List ℕ = i_format link.next_send (spelling setup.offset setup.common_address 3 x) in
     let reply : Reply = replies.Apdu (buffer octets) in
-    let put : put_out setup c (steps.Pump c m) (Ok reply) ≡ x ∷ [] = to_itself setup c m octets ∙ sent setup.zone.offset_minutes link.next_send setup.common_address x small sound.0 in
+    let put : put_out setup c (steps.Pump c m) (Ok reply) ≡ x ∷ [] = to_itself setup c m octets ∙ sent setup.offset link.next_send setup.common_address x small sound.0 in
     subst (λ (y : Reply). ClientTied setup c (entry (steps.Pump c m) (Ok y) ∷ past) (Some (record { queue = queue; dropped = dropped }))) e
     (client_put setup c past (steps.Pump c m) (Ok reply) x queue dropped refl refl put tied)
 
 -- the session after a pump where no confirmation waits
 pump_news : (setup : Setup) (past : List Entry) (c m : ℕ) (r : Reply) (link : Link) (k : Option Session) → setup.common_address < 65536
-    → IfSome k (λ x. AllByRecursion (IsSendable setup.zone.offset_minutes) x.queue) → pump_session setup.common_address link.next_send k ≡ r → ClientTied setup c past k
+    → IfSome k (λ x. AllByRecursion (IsSendable setup.offset) x.queue) → pump_session setup.offset setup.common_address link.next_send k ≡ r → ClientTied setup c past k
     → ClientTied setup c (entry (steps.Pump c m) (Ok r) ∷ past) (after_put (record link { session = k }) k).session
 pump_news setup past c m r link None small sound e tied =
     subst (λ (x : Reply). ClientTied setup c (entry (steps.Pump c m) (Ok x) ∷ past) None) e (pump_other setup past c m replies.Nothing None refl tied)
 pump_news setup past c m r link (Some k) small sound e tied = pump_queued setup past c m r link k.queue k.dropped small sound e tied
 
 pump_own : (setup : Setup) (past : List Entry) (c m : ℕ) (r : Reply) (link : Link) (b : Bool) → setup.common_address < 65536
-    → IfSome link.session (λ x. AllByRecursion (IsSendable setup.zone.offset_minutes) x.queue)
-    → cond b (pump_session setup.common_address link.next_send link.session) (replies.Apdu (buffer start_con)) ≡ r → ClientTied setup c past link.session
+    → IfSome link.session (λ x. AllByRecursion (IsSendable setup.offset) x.queue)
+    → cond b (pump_session setup.offset setup.common_address link.next_send link.session) (replies.Apdu (buffer start_con)) ≡ r → ClientTied setup c past link.session
     → ClientTied setup c (entry (steps.Pump c m) (Ok r) ∷ past) (cond b (after_put link link.session) (record link { confirmations = link.confirmations - 1 })).session
 pump_own setup past c m r link true small sound e tied = pump_news setup past c m r link link.session small sound e tied
 pump_own setup past c m r link false small sound e tied =
@@ -204,20 +206,20 @@ pump_apart setup c d m (replies.Closed w) ne = refl
 pump_apart setup c d m replies.Nothing ne = refl
 
 pump_at : (setup : Setup) (past : List Entry) (c m : ℕ) (r : Reply) (s : State) (found : Option (Option Link)) → setup.common_address < 65536
-    → IsSound setup.zone.offset_minutes s → slice_get s.clients c ≡ found → client_outcome s (pump_reply setup.common_address) found ≡ Ok r → Tied setup past s
+    → IsSound setup.offset s → slice_get s.clients c ≡ found → client_outcome s (pump_reply setup.offset setup.common_address) found ≡ Ok r → Tied setup past s
     → Tied setup (entry (steps.Pump c m) (Ok r) ∷ past) (after setup s (steps.Pump c m))
 pump_at setup past c m r s None small sound at e tied = absurd cc
 pump_at setup past c m r s (Some None) small sound at e tied = absurd cc
 pump_at setup past c m r s (Some (Some link)) small sound at e tied =
     let step : Step = steps.Pump c m in
-    let reply : pump_reply setup.common_address link ≡ r = spent_is (ltb (s.steps + 1) (2 ^ 64) && ltb (s.news + 0) (2 ^ 64)) (pump_reply setup.common_address link) r e in
+    let reply : pump_reply setup.offset setup.common_address link ≡ r = spent_is (ltb (s.steps + 1) (2 ^ 64) && ltb (s.news + 0) (2 ^ 64)) (pump_reply setup.offset setup.common_address link) r e in
     let before : ClientTied setup c past link.session = subst (λ (x : Option (Option Link)). ClientTied setup c past (link_session x)) at (tied.clients c) in
-    let safe : IfSome link.session (λ x. AllByRecursion (IsSendable setup.zone.offset_minutes) x.queue) =
-    subst (λ (x : Option (Option Link)). IfSome (link_session x) (λ k. AllByRecursion (IsSendable setup.zone.offset_minutes) k.queue)) at (sound c) in
+    let safe : IfSome link.session (λ x. AllByRecursion (IsSendable setup.offset) x.queue) =
+    subst (λ (x : Option (Option Link)). IfSome (link_session x) (λ k. AllByRecursion (IsSendable setup.offset) k.queue)) at (sound c) in
     let own = pump_own setup past c m r link (eqb link.confirmations 0) small safe reply before in
     one_client setup past step (Ok r) s (s.steps + 1) c pumped refl (λ o last. refl) (λ d ne. refl) (λ d ne. refl) (λ d ne. pump_apart setup c d m r ne) (rw at own) tied
 
-pub pump : (setup : Setup) (past : List Entry) (c m : ℕ) (r : Reply) (s : State) → setup.common_address < 65536 → IsSound setup.zone.offset_minutes s
+pub pump : (setup : Setup) (past : List Entry) (c m : ℕ) (r : Reply) (s : State) → setup.common_address < 65536 → IsSound setup.offset s
     → outcome setup s (steps.Pump c m) ≡ Ok r → Tied setup past s → Tied setup (entry (steps.Pump c m) (Ok r) ∷ past) (after setup s (steps.Pump c m))
 pump setup past c m r s small sound e tied = pump_at setup past c m r s (slice_get s.clients c) small sound refl e tied
 
@@ -249,18 +251,18 @@ outstation_up setup past o m r s tied =
 -- ---- what is put out to a client without a session
 
 quiet_session : (setup : Setup) (past : List Entry) (c m : ℕ) (r : Reply) (link : Link) (k : Option Session) (b : Bool) → ClientTied setup c past k → is_started c past ≡ false
-    → cond b (pump_session setup.common_address link.next_send k) (replies.Apdu (buffer start_con)) ≡ r → put_out setup c (steps.Pump c m) (Ok r) ≡ []
+    → cond b (pump_session setup.offset setup.common_address link.next_send k) (replies.Apdu (buffer start_con)) ≡ r → put_out setup c (steps.Pump c m) (Ok r) ≡ []
 quiet_session setup past c m r link (Some k) b tied stopped e = absurd (true≢false (sym tied.started ∙ stopped))
 quiet_session setup past c m r link None true tied stopped e = subst (λ (x : Reply). put_out setup c (steps.Pump c m) (Ok x) ≡ []) e refl
 quiet_session setup past c m r link None false tied stopped e = subst (λ (x : Reply). put_out setup c (steps.Pump c m) (Ok x) ≡ []) e (to_itself setup c m start_con)
 
 quiet_own : (setup : Setup) (past : List Entry) (c m : ℕ) (r : Reply) (s : State) (found : Option (Option Link)) → ClientTied setup c past (link_session found) → is_started c past ≡ false
-    → client_outcome s (pump_reply setup.common_address) found ≡ Ok r → put_out setup c (steps.Pump c m) (Ok r) ≡ []
+    → client_outcome s (pump_reply setup.offset setup.common_address) found ≡ Ok r → put_out setup c (steps.Pump c m) (Ok r) ≡ []
 quiet_own setup past c m r s None tied stopped e = absurd cc
 quiet_own setup past c m r s (Some None) tied stopped e = absurd cc
 quiet_own setup past c m r s (Some (Some link)) tied stopped e =
     quiet_session setup past c m r link link.session (eqb link.confirmations 0) tied stopped
-    (spent_is (ltb (s.steps + 1) (2 ^ 64) && ltb (s.news + 0) (2 ^ 64)) (pump_reply setup.common_address link) r e)
+    (spent_is (ltb (s.steps + 1) (2 ^ 64) && ltb (s.news + 0) (2 ^ 64)) (pump_reply setup.offset setup.common_address link) r e)
 
 pub quiet_step : (setup : Setup) (past : List Entry) (step : Step) (r : Reply) (s : State) (d : ℕ) → outcome setup s step ≡ Ok r → Tied setup past s → is_started d past ≡ false
     → put_out setup d step (Ok r) ≡ []

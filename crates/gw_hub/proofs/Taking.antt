@@ -6,13 +6,14 @@ use Rattle.std.proofs.lemmas.List.{append-nil, length-append}
 use Rattle.gw_model.specs.declared.observation.Observation.{Observation}
 use Rattle.gw_model.specs.declared.row.Row.{Row}
 use Rattle.gw_model.specs.declared.point.Report.{Report}
-use Rattle.gw_hub.specs.News.{news_of, news_of_report, shown_after, picture_after}
-use Rattle.gw_hub.specs.State.{Session, Link, change}
+use Rattle.gw_picture.specs.Change.{change}
+use Rattle.gw_picture.specs.News.{news_of, news_of_report, shown_after, picture_after}
+use Rattle.gw_picture.proofs.Lists.{map-get}
+use Rattle.gw_hub.specs.State.{Session, Link}
 use Rattle.gw_hub.specs.Steps.{came, came_to_session, framed, pumped, begun, put_out, tail_of}
 use Rattle.gw_hub.specs.Headline.{link_session}
 use Rattle.gw_hub.specs.Seats.{Seat, HasRoom}
 use Rattle.gw_hub.specs.Sound.{IsSendable}
-use Rattle.gw_hub.proofs.Lists.{map-get}
 
 -- ---- news that come one after the other
 
@@ -139,35 +140,35 @@ sound_came offset xs links changed e all sound =
 -- ---- what is left to take
 
 -- n news were taken, and the rest of the reports brings what is left of all
-pub record Left (rows : List Row) (offset : ℤ) (n : ℕ) (picture : List Observation) (rest : List Report) (links : List (Option Link)) (all last : List Observation) (final : List (Option Link)) : Type 0 where
-  pub count : n + length (news_of rows picture rest) ≡ length all
-  pub shown : picture_after rows picture rest ≡ last
-  pub links_left : map (came (news_of rows picture rest)) links ≡ final
-  pub sendable : AllByRecursion (IsSendable offset) (news_of rows picture rest) → AllByRecursion (IsSendable offset) all
+pub record Left (offset : ℤ) (rows : List Row) (n : ℕ) (picture : List Observation) (rest : List Report) (links : List (Option Link)) (all last : List Observation) (final : List (Option Link)) : Type 0 where
+  pub count : n + length (news_of offset rows picture rest) ≡ length all
+  pub shown : picture_after offset rows picture rest ≡ last
+  pub links_left : map (came (news_of offset rows picture rest)) links ≡ final
+  pub sendable : AllByRecursion (IsSendable offset) (news_of offset rows picture rest) → AllByRecursion (IsSendable offset) all
 
-pub left_first : (rows : List Row) (offset : ℤ) (picture : List Observation) (rs : List Report) (links : List (Option Link))
-    → Left rows offset 0 picture rs links (news_of rows picture rs) (picture_after rows picture rs) (map (came (news_of rows picture rs)) links)
-left_first rows offset picture rs links = record { count = omega arith; shown = refl; links_left = refl; sendable = λ all. all }
+pub left_first : (offset : ℤ) (rows : List Row) (picture : List Observation) (rs : List Report) (links : List (Option Link))
+    → Left offset rows 0 picture rs links (news_of offset rows picture rs) (picture_after offset rows picture rs) (map (came (news_of offset rows picture rs)) links)
+left_first offset rows picture rs links = record { count = omega arith; shown = refl; links_left = refl; sendable = λ all. all }
 
-pub left_more : (rows : List Row) (offset : ℤ) (n m : ℕ) (picture new : List Observation) (r : Report) (now rest : List Report) (links changed : List (Option Link)) (all last : List Observation) (final : List (Option Link))
-    → Left rows offset n picture now links all last final → now ≡ r ∷ rest → m ≡ length (news_of_report rows picture r) → new ≡ shown_after rows picture r
-    → changed ≡ map (came (news_of_report rows picture r)) links → AllByRecursion (IsSendable offset) (news_of_report rows picture r)
-    → Left rows offset (n + m) new rest changed all last final
-left_more rows offset n m picture new r now rest links changed all last final left is em en ec sends =
-    let xs : List Observation = news_of_report rows picture r in
-    let ys : List Observation = news_of rows (shown_after rows picture r) rest in
-    let here : Left rows offset n picture (r ∷ rest) links all last final = subst (λ (rs : List Report). Left rows offset n picture rs links all last final) is left in
-    let on : Left rows offset (n + m) (shown_after rows picture r) rest changed all last final = record {
+pub left_more : (offset : ℤ) (rows : List Row) (n m : ℕ) (picture new : List Observation) (r : Report) (now rest : List Report) (links changed : List (Option Link)) (all last : List Observation) (final : List (Option Link))
+    → Left offset rows n picture now links all last final → now ≡ r ∷ rest → m ≡ length (news_of_report offset rows picture r) → new ≡ shown_after offset rows picture r
+    → changed ≡ map (came (news_of_report offset rows picture r)) links → AllByRecursion (IsSendable offset) (news_of_report offset rows picture r)
+    → Left offset rows (n + m) new rest changed all last final
+left_more offset rows n m picture new r now rest links changed all last final left is em en ec sends =
+    let xs : List Observation = news_of_report offset rows picture r in
+    let ys : List Observation = news_of offset rows (shown_after offset rows picture r) rest in
+    let here : Left offset rows n picture (r ∷ rest) links all last final = subst (λ (rs : List Report). Left offset rows n picture rs links all last final) is left in
+    let on : Left offset rows (n + m) (shown_after offset rows picture r) rest changed all last final = record {
       count = omega (arith, here.count, length-append xs ys, em);
       shown = here.shown;
       links_left = ap (map (came ys)) ec ∙ (map_came-twice xs ys links ∙ here.links_left);
       sendable = λ more. here.sendable (all_append offset xs ys sends more);
     } in
-    subst (λ (p : List Observation). Left rows offset (n + m) p rest changed all last final) (sym en) on
+    subst (λ (p : List Observation). Left offset rows (n + m) p rest changed all last final) (sym en) on
 
-pub left_none : (rows : List Row) (offset : ℤ) (n : ℕ) (picture : List Observation) (rest : List Report) (links : List (Option Link)) (all last : List Observation) (final : List (Option Link))
-    → rest ≡ [] → Left rows offset n picture rest links all last final
+pub left_none : (offset : ℤ) (rows : List Row) (n : ℕ) (picture : List Observation) (rest : List Report) (links : List (Option Link)) (all last : List Observation) (final : List (Option Link))
+    → rest ≡ [] → Left offset rows n picture rest links all last final
     → (n ≡ length all) × (picture ≡ last) × (links ≡ final) × AllByRecursion (IsSendable offset) all
-left_none rows offset n picture rest links all last final e left =
-    let here : Left rows offset n picture [] links all last final = subst (λ (rs : List Report). Left rows offset n picture rs links all last final) e left in
+left_none offset rows n picture rest links all last final e left =
+    let here : Left offset rows n picture [] links all last final = subst (λ (rs : List Report). Left offset rows n picture rs links all last final) e left in
     (omega (arith, here.count), here.shown, map_came-nil links ∙ here.links_left, here.sendable tt)

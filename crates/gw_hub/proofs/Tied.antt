@@ -5,12 +5,13 @@ use Rattle.std.proofs.lemmas.Bool.{cases_Bool}
 use Rattle.std.proofs.lemmas.List.{append-nil}
 use Rattle.gw_model.specs.declared.observation.Observation.{Observation}
 use Rattle.gw_model.specs.Rows.{Setup}
+use Rattle.gw_picture.specs.Log.{picture_of}
 use Rattle.gw_hub.specs.declared.step.Step.{Step}
 use Rattle.gw_hub.specs.declared.step.Reply.{Reply}
 use Rattle.gw_hub.specs.declared.step.StepFault.{StepFault}
 use Rattle.gw_hub.specs.State.{State, Outstation, Session}
 use Rattle.gw_hub.specs.Steps.{came_to_session}
-use Rattle.gw_hub.specs.History.{Entry, Happening, Came, Gone, log_of, brings, picture_of, last_text, begins, ends, is_started, put_to, session_of, gone_of}
+use Rattle.gw_hub.specs.History.{Entry, Happening, Came, Gone, log_of, brings, last_text, begins, ends, is_started, put_to, session_of, gone_of}
 use Rattle.gw_hub.specs.Fates.{fates, fates_from}
 use Rattle.gw_hub.specs.Headline.{link_session, TellsNews}
 use Rattle.gw_hub.proofs.FateLemmas.{split, fates_from-append, came_fates, used_up, split-came, kept-split, queued-split, dropped-split, gone_of-append, gone_of-came}
@@ -36,7 +37,7 @@ OutstationTied o past (Some None) = Unit {0}
 OutstationTied o past (Some (Some x)) = x.last ≡ last_text o past
 
 pub record Tied (setup : Setup) (past : List Entry) (s : State) : Type 0 where
-  pub picture : s.picture ≡ picture_of setup.rows (log_of setup.rows past)
+  pub picture : s.picture ≡ picture_of setup.rows (log_of setup past)
   pub outstations : (o : ℕ) → OutstationTied o past (slice_get s.outstations o)
   pub clients : (c : ℕ) → ClientTied setup c past (link_session (slice_get s.clients c))
 
@@ -47,10 +48,10 @@ entry step reply = record { step = step; reply = reply }
 
 -- what a step brings to client c's session, and what it puts out
 abbrev pub brought : Setup → List Entry → Step → Result Reply StepFault → List Observation
-brought setup past step reply = brings setup.rows (log_of setup.rows past) past step reply
+brought setup past step reply = brings setup (log_of setup past) past step reply
 
 abbrev pub put_out : Setup → ℕ → Step → Result Reply StepFault → List Observation
-put_out setup c step reply = put_to setup.zone.offset_minutes c step reply
+put_out setup c step reply = put_to setup.offset c step reply
 
 -- where a session goes on
 goes_on : (setup : Setup) (c : ℕ) (past : List Entry) (step : Step) (reply : Result Reply StepFault) (xs ys : List Observation) → is_started c past ≡ true

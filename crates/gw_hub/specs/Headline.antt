@@ -2,6 +2,7 @@
 -- the observations put out, followed by those queued, are the news since its STARTDT, in order, less those dropped.
 use Rattle.std.specs.Prelude.{◌≡◌, ℕ, true, false, List, [], ◌∷◌, ◌++◌, length, slice_get, is_some, Option, Some, None, Result, Ok, Err, IfSome}
 use Rattle.gw_model.specs.Rows.{Setup}
+use Rattle.gw_picture.specs.Log.{picture_of}
 use Rattle.gw_hub.specs.declared.step.Step.{Step}
 use Rattle.gw_hub.specs.declared.step.Step.TheVariants as steps
 use Rattle.gw_hub.specs.declared.step.Reply.{Reply}
@@ -11,7 +12,7 @@ use Rattle.gw_hub.specs.declared.step.StepFault.{StepFault}
 use Rattle.gw_hub.specs.State.{State, Session, Link, at_first}
 use Rattle.dnp_app.specs.Control.{confirm_of}
 use Rattle.gw_hub.specs.Steps.{Allowed, after}
-use Rattle.gw_hub.specs.History.{Entry, log_of, picture_of, last_text, is_accepted, is_started, put_to, session_of, gone_of}
+use Rattle.gw_hub.specs.History.{Entry, log_of, last_text, is_accepted, is_started, put_to, session_of, gone_of}
 use Rattle.gw_hub.specs.Fates.{fates, items_of, is_queued, is_dropped, is_kept}
 
 -- ---- runs
@@ -64,11 +65,11 @@ ConfirmsLast setup (e ∷ past) = Confirms setup e.step e.reply past
 -- nothing spontaneous is put out to a client without a session
 abbrev pub QuietLast : Setup → ℕ → List Entry → Type 0
 QuietLast setup c [] = Unit {0}
-QuietLast setup c (e ∷ past) = is_started c past ≡ false → put_to setup.zone.offset_minutes c e.step e.reply ≡ []
+QuietLast setup c (e ∷ past) = is_started c past ≡ false → put_to setup.offset c e.step e.reply ≡ []
 
 -- what holds at a place of a run
 pub record Holds (setup : Setup) (past : List Entry) : Type 0 where
-  pub picture : (state_after setup past).picture ≡ picture_of setup.rows (log_of setup.rows past)
+  pub picture : (state_after setup past).picture ≡ picture_of setup.rows (log_of setup past)
   pub sessions : (c : ℕ) → is_started c past ≡ is_some (link_session (slice_get (state_after setup past).clients c))
   pub news : (c : ℕ) → IfSome (link_session (slice_get (state_after setup past).clients c)) (TellsNews setup c past)
   pub quiet : (c : ℕ) → QuietLast setup c past

@@ -1,12 +1,13 @@
--- What a history tells, apart from any state: the log of news, the picture, and what happened in a client's session.
+-- What a history tells, apart from any state: the log of news, and what happened in a client's session.
 -- Histories are newest first.
 use Rattle.std.specs.Prelude.{ℕ, ℤ, ◌+◌, ◌%◌, Bool, true, false, ◌&&◌, not, ◌==◌, List, [], ◌∷◌, ◌++◌, length, map, take, drop, slice_index, Option, Some, None, Result, Ok, if◌then◌else◌}
-use Rattle.gw_model.specs.declared.row.Row.{Row}
 use Rattle.gw_model.specs.declared.observation.Observation.{Observation}
 use Rattle.gw_model.specs.declared.point.Report.{Report}
 use Rattle.gw_model.specs.Rows.{Setup}
 use Rattle.dnp_app.specs.Response.{Fragment}
 use Rattle.iec_asdu.specs.Asdu.{Asdu, asdu_meaning, monitor_types}
+use Rattle.gw_picture.specs.Log.{picture_of}
+use Rattle.gw_picture.specs.News.{news_of_report}
 use Rattle.gw_hub.specs.declared.apdu.Apdu.TheVariants.{U}
 use Rattle.gw_hub.specs.declared.apdu.Signal.TheVariants.{StartAct}
 use Rattle.gw_hub.specs.declared.step.Step.{Step}
@@ -14,8 +15,6 @@ use Rattle.gw_hub.specs.declared.step.Step.TheVariants as steps
 use Rattle.gw_hub.specs.declared.step.Reply.{Reply}
 use Rattle.gw_hub.specs.declared.step.Reply.TheVariants as replies
 use Rattle.gw_hub.specs.declared.step.StepFault.{StepFault}
-use Rattle.gw_hub.specs.State.{opening}
-use Rattle.gw_hub.specs.News.{untimed, news_of_report}
 use Rattle.gw_hub.specs.Steps.{is_unsolicited, is_last}
 
 -- a step, and what it was answered
@@ -28,16 +27,6 @@ abbrev pub history : List Entry → List Step → List (Result Reply StepFault) 
 history past [] rs = past
 history past (s ∷ ss) [] = past
 history past (s ∷ ss) (r ∷ rs) = history (record { step = s; reply = r } ∷ past) ss rs
-
--- ---- the picture of a log
-
--- what the log shows last at an address, or what was shown before
-abbrev pub latest : ℕ → Observation → List Observation → Observation
-latest address shown [] = shown
-latest address shown (x ∷ xs) = latest address (if x.address == address then untimed x else shown) xs
-
-abbrev pub picture_of : List Row → List Observation → List Observation
-picture_of rows log = map (λ row. latest row.address (opening row) log) rows
 
 -- ---- accepted fragments
 
@@ -59,20 +48,20 @@ is_accepted past f = is_unsolicited f && not (is_last (last_text f.outstation pa
 -- ---- the log
 
 -- the news of reports taken in turn after a log
-abbrev pub news_after_log : List Row → List Observation → List Report → List Observation
-news_after_log rows log [] = []
-news_after_log rows log (r ∷ rs) =
-    let xs = news_of_report rows (picture_of rows log) r in xs ++ news_after_log rows (log ++ xs) rs
+abbrev pub news_after_log : Setup → List Observation → List Report → List Observation
+news_after_log setup log [] = []
+news_after_log setup log (r ∷ rs) =
+    let xs = news_of_report setup.offset setup.rows (picture_of setup.rows log) r in xs ++ news_after_log setup (log ++ xs) rs
 
 -- what a step brings to the log
-abbrev pub brings : List Row → List Observation → List Entry → Step → Result Reply StepFault → List Observation
-brings rows log past (steps.Fragment f moment) (Ok r) = if is_accepted past f then news_after_log rows log f.reports else []
-brings rows log past _ _ = []
+abbrev pub brings : Setup → List Observation → List Entry → Step → Result Reply StepFault → List Observation
+brings setup log past (steps.Fragment f moment) (Ok r) = if is_accepted past f then news_after_log setup log f.reports else []
+brings setup log past _ _ = []
 
 -- the news of all steps without a fault, in order
-abbrev pub log_of : List Row → List Entry → List Observation
-log_of rows [] = []
-log_of rows (e ∷ past) = log_of rows past ++ brings rows (log_of rows past) past e.step e.reply
+abbrev pub log_of : Setup → List Entry → List Observation
+log_of setup [] = []
+log_of setup (e ∷ past) = log_of setup past ++ brings setup (log_of setup past) past e.step e.reply
 
 -- ---- a client's session
 
@@ -119,7 +108,7 @@ session_of setup c [] = []
 session_of setup c (e ∷ past) =
     if ends c e.step e.reply then []
     else if is_started c past then session_of setup c past
-    ++ (map Came (brings setup.rows (log_of setup.rows past) past e.step e.reply) ++ map Gone (put_to setup.zone.offset_minutes c e.step e.reply))
+    ++ (map Came (brings setup (log_of setup past) past e.step e.reply) ++ map Gone (put_to setup.offset c e.step e.reply))
     else []
 
 -- the observations that were put out, in order

@@ -1,5 +1,4 @@
 pub mod State
-pub mod News
 pub mod Steps
 pub mod History
 pub mod Fates

@@ -1,5 +1,5 @@
 -- The step relation: what a step answers where memory is never refused, and the state after it, by cases on the step.
-use Rattle.std.specs.Prelude.{◌≡◌, ℕ, ◌+◌, ◌*◌, ◌/◌, ◌%◌, ◌-◌, ◌^◌, Bool, true, false, ◌&&◌, not, ◌==◌, nat_lt, List, [], ◌∷◌, ◌++◌, length, map, replicate, slice_get, slice_index, Option, Some, None, Result, Ok, Err, IsTrue, if◌then◌else◌}
+use Rattle.std.specs.Prelude.{◌≡◌, ℕ, ℤ, ◌+◌, ◌*◌, ◌/◌, ◌%◌, ◌-◌, ◌^◌, Bool, true, false, ◌&&◌, not, ◌==◌, nat_lt, List, [], ◌∷◌, ◌++◌, length, map, replicate, slice_get, slice_index, Option, Some, None, Result, Ok, Err, IsTrue, if◌then◌else◌}
 use Rattle.std.specs.Str.{bytes_eq}
 use Rattle.gw_model.specs.declared.observation.Observation.{Observation}
 use Rattle.gw_model.specs.Rows.{Setup}
@@ -17,8 +17,9 @@ use Rattle.gw_hub.specs.declared.step.Ignored.TheVariants.{NoRequest}
 use Rattle.gw_hub.specs.declared.step.Why.TheVariants.{Flooded}
 use Rattle.gw_hub.specs.declared.step.StepFault.{StepFault}
 use Rattle.gw_hub.specs.declared.step.StepFault.TheVariants.{NoOutstation, NoClient, NotUp, AlreadyUp, Memory, Spent}
-use Rattle.gw_hub.specs.State.{Outstation, Session, Link, State, change}
-use Rattle.gw_hub.specs.News.{news_of, picture_after}
+use Rattle.gw_picture.specs.Change.{change}
+use Rattle.gw_picture.specs.News.{news_of, picture_after}
+use Rattle.gw_hub.specs.State.{Outstation, Session, Link, State}
 
 -- ---- fragments
 
@@ -75,17 +76,17 @@ start_con = 0x68 ∷ 4 ∷ 0x0B ∷ 0 ∷ 0 ∷ 0 ∷ []
 abbrev pub i_format : ℕ → List ℕ → List ℕ
 i_format ns asdu = 0x68 ∷ (4 + length asdu) ∷ ((2 * ns) % 256) ∷ ((2 * ns) / 256) ∷ 0 ∷ 0 ∷ asdu
 
--- what a pump gives: a waiting confirmation, then the oldest news
-abbrev pub pump_queue : ℕ → ℕ → List Observation → Reply
-pump_queue common ns [] = replies.Nothing
-pump_queue common ns (x ∷ xs) = replies.Apdu (buffer (i_format ns (spelling common 3 x)))
+-- what a pump gives, where clocks are offset minutes before UTC: a waiting confirmation, then the oldest news
+abbrev pub pump_queue : ℤ → ℕ → ℕ → List Observation → Reply
+pump_queue offset common ns [] = replies.Nothing
+pump_queue offset common ns (x ∷ xs) = replies.Apdu (buffer (i_format ns (spelling offset common 3 x)))
 
-abbrev pub pump_session : ℕ → ℕ → Option Session → Reply
-pump_session common ns None = replies.Nothing
-pump_session common ns (Some s) = pump_queue common ns s.queue
+abbrev pub pump_session : ℤ → ℕ → ℕ → Option Session → Reply
+pump_session offset common ns None = replies.Nothing
+pump_session offset common ns (Some s) = pump_queue offset common ns s.queue
 
-abbrev pub pump_reply : ℕ → Link → Reply
-pump_reply common link = if link.confirmations == 0 then pump_session common link.next_send link.session else replies.Apdu (buffer start_con)
+abbrev pub pump_reply : ℤ → ℕ → Link → Reply
+pump_reply offset common link = if link.confirmations == 0 then pump_session offset common link.next_send link.session else replies.Apdu (buffer start_con)
 
 abbrev pub tail_of : List Observation → List Observation
 tail_of [] = []
@@ -121,7 +122,7 @@ abbrev pub fragment_outcome : Setup → State → Fragment → Option (Option Ou
 fragment_outcome setup s f None = Err NoOutstation
 fragment_outcome setup s f (Some None) = Err NotUp
 fragment_outcome setup s f (Some (Some o)) =
-    unless_spent s (if accepts o f then length (news_of setup.rows s.picture f.reports) else 0) (replies.Verdict (verdict_of o f))
+    unless_spent s (if accepts o f then length (news_of setup.offset setup.rows s.picture f.reports) else 0) (replies.Verdict (verdict_of o f))
 
 abbrev pub client_outcome : State → (Link → Reply) → Option (Option Link) → Result Reply StepFault
 client_outcome s reply None = Err NoClient
@@ -133,7 +134,7 @@ outcome setup s (steps.OutstationUp o moment) = up_outcome s NoOutstation (slice
 outcome setup s (steps.Fragment f moment) = fragment_outcome setup s f (slice_get s.outstations f.outstation)
 outcome setup s (steps.ClientUp c moment) = up_outcome s NoClient (slice_get s.clients c)
 outcome setup s (steps.Frame c apdu moment) = client_outcome s frame_reply (slice_get s.clients c)
-outcome setup s (steps.Pump c moment) = client_outcome s (pump_reply setup.common_address) (slice_get s.clients c)
+outcome setup s (steps.Pump c moment) = client_outcome s (pump_reply setup.offset setup.common_address) (slice_get s.clients c)
 
 -- ---- the state after a step without a fault
 
@@ -142,10 +143,10 @@ counted s = record s { steps = s.steps + 1 }
 
 abbrev pub taken : Setup → State → Fragment → State
 taken setup s f =
-    let xs = news_of setup.rows s.picture f.reports in
+    let xs = news_of setup.offset setup.rows s.picture f.reports in
     record s {
       outstations = change f.outstation (λ _. Some (record { last = Some f.octets })) s.outstations;
-      picture = picture_after setup.rows s.picture f.reports;
+      picture = picture_after setup.offset setup.rows s.picture f.reports;
       clients = map (came xs) s.clients;
       news = s.news + length xs;
     }

@@ -3,7 +3,8 @@ ghost use Rattle.std.specs.Prelude.{◌≡◌, ◌<◌, ◌≤◌, ◌++◌, len
 ghost use Rattle.iec_asdu.specs.Spelling.{spelling};
 ghost use Rattle.gw_hub.specs.Steps.{buffer, start_con, i_format};
 
-use gw_model::{Observation, Zone};
+use gw_model::Observation;
+use gw_time::Zone;
 use iec_asdu::write_monitor;
 
 /// The cause of transmission of news: spontaneous (IEC 60870-5-101, 7.2.3).
@@ -41,7 +42,7 @@ pub fn start_confirmation() -> ApduBuf
 /// An I format with N(S), N(R) 0, and the ASDU of an observation with cause spontaneous.
 pub fn news_format(ns: u16, common: u16, zone: &Zone, observation: &Observation) -> ApduBuf
     requires { ns < 32768 }
-    ensures { result ≡ buffer (i_format ns (spelling common 3 observation.now)) }
+    ensures { result ≡ buffer (i_format ns (spelling zone.now.offset_minutes common 3 observation.now)) }
 {
     let mut asdu = [0; 249];
     let written = write_monitor(&[*observation], common, SPONTANEOUS, zone, &mut asdu);

@@ -1,13 +1,14 @@
 //! All clients, by their position.
 ghost use Rattle.std.specs.Prelude.{◌≡◌, ◌≤◌, ◌+◌, ℕ, [], ◌∷◌, map, Option, Some, None, OnOk, slice_get};
 ghost use Rattle.std.specs.List.{AllByRecursion};
-ghost use Rattle.gw_hub.specs.State.{change};
+ghost use Rattle.gw_picture.specs.Change.{change};
 ghost use Rattle.gw_hub.specs.Steps.{came, framed, frame_reply, pump_reply, pumped};
 ghost use Rattle.gw_hub.specs.Seats.{dropped_at, link_of, links_of, presence, queued_at, reply_at, reply_of, HasRoom};
 
 use crate::connection::Connection;
 use crate::step::{Reply, Why};
-use gw_model::{Memory, Observation, Zone};
+use gw_model::{Memory, Observation};
+use gw_time::Zone;
 use std::alloc::Global;
 use std::marker::Model;
 
@@ -77,7 +78,7 @@ impl Clients {
 
     /// The next APDU for a client.
     pub fn pump(&mut self, client: u8, common: u16, zone: &Zone) -> Reply
-        ensures reply { result ≡ reply_at (pump_reply common) (slice_get (links_of self.old) client) }
+        ensures reply { result ≡ reply_at (pump_reply zone.now.offset_minutes common) (slice_get (links_of self.old) client) }
         ensures links { links_of self.new ≡ change client pumped (links_of self.old) }
     {
         pump_at(&mut self.connections, client, common, zone)
@@ -167,7 +168,7 @@ fn start_at(connections: &mut [Option<Connection>], alloc: Global, client: u8) -
 
 /// The next APDU for one client.
 fn pump_one(slot: &mut Option<Connection>, common: u16, zone: &Zone) -> Reply
-    ensures reply { result ≡ reply_of (pump_reply common) (link_of slot.old) }
+    ensures reply { result ≡ reply_of (pump_reply zone.now.offset_minutes common) (link_of slot.old) }
     ensures link { link_of slot.new ≡ pumped (link_of slot.old) }
 {
     match slot {
@@ -180,7 +181,7 @@ fn pump_one(slot: &mut Option<Connection>, common: u16, zone: &Zone) -> Reply
 }
 
 fn pump_at(connections: &mut [Option<Connection>], client: u8, common: u16, zone: &Zone) -> Reply
-    ensures reply { result ≡ reply_at (pump_reply common) (slice_get (links_of connections.old) client) }
+    ensures reply { result ≡ reply_at (pump_reply zone.now.offset_minutes common) (slice_get (links_of connections.old) client) }
     ensures links { links_of connections.new ≡ change client pumped (links_of connections.old) }
 {
     let position = usize::from(client);

@@ -4,7 +4,8 @@ ghost use Rattle.gw_hub.specs.Steps.{came, framed, frame_reply, pump_reply, pump
 ghost use Rattle.gw_hub.specs.Seats.{dropped_in, given, queued_in, HasRoom};
 
 use crate::apdu::{ApduBuf, news_format, start_confirmation};
-use gw_model::{Memory, Observation, Zone};
+use gw_model::{Memory, Observation};
+use gw_time::Zone;
 use std::alloc::Global;
 use std::collections::VecDeque;
 use std::marker::Model;
@@ -108,7 +109,7 @@ impl Connection {
 
     /// The next APDU for the client: a confirmation that waits, then the oldest news.
     pub fn pump(&mut self, common: u16, zone: &Zone) -> Option<ApduBuf>
-        ensures reply { given result ≡ pump_reply common self.old.link }
+        ensures reply { given result ≡ pump_reply zone.now.offset_minutes common self.old.link }
         ensures link { Some self.new.link ≡ pumped (Some self.old.link) }
     {
         if self.confirmations > 0 {

@@ -1,8 +1,8 @@
 //! The core as one machine.
 ghost use Rattle.std.specs.Prelude.{◌≡◌, ◌<◌, ◌+◌, ℕ, [], length, map, true, false, IfOk, IfErr, IsTrue, OnOk, OnErr, slice_get};
 ghost use Rattle.std.specs.List.{AllByRecursion};
+ghost use Rattle.gw_picture.specs.News.{news_of, news_of_report, picture_after, shown_after};
 ghost use Rattle.gw_hub.specs.State.{at_first};
-ghost use Rattle.gw_hub.specs.News.{news_of, news_of_report, picture_after, shown_after};
 ghost use Rattle.gw_hub.specs.Steps.{Allowed, came, can_rise, counted, taken};
 ghost use Rattle.gw_hub.specs.Seats.{connected_at, dropped_at, links_of, queued_at, HasRoom, IsTakingFault};
 ghost use Rattle.gw_hub.specs.Sound.{IsSendable, IsSound};
@@ -15,10 +15,11 @@ ghost use Rattle.gw_hub.specs.declared.step.StepFault.TheVariants.{Spent};
 use crate::apdu::{Apdu, Signal};
 use crate::clients::Clients;
 use crate::outstations::Outstations;
-use crate::picture::Picture;
 use crate::step::{Reply, Step, StepFault};
 use dnp_app::Response;
 use gw_model::{Memory, Observation, Report, Settings};
+use gw_picture::Picture;
+use gw_time::Zone;
 use std::alloc::Global;
 use std::marker::Model;
 
@@ -47,7 +48,7 @@ impl Model for Hub {
       state = record { outstations = h.outstations; picture = h.picture; clients = links_of h.clients; steps = h.steps; news = h.news };
     } };
 
-    ghost invariant = { λ h. IsSound h.settings.zone.offset_minutes (record { outstations = h.outstations; picture = h.picture; clients = links_of h.clients; steps = h.steps; news = h.news }) };
+    ghost invariant = { λ h. IsSound h.settings.offset (record { outstations = h.outstations; picture = h.picture; clients = links_of h.clients; steps = h.steps; news = h.news }) };
 }
 
 impl Hub {
@@ -120,7 +121,7 @@ impl Hub {
         ensures step { Allowed self.old.setup self.old.state step.now result self.new.state }
         ensures setup { self.new.setup ≡ self.old.setup }
         // Each observation that is queued can be sent.
-        ensures sound { IsSound self.old.setup.zone.offset_minutes self.old.state }
+        ensures sound { IsSound self.old.setup.offset self.old.state }
     {
         let _ = &self.clients;
         match step {
@@ -145,7 +146,7 @@ impl Hub {
 
     /// Whether the counts can rise by a step, and by the news that these reports would be.
     fn can_rise(&self, reports: &[Report]) -> bool
-        ensures { result ≡ can_rise self.now.state (length (news_of self.now.setup.rows self.now.state.picture reports.now)) }
+        ensures { result ≡ can_rise self.now.state (length (news_of self.now.setup.offset self.now.setup.rows self.now.state.picture reports.now)) }
     {
         if self.steps == u64::MAX {
             return false;
@@ -153,7 +154,8 @@ impl Hub {
         match self.news.checked_add(reports.len() as u64) {
             Some(_) => true,
             None => {
-                let news = self.picture.news(&self.settings, reports);
+                let zone = Zone::of(&self.settings);
+                let news = self.picture.news(reports, &self.settings, &zone);
                 self.news.checked_add(news).is_some()
             }
         }
@@ -192,8 +194,8 @@ impl Hub {
 
     /// Takes an accepted response. All room is made before anything changes.
     fn accept(&mut self, response: &Response) -> Result<(), StepFault>
-        ensures ok { OnOk result ((can_rise self.old.state (length (news_of self.old.setup.rows self.old.state.picture response.now.reports)) ≡ true) × (self.new.state ≡ counted (taken self.old.setup self.old.state response.now))) }
-        ensures err { IfErr result (λ fault. IsTakingFault (can_rise self.old.state (length (news_of self.old.setup.rows self.old.state.picture response.now.reports))) fault) }
+        ensures ok { OnOk result ((can_rise self.old.state (length (news_of self.old.setup.offset self.old.setup.rows self.old.state.picture response.now.reports)) ≡ true) × (self.new.state ≡ counted (taken self.old.setup self.old.state response.now))) }
+        ensures err { IfErr result (λ fault. IsTakingFault (can_rise self.old.state (length (news_of self.old.setup.offset self.old.setup.rows self.old.state.picture response.now.reports))) fault) }
         ensures same { OnErr result (self.new.state ≡ self.old.state) }
         ensures setup { self.new.setup ≡ self.old.setup }
     {
@@ -262,7 +264,7 @@ impl Hub {
         self.connected(client)?;
         self.count()?;
         let common = self.settings.common_address();
-        Ok(self.clients.pump(client, common, &self.settings.zone()))
+        Ok(self.clients.pump(client, common, &Zone::of(&self.settings)))
     }
 }
 
@@ -274,13 +276,13 @@ fn take_report(
     report: &Report,
 ) -> u64
     requires { AllByRecursion (HasRoom 1) clients.old }
-    ensures count { result ≡ length (news_of_report settings.now.rows picture.old report.now) }
-    ensures picture { picture.new ≡ shown_after settings.now.rows picture.old report.now }
-    ensures links { links_of clients.new ≡ map (came (news_of_report settings.now.rows picture.old report.now)) (links_of clients.old) }
+    ensures count { result ≡ length (news_of_report settings.now.offset settings.now.rows picture.old report.now) }
+    ensures picture { picture.new ≡ shown_after settings.now.offset settings.now.rows picture.old report.now }
+    ensures links { links_of clients.new ≡ map (came (news_of_report settings.now.offset settings.now.rows picture.old report.now)) (links_of clients.old) }
     ensures room { (n : ℕ) → AllByRecursion (HasRoom (n + 1)) clients.old → AllByRecursion (HasRoom n) clients.new }
-    ensures sendable { AllByRecursion (IsSendable settings.now.zone.offset_minutes) (news_of_report settings.now.rows picture.old report.now) }
+    ensures sendable { AllByRecursion (IsSendable settings.now.offset) (news_of_report settings.now.offset settings.now.rows picture.old report.now) }
 {
-    match picture.take(settings, report) {
+    match picture.take(report, settings, &Zone::of(settings)) {
         None => 0,
         Some(image) => {
             clients.put(image);
@@ -297,10 +299,10 @@ fn take_reports(
     reports: &[Report],
 ) -> u64
     requires { AllByRecursion (HasRoom (length reports.now)) clients.old }
-    ensures count { result ≡ length (news_of settings.now.rows picture.old reports.now) }
-    ensures picture { picture.new ≡ picture_after settings.now.rows picture.old reports.now }
-    ensures links { links_of clients.new ≡ map (came (news_of settings.now.rows picture.old reports.now)) (links_of clients.old) }
-    ensures sendable { AllByRecursion (IsSendable settings.now.zone.offset_minutes) (news_of settings.now.rows picture.old reports.now) }
+    ensures count { result ≡ length (news_of settings.now.offset settings.now.rows picture.old reports.now) }
+    ensures picture { picture.new ≡ picture_after settings.now.offset settings.now.rows picture.old reports.now }
+    ensures links { links_of clients.new ≡ map (came (news_of settings.now.offset settings.now.rows picture.old reports.now)) (links_of clients.old) }
+    ensures sendable { AllByRecursion (IsSendable settings.now.offset) (news_of settings.now.offset settings.now.rows picture.old reports.now) }
 {
     let mut news = 0;
     for report in reports {

@@ -10,14 +10,12 @@ mod examples;
 mod hub;
 mod law;
 mod outstations;
-mod picture;
 mod step;
 
 pub use apdu::{Apdu, ApduBuf, Signal, news_format, start_confirmation};
 pub use examples::steps_by_example;
 pub use hub::Hub;
 pub use law::runs_tell_news;
-pub use picture::Picture;
 pub use step::{Ignored, Reply, Step, StepFault, Verdict, Why};
 
 #[cfg(test)]

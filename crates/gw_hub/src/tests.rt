@@ -1,12 +1,22 @@
 ghost use Rattle.std.specs.Prelude.{◌≤◌, length};
 
 use crate::{
-    Apdu, Hub, Ignored, Picture, Reply, Signal, Step, StepFault, Verdict, news_format,
-    start_confirmation,
+    Apdu, Hub, Ignored, Reply, Signal, Step, StepFault, Verdict, news_format, start_confirmation,
 };
 use dnp_app::read_response;
-use gw_model::{Kind, Memory, Observation, PointKey, Quality, Raw, Report, Settings, Stamp, Value};
+use gw_model::{Observation, Quality, Settings, Stamp, Value};
+use gw_time::Zone;
 use std::test::Fail;
+
+/// What is shown of a row, without a time.
+fn shown(address: u32, value: Value, quality: Quality) -> Observation {
+    Observation {
+        address,
+        value,
+        quality,
+        stamp: Stamp::Untimed,
+    }
+}
 
 /// Input 5, shown as on.
 const ON: Observation = Observation {
@@ -16,41 +26,17 @@ const ON: Observation = Observation {
     stamp: Stamp::Untimed,
 };
 
-/// A report of input 5 of outstation 0, online.
-fn input_5(on: bool, event: bool) -> Report {
-    Report {
-        key: PointKey {
-            outstation: 0,
-            kind: Kind::Binary,
-            index: 5,
-        },
-        raw: Raw::Bit(on),
-        flags: if on { 0x81 } else { 0x01 },
-        stamp: Stamp::Untimed,
-        event,
-    }
-}
+/// A quality without any other bit than IV.
+const INVALID: Quality = Quality {
+    iv: true,
+    ..Quality::GOOD
+};
 
-#[test]
-fn a_picture_tells_changes_and_events(rt: HostRuntime) -> Result<(), Memory> {
-    let settings = Settings::built_in();
-    let mut picture = Picture::new(rt.alloc(), &settings)?;
-    let rows = [
-        (input_5(false, false), true),
-        (input_5(false, false), false),
-        (input_5(true, false), true),
-        (input_5(true, true), true),
-        (input_5(true, false), false),
-    ];
-    for (report, news) in rows {
-        assert_eq!(rt;
-            picture.take(&settings, &report).is_some(),
-            news,
-            "at {report:?}"
-        );
-    }
-    Ok(())
-}
+/// The quality of a point of which nothing was reported.
+const UNKNOWN: Quality = Quality {
+    nt: true,
+    ..INVALID
+};
 
 #[test]
 fn apdus(rt: HostRuntime) -> Result<(), Fail> {
@@ -58,7 +44,7 @@ fn apdus(rt: HostRuntime) -> Result<(), Fail> {
     assert_eq!(rt; con.len, 6);
     assert_eq!(rt; &con.octets[..6], [0x68, 4, 0x0B, 0, 0, 0].as_slice());
     let settings = Settings::built_in();
-    let apdu = news_format(2, 1, &settings.zone(), &ON);
+    let apdu = news_format(2, 1, &Zone::of(&settings), &ON);
     assert_eq!(rt; apdu.len, 16);
     let want = [
         0x68, 0x0E, 0x04, 0, 0, 0, 1, 1, 3, 0, 1, 0, 0x05, 0x10, 0, 0x01,
@@ -69,6 +55,9 @@ fn apdus(rt: HostRuntime) -> Result<(), Fail> {
 
 /// An unsolicited response that asks for a confirmation: input 5 is on.
 const EVENT: [u8; 10] = [0xF0, 0x82, 0, 0, 2, 1, 0x17, 1, 5, 0x81];
+
+/// An unsolicited response that asks for a confirmation: analog input 0 is 7, static.
+const READING: [u8; 12] = [0xF1, 0x82, 0, 0, 0x1E, 2, 0x17, 1, 0, 1, 7, 0];
 
 fn fragment(rt: &HostRuntime, octets: &[u8]) -> Result<Step, Fail>
     requires { length octets.now ≤ 2048 }
@@ -125,7 +114,12 @@ fn a_hub_takes_an_event_once(rt: HostRuntime) -> Result<(), Fail> {
         Ok(Reply::Verdict(Verdict::Repeated { confirm }))
     );
     assert_eq!(rt; (hub.queued(0), hub.dropped(0)), (1, 0));
-    assert_eq!(rt; hub.picture(), [ON].as_slice());
+    let picture = [
+        ON,
+        shown(4201, Value::Scaled(0), UNKNOWN),
+        shown(4301, Value::Total(0), INVALID),
+    ];
+    assert_eq!(rt; hub.picture(), picture.as_slice());
     let solicited = fragment(&rt, &[0xC0, 0x81, 0, 0])?;
     let ignored = Reply::Verdict(Verdict::Ignored(Ignored::NoRequest));
     assert_eq!(rt; hub.step(&solicited), Ok(ignored));
@@ -150,7 +144,7 @@ fn a_run_replies_to_each_step(rt: HostRuntime) -> Result<(), Fail> {
     })?;
     let (hub, replies) = Hub::run(rt.alloc(), Settings::built_in(), steps)?;
     let settings = Settings::built_in();
-    let news = news_format(0, settings.common_address(), &settings.zone(), &ON);
+    let news = news_format(0, settings.common_address(), &Zone::of(&settings), &ON);
     let want = [
         Ok(Reply::Done),
         Ok(Reply::Taken),
@@ -169,15 +163,27 @@ fn a_run_replies_to_each_step(rt: HostRuntime) -> Result<(), Fail> {
 }
 
 #[test]
-fn news_are_counted_as_they_would_be_taken(rt: HostRuntime) -> Result<(), Fail> {
-    let settings = Settings::built_in();
-    let picture = Picture::new(rt.alloc(), &settings)?;
-    let reports = [
-        input_5(true, false),
-        input_5(true, false),
-        input_5(true, true),
-        input_5(false, false),
+fn a_static_change_is_put_out(rt: HostRuntime) -> Result<(), Fail> {
+    let mut hub = Hub::new(rt.alloc(), Settings::built_in())?;
+    for step in &begun(&rt)? {
+        assert!(rt; hub.step(step).is_ok());
+    }
+    let confirm = Some([0xD1, 0]);
+    assert_eq!(rt;
+        hub.step(&fragment(&rt, &READING)?),
+        Ok(Reply::Verdict(Verdict::Accepted { confirm }))
+    );
+    let pump = Step::Pump {
+        client: 0,
+        moment: 0,
+    };
+    let want = [
+        0x68, 0x10, 0, 0, 0, 0, 0x0B, 1, 3, 0, 1, 0, 0x69, 0x10, 0, 7, 0, 0,
     ];
-    assert_eq!(rt; picture.news(&settings, &reports), 3);
+    match hub.step(&pump) {
+        Ok(Reply::Apdu(apdu)) => assert_eq!(rt; &apdu.octets[..18], want.as_slice()),
+        reply => assert_eq!(rt; reply, Ok(Reply::Done)),
+    }
+    assert_eq!(rt; hub.step(&pump), Ok(Reply::Nothing));
     Ok(())
 }

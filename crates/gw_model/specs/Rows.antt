@@ -1,14 +1,13 @@
 -- The settings as the other parts see them, and the look-up of a row.
-use Rattle.std.specs.Prelude.{ℕ, ◌+◌, Bool, true, not, ◌&&◌, ◌==◌, List, [], ◌∷◌, Option, Some, None, if◌then◌else◌}
+use Rattle.std.specs.Prelude.{ℕ, ℤ, ◌+◌, Bool, true, not, ◌&&◌, ◌==◌, List, [], ◌∷◌, Option, Some, None, if◌then◌else◌}
 use Rattle.gw_model.specs.declared.point.PointKey.{PointKey}
 use Rattle.gw_model.specs.declared.row.Row.{Row}
-use Rattle.gw_model.specs.declared.zone.Zone.{Zone}
 use Rattle.gw_model.specs.Keys.{same_key}
 
--- the station's common address and zone, and the rows of the point map in order
+-- the station's common address, how many minutes its clocks are before UTC, and the rows of the point map in order
 pub record Setup : Type 0 where
   pub common_address : ℕ
-  pub zone : Zone
+  pub offset : ℤ
   pub rows : List Row
 
 -- the first row for a key, with its position

@@ -10,7 +10,6 @@ mod point;
 mod poll;
 mod row;
 mod settings;
-mod zone;
 
 pub use control::{Act, Ended, Intent, Order, Shape};
 pub use element::Element;
@@ -20,4 +19,3 @@ pub use point::{Kind, PointKey, Raw, Report, Stamp};
 pub use poll::Poll;
 pub use row::{Row, Show};
 pub use settings::Settings;
-pub use zone::Zone;

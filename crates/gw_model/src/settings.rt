@@ -1,53 +1,68 @@
 //! The settings that the gateway runs with.
-ghost use Rattle.std.specs.Prelude.{◌≡◌, ◌<◌, IsTrue, pos, map, [], ◌∷◌};
+ghost use Rattle.std.specs.Prelude.{◌≡◌, ◌<◌, IsTrue, pos, negsuc, ◌≤ℤ◌, map, [], ◌∷◌};
 ghost use Rattle.std.specs.Option.{option_map};
 ghost use Rattle.gw_model.specs.Rows.{row_from, is_point_map};
 
 use crate::point::{Kind, PointKey};
 use crate::row::{Row, Show};
-use crate::zone::Zone;
 use std::marker::Model;
 
 /// The station, and the rows of the point map in order.
 #[derive(Debug, Drop)]
 pub struct Settings {
     common_address: u16,
-    zone: Zone,
-    rows: [Row; 1],
+    offset_minutes: i16,
+    rows: [Row; 3],
 }
 
 impl Model for Settings {
-    ghost use Rattle.std.specs.Prelude.{◌<◌, IsTrue};
+    ghost use Rattle.std.specs.Prelude.{◌<◌, IsTrue, pos, negsuc, ◌≤ℤ◌};
     ghost use Rattle.gw_model.specs.Rows.{Setup, is_point_map};
 
     ghost Value = { Setup };
 
-    ghost view = { λ s. record { common_address = s.common_address; zone = s.zone; rows = s.rows } };
+    ghost view = { λ s. record { common_address = s.common_address; offset = s.offset_minutes; rows = s.rows } };
 
-    ghost invariant = { λ s. IsTrue (is_point_map s.rows) × (s.common_address < 65536) };
+    ghost invariant = { λ s. IsTrue (is_point_map s.rows) × (s.common_address < 65536) × (negsuc 839 ≤ℤ s.offset_minutes) × (s.offset_minutes ≤ℤ pos 840) };
 }
 
 impl Settings {
-    /// One outstation with one point: binary input 5, shown as single-point 4101 by station 1.
+    /// One outstation with three points, which station 1 shows: binary input 5 as single-point 4101, analog
+    /// input 0 as scaled value 4201, and counter 0 as integrated total 4301. Its clocks show UTC.
     pub fn built_in() -> Settings
-        ensures station { (result.common_address ≡ 1) × (result.zone.offset_minutes ≡ pos 0) }
-        ensures keys { map (λ row. row.key) result.rows ≡ record { outstation = 0; kind = Kind.Binary; index = 5 } ∷ [] }
-        ensures addresses { map (λ row. row.address) result.rows ≡ 4101 ∷ [] }
-        ensures shown { map (λ row. row.show) result.rows ≡ Show.Single ∷ [] }
+        ensures station { (result.common_address ≡ 1) × (result.offset ≡ pos 0) }
+        ensures keys { map (λ row. row.key) result.rows
+            ≡ record { outstation = 0; kind = Kind.Binary; index = 5 }
+            ∷ record { outstation = 0; kind = Kind.Analog; index = 0 }
+            ∷ record { outstation = 0; kind = Kind.Counter; index = 0 } ∷ [] }
+        ensures addresses { map (λ row. row.address) result.rows ≡ 4101 ∷ 4201 ∷ 4301 ∷ [] }
+        ensures shown { map (λ row. row.show) result.rows ≡ Show.Single ∷ Show.Scaled ∷ Show.Total ∷ [] }
     {
-        let key = PointKey {
+        let key = |kind, index| PointKey {
             outstation: 0,
-            kind: Kind::Binary,
-            index: 5,
+            kind,
+            index,
         };
         Settings {
             common_address: 1,
-            zone: Zone::UTC,
-            rows: [Row {
-                key,
-                address: 4101,
-                show: Show::Single,
-            }],
+            offset_minutes: 0,
+            rows: [
+                Row {
+                    key: key(Kind::Binary, 5),
+                    address: 4101,
+                    show: Show::Single,
+                },
+                Row {
+                    key: key(Kind::Analog, 0),
+                    address: 4201,
+                    show: Show::Scaled,
+                },
+                Row {
+                    key: key(Kind::Counter, 0),
+                    address: 4301,
+                    show: Show::Total,
+                },
+            ],
         }
     }
 
@@ -58,11 +73,13 @@ impl Settings {
         self.common_address
     }
 
-    /// The offset of the station's civil time.
-    pub fn zone(&self) -> Zone
-        ensures { result ≡ self.now.zone }
+    /// How many minutes the clocks of the station are before UTC, from -840 to 840.
+    pub fn offset_minutes(&self) -> i16
+        ensures value { result ≡ self.now.offset }
+        ensures from { negsuc 839 ≤ℤ self.now.offset }
+        ensures to { self.now.offset ≤ℤ pos 840 }
     {
-        self.zone
+        self.offset_minutes
     }
 
     /// The rows of the point map, in order. No two have one key or one address; and the common address

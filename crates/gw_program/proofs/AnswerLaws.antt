@@ -6,7 +6,9 @@ use Rattle.std.proofs.lemmas.List.Elements.{All-head, All-tail}
 use Rattle.std.specs.List.{list_all}
 use Rattle.gw_model.specs.Rows.{Setup}
 use Rattle.gw_program.specs.Hex.{octets_of, at_most_2048}
-use Rattle.gw_program.specs.Answers.{AreAnswers, IsAnswer, has_objects, may_have_objects, is_accepted, is_empty, line_text, lines_of, onto_first}
+use Rattle.gw_model.specs.declared.observation.Observation.{Observation}
+use Rattle.gw_program.specs.Answers.{AreAnswers, IsAnswer, has_objects, may_have_objects, is_accepted, is_empty, line_text, line_reports, lines_of, octets_reports, onto_first, shown_then}
+use Rattle.gw_program.specs.Translation.{shown_in}
 use Rattle.gw_program.proofs.HexLaws.{too_long}
 
 -- ---- the lines of octets before others
@@ -65,9 +67,17 @@ is_accepted-same : (a b : List ℕ) → SameLine a b → is_accepted a ≡ is_ac
 unfolding is_accepted
 is_accepted-same a b same = rw (same.empty, same.octets) refl
 
-line_text-same : (setup : Setup) (a b : List ℕ) → SameLine a b → line_text setup a ≡ line_text setup b
+line_text-same : (setup : Setup) (picture : List Observation) (a b : List ℕ) → SameLine a b → line_text setup picture a ≡ line_text setup picture b
 unfolding line_text
-line_text-same setup a b same = rw (same.empty, same.octets) refl
+line_text-same setup picture a b same = rw (same.empty, same.octets) refl
+
+line_reports-same : (a b : List ℕ) → SameLine a b → line_reports a ≡ line_reports b
+unfolding line_reports
+line_reports-same a b same = ap octets_reports same.octets
+
+shown_then-same : (setup : Setup) (picture : List Observation) (a b : List ℕ) (lacks : Bool) → SameLine a b → shown_then setup picture a lacks ≡ shown_then setup picture b lacks
+shown_then-same setup picture a b true same = refl
+shown_then-same setup picture a b false same = ap (shown_in setup picture) (line_reports-same a b same)
 
 some_is_not_empty : (line : List ℕ) → 0 < length line → is_empty line ≡ false
 some_is_not_empty [] some = absurd (omega arith)
@@ -104,14 +114,27 @@ has_objects-same : (a b : List ℕ) → SameLine a b → has_objects a ≡ has_o
 unfolding has_objects
 has_objects-same a b same = ap may_have_objects same.octets
 
-IsAnswer-same : (setup : Setup) (a b : List ℕ) (lacks : Bool) (text : List ℕ) → SameLine a b → IsAnswer setup a lacks text → IsAnswer setup b lacks text
-IsAnswer-same setup a b false text same answered = answered ∙ line_text-same setup a b same
-IsAnswer-same setup a b true text same memory = (sym (has_objects-same a b same) ∙ memory.0, memory.1)
+IsAnswer-same : (setup : Setup) (picture : List Observation) (a b : List ℕ) (lacks : Bool) (text : List ℕ) → SameLine a b → IsAnswer setup picture a lacks text → IsAnswer setup picture b lacks text
+IsAnswer-same setup picture a b false text same answered = answered ∙ line_text-same setup picture a b same
+IsAnswer-same setup picture a b true text same memory = (sym (has_objects-same a b same) ∙ memory.0, memory.1)
 
-pub AreAnswers-kept : (setup : Setup) (lacks : Bool) (text line : List ℕ) (lines : List (List ℕ)) → AreAnswers setup (onto_first (take 6144 line) lines) lacks text → AreAnswers setup (onto_first line lines) lacks text
+-- the same line before others
+first-same : (setup : Setup) (picture : List Observation) (a b : List ℕ) (lines : List (List ℕ)) (lacks : Bool) (text : List ℕ) → SameLine a b → AreAnswers setup picture (a ∷ lines) lacks text → AreAnswers setup picture (b ∷ lines) lacks text
+first-same setup picture a b lines lacks text same h = (
+  h.0,
+  h.1,
+  h.2,
+  h.3,
+  h.4,
+  h.5,
+  IsAnswer-same setup picture a b h.0 h.2 same h.6,
+  subst (λ (shown : List Observation). AreAnswers setup shown lines h.1 h.3) (shown_then-same setup picture a b h.0 same) h.7,
+)
+
+pub AreAnswers-kept : (setup : Setup) (picture : List Observation) (lacks : Bool) (text line : List ℕ) (lines : List (List ℕ)) → AreAnswers setup picture (onto_first (take 6144 line) lines) lacks text → AreAnswers setup picture (onto_first line lines) lacks text
 unfolding onto_first
-AreAnswers-kept setup lacks text line [] h = (h.0, h.1, h.2, h.3, h.4, h.5, IsAnswer-same setup (take 6144 line) line h.0 h.2 (kept_line line) h.6, h.7)
-AreAnswers-kept setup lacks text line (next ∷ lines) h = (h.0, h.1, h.2, h.3, h.4, h.5, IsAnswer-same setup (take 6144 line ++ next) (line ++ next) h.0 h.2 (kept_front line next) h.6, h.7)
+AreAnswers-kept setup picture lacks text line [] h = first-same setup picture (take 6144 line) line [] lacks text (kept_line line) h
+AreAnswers-kept setup picture lacks text line (next ∷ lines) h = first-same setup picture (take 6144 line ++ next) (line ++ next) lines lacks text (kept_front line next) h
 
 -- ---- what is still to be answered after a read, and what was before it
 

@@ -6,3 +6,4 @@ pub mod StepLaws
 pub mod DecisionLaws
 pub mod PositionLaws
 pub mod Receiving
+pub mod Responding

@@ -2,10 +2,12 @@
 use Rattle.std.proofs.Common.{◌≡◌, ◌≢◌, ℕ, Bool, true, false, cond, ◌&&◌, ◌||◌, List, [], ◌∷◌, ◌++◌, Option, Some, None, IfSome, refl, sym, ap, ◌∙◌, subst, append_assoc, append-nil}
 use Rattle.std.proofs.lemmas.Bool.{false≢true, true≢false}
 use Rattle.std.proofs.KnownBytes.{Appends-nil, Appends-trans}
-use Rattle.std.specs.List.{flat_map, list_all}
+use Rattle.std.specs.List.{list_all}
 use Rattle.std.specs.Io.KnownBytes.{Appends}
 use Rattle.gw_model.specs.Rows.{Setup}
-use Rattle.gw_program.specs.Answers.{AreAnswers, IsAnswer, is_accepted, line_text, lines_of, onto_first, text_of}
+use Rattle.gw_model.specs.declared.observation.Observation.{Observation}
+use Rattle.gw_program.specs.Translation.{Standing, standing}
+use Rattle.gw_program.specs.Answers.{AreAnswers, IsAnswer, is_accepted, line_text, lines_of, onto_first, shown_after_line, shown_at_first, shown_then, text_from, text_of}
 use Rattle.gw_program.specs.Reading.{Answers, AnswersInput, AnswersLine, Brings, Moves, after_line, ended_after, ended_of, refused_after}
 use Rattle.gw_program.specs.declared.reading.Ended.{Ended}
 use Rattle.gw_program.specs.declared.reading.Ended.TheVariants.{Fine, Refused, ShortOfMemory}
@@ -19,16 +21,16 @@ or_assoc true b c = refl
 or_assoc false b c = refl
 
 -- nothing was answered
-Answers-none : (setup : Setup) (lines left : List (List ℕ)) (ended : Ended) (old : Option (List ℕ)) → left ≡ lines → Answers setup lines left ended ended old old
-Answers-none setup lines left ended old same = record {
+Answers-none : (setup : Setup) (lines left : List (List ℕ)) (before : Standing) (old : Option (List ℕ)) → left ≡ lines → Answers setup lines left before before old old
+Answers-none setup lines left before old same = record {
   lacks = false;
   text = [];
   written = Appends-nil old;
-  lines_between = λ others later answers. subst (λ (ls : List (List ℕ)). AreAnswers setup ls others later) same answers;
-  same_end = λ others. ap (λ (ls : List (List ℕ)). ended_after ended ls others) same;
+  lines_between = λ others later answers. subst (λ (ls : List (List ℕ)). AreAnswers setup before.picture ls others later) same answers;
+  same_end = λ others. ap (λ (ls : List (List ℕ)). ended_after before.ended ls others) same;
 }
 
-Answers-more : (setup : Setup) (lines middle left : List (List ℕ)) (first second third : Ended) (old between new : Option (List ℕ))
+Answers-more : (setup : Setup) (lines middle left : List (List ℕ)) (first second third : Standing) (old between new : Option (List ℕ))
     → Answers setup lines middle first second old between → Answers setup middle left second third between new → Answers setup lines left first third old new
 Answers-more setup lines middle left first second third old between new p q = record {
   lacks = p.lacks || q.lacks;
@@ -36,18 +38,18 @@ Answers-more setup lines middle left first second third old between new p q = re
   written = Appends-trans old between new p.text q.text p.written q.written;
   lines_between = λ others later answers.
       let both = p.lines_between (q.lacks || others) (q.text ++ later) (q.lines_between others later answers) in
-      let joined = subst (λ (b : Bool). AreAnswers setup lines b (p.text ++ (q.text ++ later))) (or_assoc p.lacks q.lacks others) both in
-      subst (AreAnswers setup lines ((p.lacks || q.lacks) || others)) (sym (append_assoc p.text q.text later)) joined;
-  same_end = λ others. q.same_end others ∙ p.same_end (q.lacks || others) ∙ ap (ended_after first lines) (or_assoc p.lacks q.lacks others);
+      let joined = subst (λ (b : Bool). AreAnswers setup first.picture lines b (p.text ++ (q.text ++ later))) (or_assoc p.lacks q.lacks others) both in
+      subst (AreAnswers setup first.picture lines ((p.lacks || q.lacks) || others)) (sym (append_assoc p.text q.text later)) joined;
+  same_end = λ others. q.same_end others ∙ p.same_end (q.lacks || others) ∙ ap (ended_after first.ended lines) (or_assoc p.lacks q.lacks others);
 }
 
 -- nothing was read
-pub Moves-none : (setup : Setup) (ended : Ended) (line : List ℕ) (before old : Option (List ℕ)) → Moves setup false ended ended line line before before old old
+pub Moves-none : (setup : Setup) (ended : Standing) (line : List ℕ) (before old : Option (List ℕ)) → Moves setup false ended ended line line before before old old
 Moves-none setup ended line None old = tt
 Moves-none setup ended line (Some input) old = (λ at_end. absurd (false≢true at_end), Answers-none setup _ _ ended old refl)
 
 -- one step after others
-Moves-more : (setup : Setup) (at_end : Bool) (first second third : Ended) (line kept longer : List ℕ) (input middle rest old between new : Option (List ℕ))
+Moves-more : (setup : Setup) (at_end : Bool) (first second third : Standing) (line kept longer : List ℕ) (input middle rest old between new : Option (List ℕ))
     → Moves setup false first second line kept input middle old between → Moves setup at_end second third kept longer middle rest between new
     → Moves setup at_end first third line longer input rest old new
 Moves-more setup at_end first second third line kept longer None middle rest old between new p q = tt
@@ -57,7 +59,7 @@ Moves-more setup at_end first second third line kept longer (Some i) (Some m) (S
     (q.0, Answers-more setup _ (onto_first kept (lines_of m)) _ first second third old between new p.1 q.1)
 
 -- a step with the settings that were held on to, at whose end it was met whether all is answered
-pub Moves-next : (setup held : Setup) (at_end met : Bool) (first second third : Ended) (line kept longer : List ℕ) (input middle rest old between new : Option (List ℕ))
+pub Moves-next : (setup held : Setup) (at_end met : Bool) (first second third : Standing) (line kept longer : List ℕ) (input middle rest old between new : Option (List ℕ))
     → Moves setup false first second line kept input middle old between → held ≡ setup → met ≡ at_end → Moves held met second third kept longer middle rest between new
     → Moves setup at_end first third line longer input rest old new
 Moves-next setup held at_end met first second third line kept longer input middle rest old between new earlier same_setup same_end step =
@@ -68,7 +70,7 @@ Moves-next setup held at_end met first second third line kept longer input middl
 -- ---- what one read does
 
 -- a read that brought nothing
-pub Moves-nothing : (setup : Setup) (ended : Ended) (line kept : List ℕ) (before rest old : Option (List ℕ)) → Brings 6144 Nothing before rest line kept → Moves setup false ended ended line kept before rest old old
+pub Moves-nothing : (setup : Setup) (ended : Standing) (line kept : List ℕ) (before rest old : Option (List ℕ)) → Brings 6144 Nothing before rest line kept → Moves setup false ended ended line kept before rest old old
 Moves-nothing setup ended line kept None rest old brings = tt
 Moves-nothing setup ended line kept (Some input) None old brings = absurd brings.0
 Moves-nothing setup ended line kept (Some input) (Some output) old brings = (
@@ -77,7 +79,7 @@ Moves-nothing setup ended line kept (Some input) (Some output) old brings = (
 )
 
 -- a read that ends no line
-pub Moves-part : (setup : Setup) (ended : Ended) (line kept : List ℕ) (before rest old : Option (List ℕ)) → Brings 6144 Part before rest line kept → Moves setup false ended ended line kept before rest old old
+pub Moves-part : (setup : Setup) (ended : Standing) (line kept : List ℕ) (before rest old : Option (List ℕ)) → Brings 6144 Part before rest line kept → Moves setup false ended ended line kept before rest old old
 Moves-part setup ended line kept None rest old brings = tt
 Moves-part setup ended line kept (Some input) None old brings = absurd brings.1
 Moves-part setup ended line kept (Some input) (Some output) old brings = (
@@ -86,8 +88,8 @@ Moves-part setup ended line kept (Some input) (Some output) old brings = (
     lacks = false;
     text = [];
     written = Appends-nil old;
-    lines_between = λ others later answers. with_part (λ (ls : List (List ℕ)). AreAnswers setup ls others later) (AreAnswers-kept setup others later) line brings.0 kept input output brings.1 brings.2.0 brings.2.1 answers;
-    same_end = λ others. ap (λ (b : Bool). cond others ShortOfMemory (cond b ended (refused_after ended)))
+    lines_between = λ others later answers. with_part (λ (ls : List (List ℕ)). AreAnswers setup ended.picture ls others later) (AreAnswers-kept setup ended.picture others later) line brings.0 kept input output brings.1 brings.2.0 brings.2.1 answers;
+    same_end = λ others. ap (λ (b : Bool). cond others ShortOfMemory (cond b ended.ended (refused_after ended.ended)))
         (same_by_part (list_all is_accepted) list_all-kept line brings.0 kept input output brings.1 brings.2.0 brings.2.1);
   },
 )
@@ -111,7 +113,7 @@ ended_more ended now line lines one others is = ap (λ (e : Ended). ended_after 
     go ShortOfMemory false false false false = refl
 
 -- a read that ends a line, which is answered then
-pub Moves-line : (setup : Setup) (ended now : Ended) (line kept : List ℕ) (before rest old new : Option (List ℕ)) → Brings 6144 Line before rest line kept → AnswersLine setup kept ended now old new
+pub Moves-line : (setup : Setup) (ended now : Standing) (line kept : List ℕ) (before rest old new : Option (List ℕ)) → Brings 6144 Line before rest line kept → AnswersLine setup kept ended now old new
     → Moves setup false ended now line [] before rest old new
 Moves-line setup ended now line kept None rest old new brings answered = tt
 Moves-line setup ended now line kept (Some input) None old new brings answered = absurd brings.1
@@ -126,18 +128,19 @@ Moves-line setup ended now line kept (Some input) (Some output) old new brings a
         text = text;
         written = answered.2;
         lines_between = λ others later answers.
-            let rest_answers = subst (λ (ls : List (List ℕ)). AreAnswers setup ls others later) (onto_first-nil output) answers in
-            with_line (λ (ls : List (List ℕ)). AreAnswers setup ls (one || others) (text ++ later)) (AreAnswers-kept setup (one || others) (text ++ later)) line front kept input output split brings.2.2 brings.2.3
-            (one, others, text, later, refl, refl, answered.3, rest_answers);
-        same_end = λ others. ap (λ (ls : List (List ℕ)). ended_after now ls others) (onto_first-nil output)
-            ∙ ended_more ended now kept (lines_of output) one others answered.4
-            ∙ ap (λ (b : Bool). cond (one || others) ShortOfMemory (cond b ended (refused_after ended)))
+            let rest_answers = subst (λ (ls : List (List ℕ)). AreAnswers setup now.picture ls others later) (onto_first-nil output) answers in
+            let rest_shown = subst (λ (shown : List Observation). AreAnswers setup shown (lines_of output) others later) answered.5 rest_answers in
+            with_line (λ (ls : List (List ℕ)). AreAnswers setup ended.picture ls (one || others) (text ++ later)) (AreAnswers-kept setup ended.picture (one || others) (text ++ later)) line front kept input output split brings.2.2 brings.2.3
+            (one, others, text, later, refl, refl, answered.3, rest_shown);
+        same_end = λ others. ap (λ (ls : List (List ℕ)). ended_after now.ended ls others) (onto_first-nil output)
+            ∙ ended_more ended.ended now.ended kept (lines_of output) one others answered.4
+            ∙ ap (λ (b : Bool). cond (one || others) ShortOfMemory (cond b ended.ended (refused_after ended.ended)))
             (same_by_line (list_all is_accepted) list_all-kept line front kept input output split brings.2.2 brings.2.3);
       },
     )
 
 -- the end of the input, where the last line is answered
-pub Moves-end : (setup : Setup) (ended now : Ended) (line kept last : List ℕ) (before rest old new : Option (List ℕ)) → Brings 6144 End before rest line kept → AnswersLine setup kept ended now old new
+pub Moves-end : (setup : Setup) (ended now : Standing) (line kept last : List ℕ) (before rest old new : Option (List ℕ)) → Brings 6144 End before rest line kept → AnswersLine setup kept ended now old new
     → Moves setup true ended now line last before rest old new
 Moves-end setup ended now line kept last None rest old new brings answered = tt
 Moves-end setup ended now line kept last (Some input) None old new brings answered = absurd brings.1
@@ -150,28 +153,28 @@ Moves-end setup ended now line kept last (Some input) (Some output) old new brin
         text = text;
         written = answered.2;
         lines_between = λ others later none.
-            with_end (λ (ls : List (List ℕ)). AreAnswers setup ls (one || others) (text ++ later)) (AreAnswers-kept setup (one || others) (text ++ later)) line kept input brings.0 brings.2
+            with_end (λ (ls : List (List ℕ)). AreAnswers setup ended.picture ls (one || others) (text ++ later)) (AreAnswers-kept setup ended.picture (one || others) (text ++ later)) line kept input brings.0 brings.2
             (one, others, text, later, refl, refl, answered.3, none);
-        same_end = λ others. ended_more ended now kept [] one others answered.4
-            ∙ ap (λ (b : Bool). cond (one || others) ShortOfMemory (cond b ended (refused_after ended)))
+        same_end = λ others. ended_more ended.ended now.ended kept [] one others answered.4
+            ∙ ap (λ (b : Bool). cond (one || others) ShortOfMemory (cond b ended.ended (refused_after ended.ended)))
             (same_by_end (list_all is_accepted) list_all-kept line kept input brings.0 brings.2);
       },
     )
 
 -- ---- all of an input
 
-pub input_is_answered : (setup : Setup) (ended : Ended) (line : List ℕ) (before rest old new : Option (List ℕ)) → Moves setup true Fine ended [] line before rest old new
-    → IfSome before (λ input. AnswersInput setup input ended old new)
-input_is_answered setup ended line None rest old new moves = tt
-input_is_answered setup ended line (Some input) None old new moves = absurd moves
-input_is_answered setup ended line (Some input) (Some output) old new moves =
+pub input_is_answered : (setup : Setup) (end : Standing) (line : List ℕ) (before rest old new : Option (List ℕ)) → Moves setup true (standing Fine (shown_at_first setup)) end [] line before rest old new
+    → IfSome before (λ input. AnswersInput setup input end.ended old new)
+input_is_answered setup end line None rest old new moves = tt
+input_is_answered setup end line (Some input) None old new moves = absurd moves
+input_is_answered setup end line (Some input) (Some output) old new moves =
     let answers = moves.1 in
     let lacks = answers.lacks || false in
-    let all = subst (λ (ls : List (List ℕ)). AreAnswers setup ls lacks (answers.text ++ [])) (onto_first-nil input) (answers.lines_between false [] (refl, refl)) in (
+    let all = subst (λ (ls : List (List ℕ)). AreAnswers setup (shown_at_first setup) ls lacks (answers.text ++ [])) (onto_first-nil input) (answers.lines_between false [] (refl, refl)) in (
       lacks,
       answers.text,
       answers.written,
-      subst (AreAnswers setup (lines_of input) lacks) (append-nil answers.text) all,
+      subst (AreAnswers setup (shown_at_first setup) (lines_of input) lacks) (append-nil answers.text) all,
       answers.same_end false ∙ ap (λ (ls : List (List ℕ)). ended_after Fine ls lacks) (onto_first-nil input),
     )
 
@@ -186,17 +189,20 @@ input_is_judged setup ended None old new answered memory = tt
 input_is_judged setup ended (Some input) old new answered memory =
     answered.4 ∙ ap (ended_after Fine (lines_of input)) (enough ended (lines_of input) answered.0 memory answered.4)
 
-whole_text : (setup : Setup) (lines : List (List ℕ)) (lacks : Bool) (text : List ℕ) → lacks ≡ false → AreAnswers setup lines lacks text → text ≡ flat_map (line_text setup) lines
-whole_text setup [] lacks text none answers = answers.1
-whole_text setup (line ∷ lines) lacks text none answers =
-    go answers.0 (sym answers.4 ∙ none) answers.6 (λ others. whole_text setup lines answers.1 answers.3 others answers.7)
+whole_text : (setup : Setup) (picture : List Observation) (lines : List (List ℕ)) (lacks : Bool) (text : List ℕ) → lacks ≡ false → AreAnswers setup picture lines lacks text → text ≡ text_from setup picture lines
+whole_text setup picture [] lacks text none answers = answers.1
+whole_text setup picture (line ∷ lines) lacks text none answers =
+    go answers.0 (sym answers.4 ∙ none) answers.6 (λ shown others are. whole_text setup shown lines answers.1 answers.3 others are) answers.7
   where
-    go : (one : Bool) → (one || answers.1) ≡ false → IsAnswer setup line one answers.2 → (answers.1 ≡ false → answers.3 ≡ flat_map (line_text setup) lines) → text ≡ flat_map (line_text setup) (line ∷ lines)
-    go true lack answer rest = absurd (true≢false lack)
-    go false lack answer rest = answers.5 ∙ ap (λ (t : List ℕ). t ++ answers.3) answer ∙ ap (λ (t : List ℕ). line_text setup line ++ t) (rest lack)
+    go : (one : Bool) → (one || answers.1) ≡ false → IsAnswer setup picture line one answers.2
+        → ((shown : List Observation) → answers.1 ≡ false → AreAnswers setup shown lines answers.1 answers.3 → answers.3 ≡ text_from setup shown lines)
+        → AreAnswers setup (shown_then setup picture line one) lines answers.1 answers.3 → text ≡ text_from setup picture (line ∷ lines)
+    go true lack answer rest are = absurd (true≢false lack)
+    go false lack answer rest are =
+        answers.5 ∙ ap (λ (t : List ℕ). t ++ answers.3) answer ∙ ap (λ (t : List ℕ). line_text setup picture line ++ t) (rest (shown_after_line setup picture line) lack are)
 
 pub text_is_written : (setup : Setup) (ended : Ended) (before old new : Option (List ℕ)) → IfSome before (λ input. AnswersInput setup input ended old new)
     → ended ≢ ShortOfMemory → IfSome before (λ input. Appends old new (text_of setup input))
 text_is_written setup ended None old new answered memory = tt
 text_is_written setup ended (Some input) old new answered memory =
-    subst (Appends old new) (whole_text setup (lines_of input) answered.0 answered.1 (enough ended (lines_of input) answered.0 memory answered.4) answered.3) answered.2
+    subst (Appends old new) (whole_text setup (shown_at_first setup) (lines_of input) answered.0 answered.1 (enough ended (lines_of input) answered.0 memory answered.4) answered.3) answered.2

@@ -1,11 +1,13 @@
--- The fragments that a stream of octets carries to a station (IEEE Std 1815-2012, clauses 8 and 9).
-use Rattle.std.specs.Prelude.{ℕ, List, [], ◌∷◌, Option, Some, None, filter_map, if◌then◌else◌}
+-- The fragments, and the responses, that a stream of octets carries to a station (IEEE Std 1815-2012, clauses 4, 8 and 9).
+use Rattle.std.specs.Prelude.{ℕ, List, [], ◌∷◌, Option, Some, None, Result, Ok, Err, filter_map, if◌then◌else◌}
 use Rattle.std.specs.List.{cons_option}
 use Rattle.dnp_link.specs.Frame.{Content}
 use Rattle.dnp_link.specs.Stream.{Event, Framed, Dropped, reading}
 use Rattle.dnp_link.specs.Station.{Station}
 use Rattle.dnp_link.specs.Secondary.{decided_on, station_after}
 use Rattle.dnp_transport.specs.Fragment.{fragments_of}
+use Rattle.dnp_app.specs.declared.fault.AppFault.{AppFault}
+use Rattle.dnp_app.specs.Response.{Fragment, response_of}
 
 -- the frame that an event is, if it is one
 abbrev pub frame_in : Event → Option Content
@@ -29,3 +31,16 @@ delivered s (c ∷ more) = cons_option (delivered_by s c) (delivered (station_af
 -- reset yet, from the primary station at `peer`
 abbrev pub stream_fragments : ℕ → ℕ → List ℕ → List (List ℕ)
 stream_fragments own peer octets = fragments_of (delivered (record { own = own; peer = peer; expected = None }) (frames_of (reading octets).events))
+
+-- what was read, if it wasn't refused
+abbrev pub accepted : Result Fragment AppFault → Option Fragment
+accepted (Ok response) = Some response
+accepted (Err fault) = None
+
+-- the response of an outstation that octets are, if they are one
+unfoldable pub response_at : ℕ → List ℕ → Option Fragment
+response_at outstation octets = accepted (response_of outstation octets)
+
+-- the responses of an outstation among the fragments of a stream
+abbrev pub stream_responses : ℕ → ℕ → ℕ → List ℕ → List Fragment
+stream_responses outstation own peer octets = filter_map (response_at outstation) (stream_fragments own peer octets)

@@ -11,7 +11,8 @@ use Rattle.gw_program.specs.declared.reading.Ended.TheVariants.{Fine, Refused, S
 use Rattle.gw_program.specs.declared.reading.Stop.{Stop}
 use Rattle.gw_program.specs.declared.reading.Piece.{Piece}
 use Rattle.gw_program.specs.declared.reading.Piece.TheVariants.{Nothing, Part, Line, End}
-use Rattle.gw_program.specs.Answers.{AreAnswers, IsAnswer, all_accepted, is_accepted, lines_of, onto_first}
+use Rattle.gw_program.specs.Translation.{Standing}
+use Rattle.gw_program.specs.Answers.{AreAnswers, IsAnswer, all_accepted, is_accepted, lines_of, onto_first, shown_at_first, shown_then}
 
 -- ---- one read
 
@@ -65,15 +66,16 @@ status outcome is_written = 1
 
 -- ---- lines that are answered
 
--- a line was answered: what was written, and what became of the lines with it
-abbrev pub AnswersLine : Setup → List ℕ → Ended → Ended → Option (List ℕ) → Option (List ℕ) → Type 0
-AnswersLine setup line ended now old new = (lacks : Bool) × (text : List ℕ)
-    × Appends old new text × IsAnswer setup line lacks text × (now ≡ after_line ended line lacks)
+-- a line was answered: what was written, what became of the lines with it, and what is shown after it
+abbrev pub AnswersLine : Setup → List ℕ → Standing → Standing → Option (List ℕ) → Option (List ℕ) → Type 0
+AnswersLine setup line before now old new = (lacks : Bool) × (text : List ℕ)
+    × Appends old new text × IsAnswer setup before.picture line lacks text
+    × (now.ended ≡ after_line before.ended line lacks) × (now.picture ≡ shown_then setup before.picture line lacks)
 
 -- each line of an input was
 abbrev pub AnswersInput : Setup → List ℕ → Ended → Option (List ℕ) → Option (List ℕ) → Type 0
 AnswersInput setup input ended old new = (lacks : Bool) × (text : List ℕ)
-    × Appends old new text × AreAnswers setup (lines_of input) lacks text × (ended ≡ ended_after Fine (lines_of input) lacks)
+    × Appends old new text × AreAnswers setup (shown_at_first setup) (lines_of input) lacks text × (ended ≡ ended_after Fine (lines_of input) lacks)
 
 -- ---- one step
 
@@ -89,15 +91,15 @@ lines_left true line rest = []
 lines_left false line rest = onto_first line (lines_of rest)
 
 -- from these lines to those that are left: the ones between were answered, whatever becomes of the others
-pub record Answers (setup : Setup) (lines left : List (List ℕ)) (ended now : Ended) (old new : Option (List ℕ)) : Type 0 where
+pub record Answers (setup : Setup) (lines left : List (List ℕ)) (before now : Standing) (old new : Option (List ℕ)) : Type 0 where
   pub lacks : Bool
   pub text : List ℕ
   pub written : Appends old new text
-  pub lines_between : (others : Bool) (later : List ℕ) → AreAnswers setup left others later → AreAnswers setup lines (lacks || others) (text ++ later)
-  pub same_end : (others : Bool) → ended_after now left others ≡ ended_after ended lines (lacks || others)
+  pub lines_between : (others : Bool) (later : List ℕ) → AreAnswers setup now.picture left others later → AreAnswers setup before.picture lines (lacks || others) (text ++ later)
+  pub same_end : (others : Bool) → ended_after now.ended left others ≡ ended_after before.ended lines (lacks || others)
 
 -- a step from line, reader and writer as they were to those as they are, at whose end all may be answered
-abbrev pub Moves : Setup → Bool → Ended → Ended → List ℕ → List ℕ → Option (List ℕ) → Option (List ℕ) → Option (List ℕ) → Option (List ℕ) → Type 0
-Moves setup at_end ended now line kept before rest old new =
-    Between before rest (λ input output.
-    (at_end ≡ true → output ≡ []) × Answers setup (lines_left false line input) (lines_left at_end kept output) ended now old new)
+abbrev pub Moves : Setup → Bool → Standing → Standing → List ℕ → List ℕ → Option (List ℕ) → Option (List ℕ) → Option (List ℕ) → Option (List ℕ) → Type 0
+Moves setup at_end before now line kept input rest old new =
+    Between input rest (λ octets behind.
+    (at_end ≡ true → behind ≡ []) × Answers setup (lines_left false line octets) (lines_left at_end kept behind) before now old new)

@@ -1,13 +1,12 @@
 //! What `translate` decides of one line.
 ghost use Rattle.std.specs.Prelude.{◌≡◌, ◌++◌, [], IfOk, OnOk};
-ghost use Rattle.std.specs.Option.{option_to_list};
-ghost use Rattle.gw_translate.specs.Image.{image_in};
-ghost use Rattle.gw_program.specs.Translation.{images_of, Decides};
+ghost use Rattle.gw_program.specs.Translation.{news_in, shown_in, Decides};
 
 use crate::hex::line_octets;
 use dnp_app::{AppFault, read_response};
 use gw_model::{Memory, Observation, Report, Settings};
-use gw_translate::image;
+use gw_picture::Picture;
+use gw_time::Zone;
 use std::alloc::Global;
 
 /// What becomes of a line.
@@ -23,49 +22,37 @@ pub enum Decision {
     Accepted(Option<[u8; 2]>),
 }
 
-/// Adds the image of a report, where its point has a row.
-fn push_image(
-    images: &mut Vec<Observation>,
-    settings: &Settings,
-    report: &Report,
-) -> Result<(), Memory>
-    ensures { OnOk result (images.new.items ≡ images.old.items ++ option_to_list (image_in settings.now.rows report.now)) }
-{
-    let zone = settings.zone();
-    match settings.row_of(&report.key) {
-        Some((_, row)) => {
-            images.push(image(report, row, &zone))?;
-            Ok(())
-        }
-        None => Ok(()),
-    }
-}
-
-/// Adds the images of reports, in order.
-fn push_images(
-    images: &mut Vec<Observation>,
+/// Takes reports in turn into a picture, and adds those that are news.
+fn push_news(
+    news: &mut Vec<Observation>,
+    picture: &mut Picture,
     settings: &Settings,
     reports: &[Report],
 ) -> Result<(), Memory>
-    ensures { OnOk result (images.new.items ≡ images.old.items ++ images_of settings.now.rows reports.now) }
+    ensures news { OnOk result (news.new.items ≡ news.old.items ++ news_in settings.now picture.old reports.now) }
+    ensures shown { OnOk result (picture.new ≡ shown_in settings.now picture.old reports.now) }
 {
+    let zone = Zone::of(settings);
     for report in reports {
-        push_image(images, settings, report)?;
+        if let Some(image) = picture.take(report, settings, &zone) {
+            news.push(image)?;
+        }
     }
     Ok(())
 }
 
-/// Decides what becomes of a line, read as a fragment of outstation 0; the images that it gives replace
+/// Decides what becomes of a line, read as a fragment of outstation 0; the news among its reports replace
 /// those of the line before.
 pub fn decide(
     alloc: Global,
     settings: &Settings,
     line: &[u8],
-    images: &mut Vec<Observation>,
+    picture: &mut Picture,
+    news: &mut Vec<Observation>,
 ) -> Result<Decision, Memory>
-    ensures { IfOk result (λ decision. Decides settings.now line.now decision images.new.items) }
+    ensures { IfOk result (λ decision. Decides settings.now line.now decision news.new.items picture.old picture.new) }
 {
-    images.clear();
+    news.clear();
     if line.is_empty() {
         return Ok(Decision::Empty);
     }
@@ -74,7 +61,7 @@ pub fn decide(
     };
     match read_response(alloc, 0, octets) {
         Ok(response) => {
-            push_images(images, settings, response.reports())?;
+            push_news(news, picture, settings, response.reports())?;
             Ok(Decision::Accepted(response.confirmation()))
         }
         Err(fault) => Ok(Decision::Refused(fault)),

@@ -3,8 +3,9 @@ use crate::hex::{MOST_OCTETS, line_octets};
 use crate::text::write_refusal;
 use crate::translate::translate;
 use dnp_app::AppFault;
-use dnp_points::{ObjectFault, Why};
+use dnp_objects::{ObjectFault, Why};
 use gw_model::{Memory, Settings};
+use gw_picture::Picture;
 use std::io::{self, Read, Write};
 use std::test::Fail;
 
@@ -69,6 +70,101 @@ fn lines(rt: HostRuntime) -> Result<(), Fail> {
         ),
         ("\n\n\n", "", 0),
         ("", "", 0),
+    ];
+    for (input, want, status) in rows {
+        let (output, ended) = translated(&rt, input.as_bytes())?;
+        assert_eq!(rt; output.as_slice(), want.as_bytes(), "at {input:?}");
+        assert_eq!(rt; ended, status, "at {input:?}");
+    }
+    Ok(())
+}
+
+/// Objects of many kinds, for binary input 5, analog input 0 and counter 0.
+#[test]
+fn objects(rt: HostRuntime) -> Result<(), Fail> {
+    let rows: [(&str, &str, u8); 14] = [
+        // An event at 22:13:20 on 14 November 2023.
+        (
+            "E3 81 02 00 02 02 17 01 05 81 00 68 E5 CF 8B 01",
+            "confirm C3 00\nasdu 1E 01 03 00 01 00 05 10 00 01 20 4E 0D 16 0E 0B 17\n",
+            0,
+        ),
+        // 65,535 ms after a common time of a clock that wasn't synchronized.
+        (
+            "C0 81 00 00 33 02 07 01 00 68 E5 CF 8B 01 02 03 17 01 05 81 FF FF",
+            "asdu 1E 01 03 00 01 00 05 10 00 01 BF 63 8E 16 0E 0B 17\n",
+            0,
+        ),
+        // The same without a common time, and where one stands behind the event.
+        (
+            "C0 81 00 00 02 03 17 01 05 81 FF FF",
+            "asdu 01 01 03 00 01 00 05 10 00 01\n",
+            0,
+        ),
+        (
+            "C0 81 00 00 02 03 17 01 05 81 FF FF 33 01 07 01 00 68 E5 CF 8B 01",
+            "asdu 01 01 03 00 01 00 05 10 00 01\n",
+            0,
+        ),
+        // The common time of one line is none of the next one.
+        (
+            "C0 81 00 00 33 01 07 01 00 68 E5 CF 8B 01\nC0 81 00 00 02 03 17 01 05 81 00 00",
+            "asdu 01 01 03 00 01 00 05 10 00 01\n",
+            0,
+        ),
+        // A time of 1970, which no tag shows.
+        (
+            "C0 81 00 00 02 02 17 01 05 81 01 00 00 00 00 00",
+            "asdu 01 01 03 00 01 00 05 10 00 01\n",
+            0,
+        ),
+        // An analog input of 40000 as scaled value, with overflow; one of 16 bits, -1, with time.
+        (
+            "C0 81 00 00 20 01 17 01 00 01 40 9C 00 00",
+            "asdu 0B 01 03 00 01 00 69 10 00 FF 7F 01\n",
+            0,
+        ),
+        (
+            "C0 81 00 00 20 04 28 01 00 00 00 01 FF FF 00 68 E5 CF 8B 01",
+            "asdu 23 01 03 00 01 00 69 10 00 FF FF 00 20 4E 0D 16 0E 0B 17\n",
+            0,
+        ),
+        // A counter that rolled over; one of 16 bits with time.
+        (
+            "C0 81 00 00 16 01 17 01 00 21 FF FF FF FF",
+            "asdu 0F 01 03 00 01 00 CD 10 00 FF FF FF FF 20\n",
+            0,
+        ),
+        (
+            "C0 81 00 00 16 06 17 01 00 01 FF FF 00 68 E5 CF 8B 01",
+            "asdu 25 01 03 00 01 00 CD 10 00 FF FF 00 00 00 20 4E 0D 16 0E 0B 17\n",
+            0,
+        ),
+        // An analog input, and one in floating point, which is stepped over.
+        (
+            "E1 81 00 00 1E 01 00 00 00 01 0A 00 00 00 1E 05 00 01 01 01 00 00 80 3F",
+            "confirm C1 00\nasdu 0B 01 03 00 01 00 69 10 00 0A 00 00\n",
+            0,
+        ),
+        (
+            "E1 81 00 00 1E 01 00 00 00 01 0A 00 00 00 1E 05 00 01 01 01 00 00 80 3F C8 01 00 00 00 00",
+            "refused 3 Object 1 UnknownObject at 20\n",
+            1,
+        ),
+        // Inputs 0 to 7, packed, of which input 5 alone has a row: off, and then on twice.
+        (
+            "C0 81 00 00 01 01 00 00 07 DF\nC1 81 00 00 01 01 00 00 07 20\nC2 81 00 00 01 01 00 00 07 20",
+            "asdu 01 01 03 00 01 00 05 10 00 00\nasdu 01 01 03 00 01 00 05 10 00 01\n",
+            0,
+        ),
+        // An event changes what static values are compared with; a refused line doesn't.
+        (
+            "C0 81 00 00 02 01 17 01 05 81\nC1 81 00 00 01 02 00 05 05 81\nC2 81 00 00 01 02 00 05 05 01 C8 01 00\n\
+             C3 81 00 00 01 02 00 05 05 81\nC4 81 00 00 01 02 00 05 05 01",
+            "asdu 01 01 03 00 01 00 05 10 00 01\nrefused 3 Object 1 UnknownObject at 6\n\
+             asdu 01 01 03 00 01 00 05 10 00 00\n",
+            1,
+        ),
     ];
     for (input, want, status) in rows {
         let (output, ended) = translated(&rt, input.as_bytes())?;
@@ -206,23 +302,31 @@ fn refusals(rt: HostRuntime) -> Result<(), Fail> {
 #[test]
 fn with_ample_memory(rt: HostRuntime) -> Result<(), Fail> {
     assert!(rt; matches!(line_octets(rt.alloc(), b"C0 81"), Ok(Some(_))));
-    let mut images = Vec::new(rt.alloc());
     let settings = Settings::built_in();
-    let short = decide(rt.alloc(), &settings, b"C0 81 00", &mut images);
+    let mut picture = Picture::new(rt.alloc(), &settings)?;
+    let mut news = Vec::new(rt.alloc());
+    let short = decide(rt.alloc(), &settings, b"C0 81 00", &mut picture, &mut news);
     assert_eq!(rt; short, Ok(Decision::Refused(AppFault::Short)));
     let fault = ObjectFault {
         why: Why::ShortRange,
         place: 0,
     };
-    let cut = decide(rt.alloc(), &settings, b"C0 81 00 00 02", &mut images);
+    let cut = decide(
+        rt.alloc(),
+        &settings,
+        b"C0 81 00 00 02",
+        &mut picture,
+        &mut news,
+    );
     assert_eq!(rt; cut, Ok(Decision::Refused(AppFault::Object(fault))));
     let taken: Result<Decision, Memory> = decide(
         rt.alloc(),
         &settings,
         b"E0 81 00 00 02 01 17 01 05 81",
-        &mut images,
+        &mut picture,
+        &mut news,
     );
     assert_eq!(rt; taken, Ok(Decision::Accepted(Some([0xC0, 0]))));
-    assert_eq!(rt; images.len(), 1);
+    assert_eq!(rt; news.len(), 1);
     Ok(())
 }

@@ -6,8 +6,9 @@ ghost use Rattle.gw_program.specs.Answers.{refusal_text, why_text};
 
 use crate::hex::push_spaced;
 use dnp_app::AppFault;
-use dnp_points::Why;
+use dnp_objects::Why;
 use gw_model::{Memory, Observation, Settings};
+use gw_time::Zone;
 use iec_asdu::write_monitor;
 use std::io::{self, Write};
 
@@ -31,10 +32,10 @@ fn push_asdu(
     image: &Observation,
     buffer: &mut [u8; 249],
 ) -> Result<(), Memory>
-    ensures { OnOk result (text.new.items ≡ text.old.items ++ asdu_line settings.now.common_address image.now) }
+    ensures { OnOk result (text.new.items ≡ text.old.items ++ asdu_line settings.now image.now) }
 {
     let common = settings.common_address();
-    let written = write_monitor(&[*image], common, SPONTANEOUS, &settings.zone(), buffer);
+    let written = write_monitor(&[*image], common, SPONTANEOUS, &Zone::of(settings), buffer);
     push_line(text, b"asdu", &buffer[..written.octets])
 }
 
@@ -47,7 +48,7 @@ pub fn push_accepted(
     images: &[Observation],
     buffer: &mut [u8; 249],
 ) -> Result<(), Memory>
-    ensures { OnOk result (text.new.items ≡ text.old.items ++ accepted_text settings.now.common_address confirm images.now) }
+    ensures { OnOk result (text.new.items ≡ text.old.items ++ accepted_text settings.now confirm images.now) }
 {
     if let Some(octets) = confirm {
         push_line(text, b"confirm", &octets)?;
@@ -62,7 +63,7 @@ fn push_asdus(
     images: &[Observation],
     buffer: &mut [u8; 249],
 ) -> Result<(), Memory>
-    ensures { OnOk result (text.new.items ≡ text.old.items ++ asdu_lines settings.now.common_address images.now) }
+    ensures { OnOk result (text.new.items ≡ text.old.items ++ asdu_lines settings.now images.now) }
 {
     for image in images {
         push_asdu(text, settings, image, buffer)?;

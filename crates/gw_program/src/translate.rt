@@ -1,8 +1,9 @@
 //! `gateway translate`: DNP3 fragments in, one a line; confirmations and ASDUs out.
-ghost use Rattle.std.specs.Prelude.{◌≡◌, ◌≤◌, ◌≢◌, true, IfOk, IfSome, OnOk, OnSome};
+ghost use Rattle.std.specs.Prelude.{◌≡◌, ◌≤◌, ◌≢◌, true, map, IfOk, IfSome, OnOk, OnSome};
 ghost use Rattle.std.specs.Io.KnownBytes.{Appends, IsAtEnd};
 ghost use Rattle.gw_program.specs.Text.{accepted_text};
-ghost use Rattle.gw_program.specs.Answers.{all_accepted, text_of};
+ghost use Rattle.gw_program.specs.Translation.{standing};
+ghost use Rattle.gw_program.specs.Answers.{all_accepted, shown_at_first, text_of};
 ghost use Rattle.gw_program.specs.Reading.{AnswersInput, AnswersLine, Moves, after_decision, ended_of};
 
 use crate::decision::{Decision, decide};
@@ -11,6 +12,7 @@ use crate::reading::{Ended, Piece, Stop, read_piece, status_of};
 use crate::text::{push_accepted, write_refusal};
 use dnp_app::AppFault;
 use gw_model::{Memory, Observation, Settings};
+use gw_picture::Picture;
 use std::alloc::Global;
 use std::io::{BufRead, Write};
 
@@ -31,39 +33,49 @@ impl Ended {
     }
 }
 
-/// What is kept from line to line: room, and what became of the lines so far.
+/// What is kept from line to line: what was shown of each row, what became of the lines so far, and room.
 #[derive(Drop)]
 struct Translator<'a> {
     alloc: Global,
     settings: &'a Settings,
-    images: Vec<Observation>,
+    picture: Picture,
+    news: Vec<Observation>,
     text: Vec<u8>,
     asdu: [u8; 249],
     ended: Ended,
 }
 
 impl<'a> Translator<'a> {
-    fn new(alloc: Global, settings: &'a Settings) -> Translator<'a>
-        ensures ended { result.ended ≡ Ended.Fine }
-        ensures settings { result.settings.now ≡ settings.now }
+    fn new(alloc: Global, settings: &'a Settings) -> Result<Translator<'a>, Memory>
+        ensures ended { IfOk result (λ translator. translator.ended ≡ Ended.Fine) }
+        ensures picture { IfOk result (λ translator. translator.picture ≡ shown_at_first settings.now) }
+        ensures settings { IfOk result (λ translator. translator.settings.now ≡ settings.now) }
     {
-        Translator {
+        Ok(Translator {
             alloc,
             settings,
-            images: Vec::new(alloc),
+            picture: Picture::new(alloc, settings)?,
+            news: Vec::new(alloc),
             text: Vec::new(alloc),
             asdu: [0; 249],
             ended: Ended::Fine,
-        }
+        })
     }
 
     /// Answers one line.
     fn answer<W: Write>(&mut self, line: &[u8], writer: &mut W) -> Result<(), Stop>
         ensures settings { OnOk result (self.new.settings.now ≡ self.old.settings.now) }
         ensures answers { OnOk result (AnswersLine self.old.settings.now line.now
-            self.old.ended self.new.ended (W.contents writer.old) (W.contents writer.new)) }
+            (standing self.old.ended self.old.picture) (standing self.new.ended self.new.picture)
+            (W.contents writer.old) (W.contents writer.new)) }
     {
-        let decision = decide(self.alloc, self.settings, line, &mut self.images)?;
+        let decision = decide(
+            self.alloc,
+            self.settings,
+            line,
+            &mut self.picture,
+            &mut self.news,
+        )?;
         self.ended = self.ended.after(decision);
         match decision {
             Decision::Empty => {}
@@ -79,19 +91,14 @@ impl<'a> Translator<'a> {
 
     /// Writes the lines of a response as text, in place of those of the response before.
     fn write_accepted(&mut self, confirm: Option<[u8; 2]>) -> Result<(), Memory>
-        ensures text { OnOk result (self.new.text.items ≡ accepted_text self.old.settings.now.common_address confirm self.old.images.items) }
+        ensures text { OnOk result (self.new.text.items ≡ accepted_text self.old.settings.now confirm self.old.news.items) }
         ensures settings { self.new.settings.now ≡ self.old.settings.now }
         ensures ended { self.new.ended ≡ self.old.ended }
+        ensures picture { self.new.picture ≡ self.old.picture }
     {
         self.text.clear();
-        let images = self.images.as_slice();
-        push_accepted(
-            &mut self.text,
-            self.settings,
-            confirm,
-            images,
-            &mut self.asdu,
-        )
+        let news = self.news.as_slice();
+        push_accepted(&mut self.text, self.settings, confirm, news, &mut self.asdu)
     }
 
     /// Reads once, and answers the line where that ends it; whether the input has ended.
@@ -103,7 +110,8 @@ impl<'a> Translator<'a> {
     ) -> Result<bool, Stop>
         ensures settings { OnOk result (self.new.settings.now ≡ self.old.settings.now) }
         ensures moves { IfOk result (λ at_end. Moves self.old.settings.now at_end
-            self.old.ended self.new.ended line.old line.new
+            (standing self.old.ended self.old.picture) (standing self.new.ended self.new.picture)
+            line.old line.new
             (R.remaining reader.old) (R.remaining reader.new)
             (W.contents writer.old) (W.contents writer.new)) }
     {
@@ -141,7 +149,7 @@ fn run<R: BufRead, W: Write>(
         Appends (W.contents writer.old) (W.contents writer.new) (text_of settings.now input))) }
 {
     let mut line = Line::<KEPT>::new(alloc)?;
-    let mut translator = Translator::new(alloc, settings);
+    let mut translator = Translator::new(alloc, settings)?;
     for _ in 0..u32::MAX {
         if translator.go_on(&mut line, reader, writer)? {
             return Ok(translator.ended);
@@ -151,7 +159,8 @@ fn run<R: BufRead, W: Write>(
 }
 
 /// Reads fragments of outstation 0 in hexadecimal, one a line, and writes for each its confirmation,
-/// where it asks for one, and an ASDU for each point with a row that it reports.
+/// where it asks for one, and an ASDU for each of its news: events of points with a row, and static values
+/// that differ from what was shown of their row before.
 ///
 /// The status is 0, or 1 where a line was refused, reading or writing failed, memory ran out
 /// (`refused memory`) or 4,294,967,295 reads didn't reach the end of the input.

@@ -2,3 +2,5 @@ pub mod Calendar
 pub mod Century
 pub mod Parts
 pub mod Round
+pub mod Months
+pub mod Spelled

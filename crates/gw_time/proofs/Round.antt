@@ -45,7 +45,7 @@ same_day_and_time a b s t hs ht e = (omega (arith, signed_arith), omega (arith, 
 date_of : (y : ℤ) (m d : ℕ) → IsCivilDate y m d → date.Date
 date_of y m d h = record { year = y; month = m; day = d; year_in = h.0; month_in = h.1; day_in = h.2 }
 
-same_date : (y : ℤ) (m d : ℕ) (y₂ : ℤ) (m₂ d₂ : ℕ) → IsCivilDate y m d → IsCivilDate y₂ m₂ d₂ → days_from_civil y m d ≡ days_from_civil y₂ m₂ d₂ → (y ≡ y₂) × (m ≡ m₂) × (d ≡ d₂)
+pub same_date : (y : ℤ) (m d : ℕ) (y₂ : ℤ) (m₂ d₂ : ℕ) → IsCivilDate y m d → IsCivilDate y₂ m₂ d₂ → days_from_civil y m d ≡ days_from_civil y₂ m₂ d₂ → (y ≡ y₂) × (m ≡ m₂) × (d ≡ d₂)
 unfolding date_of
 same_date y m d y₂ m₂ d₂ h k e = epoch_day_injective (date_of y m d h) (date_of y₂ m₂ d₂ k) e
 

@@ -1,5 +1,5 @@
 //! The numbers in a time tag.
-ghost use Rattle.std.specs.Prelude.{◌≡◌, ◌↔◌, ◌<◌, ◌≤◌, pos, ◌≤ℤ◌, IsTrue, IsSome, IfSome};
+ghost use Rattle.std.specs.Prelude.{◌≡◌, ◌+◌, ◌↔◌, ◌<◌, ◌≤◌, pos, ◌≤ℤ◌, IsTrue, IsSome, IfSome};
 ghost use Rattle.jiff_core.specs.Date.{epoch_day};
 
 use crate::zone::{START_OF_2000, START_OF_2100};
@@ -23,6 +23,7 @@ pub struct BinaryTime {
 
 impl BinaryTime {
     ghost use Rattle.gw_time.specs.Tag.{numbers_in, is_in_range, has_day, civil_milliseconds, plain};
+    ghost use Rattle.gw_time.specs.Spelling.{numbers_at, octets_of};
 
     /// The numbers in seven octets. SU, the day of week and the reserved bits are not looked at.
     pub fn read(tag: &[u8; 7]) -> BinaryTime
@@ -46,6 +47,7 @@ impl BinaryTime {
         requires day { self.now.day < 32 }
         ensures numbers { numbers_in result ≡ self.now }
         ensures plain { plain result ≡ result }
+        ensures octets { result ≡ octets_of self.now }
     {
         let [low, high] = self.milliseconds.to_le_bytes();
         let minute = self.minute + 128 * u8::from(self.invalid);
@@ -98,6 +100,7 @@ impl BinaryTime {
         ensures small { result.day < 32 }
         ensures civil { civil_milliseconds result ≡ pos civil }
         ensures invalid { result.invalid ≡ invalid }
+        ensures numbers { result ≡ numbers_at invalid civil }
     {
         let date = date_of(civil / 86_400_000);
         BinaryTime {
@@ -107,9 +110,18 @@ impl BinaryTime {
             hour: (civil / 3_600_000 % 24) as u8,
             day: date.day,
             month: date.month,
-            year: (date.year - 2000) as u8,
+            year: year_of(date),
         }
     }
+}
+
+/// The year of a date, from 2000 on.
+fn year_of(date: Date) -> u8
+    requires low { pos 2000 ≤ℤ date.year }
+    requires high { date.year ≤ℤ pos 2099 }
+    ensures { pos (2000 + result) ≡ date.year }
+{
+    (date.year - 2000) as u8
 }
 
 /// The days from 1 January 1970 to a date of the years 2000 to 2099.

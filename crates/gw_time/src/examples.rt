@@ -1,9 +1,10 @@
 //! Worked examples, computed with the definitions that the contracts cite.
-ghost use Rattle.std.specs.Prelude.{◌≡◌, pos, negsuc, [], ◌∷◌, Ok, Err};
+ghost use Rattle.std.specs.Prelude.{◌≡◌, pos, negsuc, [], ◌∷◌, Some, None, Ok, Err};
 ghost use Rattle.gw_model.specs.declared.point.Stamp.TheVariants.{Untimed, At, Doubtful};
 ghost use Rattle.gw_time.specs.declared.fault.TagFault.TheVariants.{Field, Date};
 ghost use Rattle.gw_time.specs.Tag.{tag_meaning, plain};
 ghost use Rattle.gw_time.specs.Window.{HasTag};
+ghost use Rattle.gw_time.specs.Spelling.{tag_of};
 ghost use Rattle.gw_time.specs.Example.{IsFirst, IsLast};
 
 /// What some tags mean.
@@ -54,4 +55,27 @@ pub fn window_examples()
     ensures doubtful_2100 { ¬ HasTag (pos 0) (Doubtful 4107456000000) }
     ensures epoch { ¬ HasTag (pos 0) (At 0) }
     ensures untimed { ¬ HasTag (pos 0) Untimed }
+{}
+
+/// The tags of some stamps.
+#[tactic(auto, unfolding(crate::specs::Spelling::tag_showing, crate::specs::Spelling::date_after))]
+pub fn spelling_examples()
+    // 14 November 2023, 22:13:20, in UTC; in doubt; 60 minutes before UTC, and 90 minutes behind it.
+    ensures at { tag_of (pos 0) (At 1700000000000) ≡ Some (0x20 ∷ 0x4E ∷ 0x0D ∷ 0x16 ∷ 0x0E ∷ 0x0B ∷ 0x17 ∷ []) }
+    ensures doubtful { tag_of (pos 0) (Doubtful 1700000000000) ≡ Some (0x20 ∷ 0x4E ∷ 0x8D ∷ 0x16 ∷ 0x0E ∷ 0x0B ∷ 0x17 ∷ []) }
+    ensures east { tag_of (pos 60) (At 1700000000000) ≡ Some (0x20 ∷ 0x4E ∷ 0x0D ∷ 0x17 ∷ 0x0E ∷ 0x0B ∷ 0x17 ∷ []) }
+    ensures west { tag_of (negsuc 89) (At 1700000000000) ≡ Some (0x20 ∷ 0x4E ∷ 0x2B ∷ 0x14 ∷ 0x0E ∷ 0x0B ∷ 0x17 ∷ []) }
+    // 29 February of 2000, 0:00; of 2024, 12:34:56.789; of 2096, in its last millisecond.
+    ensures leap_2000 { tag_of (pos 0) (At 951782400000) ≡ Some (0x00 ∷ 0x00 ∷ 0x00 ∷ 0x00 ∷ 0x1D ∷ 0x02 ∷ 0x00 ∷ []) }
+    ensures leap_2024 { tag_of (pos 0) (At 1709210096789) ≡ Some (0xD5 ∷ 0xDD ∷ 0x22 ∷ 0x0C ∷ 0x1D ∷ 0x02 ∷ 0x18 ∷ []) }
+    ensures leap_2096 { tag_of (pos 0) (At 3981398399999) ≡ Some (0x5F ∷ 0xEA ∷ 0x3B ∷ 0x17 ∷ 0x1D ∷ 0x02 ∷ 0x60 ∷ []) }
+    // Both ends of the window, in UTC and 60 minutes before it; and the milliseconds beyond.
+    ensures last { tag_of (pos 0) (At 4102444799999) ≡ Some (0x5F ∷ 0xEA ∷ 0x3B ∷ 0x17 ∷ 0x1F ∷ 0x0C ∷ 0x63 ∷ []) }
+    ensures first { tag_of (pos 0) (At 946684800000) ≡ Some (0x00 ∷ 0x00 ∷ 0x00 ∷ 0x00 ∷ 0x01 ∷ 0x01 ∷ 0x00 ∷ []) }
+    ensures first_60 { tag_of (pos 60) (At 946681200000) ≡ Some (0x00 ∷ 0x00 ∷ 0x00 ∷ 0x00 ∷ 0x01 ∷ 0x01 ∷ 0x00 ∷ []) }
+    ensures year_2100 { tag_of (pos 0) (At 4102444800000) ≡ None }
+    ensures year_1999 { tag_of (pos 0) (At 946684799999) ≡ None }
+    ensures far { tag_of (pos 0) (At 281474976776190) ≡ None }
+    ensures epoch_west { tag_of (negsuc 839) (At 0) ≡ None }
+    ensures untimed { tag_of (pos 0) Untimed ≡ None }
 {}

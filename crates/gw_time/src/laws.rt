@@ -6,6 +6,7 @@ ghost use Rattle.gw_model.specs.Fit.{IsIn21stCentury, IsInWindow};
 ghost use Rattle.jiff_core.specs.Calendar.{IsBetween, IsCivilDate};
 ghost use Rattle.gw_time.specs.Tag.{numbers_in, midnight, civil_milliseconds, tag_meaning, plain};
 ghost use Rattle.gw_time.specs.Window.{shown_at, HasTag, IsFrom2000To2099};
+ghost use Rattle.gw_time.specs.Spelling.{tag_of};
 ghost use Rattle.gw_time.specs.Laws.{IsOffset, AreSevenOctets};
 
 use crate::{TagFault, Zone, from_tag, to_tag};
@@ -67,3 +68,11 @@ pub fn written_again(tag: &[u8; 7], zone: &Zone) -> Result<[u8; 7], TagFault>
     let stamp = from_tag(tag, zone)?;
     Ok(to_tag(stamp, zone).unwrap())
 }
+
+/// Which stamps have a tag, and what it means.
+pub fn tags_of_stamps()
+    ensures window { (offset : ℤ) (stamp : Stamp_lem) → IsSome (tag_of offset stamp) ↔ HasTag offset stamp }
+    ensures meant { (offset : ℤ) (stamp : Stamp_lem) → IfSome (tag_of offset stamp) (λ tag. tag_meaning offset tag ≡ Ok stamp) }
+    ensures seven { (offset : ℤ) (stamp : Stamp_lem) → IfSome (tag_of offset stamp) (λ tag. AreSevenOctets tag) }
+    ensures plain { (offset : ℤ) (stamp : Stamp_lem) → IfSome (tag_of offset stamp) (λ tag. plain tag ≡ tag) }
+{}

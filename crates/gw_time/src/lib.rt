@@ -9,7 +9,7 @@ mod tag;
 mod zone;
 
 pub use fault::TagFault;
-pub use tag::{from_tag, to_tag};
+pub use tag::{from_tag, has_tag, to_tag};
 pub use zone::Zone;
 
 #[cfg(test)]

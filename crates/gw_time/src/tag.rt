@@ -1,7 +1,8 @@
 //! Time tags and the stamps that they mean.
-ghost use Rattle.std.specs.Prelude.{◌≡◌, ◌↔◌, IsSome, IfSome, Ok};
+ghost use Rattle.std.specs.Prelude.{◌≡◌, ◌↔◌, Bool, is_some, IsSome, IfSome, Ok};
 ghost use Rattle.gw_time.specs.Tag.{tag_meaning, stamp_of, plain};
-ghost use Rattle.gw_time.specs.Window.{HasTag, IsFrom2000To2099};
+ghost use Rattle.gw_time.specs.Window.{shown_at, HasTag, IsFrom2000To2099};
+ghost use Rattle.gw_time.specs.Spelling.{tag_showing, tag_of};
 
 use crate::binary_time::BinaryTime;
 use crate::fault::TagFault;
@@ -34,12 +35,31 @@ pub fn to_tag(stamp: Stamp, zone: &Zone) -> Option<[u8; 7]>
     ensures window { IsSome result ↔ HasTag zone.now.offset_minutes stamp }
     ensures meant { IfSome result (λ tag. tag_meaning zone.now.offset_minutes tag ≡ Ok stamp) }
     ensures plain { IfSome result (λ tag. plain tag ≡ tag) }
+    // Which octets they are.
+    ensures exact { result ≡ tag_of zone.now.offset_minutes stamp }
 {
     match stamp {
         Stamp::Untimed => None,
         Stamp::At(instant) => tag_at(instant, false, zone),
         Stamp::Doubtful(instant) => tag_at(instant, true, zone),
     }
+}
+
+/// Whether a stamp has a time tag at a station with these clocks.
+pub fn has_tag(stamp: Stamp, zone: &Zone) -> bool
+    ensures { result ≡ is_some (tag_of zone.now.offset_minutes stamp) }
+{
+    match stamp {
+        Stamp::Untimed => false,
+        Stamp::At(instant) | Stamp::Doubtful(instant) => is_shown(instant, zone),
+    }
+}
+
+/// Whether an instant has a time tag.
+fn is_shown(instant: u64, zone: &Zone) -> bool
+    ensures { (invalid : Bool) → result ≡ is_some (tag_showing invalid (shown_at zone.now.offset_minutes instant)) }
+{
+    zone.shown_at(instant).is_some()
 }
 
 /// The time tag of an instant.
@@ -49,6 +69,7 @@ fn tag_at(instant: u64, invalid: bool, zone: &Zone) -> Option<[u8; 7]>
     ensures meant { IfSome result
         (λ tag. tag_meaning zone.now.offset_minutes tag ≡ Ok (stamp_of invalid instant)) }
     ensures plain { IfSome result (λ tag. plain tag ≡ tag) }
+    ensures exact { result ≡ tag_showing invalid (shown_at zone.now.offset_minutes instant) }
 {
     let shown = zone.shown_at(instant)?;
     Some(BinaryTime::showing(shown, invalid).octets())

@@ -2,6 +2,8 @@
 ghost use Rattle.std.specs.Prelude.{◌≡◌, ◌↔◌, ◌<◌, ◌≤◌, ◌*◌, ◌+◌, pos, negsuc, ◌≤ℤ◌, ◌-ℤ◌, ◌*ℤ◌, IsSome, IfSome};
 ghost use Rattle.gw_time.specs.Window.{shown_at, IsFrom2000To2099};
 
+use gw_model::Settings;
+
 /// Milliseconds from the beginning of 1970 to that of 2000, by the same clocks.
 pub const START_OF_2000: u64 = 946_684_800_000;
 
@@ -19,6 +21,15 @@ pub struct Zone {
 impl Zone {
     /// Coordinated universal time.
     pub const UTC: Zone = Zone { offset_minutes: 0 };
+
+    /// The clocks of the station with these settings.
+    pub fn of(settings: &Settings) -> Zone
+        ensures { result.offset_minutes ≡ settings.now.offset }
+    {
+        Zone {
+            offset_minutes: settings.offset_minutes(),
+        }
+    }
 
     /// How far the clocks are before UTC, in milliseconds.
     fn offset_milliseconds(&self) -> i64

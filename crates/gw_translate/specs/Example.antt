@@ -5,11 +5,11 @@ use Rattle.gw_model.specs.declared.point.Kind.{Kind}
 use Rattle.gw_model.specs.declared.point.Kind.TheVariants as kinds
 use Rattle.gw_model.specs.declared.point.PointKey.{PointKey}
 use Rattle.gw_model.specs.declared.point.Raw.TheVariants.{Bit, Two, Count, Number}
-use Rattle.gw_model.specs.declared.point.Stamp.TheVariants.{Untimed, At}
+use Rattle.gw_model.specs.declared.point.Stamp.{Stamp}
+use Rattle.gw_model.specs.declared.point.Stamp.TheVariants.{Untimed}
 use Rattle.gw_model.specs.declared.point.Report.{Report}
 use Rattle.gw_model.specs.declared.row.Row.{Row}
 use Rattle.gw_model.specs.declared.row.Show.{Show}
-use Rattle.gw_model.specs.declared.row.Show.TheVariants as shows
 use Rattle.gw_model.specs.declared.observation.Value.{Value}
 use Rattle.gw_model.specs.declared.observation.Quality.{Quality}
 use Rattle.gw_model.specs.declared.observation.Observation.{Observation}
@@ -36,9 +36,9 @@ analog flags z = record { key = point kinds.Analog; raw = Number z; flags = flag
 abbrev pub intermediate : ℕ → Report
 intermediate flags = record { key = point kinds.Double; raw = Two 0; flags = flags; stamp = Untimed; event = true; of_kind = refl; stamped = refl }
 
--- an event at an instant, and a static value
-abbrev pub timed : ℕ → Bool → Report
-timed flags on = record { key = point kinds.Binary; raw = Bit on; flags = flags; stamp = At 1700000000000; event = true; of_kind = refl; stamped = refl }
+-- an event with a time, and a static value
+abbrev pub timed : ℕ → Bool → Stamp → Report
+timed flags on stamp = record { key = point kinds.Binary; raw = Bit on; flags = flags; stamp = stamp; event = true; of_kind = refl; stamped = refl }
 
 abbrev pub standing : ℕ → Bool → Report
 standing flags on = record { key = point kinds.Binary; raw = Bit on; flags = flags; stamp = Untimed; event = false; of_kind = refl; stamped = refl }

@@ -1,20 +1,21 @@
 -- The image of a report: what clients are shown of it.
-use Rattle.std.specs.Prelude.{ℕ, ℤ, pos, negsuc, Bool, ◌||◌, not, List, Option}
+use Rattle.std.specs.Prelude.{ℕ, ℤ, pos, negsuc, Bool, ◌||◌, not, List, Option, is_some, if◌then◌else◌}
 use Rattle.std.specs.Option.{option_map}
 use Rattle.std.specs.Int.{w32, int_min, int_max, cast_unsigned}
 use Rattle.std.specs.Ordering.{int_eq}
 use Rattle.gw_model.specs.declared.point.Raw.{Raw}
 use Rattle.gw_model.specs.declared.point.Raw.TheVariants.{Bit, Two, Count, Number}
+use Rattle.gw_model.specs.declared.point.Stamp.{Stamp}
 use Rattle.gw_model.specs.declared.point.Stamp.TheVariants.{Untimed}
 use Rattle.gw_model.specs.declared.point.Report.{Report}
 use Rattle.gw_model.specs.declared.row.Row.{Row}
 use Rattle.gw_model.specs.declared.row.Show.{Show}
 use Rattle.gw_model.specs.declared.row.Show.TheVariants as shows
-use Rattle.gw_model.specs.declared.observation.Value.{Value}
 use Rattle.gw_model.specs.declared.observation.Value.TheVariants.{Single, Double, Scaled, Word, Total}
 use Rattle.gw_model.specs.declared.observation.Quality.{Quality}
 use Rattle.gw_model.specs.declared.observation.Observation.{Observation}
 use Rattle.gw_model.specs.Rows.{row_from}
+use Rattle.gw_time.specs.Spelling.{tag_of}
 use Rattle.gw_translate.specs.Quality.{quality_of}
 
 -- the nearest value of 16 bits
@@ -26,21 +27,25 @@ abbrev pub overflowed : Bool → Quality → Quality
 overflowed ov q = record q { ov = q.ov || ov }
 
 -- an analog value shown by a type: the 32 bits of its two's complement, or the nearest scaled value, with OV where it isn't the value itself
-abbrev pub analog_image : Show → ℤ → Quality → (address : ℕ) → Observation
-analog_image shows.Word z q address = record { address = address; value = Word (cast_unsigned w32 z); quality = q; stamp = Untimed }
-analog_image _ z q address = record { address = address; value = Scaled (clamped z); quality = overflowed (not (int_eq (clamped z) z)) q; stamp = Untimed }
+abbrev pub analog_image : Show → ℤ → Quality → (address : ℕ) → Stamp → Observation
+analog_image shows.Word z q address stamp = record { address = address; value = Word (cast_unsigned w32 z); quality = q; stamp = stamp }
+analog_image _ z q address stamp = record { address = address; value = Scaled (clamped z); quality = overflowed (not (int_eq (clamped z) z)) q; stamp = stamp }
 
 -- a raw value shown by a type
-abbrev pub raw_image : Show → Raw → Quality → (address : ℕ) → Observation
-raw_image show (Bit on) q address = record { address = address; value = Single on; quality = q; stamp = Untimed }
-raw_image show (Two state) q address = record { address = address; value = Double state; quality = q; stamp = Untimed }
-raw_image show (Count n) q address = record { address = address; value = Total n; quality = q; stamp = Untimed }
-raw_image show (Number z) q address = analog_image show z q address
+abbrev pub raw_image : Show → Raw → Quality → (address : ℕ) → Stamp → Observation
+raw_image show (Bit on) q address stamp = record { address = address; value = Single on; quality = q; stamp = stamp }
+raw_image show (Two state) q address stamp = record { address = address; value = Double state; quality = q; stamp = stamp }
+raw_image show (Count n) q address stamp = record { address = address; value = Total n; quality = q; stamp = stamp }
+raw_image show (Number z) q address stamp = analog_image show z q address stamp
 
--- the image of a report by its own row; no time is told yet
-abbrev pub image_of : Row → Report → Observation
-image_of row report = raw_image row.show report.raw (quality_of report.key.kind report.flags) row.address
+-- the time that is shown: none where clocks that are offset minutes before UTC don't show one of the years 2000 to 2099
+abbrev pub stamp_image : ℤ → Stamp → Stamp
+stamp_image offset stamp = if is_some (tag_of offset stamp) then stamp else Untimed
+
+-- the image of a report by its own row, where clocks are offset minutes before UTC
+abbrev pub image_of : ℤ → Row → Report → Observation
+image_of offset row report = raw_image row.show report.raw (quality_of report.key.kind report.flags) row.address (stamp_image offset report.stamp)
 
 -- the image of a report by the rows of a point map: none for a point without a row
-abbrev pub image_in : List Row → Report → Option Observation
-image_in rows report = option_map (λ found. image_of found.1 report) (row_from 0 report.key rows)
+abbrev pub image_in : ℤ → List Row → Report → Option Observation
+image_in offset rows report = option_map (λ found. image_of offset found.1 report) (row_from 0 report.key rows)

@@ -1,5 +1,5 @@
 -- The quality of a point, from the flags of its object (IEEE Std 1815, 11.6, to IEC 60870-5-101, 7.2.6.3 and 7.2.6.9).
-use Rattle.std.specs.Prelude.{ℕ, ◌/◌, ◌%◌, ◌^◌, Bool, false, not, ◌||◌, ◌==◌}
+use Rattle.std.specs.Prelude.{ℕ, ◌/◌, ◌%◌, Bool, false, not, ◌||◌, ◌==◌}
 use Rattle.gw_model.specs.declared.point.Kind.{Kind}
 use Rattle.gw_model.specs.declared.point.Kind.TheVariants.{Binary, Output, Double, Counter, Analog}
 use Rattle.gw_model.specs.declared.observation.Quality.{Quality}

@@ -1,6 +1,7 @@
 //! Worked examples of the definitions, computed by the definitions themselves.
 ghost use Rattle.std.specs.Prelude.{◌≡◌, pos, negsuc, [], ◌∷◌, Some, None, true, false, refl};
 ghost use Rattle.gw_model.specs.declared.point.Kind.TheVariants as kinds;
+ghost use Rattle.gw_model.specs.declared.point.Stamp.TheVariants.{At, Doubtful};
 ghost use Rattle.gw_model.specs.declared.row.Show.TheVariants as shows;
 ghost use Rattle.gw_model.specs.declared.observation.Value.TheVariants.{Single, Double, Scaled, Word, Total};
 ghost use Rattle.gw_translate.specs.Quality.{quality_of};
@@ -35,34 +36,40 @@ pub fn qualities_by_example()
 {}
 
 /// The images of some reports, and which of them are news.
+#[tactic(auto, unfolding(gw_time::specs::Spelling::tag_showing, gw_time::specs::Spelling::date_after))]
 pub fn images_by_example()
     // Flags 81, FF and 00 of a binary input.
-    ensures on { image_of (row kinds.Binary shows.Single refl) (binary 0x81 true) ≡ told (Single true) good }
-    ensures doubtful { image_of (row kinds.Binary shows.Single refl) (binary 0xFF true) ≡ told (Single true) (record good { iv = true; nt = true; sb = true; bl = true }) }
-    ensures off { image_of (row kinds.Binary shows.Single refl) (binary 0x00 false) ≡ told (Single false) invalid }
-    ensures output { image_of (row kinds.Output shows.Single refl) (output 0xA1 true) ≡ told (Single true) good }
-    ensures double { image_of (row kinds.Double shows.Double refl) (intermediate 0x01) ≡ told (Double 0) good }
+    ensures on { image_of (pos 0) (row kinds.Binary shows.Single refl) (binary 0x81 true) ≡ told (Single true) good }
+    ensures doubtful { image_of (pos 0) (row kinds.Binary shows.Single refl) (binary 0xFF true) ≡ told (Single true) (record good { iv = true; nt = true; sb = true; bl = true }) }
+    ensures off { image_of (pos 0) (row kinds.Binary shows.Single refl) (binary 0x00 false) ≡ told (Single false) invalid }
+    ensures output { image_of (pos 0) (row kinds.Output shows.Single refl) (output 0xA1 true) ≡ told (Single true) good }
+    ensures double { image_of (pos 0) (row kinds.Double shows.Double refl) (intermediate 0x01) ≡ told (Double 0) good }
     // Analog values as scaled ones: the ends of 16 bits, and one beyond each.
-    ensures highest { image_of (row kinds.Analog shows.Scaled refl) (analog 0x01 (pos 32767)) ≡ told (Scaled (pos 32767)) good }
-    ensures lowest { image_of (row kinds.Analog shows.Scaled refl) (analog 0x01 (negsuc 32767)) ≡ told (Scaled (negsuc 32767)) good }
-    ensures above { image_of (row kinds.Analog shows.Scaled refl) (analog 0x01 (pos 32768)) ≡ told (Scaled (pos 32767)) overflow }
-    ensures below { image_of (row kinds.Analog shows.Scaled refl) (analog 0x01 (negsuc 32768)) ≡ told (Scaled (negsuc 32767)) overflow }
-    ensures far_above { image_of (row kinds.Analog shows.Scaled refl) (analog 0x01 (pos 40000)) ≡ told (Scaled (pos 32767)) overflow }
-    ensures far_below { image_of (row kinds.Analog shows.Scaled refl) (analog 0x01 (negsuc 39999)) ≡ told (Scaled (negsuc 32767)) overflow }
+    ensures highest { image_of (pos 0) (row kinds.Analog shows.Scaled refl) (analog 0x01 (pos 32767)) ≡ told (Scaled (pos 32767)) good }
+    ensures lowest { image_of (pos 0) (row kinds.Analog shows.Scaled refl) (analog 0x01 (negsuc 32767)) ≡ told (Scaled (negsuc 32767)) good }
+    ensures above { image_of (pos 0) (row kinds.Analog shows.Scaled refl) (analog 0x01 (pos 32768)) ≡ told (Scaled (pos 32767)) overflow }
+    ensures below { image_of (pos 0) (row kinds.Analog shows.Scaled refl) (analog 0x01 (negsuc 32768)) ≡ told (Scaled (negsuc 32767)) overflow }
+    ensures far_above { image_of (pos 0) (row kinds.Analog shows.Scaled refl) (analog 0x01 (pos 40000)) ≡ told (Scaled (pos 32767)) overflow }
+    ensures far_below { image_of (pos 0) (row kinds.Analog shows.Scaled refl) (analog 0x01 (negsuc 39999)) ≡ told (Scaled (negsuc 32767)) overflow }
     // Over range by the outstation's own word.
-    ensures over_range { image_of (row kinds.Analog shows.Scaled refl) (analog 0x21 (pos 7)) ≡ told (Scaled (pos 7)) overflow }
+    ensures over_range { image_of (pos 0) (row kinds.Analog shows.Scaled refl) (analog 0x21 (pos 7)) ≡ told (Scaled (pos 7)) overflow }
     // As words: two's complement, without overflow.
-    ensures word { image_of (row kinds.Analog shows.Word refl) (analog 0x01 (negsuc 0)) ≡ told (Word 0xFFFFFFFF) good }
-    ensures least_word { image_of (row kinds.Analog shows.Word refl) (analog 0x01 (negsuc 2147483647)) ≡ told (Word 0x80000000) good }
-    ensures large_word { image_of (row kinds.Analog shows.Word refl) (analog 0x01 (pos 40000)) ≡ told (Word 40000) good }
+    ensures word { image_of (pos 0) (row kinds.Analog shows.Word refl) (analog 0x01 (negsuc 0)) ≡ told (Word 0xFFFFFFFF) good }
+    ensures least_word { image_of (pos 0) (row kinds.Analog shows.Word refl) (analog 0x01 (negsuc 2147483647)) ≡ told (Word 0x80000000) good }
+    ensures large_word { image_of (pos 0) (row kinds.Analog shows.Word refl) (analog 0x01 (pos 40000)) ≡ told (Word 40000) good }
     // A counter that rolled over, and one whose source is lost.
-    ensures rollover { image_of (row kinds.Counter shows.Total refl) (counter 0x21 0xFFFFFFFF) ≡ told (Total 0xFFFFFFFF) (record good { cy = true }) }
-    ensures lost { image_of (row kinds.Counter shows.Total refl) (counter 0x05 7) ≡ told (Total 7) invalid }
-    // No time is told yet.
-    ensures untimed { image_of (row kinds.Binary shows.Single refl) (timed 0x81 true) ≡ told (Single true) good }
+    ensures rollover { image_of (pos 0) (row kinds.Counter shows.Total refl) (counter 0x21 0xFFFFFFFF) ≡ told (Total 0xFFFFFFFF) (record good { cy = true }) }
+    ensures lost { image_of (pos 0) (row kinds.Counter shows.Total refl) (counter 0x05 7) ≡ told (Total 7) invalid }
+    // An event of 14 November 2023; one in doubt; one of 1970, and the first of 2000 where clocks are 60 minutes before UTC.
+    ensures timed { image_of (pos 0) (row kinds.Binary shows.Single refl) (timed 0x81 true (At 1700000000000)) ≡ record (told (Single true) good) { stamp = At 1700000000000 } }
+    ensures in_doubt { image_of (pos 0) (row kinds.Binary shows.Single refl) (timed 0x81 true (Doubtful 1700000000000)) ≡ record (told (Single true) good) { stamp = Doubtful 1700000000000 } }
+    ensures long_ago { image_of (pos 0) (row kinds.Binary shows.Single refl) (timed 0x81 true (At 1)) ≡ told (Single true) good }
+    ensures first { image_of (pos 60) (row kinds.Binary shows.Single refl) (timed 0x81 true (At 946681200000)) ≡ record (told (Single true) good) { stamp = At 946681200000 } }
+    ensures before_first { image_of (pos 60) (row kinds.Binary shows.Single refl) (timed 0x81 true (At 946681199999)) ≡ told (Single true) good }
+    ensures year_2100 { image_of (pos 0) (row kinds.Binary shows.Single refl) (timed 0x81 true (At 4102444800000)) ≡ told (Single true) good }
     // By a point map: none for a point without a row.
-    ensures mapped { image_in (row kinds.Binary shows.Single refl ∷ []) (binary 0x81 true) ≡ Some (told (Single true) good) }
-    ensures unmapped { image_in (row kinds.Binary shows.Single refl ∷ []) (output 0x81 true) ≡ None }
+    ensures mapped { image_in (pos 0) (row kinds.Binary shows.Single refl ∷ []) (binary 0x81 true) ≡ Some (told (Single true) good) }
+    ensures unmapped { image_in (pos 0) (row kinds.Binary shows.Single refl ∷ []) (output 0x81 true) ≡ None }
     // An event is news always, a static value where value or quality differs.
     ensures event { is_news_of (binary 0x81 true) (told (Single true) good) (told (Single true) good) ≡ true }
     ensures same { is_news_of (standing 0x81 true) (told (Single true) good) (told (Single true) good) ≡ false }

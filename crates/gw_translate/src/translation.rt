@@ -1,10 +1,11 @@
 //! The image of a report: the observation that clients are shown.
 ghost use Rattle.std.specs.Prelude.{◌≡◌};
-ghost use Rattle.gw_model.specs.Fit.{IsFit};
+ghost use Rattle.gw_model.specs.Fit.{IsFit, IsInWindow};
 ghost use Rattle.gw_translate.specs.Quality.{quality_of};
-ghost use Rattle.gw_translate.specs.Image.{clamped, image_of};
+ghost use Rattle.gw_translate.specs.Image.{clamped, image_of, stamp_image};
 
-use gw_model::{Kind, Observation, Quality, Raw, Report, Row, Show, Stamp, Value, Zone};
+use gw_model::{Kind, Observation, Quality, Raw, Report, Row, Show, Stamp, Value};
+use gw_time::{Zone, has_tag};
 
 /// The quality of a point of a kind, from the flags of its object.
 pub fn quality(kind: Kind, flags: u8) -> Quality
@@ -49,10 +50,23 @@ fn clamp(number: i32) -> i16
     number.max(-32768).min(32767) as i16
 }
 
-/// The image of a report by the row of its own point. No time is told yet.
-pub fn image(report: &Report, row: &Row, _zone: &Zone) -> Observation
-    ensures image { result ≡ image_of row.now report.now }
-    ensures fit { IsFit _zone.now.offset_minutes result }
+/// The time that clients are shown: none where a time tag can't show it.
+#[tactic(auto, using(gw_time::proofs::Spelled::window_of_tag, gw_time::proofs::Century::has_tag_is_in_window))]
+fn shown_stamp(stamp: Stamp, zone: &Zone) -> Stamp
+    ensures image { result ≡ stamp_image zone.now.offset_minutes stamp }
+    ensures window { IsInWindow zone.now.offset_minutes result }
+{
+    if has_tag(stamp, zone) {
+        stamp
+    } else {
+        Stamp::Untimed
+    }
+}
+
+/// The image of a report by the row of its own point, at a station with these clocks.
+pub fn image(report: &Report, row: &Row, zone: &Zone) -> Observation
+    ensures image { result ≡ image_of zone.now.offset_minutes row.now report.now }
+    ensures fit { IsFit zone.now.offset_minutes result }
 {
     let quality = quality(report.key.kind, report.flags);
     let (value, quality) = match (report.raw, row.show) {
@@ -70,6 +84,6 @@ pub fn image(report: &Report, row: &Row, _zone: &Zone) -> Observation
         address: row.address,
         value,
         quality,
-        stamp: Stamp::Untimed,
+        stamp: shown_stamp(report.stamp, zone),
     }
 }

@@ -1,1 +1,5 @@
 pub mod Meant
+pub mod Behind
+pub mod ObjectLoop
+pub mod Joined
+pub mod Spelled

@@ -1,12 +1,14 @@
 -- What an ASDU with process information means (IEC 60870-5-101, 7.1 and 7.2): type identification, variable
 -- structure qualifier, cause, originator, common address, and information objects to the end.
-use Rattle.std.specs.Prelude.{ℕ, ℤ, ◌+◌, ◌*◌, ◌%◌, Bool, true, false, List, [], ◌∷◌, zero, suc, length, take, drop, Option, Some, None, option_map, ◌==◌, if◌then◌else◌, slice_index}
+use Rattle.std.specs.Prelude.{ℕ, ℤ, ◌+◌, ◌*◌, ◌%◌, Bool, true, false, List, [], ◌∷◌, zero, suc, length, take, drop, Option, Some, None, Result, Ok, Err, option_map, ◌==◌, if◌then◌else◌, slice_index}
 use Rattle.gw_model.specs.declared.point.Stamp.{Stamp}
 use Rattle.gw_model.specs.declared.point.Stamp.TheVariants.{Untimed}
 use Rattle.gw_model.specs.declared.observation.Value.{Value}
 use Rattle.gw_model.specs.declared.observation.Value.TheVariants.{Single, Double, Scaled, Word, Total}
 use Rattle.gw_model.specs.declared.observation.Quality.{Quality}
 use Rattle.gw_model.specs.declared.observation.Observation.{Observation}
+use Rattle.gw_time.specs.declared.fault.TagFault.{TagFault}
+use Rattle.gw_time.specs.Tag.{tag_meaning}
 use Rattle.iec_asdu.specs.Bits.{is_set}
 use Rattle.iec_asdu.specs.Elements.{single_meaning, double_meaning, word_meaning, scaled_meaning, counter_meaning}
 
@@ -46,11 +48,22 @@ pub record Layout : Type 0 where
 abbrev pub untimed : ℕ → ℕ → (List ℕ → Option (Value × Quality)) → Layout
 untimed identification element shown = record { identification = identification; element = element; shown = shown; tag = 0; stamp = λ octets. Some Untimed }
 
--- M_SP_NA_1, M_DP_NA_1, M_BO_NA_1, M_ME_NB_1 and M_IT_NA_1, at a station whose clocks are offset minutes
--- before UTC: no type without time looks at the offset
+-- the stamp that a tag means, if it means one
+abbrev pub told : Result Stamp TagFault → Option Stamp
+told (Ok stamp) = Some stamp
+told (Err fault) = None
+
+-- a type with the time tag CP56Time2a, at a station whose clocks are offset minutes before UTC
+abbrev pub timed : ℤ → ℕ → ℕ → (List ℕ → Option (Value × Quality)) → Layout
+timed offset identification element shown = record { identification = identification; element = element; shown = shown; tag = 7; stamp = λ octets. told (tag_meaning offset octets) }
+
+-- M_SP_NA_1, M_DP_NA_1, M_BO_NA_1, M_ME_NB_1 and M_IT_NA_1; with time M_SP_TB_1, M_DP_TB_1, M_BO_TB_1, M_ME_TE_1
+-- and M_IT_TB_1
 abbrev pub monitor_types : ℤ → List Layout
 monitor_types offset =
-    untimed 1 1 single_shown ∷ untimed 3 1 double_shown ∷ untimed 7 5 word_shown ∷ untimed 11 3 scaled_shown ∷ untimed 15 5 counter_shown ∷ []
+    untimed 1 1 single_shown ∷ untimed 3 1 double_shown ∷ untimed 7 5 word_shown ∷ untimed 11 3 scaled_shown ∷ untimed 15 5 counter_shown
+    ∷ timed offset 30 1 single_shown ∷ timed offset 31 1 double_shown ∷ timed offset 33 5 word_shown ∷ timed offset 35 3 scaled_shown
+    ∷ timed offset 37 5 counter_shown ∷ []
 
 -- the type with an identification
 abbrev pub layout_of : ℕ → List Layout → Option Layout

@@ -1,6 +1,6 @@
 -- Short words for the worked examples: qualities, and ASDUs of originator 0.
 use Rattle.std.specs.Prelude.{ℕ, true, false, List}
-use Rattle.gw_model.specs.declared.point.Stamp.TheVariants.{Untimed}
+use Rattle.gw_model.specs.declared.point.Stamp.TheVariants.{Untimed, At, Doubtful}
 use Rattle.gw_model.specs.declared.observation.Value.{Value}
 use Rattle.gw_model.specs.declared.observation.Quality.{Quality}
 use Rattle.gw_model.specs.declared.observation.Observation.{Observation}
@@ -37,6 +37,13 @@ carried = record { iv = false; nt = false; sb = false; bl = false; ov = false; c
 -- an observation without time
 abbrev pub told : ℕ → Value → Quality → Observation
 told address value quality = record { address = address; value = value; quality = quality; stamp = Untimed }
+
+-- an observation at an instant, and one in doubt
+abbrev pub told_at : ℕ → Value → Quality → ℕ → Observation
+told_at address value quality t = record { address = address; value = value; quality = quality; stamp = At t }
+
+abbrev pub told_doubtful : ℕ → Value → Quality → ℕ → Observation
+told_doubtful address value quality t = record { address = address; value = value; quality = quality; stamp = Doubtful t }
 
 -- type identification, cause, common address and observations
 abbrev pub asdu : ℕ → ℕ → ℕ → List Observation → Asdu

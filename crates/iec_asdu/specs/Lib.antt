@@ -2,5 +2,9 @@ pub mod Bits
 pub mod Elements
 pub mod Laws
 pub mod Asdu
+pub mod Grammar
+pub mod Reading
+pub mod Types
+pub mod Contents
 pub mod Spelling
 pub mod Example

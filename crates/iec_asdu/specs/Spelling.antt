@@ -1,21 +1,21 @@
--- How one observation is spelled as an ASDU.
-use Rattle.std.specs.Prelude.{◌≡◌, ℕ, ℤ, ◌<◌, ◌^◌, List, ◌∷◌, ◌++◌, take, FitsSigned}
+-- How one observation is spelled as an ASDU: with time, where its stamp has a tag, and without one elsewhere.
+use Rattle.std.specs.Prelude.{ℕ, ℤ, ◌<◌, ◌^◌, Bool, List, [], ◌∷◌, ◌++◌, take, Option, Some, None, if◌then◌else◌, FitsSigned}
+use Rattle.std.specs.Option.{is_some}
 use Rattle.std.specs.Int.{w16, w32, to_le_bytes}
-use Rattle.gw_model.specs.declared.point.Stamp.TheVariants.{Untimed}
 use Rattle.gw_model.specs.declared.observation.Value.{Value}
 use Rattle.gw_model.specs.declared.observation.Value.TheVariants.{Single, Double, Scaled, Word, Total}
 use Rattle.gw_model.specs.declared.observation.Quality.{Quality}
 use Rattle.gw_model.specs.declared.observation.Observation.{Observation}
-use Rattle.gw_model.specs.Fit.{IsFit}
+use Rattle.gw_time.specs.Spelling.{tag_of}
 use Rattle.iec_asdu.specs.Elements.{single_spelling, double_spelling, word_spelling, scaled_spelling, counter_spelling}
 
--- the type identification of a value without time
-abbrev pub type_of : Value → ℕ
-type_of (Single on) = 1
-type_of (Double state) = 3
-type_of (Word n) = 7
-type_of (Scaled z) = 11
-type_of (Total n) = 15
+-- the type identification of a value, with a time tag or without
+abbrev pub type_of : Value → Bool → ℕ
+type_of (Single on) timed = if timed then 30 else 1
+type_of (Double state) timed = if timed then 31 else 3
+type_of (Word n) timed = if timed then 33 else 7
+type_of (Scaled z) timed = if timed then 35 else 11
+type_of (Total n) timed = if timed then 37 else 15
 
 -- the information element of a value with its quality
 abbrev pub element_spelling : Value → Quality → List ℕ
@@ -25,9 +25,20 @@ element_spelling (Word n) q = word_spelling (record { word = n; quality = q })
 element_spelling (Scaled z) q = scaled_spelling (record { value = z; quality = q })
 element_spelling (Total n) q = counter_spelling (record { count = n; quality = q })
 
--- one object with its address, originator 0; numbers low octet first
-abbrev pub spelling : ℕ → ℕ → Observation → List ℕ
-spelling common cause x = type_of x.value ∷ 1 ∷ cause ∷ 0 ∷ (to_le_bytes w16 common ++ take 3 (to_le_bytes w32 x.address) ++ element_spelling x.value x.quality)
+-- the octets of a tag, if there is one
+abbrev pub tag_octets : Option (List ℕ) → List ℕ
+tag_octets None = []
+tag_octets (Some tag) = tag
+
+-- one object with its address, of a value with this tag, originator 0; numbers low octet first
+abbrev pub spelling_with : Option (List ℕ) → ℕ → ℕ → Observation → List ℕ
+spelling_with tag common cause x =
+    type_of x.value (is_some tag) ∷ 1 ∷ cause ∷ 0
+    ∷ (to_le_bytes w16 common ++ take 3 (to_le_bytes w32 x.address) ++ (element_spelling x.value x.quality ++ tag_octets tag))
+
+-- the ASDU of an observation, at a station whose clocks are offset minutes before UTC
+abbrev pub spelling : ℤ → ℕ → ℕ → Observation → List ℕ
+spelling offset common cause x = spelling_with (tag_of offset x.stamp) common cause x
 
 -- a number has the width of its element
 abbrev pub HasWidth : Value → Type 0
@@ -36,8 +47,3 @@ HasWidth (Double state) = Unit {0}
 HasWidth (Word n) = n < 2 ^ 32
 HasWidth (Scaled z) = FitsSigned w16 z
 HasWidth (Total n) = n < 2 ^ 32
-
--- an ASDU of a type without time can carry it
-pub record IsUntimedFit (offset : ℤ) (x : Observation) : Type 0 where
-  pub fit : IsFit offset x
-  pub untimed : x.stamp ≡ Untimed

@@ -3,10 +3,16 @@
 
 mod elements;
 mod examples;
+mod fault;
+pub mod laws;
+mod reading;
+mod types;
 mod writing;
 
 pub use elements::{BitString, CounterReading, DoublePoint, ScaledValue, SinglePoint};
-pub use examples::asdu_examples;
+pub use examples::{asdu_examples, fault_examples, timed_examples};
+pub use fault::AsduFault;
+pub use reading::{Monitor, read_monitor};
 pub use writing::{Written, write_monitor};
 
 #[cfg(test)]

@@ -1,6 +1,7 @@
 //! Worked examples through the layers, with values from outside.
 
-use crate::laws::fragments_of;
+use crate::laws::{fragments_of, responses_of};
+use gw_model::{Kind, PointKey, Raw, Stamp};
 use std::alloc::Global;
 use std::test::Fail;
 
@@ -62,6 +63,34 @@ fn frame_octet_by_octet(rt: HostRuntime) -> Result<(), Fail> {
     // The frame goes from a master, and carries nothing.
     assert!(rt; octet_by_octet(rt.alloc(), &RESET)?.is_empty());
     assert!(rt; fragments_of(rt.alloc(), &[&RESET], 1, 1024)?.is_empty());
+    Ok(())
+}
+
+#[test]
+fn response_octet_by_octet(rt: HostRuntime) -> Result<(), Fail> {
+    let mut pieces = Vec::new(rt.alloc());
+    for octet in EVENT_FRAME.chunks(1) {
+        pieces.push(octet)?;
+    }
+    let responses = responses_of(rt.alloc(), 3, pieces.as_slice(), OWN, PEER)?;
+    assert_eq!(rt; responses.len(), 1);
+    assert_eq!(rt; responses[0].outstation(), 3);
+    assert_eq!(rt; responses[0].octets(), EVENT.as_slice());
+    let reports = responses[0].reports();
+    assert_eq!(rt; reports.len(), 1);
+    let key = PointKey {
+        outstation: 3,
+        kind: Kind::Binary,
+        index: 5,
+    };
+    assert_eq!(rt; reports[0].key, key);
+    assert_eq!(rt; reports[0].raw, Raw::Bit(true));
+    assert_eq!(rt; reports[0].stamp, Stamp::At(1_700_000_000_000));
+    // Fragments that are no responses are left out.
+    let pieces = [THREE.as_slice(), EVENT_FRAME.as_slice(), FIVE.as_slice()];
+    let responses = responses_of(rt.alloc(), 0, &pieces, OWN, PEER)?;
+    assert_eq!(rt; responses.len(), 1);
+    assert_eq!(rt; responses[0].octets(), EVENT.as_slice());
     Ok(())
 }
 

@@ -15,7 +15,7 @@ pub fn lines()
 {}
 
 /// A response without objects is accepted and answered with nothing, and so is an empty line.
-#[tactic(auto, unfolding(crate::specs::Answers::lines_of, crate::specs::Answers::onto_first, crate::specs::Answers::is_accepted, crate::specs::Answers::line_text, dnp_points::specs::Headers::headers_from))]
+#[tactic(auto, unfolding(crate::specs::Answers::lines_of, crate::specs::Answers::onto_first, crate::specs::Answers::is_accepted, crate::specs::Answers::line_text, dnp_objects::specs::Headers::headers_from))]
 pub fn inputs()
     ensures nothing { all_accepted [] ≡ true }
     ensures accepted { all_accepted (codes "C0 81 00 00" ++ 10 ∷ 10 ∷ codes "C0 82 00 00") ≡ true }

@@ -1,7 +1,7 @@
 -- The reports from this one on bring what is left of the news, and there is room for them.
 use Rattle.std.proofs.Common.{◌-◌, ◌≤◌, length, map, drop}
 use Rattle.std.specs.List.{AllByRecursion}
-use Rattle.gw_hub.specs.News.{news_of, picture_after}
+use Rattle.gw_picture.specs.News.{news_of, picture_after}
 use Rattle.gw_hub.specs.Steps.{came}
 use Rattle.gw_hub.specs.Seats.{links_of, HasRoom}
 use Rattle.gw_hub.proofs.Taking.{Left}
@@ -9,7 +9,7 @@ use Rattle.gw_hub.proofs.hub.take_reports.Given as goal
 
 abbrev pub invariant-loop-report : goal.invariant-loop-report
 invariant-loop-report l =
-    Left l.settings.rows l.settings.zone.offset_minutes l.news l.picture (drop l.report-index l.reports) (links_of l.clients)
-    (news_of l.settings.rows l.fn.picture l.reports) (picture_after l.settings.rows l.fn.picture l.reports) (map (came (news_of l.settings.rows l.fn.picture l.reports)) (links_of l.fn.clients))
+    Left l.settings.offset l.settings.rows l.news l.picture (drop l.report-index l.reports) (links_of l.clients)
+    (news_of l.settings.offset l.settings.rows l.fn.picture l.reports) (picture_after l.settings.offset l.settings.rows l.fn.picture l.reports) (map (came (news_of l.settings.offset l.settings.rows l.fn.picture l.reports)) (links_of l.fn.clients))
     × AllByRecursion (HasRoom (length l.reports - l.report-index)) l.clients
     × (l.news ≤ l.report-index)

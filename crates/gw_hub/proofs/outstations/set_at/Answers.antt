@@ -1,7 +1,7 @@
 use Rattle.std.proofs.Common.{ℕ, sym, ap, ◌∙◌, arith}
 use Rattle.std.specs.Prelude.{Some}
-use Rattle.gw_hub.specs.State.{change}
-use Rattle.gw_hub.proofs.Images.{set-change, change-past}
+use Rattle.gw_picture.specs.Change.{change}
+use Rattle.gw_picture.proofs.Lists.{set-change, change-past}
 use Rattle.gw_hub.proofs.outstations.set_at.Goals as goal
 
 pub returns-then-position-outstations : goal.returns-then-position-outstations

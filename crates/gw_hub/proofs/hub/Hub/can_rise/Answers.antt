@@ -1,6 +1,6 @@
 use Rattle.std.proofs.Common.{rules}
-use Rattle.gw_hub.proofs.Counting.{news_few}
+use Rattle.gw_picture.proofs.Counts.{news_few}
 use Rattle.gw_hub.proofs.hub.Hub.can_rise.Goals as goal
 
 pub returns-in-Some : goal.returns-in-Some
-returns-in-Some c = search (rules, news_few c.args.self.now.setup.rows c.args.self.now.state.picture c.args.reports.now)
+returns-in-Some c = search (rules, news_few c.args.self.now.setup.offset c.args.self.now.setup.rows c.args.self.now.state.picture c.args.reports.now)

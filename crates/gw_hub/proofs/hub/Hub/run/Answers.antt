@@ -11,7 +11,7 @@ loop-step-preserved c =
     let same = c.loop-step.invariant.1 in
     let allowed : Allowed c.args.settings before c.step-item.result c.step.result c.step.new.self.state =
     subst (λ (setup : Setup). Allowed setup before c.step-item.result c.step.result c.step.new.self.state) same c.step.ensures.step in
-    let sound : IsSound c.args.settings.zone.offset_minutes before = subst (λ (setup : Setup). IsSound setup.zone.offset_minutes before) same c.step.ensures.sound in
+    let sound : IsSound c.args.settings.offset before = subst (λ (setup : Setup). IsSound setup.offset before) same c.step.ensures.sound in
     let is : c.step-item.result ≡ get_or c.args.steps.items c.loop-step.step-index c.step-item.result =
     c.step-item.is ∙ ap (λ (steps : List _). get_or steps c.loop-step.step-index c.step-item.result) c.deref-step-items.ensures.value in (
       omega (arith, c.loop-step.invariant.0, c.in_ok-push.ensures.len),

@@ -1,0 +1,25 @@
+use Rattle.std.proofs.Common.{◌≡◌, ◌+◌, ◌-◌, ◌<◌, arith}
+use Rattle.dnp_points.specs.Meaning.{body_of}
+use Rattle.dnp_points.proofs.Steps.{whole_turn, left_behind, whole_is_done}
+use Rattle.dnp_points.proofs.objects.push_whole.Goals as goal
+
+pub loop-n-preserved : goal.loop-n-preserved
+loop-n-preserved g c =
+    let lt : c.loop-n.n < c.args.header.now.count = omega arith in
+    record {
+      read = whole_turn g.O.Object.variation g.O.Object.LENGTH c.LENGTH-in-loop-n.result c.args.outstation c.args.common c.args.header.now.prefix c.from-prefix.result c.args.header.now.first c.from-first.result c.loop-n.n c.args.header.now.count
+          c.loop-n.rest.now c.split_at.result.0.now c.split_at.result.1.now c.split_at-in-loop-n.result.0.now c.split_at-in-loop-n.result.1.now c.index_of-index.result
+          c.loop-n.found.items c.push.new.self.items c.args.found.now.items (body_of c.args.part.now g.O.Object.variation c.args.header.now) c.report.result
+          lt c.from-prefix.ensures c.from-first.ensures c.LENGTH-in-loop-n.ensures
+          c.split_at.ensures.front c.split_at.ensures.back c.split_at-in-loop-n.ensures.front c.split_at-in-loop-n.ensures.back
+          c.index_of-index.ensures c.report.ensures c.in_ok-push.ensures.items c.loop-n.invariant.read;
+      left = left_behind g.O.Object.LENGTH c.LENGTH-in-loop-n.result c.args.header.now.prefix c.from-prefix.result c.loop-n.n c.args.header.now.count
+          c.loop-n.rest.now c.split_at.result.0.now c.split_at.result.1.now c.split_at-in-loop-n.result.0.now c.split_at-in-loop-n.result.1.now
+          lt c.from-prefix.ensures c.LENGTH-in-loop-n.ensures c.split_at.ensures.back_len c.split_at-in-loop-n.ensures.back_len c.loop-n.invariant.left;
+    }
+
+pub returns : goal.returns
+returns g c =
+    let none : c.args.header.now.count - c.loop-n.n ≡ 0 = omega arith in
+    whole_is_done c.args.part.now c.args.header.now g.O.Object.variation g.O.Object.LENGTH c.args.outstation c.args.common (c.args.header.now.first + c.loop-n.n) (c.args.header.now.count - c.loop-n.n) c.loop-n.rest.now
+    c.loop-n.found.items c.args.found.now.items c.requires.known g.met.O.Object.sized none c.loop-n.invariant.read

@@ -1,9 +1,0 @@
--- What this place shows at last.
-use Rattle.std.proofs.Common.{◌≡◌, Some, drop}
-use Rattle.std.specs.Prelude.{slice_get}
-use Rattle.gw_hub.specs.News.{last_at, picture_after}
-use Rattle.gw_hub.proofs.picture.shown_once_taken.Given as goal
-
-abbrev pub invariant-loop-report : goal.invariant-loop-report
-invariant-loop-report l =
-    slice_get (picture_after l.settings.rows l.shown l.reports) l.position ≡ Some (last_at l.settings.rows l.position l.last (drop l.report-index l.reports))

@@ -1,0 +1,24 @@
+-- Pictures of the rows of a point map, and what a report changes of one.
+use Rattle.std.specs.Prelude.{◌≡◌, ◌≢◌, ℕ, ℤ, List, map, Some, slice_get}
+use Rattle.std.specs.List.{AllByRecursion}
+use Rattle.gw_model.specs.declared.point.Report.{Report}
+use Rattle.gw_model.specs.declared.point.Stamp.TheVariants.{Untimed}
+use Rattle.gw_model.specs.declared.row.Row.{Row}
+use Rattle.gw_model.specs.declared.observation.Observation.{Observation}
+use Rattle.gw_model.specs.Rows.{row_from}
+use Rattle.gw_translate.specs.Image.{image_of}
+use Rattle.gw_picture.specs.News.{untimed}
+
+-- at each row's place an observation with the row's address, without time
+pub record IsPictureOf (rows : List Row) (picture : List Observation) : Type 0 where
+  pub addresses : map (λ (x : Observation). x.address) picture ≡ map (λ (row : Row). row.address) rows
+  pub untimed : AllByRecursion (λ (x : Observation). x.stamp ≡ Untimed) picture
+
+-- x is the image of a report by the row of its point. At that row's place the second picture shows x without its time, elsewhere what the first one shows
+pub record ShowsImage (offset : ℤ) (rows : List Row) (r : Report) (x : Observation) (before after : List Observation) : Type 0 where
+  pub place : ℕ
+  pub row : Row
+  pub found : row_from 0 r.key rows ≡ Some (place, row)
+  pub image : x ≡ image_of offset row r
+  pub here : slice_get after place ≡ Some (untimed x)
+  pub elsewhere : (n : ℕ) → n ≢ place → slice_get after n ≡ slice_get before n

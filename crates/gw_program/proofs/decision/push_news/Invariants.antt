@@ -1,0 +1,11 @@
+-- The reports before this one were taken, and their news are told.
+use Rattle.std.proofs.Common.{◌≡◌, ◌++◌, drop}
+use Rattle.gw_program.specs.Translation.{news_in, shown_in}
+use Rattle.gw_program.proofs.decision.push_news.Given as goal
+
+abbrev pub invariant-loop-report : goal.invariant-loop-report
+invariant-loop-report l = record {
+  news : l.news.items ++ news_in l.settings l.picture (drop l.report-index l.reports) ≡ l.initial.news.items ++ news_in l.settings l.initial.picture l.reports;
+  shown : shown_in l.settings l.picture (drop l.report-index l.reports) ≡ shown_in l.settings l.initial.picture l.reports;
+  zone : l.zone.offset_minutes ≡ l.settings.offset;
+}

@@ -1,0 +1,122 @@
+-- What is read is what the octets mean, and a fault comes only where they mean nothing.
+use Rattle.std.proofs.Common.{◌≡◌, ℕ, zero, suc, ◌+◌, ◌*◌, ◌==◌, Bool, true, false, cond, nat_lt, List, [], ◌∷◌, length, drop, Option, Some, None, Result, Ok, Err, refl, sym, ap, ◌∙◌, subst, arith, inl, inr}
+use Rattle.std.specs.Prelude.{IfOk}
+use Rattle.std.proofs.lemmas.Bool.{cases_order, le-ltb, lt-ltb, eq-eqb, ne_eqb}
+use Rattle.gw_model.specs.declared.point.Stamp.{Stamp}
+use Rattle.gw_model.specs.declared.observation.Value.{Value}
+use Rattle.gw_model.specs.declared.observation.Quality.{Quality}
+use Rattle.gw_model.specs.declared.observation.Observation.{Observation}
+use Rattle.iec_asdu.specs.declared.fault.AsduFault.{AsduFault}
+use Rattle.iec_asdu.specs.declared.fault.AsduFault.TheVariants.{Short, Long, UnknownType, Reserved, Tag}
+use Rattle.iec_asdu.specs.declared.reading.Monitor.{Monitor}
+use Rattle.iec_asdu.specs.Asdu.{◌>>=◌, Asdu, Layout, size_of, address_at, observed_at, objects_apart, objects_in_sequence, objects_of, asdu_meaning}
+use Rattle.iec_asdu.specs.Grammar.{IsAsdu}
+use Rattle.iec_asdu.specs.Reading.{some_or, object_read, read_apart, read_in_sequence, objects_read, asdu_read, Gives}
+use Rattle.iec_asdu.specs.Contents.{Contents, contents_of, Spells, seen, contents_read}
+use Rattle.iec_asdu.proofs.Spelled.{meaning_is_spelled}
+
+-- one reading after another
+abbrev then_read : {A B : Type 0} → Result A AsduFault → (A → Result B AsduFault) → Result B AsduFault
+then_read (Ok x) f = f x
+then_read (Err e) f = Err e
+
+-- what was read, without its faults
+abbrev pub given : {A : Type 0} → Result A AsduFault → Option A
+given (Ok x) = Some x
+given (Err e) = None
+
+-- ---- objects
+
+abbrev observed : ℕ → Value × Quality → Stamp → Observation
+observed address shown stamp = record { address = address; value = shown.0; quality = shown.1; stamp = stamp }
+
+object_parts : (address : ℕ) (s : Option (Value × Quality)) (t : Option Stamp)
+    → given (then_read (some_or Reserved s) (λ shown. then_read (some_or Tag t) (λ stamp. Ok (observed address shown stamp)))) ≡ (s >>= λ shown. (t >>= λ stamp. Some (observed address shown stamp)))
+object_parts address None t = refl
+object_parts address (Some s) None = refl
+object_parts address (Some s) (Some t) = refl
+
+object_given : (address : ℕ) (layout : Layout) (octets : List ℕ) → given (object_read address layout octets) ≡ observed_at address layout octets
+object_given address layout octets = object_parts address _ _
+
+two_given : (r : Result Observation AsduFault) (rs : Result (List Observation) AsduFault) (o : Option Observation) (os : Option (List Observation)) → given r ≡ o → given rs ≡ os
+    → given (then_read r (λ x. then_read rs (λ xs. Ok (x ∷ xs)))) ≡ (o >>= λ x. (os >>= λ xs. Some (x ∷ xs)))
+two_given (Ok x) (Ok xs) o os e f = rw (← e, ← f) refl
+two_given (Ok x) (Err d) o os e f = rw (← e, ← f) refl
+two_given (Err d) rs o os e f = rw (← e) refl
+
+apart_given : (layout : Layout) (n : ℕ) (octets : List ℕ) → given (read_apart layout n octets) ≡ objects_apart layout n octets
+unfolding read_apart objects_apart
+apart_given layout zero octets = refl
+apart_given layout (suc n) octets = two_given _ _ _ _ (object_given _ layout _) (apart_given layout n _)
+
+sequence_given : (layout : Layout) (n address : ℕ) (octets : List ℕ) → given (read_in_sequence layout n address octets) ≡ objects_in_sequence layout n address octets
+unfolding read_in_sequence objects_in_sequence
+sequence_given layout zero address octets = refl
+sequence_given layout (suc n) address octets = two_given _ _ _ _ (object_given address layout _) (sequence_given layout n (address + 1) _)
+
+by_length : (has wanted : ℕ) (r : Result (List Observation) AsduFault) (o : Option (List Observation)) → given r ≡ o
+    → given (cond (nat_lt has wanted) (Err Short) (cond (nat_lt wanted has) (Err Long) r)) ≡ cond (has == wanted) o None
+by_length has wanted r o e =
+    elim (cases_order has wanted) [
+      | inl same ↦ rw (le-ltb has wanted (omega arith), le-ltb wanted has (omega arith), eq-eqb has wanted same) e
+      | inr (inl lt) ↦ rw (lt-ltb has wanted lt, ne_eqb has wanted (λ e. omega arith)) refl
+      | inr (inr gt) ↦ rw (le-ltb has wanted (omega arith), lt-ltb wanted has gt, ne_eqb has wanted (λ e. omega arith)) refl
+    ]
+
+objects_given : (layout : Layout) (sequence : Bool) (n : ℕ) (octets : List ℕ) → given (objects_read layout sequence n octets) ≡ objects_of layout sequence n octets
+unfolding objects_read objects_of
+objects_given layout sequence zero octets = refl
+objects_given layout true (suc n) octets =
+    rw (ne_eqb (suc n) 0 (λ e. omega arith))
+    (by_length (length octets) (3 + suc n * size_of layout) _ _ (sequence_given layout (suc n) (address_at octets) (drop 3 octets)))
+objects_given layout false (suc n) octets =
+    rw (ne_eqb (suc n) 0 (λ e. omega arith))
+    (by_length (length octets) (suc n * (3 + size_of layout)) (read_apart layout (suc n) octets) (objects_apart layout (suc n) octets) (apart_given layout (suc n) octets))
+
+-- ---- the whole
+
+objects_made : (r : Result (List Observation) AsduFault) (o : Option (List Observation)) (make : List Observation → Asdu) → given r ≡ o
+    → given (then_read r (λ xs. Ok (make xs))) ≡ (o >>= λ xs. Some (make xs))
+objects_made (Ok xs) o make e = rw (← e) refl
+objects_made (Err d) o make e = rw (← e) refl
+
+header_given : (l : Option Layout) (read : Layout → Result (List Observation) AsduFault) (of : Layout → Option (List Observation)) (make : List Observation → Asdu) → ((layout : Layout) → given (read layout) ≡ of layout)
+    → given (then_read (some_or UnknownType l) (λ layout. then_read (read layout) (λ xs. Ok (make xs)))) ≡ (l >>= λ layout. (of layout >>= λ xs. Some (make xs)))
+header_given None read of make e = refl
+header_given (Some layout) read of make e = objects_made (read layout) (of layout) make (e layout)
+
+pub asdu_given : (types : List Layout) (octets : List ℕ) → given (asdu_read types octets) ≡ asdu_meaning types octets
+unfolding asdu_read asdu_meaning
+asdu_given types (identification ∷ qualifier ∷ cause ∷ originator ∷ low ∷ high ∷ objects) =
+    rw (le-ltb (length (identification ∷ qualifier ∷ cause ∷ originator ∷ low ∷ high ∷ objects)) 6 (omega arith))
+    (header_given _ _ _ (λ xs. record { identification = identification; cause = cause; originator = originator; common_address = low + 256 * high; observations = xs }) (λ layout. objects_given layout _ _ objects))
+asdu_given types [] = refl
+asdu_given types (a ∷ []) = refl
+asdu_given types (a ∷ b ∷ []) = refl
+asdu_given types (a ∷ b ∷ c ∷ []) = refl
+asdu_given types (a ∷ b ∷ c ∷ d ∷ []) = refl
+asdu_given types (a ∷ b ∷ c ∷ d ∷ e ∷ []) = refl
+
+-- ---- what a call tells
+
+read_some : (r : Result Asdu AsduFault) (c : Contents) → then_read r (λ a. Ok (contents_of a)) ≡ Ok c → (a : Asdu) × (r ≡ Ok a) × (contents_of a ≡ c)
+read_some (Ok a) c e = (a, refl, cc)
+read_some (Err d) c e = absurd cc
+
+pub found_for : (types : List Layout) (octets : List ℕ) (result : Result Monitor AsduFault) → Gives seen result (contents_read types octets)
+    → IfOk result (λ m. Spells types octets (seen m))
+found_for types octets (Ok m) h =
+    let r = read_some (asdu_read types octets) (seen m) h in
+    (r.0, (meaning_is_spelled types octets r.0).0 (sym (asdu_given types octets) ∙ ap (λ (x : Result Asdu AsduFault). given x) r.1), r.2)
+found_for types octets (Err e) h = tt
+
+read_of : (r : Result Asdu AsduFault) (a : Asdu) → given r ≡ Some a → r ≡ Ok a
+read_of (Ok b) a e = cc
+read_of (Err d) a e = absurd cc
+
+pub only_for : (types : List Layout) (octets : List ℕ) (result : Result Monitor AsduFault) → Gives seen result (contents_read types octets)
+    → (asdu : Asdu) → IsAsdu types octets asdu → Gives seen result (Ok (contents_of asdu))
+only_for types octets result h asdu is =
+    let read : asdu_read types octets ≡ Ok asdu = read_of (asdu_read types octets) asdu (asdu_given types octets ∙ (meaning_is_spelled types octets asdu).1 is) in
+    subst (λ (r : Result Asdu AsduFault). Gives seen result (then_read r (λ a. Ok (contents_of a)))) read h

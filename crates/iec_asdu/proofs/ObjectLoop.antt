@@ -1,0 +1,103 @@
+-- Reading objects one after the other, as a loop does.
+use Rattle.std.proofs.Common.{◌≡◌, ℕ, zero, suc, ◌+◌, ◌≤◌, List, [], ◌∷◌, ◌++◌, length, take, drop, Result, Ok, Err, refl, sym, ap, ◌∙◌, append_assoc, arith}
+use Rattle.std.proofs.lemmas.List.{append-nil, drop-drop}
+use Rattle.gw_model.specs.declared.observation.Observation.{Observation}
+use Rattle.iec_asdu.specs.declared.fault.AsduFault.{AsduFault}
+use Rattle.iec_asdu.specs.Asdu.{Layout, size_of, address_at}
+use Rattle.iec_asdu.specs.Reading.{◌>>=◌, object_read, read_apart, read_in_sequence, UnlessMemory}
+use Rattle.iec_asdu.specs.declared.fault.AsduFault.TheVariants.{Short, Long, UnknownType, ZeroObjects, Reserved, Tag, Memory}
+
+-- what was read before, and what is still read
+abbrev pub with_front : List Observation → Result (List Observation) AsduFault → Result (List Observation) AsduFault
+with_front front read = read >>= λ xs. Ok (front ++ xs)
+
+pub nothing_before : (read : Result (List Observation) AsduFault) → with_front [] read ≡ read
+nothing_before (Ok xs) = refl
+nothing_before (Err e) = refl
+
+regroup : (front : List Observation) (x : Observation) (read : Result (List Observation) AsduFault) → with_front front (read >>= λ xs. Ok (x ∷ xs)) ≡ with_front (front ++ x ∷ []) read
+regroup front x (Ok xs) = ap (λ (ys : List Observation). Ok ys) (simp append_assoc)
+regroup front x (Err e) = refl
+
+-- what holds of a fault is told of it
+pub told_of : {P : Type 0} (f : AsduFault) → P → UnlessMemory f P
+told_of Memory p = tt
+told_of Short p = p
+told_of Long p = p
+told_of UnknownType p = p
+told_of ZeroObjects p = p
+told_of Reserved p = p
+told_of Tag p = p
+
+-- ---- SQ 0
+
+-- the address at the front
+address_in_front : (octets : List ℕ) → 3 ≤ length octets → address_at (take 3 octets) ≡ address_at octets
+address_in_front (a ∷ b ∷ c ∷ octets) long = refl
+address_in_front _ long = absurd (omega arith)
+
+-- the object at the front, as it is split off
+pub apart_object : (layout : Layout) (address size : ℕ) (rest front behind information : List ℕ) (read : Result Observation AsduFault) → 3 ≤ length rest
+    → front ≡ take 3 rest → behind ≡ drop 3 rest → size ≡ size_of layout → information ≡ take size behind → address ≡ address_at front
+    → read ≡ object_read address layout information → object_read (address_at rest) layout (take (size_of layout) (drop 3 rest)) ≡ read
+apart_object layout address size rest front behind information read long ef eb es ei ea er =
+    let address_is : address ≡ address_at rest = ea ∙ (ap (λ (o : List ℕ). address_at o) ef ∙ address_in_front rest long) in
+    let octets_are : information ≡ take (size_of layout) (drop 3 rest) = ei ∙ (ap (λ (n : ℕ). take n behind) es ∙ ap (λ (o : List ℕ). take (size_of layout) o) eb) in
+    ap (λ (n : ℕ). object_read n layout (take (size_of layout) (drop 3 rest))) (sym address_is) ∙ (ap (λ (o : List ℕ). object_read address layout o) (sym octets_are) ∙ sym er)
+
+-- what is left behind it
+pub behind_object : (size : ℕ) (n : ℕ) (rest behind after : List ℕ) → behind ≡ drop 3 rest → size ≡ n → after ≡ drop size behind → after ≡ drop (3 + n) rest
+behind_object size n rest behind after eb es ea = ea ∙ (ap (λ (k : ℕ). drop k behind) es ∙ (ap (λ (o : List ℕ). drop n o) eb ∙ drop-drop n 3 rest))
+
+apart_step : (layout : Layout) (n m : ℕ) (octets : List ℕ) (read : Result Observation AsduFault) → n ≡ suc m → object_read (address_at octets) layout (take (size_of layout) (drop 3 octets)) ≡ read
+    → read_apart layout n octets ≡ (read >>= λ x. (read_apart layout m (drop (3 + size_of layout) octets) >>= λ xs. Ok (x ∷ xs)))
+unfolding read_apart
+apart_step layout n m octets read e at = rw (e, at) refl
+
+pub apart_goes_on : (layout : Layout) (n m : ℕ) (octets : List ℕ) (front : List Observation) (x : Observation) (whole : Result (List Observation) AsduFault)
+    → n ≡ suc m → object_read (address_at octets) layout (take (size_of layout) (drop 3 octets)) ≡ Ok x
+    → with_front front (read_apart layout n octets) ≡ whole → with_front (front ++ x ∷ []) (read_apart layout m (drop (3 + size_of layout) octets)) ≡ whole
+apart_goes_on layout n m octets front x whole e at so_far =
+    sym (regroup front x (read_apart layout m (drop (3 + size_of layout) octets))) ∙ (ap (with_front front) (sym (apart_step layout n m octets (Ok x) e at)) ∙ so_far)
+
+pub apart_fails : (layout : Layout) (n m : ℕ) (octets : List ℕ) (front : List Observation) (f : AsduFault) (whole : Result (List Observation) AsduFault)
+    → n ≡ suc m → object_read (address_at octets) layout (take (size_of layout) (drop 3 octets)) ≡ Err f
+    → with_front front (read_apart layout n octets) ≡ whole → whole ≡ Err f
+apart_fails layout n m octets front f whole e at so_far = sym so_far ∙ ap (with_front front) (apart_step layout n m octets (Err f) e at)
+
+pub apart_done : (layout : Layout) (n : ℕ) (octets : List ℕ) (front : List Observation) (whole : Result (List Observation) AsduFault)
+    → n ≡ 0 → with_front front (read_apart layout n octets) ≡ whole → whole ≡ Ok front
+unfolding read_apart
+apart_done layout zero octets front whole e so_far = sym so_far ∙ ap (λ (xs : List Observation). Ok xs) (append-nil front)
+apart_done layout (suc n) octets front whole e so_far = absurd (omega arith)
+
+-- ---- SQ 1
+
+-- the element and the time tag at the front, as they are split off
+pub sequence_object : (layout : Layout) (address size : ℕ) (rest information : List ℕ) (read : Result Observation AsduFault)
+    → size ≡ size_of layout → information ≡ take size rest → read ≡ object_read address layout information → object_read address layout (take (size_of layout) rest) ≡ read
+sequence_object layout address size rest information read es ei er =
+    let octets_are : information ≡ take (size_of layout) rest = ei ∙ ap (λ (n : ℕ). take n rest) es in
+    ap (λ (o : List ℕ). object_read address layout o) (sym octets_are) ∙ sym er
+
+sequence_step : (layout : Layout) (n m address : ℕ) (octets : List ℕ) (read : Result Observation AsduFault) → n ≡ suc m → object_read address layout (take (size_of layout) octets) ≡ read
+    → read_in_sequence layout n address octets ≡ (read >>= λ x. (read_in_sequence layout m (address + 1) (drop (size_of layout) octets) >>= λ xs. Ok (x ∷ xs)))
+unfolding read_in_sequence
+sequence_step layout n m address octets read e at = rw (e, at) refl
+
+pub sequence_goes_on : (layout : Layout) (n m address : ℕ) (octets : List ℕ) (front : List Observation) (x : Observation) (whole : Result (List Observation) AsduFault)
+    → n ≡ suc m → object_read address layout (take (size_of layout) octets) ≡ Ok x
+    → with_front front (read_in_sequence layout n address octets) ≡ whole → with_front (front ++ x ∷ []) (read_in_sequence layout m (address + 1) (drop (size_of layout) octets)) ≡ whole
+sequence_goes_on layout n m address octets front x whole e at so_far =
+    sym (regroup front x (read_in_sequence layout m (address + 1) (drop (size_of layout) octets))) ∙ (ap (with_front front) (sym (sequence_step layout n m address octets (Ok x) e at)) ∙ so_far)
+
+pub sequence_fails : (layout : Layout) (n m address : ℕ) (octets : List ℕ) (front : List Observation) (f : AsduFault) (whole : Result (List Observation) AsduFault)
+    → n ≡ suc m → object_read address layout (take (size_of layout) octets) ≡ Err f
+    → with_front front (read_in_sequence layout n address octets) ≡ whole → whole ≡ Err f
+sequence_fails layout n m address octets front f whole e at so_far = sym so_far ∙ ap (with_front front) (sequence_step layout n m address octets (Err f) e at)
+
+pub sequence_done : (layout : Layout) (n address : ℕ) (octets : List ℕ) (front : List Observation) (whole : Result (List Observation) AsduFault)
+    → n ≡ 0 → with_front front (read_in_sequence layout n address octets) ≡ whole → whole ≡ Ok front
+unfolding read_in_sequence
+sequence_done layout zero address octets front whole e so_far = sym so_far ∙ ap (λ (xs : List Observation). Ok xs) (append-nil front)
+sequence_done layout (suc n) address octets front whole e so_far = absurd (omega arith)

@@ -1,0 +1,12 @@
+-- The observations found so far, and those still read from the rest, are those of the objects.
+use Rattle.std.proofs.Common.{◌≡◌, ◌+◌, ◌-◌, ◌*◌, ◌≤◌, length}
+use Rattle.iec_asdu.specs.Reading.{read_apart}
+use Rattle.iec_asdu.specs.Types.{layout_at, type_length}
+use Rattle.iec_asdu.proofs.ObjectLoop.{with_front}
+use Rattle.iec_asdu.proofs.reading.read_objects_apart.Given as goal
+
+abbrev pub invariant-loop : goal.invariant-loop
+invariant-loop l = record {
+  read : with_front l.found.items (read_apart (layout_at l.zone.offset_minutes l.kind) (l.count - l.counter) l.rest) ≡ read_apart (layout_at l.zone.offset_minutes l.kind) l.count l.objects;
+  enough : (l.count - l.counter) * (3 + type_length l.kind) ≤ length l.rest;
+}

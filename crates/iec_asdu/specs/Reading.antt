@@ -1,0 +1,94 @@
+-- An ASDU read from left to right: its meaning, or the first fault.
+use Rattle.std.specs.Prelude.{ℕ, zero, suc, ◌+◌, ◌*◌, ◌%◌, ◌<◌, ◌≤◌, Bool, List, [], ◌∷◌, length, take, drop, Option, Some, None, Result, Ok, Err, ◌≡◌, ◌==◌, nat_lt, slice_index, IsSomeAnd, if◌then◌else◌}
+use Rattle.gw_model.specs.declared.observation.Observation.{Observation}
+use Rattle.iec_asdu.specs.declared.fault.AsduFault.{AsduFault}
+use Rattle.iec_asdu.specs.declared.fault.AsduFault.TheVariants.{Short, Long, UnknownType, ZeroObjects, Reserved, Tag, Memory}
+use Rattle.iec_asdu.specs.Bits.{is_set}
+use Rattle.iec_asdu.specs.Asdu.{Asdu, Layout, layout_of, size_of, address_at}
+
+infixl 10 ◌>>=◌
+abbrev pub ◌>>=◌ : {A B : Type 0} → Result A AsduFault → (A → Result B AsduFault) → Result B AsduFault
+(Ok x) >>= f = f x
+(Err e) >>= f = Err e
+
+-- what is there, or the fault of its lack
+abbrev pub some_or : {A : Type 0} → AsduFault → Option A → Result A AsduFault
+some_or fault None = Err fault
+some_or fault (Some x) = Ok x
+
+-- what element and time tag tell of an address: a reserved bit comes before a tag that means nothing
+abbrev pub object_read : ℕ → Layout → List ℕ → Result Observation AsduFault
+object_read address layout octets = do
+  shown ← some_or Reserved (layout.shown (take layout.element octets))
+  stamp ← some_or Tag (layout.stamp (drop layout.element octets))
+  Ok (record { address = address; value = shown.0; quality = shown.1; stamp = stamp })
+
+-- SQ 0: so many objects, each with its address
+unfoldable pub read_apart : Layout → ℕ → List ℕ → Result (List Observation) AsduFault
+read_apart layout zero octets = Ok []
+read_apart layout (suc n) octets = do
+  first ← object_read (address_at octets) layout (take (size_of layout) (drop 3 octets))
+  others ← read_apart layout n (drop (3 + size_of layout) octets)
+  Ok (first ∷ others)
+
+-- SQ 1: so many objects at consecutive addresses from the one that is given
+unfoldable pub read_in_sequence : Layout → ℕ → ℕ → List ℕ → Result (List Observation) AsduFault
+read_in_sequence layout zero address octets = Ok []
+read_in_sequence layout (suc n) address octets = do
+  first ← object_read address layout (take (size_of layout) octets)
+  others ← read_in_sequence layout n (address + 1) (drop (size_of layout) octets)
+  Ok (first ∷ others)
+
+-- how many octets so many objects have, each of this size behind the one address, or each behind its own
+abbrev pub objects_length : ℕ → Bool → ℕ → ℕ
+objects_length size sequence n = if sequence then 3 + n * size else n * (3 + size)
+
+-- the objects: no object, then too few octets for them, then too many
+unfoldable pub objects_read : Layout → Bool → ℕ → List ℕ → Result (List Observation) AsduFault
+objects_read layout sequence n octets =
+    if n == 0 then Err ZeroObjects
+    else (if nat_lt (length octets) (objects_length (size_of layout) sequence n) then Err Short
+    else (if nat_lt (objects_length (size_of layout) sequence n) (length octets) then Err Long
+    else (if sequence then read_in_sequence layout n (address_at octets) (drop 3 octets) else read_apart layout n octets)))
+
+-- the whole: a header of six octets, then the type, then the objects
+unfoldable pub asdu_read : List Layout → List ℕ → Result Asdu AsduFault
+asdu_read types octets =
+    if nat_lt (length octets) 6 then Err Short
+    else (do
+      layout ← some_or UnknownType (layout_of (slice_index octets 0) types)
+      observations ← objects_read layout (is_set 7 (slice_index octets 1)) (slice_index octets 1 % 128) (drop 6 octets)
+      Ok (record {
+        identification = slice_index octets 0;
+        cause = slice_index octets 2;
+        originator = slice_index octets 3;
+        common_address = slice_index octets 4 + 256 * slice_index octets 5;
+        observations = observations;
+      }))
+
+-- ---- what a call gives
+
+-- there is an object, and the octets are as many as so many objects have
+pub record IsSized (layout : Layout) (qualifier : ℕ) (objects : List ℕ) : Type 0 where
+  pub some : 0 < qualifier % 128
+  pub sized : length objects ≡ objects_length (size_of layout) (is_set 7 qualifier) (qualifier % 128)
+
+-- the type is known, and the objects have their octets: no fault but one of the objects is left
+abbrev pub HasItsOctets : List Layout → List ℕ → Type 0
+HasItsOctets types octets = (6 ≤ length octets)
+    × IsSomeAnd (layout_of (slice_index octets 0) types) (λ layout. IsSized layout (slice_index octets 1) (drop 6 octets))
+
+-- a fault of the octets is told as it is; where memory ran out nothing is said of them
+abbrev pub UnlessMemory : AsduFault → Type 0 → Type 0
+UnlessMemory Memory P = Unit {0}
+UnlessMemory Short P = P
+UnlessMemory Long P = P
+UnlessMemory UnknownType P = P
+UnlessMemory ZeroObjects P = P
+UnlessMemory Reserved P = P
+UnlessMemory Tag P = P
+
+-- what a function returned, seen by view, is what reading gives, unless memory ran out
+abbrev pub Gives : {X Y : Type 0} → (X → Y) → Result X AsduFault → Result Y AsduFault → Type 0
+Gives view (Ok x) read = read ≡ Ok (view x)
+Gives view (Err e) read = UnlessMemory e (read ≡ Err e)

@@ -1,0 +1,216 @@
+//! Reading ASDUs with process information.
+ghost use Rattle.std.specs.Prelude.{◌≡◌, ◌+◌, ◌*◌, ◌%◌, ◌≤◌, length, Ok, IfOk, IfErr};
+ghost use Rattle.iec_asdu.specs.Asdu.{Asdu as Meaning, monitor_types, size_of, address_at};
+ghost use Rattle.iec_asdu.specs.Grammar.{IsAsdu};
+ghost use Rattle.iec_asdu.specs.Bits.{is_set};
+ghost use Rattle.iec_asdu.specs.Reading.{Gives, object_read, read_apart, read_in_sequence, objects_length, objects_read, IsSized, HasItsOctets};
+ghost use Rattle.iec_asdu.specs.Types.{layout_at, type_length};
+ghost use Rattle.iec_asdu.specs.Contents.{contents_of, Spells, seen, contents_read};
+
+use crate::fault::AsduFault;
+use crate::types::MonitorType;
+use gw_model::Observation;
+use gw_time::Zone;
+use std::alloc::Global;
+
+/// How many octets the header of an ASDU has: type, variable structure qualifier, cause, originator and
+/// common address.
+const HEADER_OCTETS: usize = 6;
+
+/// How many octets an information object address has.
+const ADDRESS_OCTETS: usize = 3;
+
+/// What an ASDU in monitor direction tells.
+#[derive(Debug, Drop)]
+pub struct Monitor {
+    /// Common address.
+    pub common: u16,
+    /// The whole octet of the cause of transmission.
+    pub cause: u8,
+    pub observations: Vec<Observation>,
+}
+
+/// An information object address, low octet first.
+fn address_of(octets: &[u8]) -> u32
+    requires { 3 ≤ length octets.now }
+    ensures value { result ≡ address_at octets.now }
+    ensures small { result ≤ 16777215 }
+{
+    u32::from_le_bytes([octets[0], octets[1], octets[2], 0])
+}
+
+/// What element and time tag tell of an address.
+fn read_object(
+    address: u32,
+    kind: MonitorType,
+    octets: &[u8],
+    zone: &Zone,
+) -> Result<Observation, AsduFault>
+    requires { length octets.now ≡ size_of (layout_at zone.now.offset_minutes kind) }
+    ensures { result ≡ object_read address (layout_at zone.now.offset_minutes kind) octets.now }
+{
+    let (element, tag) = octets.split_at(kind.element.octets());
+    let Some((value, quality)) = kind.element.read(element) else {
+        return Err(AsduFault::Reserved);
+    };
+    let stamp = match kind.stamp(tag, zone) {
+        Ok(stamp) => stamp,
+        Err(fault) => return Err(fault),
+    };
+    Ok(Observation {
+        address,
+        value,
+        quality,
+        stamp,
+    })
+}
+
+/// So many objects, each with its address.
+fn read_objects_apart(
+    alloc: Global,
+    kind: MonitorType,
+    count: u8,
+    objects: &[u8],
+    zone: &Zone,
+) -> Result<Vec<Observation>, AsduFault>
+    requires { count * (3 + size_of (layout_at zone.now.offset_minutes kind)) ≤ length objects.now }
+    ensures { Gives (λ v. v.items) result (read_apart (layout_at zone.now.offset_minutes kind) count objects.now) }
+{
+    let mut found = Vec::new(alloc);
+    let mut rest = objects;
+    for _ in 0..count {
+        let (address, behind) = rest.split_at(ADDRESS_OCTETS);
+        let (information, after) = behind.split_at(kind.octets());
+        let observation = match read_object(address_of(address), kind, information, zone) {
+            Ok(observation) => observation,
+            Err(fault) => return Err(fault),
+        };
+        if found.push(observation).is_err() {
+            return Err(AsduFault::Memory);
+        }
+        rest = after;
+    }
+    Ok(found)
+}
+
+/// The address so many places after the first.
+fn counted_on(first: u32, place: u8) -> u32
+    requires { first ≤ 16777215 }
+    ensures { result ≡ first + place }
+{
+    first + u32::from(place)
+}
+
+/// So many objects at consecutive addresses from the first on.
+fn read_objects_in_sequence(
+    alloc: Global,
+    kind: MonitorType,
+    count: u8,
+    first: u32,
+    objects: &[u8],
+    zone: &Zone,
+) -> Result<Vec<Observation>, AsduFault>
+    requires octets { count * size_of (layout_at zone.now.offset_minutes kind) ≤ length objects.now }
+    requires first { first ≤ 16777215 }
+    ensures { Gives (λ v. v.items) result (read_in_sequence (layout_at zone.now.offset_minutes kind) count first objects.now) }
+{
+    let mut found = Vec::new(alloc);
+    let mut rest = objects;
+    for place in 0..count {
+        let (information, after) = rest.split_at(kind.octets());
+        let observation = match read_object(counted_on(first, place), kind, information, zone) {
+            Ok(observation) => observation,
+            Err(fault) => return Err(fault),
+        };
+        if found.push(observation).is_err() {
+            return Err(AsduFault::Memory);
+        }
+        rest = after;
+    }
+    Ok(found)
+}
+
+/// How many octets so many objects have, with their addresses or the one address.
+fn objects_octets(kind: MonitorType, sequence: bool, count: u8) -> usize
+    ensures { result ≡ objects_length (type_length kind) sequence count }
+{
+    if sequence {
+        ADDRESS_OCTETS + usize::from(count) * kind.octets()
+    } else {
+        usize::from(count) * (ADDRESS_OCTETS + kind.octets())
+    }
+}
+
+/// The objects that a variable structure qualifier tells: bit 7 is SQ, bits 0 to 6 are their number.
+#[tactic(auto, unfolding(crate::specs::Reading::objects_read))]
+fn read_objects(
+    alloc: Global,
+    kind: MonitorType,
+    qualifier: u8,
+    objects: &[u8],
+    zone: &Zone,
+) -> Result<Vec<Observation>, AsduFault>
+    ensures read { Gives (λ v. v.items) result (objects_read (layout_at zone.now.offset_minutes kind) (is_set 7 qualifier) (qualifier % 128) objects.now) }
+    ensures memory { IfErr result (λ fault. fault ≡ AsduFault.Memory → IsSized (layout_at zone.now.offset_minutes kind) qualifier objects.now) }
+{
+    let sequence = qualifier / 128 % 2 == 1;
+    let count = qualifier % 128;
+    if count == 0 {
+        return Err(AsduFault::ZeroObjects);
+    }
+    let needed = objects_octets(kind, sequence, count);
+    if objects.len() < needed {
+        return Err(AsduFault::Short);
+    }
+    if objects.len() > needed {
+        return Err(AsduFault::Long);
+    }
+    if sequence {
+        let (address, elements) = objects.split_at(ADDRESS_OCTETS);
+        read_objects_in_sequence(alloc, kind, count, address_of(address), elements, zone)
+    } else {
+        read_objects_apart(alloc, kind, count, objects, zone)
+    }
+}
+
+/// The whole ASDU.
+#[tactic(auto, unfolding(crate::specs::Reading::asdu_read))]
+fn read_whole(alloc: Global, octets: &[u8], zone: &Zone) -> Result<Monitor, AsduFault>
+    ensures exact { Gives seen result (contents_read (monitor_types zone.now.offset_minutes) octets.now) }
+    ensures memory { IfErr result (λ fault. fault ≡ AsduFault.Memory → HasItsOctets (monitor_types zone.now.offset_minutes) octets.now) }
+{
+    if octets.len() < HEADER_OCTETS {
+        return Err(AsduFault::Short);
+    }
+    let (header, objects) = octets.split_at(HEADER_OCTETS);
+    let Some(kind) = MonitorType::of(header[0]) else {
+        return Err(AsduFault::UnknownType);
+    };
+    let observations = match read_objects(alloc, kind, header[1], objects, zone) {
+        Ok(observations) => observations,
+        Err(fault) => return Err(fault),
+    };
+    Ok(Monitor {
+        common: u16::from_le_bytes([header[4], header[5]]),
+        cause: header[2],
+        observations,
+    })
+}
+
+/// The ASDU that the octets spell, of a type with process information, under SQ 0 and SQ 1, with time and
+/// without.
+///
+/// A fault is the first one: of the header, of the type, of the number of objects, of their length, and
+/// then, object by object, of element and time tag.
+pub fn read_monitor(alloc: Global, octets: &[u8], zone: &Zone) -> Result<Monitor, AsduFault>
+    // What is read is spelled so.
+    ensures found { IfOk result (λ m. Spells (monitor_types zone.now.offset_minutes) octets.now (seen m)) }
+    // What is spelled so is read, unless memory runs out.
+    ensures only { (asdu : Meaning) → IsAsdu (monitor_types zone.now.offset_minutes) octets.now asdu → Gives seen result (Ok (contents_of asdu)) }
+    // Which fault it is.
+    ensures exact { Gives seen result (contents_read (monitor_types zone.now.offset_minutes) octets.now) }
+    // Memory is asked for only where the type is known and the objects have their octets.
+    ensures memory { IfErr result (λ fault. fault ≡ AsduFault.Memory → HasItsOctets (monitor_types zone.now.offset_minutes) octets.now) }
+{
+    read_whole(alloc, octets, zone)
+}

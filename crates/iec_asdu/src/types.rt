@@ -1,0 +1,189 @@
+//! The types of process information in monitor direction that the gateway has (IEC 60870-5-101, 7.2.1 and
+//! 7.3.1), without time and with the time tag CP56Time2a.
+ghost use Rattle.std.specs.Prelude.{◌≡◌, ◌≤◌, ℤ, true, false, length, option_map};
+ghost use Rattle.iec_asdu.specs.Asdu.{layout_of, monitor_types};
+ghost use Rattle.iec_asdu.specs.Reading.{some_or};
+ghost use Rattle.iec_asdu.specs.Spelling.{type_of};
+
+use crate::elements::{BitString, CounterReading, DoublePoint, ScaledValue, SinglePoint};
+use crate::fault::AsduFault;
+use gw_model::{Element, Quality, Stamp, Value};
+use gw_time::{Zone, from_tag};
+
+/// How many octets a time tag, CP56Time2a, has.
+pub const TAG_OCTETS: usize = 7;
+
+/// Single-point information.
+const M_SP_NA_1: u8 = 1;
+
+/// Double-point information.
+const M_DP_NA_1: u8 = 3;
+
+/// Bit string of 32 bits.
+const M_BO_NA_1: u8 = 7;
+
+/// Measured value, scaled.
+const M_ME_NB_1: u8 = 11;
+
+/// Integrated totals.
+const M_IT_NA_1: u8 = 15;
+
+/// Single-point information with time tag.
+const M_SP_TB_1: u8 = 30;
+
+/// Double-point information with time tag.
+const M_DP_TB_1: u8 = 31;
+
+/// Bit string of 32 bits with time tag.
+const M_BO_TB_1: u8 = 33;
+
+/// Measured value, scaled, with time tag.
+const M_ME_TE_1: u8 = 35;
+
+/// Integrated totals with time tag.
+const M_IT_TB_1: u8 = 37;
+
+/// The type identification of a value, with a time tag or without.
+pub fn identification_of(value: Value, timed: bool) -> u8
+    ensures { result ≡ type_of value timed }
+{
+    match (value, timed) {
+        (Value::Single(_), false) => M_SP_NA_1,
+        (Value::Single(_), true) => M_SP_TB_1,
+        (Value::Double(_), false) => M_DP_NA_1,
+        (Value::Double(_), true) => M_DP_TB_1,
+        (Value::Word(_), false) => M_BO_NA_1,
+        (Value::Word(_), true) => M_BO_TB_1,
+        (Value::Scaled(_), false) => M_ME_NB_1,
+        (Value::Scaled(_), true) => M_ME_TE_1,
+        (Value::Total(_), false) => M_IT_NA_1,
+        (Value::Total(_), true) => M_IT_TB_1,
+    }
+}
+
+/// The information elements of process information.
+#[derive(Clone, Copy, Debug, PartialEq, Eq)]
+pub enum ElementKind {
+    SinglePoint,
+    DoublePoint,
+    BitString,
+    ScaledValue,
+    CounterReading,
+}
+
+impl ElementKind {
+    ghost use Rattle.iec_asdu.specs.Types.{element_length, shown_by};
+
+    /// How many octets the element has.
+    pub fn octets(self) -> usize
+        ensures { result ≡ element_length self }
+    {
+        match self {
+            ElementKind::SinglePoint => SinglePoint::LENGTH,
+            ElementKind::DoublePoint => DoublePoint::LENGTH,
+            ElementKind::BitString => BitString::LENGTH,
+            ElementKind::ScaledValue => ScaledValue::LENGTH,
+            ElementKind::CounterReading => CounterReading::LENGTH,
+        }
+    }
+
+    /// The value and the quality that octets show, or nothing where a reserved bit is set.
+    pub fn read(self, octets: &[u8]) -> Option<(Value, Quality)>
+        requires { length octets.now ≡ element_length self }
+        ensures { result ≡ shown_by self octets.now }
+    {
+        match self {
+            ElementKind::SinglePoint => {
+                let SinglePoint { on, quality } = SinglePoint::read(octets)?;
+                Some((Value::Single(on), quality))
+            }
+            ElementKind::DoublePoint => {
+                let DoublePoint { state, quality } = DoublePoint::read(octets)?;
+                Some((Value::Double(state), quality))
+            }
+            ElementKind::BitString => {
+                let BitString { word, quality } = BitString::read(octets)?;
+                Some((Value::Word(word), quality))
+            }
+            ElementKind::ScaledValue => {
+                let ScaledValue { value, quality } = ScaledValue::read(octets)?;
+                Some((Value::Scaled(value), quality))
+            }
+            ElementKind::CounterReading => {
+                let CounterReading { count, quality } = CounterReading::read(octets)?;
+                Some((Value::Total(count), quality))
+            }
+        }
+    }
+}
+
+/// A type by what its objects carry: an information element, and behind it a time tag or none.
+#[derive(Clone, Copy, Debug, PartialEq, Eq)]
+pub struct MonitorType {
+    pub element: ElementKind,
+    pub timed: bool,
+}
+
+impl MonitorType {
+    ghost use Rattle.iec_asdu.specs.Types.{layout_at, tag_length, type_length, stamp_by};
+
+    fn plain(element: ElementKind) -> MonitorType
+        ensures { result ≡ record { element = element; timed = false } }
+    {
+        MonitorType {
+            element,
+            timed: false,
+        }
+    }
+
+    fn timed(element: ElementKind) -> MonitorType
+        ensures { result ≡ record { element = element; timed = true } }
+    {
+        MonitorType {
+            element,
+            timed: true,
+        }
+    }
+
+    /// The type with an identification.
+    pub fn of(identification: u8) -> Option<MonitorType>
+        ensures { (offset : ℤ) → option_map (layout_at offset) result ≡ layout_of identification (monitor_types offset) }
+    {
+        Some(match identification {
+            M_SP_NA_1 => MonitorType::plain(ElementKind::SinglePoint),
+            M_DP_NA_1 => MonitorType::plain(ElementKind::DoublePoint),
+            M_BO_NA_1 => MonitorType::plain(ElementKind::BitString),
+            M_ME_NB_1 => MonitorType::plain(ElementKind::ScaledValue),
+            M_IT_NA_1 => MonitorType::plain(ElementKind::CounterReading),
+            M_SP_TB_1 => MonitorType::timed(ElementKind::SinglePoint),
+            M_DP_TB_1 => MonitorType::timed(ElementKind::DoublePoint),
+            M_BO_TB_1 => MonitorType::timed(ElementKind::BitString),
+            M_ME_TE_1 => MonitorType::timed(ElementKind::ScaledValue),
+            M_IT_TB_1 => MonitorType::timed(ElementKind::CounterReading),
+            _ => return None,
+        })
+    }
+
+    /// How many octets element and time tag have.
+    pub fn octets(self) -> usize
+        ensures octets { result ≡ type_length self }
+        ensures small { result ≤ 12 }
+    {
+        self.element.octets() + if self.timed { TAG_OCTETS } else { 0 }
+    }
+
+    /// The stamp that a time tag means, if the type has one.
+    pub fn stamp(self, tag: &[u8], zone: &Zone) -> Result<Stamp, AsduFault>
+        requires { length tag.now ≡ tag_length self.timed }
+        ensures { result ≡ some_or AsduFault.Tag (stamp_by zone.now.offset_minutes self.timed tag.now) }
+    {
+        if !self.timed {
+            return Ok(Stamp::Untimed);
+        }
+        let tag: &[u8; TAG_OCTETS] = tag.first_chunk().unwrap();
+        match from_tag(tag, zone) {
+            Ok(stamp) => Ok(stamp),
+            Err(_) => Err(AsduFault::Tag),
+        }
+    }
+}
