@@ -54,13 +54,6 @@ whole_inside part h v long w known sized =
     let size : size_of w.variation ≡ Octets long = ap size_of same ∙ sized in
     rw (ap (λ (s : Size). body_length s h.count h.prefix) size) at w.inside
 
-pub packed_inside : (part : List ℕ) (h : Header) (v : Variation) (width : ℕ) (w : IsWithin part h) → object_of h.group h.variation ≡ Some v → size_of v ≡ Bits width
-    → h.start + (h.count * width + 7) / 8 ≤ length part
-packed_inside part h v width w known sized =
-    let same : w.variation ≡ v = some_is w.variation v (sym w.known ∙ known) in
-    let size : size_of w.variation ≡ Bits width = ap size_of same ∙ sized in
-    rw (ap (λ (s : Size). body_length s h.count h.prefix) size) at w.inside
-
 -- ---- packed objects
 
 pub packed_goes_on : (v : Variation) (width outstation next after n m place further : ℕ) (bits : List ℕ) (front whole : List Report) (r : Report)

@@ -43,11 +43,6 @@ Answers-more setup lines middle left first second third old between new p q = re
   same_end = λ others. q.same_end others ∙ p.same_end (q.lacks || others) ∙ ap (ended_after first.ended lines) (or_assoc p.lacks q.lacks others);
 }
 
--- nothing was read
-pub Moves-none : (setup : Setup) (ended : Standing) (line : List ℕ) (before old : Option (List ℕ)) → Moves setup false ended ended line line before before old old
-Moves-none setup ended line None old = tt
-Moves-none setup ended line (Some input) old = (λ at_end. absurd (false≢true at_end), Answers-none setup _ _ ended old refl)
-
 -- one step after others
 Moves-more : (setup : Setup) (at_end : Bool) (first second third : Standing) (line kept longer : List ℕ) (input middle rest old between new : Option (List ℕ))
     → Moves setup false first second line kept input middle old between → Moves setup at_end second third kept longer middle rest between new

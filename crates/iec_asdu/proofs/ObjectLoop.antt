@@ -11,10 +11,6 @@ use Rattle.iec_asdu.specs.declared.fault.AsduFault.TheVariants.{Short, Long, Unk
 abbrev pub with_front : List Observation → Result (List Observation) AsduFault → Result (List Observation) AsduFault
 with_front front read = read >>= λ xs. Ok (front ++ xs)
 
-pub nothing_before : (read : Result (List Observation) AsduFault) → with_front [] read ≡ read
-nothing_before (Ok xs) = refl
-nothing_before (Err e) = refl
-
 regroup : (front : List Observation) (x : Observation) (read : Result (List Observation) AsduFault) → with_front front (read >>= λ xs. Ok (x ∷ xs)) ≡ with_front (front ++ x ∷ []) read
 regroup front x (Ok xs) = ap (λ (ys : List Observation). Ok ys) (simp append_assoc)
 regroup front x (Err e) = refl
