@@ -1,5 +1,5 @@
 -- What the front of octets shows: how much it takes, and that octets behind it change nothing.
-use Rattle.std.proofs.Common.{◌≡◌, ℕ, zero, suc, ◌+◌, ◌-◌, ◌*◌, ◌≤◌, ◌<◌, min, Bool, true, false, not, ◌||◌, List, [], ◌∷◌, ◌++◌, length, take, drop, Option, Some, None, refl, ap, arith, length-append, nat_lt, slice_index, if◌then◌else◌, IfSome, subst, ltb-true, ltb-false, le-ltb, eqb}
+use Rattle.std.proofs.Common.{◌≡◌, ℕ, zero, suc, ◌+◌, ◌-◌, ◌*◌, ◌≤◌, ◌<◌, min, Bool, true, false, not, ◌||◌, List, [], ◌∷◌, ◌++◌, length, take, drop, Option, Some, None, refl, ap, arith, length-append, nat_lt, slice_index, if◌then◌else◌, IfSome, subst, ltb-false, le-ltb, eqb}
 use Rattle.std.proofs.lemmas.List.{length-take, length-drop, take-append-le, drop-append-le, get_or_append_left}
 use Rattle.dnp_link.specs.Frame.{Content, block_count, frame_length, is_sealed, are_sealed, unsealed}
 use Rattle.dnp_link.specs.Stream.{Event, Framed, Dropped, taken, is_bad_start, user_length, content_at, front_of}
@@ -99,22 +99,6 @@ chain_taken false false false false false true broken c n e f g k h = absurd (no
 chain_taken false false false false false false true c n e f g k h = some_taken _ e n h (g refl)
 chain_taken false false false false false false false c n e f g k h = some_taken _ e n h (k refl refl)
 
-chain_none : (bad short3 low short10 wrong short broken : Bool) (c : Content) (n m : ℕ)
-    → 10 ≤ m
-    → (short3 ≡ true → n < 3)
-    → (short10 ≡ true → n < 10)
-    → (short ≡ true → n < m)
-    → chain bad short3 low short10 wrong short broken c ≡ None
-    → n < m
-chain_none true short3 low short10 wrong short broken c n m l f g k h = absurd (some_none h)
-chain_none false true low short10 wrong short broken c n m l f g k h = let a = f refl in omega arith
-chain_none false false true short10 wrong short broken c n m l f g k h = absurd (some_none h)
-chain_none false false false true wrong short broken c n m l f g k h = let a = g refl in omega arith
-chain_none false false false false true short broken c n m l f g k h = absurd (some_none h)
-chain_none false false false false false true broken c n m l f g k h = k refl
-chain_none false false false false false false true c n m l f g k h = absurd (some_none h)
-chain_none false false false false false false false c n m l f g k h = absurd (some_none h)
-
 bad_some : (a : List ℕ) → is_bad_start a ≡ true → 0 < length a
 bad_some [] h = absurd (let no : false ≡ true → ⊥ = λ e. cc in no h)
 bad_some (x ∷ a) h = omega arith
@@ -143,18 +127,6 @@ front_taken a e h =
     (bad_some a)
     (λ p. omega (arith, ltb-false (length a) 3 p))
     (λ p q. omega (arith, ltb-false (length a) (frame_length u) q, length-unsealed (block_count u) u (drop 10 a) refl (omega (arith, ltb-false (length a) (frame_length u) q, length-drop 10 a))))
-    h
-
--- where octets show nothing, fewer than the longest frame are there
-pub front_none : (a : List ℕ) → slice_index a 2 < 256 → front_of a ≡ None → length a < 292
-unfolding front_of
-front_none a o h =
-    let u = user_length a in
-    chain_none (is_bad_start a) (nat_lt (length a) 3) (nat_lt (slice_index a 2) 5) (nat_lt (length a) 10) (not (is_sealed (take 10 a))) (nat_lt (length a) (frame_length u)) (not (are_sealed (block_count u) u (drop 10 a))) (content_at a) (length a) 292
-    (omega arith)
-    (λ p. ltb-true (length a) 3 p)
-    (λ p. ltb-true (length a) 10 p)
-    (λ p. omega (arith, ltb-true (length a) (frame_length u) p))
     h
 
 front-append_3 : (a b : List ℕ) → nat_lt (length a) 3 ≡ false → Same3 (is_bad_start a) (nat_lt (length a) 3) (nat_lt (slice_index a 2) 5) (is_bad_start (a ++ b)) (nat_lt (length (a ++ b)) 3) (nat_lt (slice_index (a ++ b) 2) 5)

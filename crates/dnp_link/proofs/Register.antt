@@ -10,10 +10,6 @@ use Rattle.dnp_link.specs.Crc.{bits, number, message}
 use Rattle.dnp_link.proofs.Division.{length-remainder, remainder-append, remainder_step}
 use Rattle.dnp_link.specs.declared.table.TheConstants.{TABLE}
 
-pub length-bits : (k n : ℕ) → length (bits k n) ≡ k
-length-bits zero n = refl
-length-bits (suc k) n = ap suc (length-bits k (n / 2))
-
 -- the bits of a number's bits
 pub bits-number : (p : List Bool) → bits (length p) (number p) ≡ p
 bits-number [] = refl

@@ -1,5 +1,5 @@
 //! Worked examples, computed with the definitions that the contracts cite.
-ghost use Rattle.std.specs.Prelude.{◌≡◌, true, false, List, [], ◌∷◌, Some, None, codes};
+ghost use Rattle.std.specs.Prelude.{◌≡◌, true, false, [], ◌∷◌, Some, None, codes};
 ghost use Rattle.dnp_link.specs.Crc.{crc_of};
 ghost use Rattle.dnp_link.specs.Stream.{Framed, Dropped, reading};
 ghost use Rattle.dnp_link.specs.Examples.{replies_to};

@@ -1,5 +1,5 @@
 //! Reading the front of a stream.
-ghost use Rattle.std.specs.Prelude.{◌≡◌, ◌+◌, ◌-◌, ◌*◌, ◌≤◌, ◌<◌, length, take, drop, IsTrue, IfNone, option_map, if◌then◌else◌};
+ghost use Rattle.std.specs.Prelude.{◌≡◌, ◌+◌, ◌-◌, ◌*◌, ◌≤◌, ◌<◌, length, drop, IsTrue, IfNone, option_map, if◌then◌else◌};
 ghost use Rattle.dnp_link.specs.Frame.{block_count, frame_length, is_sealed as is_sealed_lem, are_sealed, unsealed};
 ghost use Rattle.dnp_link.specs.Stream.{front_of, content_at, user_length, is_bad_start as is_bad_start_lem, taken as taken_lem};
 ghost use Rattle.dnp_link.specs.Content.{content, seen, seen_if};

@@ -1,7 +1,7 @@
 //! Writing frames.
 ghost use Rattle.std.specs.Prelude.{◌≡◌, ◌+◌, ◌*◌, ◌≤◌, ◌++◌, List, ℕ, length, take, drop};
 ghost use Rattle.dnp_link.specs.Stream.{Framed, reading, preceded};
-ghost use Rattle.dnp_link.specs.Frame.{Content, sealed, header, block_count, blocks, frame, frame_length};
+ghost use Rattle.dnp_link.specs.Frame.{sealed, header, block_count, blocks, frame, frame_length};
 
 use crate::checksum::crc;
 

@@ -1,7 +1,7 @@
 -- The two laws of headers: what is read is spelled so, and what is spelled so is read.
 use Rattle.std.proofs.Common.{◌≡◌, ℕ, zero, suc, ◌+◌, ◌-◌, ◌<◌, ◌≤◌, false, ltb, List, [], ◌∷◌, ◌++◌, length, take, drop, Some, Result, Ok, Err, refl, sym, ap, subst, ◌∙◌, append_assoc, arith}
 use Rattle.std.specs.Global.{Vec}
-use Rattle.std.specs.Prelude.{IfOk}
+use Rattle.std.specs.Prelude.{IfOk, is_ok}
 use Rattle.std.proofs.lemmas.Bool.{ltb-false, le-ltb}
 use Rattle.std.proofs.lemmas.List.{take_at, drop_at, take-append-drop, length-append, length-take, length-drop, drop-drop}
 use Rattle.dnp_objects.specs.declared.fault.ObjectFault.{ObjectFault}
@@ -12,7 +12,7 @@ use Rattle.dnp_objects.specs.declared.range.Range.{Range}
 use Rattle.dnp_objects.specs.declared.range.Range.TheVariants.{StartStop, Count}
 use Rattle.dnp_objects.specs.declared.range.Ranged.{Ranged}
 use Rattle.dnp_objects.specs.Library.{Variation, object_of, form_of, form_of_row, size_of}
-use Rattle.dnp_objects.specs.Headers.{◌>>=◌, some_or, number, octets_of, codes_of, is_among, qualifiers, range_of, range_for, start_stop, range_at, ended_at, header_with, header_at, headers_from, headers_of, body_length, octets_after, IsRange, StandsAt, AreHeaders, IsPart, Gives}
+use Rattle.dnp_objects.specs.Headers.{◌>>=◌, some_or, number, octets_of, codes_of, is_among, qualifiers, range_of, range_for, start_stop, range_at, ended_at, header_with, header_at, headers_from, headers_of, body_length, octets_after, IsRange, StandsAt, AreHeaders, IsPart, IsStoredAt, Gives}
 use Rattle.dnp_objects.proofs.Results.{bind_ok, guard_ok, otherwise_ok, some_ok, map_some, when_some}
 use Rattle.dnp_objects.proofs.HeaderLoop.{step}
 
@@ -186,6 +186,12 @@ IsPart-found part hs e =
 -- a part is read
 pub IsPart-again : (part : List ℕ) (hs : List Header) → IsPart part hs → headers_of part ≡ Ok hs
 IsPart-again part hs is = AreHeaders-again (length part) 512 0 part hs (omega arith) is.1 is.0
+
+-- the first header of a part is stored
+pub first_stored : (part : List ℕ) (h : Header) (hs : List Header) → headers_of part ≡ Ok (h ∷ hs) → IsStoredAt part 0
+first_stored part h hs e =
+    let are = (IsPart-found part (h ∷ hs) e).0 in
+    record { before = []; are = refl; fewer = omega arith; here = ap is_ok (again_at 0 part h are.0 are.1) }
 
 -- the same of what a function returned
 pub part_found : (part : List ℕ) (r : Result (Vec Header) ObjectFault) → Gives (λ v. v.items) r (headers_of part) → IfOk r (λ v. IsPart part v.items)

@@ -1,5 +1,5 @@
 //! Worked examples of the definitions, computed by the definitions themselves.
-ghost use Rattle.std.specs.Prelude.{◌≡◌, ℕ, [], ◌∷◌, Ok, Some, None, true};
+ghost use Rattle.std.specs.Prelude.{◌≡◌, [], ◌∷◌, Ok, Some, None, true};
 ghost use Rattle.std.specs.Option.{option_map};
 ghost use Rattle.dnp_objects.specs.declared.fault.Why.TheVariants.{UnknownObject, UnknownQualifier, ShortRange, StopBeforeStart, ShortData, TooMany};
 ghost use Rattle.dnp_objects.specs.declared.object.Size.TheVariants.{Octets, Bits};

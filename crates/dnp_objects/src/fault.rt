@@ -33,6 +33,7 @@ pub enum Why {
 #[derive(Clone, Copy, Debug, PartialEq, Eq, Error)]
 #[error("{why} at {place}")]
 pub struct ObjectFault {
+    /// What is wrong.
     pub why: Why,
     /// The first octet of the header at fault, counted in the part from 0.
     pub place: usize,

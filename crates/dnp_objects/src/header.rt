@@ -13,7 +13,9 @@ const MOST_HEADERS: usize = 512;
 /// An object header, and where its objects stand in the part.
 #[derive(Clone, Copy, Debug, PartialEq, Eq)]
 pub struct Header {
+    /// The object group.
     pub group: u8,
+    /// The variation of the group.
     pub variation: u8,
     /// The index of the first object, where the range is a start and a stop, and else 0.
     pub first: u16,

@@ -1,6 +1,6 @@
 //! Worked examples of the definitions, computed by the definitions themselves. The functions do
 //! nothing: their contracts are the examples.
-ghost use Rattle.std.specs.Prelude.{◌≡◌, List, [], ◌∷◌, ◌++◌, replicate, None};
+ghost use Rattle.std.specs.Prelude.{◌≡◌, [], ◌∷◌, ◌++◌, replicate, None};
 ghost use Rattle.dnp_transport.specs.declared.answer.DropCause.TheVariants.{Lone, Gap, TooLong, Empty};
 ghost use Rattle.dnp_transport.specs.Fragment.{fragments_of};
 ghost use Rattle.dnp_transport.specs.Series.{Fragment, More, Dropped};

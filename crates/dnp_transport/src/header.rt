@@ -1,5 +1,5 @@
 //! The header octet of a segment.
-ghost use Rattle.std.specs.Prelude.{◌≡◌, ◌<◌, IsTrue, length};
+ghost use Rattle.std.specs.Prelude.{◌≡◌, ◌<◌, IsTrue};
 ghost use Rattle.dnp_transport.specs.Segment.{is_final, is_first, sequence, carried, is_whole};
 
 /// FIN: the fragment ends with this segment.

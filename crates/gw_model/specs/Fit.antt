@@ -16,7 +16,7 @@ is_of_element (Scaled z) q = not q.cy && not q.ca
 is_of_element (Word n) q = not q.cy && not q.ca
 is_of_element (Total n) q = not q.nt && not q.sb && not q.bl && not q.ov
 
--- the civil year of instant t is 2000 to 2099 where clocks are offset minutes before UTC:
+-- the civil year of instant t is 2000 to 2099 where clocks are offset minutes ahead of UTC:
 -- 946684800000 and 4102444800000 are the first milliseconds of 2000 and of 2100
 pub record IsIn21stCentury (offset : ℤ) (t : ℕ) : Type 0 where
   pub from_2000 : pos 946684800000 ≤ℤ (pos t +ℤ (pos 60000 *ℤ offset))

@@ -4,7 +4,7 @@ use Rattle.gw_model.specs.declared.point.PointKey.{PointKey}
 use Rattle.gw_model.specs.declared.row.Row.{Row}
 use Rattle.gw_model.specs.Keys.{same_key}
 
--- the station's common address, how many minutes its clocks are before UTC, and the rows of the point map in order
+-- the station's common address, how many minutes its clocks are ahead of UTC, and the rows of the point map in order
 pub record Setup : Type 0 where
   pub common_address : ℕ
   pub offset : ℤ

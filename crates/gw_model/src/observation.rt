@@ -55,9 +55,11 @@ impl Quality {
 /// A value with its quality and time, at an information object address.
 #[derive(Clone, Copy, Debug, PartialEq, Eq)]
 pub struct Observation {
+    /// The information object address.
     pub address: u32,
     pub value: Value,
     pub quality: Quality,
+    /// The time, where there is one.
     pub stamp: Stamp,
 }
 

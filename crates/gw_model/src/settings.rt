@@ -73,7 +73,7 @@ impl Settings {
         self.common_address
     }
 
-    /// How many minutes the clocks of the station are before UTC, from -840 to 840.
+    /// How many minutes the clocks of the station are ahead of UTC, from -840 to 840.
     pub fn offset_minutes(&self) -> i16
         ensures value { result ≡ self.now.offset }
         ensures from { negsuc 839 ≤ℤ self.now.offset }

@@ -47,7 +47,7 @@ tag_showing invalid (negsuc n) = None
 tag_showing invalid (pos n) =
     elim (nat_le 946684800000 n && nat_lt n 4102444800000) [ true ↦ Some (octets_of (numbers_at invalid n)) | false ↦ None ]
 
--- the tag of a stamp where clocks are offset minutes before UTC, if it has one
+-- the tag of a stamp where clocks are offset minutes ahead of UTC, if it has one
 abbrev pub tag_of : ℤ → Stamp → Option (List ℕ)
 tag_of offset Untimed = None
 tag_of offset (At t) = tag_showing false (shown_at offset t)

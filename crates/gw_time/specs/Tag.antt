@@ -56,7 +56,7 @@ civil_milliseconds x = midnight (civil_year x) x.month x.day +ℤ pos (time_of_d
 abbrev pub stamp_of : Bool → ℕ → Stamp
 stamp_of invalid t = if invalid then Doubtful t else At t
 
--- the instant at which clocks show the civil time, where they are offset minutes before UTC; no instant of
+-- the instant at which clocks show the civil time, where they are offset minutes ahead of UTC; no instant of
 -- the years from 2000 on is before 1970
 abbrev pub instant_of : ℤ → BinaryTime → ℕ
 instant_of offset x = unsigned_abs (civil_milliseconds x -ℤ (pos 60000 *ℤ offset))
@@ -66,7 +66,7 @@ time_meaning offset x =
     if is_in_range x then (if has_day x then Ok (stamp_of x.invalid (instant_of offset x)) else Err Date)
     else Err Field
 
--- what a tag means where clocks are offset minutes before UTC
+-- what a tag means where clocks are offset minutes ahead of UTC
 unfoldable pub tag_meaning : ℤ → List ℕ → Result Stamp TagFault
 tag_meaning offset octets = time_meaning offset (numbers_in octets)
 

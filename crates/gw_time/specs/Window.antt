@@ -5,7 +5,7 @@ use Rattle.gw_model.specs.declared.point.Stamp.TheVariants.{Untimed, At, Doubtfu
 use Rattle.gw_time.specs.Tag.{midnight}
 
 -- what clocks show at the instant, in milliseconds from the beginning of 1 January 1970 by them, where they are
--- offset minutes before UTC
+-- offset minutes ahead of UTC
 abbrev pub shown_at : ℤ → ℕ → ℤ
 shown_at offset t = pos t +ℤ (pos 60000 *ℤ offset)
 

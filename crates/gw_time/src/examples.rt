@@ -15,7 +15,7 @@ pub fn tag_examples()
     ensures doubtful { tag_meaning (pos 0) (0x20 ∷ 0x4E ∷ 0x8D ∷ 0x16 ∷ 0x0E ∷ 0x0B ∷ 0x17 ∷ []) ≡ Ok (Doubtful 1700000000000) }
     ensures unused { tag_meaning (pos 0) (0x20 ∷ 0x4E ∷ 0x4D ∷ 0xF6 ∷ 0xEE ∷ 0xFB ∷ 0x97 ∷ []) ≡ Ok (At 1700000000000) }
     ensures plain { plain (0x20 ∷ 0x4E ∷ 0xCD ∷ 0xF6 ∷ 0xEE ∷ 0xFB ∷ 0x97 ∷ []) ≡ 0x20 ∷ 0x4E ∷ 0x8D ∷ 0x16 ∷ 0x0E ∷ 0x0B ∷ 0x17 ∷ [] }
-    // The clocks are 60 minutes before UTC, and 90 minutes behind it.
+    // The clocks are 60 minutes ahead of UTC, and 90 minutes behind it.
     ensures east { tag_meaning (pos 60) (0x20 ∷ 0x4E ∷ 0x0D ∷ 0x17 ∷ 0x0E ∷ 0x0B ∷ 0x17 ∷ []) ≡ Ok (At 1700000000000) }
     ensures west { tag_meaning (negsuc 89) (0x20 ∷ 0x4E ∷ 0x2B ∷ 0x14 ∷ 0x0E ∷ 0x0B ∷ 0x17 ∷ []) ≡ Ok (At 1700000000000) }
     // 29 February of 2000, 0:00; of 2024, 12:34:56.789; of 2096, in its last millisecond.
@@ -60,7 +60,7 @@ pub fn window_examples()
 /// The tags of some stamps.
 #[tactic(auto, unfolding(crate::specs::Spelling::tag_showing, crate::specs::Spelling::date_after))]
 pub fn spelling_examples()
-    // 14 November 2023, 22:13:20, in UTC; in doubt; 60 minutes before UTC, and 90 minutes behind it.
+    // 14 November 2023, 22:13:20, in UTC; in doubt; 60 minutes ahead of UTC, and 90 minutes behind it.
     ensures at { tag_of (pos 0) (At 1700000000000) ≡ Some (0x20 ∷ 0x4E ∷ 0x0D ∷ 0x16 ∷ 0x0E ∷ 0x0B ∷ 0x17 ∷ []) }
     ensures doubtful { tag_of (pos 0) (Doubtful 1700000000000) ≡ Some (0x20 ∷ 0x4E ∷ 0x8D ∷ 0x16 ∷ 0x0E ∷ 0x0B ∷ 0x17 ∷ []) }
     ensures east { tag_of (pos 60) (At 1700000000000) ≡ Some (0x20 ∷ 0x4E ∷ 0x0D ∷ 0x17 ∷ 0x0E ∷ 0x0B ∷ 0x17 ∷ []) }

@@ -23,62 +23,64 @@ const EVENT: [u8; 7] = [0x20, 0x4E, 0x0D, 0x16, 0x0E, 0x0B, 0x17];
 
 const DOUBTFUL_EVENT: [u8; 7] = [0x20, 0x4E, 0x8D, 0x16, 0x0E, 0x0B, 0x17];
 
+/// Instants in milliseconds since 1970, offsets, and the octets of their tags.
+const TAGS: [(u64, Zone, [u8; 7]); 17] = [
+    (1_700_000_000_000, Zone::UTC, EVENT),
+    (
+        1_700_000_000_000,
+        CENTRAL_EUROPE,
+        [0x20, 0x4E, 0x0D, 0x17, 0x0E, 0x0B, 0x17],
+    ),
+    // 29 February of 2000, 2024 and 2096, and the days around that of 2024.
+    (
+        951_782_400_000,
+        Zone::UTC,
+        [0x00, 0x00, 0x00, 0x00, 0x1D, 0x02, 0x00],
+    ),
+    (
+        951_732_000_000,
+        EAST,
+        [0x00, 0x00, 0x00, 0x00, 0x1D, 0x02, 0x00],
+    ),
+    (
+        1_709_164_799_999,
+        Zone::UTC,
+        [0x5F, 0xEA, 0x3B, 0x17, 0x1C, 0x02, 0x18],
+    ),
+    (
+        1_709_210_096_789,
+        Zone::UTC,
+        [0xD5, 0xDD, 0x22, 0x0C, 0x1D, 0x02, 0x18],
+    ),
+    (
+        1_709_251_200_000,
+        Zone::UTC,
+        [0x00, 0x00, 0x00, 0x00, 0x01, 0x03, 0x18],
+    ),
+    (
+        3_981_398_399_999,
+        Zone::UTC,
+        [0x5F, 0xEA, 0x3B, 0x17, 0x1D, 0x02, 0x60],
+    ),
+    (
+        3_981_448_799_999,
+        WEST,
+        [0x5F, 0xEA, 0x3B, 0x17, 0x1D, 0x02, 0x60],
+    ),
+    // Both ends of the window.
+    (946_735_200_000, WEST, FIRST),
+    (946_684_800_000, Zone::UTC, FIRST),
+    (946_681_200_000, CENTRAL_EUROPE, FIRST),
+    (946_634_400_000, EAST, FIRST),
+    (4_102_495_199_999, WEST, LAST),
+    (4_102_444_799_999, Zone::UTC, LAST),
+    (4_102_441_199_999, CENTRAL_EUROPE, LAST),
+    (4_102_394_399_999, EAST, LAST),
+];
+
 #[test]
 fn instants_and_their_tags(rt: HostRuntime) {
-    let table = [
-        (1_700_000_000_000, Zone::UTC, EVENT),
-        (
-            1_700_000_000_000,
-            CENTRAL_EUROPE,
-            [0x20, 0x4E, 0x0D, 0x17, 0x0E, 0x0B, 0x17],
-        ),
-        // 29 February of 2000, 2024 and 2096, and the days around that of 2024.
-        (
-            951_782_400_000,
-            Zone::UTC,
-            [0x00, 0x00, 0x00, 0x00, 0x1D, 0x02, 0x00],
-        ),
-        (
-            951_732_000_000,
-            EAST,
-            [0x00, 0x00, 0x00, 0x00, 0x1D, 0x02, 0x00],
-        ),
-        (
-            1_709_164_799_999,
-            Zone::UTC,
-            [0x5F, 0xEA, 0x3B, 0x17, 0x1C, 0x02, 0x18],
-        ),
-        (
-            1_709_210_096_789,
-            Zone::UTC,
-            [0xD5, 0xDD, 0x22, 0x0C, 0x1D, 0x02, 0x18],
-        ),
-        (
-            1_709_251_200_000,
-            Zone::UTC,
-            [0x00, 0x00, 0x00, 0x00, 0x01, 0x03, 0x18],
-        ),
-        (
-            3_981_398_399_999,
-            Zone::UTC,
-            [0x5F, 0xEA, 0x3B, 0x17, 0x1D, 0x02, 0x60],
-        ),
-        (
-            3_981_448_799_999,
-            WEST,
-            [0x5F, 0xEA, 0x3B, 0x17, 0x1D, 0x02, 0x60],
-        ),
-        // Both ends of the window.
-        (946_735_200_000, WEST, FIRST),
-        (946_684_800_000, Zone::UTC, FIRST),
-        (946_681_200_000, CENTRAL_EUROPE, FIRST),
-        (946_634_400_000, EAST, FIRST),
-        (4_102_495_199_999, WEST, LAST),
-        (4_102_444_799_999, Zone::UTC, LAST),
-        (4_102_441_199_999, CENTRAL_EUROPE, LAST),
-        (4_102_394_399_999, EAST, LAST),
-    ];
-    for (instant, zone, tag) in table {
+    for (instant, zone, tag) in TAGS {
         assert_eq!(rt;
             to_tag(Stamp::At(instant), &zone),
             Some(tag),

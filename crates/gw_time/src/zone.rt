@@ -10,7 +10,7 @@ pub const START_OF_2000: u64 = 946_684_800_000;
 /// Milliseconds from the beginning of 1970 to that of 2100, by the same clocks.
 pub const START_OF_2100: u64 = 4_102_444_800_000;
 
-/// How many minutes the clocks of the station are before UTC, from -840 to 840.
+/// How many minutes the clocks of the station are ahead of UTC, from -840 to 840.
 #[derive(Clone, Copy, Debug, PartialEq, Eq)]
 pub struct Zone {
     pub offset_minutes: i16,
@@ -31,7 +31,7 @@ impl Zone {
         }
     }
 
-    /// How far the clocks are before UTC, in milliseconds.
+    /// How far the clocks are ahead of UTC, in milliseconds.
     fn offset_milliseconds(&self) -> i64
         ensures value { result ≡ pos 60000 *ℤ self.now.offset_minutes }
         ensures low { negsuc 50399999 ≤ℤ result }

@@ -38,11 +38,11 @@ raw_image show (Two state) q address stamp = record { address = address; value =
 raw_image show (Count n) q address stamp = record { address = address; value = Total n; quality = q; stamp = stamp }
 raw_image show (Number z) q address stamp = analog_image show z q address stamp
 
--- the time that is shown: none where clocks that are offset minutes before UTC don't show one of the years 2000 to 2099
+-- the time that is shown: none where clocks that are offset minutes ahead of UTC don't show one of the years 2000 to 2099
 abbrev pub stamp_image : ℤ → Stamp → Stamp
 stamp_image offset stamp = if is_some (tag_of offset stamp) then stamp else Untimed
 
--- the image of a report by its own row, where clocks are offset minutes before UTC
+-- the image of a report by its own row, where clocks are offset minutes ahead of UTC
 abbrev pub image_of : ℤ → Row → Report → Observation
 image_of offset row report = raw_image row.show report.raw (quality_of report.key.kind report.flags) row.address (stamp_image offset report.stamp)
 

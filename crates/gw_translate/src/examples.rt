@@ -5,7 +5,7 @@ ghost use Rattle.gw_model.specs.declared.point.Stamp.TheVariants.{At, Doubtful};
 ghost use Rattle.gw_model.specs.declared.row.Show.TheVariants as shows;
 ghost use Rattle.gw_model.specs.declared.observation.Value.TheVariants.{Single, Double, Scaled, Word, Total};
 ghost use Rattle.gw_translate.specs.Quality.{quality_of};
-ghost use Rattle.gw_translate.specs.Image.{image_of, image_in, clamped};
+ghost use Rattle.gw_translate.specs.Image.{image_of, image_in};
 ghost use Rattle.gw_translate.specs.News.{is_news_of};
 ghost use Rattle.gw_translate.specs.Example.{point, binary, output, counter, analog, intermediate, timed, standing, row, told, good, invalid, overflow};
 
@@ -60,7 +60,7 @@ pub fn images_by_example()
     // A counter that rolled over, and one whose source is lost.
     ensures rollover { image_of (pos 0) (row kinds.Counter shows.Total refl) (counter 0x21 0xFFFFFFFF) ≡ told (Total 0xFFFFFFFF) (record good { cy = true }) }
     ensures lost { image_of (pos 0) (row kinds.Counter shows.Total refl) (counter 0x05 7) ≡ told (Total 7) invalid }
-    // An event of 14 November 2023; one in doubt; one of 1970, and the first of 2000 where clocks are 60 minutes before UTC.
+    // An event of 14 November 2023; one in doubt; one of 1970, and the first of 2000 where clocks are 60 minutes ahead of UTC.
     ensures timed { image_of (pos 0) (row kinds.Binary shows.Single refl) (timed 0x81 true (At 1700000000000)) ≡ record (told (Single true) good) { stamp = At 1700000000000 } }
     ensures in_doubt { image_of (pos 0) (row kinds.Binary shows.Single refl) (timed 0x81 true (Doubtful 1700000000000)) ≡ record (told (Single true) good) { stamp = Doubtful 1700000000000 } }
     ensures long_ago { image_of (pos 0) (row kinds.Binary shows.Single refl) (timed 0x81 true (At 1)) ≡ told (Single true) good }

@@ -28,9 +28,6 @@ open_gave octets o c front is =
 err_ok : (f : ApciFault) (c : Content) → ◌≡◌ {A = Option Shown} (Some (Err f)) (Some (Ok c)) → ⊥
 err_ok f c h = cc
 
-none_ok : (c : Content) → ◌≡◌ {A = Option Shown} None (Some (Ok c)) → ⊥
-none_ok c h = cc
-
 gave : (held : Ending) (c : Content) → answer held ≡ Some (Ok c) → Gave held c
 gave (Open octets) c h = let g = open_gave octets (front_of octets) c refl h in record { said = g.0; fewer = g.1 }
 gave (Faulty f) c h = absurd (err_ok f c h)

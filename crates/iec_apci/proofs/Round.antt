@@ -17,9 +17,6 @@ fields_information odd information other supervisory busy i s u c h1 h2 h3 = rw 
 fields_supervisory : (odd information other supervisory busy : Bool) (i s : Content) (u : Option Signal) (c : Content) → odd ≡ false → information ≡ false → other ≡ false → supervisory ≡ true → s ≡ c → fields odd information other supervisory busy i s u ≡ Some c
 fields_supervisory odd information other supervisory busy i s u c h1 h2 h3 h4 h5 = rw (h1, h2, h3, h4, h5) refl
 
-not_eqb : (a b : ℕ) → a ≡ b → not (eqb a b) ≡ false
-not_eqb a b h = ap not (eq-eqb a b h)
-
 eqb_apart : (a b : ℕ) → a < b → eqb a b ≡ false
 eqb_apart a b h = grind arith
 

@@ -1,5 +1,5 @@
 //! APDUs as values.
-ghost use Rattle.std.specs.Prelude.{◌≡◌, ◌+◌, ◌≤◌, length, take};
+ghost use Rattle.std.specs.Prelude.{◌≡◌, ◌+◌, ◌≤◌, take};
 
 /// A function of the U format (IEC 60870-5-104, 5.2 and 5.3), numbered by its first control octet.
 #[derive(Clone, Copy, Debug, PartialEq, Eq)]

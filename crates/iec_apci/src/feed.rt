@@ -1,5 +1,5 @@
 //! A stream of octets that comes in pieces.
-ghost use Rattle.std.specs.Prelude.{◌≡◌, ◌<◌, [], length, IsOk, OnOk, OnErr, IfNone, IfSome, IfOk};
+ghost use Rattle.std.specs.Prelude.{◌≡◌, ◌<◌, [], IsOk, OnOk, OnErr, IfNone, IfSome, IfOk};
 ghost use Rattle.iec_apci.specs.Stream.{Open};
 ghost use Rattle.iec_apci.specs.Calls.{fed, answer, asked, IsFaulty, IsShort};
 ghost use Rattle.iec_apci.specs.Content.{content_if, IsNumbered, IsPadded};

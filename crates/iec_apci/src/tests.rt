@@ -44,37 +44,41 @@ fn octet_by_octet(rt: HostRuntime) -> Result<(), Fail> {
     Ok(())
 }
 
+/// An ASDU without octets.
+const EMPTY: Asdu = Asdu {
+    octets: [0; 249],
+    len: 0,
+};
+
+/// Control fields, and the APDU without more octets that each shows, or its fault.
+const CONTROL_FIELDS: [([u8; 4], Result<Apdu, ApciFault>); 15] = [
+    ([0x07, 0x00, 0x00, 0x00], Ok(Apdu::U(Signal::StartAct))),
+    ([0x0B, 0x00, 0x00, 0x00], Ok(Apdu::U(Signal::StartCon))),
+    ([0x13, 0x00, 0x00, 0x00], Ok(Apdu::U(Signal::StopAct))),
+    ([0x23, 0x00, 0x00, 0x00], Ok(Apdu::U(Signal::StopCon))),
+    ([0x43, 0x00, 0x00, 0x00], Ok(Apdu::U(Signal::TestAct))),
+    ([0x83, 0x00, 0x00, 0x00], Ok(Apdu::U(Signal::TestCon))),
+    ([0x01, 0x00, 0x02, 0x00], Ok(Apdu::S { nr: 1 })),
+    ([0x01, 0x00, 0xFE, 0xFF], Ok(Apdu::S { nr: 32767 })),
+    (
+        [0xFE, 0xFF, 0x00, 0x02],
+        Ok(Apdu::I {
+            ns: 32767,
+            nr: 256,
+            asdu: EMPTY,
+        }),
+    ),
+    ([0x00, 0x00, 0x01, 0x00], Err(ApciFault::Control)),
+    ([0x01, 0x01, 0x02, 0x00], Err(ApciFault::Control)),
+    ([0x03, 0x00, 0x00, 0x00], Err(ApciFault::Control)),
+    ([0x0F, 0x00, 0x00, 0x00], Err(ApciFault::Control)),
+    ([0x07, 0x00, 0x02, 0x00], Err(ApciFault::Control)),
+    ([0x07, 0x01, 0x00, 0x00], Err(ApciFault::Control)),
+];
+
 #[test]
 fn control_fields(rt: HostRuntime) -> Result<(), Fail> {
-    let empty = Asdu {
-        octets: [0; 249],
-        len: 0,
-    };
-    let rows = [
-        ([0x07, 0x00, 0x00, 0x00], Ok(Apdu::U(Signal::StartAct))),
-        ([0x0B, 0x00, 0x00, 0x00], Ok(Apdu::U(Signal::StartCon))),
-        ([0x13, 0x00, 0x00, 0x00], Ok(Apdu::U(Signal::StopAct))),
-        ([0x23, 0x00, 0x00, 0x00], Ok(Apdu::U(Signal::StopCon))),
-        ([0x43, 0x00, 0x00, 0x00], Ok(Apdu::U(Signal::TestAct))),
-        ([0x83, 0x00, 0x00, 0x00], Ok(Apdu::U(Signal::TestCon))),
-        ([0x01, 0x00, 0x02, 0x00], Ok(Apdu::S { nr: 1 })),
-        ([0x01, 0x00, 0xFE, 0xFF], Ok(Apdu::S { nr: 32767 })),
-        (
-            [0xFE, 0xFF, 0x00, 0x02],
-            Ok(Apdu::I {
-                ns: 32767,
-                nr: 256,
-                asdu: empty,
-            }),
-        ),
-        ([0x00, 0x00, 0x01, 0x00], Err(ApciFault::Control)),
-        ([0x01, 0x01, 0x02, 0x00], Err(ApciFault::Control)),
-        ([0x03, 0x00, 0x00, 0x00], Err(ApciFault::Control)),
-        ([0x0F, 0x00, 0x00, 0x00], Err(ApciFault::Control)),
-        ([0x07, 0x00, 0x02, 0x00], Err(ApciFault::Control)),
-        ([0x07, 0x01, 0x00, 0x00], Err(ApciFault::Control)),
-    ];
-    for (control, shown) in rows {
+    for (control, shown) in CONTROL_FIELDS {
         let mut feed = ApduFeed::new(rt.alloc());
         feed.feed(&[0x68, 0x04])?;
         feed.feed(&control)?;

@@ -1,8 +1,8 @@
 //! Worked examples, computed with the definitions that the contracts cite.
 ghost use Rattle.std.specs.Prelude.{◌≡◌, ◌∷◌, [], true, false, map, Some, Ok, Err};
-ghost use Rattle.iec_window.specs.Sequence.{send_number, receive_number, is_right_send, is_right_receive};
-ghost use Rattle.iec_window.specs.Timers.{ran_out, owes_ack, owes_test, due_at};
-ghost use Rattle.iec_window.specs.Steps.{begun, answer_to_s, after_s, answer_to_i, after_i, after_sending, testing};
+ghost use Rattle.iec_window.specs.Sequence.{send_number, is_right_send, is_right_receive};
+ghost use Rattle.iec_window.specs.Timers.{ran_out, owes_ack, due_at};
+ghost use Rattle.iec_window.specs.Steps.{begun, after_s, answer_to_i, after_i, after_sending, testing};
 ghost use Rattle.iec_window.specs.Examples.{usual, sending, receiving};
 ghost use Rattle.iec_window.specs.declared.fault.WindowFault.TheVariants.{WrongSend, WrongReceive};
 ghost use Rattle.iec_window.specs.declared.due.Due.TheVariants as due;

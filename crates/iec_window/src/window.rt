@@ -1,6 +1,6 @@
 //! The window of one end of a connection.
 ghost use Rattle.std.specs.Prelude.{◌≡◌, ℕ, ◌+◌, ◌^◌, ◌<◌, ◌≤◌, ◌↔◌, IsTrue, IfOk, OnOk, nat_lt, length, slice_get, drop};
-ghost use Rattle.std.specs.VecDeque.{deque_len, deque_capacity};
+ghost use Rattle.std.specs.VecDeque.{deque_capacity};
 ghost use Rattle.iec_window.specs.Counts.{Counts, sent_in_all};
 ghost use Rattle.iec_window.specs.Sequence.{Acknowledges, send_number, receive_number, is_right_send, newly, is_right_receive};
 ghost use Rattle.iec_window.specs.Timers.{passed, ran_out, owes_ack, owes_test, due_at};
