@@ -9,7 +9,7 @@ use Rattle.dnp_objects.specs.declared.header.Header.{Header}
 use Rattle.dnp_app.specs.Echo.{command_length, echo_with, lone_echo, only_one}
 
 -- all octets from a place on
-all_from : (n : ℕ) (octets : List ℕ) → take (length octets - n) (drop n octets) ≡ drop n octets
+pub all_from : (n : ℕ) (octets : List ℕ) → take (length octets - n) (drop n octets) ≡ drop n octets
 all_from n octets = rw (← length-drop n octets) (take-length (drop n octets))
 
 -- a command object that was read behind its index

@@ -1,9 +1,17 @@
 -- A response is read.
-use Rattle.std.proofs.Common.{◌≡◌, ℕ, List, length, ltb, false, Result, Ok, refl, subst}
+use Rattle.std.proofs.Common.{◌≡◌, ◌≢◌, ℕ, ◌-◌, ◌≤◌, List, [], ◌∷◌, length, take, drop, ltb, true, false, Option, Result, Ok, refl, sym, ap, subst, ◌∙◌}
 use Rattle.std.proofs.lemmas.Bool.{le-ltb}
+use Rattle.dnp_objects.specs.declared.header.Header.{Header}
+use Rattle.dnp_objects.specs.Headers.{headers_of, IsStoredAt}
+use Rattle.dnp_objects.proofs.HeaderLaws.{first_stored}
+use Rattle.dnp_points.specs.Meaning.{reports_of}
 use Rattle.dnp_points.proofs.ReportLaws.{meaning-again}
 use Rattle.dnp_app.specs.declared.fault.AppFault.{AppFault}
-use Rattle.dnp_app.specs.Response.{Fragment, IsResponse, response_of, Gives}
+use Rattle.dnp_app.specs.Response.{Fragment, IsResponse, is_response, StoresHeader, response_of, Gives}
+use Rattle.dnp_app.specs.declared.echoed.Echo.{Echo}
+use Rattle.dnp_app.specs.Echo.{headers_in, lone_echoes, only_one, echo_of}
+use Rattle.dnp_app.specs.SteppedOver.{stepped_over, stepped_over_of}
+use Rattle.dnp_app.proofs.Echoes.{all_from}
 
 response-again : (f : Fragment) → IsResponse f → response_of f.outstation f.octets ≡ Ok f
 response-again f is =
@@ -15,3 +23,34 @@ pub only : {X : Type 0} (view : X → Fragment) (r : Result X AppFault) (outstat
 only view r outstation octets exact f is eo es =
     let read : response_of outstation octets ≡ Ok f = rw (← eo, ← es) (response-again f is) in
     subst (λ (x : Result Fragment AppFault). Gives view r x) read exact
+
+-- ---- while a response is read
+
+-- the object part, as the octets from the fifth on
+pub part_is : (octets seen : List ℕ) → seen ≡ octets → take (length seen - 4) (drop 4 seen) ≡ drop 4 octets
+part_is octets seen e = all_from 4 seen ∙ ap (drop 4) e
+
+-- memory runs out where a header is stored
+pub stores_header : (octets part : List ℕ) (place : ℕ) → 4 ≤ length octets → is_response octets ≡ true → part ≡ drop 4 octets → IsStoredAt part place → StoresHeader octets
+stores_header octets part place long function at stored =
+    record { long = long; function = function; place = place; header = subst (λ (t : List ℕ). IsStoredAt t place) at stored }
+
+-- where a part reports something, its first header is stored
+pub told_stored : (outstation : ℕ) (part : List ℕ) (hs : List Header) → headers_of part ≡ Ok hs → reports_of outstation part hs ≢ [] → IsStoredAt part 0
+told_stored outstation part [] read some = absurd (some refl)
+told_stored outstation part (h ∷ hs) read some = first_stored part h hs read
+
+headers_known : (octets part : List ℕ) (hs : List Header) → part ≡ drop 4 octets → headers_of part ≡ Ok hs → headers_in octets ≡ hs
+headers_known octets part hs at read =
+    let known : headers_of (drop 4 octets) ≡ Ok hs = ap headers_of (sym at) ∙ read in
+    rw known refl
+
+-- what is kept of a response: its echo, and how much it steps over
+pub echo_kept : (octets part : List ℕ) (hs seen : List Header) (kept : Option Echo) → part ≡ drop 4 octets → headers_of part ≡ Ok hs → seen ≡ hs
+    → kept ≡ only_one (lone_echoes part seen) → kept ≡ echo_of octets
+echo_kept octets part hs seen kept at read same e =
+    e ∙ (ap (λ (t : List ℕ). only_one (lone_echoes t seen)) at ∙ ap (λ (xs : List Header). only_one (lone_echoes (drop 4 octets) xs)) (same ∙ sym (headers_known octets part hs at read)))
+
+pub count_kept : (octets part : List ℕ) (hs seen : List Header) (kept : ℕ) → part ≡ drop 4 octets → headers_of part ≡ Ok hs → seen ≡ hs
+    → kept ≡ stepped_over seen → kept ≡ stepped_over_of octets
+count_kept octets part hs seen kept at read same e = e ∙ ap stepped_over (same ∙ sym (headers_known octets part hs at read))

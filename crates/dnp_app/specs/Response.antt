@@ -3,6 +3,7 @@
 use Rattle.std.specs.Prelude.{◌≡◌, ℕ, ◌≤◌, Bool, true, ◌||◌, ◌==◌, List, length, drop, slice_index, Result, Ok, Err, nat_lt, if◌then◌else◌}
 use Rattle.gw_model.specs.declared.point.Report.{Report}
 use Rattle.dnp_objects.specs.declared.fault.ObjectFault.{ObjectFault}
+use Rattle.dnp_objects.specs.Headers.{IsStoredAt}
 use Rattle.dnp_points.specs.Meaning.{Means, meaning_of}
 use Rattle.dnp_app.specs.declared.fault.AppFault.{AppFault}
 use Rattle.dnp_app.specs.declared.fault.AppFault.TheVariants.{Short, NotResponse, Object, Memory}
@@ -22,6 +23,13 @@ pub record IsResponse (f : Fragment) : Type 0 where
   pub long : 4 ≤ length f.octets
   pub function : is_response f.octets ≡ true
   pub means : Means f.outstation (drop 4 f.octets) f.reports
+
+-- octets of a response with a header in its object part that is read and stored
+pub record StoresHeader (octets : List ℕ) : Type 0 where
+  pub long : 4 ≤ length octets
+  pub function : is_response octets ≡ true
+  pub place : ℕ
+  pub header : IsStoredAt (drop 4 octets) place
 
 -- the response with an object part that was read, or the fault of that part
 abbrev pub with_reports : ℕ → List ℕ → Result (List Report) ObjectFault → Result Fragment AppFault

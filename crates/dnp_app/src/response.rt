@@ -1,7 +1,7 @@
 //! Responses of an outstation.
 ghost use Rattle.std.specs.Prelude.{◌≡◌, ◌≤◌, ◌<◌, length, drop, List, [], ◌∷◌, Ok, Some, IfOk, IfSome, IsErrOf, slice_index, ◌==◌, true};
 ghost use Rattle.dnp_app.specs.declared.echoed.Echo.{Echo as Echoed};
-ghost use Rattle.dnp_app.specs.Response.{Fragment, IsResponse, is_response, response_of, Gives};
+ghost use Rattle.dnp_app.specs.Response.{Fragment, IsResponse, StoresHeader, response_of, Gives};
 
 use crate::confirmation::confirm;
 use crate::echoed::{Echo, only_echo};
@@ -150,8 +150,8 @@ pub fn read_response(alloc: Global, outstation: u8, octets: Vec<u8>) -> Result<R
     ensures only { (f : Fragment) → IsResponse f → f.octets ≡ octets.items → f.outstation ≡ outstation → Gives (λ r. r) result (Ok f) }
     // Which fault it is.
     ensures exact { Gives (λ r. r) result (response_of outstation octets.items) }
-    // Memory runs out only over the object part of a response.
-    ensures memory { IsErrOf result AppFault.Memory → (4 ≤ length octets.items) × (is_response octets.items ≡ true) }
+    // Memory runs out only where a header of the object part of a response is stored.
+    ensures memory { IsErrOf result AppFault.Memory → StoresHeader octets.items }
 {
     read(alloc, outstation, octets)
 }
@@ -160,7 +160,7 @@ fn read(alloc: Global, outstation: u8, octets: Vec<u8>) -> Result<Response, AppF
     requires { length octets.items ≤ 2048 }
     ensures found { IfOk result (λ r. IsResponse r × (r.octets ≡ octets.items) × (r.outstation ≡ outstation)) }
     ensures exact { Gives (λ r. r) result (response_of outstation octets.items) }
-    ensures memory { IsErrOf result AppFault.Memory → (4 ≤ length octets.items) × (is_response octets.items ≡ true) }
+    ensures memory { IsErrOf result AppFault.Memory → StoresHeader octets.items }
 {
     if octets.len() < 4 {
         return Err(AppFault::Short);

@@ -31,7 +31,7 @@ whole_goes_on v long outstation common prefix next after n m octets front whole 
     let one : whole_from v long outstation common prefix next (suc m) octets ≡ r ∷ others = ap (λ (rs : List Report). rs ++ others) at in
     rw f (append_assoc front (r ∷ []) others ∙ (ap (λ (rs : List Report). front ++ rs) (sym one) ∙ (ap (λ (k : ℕ). front ++ whole_from v long outstation common prefix next k octets) (sym e) ∙ so_far)))
 
-header_is : (part : List ℕ) (h : Header) (v : Variation) (outstation : ℕ) (common : Stamp) (size : Size) → object_of h.group h.variation ≡ Some v → size_of v ≡ size
+pub header_is : (part : List ℕ) (h : Header) (v : Variation) (outstation : ℕ) (common : Stamp) (size : Size) → object_of h.group h.variation ≡ Some v → size_of v ≡ size
     → header_reports part (object_of h.group h.variation) outstation common h ≡ sized_reports size v outstation common h (body_of part v h)
 header_is part h v outstation common size known sized =
     ap (λ (o : Option Variation). header_reports part o outstation common h) known ∙ ap (λ (s : Size). sized_reports s v outstation common h (body_of part v h)) sized

@@ -61,7 +61,7 @@ layout_long false width time long e = omega (arith, octets_are (width + time_oct
 
 told_found : (role : Role) (parts : Parts) (event : Bool) (outstation index : ℕ) (common : Stamp) (text : List ℕ) → size_of_parts parts ≡ Octets (length text)
     → IsTextOf role parts event outstation index common text (told_of role parts event outstation index common text)
-told_found (Point kind) (Packed bits) event outstation index common text e = refl
+told_found (Point kind) (Packed bits) event outstation index common text e = absurd cc
 told_found (Point kind) (Whole has_flags width time) event outstation index common text e = (
   point_report kind event has_flags width time outstation index common text,
   point_found kind event has_flags width time outstation index common text (layout_long has_flags width time (length text) e),
@@ -73,7 +73,7 @@ told_found SteppedOver parts event outstation index common text e = refl
 
 told_only : (role : Role) (parts : Parts) (event : Bool) (outstation index : ℕ) (common : Stamp) (text : List ℕ) (rs : List Report)
     → IsTextOf role parts event outstation index common text rs → rs ≡ told_of role parts event outstation index common text
-told_only (Point kind) (Packed bits) event outstation index common text rs is = is
+told_only (Point kind) (Packed bits) event outstation index common text rs is = absurd is
 told_only (Point kind) (Whole has_flags width time) event outstation index common text rs is =
     is.2 ∙ ap (λ (r : Report). r ∷ []) (point_only kind event has_flags width time outstation index common text is.0 is.1)
 told_only CommonTime parts event outstation index common text rs is = is

@@ -9,7 +9,8 @@ use Rattle.dnp_objects.specs.declared.object.Size.{Size}
 use Rattle.dnp_objects.specs.declared.object.Size.TheVariants.{Octets, Bits}
 use Rattle.dnp_objects.specs.Library.{Role, Point, CommonTime, Echo, SteppedOver, Variation, object_of, size_of}
 use Rattle.dnp_objects.specs.Headers.{◌>>=◌, number, octets_after, headers_of, IsPart}
-use Rattle.dnp_points.specs.Values.{bits_of}
+use Rattle.dnp_points.specs.declared.objects.Objects.{Objects}
+use Rattle.dnp_points.specs.Values.{IsClock, bits_of}
 use Rattle.dnp_points.specs.Objects.{AreWhole, ArePacked, whole_from, packed_from}
 
 -- the octets of a header's objects: those from their first one on
@@ -114,3 +115,13 @@ pub record IsWithin (part : List ℕ) (h : Header) : Type 0 where
 pub record IsIndexed (h : Header) : Type 0 where
   pub prefix : h.prefix ≤ 2
   pub ends : h.first + h.count ≤ 65536
+
+-- the objects of a header, as its reader finds them; the common time before them is one of a clock
+pub record AreFound (o : Objects) : Type 0 where
+  pub within : IsWithin o.part.now o.header.now
+  pub indexed : IsIndexed o.header.now
+  pub clock : IsClock o.common
+
+-- what they report
+abbrev pub told_by : Objects → List Report
+told_by o = header_reports o.part.now (object_of o.header.now.group o.header.now.variation) o.outstation o.common o.header.now

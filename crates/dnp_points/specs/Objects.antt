@@ -6,7 +6,7 @@ use Rattle.gw_model.specs.declared.point.Kind.TheVariants.{Binary}
 use Rattle.gw_model.specs.declared.point.Stamp.{Stamp}
 use Rattle.gw_model.specs.declared.point.Stamp.TheVariants.{Untimed}
 use Rattle.gw_model.specs.declared.point.Report.{Report}
-use Rattle.dnp_objects.specs.Library.{Role, Point, Time, time_octets, Parts, Whole, Variation}
+use Rattle.dnp_objects.specs.Library.{Role, Point, CommonTime, Echo, SteppedOver, Time, time_octets, Parts, Packed, Whole, Variation}
 use Rattle.dnp_objects.specs.Headers.{number}
 use Rattle.dnp_points.specs.Values.{flags_of, stamp_of, number_of_bits, report_of, packed_report_of}
 
@@ -27,11 +27,14 @@ pub record IsPointText (kind : Kind) (event has_flags : Bool) (width : ℕ) (tim
   pub instant_long : length instant ≡ time_octets time
   pub told : report ≡ report_of outstation index kind event (flags_of flags) value (stamp_of time common instant)
 
--- octets that spell an object, and its reports: one of its point, or none
+-- octets that spell an object, and its reports: one of its point, or none; packed objects of points aren't spelled in whole octets
 abbrev pub IsTextOf : Role → Parts → Bool → ℕ → ℕ → Stamp → List ℕ → List Report → Type 0
 IsTextOf (Point kind) (Whole has_flags width time) event outstation index common text rs =
     (r : Report) × IsPointText kind event has_flags width time outstation index common text r × (rs ≡ r ∷ [])
-IsTextOf _ _ event outstation index common text rs = rs ≡ []
+IsTextOf (Point kind) (Packed bits) event outstation index common text rs = ⊥
+IsTextOf CommonTime parts event outstation index common text rs = rs ≡ []
+IsTextOf Echo parts event outstation index common text rs = rs ≡ []
+IsTextOf SteppedOver parts event outstation index common text rs = rs ≡ []
 
 abbrev pub IsObjectText : Variation → ℕ → ℕ → Stamp → List ℕ → List Report → Type 0
 IsObjectText v = IsTextOf v.role v.parts v.event
@@ -39,7 +42,9 @@ IsObjectText v = IsTextOf v.role v.parts v.event
 -- what a packed object with this state reports
 abbrev pub packed_told : Role → Bool → ℕ → ℕ → ℕ → List Report
 packed_told (Point kind) event outstation index state = packed_report_of outstation index kind event state ∷ []
-packed_told _ event outstation index state = []
+packed_told CommonTime event outstation index state = []
+packed_told Echo event outstation index state = []
+packed_told SteppedOver event outstation index state = []
 
 abbrev pub packed_reports : Variation → ℕ → ℕ → List ℕ → List Report
 packed_reports v outstation index bits = packed_told v.role v.event outstation index (number_of_bits bits)
@@ -73,7 +78,10 @@ point_report kind event has_flags width time outstation index common text =
 
 abbrev pub told_of : Role → Parts → Bool → ℕ → ℕ → Stamp → List ℕ → List Report
 told_of (Point kind) (Whole has_flags width time) event outstation index common text = point_report kind event has_flags width time outstation index common text ∷ []
-told_of _ _ event outstation index common text = []
+told_of (Point kind) (Packed bits) event outstation index common text = []
+told_of CommonTime parts event outstation index common text = []
+told_of Echo parts event outstation index common text = []
+told_of SteppedOver parts event outstation index common text = []
 
 -- what an object with these octets reports
 abbrev pub object_reports : Variation → ℕ → ℕ → Stamp → List ℕ → List Report

@@ -1,272 +1,192 @@
 //! What the objects of each group report.
-ghost use Rattle.std.specs.Prelude.{◌≡◌, ◌++◌, OnOk};
-ghost use Rattle.dnp_objects.specs.Library.{object_of};
-ghost use Rattle.dnp_points.specs.Values.{IsClock};
-ghost use Rattle.dnp_points.specs.Meaning.{IsWithin, IsIndexed, header_reports};
+ghost use Rattle.std.specs.Prelude.{◌≡◌, ◌≢◌, [], ◌++◌, OnOk, OnErr};
+ghost use Rattle.dnp_points.specs.Meaning.{AreFound, told_by};
 
 use crate::analog::*;
 use crate::binary::*;
 use crate::counter::*;
-use crate::objects::{push_packed, push_whole};
+use crate::objects::Objects;
 use crate::packed::{PackedBinary, PackedDouble, PackedOutput};
-use dnp_objects::Header;
-use gw_model::{Memory, Report, Stamp};
+use gw_model::{Memory, Report};
 
 /// Adds what binary inputs report.
 #[tactic(auto, unfolding(dnp_objects::specs::Library::object_of))]
-fn push_binary_inputs(
-    found: &mut Vec<Report>,
-    outstation: u8,
-    common: Stamp,
-    header: &Header,
-    part: &[u8],
-) -> Result<(), Memory>
-    requires group { header.now.group ≡ 1 }
-    requires within { IsWithin part.now header.now }
-    requires indexed { IsIndexed header.now }
-    requires clock { IsClock common }
-    ensures { OnOk result (found.new.items ≡ found.old.items ++ header_reports part.now (object_of header.now.group header.now.variation) outstation common header.now) }
+fn push_binary_inputs(objects: &Objects<'_>, found: &mut Vec<Report>) -> Result<(), Memory>
+    requires group { objects.now.header.now.group ≡ 1 }
+    requires found { AreFound objects.now }
+    ensures told { OnOk result (found.new.items ≡ found.old.items ++ told_by objects.now) }
+    ensures memory { OnErr result (told_by objects.now ≢ []) }
 {
-    match header.variation {
-        1 => push_packed::<PackedBinary>(found, outstation, common, header, part),
-        2 => push_whole::<BinaryWithFlags>(found, outstation, common, header, part),
+    match objects.header.variation {
+        1 => objects.push_packed::<PackedBinary>(found),
+        2 => objects.push_whole::<BinaryWithFlags>(found),
         _ => Ok(()),
     }
 }
 
 /// Adds what binary input events report.
 #[tactic(auto, unfolding(dnp_objects::specs::Library::object_of))]
-fn push_binary_events(
-    found: &mut Vec<Report>,
-    outstation: u8,
-    common: Stamp,
-    header: &Header,
-    part: &[u8],
-) -> Result<(), Memory>
-    requires group { header.now.group ≡ 2 }
-    requires within { IsWithin part.now header.now }
-    requires indexed { IsIndexed header.now }
-    requires clock { IsClock common }
-    ensures { OnOk result (found.new.items ≡ found.old.items ++ header_reports part.now (object_of header.now.group header.now.variation) outstation common header.now) }
+fn push_binary_events(objects: &Objects<'_>, found: &mut Vec<Report>) -> Result<(), Memory>
+    requires group { objects.now.header.now.group ≡ 2 }
+    requires found { AreFound objects.now }
+    ensures told { OnOk result (found.new.items ≡ found.old.items ++ told_by objects.now) }
+    ensures memory { OnErr result (told_by objects.now ≢ []) }
 {
-    match header.variation {
-        1 => push_whole::<BinaryEvent>(found, outstation, common, header, part),
-        2 => push_whole::<BinaryEventWithTime>(found, outstation, common, header, part),
-        3 => push_whole::<BinaryEventWithRelativeTime>(found, outstation, common, header, part),
+    match objects.header.variation {
+        1 => objects.push_whole::<BinaryEvent>(found),
+        2 => objects.push_whole::<BinaryEventWithTime>(found),
+        3 => objects.push_whole::<BinaryEventWithRelativeTime>(found),
         _ => Ok(()),
     }
 }
 
 /// Adds what double-bit binary inputs report.
 #[tactic(auto, unfolding(dnp_objects::specs::Library::object_of))]
-fn push_double_inputs(
-    found: &mut Vec<Report>,
-    outstation: u8,
-    common: Stamp,
-    header: &Header,
-    part: &[u8],
-) -> Result<(), Memory>
-    requires group { header.now.group ≡ 3 }
-    requires within { IsWithin part.now header.now }
-    requires indexed { IsIndexed header.now }
-    requires clock { IsClock common }
-    ensures { OnOk result (found.new.items ≡ found.old.items ++ header_reports part.now (object_of header.now.group header.now.variation) outstation common header.now) }
+fn push_double_inputs(objects: &Objects<'_>, found: &mut Vec<Report>) -> Result<(), Memory>
+    requires group { objects.now.header.now.group ≡ 3 }
+    requires found { AreFound objects.now }
+    ensures told { OnOk result (found.new.items ≡ found.old.items ++ told_by objects.now) }
+    ensures memory { OnErr result (told_by objects.now ≢ []) }
 {
-    match header.variation {
-        1 => push_packed::<PackedDouble>(found, outstation, common, header, part),
-        2 => push_whole::<DoubleWithFlags>(found, outstation, common, header, part),
+    match objects.header.variation {
+        1 => objects.push_packed::<PackedDouble>(found),
+        2 => objects.push_whole::<DoubleWithFlags>(found),
         _ => Ok(()),
     }
 }
 
 /// Adds what double-bit binary input events report.
 #[tactic(auto, unfolding(dnp_objects::specs::Library::object_of))]
-fn push_double_events(
-    found: &mut Vec<Report>,
-    outstation: u8,
-    common: Stamp,
-    header: &Header,
-    part: &[u8],
-) -> Result<(), Memory>
-    requires group { header.now.group ≡ 4 }
-    requires within { IsWithin part.now header.now }
-    requires indexed { IsIndexed header.now }
-    requires clock { IsClock common }
-    ensures { OnOk result (found.new.items ≡ found.old.items ++ header_reports part.now (object_of header.now.group header.now.variation) outstation common header.now) }
+fn push_double_events(objects: &Objects<'_>, found: &mut Vec<Report>) -> Result<(), Memory>
+    requires group { objects.now.header.now.group ≡ 4 }
+    requires found { AreFound objects.now }
+    ensures told { OnOk result (found.new.items ≡ found.old.items ++ told_by objects.now) }
+    ensures memory { OnErr result (told_by objects.now ≢ []) }
 {
-    match header.variation {
-        1 => push_whole::<DoubleEvent>(found, outstation, common, header, part),
-        2 => push_whole::<DoubleEventWithTime>(found, outstation, common, header, part),
-        3 => push_whole::<DoubleEventWithRelativeTime>(found, outstation, common, header, part),
+    match objects.header.variation {
+        1 => objects.push_whole::<DoubleEvent>(found),
+        2 => objects.push_whole::<DoubleEventWithTime>(found),
+        3 => objects.push_whole::<DoubleEventWithRelativeTime>(found),
         _ => Ok(()),
     }
 }
 
 /// Adds what binary output status report.
 #[tactic(auto, unfolding(dnp_objects::specs::Library::object_of))]
-fn push_outputs(
-    found: &mut Vec<Report>,
-    outstation: u8,
-    common: Stamp,
-    header: &Header,
-    part: &[u8],
-) -> Result<(), Memory>
-    requires group { header.now.group ≡ 10 }
-    requires within { IsWithin part.now header.now }
-    requires indexed { IsIndexed header.now }
-    requires clock { IsClock common }
-    ensures { OnOk result (found.new.items ≡ found.old.items ++ header_reports part.now (object_of header.now.group header.now.variation) outstation common header.now) }
+fn push_outputs(objects: &Objects<'_>, found: &mut Vec<Report>) -> Result<(), Memory>
+    requires group { objects.now.header.now.group ≡ 10 }
+    requires found { AreFound objects.now }
+    ensures told { OnOk result (found.new.items ≡ found.old.items ++ told_by objects.now) }
+    ensures memory { OnErr result (told_by objects.now ≢ []) }
 {
-    match header.variation {
-        1 => push_packed::<PackedOutput>(found, outstation, common, header, part),
-        2 => push_whole::<OutputWithFlags>(found, outstation, common, header, part),
+    match objects.header.variation {
+        1 => objects.push_packed::<PackedOutput>(found),
+        2 => objects.push_whole::<OutputWithFlags>(found),
         _ => Ok(()),
     }
 }
 
 /// Adds what binary output events report.
 #[tactic(auto, unfolding(dnp_objects::specs::Library::object_of))]
-fn push_output_events(
-    found: &mut Vec<Report>,
-    outstation: u8,
-    common: Stamp,
-    header: &Header,
-    part: &[u8],
-) -> Result<(), Memory>
-    requires group { header.now.group ≡ 11 }
-    requires within { IsWithin part.now header.now }
-    requires indexed { IsIndexed header.now }
-    requires clock { IsClock common }
-    ensures { OnOk result (found.new.items ≡ found.old.items ++ header_reports part.now (object_of header.now.group header.now.variation) outstation common header.now) }
+fn push_output_events(objects: &Objects<'_>, found: &mut Vec<Report>) -> Result<(), Memory>
+    requires group { objects.now.header.now.group ≡ 11 }
+    requires found { AreFound objects.now }
+    ensures told { OnOk result (found.new.items ≡ found.old.items ++ told_by objects.now) }
+    ensures memory { OnErr result (told_by objects.now ≢ []) }
 {
-    match header.variation {
-        1 => push_whole::<OutputEvent>(found, outstation, common, header, part),
-        2 => push_whole::<OutputEventWithTime>(found, outstation, common, header, part),
+    match objects.header.variation {
+        1 => objects.push_whole::<OutputEvent>(found),
+        2 => objects.push_whole::<OutputEventWithTime>(found),
         _ => Ok(()),
     }
 }
 
 /// Adds what counters report.
 #[tactic(auto, unfolding(dnp_objects::specs::Library::object_of))]
-fn push_counters(
-    found: &mut Vec<Report>,
-    outstation: u8,
-    common: Stamp,
-    header: &Header,
-    part: &[u8],
-) -> Result<(), Memory>
-    requires group { header.now.group ≡ 20 }
-    requires within { IsWithin part.now header.now }
-    requires indexed { IsIndexed header.now }
-    requires clock { IsClock common }
-    ensures { OnOk result (found.new.items ≡ found.old.items ++ header_reports part.now (object_of header.now.group header.now.variation) outstation common header.now) }
+fn push_counters(objects: &Objects<'_>, found: &mut Vec<Report>) -> Result<(), Memory>
+    requires group { objects.now.header.now.group ≡ 20 }
+    requires found { AreFound objects.now }
+    ensures told { OnOk result (found.new.items ≡ found.old.items ++ told_by objects.now) }
+    ensures memory { OnErr result (told_by objects.now ≢ []) }
 {
-    match header.variation {
-        1 => push_whole::<Counter32WithFlag>(found, outstation, common, header, part),
-        2 => push_whole::<Counter16WithFlag>(found, outstation, common, header, part),
-        5 => push_whole::<Counter32WithoutFlag>(found, outstation, common, header, part),
-        6 => push_whole::<Counter16WithoutFlag>(found, outstation, common, header, part),
+    match objects.header.variation {
+        1 => objects.push_whole::<Counter32WithFlag>(found),
+        2 => objects.push_whole::<Counter16WithFlag>(found),
+        5 => objects.push_whole::<Counter32WithoutFlag>(found),
+        6 => objects.push_whole::<Counter16WithoutFlag>(found),
         _ => Ok(()),
     }
 }
 
 /// Adds what counter events report.
 #[tactic(auto, unfolding(dnp_objects::specs::Library::object_of))]
-fn push_counter_events(
-    found: &mut Vec<Report>,
-    outstation: u8,
-    common: Stamp,
-    header: &Header,
-    part: &[u8],
-) -> Result<(), Memory>
-    requires group { header.now.group ≡ 22 }
-    requires within { IsWithin part.now header.now }
-    requires indexed { IsIndexed header.now }
-    requires clock { IsClock common }
-    ensures { OnOk result (found.new.items ≡ found.old.items ++ header_reports part.now (object_of header.now.group header.now.variation) outstation common header.now) }
+fn push_counter_events(objects: &Objects<'_>, found: &mut Vec<Report>) -> Result<(), Memory>
+    requires group { objects.now.header.now.group ≡ 22 }
+    requires found { AreFound objects.now }
+    ensures told { OnOk result (found.new.items ≡ found.old.items ++ told_by objects.now) }
+    ensures memory { OnErr result (told_by objects.now ≢ []) }
 {
-    match header.variation {
-        1 => push_whole::<CounterEvent32>(found, outstation, common, header, part),
-        2 => push_whole::<CounterEvent16>(found, outstation, common, header, part),
-        5 => push_whole::<CounterEvent32WithTime>(found, outstation, common, header, part),
-        6 => push_whole::<CounterEvent16WithTime>(found, outstation, common, header, part),
+    match objects.header.variation {
+        1 => objects.push_whole::<CounterEvent32>(found),
+        2 => objects.push_whole::<CounterEvent16>(found),
+        5 => objects.push_whole::<CounterEvent32WithTime>(found),
+        6 => objects.push_whole::<CounterEvent16WithTime>(found),
         _ => Ok(()),
     }
 }
 
 /// Adds what analog inputs report.
 #[tactic(auto, using(crate::proofs::Table::no_floats), unfolding(dnp_objects::specs::Library::object_of))]
-fn push_analogs(
-    found: &mut Vec<Report>,
-    outstation: u8,
-    common: Stamp,
-    header: &Header,
-    part: &[u8],
-) -> Result<(), Memory>
-    requires group { header.now.group ≡ 30 }
-    requires within { IsWithin part.now header.now }
-    requires indexed { IsIndexed header.now }
-    requires clock { IsClock common }
-    ensures { OnOk result (found.new.items ≡ found.old.items ++ header_reports part.now (object_of header.now.group header.now.variation) outstation common header.now) }
+fn push_analogs(objects: &Objects<'_>, found: &mut Vec<Report>) -> Result<(), Memory>
+    requires group { objects.now.header.now.group ≡ 30 }
+    requires found { AreFound objects.now }
+    ensures told { OnOk result (found.new.items ≡ found.old.items ++ told_by objects.now) }
+    ensures memory { OnErr result (told_by objects.now ≢ []) }
 {
-    match header.variation {
-        1 => push_whole::<Analog32WithFlag>(found, outstation, common, header, part),
-        2 => push_whole::<Analog16WithFlag>(found, outstation, common, header, part),
-        3 => push_whole::<Analog32WithoutFlag>(found, outstation, common, header, part),
-        4 => push_whole::<Analog16WithoutFlag>(found, outstation, common, header, part),
+    match objects.header.variation {
+        1 => objects.push_whole::<Analog32WithFlag>(found),
+        2 => objects.push_whole::<Analog16WithFlag>(found),
+        3 => objects.push_whole::<Analog32WithoutFlag>(found),
+        4 => objects.push_whole::<Analog16WithoutFlag>(found),
         _ => Ok(()),
     }
 }
 
 /// Adds what analog input events report.
 #[tactic(auto, using(crate::proofs::Table::no_float_events), unfolding(dnp_objects::specs::Library::object_of))]
-fn push_analog_events(
-    found: &mut Vec<Report>,
-    outstation: u8,
-    common: Stamp,
-    header: &Header,
-    part: &[u8],
-) -> Result<(), Memory>
-    requires group { header.now.group ≡ 32 }
-    requires within { IsWithin part.now header.now }
-    requires indexed { IsIndexed header.now }
-    requires clock { IsClock common }
-    ensures { OnOk result (found.new.items ≡ found.old.items ++ header_reports part.now (object_of header.now.group header.now.variation) outstation common header.now) }
+fn push_analog_events(objects: &Objects<'_>, found: &mut Vec<Report>) -> Result<(), Memory>
+    requires group { objects.now.header.now.group ≡ 32 }
+    requires found { AreFound objects.now }
+    ensures told { OnOk result (found.new.items ≡ found.old.items ++ told_by objects.now) }
+    ensures memory { OnErr result (told_by objects.now ≢ []) }
 {
-    match header.variation {
-        1 => push_whole::<AnalogEvent32>(found, outstation, common, header, part),
-        2 => push_whole::<AnalogEvent16>(found, outstation, common, header, part),
-        3 => push_whole::<AnalogEvent32WithTime>(found, outstation, common, header, part),
-        4 => push_whole::<AnalogEvent16WithTime>(found, outstation, common, header, part),
+    match objects.header.variation {
+        1 => objects.push_whole::<AnalogEvent32>(found),
+        2 => objects.push_whole::<AnalogEvent16>(found),
+        3 => objects.push_whole::<AnalogEvent32WithTime>(found),
+        4 => objects.push_whole::<AnalogEvent16WithTime>(found),
         _ => Ok(()),
     }
 }
 
-/// Adds what the objects of a header report, where this is the common time before them.
+/// Adds what the objects of a header report.
 #[tactic(auto, using(crate::proofs::Table::no_points))]
-pub fn push_header(
-    found: &mut Vec<Report>,
-    outstation: u8,
-    common: Stamp,
-    header: &Header,
-    part: &[u8],
-) -> Result<(), Memory>
-    requires within { IsWithin part.now header.now }
-    requires indexed { IsIndexed header.now }
-    requires clock { IsClock common }
-    ensures { OnOk result (found.new.items ≡ found.old.items ++ header_reports part.now (object_of header.now.group header.now.variation) outstation common header.now) }
+pub fn push_reports(objects: &Objects<'_>, found: &mut Vec<Report>) -> Result<(), Memory>
+    requires found { AreFound objects.now }
+    ensures told { OnOk result (found.new.items ≡ found.old.items ++ told_by objects.now) }
+    ensures memory { OnErr result (told_by objects.now ≢ []) }
 {
-    match header.group {
-        1 => push_binary_inputs(found, outstation, common, header, part),
-        2 => push_binary_events(found, outstation, common, header, part),
-        3 => push_double_inputs(found, outstation, common, header, part),
-        4 => push_double_events(found, outstation, common, header, part),
-        10 => push_outputs(found, outstation, common, header, part),
-        11 => push_output_events(found, outstation, common, header, part),
-        20 => push_counters(found, outstation, common, header, part),
-        22 => push_counter_events(found, outstation, common, header, part),
-        30 => push_analogs(found, outstation, common, header, part),
-        32 => push_analog_events(found, outstation, common, header, part),
+    match objects.header.group {
+        1 => push_binary_inputs(objects, found),
+        2 => push_binary_events(objects, found),
+        3 => push_double_inputs(objects, found),
+        4 => push_double_events(objects, found),
+        10 => push_outputs(objects, found),
+        11 => push_output_events(objects, found),
+        20 => push_counters(objects, found),
+        22 => push_counter_events(objects, found),
+        30 => push_analogs(objects, found),
+        32 => push_analog_events(objects, found),
         _ => Ok(()),
     }
 }

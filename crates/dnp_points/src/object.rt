@@ -39,6 +39,7 @@ pub trait Object {
 /// Which time stands at the end of an object.
 #[derive(Clone, Copy, Debug, PartialEq, Eq)]
 pub enum Time {
+    /// None.
     Timeless,
     /// Milliseconds since 1970, of 48 bits.
     Absolute,

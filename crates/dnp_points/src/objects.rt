@@ -1,9 +1,8 @@
 //! Reading a header's objects one after the other.
-ghost use Rattle.std.specs.Prelude.{◌≡◌, ◌++◌, ◌≤◌, ◌<◌, Some, length, OnOk};
+ghost use Rattle.std.specs.Prelude.{◌≡◌, ◌++◌, ◌≤◌, ◌<◌, ◌≢◌, [], Some, length, OnOk, OnErr};
 ghost use Rattle.dnp_objects.specs.Library.{object_of};
-ghost use Rattle.dnp_points.specs.Values.{IsClock};
 ghost use Rattle.dnp_points.specs.Objects.{index_of};
-ghost use Rattle.dnp_points.specs.Meaning.{IsWithin, IsIndexed, header_reports};
+ghost use Rattle.dnp_points.specs.Meaning.{AreFound, told_by};
 
 use crate::object::Object;
 use crate::packed::{PackedObject, bits_at};
@@ -24,55 +23,58 @@ fn index_of(next: u32, octets: &[u8]) -> u16
     }
 }
 
-/// Adds what the objects of a header report, each of whole octets.
-pub fn push_whole<O: Object>(
-    found: &mut Vec<Report>,
-    outstation: u8,
-    common: Stamp,
-    header: &Header,
-    part: &[u8],
-) -> Result<(), Memory>
-    requires known { object_of header.now.group header.now.variation ≡ Some O.variation }
-    requires within { IsWithin part.now header.now }
-    requires indexed { IsIndexed header.now }
-    requires clock { IsClock common }
-    ensures { OnOk result (found.new.items ≡ found.old.items ++ header_reports part.now (object_of header.now.group header.now.variation) outstation common header.now) }
-{
-    let prefix = usize::from(header.prefix);
-    let first = u32::from(header.first);
-    let octets = header.count as usize * (prefix + O::LENGTH);
-    let mut rest = &part[header.start..header.start + octets];
-    for n in 0..header.count {
-        let (index, behind) = rest.split_at(prefix);
-        let (object, after) = behind.split_at(O::LENGTH);
-        let index = index_of(first + n, index);
-        found.push(O::report(object, outstation, index, common))?;
-        rest = after;
-    }
-    Ok(())
+/// The objects of one header in a part, and what their reports need besides.
+#[derive(Clone, Copy)]
+pub struct Objects<'a> {
+    pub header: &'a Header,
+    pub part: &'a [u8],
+    pub outstation: u8,
+    /// The common time before them.
+    pub common: Stamp,
 }
 
-/// Adds what the objects of a header report, which are packed into octets.
-pub fn push_packed<P: PackedObject>(
-    found: &mut Vec<Report>,
-    outstation: u8,
-    common: Stamp,
-    header: &Header,
-    part: &[u8],
-) -> Result<(), Memory>
-    requires known { object_of header.now.group header.now.variation ≡ Some P.variation }
-    requires within { IsWithin part.now header.now }
-    requires indexed { IsIndexed header.now }
-    ensures { OnOk result (found.new.items ≡ found.old.items ++ header_reports part.now (object_of header.now.group header.now.variation) outstation common header.now) }
-{
-    let first = u32::from(header.first);
-    let width = P::BITS;
-    let octets = (header.count as usize * width + 7) / 8;
-    let body = &part[header.start..header.start + octets];
-    for n in 0..header.count {
-        let state = bits_at(body, n as usize * width, width);
-        let index = (first + n) as u16;
-        found.push(P::report(state, outstation, index))?;
+impl Objects<'_> {
+    /// Adds what they report, each of whole octets.
+    pub fn push_whole<O: Object>(&self, found: &mut Vec<Report>) -> Result<(), Memory>
+        requires known { object_of self.now.header.now.group self.now.header.now.variation ≡ Some O.variation }
+        requires found { AreFound self.now }
+        ensures told { OnOk result (found.new.items ≡ found.old.items ++ told_by self.now) }
+        // Memory runs out only where they report something.
+        ensures memory { OnErr result (told_by self.now ≢ []) }
+    {
+        let header = self.header;
+        let prefix = usize::from(header.prefix);
+        let first = u32::from(header.first);
+        let octets = header.count as usize * (prefix + O::LENGTH);
+        let mut rest = &self.part[header.start..header.start + octets];
+        for n in 0..header.count {
+            let (index, behind) = rest.split_at(prefix);
+            let (object, after) = behind.split_at(O::LENGTH);
+            let index = index_of(first + n, index);
+            found.push(O::report(object, self.outstation, index, self.common))?;
+            rest = after;
+        }
+        Ok(())
     }
-    Ok(())
+
+    /// Adds what they report, packed into octets.
+    pub fn push_packed<P: PackedObject>(&self, found: &mut Vec<Report>) -> Result<(), Memory>
+        requires known { object_of self.now.header.now.group self.now.header.now.variation ≡ Some P.variation }
+        requires found { AreFound self.now }
+        ensures told { OnOk result (found.new.items ≡ found.old.items ++ told_by self.now) }
+        // Memory runs out only where they report something.
+        ensures memory { OnErr result (told_by self.now ≢ []) }
+    {
+        let header = self.header;
+        let first = u32::from(header.first);
+        let width = P::BITS;
+        let octets = (header.count as usize * width + 7) / 8;
+        let body = &self.part[header.start..header.start + octets];
+        for n in 0..header.count {
+            let state = bits_at(body, n as usize * width, width);
+            let index = (first + n) as u16;
+            found.push(P::report(state, self.outstation, index))?;
+        }
+        Ok(())
+    }
 }

@@ -1,10 +1,11 @@
 //! What an object part reports.
-ghost use Rattle.std.specs.Prelude.{◌≡◌, ◌++◌, List, Ok, IfOk};
+ghost use Rattle.std.specs.Prelude.{◌≡◌, ◌≢◌, ◌++◌, [], List, Ok, IfOk, OnErr};
 ghost use Rattle.gw_model.specs.declared.point.Report.{Report as Told};
 ghost use Rattle.dnp_objects.specs.Headers.{headers_of};
 ghost use Rattle.dnp_points.specs.Meaning.{Means, reports_of};
 
-use crate::group::push_header;
+use crate::group::push_reports;
+use crate::objects::Objects;
 use crate::time::common_after;
 use dnp_objects::Header;
 use gw_model::{Memory, Report, Stamp};
@@ -18,12 +19,19 @@ fn all_reports(
     part: &[u8],
 ) -> Result<Vec<Report>, Memory>
     requires { headers_of part.now ≡ Ok headers.now }
-    ensures { IfOk result (λ v. v.items ≡ reports_of outstation part.now headers.now) }
+    ensures exact { IfOk result (λ v. v.items ≡ reports_of outstation part.now headers.now) }
+    ensures memory { OnErr result (reports_of outstation part.now headers.now ≢ []) }
 {
     let mut found = Vec::new(alloc);
     let mut common = Stamp::Untimed;
     for header in headers {
-        push_header(&mut found, outstation, common, header, part)?;
+        let objects = Objects {
+            header,
+            part,
+            outstation,
+            common,
+        };
+        push_reports(&objects, &mut found)?;
         common = common_after(common, header, part);
     }
     Ok(found)
@@ -42,6 +50,8 @@ pub fn reports(
     // What the part means is read, unless memory runs out.
     ensures only { (rs : List Told) → Means outstation part.now rs → IfOk result (λ v. v.items ≡ rs) }
     ensures exact { IfOk result (λ v. v.items ≡ reports_of outstation part.now headers.now) }
+    // Memory runs out only where something is reported.
+    ensures memory { OnErr result (reports_of outstation part.now headers.now ≢ []) }
 {
     all_reports(alloc, outstation, headers, part)
 }

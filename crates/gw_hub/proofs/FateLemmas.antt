@@ -68,7 +68,3 @@ gone_of-append (Gone x ∷ xs) ys = ap (λ (zs : List Observation). x ∷ zs) (g
 pub gone_of-came : (xs : List Observation) → gone_of (map Came xs) ≡ []
 gone_of-came [] = refl
 gone_of-came (x ∷ xs) = gone_of-came xs
-
-pub gone_of-gone : (xs : List Observation) → gone_of (map Gone xs) ≡ xs
-gone_of-gone [] = refl
-gone_of-gone (x ∷ xs) = ap (λ (zs : List Observation). x ∷ zs) (gone_of-gone xs)

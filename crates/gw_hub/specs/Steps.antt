@@ -76,7 +76,7 @@ start_con = 0x68 ∷ 4 ∷ 0x0B ∷ 0 ∷ 0 ∷ 0 ∷ []
 abbrev pub i_format : ℕ → List ℕ → List ℕ
 i_format ns asdu = 0x68 ∷ (4 + length asdu) ∷ ((2 * ns) % 256) ∷ ((2 * ns) / 256) ∷ 0 ∷ 0 ∷ asdu
 
--- what a pump gives, where clocks are offset minutes before UTC: a waiting confirmation, then the oldest news
+-- what a pump gives, where clocks are offset minutes ahead of UTC: a waiting confirmation, then the oldest news
 abbrev pub pump_queue : ℤ → ℕ → ℕ → List Observation → Reply
 pump_queue offset common ns [] = replies.Nothing
 pump_queue offset common ns (x ∷ xs) = replies.Apdu (buffer (i_format ns (spelling offset common 3 x)))

@@ -1,14 +1,11 @@
 //! Application protocol data units (IEC 60870-5-104, clause 5), as far as the core knows them.
-ghost use Rattle.std.specs.Prelude.{◌≡◌, ◌<◌, ◌≤◌, ◌++◌, length};
+ghost use Rattle.std.specs.Prelude.{◌≡◌, ◌<◌, ◌≤◌, ◌++◌};
 ghost use Rattle.iec_asdu.specs.Spelling.{spelling};
 ghost use Rattle.gw_hub.specs.Steps.{buffer, start_con, i_format};
 
 use gw_model::Observation;
 use gw_time::Zone;
-use iec_asdu::write_monitor;
-
-/// The cause of transmission of news: spontaneous (IEC 60870-5-101, 7.2.3).
-const SPONTANEOUS: u8 = 3;
+use iec_asdu::{SPONTANEOUS, write_monitor};
 
 /// The function of a U format.
 #[derive(Clone, Copy, Debug, PartialEq, Eq)]
@@ -20,6 +17,7 @@ pub enum Signal {
 /// An APDU that a client sent.
 #[derive(Clone, Copy, Debug, PartialEq, Eq)]
 pub enum Apdu {
+    /// A U format.
     U(Signal),
 }
 
@@ -27,6 +25,7 @@ pub enum Apdu {
 #[derive(Clone, Copy, Debug, PartialEq, Eq)]
 pub struct ApduBuf {
     pub octets: [u8; 255],
+    /// How many of them the APDU has.
     pub len: u8,
 }
 

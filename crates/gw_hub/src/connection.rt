@@ -1,6 +1,6 @@
 //! A client that is up.
-ghost use Rattle.std.specs.Prelude.{◌≡◌, ◌≤◌, ◌+◌, ℕ, ◌++◌, ◌∷◌, [], Some, None, IsTrue, OnOk, OnErr, IfSome, nat_lt};
-ghost use Rattle.gw_hub.specs.Steps.{came, framed, frame_reply, pump_reply, pumped};
+ghost use Rattle.std.specs.Prelude.{◌≡◌, ◌≤◌, ◌+◌, ℕ, ◌++◌, ◌∷◌, [], Some, None, IsTrue, OnOk, nat_lt};
+ghost use Rattle.gw_hub.specs.Steps.{came, framed, pump_reply, pumped};
 ghost use Rattle.gw_hub.specs.Seats.{dropped_in, given, queued_in, HasRoom};
 
 use crate::apdu::{ApduBuf, news_format, start_confirmation};
@@ -65,6 +65,7 @@ impl Connection {
     pub fn dropped(&self) -> usize
         ensures { result ≡ dropped_in self.now.link.session }
     {
+        // A function that reads a field may use in its proof what the type keeps.
         let _ = &self.queue;
         0
     }

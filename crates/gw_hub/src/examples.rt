@@ -1,12 +1,12 @@
 //! Worked runs, computed by the step relation itself.
-ghost use Rattle.std.specs.Prelude.{◌≡◌, ◌++◌, [], ◌∷◌, map, slice_get, Some, None, Ok, Err};
+ghost use Rattle.std.specs.Prelude.{◌≡◌, ◌++◌, [], ◌∷◌, Some, Ok, Err};
 ghost use Rattle.gw_hub.specs.declared.step.Step.TheVariants as steps;
 ghost use Rattle.gw_hub.specs.declared.step.Reply.TheVariants as replies;
 ghost use Rattle.gw_hub.specs.declared.step.Verdict.TheVariants as verdicts;
 ghost use Rattle.gw_hub.specs.declared.step.Ignored.TheVariants.{NoRequest};
 ghost use Rattle.gw_hub.specs.declared.step.StepFault.TheVariants.{NoOutstation, NoClient, NotUp, AlreadyUp};
 ghost use Rattle.gw_hub.specs.State.{at_first};
-ghost use Rattle.gw_hub.specs.Steps.{outcome, after, buffer, start_con};
+ghost use Rattle.gw_hub.specs.Steps.{outcome, buffer, start_con};
 ghost use Rattle.gw_hub.specs.Example.{setup, event, reading, next_reading, solicited, after_steps, starting, started};
 
 /// Replies of the worked runs, with faults before them.

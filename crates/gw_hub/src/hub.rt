@@ -123,6 +123,7 @@ impl Hub {
         // Each observation that is queued can be sent.
         ensures sound { IsSound self.old.setup.offset self.old.state }
     {
+        // A function that reads a field may use in its proof what the type keeps.
         let _ = &self.clients;
         match step {
             Step::OutstationUp { outstation, .. } => self.outstation_up(*outstation),

@@ -3,7 +3,6 @@ ghost use Rattle.std.specs.Prelude.{◌≡◌, [], ◌∷◌, Some, None, slice_
 ghost use Rattle.std.specs.Option.{option_map};
 ghost use Rattle.gw_picture.specs.Change.{change};
 ghost use Rattle.gw_hub.specs.Steps.{accepts, is_last, verdict_of};
-ghost use Rattle.gw_hub.specs.Seats.{presence};
 
 use crate::step::{Ignored, Verdict};
 use dnp_app::Response;

@@ -33,6 +33,7 @@ pub enum Verdict {
     Accepted { confirm: Option<[u8; 2]> },
     /// It is the last unsolicited response again, and was not taken again.
     Repeated { confirm: Option<[u8; 2]> },
+    /// It was not taken, and changes nothing.
     Ignored(Ignored),
 }
 
@@ -46,11 +47,17 @@ pub enum Why {
 /// The reply to a step.
 #[derive(Clone, Copy, Debug, PartialEq, Eq)]
 pub enum Reply {
+    /// The outstation or client is up now.
     Done,
+    /// What became of a fragment.
     Verdict(Verdict),
+    /// The APDU that goes to the client next.
     Apdu(ApduBuf),
+    /// The client's APDU was taken.
     Taken,
+    /// The client's connection is closed.
     Closed(Why),
+    /// No APDU waits for the client.
     Nothing,
 }
 

@@ -1,4 +1,4 @@
--- The news of reports, by the picture as it is when each image comes. Clocks are offset minutes before UTC.
+-- The news of reports, by the picture as it is when each image comes. Clocks are offset minutes ahead of UTC.
 use Rattle.std.specs.Prelude.{ℕ, ℤ, List, [], ◌∷◌, ◌++◌, Option, Some, None, slice_get, ◌==◌, if◌then◌else◌}
 use Rattle.gw_model.specs.declared.point.Report.{Report}
 use Rattle.gw_model.specs.declared.point.Stamp.TheVariants.{Untimed}

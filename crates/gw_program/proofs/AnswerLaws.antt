@@ -5,11 +5,11 @@ use Rattle.std.proofs.lemmas.List.{length-take, length-append, take_all}
 use Rattle.std.proofs.lemmas.List.Elements.{All-head, All-tail}
 use Rattle.std.specs.List.{list_all}
 use Rattle.gw_model.specs.Rows.{Setup}
-use Rattle.gw_program.specs.Hex.{octets_of, at_most_2048}
+use Rattle.gw_lines.specs.Hex.{octets_of, at_most_2048}
 use Rattle.gw_model.specs.declared.observation.Observation.{Observation}
-use Rattle.gw_program.specs.Answers.{AreAnswers, IsAnswer, has_objects, may_have_objects, is_accepted, is_empty, line_text, line_reports, lines_of, octets_reports, onto_first, shown_then}
+use Rattle.gw_program.specs.Answers.{AreAnswers, AreToStore, IsAnswer, is_accepted, is_empty, line_text, line_reports, lines_of, octets_reports, onto_first, shown_then}
 use Rattle.gw_program.specs.Translation.{shown_in}
-use Rattle.gw_program.proofs.HexLaws.{too_long}
+use Rattle.gw_lines.proofs.HexLaws.{too_long}
 
 -- ---- the lines of octets before others
 
@@ -110,13 +110,9 @@ unfolding onto_first
 list_all-kept line [] = rw (is_accepted-same (take 6144 line) line (kept_line line)) refl
 list_all-kept line (next ∷ lines) = rw (is_accepted-same (take 6144 line ++ next) (line ++ next) (kept_front line next)) refl
 
-has_objects-same : (a b : List ℕ) → SameLine a b → has_objects a ≡ has_objects b
-unfolding has_objects
-has_objects-same a b same = ap may_have_objects same.octets
-
 IsAnswer-same : (setup : Setup) (picture : List Observation) (a b : List ℕ) (lacks : Bool) (text : List ℕ) → SameLine a b → IsAnswer setup picture a lacks text → IsAnswer setup picture b lacks text
 IsAnswer-same setup picture a b false text same answered = answered ∙ line_text-same setup picture a b same
-IsAnswer-same setup picture a b true text same memory = (sym (has_objects-same a b same) ∙ memory.0, memory.1)
+IsAnswer-same setup picture a b true text same memory = (subst AreToStore same.octets memory.0, memory.1)
 
 -- the same line before others
 first-same : (setup : Setup) (picture : List Observation) (a b : List ℕ) (lines : List (List ℕ)) (lacks : Bool) (text : List ℕ) → SameLine a b → AreAnswers setup picture (a ∷ lines) lacks text → AreAnswers setup picture (b ∷ lines) lacks text

@@ -1,15 +1,14 @@
 -- What is decided of a line is what the line is answered, and whether it is accepted.
-use Rattle.std.proofs.Common.{◌≡◌, ◌≢◌, ℕ, Bool, true, false, cond, List, [], ◌∷◌, Option, Some, None, Result, Ok, Err, is_ok, refl, sym, ap, ◌∙◌, ◌++◌, codes, length, ◌≤◌, nat_le}
-use Rattle.std.proofs.lemmas.Bool.{and_from, le-leb}
+use Rattle.std.proofs.Common.{◌≡◌, ◌≢◌, ℕ, Bool, true, false, cond, List, [], ◌∷◌, Option, Some, None, Result, Ok, Err, is_ok, refl, sym, ap, subst, ◌∙◌, ◌++◌, codes}
 use Rattle.gw_model.specs.Rows.{Setup}
 use Rattle.gw_model.specs.declared.observation.Observation.{Observation}
 use Rattle.dnp_app.specs.declared.fault.AppFault.{AppFault}
 use Rattle.dnp_app.specs.declared.fault.AppFault.TheVariants.{Short, NotResponse, Object, Memory}
-use Rattle.dnp_app.specs.Response.{Fragment, is_response, response_of}
-use Rattle.gw_program.specs.Hex.{octets_of, at_most_2048}
-use Rattle.gw_program.specs.Text.{accepted_text}
+use Rattle.dnp_app.specs.Response.{Fragment, response_of}
+use Rattle.gw_lines.specs.Hex.{octets_of, at_most_2048}
+use Rattle.gw_lines.specs.Text.{accepted_text, refusal_text}
 use Rattle.gw_program.specs.Translation.{Decides, Standing, standing, news_in, shown_in}
-use Rattle.gw_program.specs.Answers.{IsAnswer, has_objects, may_have_objects, are_accepted, is_accepted, is_empty, line_reports, line_text, octets_reports, octets_text, read_reports, refusal_text, response_text, shown_then}
+use Rattle.gw_program.specs.Answers.{AreToStore, IsAnswer, are_accepted, is_accepted, is_empty, line_reports, line_text, octets_reports, octets_text, read_reports, response_text, shown_then}
 use Rattle.gw_program.specs.Reading.{after_decision, after_line, refused_after}
 use Rattle.gw_program.specs.declared.decision.Decision.{Decision}
 use Rattle.gw_program.specs.declared.decision.Decision.TheVariants.{Empty, NotHex, Refused as RefusedOctets, Accepted}
@@ -58,11 +57,6 @@ line_text-read setup picture line octets read found is = line_text-filled setup 
 
 line_reports-read : (line octets : List ℕ) (read : Result Fragment AppFault) → at_most_2048 (octets_of line) ≡ Some octets → response_of 0 octets ≡ read → line_reports line ≡ read_reports read
 line_reports-read line octets read found is = line_reports-found line (Some octets) found ∙ ap read_reports is
-
-has_objects-read : (line octets : List ℕ) → at_most_2048 (octets_of line) ≡ Some octets → 4 ≤ length octets → is_response octets ≡ true → has_objects line ≡ true
-unfolding has_objects
-has_objects-read line octets found long response =
-    ap may_have_objects found ∙ and_from (nat_le 4 (length octets)) (is_response octets) (le-leb 4 (length octets) long) response
 
 -- ---- what was decided
 
@@ -114,7 +108,7 @@ decision-answers setup line NotHex news before shown ended decides =
     }
 decision-answers setup line (RefusedOctets Memory) news before shown ended decides = record {
   lacks = true;
-  answer = (has_objects-read line decides.0 decides.1 decides.2.0 decides.2.1, refl);
+  answer = (subst AreToStore (sym decides.1) decides.2, refl);
   ended = refl;
   shown = decides.4;
 }

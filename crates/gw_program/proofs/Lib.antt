@@ -1,6 +1,4 @@
-pub mod HexLaws
 pub mod LineLemmas
-pub mod DecimalLaws
 pub mod AnswerLaws
 pub mod StepLaws
 pub mod DecisionLaws

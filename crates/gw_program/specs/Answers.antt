@@ -1,18 +1,15 @@
 -- What `translate` answers to an input: to each of its lines in order, where a line is what stands between line feeds.
 -- News are judged by what was shown of each row by the lines before.
-use Rattle.std.specs.Prelude.{◌≡◌, ◌||◌, ◌&&◌, nat_le, length, ℕ, Bool, true, false, List, [], ◌∷◌, ◌++◌, ◌==◌, Option, Some, None, Result, Ok, Err, codes, is_ok, map, if◌then◌else◌}
+use Rattle.std.specs.Prelude.{◌≡◌, ◌||◌, ℕ, Bool, true, false, List, [], ◌∷◌, ◌++◌, ◌==◌, Option, Some, None, Result, Ok, Err, codes, is_ok, map, if◌then◌else◌}
 use Rattle.std.specs.List.{list_all}
-use Rattle.std.specs.Fmt.{decimal}
 use Rattle.gw_model.specs.declared.point.Report.{Report}
 use Rattle.gw_model.specs.declared.observation.Observation.{Observation}
 use Rattle.gw_model.specs.Rows.{Setup}
-use Rattle.dnp_objects.specs.declared.fault.Why.{Why}
-use Rattle.dnp_objects.specs.declared.fault.Why.TheVariants.{UnknownObject, UnknownQualifier, ShortRange, StopBeforeStart, ShortData, TooMany, Memory as NoRoom}
 use Rattle.dnp_app.specs.declared.fault.AppFault.{AppFault}
-use Rattle.dnp_app.specs.declared.fault.AppFault.TheVariants.{Short, NotResponse, Object, Memory}
-use Rattle.dnp_app.specs.Response.{Fragment, is_response, response_of}
-use Rattle.gw_program.specs.Hex.{octets_of, at_most_2048}
-use Rattle.gw_program.specs.Text.{accepted_text}
+use Rattle.dnp_app.specs.declared.fault.AppFault.TheVariants.{Memory}
+use Rattle.dnp_app.specs.Response.{Fragment, StoresHeader, response_of}
+use Rattle.gw_lines.specs.Hex.{octets_of, at_most_2048}
+use Rattle.gw_lines.specs.Text.{accepted_text, refusal_text}
 use Rattle.dnp_app.specs.Control.{confirm_of}
 use Rattle.gw_picture.specs.Opening.{opening}
 use Rattle.gw_program.specs.Translation.{news_in, shown_in}
@@ -49,23 +46,6 @@ abbrev pub all_accepted : List ℕ → Bool
 all_accepted input = list_all is_accepted (lines_of input)
 
 -- ---- what is written
-
--- what is wrong with a header or its objects
-abbrev pub why_text : Why → List ℕ
-why_text UnknownObject = codes "1 UnknownObject"
-why_text UnknownQualifier = codes "2 UnknownQualifier"
-why_text ShortRange = codes "3 ShortRange"
-why_text StopBeforeStart = codes "4 StopBeforeStart"
-why_text ShortData = codes "5 ShortData"
-why_text TooMany = codes "6 TooMany"
-why_text NoRoom = codes "7 Memory"
-
--- the line of refused octets
-abbrev pub refusal_text : AppFault → List ℕ
-refusal_text Short = codes "refused 1 Short" ++ 10 ∷ []
-refusal_text NotResponse = codes "refused 2 NotResponse" ++ 10 ∷ []
-refusal_text (Object e) = codes "refused 3 Object " ++ (why_text e.why ++ (codes " at " ++ (decimal e.place ++ 10 ∷ [])))
-refusal_text Memory = codes "refused 4 Memory" ++ 10 ∷ []
 
 -- the lines of octets that are a response, by what was shown before, or the line of their refusal
 abbrev pub response_text : Setup → List Observation → List ℕ → Result Fragment AppFault → List ℕ
@@ -111,19 +91,19 @@ text_of setup input = text_from setup (shown_at_first setup) (lines_of input)
 
 -- ---- where memory runs out
 
--- octets are a response, so far as its objects
-abbrev pub may_have_objects : Option (List ℕ) → Bool
-may_have_objects None = false
-may_have_objects (Some octets) = nat_le 4 (length octets) && is_response octets
+-- octets are those of a response, of which a header is stored
+abbrev pub AreToStore : Option (List ℕ) → Type 0
+AreToStore None = ⊥
+AreToStore (Some octets) = StoresHeader octets
 
--- a line is the octets of a response, so far as its objects
-unfoldable pub has_objects : List ℕ → Bool
-has_objects line = may_have_objects (at_most_2048 (octets_of line))
+-- a line is
+abbrev pub NeedsMemory : List ℕ → Type 0
+NeedsMemory line = AreToStore (at_most_2048 (octets_of line))
 
 -- what is written for a line, or, where memory ran out over the objects of a response, that it did
 abbrev pub IsAnswer : Setup → List Observation → List ℕ → Bool → List ℕ → Type 0
 IsAnswer setup picture line false text = text ≡ line_text setup picture line
-IsAnswer setup picture line true text = (has_objects line ≡ true) × (text ≡ refusal_text Memory)
+IsAnswer setup picture line true text = NeedsMemory line × (text ≡ refusal_text Memory)
 
 -- what is shown after a line; as before it, where memory ran out over it
 abbrev pub shown_then : Setup → List Observation → List ℕ → Bool → List Observation

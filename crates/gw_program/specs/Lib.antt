@@ -1,12 +1,7 @@
-pub mod Hex
-pub mod Text
 pub mod Translation
 pub mod Answers
 pub mod Reading
 pub mod CommandLine
-pub mod Decimal
-pub mod Instructions
-pub mod Replies
 pub mod Replay
 pub mod Laws
 pub mod Receiver

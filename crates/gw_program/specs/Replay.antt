@@ -1,5 +1,5 @@
 -- What comes of an instruction of a replay.
-use Rattle.std.specs.Prelude.{◌≡◌, ◌≤◌, ℕ, Bool, true, false, nat_lt, List, [], ◌∷◌, ◌++◌, length, codes, Option, Some, None, Ok, slice_get, if◌then◌else◌}
+use Rattle.std.specs.Prelude.{◌≡◌, ℕ, Bool, true, false, nat_lt, List, [], ◌∷◌, ◌++◌, length, codes, Option, Some, None, Ok, slice_get, if◌then◌else◌}
 use Rattle.std.specs.Fmt.{decimal}
 use Rattle.dnp_app.specs.Response.{Fragment as Meant, response_of}
 use Rattle.gw_hub.specs.declared.apdu.Apdu.TheVariants.{U}
@@ -12,15 +12,10 @@ use Rattle.gw_program.specs.declared.replay.Played.{Played}
 use Rattle.gw_program.specs.declared.replay.Played.TheVariants.{Replied, Refused, Waiting}
 use Rattle.gw_program.specs.declared.reading.Ended.{Ended}
 use Rattle.gw_program.specs.declared.reading.Ended.TheVariants as ends
-use Rattle.gw_program.specs.Answers.{refusal_text}
+use Rattle.gw_lines.specs.Text.{refusal_text}
 use Rattle.gw_program.specs.Translation.{IsRefused}
-use Rattle.gw_program.specs.Instructions.{Asked, Up, Fragment, Open, Start, Pump, Queue, asked_of}
-use Rattle.gw_program.specs.Replies.{reply_line}
-
--- the octets of a fragment are at most 2,048
-abbrev pub IsShort : Asked → Type 0
-IsShort (Fragment o m octets) = length octets ≤ 2048
-IsShort asked = Unit {0}
+use Rattle.gw_lines.specs.Instructions.{Asked, Up, Fragment, Open, Start, Pump, Queue, asked_of}
+use Rattle.gw_lines.specs.Replies.{reply_line}
 
 -- the hub was asked for a step, for what waits, or for nothing since octets were refused
 abbrev pub Plays : Hub → Asked → Played → Hub → Type 0

@@ -1,17 +1,17 @@
 -- What `translate` answers to a line: a confirmation where one is asked for, and the news among what is reported.
-use Rattle.std.specs.Prelude.{◌≡◌, ℕ, ◌≢◌, List, [], Some, None, Ok, Err, ◌≤◌, length, true}
+use Rattle.std.specs.Prelude.{◌≡◌, ℕ, ◌≢◌, List, [], Some, None, Ok, Err}
 use Rattle.gw_model.specs.declared.point.Report.{Report}
 use Rattle.gw_model.specs.declared.observation.Observation.{Observation}
 use Rattle.gw_model.specs.Rows.{Setup}
 use Rattle.dnp_app.specs.declared.fault.AppFault.{AppFault}
 use Rattle.dnp_app.specs.declared.fault.AppFault.TheVariants.{Short, NotResponse, Object, Memory}
 use Rattle.dnp_app.specs.Control.{confirm_of}
-use Rattle.dnp_app.specs.Response.{Fragment, is_response, response_of}
+use Rattle.dnp_app.specs.Response.{Fragment, StoresHeader, response_of}
 use Rattle.gw_picture.specs.News.{news_of, picture_after}
 use Rattle.gw_program.specs.declared.decision.Decision.{Decision}
 use Rattle.gw_program.specs.declared.decision.Decision.TheVariants.{Empty, NotHex, Refused, Accepted}
 use Rattle.gw_program.specs.declared.reading.Ended.{Ended}
-use Rattle.gw_program.specs.Hex.{octets_of, at_most_2048}
+use Rattle.gw_lines.specs.Hex.{octets_of, at_most_2048}
 
 -- what was kept between two lines: what became of the lines so far, and what was shown of each row last
 pub record Standing : Type 0 where
@@ -28,9 +28,9 @@ news_in setup picture reports = news_of setup.offset setup.rows picture reports
 abbrev pub shown_in : Setup → List Observation → List Report → List Observation
 shown_in setup picture reports = picture_after setup.offset setup.rows picture reports
 
--- octets are refused for this fault; memory runs out only over the objects of a response
+-- octets are refused for this fault; memory runs out only where a header of a response is stored
 abbrev pub IsRefused : ℕ → AppFault → List ℕ → Type 0
-IsRefused outstation Memory octets = (4 ≤ length octets) × (is_response octets ≡ true)
+IsRefused outstation Memory octets = StoresHeader octets
 IsRefused outstation Short octets = response_of outstation octets ≡ Err Short
 IsRefused outstation NotResponse octets = response_of outstation octets ≡ Err NotResponse
 IsRefused outstation (Object e) octets = response_of outstation octets ≡ Err (Object e)

@@ -2,8 +2,8 @@
 ghost use Rattle.std.specs.Prelude.{◌≡◌, ◌++◌, [], IfOk, OnOk};
 ghost use Rattle.gw_program.specs.Translation.{news_in, shown_in, Decides};
 
-use crate::hex::line_octets;
 use dnp_app::{AppFault, read_response};
+use gw_lines::line_octets;
 use gw_model::{Memory, Observation, Report, Settings};
 use gw_picture::Picture;
 use gw_time::Zone;

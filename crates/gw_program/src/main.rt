@@ -2,16 +2,10 @@
 #![tactic(auto)]
 
 mod command_line;
-mod decimal;
 mod decision;
-mod hex;
-mod instruction;
 pub mod laws;
-mod line;
 mod reading;
 mod replay;
-mod reply_text;
-mod text;
 mod translate;
 
 use command_line::{Asked, LineFault, command_line as read_words};

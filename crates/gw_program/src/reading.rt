@@ -3,7 +3,7 @@ ghost use Rattle.std.specs.Prelude.{◌≡◌, ◌≤◌, ◌≢◌, ◌==◌, t
 ghost use Rattle.gw_program.specs.Reading.{Brings, IsPart, status};
 ghost use Rattle.gw_program.specs.declared.reading.Stop.TheVariants.{Fault, Memory};
 
-use crate::line::Line;
+use gw_lines::Line;
 use gw_model::Memory;
 use std::alloc::AllocError;
 use std::io::{self, BufRead, ErrorKind};

@@ -1,16 +1,13 @@
 //! `gateway replay`: steps of the core in, one a line; its replies out.
 ghost use Rattle.std.specs.Prelude.{◌≡◌, ◌≤◌, ◌<◌, ◌+◌, ◌^◌, ℕ, List, IfOk, IfSome, OnOk, option_map};
 ghost use Rattle.std.specs.Io.KnownBytes.{Appends};
-ghost use Rattle.gw_program.specs.Instructions.{meant};
-ghost use Rattle.gw_program.specs.Replay.{AnswersLine, IsShort, Plays, asked_in, ended_with, played_text};
+ghost use Rattle.gw_lines.specs.Instructions.{IsShort, meant};
+ghost use Rattle.gw_program.specs.Replay.{AnswersLine, Plays, asked_in, ended_with, played_text};
 
-use crate::instruction::{Instruction, read_instruction};
-use crate::line::Line;
 use crate::reading::{Ended, Piece, Stop, read_piece, status_of};
-use crate::reply_text::push_reply;
-use crate::text::write_refusal;
 use dnp_app::{AppFault, read_response};
 use gw_hub::{Apdu, Hub, Reply, Signal, Step, StepFault};
+use gw_lines::{Instruction, Line, push_reply, read_instruction, write_refusal};
 use gw_model::{Memory, Settings};
 use std::alloc::Global;
 use std::io::{BufRead, Write};

@@ -1,16 +1,15 @@
 //! `gateway translate`: DNP3 fragments in, one a line; confirmations and ASDUs out.
-ghost use Rattle.std.specs.Prelude.{◌≡◌, ◌≤◌, ◌≢◌, true, map, IfOk, IfSome, OnOk, OnSome};
+ghost use Rattle.std.specs.Prelude.{◌≡◌, ◌≤◌, ◌≢◌, true, IfOk, IfSome, OnOk, OnSome};
 ghost use Rattle.std.specs.Io.KnownBytes.{Appends, IsAtEnd};
-ghost use Rattle.gw_program.specs.Text.{accepted_text};
+ghost use Rattle.gw_lines.specs.Text.{accepted_text};
 ghost use Rattle.gw_program.specs.Translation.{standing};
 ghost use Rattle.gw_program.specs.Answers.{all_accepted, shown_at_first, text_of};
 ghost use Rattle.gw_program.specs.Reading.{AnswersInput, AnswersLine, Moves, after_decision, ended_of};
 
 use crate::decision::{Decision, decide};
-use crate::line::{KEPT, Line};
 use crate::reading::{Ended, Piece, Stop, read_piece, status_of};
-use crate::text::{push_accepted, write_refusal};
 use dnp_app::AppFault;
+use gw_lines::{KEPT, Line, push_accepted, write_refusal};
 use gw_model::{Memory, Observation, Settings};
 use gw_picture::Picture;
 use std::alloc::Global;

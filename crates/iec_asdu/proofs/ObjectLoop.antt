@@ -1,10 +1,10 @@
 -- Reading objects one after the other, as a loop does.
-use Rattle.std.proofs.Common.{◌≡◌, ℕ, zero, suc, ◌+◌, ◌≤◌, List, [], ◌∷◌, ◌++◌, length, take, drop, Result, Ok, Err, refl, sym, ap, ◌∙◌, append_assoc, arith}
+use Rattle.std.proofs.Common.{◌≡◌, ℕ, zero, suc, ◌+◌, ◌<◌, ◌≤◌, List, [], ◌∷◌, ◌++◌, length, take, drop, Option, Some, None, Result, Ok, Err, IsOk, is_ok, refl, sym, ap, ◌∙◌, append_assoc, arith}
 use Rattle.std.proofs.lemmas.List.{append-nil, drop-drop}
 use Rattle.gw_model.specs.declared.observation.Observation.{Observation}
 use Rattle.iec_asdu.specs.declared.fault.AsduFault.{AsduFault}
 use Rattle.iec_asdu.specs.Asdu.{Layout, size_of, address_at}
-use Rattle.iec_asdu.specs.Reading.{◌>>=◌, object_read, read_apart, read_in_sequence, UnlessMemory}
+use Rattle.iec_asdu.specs.Reading.{◌>>=◌, some_or, object_read, read_apart, read_in_sequence, UnlessMemory}
 use Rattle.iec_asdu.specs.declared.fault.AsduFault.TheVariants.{Short, Long, UnknownType, ZeroObjects, Reserved, Tag, Memory}
 
 -- what was read before, and what is still read
@@ -24,6 +24,33 @@ told_of UnknownType p = p
 told_of ZeroObjects p = p
 told_of Reserved p = p
 told_of Tag p = p
+
+-- ---- the first object
+
+-- behind so many objects: the one here is the first, or the first is right
+pub record StartsRight (behind : ℕ) (here first : Result Observation AsduFault) : Type 0 where
+  pub at_first : behind ≡ 0 → here ≡ first
+  pub behind_first : 0 < behind → IsOk first
+
+-- behind one more
+pub starts_behind_first : (behind : ℕ) (here first : Result Observation AsduFault) → IsOk first → StartsRight (behind + 1) here first
+starts_behind_first behind here first right = record { at_first = λ z. absurd (omega arith); behind_first = λ lt. right }
+
+-- where the one here is right, the first is
+pub first_is_right : (behind : ℕ) (here first : Result Observation AsduFault) (x : Observation) → StartsRight behind here first → here ≡ Ok x → IsOk first
+first_is_right zero here first x s right = ap (λ (r : Result Observation AsduFault). is_ok r) (sym (s.at_first refl) ∙ right)
+first_is_right (suc n) here first x s right = s.behind_first (omega arith)
+
+-- the faults of two parts, one after the other
+parts_fault : {A B : Type 0} (s : Option A) (t : Option B) (make : A → B → Observation) (f : AsduFault)
+    → (some_or Reserved s >>= λ x. (some_or Tag t >>= λ y. Ok (make x y))) ≡ Err f → f ≡ Memory → ⊥
+parts_fault None t make f e m = cc
+parts_fault (Some x) None make f e m = cc
+parts_fault (Some x) (Some y) make f e m = cc
+
+-- no object has the fault of memory
+pub object_fault : (address : ℕ) (layout : Layout) (octets : List ℕ) (f : AsduFault) → Err f ≡ object_read address layout octets → f ≡ Memory → ⊥
+object_fault address layout octets f e m = parts_fault _ _ (λ shown stamp. record { address = address; value = shown.0; quality = shown.1; stamp = stamp }) f (sym e) m
 
 -- ---- SQ 0
 

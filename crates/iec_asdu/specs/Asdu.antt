@@ -53,7 +53,7 @@ abbrev pub told : Result Stamp TagFault → Option Stamp
 told (Ok stamp) = Some stamp
 told (Err fault) = None
 
--- a type with the time tag CP56Time2a, at a station whose clocks are offset minutes before UTC
+-- a type with the time tag CP56Time2a, at a station whose clocks are offset minutes ahead of UTC
 abbrev pub timed : ℤ → ℕ → ℕ → (List ℕ → Option (Value × Quality)) → Layout
 timed offset identification element shown = record { identification = identification; element = element; shown = shown; tag = 7; stamp = λ octets. told (tag_meaning offset octets) }
 

@@ -1,5 +1,5 @@
 -- An ASDU read from left to right: its meaning, or the first fault.
-use Rattle.std.specs.Prelude.{ℕ, zero, suc, ◌+◌, ◌*◌, ◌%◌, ◌<◌, ◌≤◌, Bool, List, [], ◌∷◌, length, take, drop, Option, Some, None, Result, Ok, Err, ◌≡◌, ◌==◌, nat_lt, slice_index, IsSomeAnd, if◌then◌else◌}
+use Rattle.std.specs.Prelude.{ℕ, zero, suc, ◌+◌, ◌*◌, ◌%◌, ◌<◌, ◌≤◌, Bool, List, [], ◌∷◌, length, take, drop, Option, Some, None, Result, Ok, Err, ◌≡◌, ◌==◌, nat_lt, slice_index, IsSomeAnd, IsOk, if◌then◌else◌}
 use Rattle.gw_model.specs.declared.observation.Observation.{Observation}
 use Rattle.iec_asdu.specs.declared.fault.AsduFault.{AsduFault}
 use Rattle.iec_asdu.specs.declared.fault.AsduFault.TheVariants.{Short, Long, UnknownType, ZeroObjects, Reserved, Tag, Memory}
@@ -23,11 +23,15 @@ object_read address layout octets = do
   stamp ← some_or Tag (layout.stamp (drop layout.element octets))
   Ok (record { address = address; value = shown.0; quality = shown.1; stamp = stamp })
 
+-- the object at the front, with the address before it
+abbrev pub front_read : Layout → List ℕ → Result Observation AsduFault
+front_read layout octets = object_read (address_at octets) layout (take (size_of layout) (drop 3 octets))
+
 -- SQ 0: so many objects, each with its address
 unfoldable pub read_apart : Layout → ℕ → List ℕ → Result (List Observation) AsduFault
 read_apart layout zero octets = Ok []
 read_apart layout (suc n) octets = do
-  first ← object_read (address_at octets) layout (take (size_of layout) (drop 3 octets))
+  first ← front_read layout octets
   others ← read_apart layout n (drop (3 + size_of layout) octets)
   Ok (first ∷ others)
 
@@ -68,15 +72,16 @@ asdu_read types octets =
 
 -- ---- what a call gives
 
--- there is an object, and the octets are as many as so many objects have
-pub record IsSized (layout : Layout) (qualifier : ℕ) (objects : List ℕ) : Type 0 where
+-- there is an object, the octets are as many as so many objects have, and the first object is right
+pub record HasOneToStore (layout : Layout) (qualifier : ℕ) (objects : List ℕ) : Type 0 where
   pub some : 0 < qualifier % 128
   pub sized : length objects ≡ objects_length (size_of layout) (is_set 7 qualifier) (qualifier % 128)
+  pub right : IsOk (front_read layout objects)
 
--- the type is known, and the objects have their octets: no fault but one of the objects is left
-abbrev pub HasItsOctets : List Layout → List ℕ → Type 0
-HasItsOctets types octets = (6 ≤ length octets)
-    × IsSomeAnd (layout_of (slice_index octets 0) types) (λ layout. IsSized layout (slice_index octets 1) (drop 6 octets))
+-- the type is known, and there is an object to store: each is stored as soon as it is read, the first one first
+abbrev pub NeedsMemory : List Layout → List ℕ → Type 0
+NeedsMemory types octets = (6 ≤ length octets)
+    × IsSomeAnd (layout_of (slice_index octets 0) types) (λ layout. HasOneToStore layout (slice_index octets 1) (drop 6 octets))
 
 -- a fault of the octets is told as it is; where memory ran out nothing is said of them
 abbrev pub UnlessMemory : AsduFault → Type 0 → Type 0

@@ -36,7 +36,7 @@ spelling_with tag common cause x =
     type_of x.value (is_some tag) ∷ 1 ∷ cause ∷ 0
     ∷ (to_le_bytes w16 common ++ take 3 (to_le_bytes w32 x.address) ++ (element_spelling x.value x.quality ++ tag_octets tag))
 
--- the ASDU of an observation, at a station whose clocks are offset minutes before UTC
+-- the ASDU of an observation, at a station whose clocks are offset minutes ahead of UTC
 abbrev pub spelling : ℤ → ℕ → ℕ → Observation → List ℕ
 spelling offset common cause x = spelling_with (tag_of offset x.stamp) common cause x
 

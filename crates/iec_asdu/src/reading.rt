@@ -1,9 +1,9 @@
 //! Reading ASDUs with process information.
-ghost use Rattle.std.specs.Prelude.{◌≡◌, ◌+◌, ◌*◌, ◌%◌, ◌≤◌, length, Ok, IfOk, IfErr};
+ghost use Rattle.std.specs.Prelude.{◌≡◌, ◌+◌, ◌*◌, ◌%◌, ◌≤◌, length, take, Ok, IsOk, IfOk, IfErr};
 ghost use Rattle.iec_asdu.specs.Asdu.{Asdu as Meaning, monitor_types, size_of, address_at};
 ghost use Rattle.iec_asdu.specs.Grammar.{IsAsdu};
 ghost use Rattle.iec_asdu.specs.Bits.{is_set};
-ghost use Rattle.iec_asdu.specs.Reading.{Gives, object_read, read_apart, read_in_sequence, objects_length, objects_read, IsSized, HasItsOctets};
+ghost use Rattle.iec_asdu.specs.Reading.{Gives, object_read, front_read, read_apart, read_in_sequence, objects_length, objects_read, HasOneToStore, NeedsMemory};
 ghost use Rattle.iec_asdu.specs.Types.{layout_at, type_length};
 ghost use Rattle.iec_asdu.specs.Contents.{contents_of, Spells, seen, contents_read};
 
@@ -74,7 +74,8 @@ fn read_objects_apart(
     zone: &Zone,
 ) -> Result<Vec<Observation>, AsduFault>
     requires { count * (3 + size_of (layout_at zone.now.offset_minutes kind)) ≤ length objects.now }
-    ensures { Gives (λ v. v.items) result (read_apart (layout_at zone.now.offset_minutes kind) count objects.now) }
+    ensures read { Gives (λ v. v.items) result (read_apart (layout_at zone.now.offset_minutes kind) count objects.now) }
+    ensures memory { IfErr result (λ fault. fault ≡ AsduFault.Memory → IsOk (front_read (layout_at zone.now.offset_minutes kind) objects.now)) }
 {
     let mut found = Vec::new(alloc);
     let mut rest = objects;
@@ -112,7 +113,9 @@ fn read_objects_in_sequence(
 ) -> Result<Vec<Observation>, AsduFault>
     requires octets { count * size_of (layout_at zone.now.offset_minutes kind) ≤ length objects.now }
     requires first { first ≤ 16777215 }
-    ensures { Gives (λ v. v.items) result (read_in_sequence (layout_at zone.now.offset_minutes kind) count first objects.now) }
+    ensures read { Gives (λ v. v.items) result (read_in_sequence (layout_at zone.now.offset_minutes kind) count first objects.now) }
+    ensures memory { let layout = layout_at zone.now.offset_minutes kind in
+        IfErr result (λ fault. fault ≡ AsduFault.Memory → IsOk (object_read first layout (take (size_of layout) objects.now))) }
 {
     let mut found = Vec::new(alloc);
     let mut rest = objects;
@@ -151,7 +154,7 @@ fn read_objects(
     zone: &Zone,
 ) -> Result<Vec<Observation>, AsduFault>
     ensures read { Gives (λ v. v.items) result (objects_read (layout_at zone.now.offset_minutes kind) (is_set 7 qualifier) (qualifier % 128) objects.now) }
-    ensures memory { IfErr result (λ fault. fault ≡ AsduFault.Memory → IsSized (layout_at zone.now.offset_minutes kind) qualifier objects.now) }
+    ensures memory { IfErr result (λ fault. fault ≡ AsduFault.Memory → HasOneToStore (layout_at zone.now.offset_minutes kind) qualifier objects.now) }
 {
     let sequence = qualifier / 128 % 2 == 1;
     let count = qualifier % 128;
@@ -177,7 +180,7 @@ fn read_objects(
 #[tactic(auto, unfolding(crate::specs::Reading::asdu_read))]
 fn read_whole(alloc: Global, octets: &[u8], zone: &Zone) -> Result<Monitor, AsduFault>
     ensures exact { Gives seen result (contents_read (monitor_types zone.now.offset_minutes) octets.now) }
-    ensures memory { IfErr result (λ fault. fault ≡ AsduFault.Memory → HasItsOctets (monitor_types zone.now.offset_minutes) octets.now) }
+    ensures memory { IfErr result (λ fault. fault ≡ AsduFault.Memory → NeedsMemory (monitor_types zone.now.offset_minutes) octets.now) }
 {
     if octets.len() < HEADER_OCTETS {
         return Err(AsduFault::Short);
@@ -209,8 +212,9 @@ pub fn read_monitor(alloc: Global, octets: &[u8], zone: &Zone) -> Result<Monitor
     ensures only { (asdu : Meaning) → IsAsdu (monitor_types zone.now.offset_minutes) octets.now asdu → Gives seen result (Ok (contents_of asdu)) }
     // Which fault it is.
     ensures exact { Gives seen result (contents_read (monitor_types zone.now.offset_minutes) octets.now) }
-    // Memory is asked for only where the type is known and the objects have their octets.
-    ensures memory { IfErr result (λ fault. fault ≡ AsduFault.Memory → HasItsOctets (monitor_types zone.now.offset_minutes) octets.now) }
+    // Memory runs out only where there is an object to store: the type is known, the objects have their
+    // octets, and the first one is right.
+    ensures memory { IfErr result (λ fault. fault ≡ AsduFault.Memory → NeedsMemory (monitor_types zone.now.offset_minutes) octets.now) }
 {
     read_whole(alloc, octets, zone)
 }

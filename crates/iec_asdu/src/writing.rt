@@ -2,9 +2,8 @@
 ghost use Rattle.std.specs.Prelude.{◌≡◌, ◌+◌, ◌<◌, ◌≤◌, ◌++◌, length, take, drop, slice_get, All, IfSome, IsSomeAnd};
 ghost use Rattle.std.specs.Option.{is_some};
 ghost use Rattle.gw_model.specs.Fit.{IsFit};
-ghost use Rattle.gw_time.specs.Spelling.{tag_of};
 ghost use Rattle.iec_asdu.specs.Asdu.{monitor_types, asdu_meaning};
-ghost use Rattle.iec_asdu.specs.Spelling.{type_of, element_spelling, tag_octets, spelling, HasWidth};
+ghost use Rattle.iec_asdu.specs.Spelling.{element_spelling, tag_octets, spelling, HasWidth};
 
 use crate::elements::{BitString, CounterReading, DoublePoint, ScaledValue, SinglePoint};
 use crate::types::identification_of;

@@ -1,8 +1,7 @@
 use Rattle.std.proofs.Common.{ap, subst, ◌∙◌, ◌++◌, ◌∷◌, [], codes}
 use Rattle.std.proofs.KnownBytes.{Appends-nil}
 use Rattle.std.specs.Io.KnownBytes.{Appends}
-use Rattle.gw_program.specs.Answers.{refusal_text}
-use Rattle.gw_program.specs.Text.{accepted_text}
+use Rattle.gw_lines.specs.Text.{accepted_text, refusal_text}
 use Rattle.gw_program.specs.Reading.{after_decision}
 use Rattle.gw_program.specs.Translation.{Decides}
 use Rattle.gw_program.specs.declared.decision.Decision.{Decision}

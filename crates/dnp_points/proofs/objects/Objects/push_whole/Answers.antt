@@ -1,0 +1,37 @@
+use Rattle.std.proofs.Common.{◌≡◌, ◌+◌, ◌-◌, ◌<◌, [], ◌≢◌, arith}
+use Rattle.dnp_points.specs.Meaning.{body_of, told_by}
+use Rattle.dnp_points.proofs.Steps.{whole_turn, left_behind, whole_is_done}
+use Rattle.dnp_points.proofs.Memory.{one_whole_told, grown, on_error}
+use Rattle.dnp_points.proofs.objects.Objects.push_whole.Goals as goal
+
+pub loop-n-preserved : goal.loop-n-preserved
+loop-n-preserved g c =
+    let lt : c.loop-n.n < c.args.self.now.header.now.count = omega arith in
+    record {
+      read = whole_turn g.O.Object.variation g.O.Object.LENGTH c.LENGTH-in-loop-n.result c.args.self.now.outstation c.args.self.now.common c.args.self.now.header.now.prefix c.from-prefix.result c.args.self.now.header.now.first c.from-first.result c.loop-n.n c.args.self.now.header.now.count
+          c.loop-n.rest.now c.split_at.result.0.now c.split_at.result.1.now c.split_at-in-loop-n.result.0.now c.split_at-in-loop-n.result.1.now c.index_of-index.result
+          c.loop-n.found.items c.push.new.self.items c.args.found.now.items (body_of c.args.self.now.part.now g.O.Object.variation c.args.self.now.header.now) c.report.result
+          lt c.from-prefix.ensures c.from-first.ensures c.LENGTH-in-loop-n.ensures
+          c.split_at.ensures.front c.split_at.ensures.back c.split_at-in-loop-n.ensures.front c.split_at-in-loop-n.ensures.back
+          c.index_of-index.ensures c.report.ensures c.in_ok-push.ensures.items c.loop-n.invariant.read;
+      grown = grown c.loop-n.found.items c.push.new.self.items c.args.found.now.items c.report.result c.in_ok-push.ensures.items c.loop-n.invariant.grown;
+      left = left_behind g.O.Object.LENGTH c.LENGTH-in-loop-n.result c.args.self.now.header.now.prefix c.from-prefix.result c.loop-n.n c.args.self.now.header.now.count
+          c.loop-n.rest.now c.split_at.result.0.now c.split_at.result.1.now c.split_at-in-loop-n.result.0.now c.split_at-in-loop-n.result.1.now
+          lt c.from-prefix.ensures c.LENGTH-in-loop-n.ensures c.split_at.ensures.back_len c.split_at-in-loop-n.ensures.back_len c.loop-n.invariant.left;
+    }
+
+pub returns-clause-told : goal.returns-clause-told
+returns-clause-told g c =
+    let none : c.args.self.now.header.now.count - c.loop-n.n ≡ 0 = omega arith in
+    whole_is_done c.args.self.now.part.now c.args.self.now.header.now g.O.Object.variation g.O.Object.LENGTH c.args.self.now.outstation c.args.self.now.common (c.args.self.now.header.now.first + c.loop-n.n) (c.args.self.now.header.now.count - c.loop-n.n) c.loop-n.rest.now
+    c.loop-n.found.items c.args.found.now.items c.requires.known g.met.O.Object.sized none c.loop-n.invariant.read
+
+pub returns-in_err-push-clause-memory : goal.returns-in_err-push-clause-memory
+returns-in_err-push-clause-memory g c =
+    let lt : c.loop-n.n < c.args.self.now.header.now.count = omega arith in
+    on_error c.from_residual.result (told_by c.args.self.now ≢ [])
+    (one_whole_told c.args.self.now.part.now c.args.self.now.header.now g.O.Object.variation g.O.Object.LENGTH c.LENGTH-in-loop-n.result c.args.self.now.outstation c.args.self.now.common c.from-prefix.result c.from-first.result c.loop-n.n
+    c.loop-n.rest.now c.split_at.result.0.now c.split_at.result.1.now c.split_at-in-loop-n.result.0.now c.index_of-index.result c.loop-n.found.items c.args.found.now.items c.report.result
+    c.requires.known g.met.O.Object.sized lt c.from-prefix.ensures c.from-first.ensures c.LENGTH-in-loop-n.ensures
+    c.split_at.ensures.front c.split_at.ensures.back c.split_at-in-loop-n.ensures.front
+    c.index_of-index.ensures c.report.ensures c.loop-n.invariant.grown c.loop-n.invariant.read)
