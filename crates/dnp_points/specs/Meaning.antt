@@ -1,5 +1,5 @@
 -- What an object part means: a list of reports.
-use Rattle.std.specs.Prelude.{◌≡◌, ℕ, zero, suc, ◌+◌, ◌≤◌, ◌==◌, List, [], ◌∷◌, ◌++◌, length, take, drop, Option, Some, None, Result, Ok, if◌then◌else◌}
+use Rattle.std.specs.Prelude.{◌≡◌, ◌≢◌, OnOk, OnErr, ℕ, zero, suc, ◌+◌, ◌≤◌, ◌==◌, List, [], ◌∷◌, ◌++◌, length, take, drop, Option, Some, None, Result, Ok, if◌then◌else◌}
 use Rattle.gw_model.specs.declared.point.Stamp.{Stamp}
 use Rattle.gw_model.specs.declared.point.Stamp.TheVariants.{Untimed, At, Doubtful}
 use Rattle.gw_model.specs.declared.point.Report.{Report}
@@ -125,3 +125,9 @@ pub record AreFound (o : Objects) : Type 0 where
 -- what they report
 abbrev pub told_by : Objects → List Report
 told_by o = header_reports o.part.now (object_of o.header.now.group o.header.now.variation) o.outstation o.common o.header.now
+
+-- what becomes of a list to which they add what they report: all of it is added, unless memory runs out, and that
+-- only where there is something to add
+pub record Adds {X E : Type 0} (o : Objects) (before after : List Report) (result : Result X E) : Type 0 where
+  pub told : OnOk result (after ≡ before ++ told_by o)
+  pub memory : OnErr result (told_by o ≢ [])

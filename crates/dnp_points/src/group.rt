@@ -1,6 +1,6 @@
 //! What the objects of each group report.
-ghost use Rattle.std.specs.Prelude.{◌≡◌, ◌≢◌, [], ◌++◌, OnOk, OnErr};
-ghost use Rattle.dnp_points.specs.Meaning.{AreFound, told_by};
+ghost use Rattle.std.specs.Prelude.{◌≡◌};
+ghost use Rattle.dnp_points.specs.Meaning.{AreFound, Adds};
 
 use crate::analog::*;
 use crate::binary::*;
@@ -14,8 +14,7 @@ use gw_model::{Memory, Report};
 fn push_binary_inputs(objects: &Objects<'_>, found: &mut Vec<Report>) -> Result<(), Memory>
     requires group { objects.now.header.now.group ≡ 1 }
     requires found { AreFound objects.now }
-    ensures told { OnOk result (found.new.items ≡ found.old.items ++ told_by objects.now) }
-    ensures memory { OnErr result (told_by objects.now ≢ []) }
+    ensures { Adds objects.now found.old.items found.new.items result }
 {
     match objects.header.variation {
         1 => objects.push_packed::<PackedBinary>(found),
@@ -29,8 +28,7 @@ fn push_binary_inputs(objects: &Objects<'_>, found: &mut Vec<Report>) -> Result<
 fn push_binary_events(objects: &Objects<'_>, found: &mut Vec<Report>) -> Result<(), Memory>
     requires group { objects.now.header.now.group ≡ 2 }
     requires found { AreFound objects.now }
-    ensures told { OnOk result (found.new.items ≡ found.old.items ++ told_by objects.now) }
-    ensures memory { OnErr result (told_by objects.now ≢ []) }
+    ensures { Adds objects.now found.old.items found.new.items result }
 {
     match objects.header.variation {
         1 => objects.push_whole::<BinaryEvent>(found),
@@ -45,8 +43,7 @@ fn push_binary_events(objects: &Objects<'_>, found: &mut Vec<Report>) -> Result<
 fn push_double_inputs(objects: &Objects<'_>, found: &mut Vec<Report>) -> Result<(), Memory>
     requires group { objects.now.header.now.group ≡ 3 }
     requires found { AreFound objects.now }
-    ensures told { OnOk result (found.new.items ≡ found.old.items ++ told_by objects.now) }
-    ensures memory { OnErr result (told_by objects.now ≢ []) }
+    ensures { Adds objects.now found.old.items found.new.items result }
 {
     match objects.header.variation {
         1 => objects.push_packed::<PackedDouble>(found),
@@ -60,8 +57,7 @@ fn push_double_inputs(objects: &Objects<'_>, found: &mut Vec<Report>) -> Result<
 fn push_double_events(objects: &Objects<'_>, found: &mut Vec<Report>) -> Result<(), Memory>
     requires group { objects.now.header.now.group ≡ 4 }
     requires found { AreFound objects.now }
-    ensures told { OnOk result (found.new.items ≡ found.old.items ++ told_by objects.now) }
-    ensures memory { OnErr result (told_by objects.now ≢ []) }
+    ensures { Adds objects.now found.old.items found.new.items result }
 {
     match objects.header.variation {
         1 => objects.push_whole::<DoubleEvent>(found),
@@ -76,8 +72,7 @@ fn push_double_events(objects: &Objects<'_>, found: &mut Vec<Report>) -> Result<
 fn push_outputs(objects: &Objects<'_>, found: &mut Vec<Report>) -> Result<(), Memory>
     requires group { objects.now.header.now.group ≡ 10 }
     requires found { AreFound objects.now }
-    ensures told { OnOk result (found.new.items ≡ found.old.items ++ told_by objects.now) }
-    ensures memory { OnErr result (told_by objects.now ≢ []) }
+    ensures { Adds objects.now found.old.items found.new.items result }
 {
     match objects.header.variation {
         1 => objects.push_packed::<PackedOutput>(found),
@@ -91,8 +86,7 @@ fn push_outputs(objects: &Objects<'_>, found: &mut Vec<Report>) -> Result<(), Me
 fn push_output_events(objects: &Objects<'_>, found: &mut Vec<Report>) -> Result<(), Memory>
     requires group { objects.now.header.now.group ≡ 11 }
     requires found { AreFound objects.now }
-    ensures told { OnOk result (found.new.items ≡ found.old.items ++ told_by objects.now) }
-    ensures memory { OnErr result (told_by objects.now ≢ []) }
+    ensures { Adds objects.now found.old.items found.new.items result }
 {
     match objects.header.variation {
         1 => objects.push_whole::<OutputEvent>(found),
@@ -106,8 +100,7 @@ fn push_output_events(objects: &Objects<'_>, found: &mut Vec<Report>) -> Result<
 fn push_counters(objects: &Objects<'_>, found: &mut Vec<Report>) -> Result<(), Memory>
     requires group { objects.now.header.now.group ≡ 20 }
     requires found { AreFound objects.now }
-    ensures told { OnOk result (found.new.items ≡ found.old.items ++ told_by objects.now) }
-    ensures memory { OnErr result (told_by objects.now ≢ []) }
+    ensures { Adds objects.now found.old.items found.new.items result }
 {
     match objects.header.variation {
         1 => objects.push_whole::<Counter32WithFlag>(found),
@@ -123,8 +116,7 @@ fn push_counters(objects: &Objects<'_>, found: &mut Vec<Report>) -> Result<(), M
 fn push_counter_events(objects: &Objects<'_>, found: &mut Vec<Report>) -> Result<(), Memory>
     requires group { objects.now.header.now.group ≡ 22 }
     requires found { AreFound objects.now }
-    ensures told { OnOk result (found.new.items ≡ found.old.items ++ told_by objects.now) }
-    ensures memory { OnErr result (told_by objects.now ≢ []) }
+    ensures { Adds objects.now found.old.items found.new.items result }
 {
     match objects.header.variation {
         1 => objects.push_whole::<CounterEvent32>(found),
@@ -140,8 +132,7 @@ fn push_counter_events(objects: &Objects<'_>, found: &mut Vec<Report>) -> Result
 fn push_analogs(objects: &Objects<'_>, found: &mut Vec<Report>) -> Result<(), Memory>
     requires group { objects.now.header.now.group ≡ 30 }
     requires found { AreFound objects.now }
-    ensures told { OnOk result (found.new.items ≡ found.old.items ++ told_by objects.now) }
-    ensures memory { OnErr result (told_by objects.now ≢ []) }
+    ensures { Adds objects.now found.old.items found.new.items result }
 {
     match objects.header.variation {
         1 => objects.push_whole::<Analog32WithFlag>(found),
@@ -157,8 +148,7 @@ fn push_analogs(objects: &Objects<'_>, found: &mut Vec<Report>) -> Result<(), Me
 fn push_analog_events(objects: &Objects<'_>, found: &mut Vec<Report>) -> Result<(), Memory>
     requires group { objects.now.header.now.group ≡ 32 }
     requires found { AreFound objects.now }
-    ensures told { OnOk result (found.new.items ≡ found.old.items ++ told_by objects.now) }
-    ensures memory { OnErr result (told_by objects.now ≢ []) }
+    ensures { Adds objects.now found.old.items found.new.items result }
 {
     match objects.header.variation {
         1 => objects.push_whole::<AnalogEvent32>(found),
@@ -173,8 +163,7 @@ fn push_analog_events(objects: &Objects<'_>, found: &mut Vec<Report>) -> Result<
 #[tactic(auto, using(crate::proofs::Table::no_points))]
 pub fn push_reports(objects: &Objects<'_>, found: &mut Vec<Report>) -> Result<(), Memory>
     requires found { AreFound objects.now }
-    ensures told { OnOk result (found.new.items ≡ found.old.items ++ told_by objects.now) }
-    ensures memory { OnErr result (told_by objects.now ≢ []) }
+    ensures { Adds objects.now found.old.items found.new.items result }
 {
     match objects.header.group {
         1 => push_binary_inputs(objects, found),

@@ -1,8 +1,8 @@
 //! Reading a header's objects one after the other.
-ghost use Rattle.std.specs.Prelude.{◌≡◌, ◌++◌, ◌≤◌, ◌<◌, ◌≢◌, [], Some, length, OnOk, OnErr};
+ghost use Rattle.std.specs.Prelude.{◌≡◌, ◌≤◌, ◌<◌, Some, length};
 ghost use Rattle.dnp_objects.specs.Library.{object_of};
 ghost use Rattle.dnp_points.specs.Objects.{index_of};
-ghost use Rattle.dnp_points.specs.Meaning.{AreFound, told_by};
+ghost use Rattle.dnp_points.specs.Meaning.{AreFound, Adds};
 
 use crate::object::Object;
 use crate::packed::{PackedObject, bits_at};
@@ -38,9 +38,7 @@ impl Objects<'_> {
     pub fn push_whole<O: Object>(&self, found: &mut Vec<Report>) -> Result<(), Memory>
         requires known { object_of self.now.header.now.group self.now.header.now.variation ≡ Some O.variation }
         requires found { AreFound self.now }
-        ensures told { OnOk result (found.new.items ≡ found.old.items ++ told_by self.now) }
-        // Memory runs out only where they report something.
-        ensures memory { OnErr result (told_by self.now ≢ []) }
+        ensures { Adds self.now found.old.items found.new.items result }
     {
         let header = self.header;
         let prefix = usize::from(header.prefix);
@@ -61,9 +59,7 @@ impl Objects<'_> {
     pub fn push_packed<P: PackedObject>(&self, found: &mut Vec<Report>) -> Result<(), Memory>
         requires known { object_of self.now.header.now.group self.now.header.now.variation ≡ Some P.variation }
         requires found { AreFound self.now }
-        ensures told { OnOk result (found.new.items ≡ found.old.items ++ told_by self.now) }
-        // Memory runs out only where they report something.
-        ensures memory { OnErr result (told_by self.now ≢ []) }
+        ensures { Adds self.now found.old.items found.new.items result }
     {
         let header = self.header;
         let first = u32::from(header.first);

@@ -1,6 +1,6 @@
 -- What is read is what the octets mean, and a fault comes only where they mean nothing.
 use Rattle.std.proofs.Common.{◌≡◌, ℕ, zero, suc, ◌+◌, ◌*◌, ◌==◌, Bool, true, false, cond, nat_lt, List, [], ◌∷◌, length, drop, Option, Some, None, Result, Ok, Err, refl, sym, ap, ◌∙◌, subst, arith, inl, inr}
-use Rattle.std.specs.Prelude.{IfOk}
+use Rattle.std.specs.Prelude.{IfOk, ok_or}
 use Rattle.std.proofs.lemmas.Bool.{cases_order, le-ltb, lt-ltb, eq-eqb, ne_eqb}
 use Rattle.gw_model.specs.declared.point.Stamp.{Stamp}
 use Rattle.gw_model.specs.declared.observation.Value.{Value}
@@ -11,7 +11,7 @@ use Rattle.iec_asdu.specs.declared.fault.AsduFault.TheVariants.{Short, Long, Unk
 use Rattle.iec_asdu.specs.declared.reading.Monitor.{Monitor}
 use Rattle.iec_asdu.specs.Asdu.{◌>>=◌, Asdu, Layout, size_of, address_at, observed_at, objects_apart, objects_in_sequence, objects_of, asdu_meaning}
 use Rattle.iec_asdu.specs.Grammar.{IsAsdu}
-use Rattle.iec_asdu.specs.Reading.{some_or, object_read, read_apart, read_in_sequence, objects_read, asdu_read, Gives}
+use Rattle.iec_asdu.specs.Reading.{object_read, read_apart, read_in_sequence, objects_read, asdu_read, Gives}
 use Rattle.iec_asdu.specs.Contents.{Contents, contents_of, Spells, seen, contents_read}
 use Rattle.iec_asdu.proofs.Spelled.{meaning_is_spelled}
 
@@ -31,7 +31,7 @@ abbrev observed : ℕ → Value × Quality → Stamp → Observation
 observed address shown stamp = record { address = address; value = shown.0; quality = shown.1; stamp = stamp }
 
 object_parts : (address : ℕ) (s : Option (Value × Quality)) (t : Option Stamp)
-    → given (then_read (some_or Reserved s) (λ shown. then_read (some_or Tag t) (λ stamp. Ok (observed address shown stamp)))) ≡ (s >>= λ shown. (t >>= λ stamp. Some (observed address shown stamp)))
+    → given (then_read (ok_or s Reserved) (λ shown. then_read (ok_or t Tag) (λ stamp. Ok (observed address shown stamp)))) ≡ (s >>= λ shown. (t >>= λ stamp. Some (observed address shown stamp)))
 object_parts address None t = refl
 object_parts address (Some s) None = refl
 object_parts address (Some s) (Some t) = refl
@@ -82,7 +82,7 @@ objects_made (Ok xs) o make e = rw (← e) refl
 objects_made (Err d) o make e = rw (← e) refl
 
 header_given : (l : Option Layout) (read : Layout → Result (List Observation) AsduFault) (of : Layout → Option (List Observation)) (make : List Observation → Asdu) → ((layout : Layout) → given (read layout) ≡ of layout)
-    → given (then_read (some_or UnknownType l) (λ layout. then_read (read layout) (λ xs. Ok (make xs)))) ≡ (l >>= λ layout. (of layout >>= λ xs. Some (make xs)))
+    → given (then_read (ok_or l UnknownType) (λ layout. then_read (read layout) (λ xs. Ok (make xs)))) ≡ (l >>= λ layout. (of layout >>= λ xs. Some (make xs)))
 header_given None read of make e = refl
 header_given (Some layout) read of make e = objects_made (read layout) (of layout) make (e layout)
 

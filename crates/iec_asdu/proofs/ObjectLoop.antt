@@ -1,10 +1,11 @@
 -- Reading objects one after the other, as a loop does.
 use Rattle.std.proofs.Common.{◌≡◌, ℕ, zero, suc, ◌+◌, ◌<◌, ◌≤◌, List, [], ◌∷◌, ◌++◌, length, take, drop, Option, Some, None, Result, Ok, Err, IsOk, is_ok, refl, sym, ap, ◌∙◌, append_assoc, arith}
+use Rattle.std.specs.Prelude.{ok_or}
 use Rattle.std.proofs.lemmas.List.{append-nil, drop-drop}
 use Rattle.gw_model.specs.declared.observation.Observation.{Observation}
 use Rattle.iec_asdu.specs.declared.fault.AsduFault.{AsduFault}
 use Rattle.iec_asdu.specs.Asdu.{Layout, size_of, address_at}
-use Rattle.iec_asdu.specs.Reading.{◌>>=◌, some_or, object_read, read_apart, read_in_sequence, UnlessMemory}
+use Rattle.iec_asdu.specs.Reading.{◌>>=◌, object_read, read_apart, read_in_sequence, UnlessMemory}
 use Rattle.iec_asdu.specs.declared.fault.AsduFault.TheVariants.{Short, Long, UnknownType, ZeroObjects, Reserved, Tag, Memory}
 
 -- what was read before, and what is still read
@@ -43,7 +44,7 @@ first_is_right (suc n) here first x s right = s.behind_first (omega arith)
 
 -- the faults of two parts, one after the other
 parts_fault : {A B : Type 0} (s : Option A) (t : Option B) (make : A → B → Observation) (f : AsduFault)
-    → (some_or Reserved s >>= λ x. (some_or Tag t >>= λ y. Ok (make x y))) ≡ Err f → f ≡ Memory → ⊥
+    → (ok_or s Reserved >>= λ x. (ok_or t Tag >>= λ y. Ok (make x y))) ≡ Err f → f ≡ Memory → ⊥
 parts_fault None t make f e m = cc
 parts_fault (Some x) None make f e m = cc
 parts_fault (Some x) (Some y) make f e m = cc

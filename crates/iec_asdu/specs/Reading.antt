@@ -1,5 +1,5 @@
 -- An ASDU read from left to right: its meaning, or the first fault.
-use Rattle.std.specs.Prelude.{ℕ, zero, suc, ◌+◌, ◌*◌, ◌%◌, ◌<◌, ◌≤◌, Bool, List, [], ◌∷◌, length, take, drop, Option, Some, None, Result, Ok, Err, ◌≡◌, ◌==◌, nat_lt, slice_index, IsSomeAnd, IsOk, if◌then◌else◌}
+use Rattle.std.specs.Prelude.{ℕ, zero, suc, ◌+◌, ◌*◌, ◌%◌, ◌<◌, ◌≤◌, Bool, List, [], ◌∷◌, length, take, drop, Option, Some, None, ok_or, Result, Ok, Err, ◌≡◌, ◌==◌, nat_lt, slice_index, IsSomeAnd, IsOk, if◌then◌else◌}
 use Rattle.gw_model.specs.declared.observation.Observation.{Observation}
 use Rattle.iec_asdu.specs.declared.fault.AsduFault.{AsduFault}
 use Rattle.iec_asdu.specs.declared.fault.AsduFault.TheVariants.{Short, Long, UnknownType, ZeroObjects, Reserved, Tag, Memory}
@@ -11,16 +11,11 @@ abbrev pub ◌>>=◌ : {A B : Type 0} → Result A AsduFault → (A → Result B
 (Ok x) >>= f = f x
 (Err e) >>= f = Err e
 
--- what is there, or the fault of its lack
-abbrev pub some_or : {A : Type 0} → AsduFault → Option A → Result A AsduFault
-some_or fault None = Err fault
-some_or fault (Some x) = Ok x
-
 -- what element and time tag tell of an address: a reserved bit comes before a tag that means nothing
 abbrev pub object_read : ℕ → Layout → List ℕ → Result Observation AsduFault
 object_read address layout octets = do
-  shown ← some_or Reserved (layout.shown (take layout.element octets))
-  stamp ← some_or Tag (layout.stamp (drop layout.element octets))
+  shown ← ok_or (layout.shown (take layout.element octets)) Reserved
+  stamp ← ok_or (layout.stamp (drop layout.element octets)) Tag
   Ok (record { address = address; value = shown.0; quality = shown.1; stamp = stamp })
 
 -- the object at the front, with the address before it
@@ -60,7 +55,7 @@ unfoldable pub asdu_read : List Layout → List ℕ → Result Asdu AsduFault
 asdu_read types octets =
     if nat_lt (length octets) 6 then Err Short
     else (do
-      layout ← some_or UnknownType (layout_of (slice_index octets 0) types)
+      layout ← ok_or (layout_of (slice_index octets 0) types) UnknownType
       observations ← objects_read layout (is_set 7 (slice_index octets 1)) (slice_index octets 1 % 128) (drop 6 octets)
       Ok (record {
         identification = slice_index octets 0;

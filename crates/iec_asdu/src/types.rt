@@ -1,8 +1,7 @@
 //! The types of process information in monitor direction that the gateway has (IEC 60870-5-101, 7.2.1 and
 //! 7.3.1), without time and with the time tag CP56Time2a.
-ghost use Rattle.std.specs.Prelude.{◌≡◌, ◌≤◌, ℤ, true, false, length, option_map};
+ghost use Rattle.std.specs.Prelude.{◌≡◌, ◌≤◌, ℤ, true, false, length, option_map, ok_or};
 ghost use Rattle.iec_asdu.specs.Asdu.{layout_of, monitor_types};
-ghost use Rattle.iec_asdu.specs.Reading.{some_or};
 ghost use Rattle.iec_asdu.specs.Spelling.{type_of};
 
 use crate::elements::{BitString, CounterReading, DoublePoint, ScaledValue, SinglePoint};
@@ -178,7 +177,7 @@ impl MonitorType {
     /// The stamp that a time tag means, if the type has one.
     pub fn stamp(self, tag: &[u8], zone: &Zone) -> Result<Stamp, AsduFault>
         requires { length tag.now ≡ tag_length self.timed }
-        ensures { result ≡ some_or AsduFault.Tag (stamp_by zone.now.offset_minutes self.timed tag.now) }
+        ensures { result ≡ ok_or (stamp_by zone.now.offset_minutes self.timed tag.now) AsduFault.Tag }
     {
         if !self.timed {
             return Ok(Stamp::Untimed);

@@ -1,4 +1,4 @@
-use Rattle.std.proofs.Common.{◌≡◌, ◌+◌, ◌-◌, ◌*◌, ◌/◌, ◌<◌, [], ◌≢◌, take, drop, refl, sym, ap, ◌∙◌, arith}
+use Rattle.std.proofs.Common.{◌≡◌, ◌+◌, ◌-◌, ◌*◌, ◌/◌, ◌<◌, [], ◌≢◌, take, drop, refl, sym, ap, ◌∙◌, arith, rules}
 use Rattle.dnp_points.specs.Values.{bits_of}
 use Rattle.dnp_points.specs.Objects.{packed_told}
 use Rattle.dnp_points.specs.Meaning.{told_by}
@@ -17,19 +17,25 @@ loop-n-preserved g c =
       grown = grown c.loop-n.found.items c.push.new.self.items c.args.found.now.items c.report.result c.in_ok-push.ensures.items c.loop-n.invariant.grown;
     }
 
-pub returns-clause-told : goal.returns-clause-told
-returns-clause-told g c =
+pub returns : goal.returns
+returns g c =
     let none : c.args.self.now.header.now.count - c.loop-n.n ≡ 0 = omega arith in
-    packed_ends c.args.self.now.part.now c.args.self.now.header.now g.P.PackedObject.variation g.P.PackedObject.BITS c.BITS-width.result c.args.self.now.outstation c.args.self.now.common (c.args.self.now.header.now.first + c.loop-n.n) (c.args.self.now.header.now.count - c.loop-n.n)
-    _ c.loop-n.found.items c.args.found.now.items c.requires.known g.met.P.PackedObject.sized none c.BITS-width.ensures c.loop-n.invariant.read
+    record {
+      told = packed_ends c.args.self.now.part.now c.args.self.now.header.now g.P.PackedObject.variation g.P.PackedObject.BITS c.BITS-width.result c.args.self.now.outstation c.args.self.now.common (c.args.self.now.header.now.first + c.loop-n.n) (c.args.self.now.header.now.count - c.loop-n.n)
+          _ c.loop-n.found.items c.args.found.now.items c.requires.known g.met.P.PackedObject.sized none c.BITS-width.ensures c.loop-n.invariant.read;
+      memory = tt;
+    }
 
-pub returns-in_err-push-clause-memory : goal.returns-in_err-push-clause-memory
-returns-in_err-push-clause-memory g c =
+pub returns-in_err-push : goal.returns-in_err-push
+returns-in_err-push g c =
     let lt : c.loop-n.n < c.args.self.now.header.now.count = omega arith in
     let bits = bits_of (take (c.args.self.now.header.now.start + (c.args.self.now.header.now.count * c.BITS-width.result + 7) / 8 - c.args.self.now.header.now.start) (drop c.args.self.now.header.now.start c.args.self.now.part.now)) in
-    on_error c.from_residual.result (told_by c.args.self.now ≢ [])
-    (one_packed_told c.args.self.now.part.now c.args.self.now.header.now g.P.PackedObject.variation g.P.PackedObject.BITS c.BITS-width.result c.args.self.now.outstation c.args.self.now.common c.from-first.result c.loop-n.n
-    (take c.BITS-width.result (drop (c.loop-n.n * c.BITS-width.result) bits)) (c.from-first.result + c.loop-n.n) c.loop-n.found.items c.args.found.now.items c.report.result
-    c.requires.known g.met.P.PackedObject.sized lt c.BITS-width.ensures c.from-first.ensures refl refl
-    (ap (packed_told g.P.PackedObject.variation.role g.P.PackedObject.variation.event c.args.self.now.outstation (c.from-first.result + c.loop-n.n)) (sym c.bits_at-state.ensures) ∙ c.report.ensures)
-    c.loop-n.invariant.grown c.loop-n.invariant.read)
+    record {
+      told = search rules;
+      memory = on_error c.from_residual.result (told_by c.args.self.now ≢ [])
+          (one_packed_told c.args.self.now.part.now c.args.self.now.header.now g.P.PackedObject.variation g.P.PackedObject.BITS c.BITS-width.result c.args.self.now.outstation c.args.self.now.common c.from-first.result c.loop-n.n
+          (take c.BITS-width.result (drop (c.loop-n.n * c.BITS-width.result) bits)) (c.from-first.result + c.loop-n.n) c.loop-n.found.items c.args.found.now.items c.report.result
+          c.requires.known g.met.P.PackedObject.sized lt c.BITS-width.ensures c.from-first.ensures refl refl
+          (ap (packed_told g.P.PackedObject.variation.role g.P.PackedObject.variation.event c.args.self.now.outstation (c.from-first.result + c.loop-n.n)) (sym c.bits_at-state.ensures) ∙ c.report.ensures)
+          c.loop-n.invariant.grown c.loop-n.invariant.read);
+    }

@@ -1,4 +1,4 @@
-use Rattle.std.proofs.Common.{◌≡◌, ◌+◌, ◌-◌, ◌<◌, [], ◌≢◌, arith}
+use Rattle.std.proofs.Common.{◌≡◌, ◌+◌, ◌-◌, ◌<◌, [], ◌≢◌, arith, rules}
 use Rattle.dnp_points.specs.Meaning.{body_of, told_by}
 use Rattle.dnp_points.proofs.Steps.{whole_turn, left_behind, whole_is_done}
 use Rattle.dnp_points.proofs.Memory.{one_whole_told, grown, on_error}
@@ -20,18 +20,24 @@ loop-n-preserved g c =
           lt c.from-prefix.ensures c.LENGTH-in-loop-n.ensures c.split_at.ensures.back_len c.split_at-in-loop-n.ensures.back_len c.loop-n.invariant.left;
     }
 
-pub returns-clause-told : goal.returns-clause-told
-returns-clause-told g c =
+pub returns : goal.returns
+returns g c =
     let none : c.args.self.now.header.now.count - c.loop-n.n ≡ 0 = omega arith in
-    whole_is_done c.args.self.now.part.now c.args.self.now.header.now g.O.Object.variation g.O.Object.LENGTH c.args.self.now.outstation c.args.self.now.common (c.args.self.now.header.now.first + c.loop-n.n) (c.args.self.now.header.now.count - c.loop-n.n) c.loop-n.rest.now
-    c.loop-n.found.items c.args.found.now.items c.requires.known g.met.O.Object.sized none c.loop-n.invariant.read
+    record {
+      told = whole_is_done c.args.self.now.part.now c.args.self.now.header.now g.O.Object.variation g.O.Object.LENGTH c.args.self.now.outstation c.args.self.now.common (c.args.self.now.header.now.first + c.loop-n.n) (c.args.self.now.header.now.count - c.loop-n.n) c.loop-n.rest.now
+          c.loop-n.found.items c.args.found.now.items c.requires.known g.met.O.Object.sized none c.loop-n.invariant.read;
+      memory = tt;
+    }
 
-pub returns-in_err-push-clause-memory : goal.returns-in_err-push-clause-memory
-returns-in_err-push-clause-memory g c =
+pub returns-in_err-push : goal.returns-in_err-push
+returns-in_err-push g c =
     let lt : c.loop-n.n < c.args.self.now.header.now.count = omega arith in
-    on_error c.from_residual.result (told_by c.args.self.now ≢ [])
-    (one_whole_told c.args.self.now.part.now c.args.self.now.header.now g.O.Object.variation g.O.Object.LENGTH c.LENGTH-in-loop-n.result c.args.self.now.outstation c.args.self.now.common c.from-prefix.result c.from-first.result c.loop-n.n
-    c.loop-n.rest.now c.split_at.result.0.now c.split_at.result.1.now c.split_at-in-loop-n.result.0.now c.index_of-index.result c.loop-n.found.items c.args.found.now.items c.report.result
-    c.requires.known g.met.O.Object.sized lt c.from-prefix.ensures c.from-first.ensures c.LENGTH-in-loop-n.ensures
-    c.split_at.ensures.front c.split_at.ensures.back c.split_at-in-loop-n.ensures.front
-    c.index_of-index.ensures c.report.ensures c.loop-n.invariant.grown c.loop-n.invariant.read)
+    record {
+      told = search rules;
+      memory = on_error c.from_residual.result (told_by c.args.self.now ≢ [])
+          (one_whole_told c.args.self.now.part.now c.args.self.now.header.now g.O.Object.variation g.O.Object.LENGTH c.LENGTH-in-loop-n.result c.args.self.now.outstation c.args.self.now.common c.from-prefix.result c.from-first.result c.loop-n.n
+          c.loop-n.rest.now c.split_at.result.0.now c.split_at.result.1.now c.split_at-in-loop-n.result.0.now c.index_of-index.result c.loop-n.found.items c.args.found.now.items c.report.result
+          c.requires.known g.met.O.Object.sized lt c.from-prefix.ensures c.from-first.ensures c.LENGTH-in-loop-n.ensures
+          c.split_at.ensures.front c.split_at.ensures.back c.split_at-in-loop-n.ensures.front
+          c.index_of-index.ensures c.report.ensures c.loop-n.invariant.grown c.loop-n.invariant.read);
+    }
