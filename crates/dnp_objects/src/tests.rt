@@ -225,6 +225,15 @@ fn part_of(
     Ok(part)
 }
 
+/// A part with one header lacks data where its last octet is missing.
+fn check_cut(rt: &(impl Abort + AllocGlobal), part: &[u8]) -> Result<(), Fail> {
+    if let Some((_, cut)) = part.split_last() {
+        let fault = fault_of(Why::ShortData, 0);
+        assert_eq!(rt; headers(rt.alloc(), cut).err(), Some(fault), "{part:?}");
+    }
+    Ok(())
+}
+
 /// A row of each table: the object is read under the qualifier, not read without its last octet, and refused where
 /// it may not stand under the code.
 fn check_object(
@@ -257,15 +266,7 @@ fn check_object(
         [header].as_slice(),
         "{group} {variation} {code:02X}"
     );
-    if let Some((_, cut)) = part.split_last() {
-        let fault = fault_of(Why::ShortData, 0);
-        assert_eq!(rt;
-            headers(rt.alloc(), cut).err(),
-            Some(fault),
-            "{group} {variation} {code:02X}"
-        );
-    }
-    Ok(())
+    check_cut(rt, &part)
 }
 
 fn fault_of(why: Why, place: usize) -> ObjectFault {

@@ -538,11 +538,15 @@ fn other_objects_report_nothing(rt: HostRuntime) -> Result<(), Fail> {
     Ok(())
 }
 
+/// What a part reports of outstation 3.
+fn read(rt: &(impl Abort + AllocGlobal), part: &[u8]) -> Result<Vec<Report>, Fail> {
+    let headers = headers(rt.alloc(), part)?;
+    Ok(reports(rt.alloc(), 3, &headers, part)?)
+}
+
 #[test]
 fn packed_inputs_are_read(rt: HostRuntime) -> Result<(), Fail> {
-    let part = b"\x01\x01\x00\x03\x0C\x55\xFE";
-    let headers = headers(rt.alloc(), part)?;
-    let found = reports(rt.alloc(), 3, &headers, part)?;
+    let found = read(&rt, b"\x01\x01\x00\x03\x0C\x55\xFE")?;
     let states = [
         true, false, true, false, true, false, true, false, false, true,
     ];
@@ -551,6 +555,34 @@ fn packed_inputs_are_read(rt: HostRuntime) -> Result<(), Fail> {
         let told = (Kind::Binary, Raw::Bit(on), 0x01, Stamp::Untimed, STATIC);
         assert!(rt; says(report, index, told), "{index}");
     }
+    Ok(())
+}
+
+#[test]
+fn packed_double_inputs_are_read(rt: HostRuntime) -> Result<(), Fail> {
+    let found = read(&rt, b"\x03\x01\x00\x00\x03\xE4")?;
+    let states = [0u8, 1, 2, 3];
+    assert_eq!(rt; found.len(), 4);
+    for ((report, state), index) in found.iter().zip(states).zip(0u16..) {
+        let told = (Kind::Double, Raw::Two(state), 0x01, Stamp::Untimed, STATIC);
+        assert!(rt; says(report, index, told), "{index}");
+    }
+    Ok(())
+}
+
+#[test]
+fn an_index_of_two_octets_is_read(rt: HostRuntime) -> Result<(), Fail> {
+    let found = read(&rt, b"\x04\x01\x28\x01\x00\x07\x00\x81")?;
+    assert_eq!(rt; found.len(), 1);
+    let told = (Kind::Double, Raw::Two(2), 0x81, Stamp::Untimed, EVENT);
+    assert!(rt; says(&found[0], 7, told));
+    Ok(())
+}
+
+#[test]
+fn a_header_without_objects_reports_nothing(rt: HostRuntime) -> Result<(), Fail> {
+    let found = read(&rt, b"\x02\x01\x17\x00")?;
+    assert!(rt; found.is_empty());
     Ok(())
 }
 
@@ -568,8 +600,7 @@ fn common_times_count_in_their_part(rt: HostRuntime) -> Result<(), Fail> {
         ),
     ];
     for (part, stamp) in rows {
-        let headers = headers(rt.alloc(), part)?;
-        let found = reports(rt.alloc(), 3, &headers, part)?;
+        let found = read(&rt, part)?;
         assert_eq!(rt; found.len(), 1);
         let told = (Kind::Binary, Raw::Bit(true), 0x81, stamp, EVENT);
         assert!(rt; says(&found[0], 5, told), "{stamp:?}");

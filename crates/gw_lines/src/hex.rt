@@ -7,7 +7,7 @@ use gw_model::Memory;
 use std::alloc::Global;
 
 /// The most octets that a line may spell.
-pub const MOST_OCTETS: usize = 2048;
+const MOST_OCTETS: usize = 2048;
 
 /// The value of a hexadecimal digit, in either case.
 fn digit_value(character: u8) -> Option<u8>

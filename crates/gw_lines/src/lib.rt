@@ -9,7 +9,7 @@ mod line;
 mod reply_text;
 mod text;
 
-pub use hex::{MOST_OCTETS, line_octets};
+pub use hex::line_octets;
 pub use instruction::{Instruction, read_instruction};
 pub use line::{KEPT, Line, kept_is_enough};
 pub use reply_text::push_reply;

@@ -2,14 +2,14 @@ use crate::decision::{Decision, decide};
 use crate::translate::translate;
 use dnp_app::AppFault;
 use dnp_objects::{ObjectFault, Why};
-use gw_lines::MOST_OCTETS;
 use gw_model::{Memory, Settings};
 use gw_picture::Picture;
 use std::io::{self, Read, Write};
+use std::process::Abort;
 use std::test::Fail;
 
 /// What `translate` writes for an input, and its status.
-fn translated(rt: &HostRuntime, input: &[u8]) -> Result<(Vec<u8>, u8), Fail> {
+fn translated(rt: &impl AllocGlobal, input: &[u8]) -> Result<(Vec<u8>, u8), Fail> {
     let mut output = Vec::new(rt.alloc());
     let status = translate(rt.alloc(), &Settings::built_in(), input, &mut output);
     Ok((output, status))
@@ -70,14 +70,23 @@ const LINES: [(&str, &str, u8); 14] = [
     ("", "", 0),
 ];
 
-#[test]
-fn lines(rt: HostRuntime) -> Result<(), Fail> {
-    for (input, want, status) in LINES {
-        let (output, ended) = translated(&rt, input.as_bytes())?;
+/// `translate` writes so for lines.
+fn check_lines(
+    rt: &(impl Abort + AllocGlobal),
+    rows: &[(&'static str, &'static str, u8)],
+) -> Result<(), Fail> {
+    for row in rows {
+        let (input, want, status) = *row;
+        let (output, ended) = translated(rt, input.as_bytes())?;
         assert_eq!(rt; output.as_slice(), want.as_bytes(), "at {input:?}");
         assert_eq!(rt; ended, status, "at {input:?}");
     }
     Ok(())
+}
+
+#[test]
+fn lines(rt: HostRuntime) -> Result<(), Fail> {
+    check_lines(&rt, &LINES)
 }
 
 /// The same for objects of many kinds, of binary input 5, analog input 0 and counter 0.
@@ -168,12 +177,7 @@ const OBJECTS: [(&str, &str, u8); 14] = [
 
 #[test]
 fn objects(rt: HostRuntime) -> Result<(), Fail> {
-    for (input, want, status) in OBJECTS {
-        let (output, ended) = translated(&rt, input.as_bytes())?;
-        assert_eq!(rt; output.as_slice(), want.as_bytes(), "at {input:?}");
-        assert_eq!(rt; ended, status, "at {input:?}");
-    }
-    Ok(())
+    check_lines(&rt, &OBJECTS)
 }
 
 /// A line of octets that says nothing: a response with empty headers, cut or filled to `count` octets.
@@ -188,13 +192,13 @@ fn long_line(rt: &HostRuntime, count: usize) -> Result<Vec<u8>, Fail> {
 
 #[test]
 fn long_lines(rt: HostRuntime) -> Result<(), Fail> {
-    let longest = long_line(&rt, MOST_OCTETS)?;
+    let longest = long_line(&rt, 2048)?;
     let (output, _) = translated(&rt, longest.as_slice())?;
     assert_eq!(rt;
         output.as_slice(),
         b"refused 3 Object 1 UnknownObject at 0\n".as_slice()
     );
-    let mut input = long_line(&rt, MOST_OCTETS + 1)?;
+    let mut input = long_line(&rt, 2049)?;
     input.push(b'\n')?;
     input.extend_from_slice(long_line(&rt, 40_000)?.as_slice())?;
     input.extend_from_slice(b"\n\xFF\xFE\nC0 81 00\n")?;

@@ -10,7 +10,7 @@ fn replayed(rt: &HostRuntime, input: &[u8]) -> Result<(Vec<u8>, u8), Fail> {
 }
 
 /// Lines, what `replay` writes for them, and its status.
-const REPLAYS: [(&str, &str, u8); 8] = [
+const REPLAYS: [(&str, &str, u8); 9] = [
     // An unsolicited response is taken once, and confirmed each time.
     (
         "open 0 0\nframe 0 0 68 04 07 00 00 00\npump 0 0\nup 0 0\n\
@@ -29,6 +29,14 @@ const REPLAYS: [(&str, &str, u8); 8] = [
         "ok\naccepted\nok\nqueued 0 dropped 0\ntaken\napdu 68 04 0B 00 00 00\naccepted\n\
          apdu 68 0E 00 00 00 00 01 01 03 00 01 00 05 10 00 00\n\
          apdu 68 0E 02 00 00 00 01 01 03 00 01 00 05 10 00 01\n",
+        0,
+    ),
+    // An event with its time: 1,700,000,000,000 milliseconds are 14 November 2023, 22:13:20.
+    (
+        "open 0 0\nframe 0 0 68 04 07 00 00 00\npump 0 0\nup 0 0\n\
+         frag 0 0 F0 82 00 00 02 02 17 01 05 81 00 68 E5 CF 8B 01\npump 0 0\n",
+        "ok\ntaken\napdu 68 04 0B 00 00 00\nok\naccepted confirm D0 00\n\
+         apdu 68 15 00 00 00 00 1E 01 03 00 01 00 05 10 00 01 20 4E 0D 16 0E 0B 17\n",
         0,
     ),
     // Each fault, in its order; a fault is no refusal.
