@@ -13,7 +13,7 @@ use gw_model::{Memory, Report};
 #[tactic(auto, unfolding(dnp_objects::specs::Library::object_of))]
 fn push_binary_inputs(objects: &Objects<'_>, found: &mut Vec<Report>) -> Result<(), Memory>
     requires group { objects.now.header.now.group ≡ 1 }
-    requires found { AreFound objects.now }
+    requires inside { AreFound objects.now }
     ensures { Adds objects.now found.old.items found.new.items result }
 {
     match objects.header.variation {
@@ -27,7 +27,7 @@ fn push_binary_inputs(objects: &Objects<'_>, found: &mut Vec<Report>) -> Result<
 #[tactic(auto, unfolding(dnp_objects::specs::Library::object_of))]
 fn push_binary_events(objects: &Objects<'_>, found: &mut Vec<Report>) -> Result<(), Memory>
     requires group { objects.now.header.now.group ≡ 2 }
-    requires found { AreFound objects.now }
+    requires inside { AreFound objects.now }
     ensures { Adds objects.now found.old.items found.new.items result }
 {
     match objects.header.variation {
@@ -42,7 +42,7 @@ fn push_binary_events(objects: &Objects<'_>, found: &mut Vec<Report>) -> Result<
 #[tactic(auto, unfolding(dnp_objects::specs::Library::object_of))]
 fn push_double_inputs(objects: &Objects<'_>, found: &mut Vec<Report>) -> Result<(), Memory>
     requires group { objects.now.header.now.group ≡ 3 }
-    requires found { AreFound objects.now }
+    requires inside { AreFound objects.now }
     ensures { Adds objects.now found.old.items found.new.items result }
 {
     match objects.header.variation {
@@ -56,7 +56,7 @@ fn push_double_inputs(objects: &Objects<'_>, found: &mut Vec<Report>) -> Result<
 #[tactic(auto, unfolding(dnp_objects::specs::Library::object_of))]
 fn push_double_events(objects: &Objects<'_>, found: &mut Vec<Report>) -> Result<(), Memory>
     requires group { objects.now.header.now.group ≡ 4 }
-    requires found { AreFound objects.now }
+    requires inside { AreFound objects.now }
     ensures { Adds objects.now found.old.items found.new.items result }
 {
     match objects.header.variation {
@@ -71,7 +71,7 @@ fn push_double_events(objects: &Objects<'_>, found: &mut Vec<Report>) -> Result<
 #[tactic(auto, unfolding(dnp_objects::specs::Library::object_of))]
 fn push_outputs(objects: &Objects<'_>, found: &mut Vec<Report>) -> Result<(), Memory>
     requires group { objects.now.header.now.group ≡ 10 }
-    requires found { AreFound objects.now }
+    requires inside { AreFound objects.now }
     ensures { Adds objects.now found.old.items found.new.items result }
 {
     match objects.header.variation {
@@ -85,7 +85,7 @@ fn push_outputs(objects: &Objects<'_>, found: &mut Vec<Report>) -> Result<(), Me
 #[tactic(auto, unfolding(dnp_objects::specs::Library::object_of))]
 fn push_output_events(objects: &Objects<'_>, found: &mut Vec<Report>) -> Result<(), Memory>
     requires group { objects.now.header.now.group ≡ 11 }
-    requires found { AreFound objects.now }
+    requires inside { AreFound objects.now }
     ensures { Adds objects.now found.old.items found.new.items result }
 {
     match objects.header.variation {
@@ -99,7 +99,7 @@ fn push_output_events(objects: &Objects<'_>, found: &mut Vec<Report>) -> Result<
 #[tactic(auto, unfolding(dnp_objects::specs::Library::object_of))]
 fn push_counters(objects: &Objects<'_>, found: &mut Vec<Report>) -> Result<(), Memory>
     requires group { objects.now.header.now.group ≡ 20 }
-    requires found { AreFound objects.now }
+    requires inside { AreFound objects.now }
     ensures { Adds objects.now found.old.items found.new.items result }
 {
     match objects.header.variation {
@@ -115,7 +115,7 @@ fn push_counters(objects: &Objects<'_>, found: &mut Vec<Report>) -> Result<(), M
 #[tactic(auto, unfolding(dnp_objects::specs::Library::object_of))]
 fn push_counter_events(objects: &Objects<'_>, found: &mut Vec<Report>) -> Result<(), Memory>
     requires group { objects.now.header.now.group ≡ 22 }
-    requires found { AreFound objects.now }
+    requires inside { AreFound objects.now }
     ensures { Adds objects.now found.old.items found.new.items result }
 {
     match objects.header.variation {
@@ -131,7 +131,7 @@ fn push_counter_events(objects: &Objects<'_>, found: &mut Vec<Report>) -> Result
 #[tactic(auto, using(crate::proofs::Table::no_floats), unfolding(dnp_objects::specs::Library::object_of))]
 fn push_analogs(objects: &Objects<'_>, found: &mut Vec<Report>) -> Result<(), Memory>
     requires group { objects.now.header.now.group ≡ 30 }
-    requires found { AreFound objects.now }
+    requires inside { AreFound objects.now }
     ensures { Adds objects.now found.old.items found.new.items result }
 {
     match objects.header.variation {
@@ -147,7 +147,7 @@ fn push_analogs(objects: &Objects<'_>, found: &mut Vec<Report>) -> Result<(), Me
 #[tactic(auto, using(crate::proofs::Table::no_float_events), unfolding(dnp_objects::specs::Library::object_of))]
 fn push_analog_events(objects: &Objects<'_>, found: &mut Vec<Report>) -> Result<(), Memory>
     requires group { objects.now.header.now.group ≡ 32 }
-    requires found { AreFound objects.now }
+    requires inside { AreFound objects.now }
     ensures { Adds objects.now found.old.items found.new.items result }
 {
     match objects.header.variation {
@@ -162,7 +162,7 @@ fn push_analog_events(objects: &Objects<'_>, found: &mut Vec<Report>) -> Result<
 /// Adds what the objects of a header report.
 #[tactic(auto, using(crate::proofs::Table::no_points))]
 pub fn push_reports(objects: &Objects<'_>, found: &mut Vec<Report>) -> Result<(), Memory>
-    requires found { AreFound objects.now }
+    requires inside { AreFound objects.now }
     ensures { Adds objects.now found.old.items found.new.items result }
 {
     match objects.header.group {

@@ -37,7 +37,7 @@ impl Objects<'_> {
     /// Adds what they report, each of whole octets.
     pub fn push_whole<O: Object>(&self, found: &mut Vec<Report>) -> Result<(), Memory>
         requires known { object_of self.now.header.now.group self.now.header.now.variation ≡ Some O.variation }
-        requires found { AreFound self.now }
+        requires inside { AreFound self.now }
         ensures { Adds self.now found.old.items found.new.items result }
     {
         let header = self.header;
@@ -58,7 +58,7 @@ impl Objects<'_> {
     /// Adds what they report, packed into octets.
     pub fn push_packed<P: PackedObject>(&self, found: &mut Vec<Report>) -> Result<(), Memory>
         requires known { object_of self.now.header.now.group self.now.header.now.variation ≡ Some P.variation }
-        requires found { AreFound self.now }
+        requires inside { AreFound self.now }
         ensures { Adds self.now found.old.items found.new.items result }
     {
         let header = self.header;

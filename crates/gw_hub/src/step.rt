@@ -33,7 +33,7 @@ pub enum Verdict {
     Accepted { confirm: Option<[u8; 2]> },
     /// It is the last unsolicited response again, and was not taken again.
     Repeated { confirm: Option<[u8; 2]> },
-    /// It was not taken, and changes nothing.
+    /// It was not taken: no news, and no confirmation.
     Ignored(Ignored),
 }
 

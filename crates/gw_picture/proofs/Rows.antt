@@ -10,7 +10,7 @@ use Rattle.gw_model.specs.declared.row.Row.{Row}
 use Rattle.gw_model.specs.declared.observation.Observation.{Observation}
 use Rattle.gw_model.specs.Keys.{same_key}
 use Rattle.gw_model.specs.Rows.{row_from}
-use Rattle.gw_translate.specs.Image.{image_of, image_in}
+use Rattle.gw_translate.specs.Image.{image_of}
 use Rattle.gw_translate.specs.News.{is_news_of}
 use Rattle.gw_picture.specs.Change.{change}
 use Rattle.gw_picture.specs.Opening.{opening}
@@ -160,9 +160,3 @@ news_shown_at offset rows picture r x (Some p) is e news =
 pub news_changes_row : (offset : ℤ) (rows : List Row) (picture : List Observation) (r : Report) (x : Observation) → IsPictureOf rows picture → news_of_report offset rows picture r ≡ x ∷ []
     → ShowsImage offset rows r x picture (shown_after offset rows picture r)
 news_changes_row offset rows picture r x is news = news_shown_at offset rows picture r x (row_from 0 r.key rows) is refl news
-
-pub news_is_image : (offset : ℤ) (rows : List Row) (picture : List Observation) (r : Report) (x : Observation) → IsPictureOf rows picture → news_of_report offset rows picture r ≡ x ∷ []
-    → image_in offset rows r ≡ Some x
-news_is_image offset rows picture r x is news =
-    let shows = news_changes_row offset rows picture r x is news in
-    ap (option_map (λ (found : ℕ × Row). image_of offset found.1 r)) shows.found ∙ ap (λ (y : Observation). Some y) (sym shows.image)

@@ -1,10 +1,9 @@
 //! What holds of every picture.
-ghost use Rattle.std.specs.Prelude.{◌≡◌, ◌≤◌, ◌++◌, ℤ, List, [], ◌∷◌, Some, length, map, true};
+ghost use Rattle.std.specs.Prelude.{◌≡◌, ◌≤◌, ◌++◌, ℤ, List, [], ◌∷◌, length, map, true};
 ghost use Rattle.gw_model.specs.declared.observation.Observation.{Observation};
 ghost use Rattle.gw_model.specs.declared.point.Report.{Report};
 ghost use Rattle.gw_model.specs.declared.row.Row.{Row};
 ghost use Rattle.gw_model.specs.Rows.{is_point_map};
-ghost use Rattle.gw_translate.specs.Image.{image_in};
 ghost use Rattle.gw_picture.specs.Log.{picture_of};
 ghost use Rattle.gw_picture.specs.News.{news_of, news_of_report, picture_after, shown_after};
 ghost use Rattle.gw_picture.specs.Opening.{opening};
@@ -18,16 +17,14 @@ pub fn picture_keeps_rows()
     ensures reports { (offset : ℤ) (rows : List Row) (picture : List Observation) (rs : List Report) → IsPictureOf rows picture → IsPictureOf rows (picture_after offset rows picture rs) }
 {}
 
-/// A report is one news at most, and that is its image. One that is none leaves the picture as it is; one that is changes it at the place
-/// of its point's row alone, where its image is shown without its time.
+/// A report gives one news at most, which is its image. Where it gives none, the picture stays as it is; where it
+/// gives one, the picture changes at the place of its point's row alone, and shows the image there without its time.
 pub fn report_changes_its_row_alone()
     ensures once { (offset : ℤ) (rows : List Row) (picture : List Observation) (r : Report) → length (news_of_report offset rows picture r) ≤ 1 }
     ensures none { (offset : ℤ) (rows : List Row) (picture : List Observation) (r : Report) → IsPictureOf rows picture → news_of_report offset rows picture r ≡ []
         → shown_after offset rows picture r ≡ picture }
     ensures news { (offset : ℤ) (rows : List Row) (picture : List Observation) (r : Report) (x : Observation) → IsPictureOf rows picture → news_of_report offset rows picture r ≡ x ∷ []
         → ShowsImage offset rows r x picture (shown_after offset rows picture r) }
-    ensures image { (offset : ℤ) (rows : List Row) (picture : List Observation) (r : Report) (x : Observation) → IsPictureOf rows picture → news_of_report offset rows picture r ≡ x ∷ []
-        → image_in offset rows r ≡ Some x }
 {}
 
 /// The picture that is kept is that of the log of all news, whatever the log began with.

@@ -9,7 +9,7 @@ use Rattle.gw_lines.specs.Hex.{octets_of, at_most_2048}
 use Rattle.gw_model.specs.declared.observation.Observation.{Observation}
 use Rattle.gw_program.specs.Answers.{AreAnswers, AreToStore, IsAnswer, is_accepted, is_empty, line_text, line_reports, lines_of, octets_reports, onto_first, shown_then}
 use Rattle.gw_program.specs.Translation.{shown_in}
-use Rattle.gw_lines.proofs.HexLaws.{too_long}
+use Rattle.gw_lines.proofs.HexLaws.{too_long, kept_line as kept_octets}
 
 -- ---- the lines of octets before others
 
@@ -103,7 +103,7 @@ kept_front line more =
 kept_line : (line : List ℕ) → SameLine (take 6144 line) line
 kept_line line =
     let kept = kept_front line [] in
-    record { empty = rw (append-nil line, append-nil (take 6144 line)) at kept.empty; octets = rw (append-nil line, append-nil (take 6144 line)) at kept.octets }
+    record { empty = rw (append-nil line, append-nil (take 6144 line)) at kept.empty; octets = kept_octets line }
 
 pub list_all-kept : (line : List ℕ) (lines : List (List ℕ)) → list_all is_accepted (onto_first (take 6144 line) lines) ≡ list_all is_accepted (onto_first line lines)
 unfolding onto_first

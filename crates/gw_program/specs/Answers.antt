@@ -96,11 +96,11 @@ abbrev pub AreToStore : Option (List ℕ) → Type 0
 AreToStore None = ⊥
 AreToStore (Some octets) = StoresHeader octets
 
--- a line is
+-- the octets of a line are such
 abbrev pub NeedsMemory : List ℕ → Type 0
 NeedsMemory line = AreToStore (at_most_2048 (octets_of line))
 
--- what is written for a line, or, where memory ran out over the objects of a response, that it did
+-- what is written for a line, or, where memory ran out over its object part, that it did
 abbrev pub IsAnswer : Setup → List Observation → List ℕ → Bool → List ℕ → Type 0
 IsAnswer setup picture line false text = text ≡ line_text setup picture line
 IsAnswer setup picture line true text = NeedsMemory line × (text ≡ refusal_text Memory)

@@ -15,8 +15,8 @@ use std::io::{BufRead, Write};
 #[cfg(test)]
 mod tests;
 
-/// How much of a line is kept. A line that is longer is refused, so that a number may begin with some
-/// two thousand zeros.
+/// How much of a line is kept: more than the longest fragment needs, so that a number may begin with many zeros. A
+/// longer line is refused.
 const KEPT: usize = 8192;
 
 /// What came of an instruction.

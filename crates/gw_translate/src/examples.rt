@@ -35,7 +35,7 @@ pub fn qualities_by_example()
     ensures counter_forced { quality_of kinds.Counter 0x19 ≡ good }
 {}
 
-/// The images of some reports, and which of them are news.
+/// The images of some reports.
 #[tactic(auto, unfolding(gw_time::specs::Spelling::tag_showing, gw_time::specs::Spelling::date_after))]
 pub fn images_by_example()
     // Flags 81, FF and 00 of a binary input.
@@ -70,7 +70,10 @@ pub fn images_by_example()
     // By a point map: none for a point without a row.
     ensures mapped { image_in (pos 0) (row kinds.Binary shows.Single refl ∷ []) (binary 0x81 true) ≡ Some (told (Single true) good) }
     ensures unmapped { image_in (pos 0) (row kinds.Binary shows.Single refl ∷ []) (output 0x81 true) ≡ None }
-    // An event is news always, a static value where value or quality differs.
+{}
+
+/// An event is news always, a static value where value or quality differs.
+pub fn news_by_example()
     ensures event { is_news_of (binary 0x81 true) (told (Single true) good) (told (Single true) good) ≡ true }
     ensures same { is_news_of (standing 0x81 true) (told (Single true) good) (told (Single true) good) ≡ false }
     ensures value { is_news_of (standing 0x81 true) (told (Single false) good) (told (Single true) good) ≡ true }

@@ -1,5 +1,5 @@
 -- An ASDU read from left to right: its meaning, or the first fault.
-use Rattle.std.specs.Prelude.{ℕ, zero, suc, ◌+◌, ◌*◌, ◌%◌, ◌<◌, ◌≤◌, Bool, List, [], ◌∷◌, length, take, drop, Option, Some, None, ok_or, Result, Ok, Err, ◌≡◌, ◌==◌, nat_lt, slice_index, IsSomeAnd, IsOk, if◌then◌else◌}
+use Rattle.std.specs.Prelude.{ℕ, zero, suc, ◌+◌, ◌*◌, ◌%◌, ◌<◌, ◌≤◌, Bool, List, [], ◌∷◌, length, take, drop, ok_or, Result, Ok, Err, ◌≡◌, ◌==◌, nat_lt, slice_index, IsSomeAnd, IsOk, if◌then◌else◌}
 use Rattle.gw_model.specs.declared.observation.Observation.{Observation}
 use Rattle.iec_asdu.specs.declared.fault.AsduFault.{AsduFault}
 use Rattle.iec_asdu.specs.declared.fault.AsduFault.TheVariants.{Short, Long, UnknownType, ZeroObjects, Reserved, Tag, Memory}

@@ -13,8 +13,7 @@ pub use elements::{BitString, CounterReading, DoublePoint, ScaledValue, SinglePo
 pub use examples::{asdu_examples, fault_examples, timed_examples};
 pub use fault::AsduFault;
 pub use reading::{Monitor, read_monitor};
-pub use types::SPONTANEOUS;
-pub use writing::{Written, write_monitor};
+pub use writing::{SPONTANEOUS, Written, write_monitor};
 
 #[cfg(test)]
 mod tests;

@@ -217,7 +217,8 @@ fn numbers_again(rt: HostRuntime) {
     );
 }
 
-/// The event of a single point, in UTC, and with a common time of a clock that wasn't synchronized; then each type.
+/// The event of a single point, in UTC, and with a common time of a clock that wasn't synchronized; then the other
+/// types, and both ends of the window.
 const TIMED: [Row; 7] = [
     (
         (4101, Value::Single(true), Quality::GOOD, EVENT),
@@ -361,7 +362,7 @@ const SEVERAL: [(&[u8], u16, u8, &[Shown]); 6] = [
             (16777216, Value::Scaled(-32768), INVALID, Stamp::Untimed),
         ],
     ),
-    // With time, each object with its address and not.
+    // With time, under SQ 0 and under SQ 1.
     (
         b"\x1E\x02\x03\x00\x01\x00\x05\x10\x00\x01\x20\x4E\x0D\x16\x0E\x0B\x17\x09\x10\x00\x00\x20\x4E\x8D\x16\x0E\x0B\x17",
         1,

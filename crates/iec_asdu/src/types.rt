@@ -9,9 +9,6 @@ use crate::fault::AsduFault;
 use gw_model::{Element, Quality, Stamp, Value};
 use gw_time::{Zone, from_tag};
 
-/// The cause of transmission of news: spontaneous (IEC 60870-5-101, 7.2.3).
-pub const SPONTANEOUS: u8 = 3;
-
 /// How many octets a time tag, CP56Time2a, has.
 pub const TAG_OCTETS: usize = 7;
 

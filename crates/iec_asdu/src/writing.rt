@@ -10,6 +10,9 @@ use crate::types::identification_of;
 use gw_model::{Element, Observation, Quality, Value};
 use gw_time::{Zone, to_tag};
 
+/// The cause of transmission spontaneous (IEC 60870-5-101, 7.2.3).
+pub const SPONTANEOUS: u8 = 3;
+
 /// What became of a list of observations.
 #[derive(Clone, Copy, Debug, PartialEq, Eq)]
 pub struct Written {

@@ -6,7 +6,7 @@ use Rattle.dnp_points.proofs.report.all_reports.Goals as goal
 
 pub push_reports-requires : goal.push_reports-requires
 push_reports-requires c = record {
-  found = record {
+  inside = record {
     within = headers_within c.args.part.now c.args.headers.now c.requires c.loop-header.header-index _ c.loop-header-test.true;
     indexed = headers_indexed c.args.part.now c.args.headers.now (λ i. (c.type_inv.part i).fits) c.requires c.loop-header.header-index _ c.loop-header-test.true;
     clock = search rules;

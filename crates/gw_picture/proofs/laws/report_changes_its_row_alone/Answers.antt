@@ -1,5 +1,5 @@
 use Rattle.gw_picture.proofs.Counts.{report_one}
-use Rattle.gw_picture.proofs.Rows.{no_news_no_change, news_changes_row, news_is_image}
+use Rattle.gw_picture.proofs.Rows.{no_news_no_change, news_changes_row}
 use Rattle.gw_picture.proofs.laws.report_changes_its_row_alone.Goals as goal
 
 pub returns-clause-once : goal.returns-clause-once
@@ -10,6 +10,3 @@ returns-clause-none c = no_news_no_change
 
 pub returns-clause-news : goal.returns-clause-news
 returns-clause-news c = news_changes_row
-
-pub returns-clause-image : goal.returns-clause-image
-returns-clause-image c = news_is_image
