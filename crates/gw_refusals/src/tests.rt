@@ -1,4 +1,5 @@
-use dnp_app::{AppFault, Response, read_response};
+use crate::read_copy;
+use dnp_app::AppFault;
 use gw_hub::{Apdu, Hub, Reply, Signal, Step, StepFault, Verdict};
 use gw_model::Settings;
 use std::test::Fail;
@@ -11,13 +12,6 @@ const ACCEPTED: Result<Reply, StepFault> = Ok(Reply::Verdict(Verdict::Accepted {
     confirm: Some([0xD0, 0]),
 }));
 
-fn read(rt: &HostRuntime) -> Result<Response, AppFault> {
-    match Vec::from_slice(rt.alloc(), &EVENT) {
-        Ok(octets) => read_response(rt.alloc(), 0, octets),
-        Err(_) => Err(AppFault::Memory),
-    }
-}
-
 /// A hub, at the second try where memory was refused.
 fn new_hub(rt: &HostRuntime) -> Result<Hub, Fail> {
     if let Ok(hub) = Hub::new(rt.alloc(), Settings::built_in()) {
@@ -29,11 +23,11 @@ fn new_hub(rt: &HostRuntime) -> Result<Hub, Fail> {
 
 /// The event, at the second try where memory was refused.
 fn event(rt: &HostRuntime) -> Result<Step, Fail> {
-    let response = match read(rt) {
+    let response = match read_copy(rt.alloc(), &EVENT) {
         Ok(response) => response,
         Err(AppFault::Memory) => {
             println!(rt; "refused")?;
-            match read(rt) {
+            match read_copy(rt.alloc(), &EVENT) {
                 Ok(response) => response,
                 Err(fault) => return Err(Fail::new(fault)),
             }
