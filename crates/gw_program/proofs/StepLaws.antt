@@ -12,7 +12,8 @@ use Rattle.gw_program.specs.Reading.{Answers, AnswersInput, AnswersLine, Brings,
 use Rattle.gw_program.specs.declared.reading.Ended.{Ended}
 use Rattle.gw_program.specs.declared.reading.Ended.TheVariants.{Fine, Refused, ShortOfMemory}
 use Rattle.gw_program.specs.declared.reading.Piece.TheVariants.{Nothing, Part, Line, End}
-use Rattle.gw_program.proofs.AnswerLaws.{AreAnswers-kept, with_end, with_line, with_part, same_by_end, same_by_line, same_by_part, list_all-kept, onto_first-nil}
+use Rattle.gw_program.proofs.InputLines.{with_end, with_line, with_part, same_by_end, same_by_line, same_by_part, onto_first-nil}
+use Rattle.gw_program.proofs.AnswerLaws.{AreAnswers-kept, list_all-kept}
 
 -- ---- one step after the other
 
@@ -83,9 +84,9 @@ Moves-part setup ended line kept (Some input) (Some output) old brings = (
     lacks = false;
     text = [];
     written = Appends-nil old;
-    lines_between = λ others later answers. with_part (λ (ls : List (List ℕ)). AreAnswers setup ended.picture ls others later) (AreAnswers-kept setup ended.picture others later) line brings.0 kept input output brings.1 brings.2.0 brings.2.1 answers;
+    lines_between = λ others later answers. with_part 6144 (λ (ls : List (List ℕ)). AreAnswers setup ended.picture ls others later) (AreAnswers-kept setup ended.picture others later) line brings.0 kept input output brings.1 brings.2.0 brings.2.1 answers;
     same_end = λ others. ap (λ (b : Bool). cond others ShortOfMemory (cond b ended.ended (refused_after ended.ended)))
-        (same_by_part (list_all is_accepted) list_all-kept line brings.0 kept input output brings.1 brings.2.0 brings.2.1);
+        (same_by_part 6144 (list_all is_accepted) list_all-kept line brings.0 kept input output brings.1 brings.2.0 brings.2.1);
   },
 )
 
@@ -125,12 +126,12 @@ Moves-line setup ended now line kept (Some input) (Some output) old new brings a
         lines_between = λ others later answers.
             let rest_answers = subst (λ (ls : List (List ℕ)). AreAnswers setup now.picture ls others later) (onto_first-nil output) answers in
             let rest_shown = subst (λ (shown : List Observation). AreAnswers setup shown (lines_of output) others later) answered.5 rest_answers in
-            with_line (λ (ls : List (List ℕ)). AreAnswers setup ended.picture ls (one || others) (text ++ later)) (AreAnswers-kept setup ended.picture (one || others) (text ++ later)) line front kept input output split brings.2.2 brings.2.3
+            with_line 6144 (λ (ls : List (List ℕ)). AreAnswers setup ended.picture ls (one || others) (text ++ later)) (AreAnswers-kept setup ended.picture (one || others) (text ++ later)) line front kept input output split brings.2.2 brings.2.3
             (one, others, text, later, refl, refl, answered.3, rest_shown);
         same_end = λ others. ap (λ (ls : List (List ℕ)). ended_after now.ended ls others) (onto_first-nil output)
             ∙ ended_more ended.ended now.ended kept (lines_of output) one others answered.4
             ∙ ap (λ (b : Bool). cond (one || others) ShortOfMemory (cond b ended.ended (refused_after ended.ended)))
-            (same_by_line (list_all is_accepted) list_all-kept line front kept input output split brings.2.2 brings.2.3);
+            (same_by_line 6144 (list_all is_accepted) list_all-kept line front kept input output split brings.2.2 brings.2.3);
       },
     )
 
@@ -148,11 +149,11 @@ Moves-end setup ended now line kept last (Some input) (Some output) old new brin
         text = text;
         written = answered.2;
         lines_between = λ others later none.
-            with_end (λ (ls : List (List ℕ)). AreAnswers setup ended.picture ls (one || others) (text ++ later)) (AreAnswers-kept setup ended.picture (one || others) (text ++ later)) line kept input brings.0 brings.2
+            with_end 6144 (λ (ls : List (List ℕ)). AreAnswers setup ended.picture ls (one || others) (text ++ later)) (AreAnswers-kept setup ended.picture (one || others) (text ++ later)) line kept input brings.0 brings.2
             (one, others, text, later, refl, refl, answered.3, none);
         same_end = λ others. ended_more ended.ended now.ended kept [] one others answered.4
             ∙ ap (λ (b : Bool). cond (one || others) ShortOfMemory (cond b ended.ended (refused_after ended.ended)))
-            (same_by_end (list_all is_accepted) list_all-kept line kept input brings.0 brings.2);
+            (same_by_end 6144 (list_all is_accepted) list_all-kept line kept input brings.0 brings.2);
       },
     )
 

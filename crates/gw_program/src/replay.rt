@@ -2,7 +2,8 @@
 ghost use Rattle.std.specs.Prelude.{◌≡◌, ◌≤◌, ◌<◌, ◌+◌, ◌^◌, ℕ, List, IfOk, IfSome, OnOk, option_map};
 ghost use Rattle.std.specs.Io.KnownBytes.{Appends};
 ghost use Rattle.gw_lines.specs.Instructions.{IsShort, meant};
-ghost use Rattle.gw_program.specs.Replay.{AnswersLine, Plays, asked_in, ended_with, played_text};
+ghost use Rattle.gw_program.specs.Answers.{lines_of};
+ghost use Rattle.gw_program.specs.Replay.{AnswersInput, AnswersLine, AnswersLines, Moves, Place, Plays, asked_in, beginning, ended_with, place, played_text};
 
 use crate::reading::{Ended, Piece, Stop, read_piece, status_of};
 use dnp_app::{AppFault, read_response};
@@ -141,7 +142,14 @@ impl Player {
         line: &mut Line<KEPT>,
         reader: &mut R,
         writer: &mut W,
-    ) -> Result<bool, Stop> {
+    ) -> Result<bool, Stop>
+        ensures counted { self.old.lines + 1 < 2 ^ 64 → OnOk result (self.new.lines ≤ self.old.lines + 1) }
+        ensures moves { self.old.lines + 1 < 2 ^ 64 → IfOk result (λ goes_on. Moves goes_on
+            (place self.old.lines self.old.hub self.old.ended) (place self.new.lines self.new.hub self.new.ended)
+            line.old line.new
+            (R.remaining reader.old) (R.remaining reader.new)
+            (W.contents writer.old) (W.contents writer.new)) }
+    {
         match read_piece(reader, line)? {
             Piece::Nothing | Piece::Part => Ok(true),
             Piece::Line => {
@@ -163,7 +171,10 @@ fn run<R: BufRead, W: Write>(
     settings: Settings,
     reader: &mut R,
     writer: &mut W,
-) -> Result<Ended, Stop> {
+) -> Result<Ended, Stop>
+    ensures answers { IfOk result (λ ended. IfSome (R.remaining reader.old) (λ input.
+        AnswersInput settings input ended (W.contents writer.old) (W.contents writer.new))) }
+{
     let mut line = Line::<KEPT>::new(alloc)?;
     let mut player = Player {
         alloc,
@@ -172,7 +183,7 @@ fn run<R: BufRead, W: Write>(
         lines: 0,
         ended: Ended::Fine,
     };
-    for _ in 0..u32::MAX {
+    for _read in 0..u32::MAX {
         if !player.go_on(&mut line, reader, writer)? {
             return Ok(player.ended);
         }
@@ -192,6 +203,8 @@ pub fn replay<R: BufRead + Drop, W: Write + Drop>(
     writer: W,
 ) -> u8
     ensures few { result ≤ 1 }
+    ensures fine { IfSome (R.remaining reader) (λ input. result ≡ 0 → (last : Place) × (text : List ℕ)
+        × (last.ended ≡ Ended.Fine) × AnswersLines (lines_of input) (beginning settings) last text) }
 {
     let mut reader = reader;
     let mut writer = writer;
