@@ -3,3 +3,6 @@ pub mod Keys
 pub mod Fit
 pub mod Show
 pub mod Rows
+pub mod Outcome
+pub mod Optional
+pub mod Places

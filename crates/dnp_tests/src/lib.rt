@@ -1,0 +1,2 @@
+//! Tests of the DNP3 layers through their public calls.
+#![tactic(auto)]

@@ -1,0 +1,2 @@
+//! Tests of the gateway's own layers through their public calls.
+#![tactic(auto)]

@@ -1,0 +1,2 @@
+//! Tests of the layers of IEC 60870-5-101 and -104 through their public calls.
+#![tactic(auto)]
