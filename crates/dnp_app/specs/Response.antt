@@ -18,6 +18,10 @@ pub record Fragment : Type 0 where
 abbrev pub is_response : List ℕ → Bool
 is_response octets = (slice_index octets 1 == 129) || (slice_index octets 1 == 130)
 
+-- function 130 is an unsolicited response
+abbrev pub is_unsolicited : Fragment → Bool
+is_unsolicited f = slice_index f.octets 1 == 130
+
 -- the octets are a response that reports this
 pub record IsResponse (f : Fragment) : Type 0 where
   pub long : 4 ≤ length f.octets
@@ -42,6 +46,13 @@ response_of outstation octets =
     if nat_lt (length octets) 4 then Err Short
     else if is_response octets then with_reports outstation octets (meaning_of outstation (drop 4 octets))
     else Err NotResponse
+
+-- octets are refused for this fault: the first that reading meets; memory runs out only where a header of a response is stored
+abbrev pub IsRefused : ℕ → AppFault → List ℕ → Type 0
+IsRefused outstation Memory octets = StoresHeader octets
+IsRefused outstation Short octets = response_of outstation octets ≡ Err Short
+IsRefused outstation NotResponse octets = response_of outstation octets ≡ Err NotResponse
+IsRefused outstation (Object e) octets = response_of outstation octets ≡ Err (Object e)
 
 -- what a function returned, seen by view, is what reading gives, unless memory ran out
 abbrev pub Gives : {X Y : Type 0} → (X → Y) → Result X AppFault → Result Y AppFault → Type 0
