@@ -5,15 +5,15 @@ use Rattle.std.proofs.lemmas.Bool.{and_parts, cases_Bool, cases_eq, ne_eqb, eq-e
 use Rattle.std.proofs.lemmas.Slice.Eq.{bytes_eq-Decides}
 use Rattle.gw_model.specs.declared.observation.Observation.{Observation}
 use Rattle.gw_model.specs.Rows.{Setup, is_point_map}
-use Rattle.dnp_app.specs.Response.{Fragment}
+use Rattle.dnp_app.specs.Response.{Fragment, is_unsolicited}
 use Rattle.gw_picture.specs.Log.{picture_of}
-use Rattle.gw_picture.specs.Change.{change}
+use Rattle.gw_model.specs.Places.{change}
 use Rattle.gw_hub.specs.declared.step.Step.{Step}
 use Rattle.gw_hub.specs.declared.step.Step.TheVariants as steps
 use Rattle.gw_hub.specs.declared.step.Reply.{Reply}
 use Rattle.gw_hub.specs.State.{State, Outstation, Link}
 use Rattle.gw_picture.specs.News.{news_of, picture_after}
-use Rattle.gw_hub.specs.Steps.{is_unsolicited, is_last, accepts, came, came_to_session, fragment_outcome, outcome, counted, taken, fragment_after, after}
+use Rattle.gw_hub.specs.Steps.{is_last, accepts, client_with_news, session_with_news, fragment_outcome, outcome, state_with_step, state_after_response, state_after_fragment, after}
 use Rattle.gw_hub.specs.History.{Entry, log_of, last_text, is_accepted, news_after_log}
 use Rattle.gw_hub.specs.Headline.{link_session}
 use Rattle.gw_hub.specs.Sound.{IsSound}
@@ -37,7 +37,7 @@ not_accepted false l e n = absurd cc
 pub same_accepted : (past : List Entry) (f : Fragment) (x : Outstation) → x.last ≡ last_text f.outstation past → accepts x f ≡ is_accepted past f
 same_accepted past f x e = ap (λ (last : Option (List ℕ)). is_unsolicited f && not (is_last last f.octets)) e
 
-came_session : (xs : List Observation) (x : Option (Option Link)) → link_session (option_map (came xs) x) ≡ came_to_session xs (link_session x)
+came_session : (xs : List Observation) (x : Option (Option Link)) → link_session (option_map (client_with_news xs) x) ≡ session_with_news xs (link_session x)
 came_session xs None = refl
 came_session xs (Some None) = refl
 came_session xs (Some (Some link)) = refl
@@ -56,7 +56,7 @@ own_last : (past : List Entry) (f : Fragment) (m : ℕ) (r : Reply) → is_unsol
 own_last past f m r e = rw (eq-eqb f.outstation f.outstation refl, e) refl
 
 taken_tied : (setup : Setup) (past : List Entry) (f : Fragment) (m : ℕ) (r : Reply) (s : State) → is_point_map setup.rows ≡ true → is_accepted past f ≡ true → Tied setup past s
-    → Tied setup (entry (steps.Fragment f m) (Ok r) ∷ past) (counted (taken setup s f))
+    → Tied setup (entry (steps.Fragment f m) (Ok r) ∷ past) (state_with_step (state_after_response setup s f))
 taken_tied setup past f m r s map_is takes tied =
     let step : Step = steps.Fragment f m in
     let log : List Observation = log_of setup past in
@@ -77,13 +77,13 @@ taken_tied setup past f m r s map_is takes tied =
       clients = λ c.
           let ys : List Observation = news_of setup.offset setup.rows s.picture f.reports in
           let idle = client_idle setup c past step (Ok r) ys (link_session (slice_get s.clients c)) refl refl (came_in ∙ sym told) refl (tied.clients c) in
-          rw (map-get (came ys) s.clients c, came_session ys (slice_get s.clients c)) idle;
+          rw (map-get (client_with_news ys) s.clients c, came_session ys (slice_get s.clients c)) idle;
     }
 
 -- ---- a fragment that isn't accepted
 
 left_tied : (setup : Setup) (past : List Entry) (f : Fragment) (m : ℕ) (r : Reply) (s : State) (x : Outstation) → slice_get s.outstations f.outstation ≡ Some (Some x)
-    → x.last ≡ last_text f.outstation past → accepts x f ≡ false → Tied setup past s → Tied setup (entry (steps.Fragment f m) (Ok r) ∷ past) (counted s)
+    → x.last ≡ last_text f.outstation past → accepts x f ≡ false → Tied setup past s → Tied setup (entry (steps.Fragment f m) (Ok r) ∷ past) (state_with_step s)
 left_tied setup past f m r s x at last left tied =
     let step : Step = steps.Fragment f m in
     let none : brought setup past step (Ok r) ≡ [] = rw (sym (same_accepted past f x last) ∙ left) refl in
@@ -105,7 +105,7 @@ left_tied setup past f m r s x at last left tied =
 
 fragment_at : (setup : Setup) (past : List Entry) (f : Fragment) (m : ℕ) (r : Reply) (s : State) (found : Option (Option Outstation)) → is_point_map setup.rows ≡ true
     → slice_get s.outstations f.outstation ≡ found → fragment_outcome setup s f found ≡ Ok r → Tied setup past s
-    → Tied setup (entry (steps.Fragment f m) (Ok r) ∷ past) (counted (fragment_after setup s f found))
+    → Tied setup (entry (steps.Fragment f m) (Ok r) ∷ past) (state_with_step (state_after_fragment setup s f found))
 fragment_at setup past f m r s None map_is at e tied = absurd cc
 fragment_at setup past f m r s (Some None) map_is at e tied = absurd cc
 fragment_at setup past f m r s (Some (Some x)) map_is at e tied =

@@ -4,6 +4,5 @@ pub mod Tied
 pub mod StepTies
 pub mod FragmentTies
 pub mod Runs
-pub mod Buffers
 pub mod Seats
 pub mod Taking

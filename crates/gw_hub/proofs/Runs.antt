@@ -5,9 +5,11 @@ use Rattle.std.specs.Prelude.{slice_get, IfSome, is_some}
 use Rattle.gw_model.specs.declared.observation.Observation.{Observation}
 use Rattle.gw_model.specs.Rows.{Setup, is_point_map}
 use Rattle.dnp_app.specs.Control.{confirm_of}
-use Rattle.dnp_app.specs.Response.{Fragment}
-use Rattle.gw_hub.specs.declared.apdu.Apdu.TheVariants.{U}
-use Rattle.gw_hub.specs.declared.apdu.Signal.TheVariants.{StartAct}
+use Rattle.dnp_app.specs.Response.{Fragment, is_unsolicited}
+use Rattle.iec_apci.specs.declared.apdu.Apdu.{Apdu}
+use Rattle.iec_apci.specs.declared.apdu.Signal.TheVariants.{StartCon}
+use Rattle.iec_apci.specs.Apdu.{Unnumbered}
+use Rattle.iec_apci.specs.Buffer.{buffer_of}
 use Rattle.gw_hub.specs.declared.step.Step.{Step}
 use Rattle.gw_hub.specs.declared.step.Step.TheVariants as steps
 use Rattle.gw_hub.specs.declared.step.Reply.{Reply}
@@ -18,7 +20,7 @@ use Rattle.gw_hub.specs.declared.step.StepFault.{StepFault}
 use Rattle.gw_hub.specs.declared.step.Why.TheVariants.{Flooded}
 use Rattle.gw_hub.specs.State.{State, Outstation, Session, Link, at_first}
 use Rattle.gw_picture.specs.News.{news_of}
-use Rattle.gw_hub.specs.Steps.{is_unsolicited, is_last, accepts, verdict_of, frame_reply, pump_reply, pump_session, pump_queue, buffer, start_con, up_outcome, fragment_outcome, client_outcome, outcome, after, Allowed}
+use Rattle.gw_hub.specs.Steps.{is_last, accepts, verdict_of, reply_to_start, pump_reply, pump_session, pump_queue, is_start, reply_to_apdu, up_outcome, fragment_outcome, client_outcome, outcome, after, Allowed}
 use Rattle.gw_hub.specs.History.{Entry, history, last_text, is_started}
 use Rattle.gw_hub.specs.Headline.{link_session, state_after, IsRun, TellsNews, QuietLast, Confirms, ConfirmsLast, Holds, AtEach}
 use Rattle.gw_hub.specs.Sound.{IsSound, EachSound}
@@ -70,16 +72,20 @@ client_confirms setup past c m r s absent (Some None) e =
     subst (λ (y : Reply). Confirms setup (steps.ClientUp c m) (Ok y) past) (spent_is (ltb (s.steps + 1) (2 ^ 64) && ltb (s.news + 0) (2 ^ 64)) replies.Done r e) tt
 client_confirms setup past c m r s absent (Some (Some x)) e = absurd cc
 
-frame_none : (setup : Setup) (past : List Entry) (c m : ℕ) (b : Bool) → Confirms setup (steps.Frame c (U StartAct) m) (Ok (cond b replies.Taken (replies.Closed Flooded))) past
-frame_none setup past c m true = tt
-frame_none setup past c m false = tt
+frame_none : (setup : Setup) (past : List Entry) (c m : ℕ) (a : Apdu) (starts room : Bool)
+    → Confirms setup (steps.Frame c a m) (Ok (cond starts (cond room replies.Taken (replies.Closed Flooded)) replies.Taken)) past
+frame_none setup past c m a true true = tt
+frame_none setup past c m a true false = tt
+frame_none setup past c m a false room = tt
 
-frame_confirms : (setup : Setup) (past : List Entry) (c m : ℕ) (r : Reply) (s : State) (found : Option (Option Link)) → client_outcome s frame_reply found ≡ Ok r
-    → Confirms setup (steps.Frame c (U StartAct) m) (Ok r) past
-frame_confirms setup past c m r s None e = absurd cc
-frame_confirms setup past c m r s (Some None) e = absurd cc
-frame_confirms setup past c m r s (Some (Some link)) e =
-    subst (λ (y : Reply). Confirms setup (steps.Frame c (U StartAct) m) (Ok y) past) (spent_is (ltb (s.steps + 1) (2 ^ 64) && ltb (s.news + 0) (2 ^ 64)) (frame_reply link) r e) (frame_none setup past c m (ltb link.confirmations 32))
+frame_confirms : (setup : Setup) (past : List Entry) (c m : ℕ) (a : Apdu) (r : Reply) (s : State) (found : Option (Option Link))
+    → client_outcome s (reply_to_apdu a) found ≡ Ok r → Confirms setup (steps.Frame c a m) (Ok r) past
+frame_confirms setup past c m a r s None e = absurd cc
+frame_confirms setup past c m a r s (Some None) e = absurd cc
+frame_confirms setup past c m a r s (Some (Some link)) e =
+    subst (λ (y : Reply). Confirms setup (steps.Frame c a m) (Ok y) past)
+    (spent_is (ltb (s.steps + 1) (2 ^ 64) && ltb (s.news + 0) (2 ^ 64)) (reply_to_apdu a link) r e)
+    (frame_none setup past c m a (is_start a) (ltb link.confirmations 32))
 
 queue_none : (setup : Setup) (past : List Entry) (offset : ℤ) (c m common ns : ℕ) (queue : List Observation) → Confirms setup (steps.Pump c m) (Ok (pump_queue offset common ns queue)) past
 queue_none setup past offset c m common ns [] = tt
@@ -90,7 +96,7 @@ session_none setup past offset c m common ns None = tt
 session_none setup past offset c m common ns (Some k) = queue_none setup past offset c m common ns k.queue
 
 pump_none : (setup : Setup) (past : List Entry) (c m : ℕ) (link : Link) (b : Bool)
-    → Confirms setup (steps.Pump c m) (Ok (cond b (pump_session setup.offset setup.common_address link.next_send link.session) (replies.Apdu (buffer start_con)))) past
+    → Confirms setup (steps.Pump c m) (Ok (cond b (pump_session setup.offset setup.common_address link.next_send link.session) (replies.Apdu (buffer_of (Unnumbered StartCon))))) past
 pump_none setup past c m link true = session_none setup past setup.offset c m setup.common_address link.next_send link.session
 pump_none setup past c m link false = tt
 
@@ -106,7 +112,7 @@ confirms : (setup : Setup) (past : List Entry) (step : Step) (r : Reply) (s : St
 confirms setup past (steps.OutstationUp o m) r s e tied = up_confirms setup past o m r s _ (slice_get s.outstations o) e
 confirms setup past (steps.Fragment f m) r s e tied = fragment_confirms setup past f m r s (slice_get s.outstations f.outstation) (tied.outstations f.outstation) e
 confirms setup past (steps.ClientUp c m) r s e tied = client_confirms setup past c m r s _ (slice_get s.clients c) e
-confirms setup past (steps.Frame c (U StartAct) m) r s e tied = frame_confirms setup past c m r s (slice_get s.clients c) e
+confirms setup past (steps.Frame c a m) r s e tied = frame_confirms setup past c m a r s (slice_get s.clients c) e
 confirms setup past (steps.Pump c m) r s e tied = pump_confirms setup past c m r s (slice_get s.clients c) e
 
 fault_confirms : (setup : Setup) (past : List Entry) (step : Step) (f : StepFault) → Confirms setup step (Err f) past

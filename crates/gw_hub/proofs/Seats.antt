@@ -4,7 +4,7 @@ use Rattle.std.specs.Prelude.{slice_get}
 use Rattle.std.specs.List.{AllByRecursion}
 use Rattle.std.proofs.Math.ListN.{set}
 use Rattle.std.proofs.lemmas.List.Edits.{map_over_more}
-use Rattle.gw_picture.specs.Change.{change}
+use Rattle.gw_model.specs.Places.{change}
 use Rattle.gw_hub.specs.State.{Link}
 use Rattle.gw_hub.specs.Seats.{Seat, link_of, links_of}
 use Rattle.gw_picture.proofs.Lists.{change-past}

@@ -1,18 +1,23 @@
 -- Each kind of step keeps what ties the state to the history.
 use Rattle.std.proofs.Common.{◌≡◌, ℕ, ℤ, ◌+◌, ◌-◌, ◌*◌, ◌%◌, ◌^◌, ◌<◌, Bool, true, false, ◌&&◌, ◌==◌, cond, eqb, ltb, List, [], ◌∷◌, ◌++◌, length, take, Option, Some, None, Result, Ok, Err, refl, sym, ap, subst, ◌∙◌, arith, inl, inr}
 use Rattle.std.specs.Prelude.{slice_get, option_map, IfSome, replicate}
-use Rattle.std.specs.List.{AllByRecursion}
-use Rattle.std.proofs.lemmas.Bool.{cases_eq, ne_eqb, eq-eqb, true≢false}
+use Rattle.std.specs.List.{AllByRecursion, flat_map}
+use Rattle.std.proofs.lemmas.Bool.{cases_Bool, cases_eq, ne_eqb, eq-eqb, true≢false}
 use Rattle.std.proofs.lemmas.List.{append-nil, take_at}
 use Rattle.gw_model.specs.declared.observation.Observation.{Observation}
 use Rattle.gw_model.specs.Rows.{Setup}
 use Rattle.iec_asdu.specs.Spelling.{spelling}
 use Rattle.iec_asdu.proofs.Meant.{meant}
+use Rattle.iec_asdu.proofs.Lengths.{spelling_short}
 use Rattle.gw_picture.specs.Log.{picture_of}
-use Rattle.gw_picture.specs.Change.{change}
-use Rattle.gw_hub.specs.declared.apdu.Apdu.{Apdu}
-use Rattle.gw_hub.specs.declared.apdu.Apdu.TheVariants.{U}
-use Rattle.gw_hub.specs.declared.apdu.Signal.TheVariants.{StartAct}
+use Rattle.gw_model.specs.Places.{change}
+use Rattle.iec_apci.specs.declared.apdu.Apdu.{Apdu}
+use Rattle.iec_apci.specs.declared.apdu.Signal.TheVariants.{StartCon}
+use Rattle.iec_apci.specs.Apdu.{Content, Information, Unnumbered, Fits, apdu as octets_of}
+use Rattle.iec_apci.specs.Buffer.{buffer, buffer_of}
+use Rattle.iec_apci.specs.Stream.{Reading, reading}
+use Rattle.iec_apci.proofs.Drained.{reading_nil}
+use Rattle.iec_apci.proofs.Round.{reading-apdu}
 use Rattle.gw_hub.specs.declared.step.Step.{Step}
 use Rattle.gw_hub.specs.declared.step.Step.TheVariants as steps
 use Rattle.gw_hub.specs.declared.step.Reply.{Reply}
@@ -21,8 +26,8 @@ use Rattle.gw_hub.specs.declared.step.StepFault.{StepFault}
 use Rattle.gw_hub.specs.declared.step.StepFault.TheVariants.{NoClient, Spent}
 use Rattle.gw_hub.specs.declared.step.Why.TheVariants.{Flooded}
 use Rattle.gw_hub.specs.State.{State, Outstation, Session, Link}
-use Rattle.gw_hub.specs.Steps.{framed, begun, frame_reply, pumped, put_out as after_put, tail_of, pump_reply, pump_session, pump_queue, buffer, start_con, i_format, client_outcome, up_outcome, outcome, after}
-use Rattle.gw_hub.specs.History.{Entry, log_of, last_after, last_text, begins, ends, is_started, spontaneous}
+use Rattle.gw_hub.specs.Steps.{client_after_start, session_after_start, reply_to_start, client_after_pump, link_after_news as after_put, tail_of, pump_reply, pump_session, pump_queue, is_start, reply_to_apdu, new_link, news_content, state_with_step, client_outcome, up_outcome, outcome, after}
+use Rattle.gw_hub.specs.History.{Entry, log_of, last_after, last_text, begins, ends, is_started, spontaneous_by, spontaneous_in}
 use Rattle.gw_hub.specs.Headline.{link_session}
 use Rattle.gw_hub.specs.Sound.{IsSendable, IsSound}
 use Rattle.gw_picture.proofs.Lists.{change-here, change-there}
@@ -62,7 +67,7 @@ pub fault_tied : (setup : Setup) (past : List Entry) (step : Step) (f : StepFaul
 fault_tied setup past (steps.OutstationUp o m) f s tied = quiet setup past (steps.OutstationUp o m) (Err f) s refl (λ o last. refl) (λ c. refl) (λ c. refl) (λ c. refl) tied
 fault_tied setup past (steps.Fragment x m) f s tied = quiet setup past (steps.Fragment x m) (Err f) s refl (λ o last. refl) (λ c. refl) (λ c. refl) (λ c. refl) tied
 fault_tied setup past (steps.ClientUp c m) f s tied = quiet setup past (steps.ClientUp c m) (Err f) s refl (λ o last. refl) (λ c. refl) (λ c. refl) (λ c. refl) tied
-fault_tied setup past (steps.Frame c (U StartAct) m) f s tied = quiet setup past (steps.Frame c (U StartAct) m) (Err f) s refl (λ o last. refl) (λ c. refl) (λ c. refl) (λ c. refl) tied
+fault_tied setup past (steps.Frame c a m) f s tied = quiet setup past (steps.Frame c a m) (Err f) s refl (λ o last. refl) (λ c. refl) (λ c. refl) (λ c. refl) tied
 fault_tied setup past (steps.Pump c m) f s tied = quiet setup past (steps.Pump c m) (Err f) s refl (λ o last. refl) (λ c. refl) (λ c. refl) (λ c. refl) tied
 
 -- ---- a step of one client
@@ -83,7 +88,7 @@ one_client setup past step reply s n c f none lasts no_end no_begin no_put own t
 
 -- ---- ClientUp
 
-fresh_session : (x : Option (Option Link)) → link_session (option_map (λ (_ : Option Link). Some (record { confirmations = 0; next_send = 0; session = None })) x) ≡ None
+fresh_session : (x : Option (Option Link)) → link_session (option_map (λ (_ : Option Link). Some new_link) x) ≡ None
 fresh_session None = refl
 fresh_session (Some x) = refl
 
@@ -95,7 +100,7 @@ client_up_at setup past c m r s (Some None) at e tied =
     let step : Step = steps.ClientUp c m in
     let down : ClientTied setup c past None = subst (λ (x : Option (Option Link)). ClientTied setup c past (link_session x)) at (tied.clients c) in
     let own : ClientTied setup c (entry step (Ok r) ∷ past) None = client_quiet setup c past step (Ok r) None refl refl refl refl down in
-    one_client setup past step (Ok r) s (s.steps + 1) c (λ _. Some (record { confirmations = 0; next_send = 0; session = None })) refl (λ o last. refl)
+    one_client setup past step (Ok r) s (s.steps + 1) c (λ _. Some new_link) refl (λ o last. refl)
     (λ d ne. refl) (λ d ne. refl) (λ d ne. refl) (rw (fresh_session (slice_get s.clients c)) own) tied
 
 pub client_up : (setup : Setup) (past : List Entry) (c m : ℕ) (r : Reply) (s : State) → outcome setup s (steps.ClientUp c m) ≡ Ok r → Tied setup past s
@@ -105,40 +110,66 @@ client_up setup past c m r s e tied = client_up_at setup past c m r s (slice_get
 -- ---- Frame
 
 -- what becomes of the session of a client whose STARTDT act is taken
-begun_tied : (setup : Setup) (past : List Entry) (c m : ℕ) (k : Option Session) → ClientTied setup c past k
-    → ClientTied setup c (entry (steps.Frame c (U StartAct) m) (Ok replies.Taken) ∷ past) (begun k)
-begun_tied setup past c m None tied = client_begin setup c past (steps.Frame c (U StartAct) m) (Ok replies.Taken) refl (eq-eqb c c refl) tied
-begun_tied setup past c m (Some k) tied = session_quiet setup c past (steps.Frame c (U StartAct) m) (Ok replies.Taken) k refl refl refl tied
+begun_tied : (setup : Setup) (past : List Entry) (c m : ℕ) (a : Apdu) (k : Option Session) → is_start a ≡ true → ClientTied setup c past k
+    → ClientTied setup c (entry (steps.Frame c a m) (Ok replies.Taken) ∷ past) (session_after_start k)
+begun_tied setup past c m a None starts tied =
+    client_begin setup c past (steps.Frame c a m) (Ok replies.Taken) refl (rw (starts, eq-eqb c c refl) refl) tied
+begun_tied setup past c m a (Some k) starts tied = session_quiet setup c past (steps.Frame c a m) (Ok replies.Taken) k refl refl refl tied
 
-frame_own : (setup : Setup) (past : List Entry) (c m : ℕ) (r : Reply) (link : Link) (b : Bool) → cond b replies.Taken (replies.Closed Flooded) ≡ r → ClientTied setup c past link.session
-    → ClientTied setup c (entry (steps.Frame c (U StartAct) m) (Ok r) ∷ past)
-    (link_session (Some (cond b (Some (record link { confirmations = link.confirmations + 1; session = begun link.session })) None)))
-frame_own setup past c m r link true e tied =
-    subst (λ (x : Reply). ClientTied setup c (entry (steps.Frame c (U StartAct) m) (Ok x) ∷ past) (begun link.session)) e (begun_tied setup past c m link.session tied)
-frame_own setup past c m r link false e tied =
-    subst (λ (x : Reply). ClientTied setup c (entry (steps.Frame c (U StartAct) m) (Ok x) ∷ past) None) e
-    (client_end setup c past (steps.Frame c (U StartAct) m) (Ok (replies.Closed Flooded)) (eq-eqb c c refl))
+start_own : (setup : Setup) (past : List Entry) (c m : ℕ) (a : Apdu) (r : Reply) (link : Link) (b : Bool) → is_start a ≡ true
+    → cond b replies.Taken (replies.Closed Flooded) ≡ r → ClientTied setup c past link.session
+    → ClientTied setup c (entry (steps.Frame c a m) (Ok r) ∷ past)
+    (link_session (Some (cond b (Some (record link { confirmations = link.confirmations + 1; session = session_after_start link.session })) None)))
+start_own setup past c m a r link true starts e tied =
+    subst (λ (x : Reply). ClientTied setup c (entry (steps.Frame c a m) (Ok x) ∷ past) (session_after_start link.session)) e
+    (begun_tied setup past c m a link.session starts tied)
+start_own setup past c m a r link false starts e tied =
+    subst (λ (x : Reply). ClientTied setup c (entry (steps.Frame c a m) (Ok x) ∷ past) None) e
+    (client_end setup c past (steps.Frame c a m) (Ok (replies.Closed Flooded)) (eq-eqb c c refl))
 
-frame_apart : (c d m : ℕ) (r : Reply) (b : Bool) → cond b replies.Taken (replies.Closed Flooded) ≡ r → (c ≡ d → ⊥)
-    → (ends d (steps.Frame c (U StartAct) m) (Ok r) ≡ false) × (begins d (steps.Frame c (U StartAct) m) (Ok r) ≡ false)
-frame_apart c d m r true e ne = subst (λ (x : Reply). (ends d (steps.Frame c (U StartAct) m) (Ok x) ≡ false) × (begins d (steps.Frame c (U StartAct) m) (Ok x) ≡ false)) e (refl, ne_eqb c d ne)
-frame_apart c d m r false e ne = subst (λ (x : Reply). (ends d (steps.Frame c (U StartAct) m) (Ok x) ≡ false) × (begins d (steps.Frame c (U StartAct) m) (Ok x) ≡ false)) e (ne_eqb c d ne, refl)
+-- neither ends nor begins a session
+abbrev Leaves : ℕ → Step → Reply → Type 0
+Leaves d step r = (ends d step (Ok r) ≡ false) × (begins d step (Ok r) ≡ false)
 
-frame_at : (setup : Setup) (past : List Entry) (c m : ℕ) (r : Reply) (s : State) (found : Option (Option Link)) → slice_get s.clients c ≡ found
-    → client_outcome s frame_reply found ≡ Ok r → Tied setup past s → Tied setup (entry (steps.Frame c (U StartAct) m) (Ok r) ∷ past) (after setup s (steps.Frame c (U StartAct) m))
-frame_at setup past c m r s None at e tied = absurd cc
-frame_at setup past c m r s (Some None) at e tied = absurd cc
-frame_at setup past c m r s (Some (Some link)) at e tied =
-    let step : Step = steps.Frame c (U StartAct) m in
-    let reply : frame_reply link ≡ r = spent_is (ltb (s.steps + 1) (2 ^ 64) && ltb (s.news + 0) (2 ^ 64)) (frame_reply link) r e in
+start_apart : (c d m : ℕ) (a : Apdu) (r : Reply) (b : Bool) → is_start a ≡ true → cond b replies.Taken (replies.Closed Flooded) ≡ r → (c ≡ d → ⊥)
+    → Leaves d (steps.Frame c a m) r
+start_apart c d m a r true starts e ne = subst (Leaves d (steps.Frame c a m)) e (refl, rw (starts, ne_eqb c d ne) refl)
+start_apart c d m a r false starts e ne = subst (Leaves d (steps.Frame c a m)) e (ne_eqb c d ne, refl)
+
+start_at : (setup : Setup) (past : List Entry) (c m : ℕ) (a : Apdu) (r : Reply) (s : State) (link : Link) → is_start a ≡ true
+    → slice_get s.clients c ≡ Some (Some link) → reply_to_start link ≡ r → Tied setup past s
+    → Tied setup (entry (steps.Frame c a m) (Ok r) ∷ past) (state_with_step (record s { clients = change c client_after_start s.clients }))
+start_at setup past c m a r s link starts at reply tied =
+    let step : Step = steps.Frame c a m in
+    let room = ltb link.confirmations 32 in
     let before : ClientTied setup c past link.session = subst (λ (x : Option (Option Link)). ClientTied setup c past (link_session x)) at (tied.clients c) in
-    let own = frame_own setup past c m r link (ltb link.confirmations 32) reply before in
-    one_client setup past step (Ok r) s (s.steps + 1) c framed refl (λ o last. refl)
-    (λ d ne. (frame_apart c d m r (ltb link.confirmations 32) reply ne).0) (λ d ne. (frame_apart c d m r (ltb link.confirmations 32) reply ne).1) (λ d ne. refl) (rw at own) tied
+    let own = start_own setup past c m a r link room starts reply before in
+    one_client setup past step (Ok r) s (s.steps + 1) c client_after_start refl (λ o last. refl)
+    (λ d ne. (start_apart c d m a r room starts reply ne).0) (λ d ne. (start_apart c d m a r room starts reply ne).1) (λ d ne. refl) (rw at own) tied
 
-pub frame : (setup : Setup) (past : List Entry) (c m : ℕ) (apdu : Apdu) (r : Reply) (s : State) → outcome setup s (steps.Frame c apdu m) ≡ Ok r → Tied setup past s
-    → Tied setup (entry (steps.Frame c apdu m) (Ok r) ∷ past) (after setup s (steps.Frame c apdu m))
-frame setup past c m (U StartAct) r s e tied = frame_at setup past c m r s (slice_get s.clients c) refl e tied
+-- an APDU that is not acted on
+other_at : (setup : Setup) (past : List Entry) (c m : ℕ) (a : Apdu) (r : Reply) (s : State) → is_start a ≡ false → replies.Taken ≡ r → Tied setup past s
+    → Tied setup (entry (steps.Frame c a m) (Ok r) ∷ past) (state_with_step s)
+other_at setup past c m a r s other reply tied =
+    subst (λ (x : Reply). Tied setup (entry (steps.Frame c a m) (Ok x) ∷ past) (state_with_step s)) reply
+    (let kept = quiet setup past (steps.Frame c a m) (Ok replies.Taken) s refl (λ o last. refl) (λ d. refl) (λ d. rw other refl) (λ d. refl) tied in
+    record { picture = kept.picture; outstations = kept.outstations; clients = kept.clients })
+
+frame_at : (setup : Setup) (past : List Entry) (c m : ℕ) (a : Apdu) (r : Reply) (s : State) (found : Option (Option Link)) → slice_get s.clients c ≡ found
+    → client_outcome s (reply_to_apdu a) found ≡ Ok r → Tied setup past s
+    → Tied setup (entry (steps.Frame c a m) (Ok r) ∷ past) (after setup s (steps.Frame c a m))
+frame_at setup past c m a r s None at e tied = absurd cc
+frame_at setup past c m a r s (Some None) at e tied = absurd cc
+frame_at setup past c m a r s (Some (Some link)) at e tied =
+    let reply : reply_to_apdu a link ≡ r = spent_is (ltb (s.steps + 1) (2 ^ 64) && ltb (s.news + 0) (2 ^ 64)) (reply_to_apdu a link) r e in
+    elim (cases_Bool (is_start a)) [
+      | inl starts ↦ rw starts (start_at setup past c m a r s link starts at (sym (rw starts refl) ∙ reply) tied)
+      | inr other ↦ rw other (other_at setup past c m a r s other (sym (rw other refl) ∙ reply) tied)
+    ]
+
+pub frame : (setup : Setup) (past : List Entry) (c m : ℕ) (a : Apdu) (r : Reply) (s : State) → outcome setup s (steps.Frame c a m) ≡ Ok r → Tied setup past s
+    → Tied setup (entry (steps.Frame c a m) (Ok r) ∷ past) (after setup s (steps.Frame c a m))
+frame setup past c m a r s e tied = frame_at setup past c m a r s (slice_get s.clients c) refl e tied
 
 -- ---- Pump
 
@@ -146,22 +177,30 @@ frame setup past c m (U StartAct) r s e tied = frame_at setup past c m r s (slic
 buffered : (octets : List ℕ) → take (length octets) (octets ++ replicate (255 - length octets) 0) ≡ octets
 buffered octets = take_at octets (replicate (255 - length octets) 0) (length octets) refl
 
-even : (n : ℕ) → eqb (((2 * n) % 256) % 2) 0 ≡ true
-even n = eq-eqb (((2 * n) % 256) % 2) 0 (omega arith)
+-- octets that are one APDU say what it carries
+one_apdu : (c : Content) → Fits c → (reading (octets_of c)).apdus ≡ c ∷ []
+one_apdu c fits =
+    let alone : reading (octets_of c) ≡ record { apdus = c ∷ (reading []).apdus; ending = (reading []).ending } =
+    ap reading (sym (append-nil (octets_of c))) ∙ reading-apdu c [] fits in
+    ap (λ (r : Reading). r.apdus) alone ∙ ap (λ (r : Reading). c ∷ r.apdus) reading_nil
+
+said : (offset : ℤ) (c : Content) → Fits c → spontaneous_in offset (octets_of c) ≡ spontaneous_by offset c
+said offset c fits =
+    ap (flat_map (spontaneous_by offset)) (one_apdu c fits) ∙ append-nil (spontaneous_by offset c)
 
 -- the I format of a sendable observation means it
-sent : (offset : ℤ) (ns common : ℕ) (x : Observation) → common < 65536 → IsSendable offset x → spontaneous offset (i_format ns (spelling offset common 3 x)) ≡ x ∷ []
+sent : (offset : ℤ) (ns common : ℕ) (x : Observation) → common < 65536 → IsSendable offset x
+    → spontaneous_in offset (octets_of (news_content offset common ns x)) ≡ x ∷ []
 sent offset ns common x small ok =
-    let asdu : List ℕ = spelling offset common 3 x in
-    let whole : (4 + length asdu + 2 == length (i_format ns asdu)) ≡ true = eq-eqb (4 + length asdu + 2) (length (i_format ns asdu)) (omega arith) in
-    rw (whole, even ns, meant offset common 3 x small ok.width ok.fit) refl
+    said offset (news_content offset common ns x) (omega arith, omega arith, omega (arith, spelling_short offset common 3 x))
+    ∙ rw (meant offset common 3 x small ok.width ok.fit) refl
 
 -- a pump that puts nothing out to the session
 pump_other : (setup : Setup) (past : List Entry) (c m : ℕ) (r : Reply) (k : Option Session) → put_out setup c (steps.Pump c m) (Ok r) ≡ []
     → ClientTied setup c past k → ClientTied setup c (entry (steps.Pump c m) (Ok r) ∷ past) k
 pump_other setup past c m r k nothing tied = client_quiet setup c past (steps.Pump c m) (Ok r) k refl refl refl nothing tied
 
-pub to_itself : (setup : Setup) (c m : ℕ) (octets : List ℕ) → put_out setup c (steps.Pump c m) (Ok (replies.Apdu (buffer octets))) ≡ spontaneous setup.offset octets
+pub to_itself : (setup : Setup) (c m : ℕ) (octets : List ℕ) → put_out setup c (steps.Pump c m) (Ok (replies.Apdu (buffer octets))) ≡ spontaneous_in setup.offset octets
 to_itself setup c m octets = rw (eq-eqb c c refl, buffered octets) refl
 
 -- a queue after a pump
@@ -173,7 +212,7 @@ pump_queued setup past c m r link [] dropped small sound e tied =
     subst (λ (x : Reply). ClientTied setup c (entry (steps.Pump c m) (Ok x) ∷ past) (Some (record { queue = []; dropped = dropped }))) e
     (pump_other setup past c m replies.Nothing (Some (record { queue = []; dropped = dropped })) refl tied)
 pump_queued setup past c m r link (x ∷ queue) dropped small sound e tied =
-    let octets : List ℕ = i_format link.next_send (spelling setup.offset setup.common_address 3 x) in
+    let octets : List ℕ = octets_of (news_content setup.offset setup.common_address link.next_send x) in
     let reply : Reply = replies.Apdu (buffer octets) in
     let put : put_out setup c (steps.Pump c m) (Ok reply) ≡ x ∷ [] = to_itself setup c m octets ∙ sent setup.offset link.next_send setup.common_address x small sound.0 in
     subst (λ (y : Reply). ClientTied setup c (entry (steps.Pump c m) (Ok y) ∷ past) (Some (record { queue = queue; dropped = dropped }))) e
@@ -189,12 +228,12 @@ pump_news setup past c m r link (Some k) small sound e tied = pump_queued setup 
 
 pump_own : (setup : Setup) (past : List Entry) (c m : ℕ) (r : Reply) (link : Link) (b : Bool) → setup.common_address < 65536
     → IfSome link.session (λ x. AllByRecursion (IsSendable setup.offset) x.queue)
-    → cond b (pump_session setup.offset setup.common_address link.next_send link.session) (replies.Apdu (buffer start_con)) ≡ r → ClientTied setup c past link.session
+    → cond b (pump_session setup.offset setup.common_address link.next_send link.session) (replies.Apdu (buffer_of (Unnumbered StartCon))) ≡ r → ClientTied setup c past link.session
     → ClientTied setup c (entry (steps.Pump c m) (Ok r) ∷ past) (cond b (after_put link link.session) (record link { confirmations = link.confirmations - 1 })).session
 pump_own setup past c m r link true small sound e tied = pump_news setup past c m r link link.session small sound e tied
 pump_own setup past c m r link false small sound e tied =
     subst (λ (x : Reply). ClientTied setup c (entry (steps.Pump c m) (Ok x) ∷ past) link.session) e
-    (pump_other setup past c m (replies.Apdu (buffer start_con)) link.session (to_itself setup c m start_con) tied)
+    (pump_other setup past c m (replies.Apdu (buffer_of (Unnumbered StartCon))) link.session (to_itself setup c m (octets_of (Unnumbered StartCon)) ∙ said setup.offset (Unnumbered StartCon) tt) tied)
 
 -- a pump puts nothing out to other clients
 pub pump_apart : (setup : Setup) (c d m : ℕ) (r : Reply) → (c ≡ d → ⊥) → put_out setup d (steps.Pump c m) (Ok r) ≡ []
@@ -217,7 +256,7 @@ pump_at setup past c m r s (Some (Some link)) small sound at e tied =
     let safe : IfSome link.session (λ x. AllByRecursion (IsSendable setup.offset) x.queue) =
     subst (λ (x : Option (Option Link)). IfSome (link_session x) (λ k. AllByRecursion (IsSendable setup.offset) k.queue)) at (sound c) in
     let own = pump_own setup past c m r link (eqb link.confirmations 0) small safe reply before in
-    one_client setup past step (Ok r) s (s.steps + 1) c pumped refl (λ o last. refl) (λ d ne. refl) (λ d ne. refl) (λ d ne. pump_apart setup c d m r ne) (rw at own) tied
+    one_client setup past step (Ok r) s (s.steps + 1) c client_after_pump refl (λ o last. refl) (λ d ne. refl) (λ d ne. refl) (λ d ne. pump_apart setup c d m r ne) (rw at own) tied
 
 pub pump : (setup : Setup) (past : List Entry) (c m : ℕ) (r : Reply) (s : State) → setup.common_address < 65536 → IsSound setup.offset s
     → outcome setup s (steps.Pump c m) ≡ Ok r → Tied setup past s → Tied setup (entry (steps.Pump c m) (Ok r) ∷ past) (after setup s (steps.Pump c m))
@@ -251,10 +290,10 @@ outstation_up setup past o m r s tied =
 -- ---- what is put out to a client without a session
 
 quiet_session : (setup : Setup) (past : List Entry) (c m : ℕ) (r : Reply) (link : Link) (k : Option Session) (b : Bool) → ClientTied setup c past k → is_started c past ≡ false
-    → cond b (pump_session setup.offset setup.common_address link.next_send k) (replies.Apdu (buffer start_con)) ≡ r → put_out setup c (steps.Pump c m) (Ok r) ≡ []
+    → cond b (pump_session setup.offset setup.common_address link.next_send k) (replies.Apdu (buffer_of (Unnumbered StartCon))) ≡ r → put_out setup c (steps.Pump c m) (Ok r) ≡ []
 quiet_session setup past c m r link (Some k) b tied stopped e = absurd (true≢false (sym tied.started ∙ stopped))
 quiet_session setup past c m r link None true tied stopped e = subst (λ (x : Reply). put_out setup c (steps.Pump c m) (Ok x) ≡ []) e refl
-quiet_session setup past c m r link None false tied stopped e = subst (λ (x : Reply). put_out setup c (steps.Pump c m) (Ok x) ≡ []) e (to_itself setup c m start_con)
+quiet_session setup past c m r link None false tied stopped e = subst (λ (x : Reply). put_out setup c (steps.Pump c m) (Ok x) ≡ []) e (to_itself setup c m (octets_of (Unnumbered StartCon)) ∙ said setup.offset (Unnumbered StartCon) tt)
 
 quiet_own : (setup : Setup) (past : List Entry) (c m : ℕ) (r : Reply) (s : State) (found : Option (Option Link)) → ClientTied setup c past (link_session found) → is_started c past ≡ false
     → client_outcome s (pump_reply setup.offset setup.common_address) found ≡ Ok r → put_out setup c (steps.Pump c m) (Ok r) ≡ []

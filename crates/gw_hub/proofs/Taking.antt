@@ -6,42 +6,42 @@ use Rattle.std.proofs.lemmas.List.{append-nil, length-append}
 use Rattle.gw_model.specs.declared.observation.Observation.{Observation}
 use Rattle.gw_model.specs.declared.row.Row.{Row}
 use Rattle.gw_model.specs.declared.point.Report.{Report}
-use Rattle.gw_picture.specs.Change.{change}
+use Rattle.gw_model.specs.Places.{change}
 use Rattle.gw_picture.specs.News.{news_of, news_of_report, shown_after, picture_after}
 use Rattle.gw_picture.proofs.Lists.{map-get}
 use Rattle.gw_hub.specs.State.{Session, Link}
-use Rattle.gw_hub.specs.Steps.{came, came_to_session, framed, pumped, begun, put_out, tail_of}
+use Rattle.gw_hub.specs.Steps.{client_with_news, session_with_news, client_after_start, client_after_pump, session_after_start, link_after_news, tail_of}
 use Rattle.gw_hub.specs.Headline.{link_session}
 use Rattle.gw_hub.specs.Seats.{Seat, HasRoom}
 use Rattle.gw_hub.specs.Sound.{IsSendable}
 
 -- ---- news that come one after the other
 
-came_session-nil : (k : Option Session) → k ≡ came_to_session [] k
+came_session-nil : (k : Option Session) → k ≡ session_with_news [] k
 came_session-nil None = refl
 came_session-nil (Some k) = ap (λ (q : List Observation). Some (record k { queue = q })) (sym (append-nil k.queue))
 
-came-nil : (link : Option Link) → link ≡ came [] link
+came-nil : (link : Option Link) → link ≡ client_with_news [] link
 came-nil None = refl
 came-nil (Some link) = ap (λ (k : Option Session). Some (record link { session = k })) (came_session-nil link.session)
 
-map_came-nil : (links : List (Option Link)) → links ≡ map (came []) links
+map_came-nil : (links : List (Option Link)) → links ≡ map (client_with_news []) links
 map_came-nil [] = refl
 map_came-nil (link ∷ links) = let one = came-nil link in let rest = map_came-nil links in cc
 
 -- no news change nothing
-pub came_none : (xs : List Observation) (links : List (Option Link)) → [] ≡ xs → links ≡ map (came xs) links
-came_none xs links e = subst (λ (ys : List Observation). links ≡ map (came ys) links) e (map_came-nil links)
+pub came_none : (xs : List Observation) (links : List (Option Link)) → [] ≡ xs → links ≡ map (client_with_news xs) links
+came_none xs links e = subst (λ (ys : List Observation). links ≡ map (client_with_news ys) links) e (map_came-nil links)
 
-came_session-twice : (xs ys : List Observation) (k : Option Session) → came_to_session ys (came_to_session xs k) ≡ came_to_session (xs ++ ys) k
+came_session-twice : (xs ys : List Observation) (k : Option Session) → session_with_news ys (session_with_news xs k) ≡ session_with_news (xs ++ ys) k
 came_session-twice xs ys None = refl
 came_session-twice xs ys (Some k) = ap (λ (q : List Observation). Some (record k { queue = q })) (append_assoc k.queue xs ys)
 
-came-twice : (xs ys : List Observation) (link : Option Link) → came ys (came xs link) ≡ came (xs ++ ys) link
+came-twice : (xs ys : List Observation) (link : Option Link) → client_with_news ys (client_with_news xs link) ≡ client_with_news (xs ++ ys) link
 came-twice xs ys None = refl
 came-twice xs ys (Some link) = ap (λ (k : Option Session). Some (record link { session = k })) (came_session-twice xs ys link.session)
 
-pub map_came-twice : (xs ys : List Observation) (links : List (Option Link)) → map (came ys) (map (came xs) links) ≡ map (came (xs ++ ys)) links
+pub map_came-twice : (xs ys : List Observation) (links : List (Option Link)) → map (client_with_news ys) (map (client_with_news xs) links) ≡ map (client_with_news (xs ++ ys)) links
 map_came-twice xs ys [] = refl
 map_came-twice xs ys (link ∷ links) = let one = came-twice xs ys link in let rest = map_came-twice xs ys links in cc
 
@@ -90,19 +90,19 @@ pub sound_change : (offset : ℤ) (n : ℕ) (f : Option Link → Option Link) (l
     → ((x : Option Link) → SoundSlot offset (Some x) → SoundSlot offset (Some (f x))) → SoundLinks offset links → SoundLinks offset changed
 sound_change offset n f links changed e keeps sound = subst (SoundLinks offset) (sym e) (change_sound offset n f links keeps sound)
 
-begun_sound : (offset : ℤ) (k : Option Session) → SoundSession offset k → SoundSession offset (begun k)
+begun_sound : (offset : ℤ) (k : Option Session) → SoundSession offset k → SoundSession offset (session_after_start k)
 begun_sound offset None sound = tt
 begun_sound offset (Some k) sound = sound
 
-pub framed_sound : (offset : ℤ) (x : Option Link) → SoundSlot offset (Some x) → SoundSlot offset (Some (framed x))
+pub framed_sound : (offset : ℤ) (x : Option Link) → SoundSlot offset (Some x) → SoundSlot offset (Some (client_after_start x))
 framed_sound offset None sound = tt
 framed_sound offset (Some link) sound = go (ltb link.confirmations 32)
   where
-    go : (b : Bool) → SoundSlot offset (Some (cond b (Some (record link { confirmations = link.confirmations + 1; session = begun link.session })) None))
+    go : (b : Bool) → SoundSlot offset (Some (cond b (Some (record link { confirmations = link.confirmations + 1; session = session_after_start link.session })) None))
     go true = begun_sound offset link.session sound
     go false = tt
 
-queue_sound : (offset : ℤ) (link : Link) (k : Option Session) → SoundSession offset k → link.session ≡ k → SoundSlot offset (Some (Some (put_out link k)))
+queue_sound : (offset : ℤ) (link : Link) (k : Option Session) → SoundSession offset k → link.session ≡ k → SoundSlot offset (Some (Some (link_after_news link k)))
 queue_sound offset link None sound e = rw e tt
 queue_sound offset link (Some k) sound e = go k.queue sound
   where
@@ -110,11 +110,11 @@ queue_sound offset link (Some k) sound e = go k.queue sound
     go [] all = tt
     go (x ∷ q) all = all.1
 
-pub pumped_sound : (offset : ℤ) (x : Option Link) → SoundSlot offset (Some x) → SoundSlot offset (Some (pumped x))
+pub pumped_sound : (offset : ℤ) (x : Option Link) → SoundSlot offset (Some x) → SoundSlot offset (Some (client_after_pump x))
 pumped_sound offset None sound = tt
 pumped_sound offset (Some link) sound = go (eqb link.confirmations 0)
   where
-    go : (b : Bool) → SoundSlot offset (Some (Some (cond b (put_out link link.session) (record link { confirmations = link.confirmations - 1 }))))
+    go : (b : Bool) → SoundSlot offset (Some (Some (cond b (link_after_news link link.session) (record link { confirmations = link.confirmations - 1 }))))
     go true = queue_sound offset link link.session sound refl
     go false = sound
 
@@ -122,20 +122,20 @@ pub all_append : (offset : ℤ) (xs ys : List Observation) → AllByRecursion (I
 all_append offset [] ys ax ay = ay
 all_append offset (x ∷ xs) ys ax ay = (ax.0, all_append offset xs ys ax.1 ay)
 
-came_session_sound : (offset : ℤ) (xs : List Observation) (k : Option Session) → AllByRecursion (IsSendable offset) xs → SoundSession offset k → SoundSession offset (came_to_session xs k)
+came_session_sound : (offset : ℤ) (xs : List Observation) (k : Option Session) → AllByRecursion (IsSendable offset) xs → SoundSession offset k → SoundSession offset (session_with_news xs k)
 came_session_sound offset xs None all sound = tt
 came_session_sound offset xs (Some k) all sound = all_append offset k.queue xs sound all
 
-came_sound : (offset : ℤ) (xs : List Observation) (slot : Option (Option Link)) → AllByRecursion (IsSendable offset) xs → SoundSlot offset slot → SoundSlot offset (option_map (came xs) slot)
+came_sound : (offset : ℤ) (xs : List Observation) (slot : Option (Option Link)) → AllByRecursion (IsSendable offset) xs → SoundSlot offset slot → SoundSlot offset (option_map (client_with_news xs) slot)
 came_sound offset xs None all sound = tt
 came_sound offset xs (Some None) all sound = tt
 came_sound offset xs (Some (Some link)) all sound = came_session_sound offset xs link.session all sound
 
 -- news came to every client
-pub sound_came : (offset : ℤ) (xs : List Observation) (links changed : List (Option Link)) → changed ≡ map (came xs) links → AllByRecursion (IsSendable offset) xs
+pub sound_came : (offset : ℤ) (xs : List Observation) (links changed : List (Option Link)) → changed ≡ map (client_with_news xs) links → AllByRecursion (IsSendable offset) xs
     → SoundLinks offset links → SoundLinks offset changed
 sound_came offset xs links changed e all sound =
-    subst (SoundLinks offset) (sym e) (λ c. subst (SoundSlot offset) (sym (map-get (came xs) links c)) (came_sound offset xs (slice_get links c) all (sound c)))
+    subst (SoundLinks offset) (sym e) (λ c. subst (SoundSlot offset) (sym (map-get (client_with_news xs) links c)) (came_sound offset xs (slice_get links c) all (sound c)))
 
 -- ---- what is left to take
 
@@ -143,16 +143,16 @@ sound_came offset xs links changed e all sound =
 pub record Left (offset : ℤ) (rows : List Row) (n : ℕ) (picture : List Observation) (rest : List Report) (links : List (Option Link)) (all last : List Observation) (final : List (Option Link)) : Type 0 where
   pub count : n + length (news_of offset rows picture rest) ≡ length all
   pub shown : picture_after offset rows picture rest ≡ last
-  pub links_left : map (came (news_of offset rows picture rest)) links ≡ final
+  pub links_left : map (client_with_news (news_of offset rows picture rest)) links ≡ final
   pub sendable : AllByRecursion (IsSendable offset) (news_of offset rows picture rest) → AllByRecursion (IsSendable offset) all
 
 pub left_first : (offset : ℤ) (rows : List Row) (picture : List Observation) (rs : List Report) (links : List (Option Link))
-    → Left offset rows 0 picture rs links (news_of offset rows picture rs) (picture_after offset rows picture rs) (map (came (news_of offset rows picture rs)) links)
+    → Left offset rows 0 picture rs links (news_of offset rows picture rs) (picture_after offset rows picture rs) (map (client_with_news (news_of offset rows picture rs)) links)
 left_first offset rows picture rs links = record { count = omega arith; shown = refl; links_left = refl; sendable = λ all. all }
 
 pub left_more : (offset : ℤ) (rows : List Row) (n m : ℕ) (picture new : List Observation) (r : Report) (now rest : List Report) (links changed : List (Option Link)) (all last : List Observation) (final : List (Option Link))
     → Left offset rows n picture now links all last final → now ≡ r ∷ rest → m ≡ length (news_of_report offset rows picture r) → new ≡ shown_after offset rows picture r
-    → changed ≡ map (came (news_of_report offset rows picture r)) links → AllByRecursion (IsSendable offset) (news_of_report offset rows picture r)
+    → changed ≡ map (client_with_news (news_of_report offset rows picture r)) links → AllByRecursion (IsSendable offset) (news_of_report offset rows picture r)
     → Left offset rows (n + m) new rest changed all last final
 left_more offset rows n m picture new r now rest links changed all last final left is em en ec sends =
     let xs : List Observation = news_of_report offset rows picture r in
@@ -161,7 +161,7 @@ left_more offset rows n m picture new r now rest links changed all last final le
     let on : Left offset rows (n + m) (shown_after offset rows picture r) rest changed all last final = record {
       count = omega (arith, here.count, length-append xs ys, em);
       shown = here.shown;
-      links_left = ap (map (came ys)) ec ∙ (map_came-twice xs ys links ∙ here.links_left);
+      links_left = ap (map (client_with_news ys)) ec ∙ (map_came-twice xs ys links ∙ here.links_left);
       sendable = λ more. here.sendable (all_append offset xs ys sends more);
     } in
     subst (λ (p : List Observation). Left offset rows (n + m) p rest changed all last final) (sym en) on

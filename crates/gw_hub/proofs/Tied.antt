@@ -10,8 +10,8 @@ use Rattle.gw_hub.specs.declared.step.Step.{Step}
 use Rattle.gw_hub.specs.declared.step.Reply.{Reply}
 use Rattle.gw_hub.specs.declared.step.StepFault.{StepFault}
 use Rattle.gw_hub.specs.State.{State, Outstation, Session}
-use Rattle.gw_hub.specs.Steps.{came_to_session}
-use Rattle.gw_hub.specs.History.{Entry, Happening, Came, Gone, log_of, brings, last_text, begins, ends, is_started, put_to, session_of, gone_of}
+use Rattle.gw_hub.specs.Steps.{session_with_news}
+use Rattle.gw_hub.specs.History.{Entry, Happening, Came, Gone, log_of, news_of_step, last_text, begins, ends, is_started, spontaneous_to, session_of, gone_of}
 use Rattle.gw_hub.specs.Fates.{fates, fates_from}
 use Rattle.gw_hub.specs.Headline.{link_session, TellsNews}
 use Rattle.gw_hub.proofs.FateLemmas.{split, fates_from-append, came_fates, used_up, split-came, kept-split, queued-split, dropped-split, gone_of-append, gone_of-came}
@@ -48,10 +48,10 @@ entry step reply = record { step = step; reply = reply }
 
 -- what a step brings to client c's session, and what it puts out
 abbrev pub brought : Setup → List Entry → Step → Result Reply StepFault → List Observation
-brought setup past step reply = brings setup (log_of setup past) past step reply
+brought setup past step reply = news_of_step setup (log_of setup past) past step reply
 
 abbrev pub put_out : Setup → ℕ → Step → Result Reply StepFault → List Observation
-put_out setup c step reply = put_to setup.offset c step reply
+put_out setup c step reply = spontaneous_to setup.offset c step reply
 
 -- where a session goes on
 goes_on : (setup : Setup) (c : ℕ) (past : List Entry) (step : Step) (reply : Result Reply StepFault) (xs ys : List Observation) → is_started c past ≡ true
@@ -87,7 +87,7 @@ session_quiet setup c past step reply k no_end eb ep tied =
 -- a client that a step leaves alone, but for the news that it brings
 pub client_idle : (setup : Setup) (c : ℕ) (past : List Entry) (step : Step) (reply : Result Reply StepFault) (xs : List Observation) (k : Option Session)
     → ends c step reply ≡ false → begins c step reply ≡ false → brought setup past step reply ≡ xs → put_out setup c step reply ≡ []
-    → ClientTied setup c past k → ClientTied setup c (entry step reply ∷ past) (came_to_session xs k)
+    → ClientTied setup c past k → ClientTied setup c (entry step reply ∷ past) (session_with_news xs k)
 client_idle setup c past step reply xs None no_end no_begin eb ep tied = rw (no_end, no_begin) tied
 client_idle setup c past step reply xs (Some k) no_end no_begin eb ep tied = session_idle setup c past step reply xs k no_end eb ep tied
 

@@ -1,5 +1,5 @@
--- The headline, in its part on news: at each place of a run, the picture is that of the log, and for each client's session
--- the observations put out, followed by those queued, are the news since its STARTDT, in order, less those dropped.
+-- The headline, in its part on news: at each place of a run the picture is that of the log, and for each client's
+-- session the observations put out, followed by those queued, are the news since its STARTDT, in order, less those dropped.
 use Rattle.std.specs.Prelude.{◌≡◌, ℕ, true, false, List, [], ◌∷◌, ◌++◌, length, slice_get, is_some, Option, Some, None, Result, Ok, Err, IfSome}
 use Rattle.gw_model.specs.Rows.{Setup}
 use Rattle.gw_picture.specs.Log.{picture_of}
@@ -12,7 +12,7 @@ use Rattle.gw_hub.specs.declared.step.StepFault.{StepFault}
 use Rattle.gw_hub.specs.State.{State, Session, Link, at_first}
 use Rattle.dnp_app.specs.Control.{confirm_of}
 use Rattle.gw_hub.specs.Steps.{Allowed, after}
-use Rattle.gw_hub.specs.History.{Entry, log_of, last_text, is_accepted, is_started, put_to, session_of, gone_of}
+use Rattle.gw_hub.specs.History.{Entry, log_of, last_text, is_accepted, is_started, spontaneous_to, session_of, gone_of}
 use Rattle.gw_hub.specs.Fates.{fates, items_of, is_queued, is_dropped, is_kept}
 
 -- ---- runs
@@ -29,7 +29,8 @@ state_after setup (e ∷ past) = follow setup (state_after setup past) e.step e.
 -- each entry was allowed after those before it, and led to the state after it
 abbrev pub IsRun : Setup → List Entry → Type 0
 IsRun setup [] = Unit {0}
-IsRun setup (e ∷ past) = Allowed setup (state_after setup past) e.step e.reply (state_after setup (e ∷ past)) × IsRun setup past
+IsRun setup (e ∷ past) =
+    Allowed setup (state_after setup past) e.step e.reply (state_after setup (e ∷ past)) × IsRun setup past
 
 -- ---- what holds
 
@@ -45,8 +46,8 @@ pub record TellsNews (setup : Setup) (c : ℕ) (past : List Entry) (k : Session)
   pub queued : k.queue ≡ items_of is_queued (fates None (session_of setup c past))
   pub dropped : k.dropped ≡ length (items_of is_dropped (fates None (session_of setup c past)))
 
--- of a fragment: Accepted where its news enter the log with this step, Repeated where it is the last accepted one again, Ignored where
--- it is not accepted, and no other reply; confirmed exactly where it asks for it, and nothing else is confirmed
+-- of a fragment: Accepted where its news enter the log with this step, Repeated where it is the last accepted one
+-- again, Ignored where it is not accepted, and no other reply; confirmed exactly where it asks for it, and nothing else is
 abbrev pub Confirms : Setup → Step → Result Reply StepFault → List Entry → Type 0
 Confirms setup (steps.Fragment f moment) (Ok (replies.Verdict (verdicts.Accepted confirm))) past =
     (is_accepted past f ≡ true) × (confirm ≡ confirm_of f.octets)
@@ -65,7 +66,7 @@ ConfirmsLast setup (e ∷ past) = Confirms setup e.step e.reply past
 -- nothing spontaneous is put out to a client without a session
 abbrev pub QuietLast : Setup → ℕ → List Entry → Type 0
 QuietLast setup c [] = Unit {0}
-QuietLast setup c (e ∷ past) = is_started c past ≡ false → put_to setup.offset c e.step e.reply ≡ []
+QuietLast setup c (e ∷ past) = is_started c past ≡ false → spontaneous_to setup.offset c e.step e.reply ≡ []
 
 -- what holds at a place of a run
 pub record Holds (setup : Setup) (past : List Entry) : Type 0 where

@@ -2,7 +2,7 @@
 use Rattle.std.specs.Prelude.{◌≡◌, ℕ, ◌≤◌, Bool, true, false, List, length, map, Option, Some, None, IfSome, Result, Ok, Err}
 use Rattle.gw_hub.specs.declared.step.StepFault.{StepFault}
 use Rattle.gw_hub.specs.declared.step.StepFault.TheVariants.{NoClient, NotUp, Memory, Spent}
-use Rattle.gw_hub.specs.declared.apdu.ApduBuf.{ApduBuf}
+use Rattle.iec_apci.specs.declared.buffer.ApduBuf.{ApduBuf}
 use Rattle.gw_hub.specs.declared.step.Reply.{Reply}
 use Rattle.gw_hub.specs.declared.step.Reply.TheVariants as replies
 use Rattle.gw_hub.specs.State.{Session, Link}
@@ -38,9 +38,9 @@ dropped_in None = 0
 dropped_in (Some s) = s.dropped
 
 -- the reply to a pump that gave this
-abbrev pub given : Option ApduBuf → Reply
-given None = replies.Nothing
-given (Some apdu) = replies.Apdu apdu
+abbrev pub reply_giving : Option ApduBuf → Reply
+reply_giving None = replies.Nothing
+reply_giving (Some apdu) = replies.Apdu apdu
 
 -- the reply for a client that is up; Nothing for another
 abbrev pub reply_of : (Link → Reply) → Option Link → Reply

@@ -15,7 +15,8 @@ pub record IsSendable (offset : ℤ) (x : Observation) : Type 0 where
   pub width : HasWidth x.value
 
 abbrev pub IsSound : ℤ → State → Type 0
-IsSound offset s = (c : ℕ) → IfSome (link_session (slice_get s.clients c)) (λ k. AllByRecursion (IsSendable offset) k.queue)
+IsSound offset s =
+    (c : ℕ) → IfSome (link_session (slice_get s.clients c)) (λ k. AllByRecursion (IsSendable offset) k.queue)
 
 -- each state of a run is sound
 abbrev pub EachSound : Setup → List Entry → Type 0

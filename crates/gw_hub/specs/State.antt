@@ -34,4 +34,10 @@ pub record State : Type 0 where
 
 -- one outstation and one client, both down
 abbrev pub at_first : Setup → State
-at_first setup = record { outstations = None ∷ []; picture = map opening setup.rows; clients = None ∷ []; steps = 0; news = 0 }
+at_first setup = record {
+  outstations = None ∷ [];
+  picture = map opening setup.rows;
+  clients = None ∷ [];
+  steps = 0;
+  news = 0;
+}

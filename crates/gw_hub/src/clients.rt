@@ -1,8 +1,8 @@
 //! All clients, by their position.
 ghost use Rattle.std.specs.Prelude.{◌≡◌, ◌≤◌, ◌+◌, ℕ, [], ◌∷◌, map, Option, Some, None, OnOk, slice_get};
 ghost use Rattle.std.specs.List.{AllByRecursion};
-ghost use Rattle.gw_picture.specs.Change.{change};
-ghost use Rattle.gw_hub.specs.Steps.{came, framed, frame_reply, pump_reply, pumped};
+ghost use Rattle.gw_model.specs.Places.{change};
+ghost use Rattle.gw_hub.specs.Steps.{new_link, client_with_news, client_after_start, reply_to_start, pump_reply, client_after_pump};
 ghost use Rattle.gw_hub.specs.Seats.{dropped_at, link_of, links_of, presence, queued_at, reply_at, reply_of, HasRoom};
 
 use crate::connection::Connection;
@@ -63,23 +63,24 @@ impl Clients {
 
     /// A client comes up.
     pub fn come_up(&mut self, client: u8)
-        ensures { links_of self.new ≡ change client (λ _. Some (record { confirmations = 0; next_send = 0; session = None })) (links_of self.old) }
+        ensures { links_of self.new ≡ change client (λ _. Some new_link) (links_of self.old) }
     {
         come_up_at(&mut self.connections, client);
     }
 
     /// Takes a client's STARTDT act. One that finds no place for its confirmation closes the client.
     pub fn start(&mut self, alloc: Global, client: u8) -> Reply
-        ensures reply { result ≡ reply_at frame_reply (slice_get (links_of self.old) client) }
-        ensures links { links_of self.new ≡ change client framed (links_of self.old) }
+        ensures reply { result ≡ reply_at reply_to_start (slice_get (links_of self.old) client) }
+        ensures links { links_of self.new ≡ change client client_after_start (links_of self.old) }
     {
         start_at(&mut self.connections, alloc, client)
     }
 
     /// The next APDU for a client.
     pub fn pump(&mut self, client: u8, common: u16, zone: &Zone) -> Reply
-        ensures reply { result ≡ reply_at (pump_reply zone.now.offset_minutes common) (slice_get (links_of self.old) client) }
-        ensures links { links_of self.new ≡ change client pumped (links_of self.old) }
+        ensures reply { result
+            ≡ reply_at (pump_reply zone.now.offset_minutes common) (slice_get (links_of self.old) client) }
+        ensures links { links_of self.new ≡ change client client_after_pump (links_of self.old) }
     {
         pump_at(&mut self.connections, client, common, zone)
     }
@@ -95,7 +96,7 @@ impl Clients {
     /// Puts news, for which room was made, into the queue of every started client.
     pub fn put(&mut self, news: Observation)
         requires { AllByRecursion (HasRoom 1) self.old }
-        ensures links { links_of self.new ≡ map (came (news ∷ [])) (links_of self.old) }
+        ensures links { links_of self.new ≡ map (client_with_news (news ∷ [])) (links_of self.old) }
         ensures room { (n : ℕ) → AllByRecursion (HasRoom (n + 1)) self.old → AllByRecursion (HasRoom n) self.new }
     {
         put_all(&mut self.connections, news);
@@ -128,7 +129,7 @@ fn dropped_at(connections: &[Option<Connection>], client: u8) -> usize
 }
 
 fn come_up_at(connections: &mut [Option<Connection>], client: u8)
-    ensures { links_of connections.new ≡ change client (λ _. Some (record { confirmations = 0; next_send = 0; session = None })) (links_of connections.old) }
+    ensures { links_of connections.new ≡ change client (λ _. Some new_link) (links_of connections.old) }
 {
     let position = usize::from(client);
     if position < connections.len() {
@@ -138,8 +139,8 @@ fn come_up_at(connections: &mut [Option<Connection>], client: u8)
 
 /// A STARTDT act of one client.
 fn start_one(slot: &mut Option<Connection>, alloc: Global) -> Reply
-    ensures reply { result ≡ reply_of frame_reply (link_of slot.old) }
-    ensures link { link_of slot.new ≡ framed (link_of slot.old) }
+    ensures reply { result ≡ reply_of reply_to_start (link_of slot.old) }
+    ensures link { link_of slot.new ≡ client_after_start (link_of slot.old) }
 {
     match slot {
         None => Reply::Nothing,
@@ -155,8 +156,8 @@ fn start_one(slot: &mut Option<Connection>, alloc: Global) -> Reply
 }
 
 fn start_at(connections: &mut [Option<Connection>], alloc: Global, client: u8) -> Reply
-    ensures reply { result ≡ reply_at frame_reply (slice_get (links_of connections.old) client) }
-    ensures links { links_of connections.new ≡ change client framed (links_of connections.old) }
+    ensures reply { result ≡ reply_at reply_to_start (slice_get (links_of connections.old) client) }
+    ensures links { links_of connections.new ≡ change client client_after_start (links_of connections.old) }
 {
     let position = usize::from(client);
     if position < connections.len() {
@@ -169,7 +170,7 @@ fn start_at(connections: &mut [Option<Connection>], alloc: Global, client: u8) -
 /// The next APDU for one client.
 fn pump_one(slot: &mut Option<Connection>, common: u16, zone: &Zone) -> Reply
     ensures reply { result ≡ reply_of (pump_reply zone.now.offset_minutes common) (link_of slot.old) }
-    ensures link { link_of slot.new ≡ pumped (link_of slot.old) }
+    ensures link { link_of slot.new ≡ client_after_pump (link_of slot.old) }
 {
     match slot {
         None => Reply::Nothing,
@@ -181,8 +182,9 @@ fn pump_one(slot: &mut Option<Connection>, common: u16, zone: &Zone) -> Reply
 }
 
 fn pump_at(connections: &mut [Option<Connection>], client: u8, common: u16, zone: &Zone) -> Reply
-    ensures reply { result ≡ reply_at (pump_reply zone.now.offset_minutes common) (slice_get (links_of connections.old) client) }
-    ensures links { links_of connections.new ≡ change client pumped (links_of connections.old) }
+    ensures reply { result
+        ≡ reply_at (pump_reply zone.now.offset_minutes common) (slice_get (links_of connections.old) client) }
+    ensures links { links_of connections.new ≡ change client client_after_pump (links_of connections.old) }
 {
     let position = usize::from(client);
     if position < connections.len() {
@@ -216,7 +218,7 @@ fn reserve_all(connections: &mut [Option<Connection>], news: usize) -> Result<()
 /// Puts news into the queue of one client.
 fn put_one(slot: &mut Option<Connection>, news: Observation)
     requires { HasRoom 1 slot.old }
-    ensures link { link_of slot.new ≡ came (news ∷ []) (link_of slot.old) }
+    ensures link { link_of slot.new ≡ client_with_news (news ∷ []) (link_of slot.old) }
     ensures room { (n : ℕ) → HasRoom (n + 1) slot.old → HasRoom n slot.new }
 {
     if let Some(connection) = slot {
@@ -226,8 +228,9 @@ fn put_one(slot: &mut Option<Connection>, news: Observation)
 
 fn put_all(connections: &mut [Option<Connection>], news: Observation)
     requires { AllByRecursion (HasRoom 1) connections.old }
-    ensures links { links_of connections.new ≡ map (came (news ∷ [])) (links_of connections.old) }
-    ensures room { (n : ℕ) → AllByRecursion (HasRoom (n + 1)) connections.old → AllByRecursion (HasRoom n) connections.new }
+    ensures links { links_of connections.new ≡ map (client_with_news (news ∷ [])) (links_of connections.old) }
+    ensures room { (n : ℕ) → AllByRecursion (HasRoom (n + 1)) connections.old
+        → AllByRecursion (HasRoom n) connections.new }
 {
     for position in 0..connections.len() {
         put_one(&mut connections[position], news);

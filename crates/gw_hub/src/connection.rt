@@ -1,11 +1,12 @@
 //! A client that is up.
 ghost use Rattle.std.specs.Prelude.{◌≡◌, ◌≤◌, ◌+◌, ℕ, ◌++◌, ◌∷◌, [], Some, None, IsTrue, OnOk, nat_lt};
-ghost use Rattle.gw_hub.specs.Steps.{came, framed, pump_reply, pumped};
-ghost use Rattle.gw_hub.specs.Seats.{dropped_in, given, queued_in, HasRoom};
+ghost use Rattle.gw_hub.specs.Steps.{new_link, client_with_news, client_after_start, pump_reply, client_after_pump};
+ghost use Rattle.gw_hub.specs.Seats.{dropped_in, reply_giving, queued_in, HasRoom};
 
-use crate::apdu::{ApduBuf, news_format, start_confirmation};
+use crate::apdu::{news_format, start_confirmation};
 use gw_model::{Memory, Observation};
 use gw_time::Zone;
+use iec_apci::ApduBuf;
 use std::alloc::Global;
 use std::collections::VecDeque;
 use std::marker::Model;
@@ -35,7 +36,11 @@ impl Model for Connection {
     ghost Value = { Seat };
 
     ghost view = { λ k. record {
-      link = record { confirmations = k.confirmations; next_send = k.next_send; session = option_map (λ q. record { queue = q.items; dropped = 0 }) k.queue };
+      link = record {
+        confirmations = k.confirmations;
+        next_send = k.next_send;
+        session = option_map (λ q. record { queue = q.items; dropped = 0 }) k.queue;
+      };
       spare = or_zero (option_map (λ q. deque_capacity q - deque_len q) k.queue);
     } };
 
@@ -45,7 +50,7 @@ impl Model for Connection {
 impl Connection {
     /// A connection that just came up.
     pub fn new() -> Connection
-        ensures { result.link ≡ record { confirmations = 0; next_send = 0; session = None } }
+        ensures { result.link ≡ new_link }
     {
         Connection {
             confirmations: 0,
@@ -85,7 +90,7 @@ impl Connection {
     /// Takes news for which room was made.
     pub fn put(&mut self, news: Observation)
         requires { HasRoom 1 (Some self.old) }
-        ensures link { Some self.new.link ≡ came (news ∷ []) (Some self.old.link) }
+        ensures link { Some self.new.link ≡ client_with_news (news ∷ []) (Some self.old.link) }
         ensures room { (n : ℕ) → HasRoom (n + 1) (Some self.old) → HasRoom n (Some self.new) }
     {
         if let Some(queue) = &mut self.queue {
@@ -96,7 +101,7 @@ impl Connection {
     /// Takes a STARTDT act: gives whether its confirmation finds a place.
     pub fn start(&mut self, alloc: Global) -> bool
         ensures taken { result ≡ nat_lt self.old.link.confirmations 32 }
-        ensures link { IsTrue result → Some self.new.link ≡ framed (Some self.old.link) }
+        ensures link { IsTrue result → Some self.new.link ≡ client_after_start (Some self.old.link) }
     {
         if self.confirmations >= MOST_CONFIRMATIONS {
             return false;
@@ -110,8 +115,8 @@ impl Connection {
 
     /// The next APDU for the client: a confirmation that waits, then the oldest news.
     pub fn pump(&mut self, common: u16, zone: &Zone) -> Option<ApduBuf>
-        ensures reply { given result ≡ pump_reply zone.now.offset_minutes common self.old.link }
-        ensures link { Some self.new.link ≡ pumped (Some self.old.link) }
+        ensures reply { reply_giving result ≡ pump_reply zone.now.offset_minutes common self.old.link }
+        ensures link { Some self.new.link ≡ client_after_pump (Some self.old.link) }
     {
         if self.confirmations > 0 {
             self.confirmations -= 1;

@@ -1,9 +1,10 @@
 //! The core as one machine.
 ghost use Rattle.std.specs.Prelude.{◌≡◌, ◌<◌, ◌+◌, ℕ, [], length, map, true, false, IfOk, IfErr, IsTrue, OnOk, OnErr, slice_get};
 ghost use Rattle.std.specs.List.{AllByRecursion};
-ghost use Rattle.gw_picture.specs.News.{news_of, news_of_report, picture_after, shown_after};
+ghost use Rattle.gw_picture.specs.News.{picture_after, shown_after};
 ghost use Rattle.gw_hub.specs.State.{at_first};
-ghost use Rattle.gw_hub.specs.Steps.{Allowed, came, can_rise, counted, taken};
+ghost use Rattle.gw_hub.specs.Steps.{Allowed, client_with_news, can_rise, news_among, news_of_one, state_with_step};
+ghost use Rattle.gw_hub.specs.Hub.{Answers, can_take, state_with_response};
 ghost use Rattle.gw_hub.specs.Seats.{connected_at, dropped_at, links_of, queued_at, HasRoom, IsTakingFault};
 ghost use Rattle.gw_hub.specs.Sound.{IsSendable, IsSound};
 ghost use Rattle.gw_hub.specs.History.{history};
@@ -12,7 +13,6 @@ ghost use Rattle.gw_model.specs.Rows.{is_point_map};
 ghost use Rattle.gw_hub.specs.declared.step.Step.TheVariants as steps;
 ghost use Rattle.gw_hub.specs.declared.step.StepFault.TheVariants.{Spent};
 
-use crate::apdu::{Apdu, Signal};
 use crate::clients::Clients;
 use crate::outstations::Outstations;
 use crate::step::{Reply, Step, StepFault};
@@ -20,6 +20,7 @@ use dnp_app::Response;
 use gw_model::{Memory, Observation, Report, Settings};
 use gw_picture::Picture;
 use gw_time::Zone;
+use iec_apci::{Apdu, Signal};
 use std::alloc::Global;
 use std::marker::Model;
 
@@ -45,10 +46,22 @@ impl Model for Hub {
 
     ghost view = { λ h. record {
       setup = h.settings;
-      state = record { outstations = h.outstations; picture = h.picture; clients = links_of h.clients; steps = h.steps; news = h.news };
+      state = record {
+        outstations = h.outstations;
+        picture = h.picture;
+        clients = links_of h.clients;
+        steps = h.steps;
+        news = h.news;
+      };
     } };
 
-    ghost invariant = { λ h. IsSound h.settings.offset (record { outstations = h.outstations; picture = h.picture; clients = links_of h.clients; steps = h.steps; news = h.news }) };
+    ghost invariant = { λ h. IsSound h.settings.offset (record {
+      outstations = h.outstations;
+      picture = h.picture;
+      clients = links_of h.clients;
+      steps = h.steps;
+      news = h.news;
+    }) };
 }
 
 impl Hub {
@@ -105,7 +118,8 @@ impl Hub {
         ensures replies { IfOk result (λ run. length run.1.items ≡ length steps.items) }
         ensures setup { IfOk result (λ run. run.0.setup ≡ settings) }
         ensures run { IfOk result (λ run. IsRun settings (history [] steps.items run.1.items)) }
-        ensures state { IfOk result (λ run. run.0.state ≡ state_after settings (history [] steps.items run.1.items)) }
+        ensures state { IfOk result (λ run.
+            run.0.state ≡ state_after settings (history [] steps.items run.1.items)) }
         ensures headline { IfOk result (λ run. AtEach (Holds settings) (history [] steps.items run.1.items)) }
     {
         let mut hub = Hub::new(alloc, settings)?;
@@ -136,7 +150,8 @@ impl Hub {
 
     /// Counts a step that brings no news.
     fn count(&mut self) -> Result<(), StepFault>
-        ensures ok { OnOk result ((can_rise self.old.state 0 ≡ true) × (self.new.state ≡ counted self.old.state)) }
+        ensures ok { OnOk result ((can_rise self.old.state 0 ≡ true)
+            × (self.new.state ≡ state_with_step self.old.state)) }
         ensures err { IfErr result (λ fault. fault ≡ Spent) }
         ensures spent { OnErr result ((can_rise self.old.state 0 ≡ false) × (self.new.state ≡ self.old.state)) }
         ensures setup { self.new.setup ≡ self.old.setup }
@@ -147,7 +162,7 @@ impl Hub {
 
     /// Whether the counts can rise by a step, and by the news that these reports would be.
     fn can_rise(&self, reports: &[Report]) -> bool
-        ensures { result ≡ can_rise self.now.state (length (news_of self.now.setup.offset self.now.setup.rows self.now.state.picture reports.now)) }
+        ensures { result ≡ can_take self.now reports.now }
     {
         if self.steps == u64::MAX {
             return false;
@@ -163,7 +178,7 @@ impl Hub {
     }
 
     fn outstation_up(&mut self, outstation: u8) -> Result<Reply, StepFault>
-        ensures step { (moment : ℕ) → Allowed self.old.setup self.old.state (steps.OutstationUp outstation moment) result self.new.state }
+        ensures step { (moment : ℕ) → Answers self.old (steps.OutstationUp outstation moment) result self.new }
         ensures setup { self.new.setup ≡ self.old.setup }
     {
         match self.outstations.get(outstation) {
@@ -177,7 +192,7 @@ impl Hub {
     }
 
     fn fragment(&mut self, response: &Response) -> Result<Reply, StepFault>
-        ensures step { (moment : ℕ) → Allowed self.old.setup self.old.state (steps.Fragment response.now moment) result self.new.state }
+        ensures step { (moment : ℕ) → Answers self.old (steps.Fragment response.now moment) result self.new }
         ensures setup { self.new.setup ≡ self.old.setup }
     {
         let (verdict, accepts) = match self.outstations.get(response.outstation()) {
@@ -195,8 +210,9 @@ impl Hub {
 
     /// Takes an accepted response. All room is made before anything changes.
     fn accept(&mut self, response: &Response) -> Result<(), StepFault>
-        ensures ok { OnOk result ((can_rise self.old.state (length (news_of self.old.setup.offset self.old.setup.rows self.old.state.picture response.now.reports)) ≡ true) × (self.new.state ≡ counted (taken self.old.setup self.old.state response.now))) }
-        ensures err { IfErr result (λ fault. IsTakingFault (can_rise self.old.state (length (news_of self.old.setup.offset self.old.setup.rows self.old.state.picture response.now.reports))) fault) }
+        ensures ok { OnOk result ((can_take self.old response.now.reports ≡ true)
+            × (self.new.state ≡ state_with_response self.old response.now)) }
+        ensures err { IfErr result (IsTakingFault (can_take self.old response.now.reports)) }
         ensures same { OnErr result (self.new.state ≡ self.old.state) }
         ensures setup { self.new.setup ≡ self.old.setup }
     {
@@ -223,7 +239,7 @@ impl Hub {
     }
 
     fn client_up(&mut self, client: u8) -> Result<Reply, StepFault>
-        ensures step { (moment : ℕ) → Allowed self.old.setup self.old.state (steps.ClientUp client moment) result self.new.state }
+        ensures step { (moment : ℕ) → Answers self.old (steps.ClientUp client moment) result self.new }
         ensures setup { self.new.setup ≡ self.old.setup }
     {
         match self.clients.presence(client) {
@@ -248,18 +264,19 @@ impl Hub {
     }
 
     fn frame(&mut self, client: u8, apdu: &Apdu) -> Result<Reply, StepFault>
-        ensures step { (moment : ℕ) → Allowed self.old.setup self.old.state (steps.Frame client apdu.now moment) result self.new.state }
+        ensures step { (moment : ℕ) → Answers self.old (steps.Frame client apdu.now moment) result self.new }
         ensures setup { self.new.setup ≡ self.old.setup }
     {
         self.connected(client)?;
         self.count()?;
         match apdu {
             Apdu::U(Signal::StartAct) => Ok(self.clients.start(self.alloc, client)),
+            _ => Ok(Reply::Taken),
         }
     }
 
     fn pump(&mut self, client: u8) -> Result<Reply, StepFault>
-        ensures step { (moment : ℕ) → Allowed self.old.setup self.old.state (steps.Pump client moment) result self.new.state }
+        ensures step { (moment : ℕ) → Answers self.old (steps.Pump client moment) result self.new }
         ensures setup { self.new.setup ≡ self.old.setup }
     {
         self.connected(client)?;
@@ -277,11 +294,13 @@ fn take_report(
     report: &Report,
 ) -> u64
     requires { AllByRecursion (HasRoom 1) clients.old }
-    ensures count { result ≡ length (news_of_report settings.now.offset settings.now.rows picture.old report.now) }
+    ensures count { result ≡ length (news_of_one settings.now picture.old report.now) }
     ensures picture { picture.new ≡ shown_after settings.now.offset settings.now.rows picture.old report.now }
-    ensures links { links_of clients.new ≡ map (came (news_of_report settings.now.offset settings.now.rows picture.old report.now)) (links_of clients.old) }
+    ensures links { links_of clients.new
+        ≡ map (client_with_news (news_of_one settings.now picture.old report.now)) (links_of clients.old) }
     ensures room { (n : ℕ) → AllByRecursion (HasRoom (n + 1)) clients.old → AllByRecursion (HasRoom n) clients.new }
-    ensures sendable { AllByRecursion (IsSendable settings.now.offset) (news_of_report settings.now.offset settings.now.rows picture.old report.now) }
+    ensures sendable { AllByRecursion (IsSendable settings.now.offset)
+        (news_of_one settings.now picture.old report.now) }
 {
     match picture.take(report, settings, &Zone::of(settings)) {
         None => 0,
@@ -300,10 +319,12 @@ fn take_reports(
     reports: &[Report],
 ) -> u64
     requires { AllByRecursion (HasRoom (length reports.now)) clients.old }
-    ensures count { result ≡ length (news_of settings.now.offset settings.now.rows picture.old reports.now) }
+    ensures count { result ≡ length (news_among settings.now picture.old reports.now) }
     ensures picture { picture.new ≡ picture_after settings.now.offset settings.now.rows picture.old reports.now }
-    ensures links { links_of clients.new ≡ map (came (news_of settings.now.offset settings.now.rows picture.old reports.now)) (links_of clients.old) }
-    ensures sendable { AllByRecursion (IsSendable settings.now.offset) (news_of settings.now.offset settings.now.rows picture.old reports.now) }
+    ensures links { links_of clients.new
+        ≡ map (client_with_news (news_among settings.now picture.old reports.now)) (links_of clients.old) }
+    ensures sendable { AllByRecursion (IsSendable settings.now.offset)
+        (news_among settings.now picture.old reports.now) }
 {
     let mut news = 0;
     for report in reports {

@@ -13,6 +13,6 @@ ghost use Rattle.gw_hub.specs.Sound.{EachSound};
 /// Premises: the settings have no two rows with one address, the common address has 16 bits, and what is
 /// queued can be sent.
 pub fn runs_tell_news()
-    ensures { (setup : Setup) (past : List Entry) → is_point_map setup.rows ≡ true → setup.common_address < 65536 → IsRun setup past → EachSound setup past
-        → AtEach (Holds setup) past }
+    ensures { (setup : Setup) (past : List Entry) → is_point_map setup.rows ≡ true → setup.common_address < 65536
+        → IsRun setup past → EachSound setup past → AtEach (Holds setup) past }
 {}

@@ -12,11 +12,9 @@ mod law;
 mod outstations;
 mod step;
 
-pub use apdu::{Apdu, ApduBuf, Signal, news_format, start_confirmation};
+pub use apdu::{news_format, start_confirmation};
 pub use examples::steps_by_example;
 pub use hub::Hub;
+pub use iec_apci::{Apdu, ApduBuf, Signal};
 pub use law::runs_tell_news;
 pub use step::{Ignored, Reply, Step, StepFault, Verdict, Why};
-
-#[cfg(test)]
-mod tests;

@@ -1,7 +1,7 @@
 //! All outstations, by their position.
 ghost use Rattle.std.specs.Prelude.{◌≡◌, [], ◌∷◌, Some, None, slice_get};
 ghost use Rattle.std.specs.Option.{option_map};
-ghost use Rattle.gw_picture.specs.Change.{change};
+ghost use Rattle.gw_model.specs.Places.{change};
 ghost use Rattle.gw_hub.specs.Steps.{accepts, is_last, verdict_of};
 
 use crate::step::{Ignored, Verdict};

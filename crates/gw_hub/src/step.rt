@@ -1,7 +1,7 @@
 //! The steps of the core, and what it replies.
 
-use crate::apdu::{Apdu, ApduBuf};
 use dnp_app::Response;
+use iec_apci::{Apdu, ApduBuf};
 
 /// One event. Outstations and clients go by their position in the settings, moments are in
 /// milliseconds.
@@ -13,7 +13,7 @@ pub enum Step {
     Fragment { response: Response, moment: u64 },
     /// A client connected.
     ClientUp { client: u8, moment: u64 },
-    /// A client sent an APDU.
+    /// A client sent an APDU. Only STARTDT act is acted on so far.
     Frame { client: u8, apdu: Apdu, moment: u64 },
     /// A client's writer asks for the next APDU.
     Pump { client: u8, moment: u64 },

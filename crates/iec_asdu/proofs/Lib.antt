@@ -3,3 +3,4 @@ pub mod Behind
 pub mod ObjectLoop
 pub mod Joined
 pub mod Spelled
+pub mod Lengths

@@ -1,12 +1,13 @@
-use Rattle.std.proofs.Common.{◌≡◌, ℕ, ◌*◌, ◌/◌, ◌%◌, List, get_or, ap}
-use Rattle.iec_asdu.specs.Spelling.{spelling}
-use Rattle.gw_hub.proofs.Buffers.{news_buffer, framed}
+use Rattle.std.proofs.Common.{◌≡◌, ℕ, ◌%◌, ◌<◌, List, ap, ◌∙◌, arith}
+use Rattle.iec_apci.specs.Apdu.{Information}
+use Rattle.iec_apci.specs.Buffer.{buffer_of}
 use Rattle.gw_hub.proofs.apdu.news_format.Goals as goal
 
+-- a number below the modulus is written as it is
+as_it_is : (ns : ℕ) (a b : List ℕ) → ns < 32768 → a ≡ b → buffer_of (Information ns 0 a) ≡ buffer_of (Information (ns % 32768) 0 b)
+as_it_is ns a b small same =
+    let number : ns ≡ ns % 32768 = omega arith in
+    ap (λ (n : ℕ). buffer_of (Information n 0 a)) number ∙ ap (λ (octets : List ℕ). buffer_of (Information (ns % 32768) 0 octets)) same
+
 pub returns : goal.returns
-returns c =
-    let w = c.write_monitor-written in
-    let low : get_or c.to_le_bytes.result 0 0 ≡ (2 * c.args.ns) % 256 = ap (λ (xs : List ℕ). get_or xs 0 0) c.to_le_bytes.ensures in
-    let high : get_or c.to_le_bytes.result 1 0 ≡ (2 * c.args.ns) / 256 % 256 = ap (λ (xs : List ℕ). get_or xs 1 0) c.to_le_bytes.ensures in
-    framed c.joined.result _ _ _ c.joined.ensures
-    (news_buffer c.args.ns w.result.octets _ _ w.new.out (spelling c.args.zone.now.offset_minutes c.args.common 3 c.args.observation.now) c.requires w.array_long w.ensures.room w.ensures.spelled w.ensures.rest low high)
+returns c = c.of.ensures.octets ∙ as_it_is c.args.ns _ _ c.requires c.write_monitor-written.ensures.spelled

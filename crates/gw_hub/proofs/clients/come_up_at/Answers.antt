@@ -1,11 +1,9 @@
 use Rattle.std.proofs.Common.{ap, arith}
 use Rattle.std.specs.Prelude.{Some, None}
 use Rattle.gw_hub.specs.State.{Link}
+use Rattle.gw_hub.specs.Steps.{new_link}
 use Rattle.gw_hub.proofs.Seats.{one_changed, past_changed}
 use Rattle.gw_hub.proofs.clients.come_up_at.Goals as goal
-
-abbrev new_link : Link
-new_link = record { confirmations = 0; next_send = 0; session = None }
 
 pub returns-then-position-connections : goal.returns-then-position-connections
 returns-then-position-connections c =

@@ -1,5 +1,5 @@
 use Rattle.std.proofs.Common.{◌+◌, [], ◌∷◌, refl, arith}
-use Rattle.gw_hub.specs.Steps.{came}
+use Rattle.gw_hub.specs.Steps.{client_with_news}
 use Rattle.gw_hub.specs.Seats.{links_of, HasRoom}
 use Rattle.gw_hub.proofs.Seats.{next_changed, links-length, halves_none, halves_at, halves_more, halves_all}
 use Rattle.gw_hub.proofs.clients.put_all.Goals as goal
@@ -13,7 +13,7 @@ put_one-requires c =
 
 pub loop-position-preserved : goal.loop-position-preserved
 loop-position-preserved c = (
-  next_changed c.loop-position.position (came (c.args.news ∷ [])) (links_of c.args.connections.now) c.loop-position.connections c.index-connections-position.result c.put_one.new.slot
+  next_changed c.loop-position.position (client_with_news (c.args.news ∷ [])) (links_of c.args.connections.now) c.loop-position.connections c.index-connections-position.result c.put_one.new.slot
       (omega (arith, links-length c.args.connections.now, c.loop-position.auto, c.loop-position-test.true)) (omega (arith, c.loop-position.auto, c.loop-position-test.true)) c.loop-position.invariant.0 c.put_one.ensures.link,
   λ n all. halves_more (HasRoom n) (HasRoom (n + 1)) c.loop-position.position c.loop-position.connections c.put_one.new.slot (omega (arith, c.loop-position.auto, c.loop-position-test.true))
       (c.put_one.ensures.room n (halves_at (HasRoom n) (HasRoom (n + 1)) c.loop-position.position c.loop-position.connections c.index-connections-position.result (omega (arith, c.loop-position.auto, c.loop-position-test.true)) (c.loop-position.invariant.1 n all)))

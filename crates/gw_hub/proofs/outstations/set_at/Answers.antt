@@ -1,6 +1,6 @@
 use Rattle.std.proofs.Common.{ℕ, sym, ap, ◌∙◌, arith}
 use Rattle.std.specs.Prelude.{Some}
-use Rattle.gw_picture.specs.Change.{change}
+use Rattle.gw_model.specs.Places.{change}
 use Rattle.gw_picture.proofs.Lists.{set-change, change-past}
 use Rattle.gw_hub.proofs.outstations.set_at.Goals as goal
 

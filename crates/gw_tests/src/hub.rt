@@ -1,9 +1,9 @@
 ghost use Rattle.std.specs.Prelude.{◌≤◌, length};
 
-use crate::{
+use dnp_app::read_response;
+use gw_hub::{
     Apdu, Hub, Ignored, Reply, Signal, Step, StepFault, Verdict, news_format, start_confirmation,
 };
-use dnp_app::read_response;
 use gw_model::{Observation, Quality, Settings, Stamp, Value};
 use gw_time::Zone;
 use std::test::Fail;
@@ -123,6 +123,31 @@ fn a_hub_takes_an_event_once(rt: HostRuntime) -> Result<(), Fail> {
     let solicited = fragment(&rt, &[0xC0, 0x81, 0, 0])?;
     let ignored = Reply::Verdict(Verdict::Ignored(Ignored::NoRequest));
     assert_eq!(rt; hub.step(&solicited), Ok(ignored));
+    Ok(())
+}
+
+/// Only STARTDT act is acted on so far: any other APDU is taken and changes nothing.
+#[test]
+fn other_apdus_change_nothing(rt: HostRuntime) -> Result<(), Fail> {
+    let mut hub = Hub::new(rt.alloc(), Settings::built_in())?;
+    let up = Step::ClientUp {
+        client: 0,
+        moment: 0,
+    };
+    assert_eq!(rt; hub.step(&up), Ok(Reply::Done));
+    for apdu in [Apdu::U(Signal::TestAct), Apdu::S { nr: 7 }] {
+        let frame = Step::Frame {
+            client: 0,
+            apdu,
+            moment: 0,
+        };
+        assert_eq!(rt; hub.step(&frame), Ok(Reply::Taken));
+    }
+    let pump = Step::Pump {
+        client: 0,
+        moment: 0,
+    };
+    assert_eq!(rt; hub.step(&pump), Ok(Reply::Nothing));
     Ok(())
 }
 
