@@ -1,8 +1,8 @@
-//! Tags with values worked out by hand and by another calendar.
+//! gw_time: tags with values worked out by hand and by another calendar.
 
-use crate::laws::{read_again, written_again};
-use crate::{TagFault, Zone, from_tag, to_tag};
 use gw_model::Stamp;
+use gw_time::laws::{read_again, written_again};
+use gw_time::{TagFault, Zone, from_tag, to_tag};
 use std::test::Fail;
 
 const WEST: Zone = Zone {
