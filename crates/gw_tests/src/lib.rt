@@ -2,4 +2,6 @@
 #![tactic(auto)]
 
 #[cfg(test)]
+mod picture;
+#[cfg(test)]
 mod time;

@@ -1,5 +1,7 @@
-use crate::Picture;
+//! gw_picture: what a picture shows, and which reports are news.
+
 use gw_model::{Kind, Memory, Observation, PointKey, Quality, Raw, Report, Settings, Stamp, Value};
+use gw_picture::Picture;
 use gw_time::Zone;
 
 /// A report of binary input 5, online.

@@ -2,7 +2,7 @@
 ghost use Rattle.std.specs.Prelude.{◌≡◌};
 ghost use Rattle.gw_model.specs.Fit.{IsFit, IsInWindow};
 ghost use Rattle.gw_translate.specs.Quality.{quality_of};
-ghost use Rattle.gw_translate.specs.Image.{clamped, image_of, stamp_image};
+ghost use Rattle.gw_translate.specs.Image.{nearest_scaled_value, image_of, stamp_image};
 
 use gw_model::{Kind, Observation, Quality, Raw, Report, Row, Show, Stamp, Value};
 use gw_time::{Zone, has_tag};
@@ -45,7 +45,7 @@ pub fn quality(kind: Kind, flags: u8) -> Quality
 
 /// The nearest value of 16 bits.
 fn clamp(number: i32) -> i16
-    ensures { result ≡ clamped number }
+    ensures { result ≡ nearest_scaled_value number }
 {
     number.max(-32768).min(32767) as i16
 }
