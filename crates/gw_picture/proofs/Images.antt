@@ -17,8 +17,8 @@ use Rattle.gw_model.specs.Keys.{same_value, same_quality, same_shown}
 use Rattle.gw_model.proofs.Same.{same_value-true, same_quality-true}
 use Rattle.gw_translate.specs.Quality.{quality_of}
 use Rattle.gw_translate.specs.Image.{image_of, raw_image, stamp_image}
-use Rattle.gw_translate.specs.News.{is_news_of}
-use Rattle.gw_picture.specs.News.{news_after, untimed}
+use Rattle.gw_translate.specs.Image.{is_news_of}
+use Rattle.gw_picture.specs.Picture.{news_after, without_time}
 use Rattle.gw_picture.proofs.Lists.{get_some}
 
 -- an image has its row's address
@@ -42,7 +42,7 @@ observations_equal : (a b : ℕ) (v w : Value) (q p : Quality) (s t : Stamp) →
 observations_equal a b v w q p s t ea ev eq es = cc
 
 -- an image that is no news is what was shown before, but for its time
-pub no_news : (r : Report) (before image : Observation) → is_news_of r before image ≡ false → before.address ≡ image.address → before.stamp ≡ Untimed → before ≡ untimed image
+pub no_news : (r : Report) (before image : Observation) → is_news_of r before image ≡ false → before.address ≡ image.address → before.stamp ≡ Untimed → before ≡ without_time image
 no_news r before image e ea es =
     let parts = or_parts r.event (not (same_shown before image)) e in
     let same = not-false (same_shown before image) parts.1 in

@@ -11,11 +11,11 @@ use Rattle.gw_model.specs.declared.observation.Observation.{Observation}
 use Rattle.gw_model.specs.Keys.{same_key}
 use Rattle.gw_model.specs.Rows.{row_from, is_fresh, is_point_map}
 use Rattle.gw_translate.specs.Image.{image_of}
-use Rattle.gw_translate.specs.News.{is_news_of}
-use Rattle.gw_picture.specs.Change.{change}
+use Rattle.gw_translate.specs.Image.{is_news_of}
+use Rattle.gw_model.specs.Places.{change}
 use Rattle.gw_picture.specs.Opening.{opening}
-use Rattle.gw_picture.specs.News.{untimed, news_at, news_of_report, shown_at, shown_after, news_of, picture_after}
-use Rattle.gw_picture.specs.Log.{latest, picture_of}
+use Rattle.gw_picture.specs.Picture.{without_time, news_by_row, news_of_report, picture_by_row, picture_after_report, news_of, picture_after}
+use Rattle.gw_picture.specs.Log.{last_observation, picture_of}
 use Rattle.gw_picture.proofs.Lists.{change-same}
 use Rattle.gw_picture.proofs.Images.{image_address, no_news}
 
@@ -58,38 +58,38 @@ fresh_address k n key first (r ∷ rows) row fresh e =
 
 -- ---- what was shown last
 
-latest-push : (address : ℕ) (shown : Observation) (log : List Observation) (x : Observation) → latest address shown (log ++ x ∷ []) ≡ cond (eqb x.address address) (untimed x) (latest address shown log)
-latest-push address shown [] x = refl
-latest-push address shown (y ∷ log) x = latest-push address (cond (eqb y.address address) (untimed y) shown) log x
+last_observation-push : (address : ℕ) (shown : Observation) (log : List Observation) (x : Observation) → last_observation address shown (log ++ x ∷ []) ≡ cond (eqb x.address address) (without_time x) (last_observation address shown log)
+last_observation-push address shown [] x = refl
+last_observation-push address shown (y ∷ log) x = last_observation-push address (cond (eqb y.address address) (without_time y) shown) log x
 
-pick_address : (b : Bool) (y shown : Observation) (address : ℕ) → (b ≡ true → y.address ≡ address) → shown.address ≡ address → (cond b (untimed y) shown).address ≡ address
+pick_address : (b : Bool) (y shown : Observation) (address : ℕ) → (b ≡ true → y.address ≡ address) → shown.address ≡ address → (cond b (without_time y) shown).address ≡ address
 pick_address true y shown address here e = here refl
 pick_address false y shown address here e = e
 
-latest_address : (address : ℕ) (shown : Observation) (log : List Observation) → shown.address ≡ address → (latest address shown log).address ≡ address
-latest_address address shown [] e = e
-latest_address address shown (y ∷ log) e =
-    latest_address address (cond (eqb y.address address) (untimed y) shown) log (pick_address (eqb y.address address) y shown address (eqb-true y.address address) e)
+last_observation-address : (address : ℕ) (shown : Observation) (log : List Observation) → shown.address ≡ address → (last_observation address shown log).address ≡ address
+last_observation-address address shown [] e = e
+last_observation-address address shown (y ∷ log) e =
+    last_observation-address address (cond (eqb y.address address) (without_time y) shown) log (pick_address (eqb y.address address) y shown address (eqb-true y.address address) e)
 
-pick_stamp : (b : Bool) (y shown : Observation) → shown.stamp ≡ Untimed → (cond b (untimed y) shown).stamp ≡ Untimed
+pick_stamp : (b : Bool) (y shown : Observation) → shown.stamp ≡ Untimed → (cond b (without_time y) shown).stamp ≡ Untimed
 pick_stamp true y shown e = refl
 pick_stamp false y shown e = e
 
-latest_stamp : (address : ℕ) (shown : Observation) (log : List Observation) → shown.stamp ≡ Untimed → (latest address shown log).stamp ≡ Untimed
-latest_stamp address shown [] e = e
-latest_stamp address shown (y ∷ log) e = latest_stamp address (cond (eqb y.address address) (untimed y) shown) log (pick_stamp (eqb y.address address) y shown e)
+last_observation-stamp : (address : ℕ) (shown : Observation) (log : List Observation) → shown.stamp ≡ Untimed → (last_observation address shown log).stamp ≡ Untimed
+last_observation-stamp address shown [] e = e
+last_observation-stamp address shown (y ∷ log) e = last_observation-stamp address (cond (eqb y.address address) (without_time y) shown) log (pick_stamp (eqb y.address address) y shown e)
 
 -- ---- one more observation in the log
 
 -- what a row shows by a log
 abbrev shown_by : List Observation → Row → Observation
-shown_by log row = latest row.address (opening row) log
+shown_by log row = last_observation row.address (opening row) log
 
 same_elsewhere : (log : List Observation) (x : Observation) (row : Row) → eqb x.address row.address ≡ false → shown_by (log ++ x ∷ []) row ≡ shown_by log row
-same_elsewhere log x row e = latest-push row.address (opening row) log x ∙ rw e refl
+same_elsewhere log x row e = last_observation-push row.address (opening row) log x ∙ rw e refl
 
-shown_here : (log : List Observation) (x : Observation) (row : Row) → x.address ≡ row.address → shown_by (log ++ x ∷ []) row ≡ untimed x
-shown_here log x row e = latest-push row.address (opening row) log x ∙ rw (eq-eqb x.address row.address e) refl
+shown_here : (log : List Observation) (x : Observation) (row : Row) → x.address ≡ row.address → shown_by (log ++ x ∷ []) row ≡ without_time x
+shown_here log x row e = last_observation-push row.address (opening row) log x ∙ rw (eq-eqb x.address row.address e) refl
 
 -- rows that a fresh row stands before keep what they show when an observation at its address comes
 fresh_same : (log : List Observation) (x : Observation) (first : Row) (rows : List Row) → is_fresh first rows ≡ true → x.address ≡ first.address
@@ -106,7 +106,7 @@ swap a b e = ne_eqb b a (λ same. eqb-false a b e (sym same))
 
 -- the picture with the observation at its row is the picture of the log with it
 picture_of-push : (k n : ℕ) (key : PointKey) (rows : List Row) (row : Row) (log : List Observation) (x : Observation) → is_point_map rows ≡ true → row_from k key rows ≡ Some (n, row)
-    → x.address ≡ row.address → change (n - k) (λ _. untimed x) (picture_of rows log) ≡ picture_of rows (log ++ x ∷ [])
+    → x.address ≡ row.address → change (n - k) (λ _. without_time x) (picture_of rows log) ≡ picture_of rows (log ++ x ∷ [])
 picture_of-push k n key [] row log x map_is found e = absurd cc
 picture_of-push k n key (r ∷ rows) row log x map_is found e =
     let parts = and_parts (is_fresh r rows) (is_point_map rows) map_is in
@@ -115,7 +115,7 @@ picture_of-push k n key (r ∷ rows) row log x map_is found e =
           (let at : pair k r ≡ pair n row = rw here at found in
           let none : n - k ≡ 0 = omega (arith, (pair_is k n r row at).0) in
           let e' : x.address ≡ r.address = e ∙ ap (λ (y : Row). y.address) (sym (pair_is k n r row at).1) in
-          rw none (ap (λ (ys : List Observation). untimed x ∷ ys) (sym (fresh_same log x r rows parts.0 e')) ∙ ap (λ (y : Observation). y ∷ picture_of rows (log ++ x ∷ [])) (sym (shown_here log x r e'))))
+          rw none (ap (λ (ys : List Observation). without_time x ∷ ys) (sym (fresh_same log x r rows parts.0 e')) ∙ ap (λ (y : Observation). y ∷ picture_of rows (log ++ x ∷ [])) (sym (shown_here log x r e'))))
       | inr there ↦
           (let at : row_from (k + 1) key rows ≡ Some (n, row) = rw there at found in
           let more : n - k ≡ suc (n - (k + 1)) = omega (arith, row_from-le (k + 1) n key rows row at) in
@@ -144,7 +144,7 @@ picture_of-get k n key (r ∷ rows) row log found =
 -- ---- reports
 
 one_report : (offset : ℤ) (rows : List Row) (log : List Observation) (r : Report) (found : Option (ℕ × Row)) → is_point_map rows ≡ true → row_from 0 r.key rows ≡ found
-    → shown_at offset (picture_of rows log) r found ≡ picture_of rows (log ++ news_at offset (picture_of rows log) r found)
+    → picture_by_row offset (picture_of rows log) r found ≡ picture_of rows (log ++ news_by_row offset (picture_of rows log) r found)
 one_report offset rows log r None map_is e = ap (picture_of rows) (sym (append-nil log))
 one_report offset rows log r (Some p) map_is e =
     let row = p.1 in
@@ -153,18 +153,18 @@ one_report offset rows log r (Some p) map_is e =
     let get : slice_get (picture_of rows log) p.0 ≡ Some (shown_by log row) = rw zero_off at (picture_of-get 0 p.0 r.key rows row log e) in
     elim (cases_Bool (is_news_of r (shown_by log row) image)) [
       | inl news ↦
-          (let push : change p.0 (λ _. untimed image) (picture_of rows log) ≡ picture_of rows (log ++ image ∷ []) = rw zero_off at (picture_of-push 0 p.0 r.key rows row log image map_is e (image_address offset row r)) in
-          let told : news_at offset (picture_of rows log) r (Some p) ≡ image ∷ [] = rw (get, news) refl in
-          push ∙ ap (λ (xs : List Observation). picture_of rows (log ++ xs)) (sym told))
+          (let push : change p.0 (λ _. without_time image) (picture_of rows log) ≡ picture_of rows (log ++ image ∷ []) = rw zero_off at (picture_of-push 0 p.0 r.key rows row log image map_is e (image_address offset row r)) in
+          let observation : news_by_row offset (picture_of rows log) r (Some p) ≡ image ∷ [] = rw (get, news) refl in
+          push ∙ ap (λ (xs : List Observation). picture_of rows (log ++ xs)) (sym observation))
       | inr none ↦
-          (let before : shown_by log row ≡ untimed image = no_news r (shown_by log row) image none (latest_address row.address (opening row) log refl ∙ sym (image_address offset row r)) (latest_stamp row.address (opening row) log refl) in
-          let told : news_at offset (picture_of rows log) r (Some p) ≡ [] = rw (get, none) refl in
-          change-same p.0 (untimed image) (picture_of rows log) (get ∙ ap (λ (x : Observation). some x) before)
-          ∙ (ap (picture_of rows) (sym (append-nil log)) ∙ ap (λ (xs : List Observation). picture_of rows (log ++ xs)) (sym told)))
+          (let before : shown_by log row ≡ without_time image = no_news r (shown_by log row) image none (last_observation-address row.address (opening row) log refl ∙ sym (image_address offset row r)) (last_observation-stamp row.address (opening row) log refl) in
+          let observation : news_by_row offset (picture_of rows log) r (Some p) ≡ [] = rw (get, none) refl in
+          change-same p.0 (without_time image) (picture_of rows log) (get ∙ ap (λ (x : Observation). some x) before)
+          ∙ (ap (picture_of rows) (sym (append-nil log)) ∙ ap (λ (xs : List Observation). picture_of rows (log ++ xs)) (sym observation)))
     ]
 
 pub report_in_log : (offset : ℤ) (rows : List Row) (log : List Observation) (r : Report) → is_point_map rows ≡ true
-    → shown_after offset rows (picture_of rows log) r ≡ picture_of rows (log ++ news_of_report offset rows (picture_of rows log) r)
+    → picture_after_report offset rows (picture_of rows log) r ≡ picture_of rows (log ++ news_of_report offset rows (picture_of rows log) r)
 report_in_log offset rows log r map_is = one_report offset rows log r (row_from 0 r.key rows) map_is refl
 
 -- of reports taken in turn
@@ -173,7 +173,7 @@ pub reports_in_log : (offset : ℤ) (rows : List Row) (log : List Observation) (
 reports_in_log offset rows log [] map_is = ap (picture_of rows) (sym (append-nil log))
 reports_in_log offset rows log (r ∷ rs) map_is =
     let xs : List Observation = news_of_report offset rows (picture_of rows log) r in
-    let one : shown_after offset rows (picture_of rows log) r ≡ picture_of rows (log ++ xs) = report_in_log offset rows log r map_is in
+    let one : picture_after_report offset rows (picture_of rows log) r ≡ picture_of rows (log ++ xs) = report_in_log offset rows log r map_is in
     let others : picture_after offset rows (picture_of rows (log ++ xs)) rs ≡ picture_of rows ((log ++ xs) ++ news_of offset rows (picture_of rows (log ++ xs)) rs) = reports_in_log offset rows (log ++ xs) rs map_is in
     ap (λ (p : List Observation). picture_after offset rows p rs) one
     ∙ (others

@@ -11,10 +11,10 @@ use Rattle.gw_model.specs.declared.observation.Observation.{Observation}
 use Rattle.gw_model.specs.Keys.{same_key}
 use Rattle.gw_model.specs.Rows.{row_from}
 use Rattle.gw_translate.specs.Image.{image_of}
-use Rattle.gw_translate.specs.News.{is_news_of}
-use Rattle.gw_picture.specs.Change.{change}
+use Rattle.gw_translate.specs.Image.{is_news_of}
+use Rattle.gw_model.specs.Places.{change}
 use Rattle.gw_picture.specs.Opening.{opening}
-use Rattle.gw_picture.specs.News.{untimed, news_at, news_of_report, shown_at, shown_after, picture_after}
+use Rattle.gw_picture.specs.Picture.{without_time, news_by_row, news_of_report, picture_by_row, picture_after_report, picture_after}
 use Rattle.gw_picture.specs.Rows.{IsPictureOf, ShowsImage}
 use Rattle.gw_picture.proofs.Lists.{change-here, change-there, change-same, change-maps, map-get}
 use Rattle.gw_picture.proofs.Images.{image_address, no_news}
@@ -97,10 +97,10 @@ shown rows picture r n row is found = shown_of rows picture n row (slice_get pic
 -- ---- a report
 
 keeps_at : (offset : ℤ) (rows : List Row) (picture : List Observation) (r : Report) (found : Option (ℕ × Row)) → IsPictureOf rows picture → row_from 0 r.key rows ≡ found
-    → IsPictureOf rows (shown_at offset picture r found)
+    → IsPictureOf rows (picture_by_row offset picture r found)
 keeps_at offset rows picture r None is e = is
 keeps_at offset rows picture r (Some p) is e =
-    let x : Observation = untimed (image_of offset p.1 r) in
+    let x : Observation = without_time (image_of offset p.1 r) in
     let here : Shown picture p.0 p.1 = shown rows picture r p.0 p.1 is e in
     record {
       addresses =
@@ -109,15 +109,15 @@ keeps_at offset rows picture r (Some p) is e =
       untimed = all_change IsUntimed p.0 x picture refl is.untimed;
     }
 
-pub keeps_picture : (offset : ℤ) (rows : List Row) (picture : List Observation) (r : Report) → IsPictureOf rows picture → IsPictureOf rows (shown_after offset rows picture r)
+pub keeps_picture : (offset : ℤ) (rows : List Row) (picture : List Observation) (r : Report) → IsPictureOf rows picture → IsPictureOf rows (picture_after_report offset rows picture r)
 keeps_picture offset rows picture r is = keeps_at offset rows picture r (row_from 0 r.key rows) is refl
 
 pub reports_keep_picture : (offset : ℤ) (rows : List Row) (picture : List Observation) (rs : List Report) → IsPictureOf rows picture → IsPictureOf rows (picture_after offset rows picture rs)
 reports_keep_picture offset rows picture [] is = is
-reports_keep_picture offset rows picture (r ∷ rs) is = reports_keep_picture offset rows (shown_after offset rows picture r) rs (keeps_picture offset rows picture r is)
+reports_keep_picture offset rows picture (r ∷ rs) is = reports_keep_picture offset rows (picture_after_report offset rows picture r) rs (keeps_picture offset rows picture r is)
 
 none_at : (offset : ℤ) (rows : List Row) (picture : List Observation) (r : Report) (found : Option (ℕ × Row)) → IsPictureOf rows picture → row_from 0 r.key rows ≡ found
-    → news_at offset picture r found ≡ [] → shown_at offset picture r found ≡ picture
+    → news_by_row offset picture r found ≡ [] → picture_by_row offset picture r found ≡ picture
 none_at offset rows picture r None is e none = refl
 none_at offset rows picture r (Some p) is e none =
     let image : Observation = image_of offset p.1 r in
@@ -125,19 +125,19 @@ none_at offset rows picture r (Some p) is e none =
     elim (cases_Bool (is_news_of r here.last image)) [
       | inl news ↦ (let some : image ∷ [] ≡ [] = rw (here.at, news) at none in absurd cc)
       | inr old ↦
-          (let before : here.last ≡ untimed image = no_news r here.last image old (here.address ∙ sym (image_address offset p.1 r)) here.stamp in
-          change-same p.0 (untimed image) picture (here.at ∙ ap (λ (x : Observation). Some x) before))
+          (let before : here.last ≡ without_time image = no_news r here.last image old (here.address ∙ sym (image_address offset p.1 r)) here.stamp in
+          change-same p.0 (without_time image) picture (here.at ∙ ap (λ (x : Observation). Some x) before))
     ]
 
 pub no_news_no_change : (offset : ℤ) (rows : List Row) (picture : List Observation) (r : Report) → IsPictureOf rows picture → news_of_report offset rows picture r ≡ []
-    → shown_after offset rows picture r ≡ picture
+    → picture_after_report offset rows picture r ≡ picture
 no_news_no_change offset rows picture r is none = none_at offset rows picture r (row_from 0 r.key rows) is refl none
 
 head_is : (x y : Observation) → x ∷ [] ≡ y ∷ [] → x ≡ y
 head_is x y e = cc
 
 news_shown_at : (offset : ℤ) (rows : List Row) (picture : List Observation) (r : Report) (x : Observation) (found : Option (ℕ × Row)) → IsPictureOf rows picture → row_from 0 r.key rows ≡ found
-    → news_at offset picture r found ≡ x ∷ [] → ShowsImage offset rows r x picture (shown_at offset picture r found)
+    → news_by_row offset picture r found ≡ x ∷ [] → ShowsImage offset rows r x picture (picture_by_row offset picture r found)
 news_shown_at offset rows picture r x None is e news = absurd cc
 news_shown_at offset rows picture r x (Some p) is e news =
     let image : Observation = image_of offset p.1 r in
@@ -151,12 +151,12 @@ news_shown_at offset rows picture r x (Some p) is e news =
             row = p.1;
             found = e;
             image = same;
-            here = change-here p.0 (λ _. untimed image) picture ∙ (ap (option_map (λ (y : Observation). untimed image)) here.at ∙ ap (λ (y : Observation). Some (untimed y)) (sym same));
-            elsewhere = λ n ne. change-there p.0 n (λ _. untimed image) picture (λ at. ne (sym at));
+            here = change-here p.0 (λ _. without_time image) picture ∙ (ap (option_map (λ (y : Observation). without_time image)) here.at ∙ ap (λ (y : Observation). Some (without_time y)) (sym same));
+            elsewhere = λ n ne. change-there p.0 n (λ _. without_time image) picture (λ at. ne (sym at));
           })
       | inr old ↦ (let none : [] ≡ x ∷ [] = rw (here.at, old) at news in absurd cc)
     ]
 
 pub news_changes_row : (offset : ℤ) (rows : List Row) (picture : List Observation) (r : Report) (x : Observation) → IsPictureOf rows picture → news_of_report offset rows picture r ≡ x ∷ []
-    → ShowsImage offset rows r x picture (shown_after offset rows picture r)
+    → ShowsImage offset rows r x picture (picture_after_report offset rows picture r)
 news_changes_row offset rows picture r x is news = news_shown_at offset rows picture r x (row_from 0 r.key rows) is refl news

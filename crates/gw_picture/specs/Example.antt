@@ -1,5 +1,5 @@
--- Short words for the worked examples: three rows, and reports of their points. `binary` and `standing` of gw_translate are an event and a static
--- value of binary input 5, `told` an observation at its address.
+-- Short words for the worked examples: three rows, and reports of their points. `binary` and `static_value` of
+-- gw_translate are an event and a static value of binary input 5, `observation` an observation at its address.
 use Rattle.std.specs.Prelude.{ℕ, ℤ, false, true, List, [], ◌∷◌, refl}
 use Rattle.std.proofs.Common.{lit≤}
 use Rattle.gw_model.specs.declared.point.Kind.TheVariants as kinds
@@ -13,30 +13,41 @@ use Rattle.gw_model.specs.declared.observation.Value.{Value}
 use Rattle.gw_model.specs.declared.observation.Value.TheVariants.{Total}
 use Rattle.gw_model.specs.declared.observation.Quality.{Quality}
 use Rattle.gw_model.specs.declared.observation.Observation.{Observation}
-use Rattle.gw_translate.specs.Example.{row, invalid}
+use Rattle.gw_translate.specs.Example.{binary_row, invalid}
 
 abbrev pub analog_0 : PointKey
 analog_0 = record { outstation = 0; kind = kinds.Analog; index = 0 }
 
+abbrev pub counter_0 : PointKey
+counter_0 = record { outstation = 0; kind = kinds.Counter; index = 0 }
+
 -- input 5 is single-point 4101, analog input 0 scaled value 4201, counter 0 integrated total 4301
 abbrev pub rows : List Row
 rows =
-    row kinds.Binary shows.Single refl
+    binary_row
     ∷ record { key = analog_0; address = 4201; show = shows.Scaled; from = lit≤ tt; to = lit≤ tt; shown = refl }
-    ∷ record { key = record { outstation = 0; kind = kinds.Counter; index = 0 }; address = 4301; show = shows.Total; from = lit≤ tt; to = lit≤ tt; shown = refl }
+    ∷ record { key = counter_0; address = 4301; show = shows.Total; from = lit≤ tt; to = lit≤ tt; shown = refl }
     ∷ []
 
 -- a static value of analog input 0
-abbrev pub measured : ℕ → ℤ → Report
-measured flags z = record { key = analog_0; raw = Number z; flags = flags; stamp = Untimed; event = false; of_kind = refl; stamped = refl }
+abbrev pub analog_value : ℕ → ℤ → Report
+analog_value flags z = record {
+  key = analog_0;
+  raw = Number z;
+  flags = flags;
+  stamp = Untimed;
+  event = false;
+  of_kind = refl;
+  stamped = refl;
+}
 
-abbrev pub observed : ℕ → Value → Quality → Observation
-observed address value quality = record { address = address; value = value; quality = quality; stamp = Untimed }
+abbrev pub observation_at : ℕ → Value → Quality → Observation
+observation_at address value quality = record { address = address; value = value; quality = quality; stamp = Untimed }
 
 -- what is known of nothing: invalid and not topical
 abbrev pub unknown : Quality
 unknown = record invalid { nt = true }
 
 -- the picture of these values
-abbrev pub shown : Observation → Observation → List Observation
-shown input analog = input ∷ analog ∷ observed 4301 (Total 0) invalid ∷ []
+abbrev pub picture_with : Observation → Observation → List Observation
+picture_with input analog = input ∷ analog ∷ observation_at 4301 (Total 0) invalid ∷ []

@@ -1,6 +1,5 @@
-pub mod Change
 pub mod Opening
-pub mod News
+pub mod Picture
 pub mod Log
 pub mod Rows
 pub mod Example

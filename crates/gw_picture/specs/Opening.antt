@@ -1,5 +1,5 @@
--- What is shown of a row before anything was reported: zero, invalid and not topical; a binary counter reading has no NT (IEC 60870-5-101, 7.2.6.9),
--- so a total is invalid alone.
+-- What is shown of a row before anything was reported: zero, invalid and not topical; a binary counter reading has no
+-- NT (IEC 60870-5-101, 7.2.6.9), so a total is invalid alone.
 use Rattle.std.specs.Prelude.{pos, true, false}
 use Rattle.gw_model.specs.declared.point.Stamp.TheVariants.{Untimed}
 use Rattle.gw_model.specs.declared.row.Row.{Row}
@@ -11,8 +11,10 @@ use Rattle.gw_model.specs.declared.observation.Quality.{Quality}
 use Rattle.gw_model.specs.declared.observation.Observation.{Observation}
 
 abbrev pub quality_at_first : Show → Quality
-quality_at_first shows.Total = record { iv = true; nt = false; sb = false; bl = false; ov = false; cy = false; ca = false }
-quality_at_first _ = record { iv = true; nt = true; sb = false; bl = false; ov = false; cy = false; ca = false }
+quality_at_first shows.Total =
+    record { iv = true; nt = false; sb = false; bl = false; ov = false; cy = false; ca = false }
+quality_at_first _ =
+    record { iv = true; nt = true; sb = false; bl = false; ov = false; cy = false; ca = false }
 
 abbrev pub value_at_first : Show → Value
 value_at_first shows.Single = Single false
@@ -22,4 +24,9 @@ value_at_first shows.Word = Word 0
 value_at_first shows.Total = Total 0
 
 abbrev pub opening : Row → Observation
-opening row = record { address = row.address; value = value_at_first row.show; quality = quality_at_first row.show; stamp = Untimed }
+opening row = record {
+  address = row.address;
+  value = value_at_first row.show;
+  quality = quality_at_first row.show;
+  stamp = Untimed;
+}

@@ -7,18 +7,20 @@ use Rattle.gw_model.specs.declared.row.Row.{Row}
 use Rattle.gw_model.specs.declared.observation.Observation.{Observation}
 use Rattle.gw_model.specs.Rows.{row_from}
 use Rattle.gw_translate.specs.Image.{image_of}
-use Rattle.gw_picture.specs.News.{untimed}
+use Rattle.gw_picture.specs.Picture.{without_time}
 
 -- at each row's place an observation with the row's address, without time
 pub record IsPictureOf (rows : List Row) (picture : List Observation) : Type 0 where
   pub addresses : map (λ (x : Observation). x.address) picture ≡ map (λ (row : Row). row.address) rows
   pub untimed : AllByRecursion (λ (x : Observation). x.stamp ≡ Untimed) picture
 
--- x is the image of a report by the row of its point. At that row's place the second picture shows x without its time, elsewhere what the first one shows
-pub record ShowsImage (offset : ℤ) (rows : List Row) (r : Report) (x : Observation) (before after : List Observation) : Type 0 where
+-- x is the image of a report by the row of its point. At that row's place the second picture shows x without its time,
+-- elsewhere what the first one shows
+pub record ShowsImage
+    (offset : ℤ) (rows : List Row) (r : Report) (x : Observation) (before after : List Observation) : Type 0 where
   pub place : ℕ
   pub row : Row
   pub found : row_from 0 r.key rows ≡ Some (place, row)
   pub image : x ≡ image_of offset row r
-  pub here : slice_get after place ≡ Some (untimed x)
+  pub here : slice_get after place ≡ Some (without_time x)
   pub elsewhere : (n : ℕ) → n ≢ place → slice_get after n ≡ slice_get before n

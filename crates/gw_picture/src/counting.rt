@@ -1,7 +1,7 @@
 //! How many of a list of reports would be news.
 ghost use Rattle.std.specs.Prelude.{◌≡◌, length, slice_get};
 ghost use Rattle.gw_model.specs.Rows.{row_from};
-ghost use Rattle.gw_picture.specs.News.{news_of, news_of_report, next_at, picture_after};
+ghost use Rattle.gw_picture.specs.Picture.{news_of, news_of_report, observation_after_report, picture_after};
 
 use crate::taking::without_time;
 use gw_model::{Observation, Report, Settings};
@@ -16,7 +16,8 @@ fn next_shown(
     settings: &Settings,
     zone: &Zone,
 ) -> Observation
-    ensures { result ≡ next_at zone.now.offset_minutes report.now position last (row_from 0 report.now.key settings.now.rows) }
+    ensures { let found = row_from 0 report.now.key settings.now.rows in
+        result ≡ observation_after_report zone.now.offset_minutes report.now position last found }
 {
     match settings.row_of(&report.key) {
         Some((at, row)) if at == position => without_time(image(report, row, zone)),
@@ -32,7 +33,8 @@ fn shown_once_taken(
     settings: &Settings,
     zone: &Zone,
 ) -> Option<Observation>
-    ensures { result ≡ slice_get (picture_after zone.now.offset_minutes settings.now.rows shown.now reports.now) position }
+    ensures { result
+        ≡ slice_get (picture_after zone.now.offset_minutes settings.now.rows shown.now reports.now) position }
 {
     let mut last = *shown.get(position)?;
     for report in reports {
@@ -49,7 +51,9 @@ fn is_news_after(
     settings: &Settings,
     zone: &Zone,
 ) -> u64
-    ensures { result ≡ length (news_of_report zone.now.offset_minutes settings.now.rows (picture_after zone.now.offset_minutes settings.now.rows shown.now earlier.now) report.now) }
+    ensures { let offset = zone.now.offset_minutes in
+        let before = picture_after offset settings.now.rows shown.now earlier.now in
+        result ≡ length (news_of_report offset settings.now.rows before report.now) }
 {
     let Some((position, row)) = settings.row_of(&report.key) else {
         return 0;

@@ -11,6 +11,3 @@ mod taking;
 pub use examples::pictures_by_example;
 pub use laws::{picture_keeps_rows, picture_of_the_log, report_changes_its_row_alone};
 pub use picture::Picture;
-
-#[cfg(test)]
-mod tests;

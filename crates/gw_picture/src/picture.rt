@@ -3,7 +3,7 @@ ghost use Rattle.std.specs.Prelude.{◌≡◌, ◌<◌, length, map, IfOk, IfSom
 ghost use Rattle.std.specs.Option.{option_to_list};
 ghost use Rattle.gw_model.specs.Fit.{IsFit};
 ghost use Rattle.gw_model.specs.Rows.{is_point_map};
-ghost use Rattle.gw_picture.specs.News.{news_of, news_of_report, shown_after};
+ghost use Rattle.gw_picture.specs.Picture.{news_of, news_of_report, picture_after_report};
 ghost use Rattle.gw_picture.specs.Opening.{opening};
 
 use crate::counting::count_news;
@@ -56,8 +56,9 @@ impl Picture {
 
     /// Takes a report: gives its image where that is news, and shows it.
     pub fn take(&mut self, report: &Report, settings: &Settings, zone: &Zone) -> Option<Observation>
-        ensures news { option_to_list result ≡ news_of_report zone.now.offset_minutes settings.now.rows self.old report.now }
-        ensures shown { self.new ≡ shown_after zone.now.offset_minutes settings.now.rows self.old report.now }
+        ensures news { option_to_list result
+            ≡ news_of_report zone.now.offset_minutes settings.now.rows self.old report.now }
+        ensures shown { self.new ≡ picture_after_report zone.now.offset_minutes settings.now.rows self.old report.now }
         ensures fit { IfSome result (IsFit zone.now.offset_minutes) }
     {
         take_report(&mut self.shown, report, settings, zone)

@@ -2,8 +2,8 @@
 ghost use Rattle.std.specs.Prelude.{◌≡◌, IfSome, slice_get};
 ghost use Rattle.std.specs.Option.{option_to_list};
 ghost use Rattle.gw_model.specs.Fit.{IsFit};
-ghost use Rattle.gw_picture.specs.Change.{change};
-ghost use Rattle.gw_picture.specs.News.{news_after, news_of_report, shown_after, untimed};
+ghost use Rattle.gw_model.specs.Places.{change};
+ghost use Rattle.gw_picture.specs.Picture.{news_after, news_of_report, picture_after_report, without_time};
 
 use gw_model::{Observation, Report, Settings, Stamp};
 use gw_time::Zone;
@@ -11,7 +11,7 @@ use gw_translate::{image, is_news};
 
 /// An observation without its time, as a picture shows it.
 pub fn without_time(image: Observation) -> Observation
-    ensures { result ≡ untimed image }
+    ensures { result ≡ without_time image }
 {
     Observation {
         stamp: Stamp::Untimed,
@@ -27,7 +27,7 @@ fn show_at(
     image: Observation,
 ) -> Option<Observation>
     ensures news { option_to_list result ≡ news_after report.now (slice_get shown.old.items position) image }
-    ensures shown { shown.new.items ≡ change position (λ _. untimed image) shown.old.items }
+    ensures shown { shown.new.items ≡ change position (λ _. without_time image) shown.old.items }
     ensures same { IfSome result (λ x. x ≡ image) }
 {
     if position >= shown.len() {
@@ -49,8 +49,10 @@ pub fn take_report(
     settings: &Settings,
     zone: &Zone,
 ) -> Option<Observation>
-    ensures news { option_to_list result ≡ news_of_report zone.now.offset_minutes settings.now.rows shown.old.items report.now }
-    ensures shown { shown.new.items ≡ shown_after zone.now.offset_minutes settings.now.rows shown.old.items report.now }
+    ensures news { option_to_list result
+        ≡ news_of_report zone.now.offset_minutes settings.now.rows shown.old.items report.now }
+    ensures shown { shown.new.items
+        ≡ picture_after_report zone.now.offset_minutes settings.now.rows shown.old.items report.now }
     ensures fit { IfSome result (IsFit zone.now.offset_minutes) }
 {
     match settings.row_of(&report.key) {

@@ -3,3 +3,7 @@
 
 #[cfg(test)]
 mod hub;
+#[cfg(test)]
+mod picture;
+#[cfg(test)]
+mod time;

@@ -4,3 +4,5 @@ pub mod Parts
 pub mod Round
 pub mod Months
 pub mod Spelled
+pub mod Clocks
+pub mod OnLiterals

@@ -217,7 +217,30 @@ same_test true false P f g = sym (g.1 (f.0 refl))
 same_test false true P f g = f.1 (g.0 refl)
 same_test false false P f g = refl
 
--- what is found exactly in the window is found where there is a tag
-pub shown_has_tag : (offset : ℤ) (t : ℕ) (found : Option ℕ) → (IsSome found ↔ IsFrom2000To2099 offset t) → (invalid : Bool) → is_some found ≡ is_some (tag_showing invalid (shown_at offset t))
-shown_has_tag offset t found window false = same_test (is_some found) (is_some (tag_of offset (At t))) (IsFrom2000To2099 offset t) window (window_of_tag offset (At t))
-shown_has_tag offset t found window true = same_test (is_some found) (is_some (tag_of offset (Doubtful t))) (IsFrom2000To2099 offset t) window (window_of_tag offset (Doubtful t))
+-- a test that is passed exactly in the window is whether there is a tag
+pub has_tag-test : (offset : ℤ) (t : ℕ) (test : Bool) → (test ≡ true ↔ IsFrom2000To2099 offset t) → (invalid : Bool)
+    → test ≡ is_some (tag_showing invalid (shown_at offset t))
+has_tag-test offset t test window false =
+    same_test test (is_some (tag_of offset (At t))) (IsFrom2000To2099 offset t) window (window_of_tag offset (At t))
+has_tag-test offset t test window true =
+    same_test test (is_some (tag_of offset (Doubtful t))) (IsFrom2000To2099 offset t) window (window_of_tag offset (Doubtful t))
+
+-- ---- what is written and what is read
+
+-- the tag in the window has the numbers of what clocks show
+pub tag_of_numbers : (offset : ℤ) (invalid : Bool) (t : ℕ) (x : BinaryTime) → IsFrom2000To2099 offset t
+    → ((n : ℕ) → pos n ≡ shown_at offset t → x ≡ numbers_at invalid n)
+    → Some (octets_of x) ≡ tag_showing invalid (shown_at offset t)
+tag_of_numbers offset invalid t x h numbers =
+    let m = number_of (shown_at offset t) (shown_in_window offset t h) in
+    ap (λ (y : BinaryTime). Some (octets_of y)) (numbers m.n m.is)
+    ∙ sym (inside invalid (shown_at offset t) m.n m.is m.low m.high)
+
+-- what octets mean whose numbers are those of a civil time
+pub meaning_of_numbers : (offset : ℤ) (octets : List ℕ) (x : BinaryTime) (invalid : Bool) (t : ℕ) → x ≡ numbers_in octets
+    → is_in_range x ≡ true → has_day x ≡ true → x.invalid ≡ invalid → t ≡ instant_of offset x
+    → Ok (stamp_of invalid t) ≡ tag_meaning offset octets
+unfolding tag_meaning
+meaning_of_numbers offset octets x invalid t e range day iv f =
+    let same = ap (λ (b : Bool). stamp_of b (instant_of offset x)) iv ∙ ap (stamp_of invalid) (sym f) in
+    sym (passed (is_in_range x) (has_day x) _ _ range day same) ∙ ap (time_meaning offset) e

@@ -39,13 +39,18 @@ numbers_at invalid shown =
 -- the octets that have the numbers, and no other bit set: the milliseconds low octet first; minute with bit IV; hour,
 -- day of month, month and year
 abbrev pub octets_of : BinaryTime → List ℕ
-octets_of x = to_le_bytes w16 x.milliseconds ++ (x.minute + (if x.invalid then 128 else 0)) ∷ x.hour ∷ x.day ∷ x.month ∷ x.year ∷ []
+octets_of x =
+    to_le_bytes w16 x.milliseconds
+    ++ (x.minute + (if x.invalid then 128 else 0)) ∷ x.hour ∷ x.day ∷ x.month ∷ x.year ∷ []
 
 -- the tag that shows so many milliseconds from the beginning of 1970, from that of 2000 to that of 2100
 unfoldable pub tag_showing : Bool → ℤ → Option (List ℕ)
 tag_showing invalid (negsuc n) = None
 tag_showing invalid (pos n) =
-    elim (nat_le 946684800000 n && nat_lt n 4102444800000) [ true ↦ Some (octets_of (numbers_at invalid n)) | false ↦ None ]
+    elim (nat_le 946684800000 n && nat_lt n 4102444800000) [
+      | true ↦ Some (octets_of (numbers_at invalid n))
+      | false ↦ None
+    ]
 
 -- the tag of a stamp where clocks are offset minutes ahead of UTC, if it has one
 abbrev pub tag_of : ℤ → Stamp → Option (List ℕ)

@@ -76,5 +76,10 @@ tag_meaning offset octets = time_meaning offset (numbers_in octets)
 -- month and year
 abbrev pub plain : List ℕ → List ℕ
 plain octets =
-    slice_index octets 0 ∷ slice_index octets 1 ∷ (slice_index octets 2 / 128 * 128 + slice_index octets 2 % 64) ∷ slice_index octets 3 % 32
-    ∷ slice_index octets 4 % 32 ∷ slice_index octets 5 % 16 ∷ slice_index octets 6 % 128 ∷ []
+    slice_index octets 0 ∷ slice_index octets 1
+    ∷ (slice_index octets 2 / 128 * 128 + slice_index octets 2 % 64)
+    ∷ slice_index octets 3 % 32
+    ∷ slice_index octets 4 % 32
+    ∷ slice_index octets 5 % 16
+    ∷ slice_index octets 6 % 128
+    ∷ []

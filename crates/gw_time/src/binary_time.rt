@@ -1,9 +1,10 @@
 //! The numbers in a time tag.
-ghost use Rattle.std.specs.Prelude.{◌≡◌, ◌+◌, ◌↔◌, ◌<◌, ◌≤◌, pos, ◌≤ℤ◌, IsTrue, IsSome, IfSome};
-ghost use Rattle.jiff_core.specs.Date.{epoch_day};
+ghost use Rattle.std.specs.Prelude.{◌≡◌, ◌+◌, ◌*◌, ◌/◌, ◌↔◌, ◌<◌, ℕ, pos, ◌≤ℤ◌, ◌*ℤ◌, IsTrue, IsSome, IfSome};
+ghost use Rattle.jiff_core.specs.Date.{IsYmd};
+ghost use Rattle.jiff_core.specs.Time.{time_nanos};
+ghost use Rattle.jiff_core.specs.DateTime.{civil_nanos};
 
-use crate::zone::{START_OF_2000, START_OF_2100};
-use jiff_core::civil::{Date, days_in_month};
+use jiff::civil::{Date, DateTime, Time};
 
 /// Seven octet binary time, CP56Time2a (IEC 60870-5-101, 7.2.6.18), as the numbers that it is made of.
 #[derive(Clone, Copy, Debug, PartialEq, Eq)]
@@ -22,7 +23,7 @@ pub struct BinaryTime {
 }
 
 impl BinaryTime {
-    ghost use Rattle.gw_time.specs.Tag.{numbers_in, is_in_range, has_day, civil_milliseconds, plain};
+    ghost use Rattle.gw_time.specs.Tag.{numbers_in, is_in_range, has_day, civil_year, time_of_day, civil_milliseconds};
     ghost use Rattle.gw_time.specs.Spelling.{numbers_at, octets_of};
 
     /// The numbers in seven octets. SU, the day of week and the reserved bits are not looked at.
@@ -43,11 +44,8 @@ impl BinaryTime {
 
     /// The octets that have these numbers, and no other bit set.
     pub fn octets(&self) -> [u8; 7]
-        requires in_range { IsTrue (is_in_range self.now) }
-        requires day { self.now.day < 32 }
-        ensures numbers { numbers_in result ≡ self.now }
-        ensures plain { plain result ≡ result }
-        ensures octets { result ≡ octets_of self.now }
+        requires { self.now.minute < 64 }
+        ensures { result ≡ octets_of self.now }
     {
         let [low, high] = self.milliseconds.to_le_bytes();
         let minute = self.minute + 128 * u8::from(self.invalid);
@@ -68,80 +66,82 @@ impl BinaryTime {
             && self.year < 100
     }
 
-    /// Milliseconds from the beginning of 1970 to the civil time, on the same clocks, if the month has
-    /// the day.
-    pub fn civil_milliseconds(&self) -> Option<u64>
+    /// The civil time, if the month has the day.
+    pub fn civil(&self) -> Option<DateTime>
         requires { IsTrue (is_in_range self.now) }
         ensures found { IsSome result ↔ IsTrue (has_day self.now) }
-        ensures value { IfSome result (λ n. pos n ≡ civil_milliseconds self.now) }
-        ensures low { IfSome result (λ n. START_OF_2000 ≤ n) }
-        ensures high { IfSome result (λ n. n < START_OF_2100) }
+        ensures value { IfSome result
+            (λ shown. civil_nanos shown ≡ civil_milliseconds self.now *ℤ pos 1_000_000) }
+        ensures low { IfSome result (λ shown. pos 2000 ≤ℤ shown.date.year) }
+        ensures high { IfSome result (λ shown. shown.date.year ≤ℤ pos 2099) }
     {
-        let year = 2000 + i16::from(self.year);
-        if self.day < 1 || self.day > days_in_month(year, self.month) {
-            return None;
-        }
-        let date = Date {
-            year,
-            month: self.month,
-            day: self.day,
-        };
-        let minutes = u64::from(self.hour) * 60 + u64::from(self.minute);
-        Some(days_to(date) * 86_400_000 + minutes * 60_000 + u64::from(self.milliseconds))
+        let date = self.date()?;
+        Some(date.to_datetime(self.time()))
     }
 
-    /// The numbers that show a civil time, given in milliseconds from the beginning of 1970 on the same
-    /// clocks.
-    pub fn showing(civil: u64, invalid: bool) -> BinaryTime
-        requires low { START_OF_2000 ≤ civil }
-        requires high { civil < START_OF_2100 }
-        ensures in_range { IsTrue (is_in_range result) }
-        ensures day { IsTrue (has_day result) }
-        ensures small { result.day < 32 }
-        ensures civil { civil_milliseconds result ≡ pos civil }
-        ensures invalid { result.invalid ≡ invalid }
-        ensures numbers { result ≡ numbers_at invalid civil }
+    /// The date, if the month has the day.
+    fn date(&self) -> Option<Date>
+        requires { IsTrue (is_in_range self.now) }
+        ensures found { IsSome result ↔ IsTrue (has_day self.now) }
+        ensures value { IfSome result (IsYmd (civil_year self.now) (pos self.now.month) (pos self.now.day)) }
     {
-        let date = date_of(civil / 86_400_000);
+        let day = i8::try_from(self.day).ok()?;
+        Date::new(2000 + i16::from(self.year), self.month as i8, day).ok()
+    }
+
+    /// The time of day.
+    fn time(&self) -> Time
+        requires { IsTrue (is_in_range self.now) }
+        ensures { time_nanos result ≡ time_of_day self.now * 1_000_000 }
+    {
+        let second = self.milliseconds / 1000;
+        let nanosecond = i32::from(self.milliseconds % 1000) * 1_000_000;
+        Time::new(self.hour as i8, self.minute as i8, second as i8, nanosecond).unwrap()
+    }
+
+    /// The numbers that show a civil time of whole milliseconds.
+    pub fn showing(shown: DateTime, invalid: bool) -> BinaryTime
+        requires low { pos 2000 ≤ℤ shown.date.year }
+        requires high { shown.date.year ≤ℤ pos 2099 }
+        ensures minute { result.minute < 64 }
+        ensures numbers { (n : ℕ) → civil_nanos shown ≡ pos n *ℤ pos 1_000_000
+            → result ≡ numbers_at invalid n }
+    {
+        let (milliseconds, minute, hour) = numbers_of_time(shown.time());
+        let (day, month, year) = numbers_of_date(shown.date());
         BinaryTime {
-            milliseconds: (civil % 60_000) as u16,
-            minute: (civil / 60_000 % 60) as u8,
+            milliseconds,
+            minute,
             invalid,
-            hour: (civil / 3_600_000 % 24) as u8,
-            day: date.day,
-            month: date.month,
-            year: year_of(date),
+            hour,
+            day,
+            month,
+            year,
         }
     }
 }
 
-/// The year of a date, from 2000 on.
-fn year_of(date: Date) -> u8
-    requires low { pos 2000 ≤ℤ date.year }
-    requires high { date.year ≤ℤ pos 2099 }
-    ensures { pos (2000 + result) ≡ date.year }
+/// Milliseconds in the minute, minute and hour of a time of day.
+fn numbers_of_time(time: Time) -> (u16, u8, u8)
+    ensures milliseconds { result.0 ≡ time.second * 1000 + time.subsec_nanosecond / 1_000_000 }
+    ensures minute { result.1 ≡ time.minute }
+    ensures hour { result.2 ≡ time.hour }
 {
-    (date.year - 2000) as u8
+    let milliseconds = 1000 * i32::from(time.second()) + i32::from(time.millisecond());
+    (milliseconds as u16, time.minute() as u8, time.hour() as u8)
 }
 
-/// The days from 1 January 1970 to a date of the years 2000 to 2099.
-fn days_to(date: Date) -> u64
+/// Day of month, month, and year from 2000 on of a date.
+fn numbers_of_date(date: Date) -> (u8, u8, u8)
     requires low { pos 2000 ≤ℤ date.year }
     requires high { date.year ≤ℤ pos 2099 }
-    ensures value { pos result ≡ epoch_day date }
-    ensures low { 10957 ≤ result }
-    ensures high { result < 47482 }
+    ensures day { result.0 ≡ date.day }
+    ensures month { result.1 ≡ date.month }
+    ensures year { pos (2000 + result.2) ≡ date.year }
 {
-    date.to_unix_epoch_day() as u64
-}
-
-/// The date that many days after 1 January 1970, in the years 2000 to 2099.
-fn date_of(day: u64) -> Date
-    requires low { 10957 ≤ day }
-    requires high { day < 47482 }
-    ensures value { epoch_day result ≡ pos day }
-    ensures low { pos 2000 ≤ℤ result.year }
-    ensures high { result.year ≤ℤ pos 2099 }
-{
-    Date::from_unix_epoch_day(day as i64).unwrap()
+    (
+        date.day() as u8,
+        date.month() as u8,
+        (date.year() - 2000) as u8,
+    )
 }

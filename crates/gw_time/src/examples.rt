@@ -8,20 +8,26 @@ ghost use Rattle.gw_time.specs.Spelling.{tag_of};
 ghost use Rattle.gw_time.specs.Example.{IsFirst, IsLast};
 
 /// What some tags mean.
-#[tactic(auto, unfolding(crate::specs::Tag::tag_meaning, jiff_core::specs::Calendar::days_from_civil, jiff_core::specs::Calendar::day_count, jiff_core::specs::Calendar::days_of_years, jiff_core::specs::Calendar::days_of_months))]
+#[tactic(auto, unfolding(crate::proofs::OnLiterals::tag_on_literals))]
 pub fn tag_examples()
     // 14 November 2023, 22:13:20, in UTC; in doubt; and the same with all bits set that are not looked at.
     ensures at { tag_meaning (pos 0) (0x20 ∷ 0x4E ∷ 0x0D ∷ 0x16 ∷ 0x0E ∷ 0x0B ∷ 0x17 ∷ []) ≡ Ok (At 1700000000000) }
-    ensures doubtful { tag_meaning (pos 0) (0x20 ∷ 0x4E ∷ 0x8D ∷ 0x16 ∷ 0x0E ∷ 0x0B ∷ 0x17 ∷ []) ≡ Ok (Doubtful 1700000000000) }
+    ensures doubtful { tag_meaning (pos 0) (0x20 ∷ 0x4E ∷ 0x8D ∷ 0x16 ∷ 0x0E ∷ 0x0B ∷ 0x17 ∷ [])
+        ≡ Ok (Doubtful 1700000000000) }
     ensures unused { tag_meaning (pos 0) (0x20 ∷ 0x4E ∷ 0x4D ∷ 0xF6 ∷ 0xEE ∷ 0xFB ∷ 0x97 ∷ []) ≡ Ok (At 1700000000000) }
-    ensures plain { plain (0x20 ∷ 0x4E ∷ 0xCD ∷ 0xF6 ∷ 0xEE ∷ 0xFB ∷ 0x97 ∷ []) ≡ 0x20 ∷ 0x4E ∷ 0x8D ∷ 0x16 ∷ 0x0E ∷ 0x0B ∷ 0x17 ∷ [] }
+    ensures plain { plain (0x20 ∷ 0x4E ∷ 0xCD ∷ 0xF6 ∷ 0xEE ∷ 0xFB ∷ 0x97 ∷ [])
+        ≡ 0x20 ∷ 0x4E ∷ 0x8D ∷ 0x16 ∷ 0x0E ∷ 0x0B ∷ 0x17 ∷ [] }
     // The clocks are 60 minutes ahead of UTC, and 90 minutes behind it.
     ensures east { tag_meaning (pos 60) (0x20 ∷ 0x4E ∷ 0x0D ∷ 0x17 ∷ 0x0E ∷ 0x0B ∷ 0x17 ∷ []) ≡ Ok (At 1700000000000) }
-    ensures west { tag_meaning (negsuc 89) (0x20 ∷ 0x4E ∷ 0x2B ∷ 0x14 ∷ 0x0E ∷ 0x0B ∷ 0x17 ∷ []) ≡ Ok (At 1700000000000) }
+    ensures west { tag_meaning (negsuc 89) (0x20 ∷ 0x4E ∷ 0x2B ∷ 0x14 ∷ 0x0E ∷ 0x0B ∷ 0x17 ∷ [])
+        ≡ Ok (At 1700000000000) }
     // 29 February of 2000, 0:00; of 2024, 12:34:56.789; of 2096, in its last millisecond.
-    ensures leap_2000 { tag_meaning (pos 0) (0x00 ∷ 0x00 ∷ 0x00 ∷ 0x00 ∷ 0x1D ∷ 0x02 ∷ 0x00 ∷ []) ≡ Ok (At 951782400000) }
-    ensures leap_2024 { tag_meaning (pos 0) (0xD5 ∷ 0xDD ∷ 0x22 ∷ 0x0C ∷ 0x1D ∷ 0x02 ∷ 0x18 ∷ []) ≡ Ok (At 1709210096789) }
-    ensures leap_2096 { tag_meaning (pos 0) (0x5F ∷ 0xEA ∷ 0x3B ∷ 0x17 ∷ 0x1D ∷ 0x02 ∷ 0x60 ∷ []) ≡ Ok (At 3981398399999) }
+    ensures leap_2000 { tag_meaning (pos 0) (0x00 ∷ 0x00 ∷ 0x00 ∷ 0x00 ∷ 0x1D ∷ 0x02 ∷ 0x00 ∷ [])
+        ≡ Ok (At 951782400000) }
+    ensures leap_2024 { tag_meaning (pos 0) (0xD5 ∷ 0xDD ∷ 0x22 ∷ 0x0C ∷ 0x1D ∷ 0x02 ∷ 0x18 ∷ [])
+        ≡ Ok (At 1709210096789) }
+    ensures leap_2096 { tag_meaning (pos 0) (0x5F ∷ 0xEA ∷ 0x3B ∷ 0x17 ∷ 0x1D ∷ 0x02 ∷ 0x60 ∷ [])
+        ≡ Ok (At 3981398399999) }
     // No day: 29 February of 2099 and of 2023, 30 February, 31 April, day 0.
     ensures no_leap_2099 { tag_meaning (pos 0) (0x00 ∷ 0x00 ∷ 0x00 ∷ 0x00 ∷ 0x1D ∷ 0x02 ∷ 0x63 ∷ []) ≡ Err Date }
     ensures no_leap_2023 { tag_meaning (pos 0) (0x00 ∷ 0x00 ∷ 0x00 ∷ 0x00 ∷ 0x1D ∷ 0x02 ∷ 0x17 ∷ []) ≡ Err Date }
@@ -40,7 +46,7 @@ pub fn tag_examples()
 {}
 
 /// The first and the last instant with a tag, at some offsets, and some others without one.
-#[tactic(auto, unfolding(crate::specs::Tag::tag_meaning, jiff_core::specs::Calendar::days_from_civil, jiff_core::specs::Calendar::day_count, jiff_core::specs::Calendar::days_of_years, jiff_core::specs::Calendar::days_of_months))]
+#[tactic(auto, unfolding(crate::proofs::OnLiterals::tag_on_literals))]
 pub fn window_examples()
     ensures first_west { IsFirst (negsuc 839) 946735200000 (0x00 ∷ 0x00 ∷ 0x00 ∷ 0x00 ∷ 0x01 ∷ 0x01 ∷ 0x00 ∷ []) }
     ensures first_utc { IsFirst (pos 0) 946684800000 (0x00 ∷ 0x00 ∷ 0x00 ∷ 0x00 ∷ 0x01 ∷ 0x01 ∷ 0x00 ∷ []) }
@@ -62,7 +68,8 @@ pub fn window_examples()
 pub fn spelling_examples()
     // 14 November 2023, 22:13:20, in UTC; in doubt; 60 minutes ahead of UTC, and 90 minutes behind it.
     ensures at { tag_of (pos 0) (At 1700000000000) ≡ Some (0x20 ∷ 0x4E ∷ 0x0D ∷ 0x16 ∷ 0x0E ∷ 0x0B ∷ 0x17 ∷ []) }
-    ensures doubtful { tag_of (pos 0) (Doubtful 1700000000000) ≡ Some (0x20 ∷ 0x4E ∷ 0x8D ∷ 0x16 ∷ 0x0E ∷ 0x0B ∷ 0x17 ∷ []) }
+    ensures doubtful { tag_of (pos 0) (Doubtful 1700000000000)
+        ≡ Some (0x20 ∷ 0x4E ∷ 0x8D ∷ 0x16 ∷ 0x0E ∷ 0x0B ∷ 0x17 ∷ []) }
     ensures east { tag_of (pos 60) (At 1700000000000) ≡ Some (0x20 ∷ 0x4E ∷ 0x0D ∷ 0x17 ∷ 0x0E ∷ 0x0B ∷ 0x17 ∷ []) }
     ensures west { tag_of (negsuc 89) (At 1700000000000) ≡ Some (0x20 ∷ 0x4E ∷ 0x2B ∷ 0x14 ∷ 0x0E ∷ 0x0B ∷ 0x17 ∷ []) }
     // 29 February of 2000, 0:00; of 2024, 12:34:56.789; of 2096, in its last millisecond.

@@ -72,7 +72,8 @@ pub fn written_again(tag: &[u8; 7], zone: &Zone) -> Result<[u8; 7], TagFault>
 /// Which stamps have a tag, and what it means.
 pub fn tags_of_stamps()
     ensures window { (offset : ℤ) (stamp : Stamp_lem) → IsSome (tag_of offset stamp) ↔ HasTag offset stamp }
-    ensures meant { (offset : ℤ) (stamp : Stamp_lem) → IfSome (tag_of offset stamp) (λ tag. tag_meaning offset tag ≡ Ok stamp) }
+    ensures meant { (offset : ℤ) (stamp : Stamp_lem)
+        → IfSome (tag_of offset stamp) (λ tag. tag_meaning offset tag ≡ Ok stamp) }
     ensures seven { (offset : ℤ) (stamp : Stamp_lem) → IfSome (tag_of offset stamp) (λ tag. AreSevenOctets tag) }
     ensures plain { (offset : ℤ) (stamp : Stamp_lem) → IfSome (tag_of offset stamp) (λ tag. plain tag ≡ tag) }
 {}

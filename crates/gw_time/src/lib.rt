@@ -11,6 +11,3 @@ mod zone;
 pub use fault::TagFault;
 pub use tag::{from_tag, has_tag, to_tag};
 pub use zone::Zone;
-
-#[cfg(test)]
-mod tests;

@@ -18,7 +18,7 @@ pub fn from_tag(tag: &[u8; 7], zone: &Zone) -> Result<Stamp, TagFault>
     if !time.is_in_range() {
         return Err(TagFault::Field);
     }
-    let Some(civil) = time.civil_milliseconds() else {
+    let Some(civil) = time.civil() else {
         return Err(TagFault::Date);
     };
     let instant = zone.instant_of(civil);
@@ -63,13 +63,8 @@ fn is_shown(instant: u64, zone: &Zone) -> bool
 }
 
 /// The time tag of an instant.
-#[tactic(auto, unfolding(crate::specs::Tag::tag_meaning))]
 fn tag_at(instant: u64, invalid: bool, zone: &Zone) -> Option<[u8; 7]>
-    ensures window { IsSome result ↔ IsFrom2000To2099 zone.now.offset_minutes instant }
-    ensures meant { IfSome result
-        (λ tag. tag_meaning zone.now.offset_minutes tag ≡ Ok (stamp_of invalid instant)) }
-    ensures plain { IfSome result (λ tag. plain tag ≡ tag) }
-    ensures exact { result ≡ tag_showing invalid (shown_at zone.now.offset_minutes instant) }
+    ensures { result ≡ tag_showing invalid (shown_at zone.now.offset_minutes instant) }
 {
     let shown = zone.shown_at(instant)?;
     Some(BinaryTime::showing(shown, invalid).octets())

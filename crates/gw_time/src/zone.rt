@@ -1,14 +1,15 @@
 //! The offset of civil time.
-ghost use Rattle.std.specs.Prelude.{◌≡◌, ◌↔◌, ◌<◌, ◌≤◌, ◌*◌, ◌+◌, pos, negsuc, ◌≤ℤ◌, ◌-ℤ◌, ◌*ℤ◌, IsSome, IfSome};
+ghost use Rattle.std.specs.Prelude.{◌≡◌, ◌↔◌, ◌≤◌, ◌*◌, ℤ, pos, negsuc, ◌≤ℤ◌, ◌-ℤ◌, ◌*ℤ◌, IsSome, IfSome};
+ghost use Rattle.jiff_core.specs.DateTime.{civil_nanos};
 ghost use Rattle.gw_time.specs.Window.{shown_at, IsFrom2000To2099};
 
 use gw_model::Settings;
+use jiff::Timestamp;
+use jiff::civil::DateTime;
+use jiff::tz::Offset;
 
-/// Milliseconds from the beginning of 1970 to that of 2000, by the same clocks.
-pub const START_OF_2000: u64 = 946_684_800_000;
-
-/// Milliseconds from the beginning of 1970 to that of 2100, by the same clocks.
-pub const START_OF_2100: u64 = 4_102_444_800_000;
+/// The last instant that clocks show at every offset, in milliseconds since 1970: it is in the year 9999.
+const LAST_INSTANT: u64 = 253_402_207_200_999;
 
 /// How many minutes the clocks of the station are ahead of UTC, from -840 to 840.
 #[derive(Clone, Copy, Debug, PartialEq, Eq)]
@@ -31,36 +32,47 @@ impl Zone {
         }
     }
 
-    /// How far the clocks are ahead of UTC, in milliseconds.
-    fn offset_milliseconds(&self) -> i64
-        ensures value { result ≡ pos 60000 *ℤ self.now.offset_minutes }
-        ensures low { negsuc 50399999 ≤ℤ result }
-        ensures high { result ≤ℤ pos 50400000 }
+    /// How far the clocks are ahead of UTC.
+    fn offset(&self) -> Offset
+        ensures { result.seconds ≡ pos 60 *ℤ self.now.offset_minutes }
     {
-        60_000 * i64::from(self.offset_minutes)
+        Offset::from_seconds(60 * i32::from(self.offset_minutes)).unwrap()
     }
 
-    /// What the clocks show at an instant, in milliseconds from the beginning of 1970 by them, where that
-    /// is in the years 2000 to 2099.
-    pub(crate) fn shown_at(&self, instant: u64) -> Option<u64>
+    /// What the clocks show at an instant, where that is in the years 2000 to 2099.
+    pub(crate) fn shown_at(&self, instant: u64) -> Option<DateTime>
         ensures window { IsSome result ↔ IsFrom2000To2099 self.now.offset_minutes instant }
-        ensures value { IfSome result (λ n. pos n ≡ shown_at self.now.offset_minutes instant) }
-        ensures low { IfSome result (λ n. START_OF_2000 ≤ n) }
-        ensures high { IfSome result (λ n. n < START_OF_2100) }
+        ensures value { IfSome result
+            (λ shown. civil_nanos shown ≡ shown_at self.now.offset_minutes instant *ℤ pos 1_000_000) }
+        ensures low { IfSome result (λ shown. pos 2000 ≤ℤ shown.date.year) }
+        ensures high { IfSome result (λ shown. shown.date.year ≤ℤ pos 2099) }
     {
-        let shown = instant.checked_add_signed(self.offset_milliseconds())?;
-        if shown < START_OF_2000 || shown >= START_OF_2100 {
+        let shown = self.offset().to_datetime(timestamp_of(instant)?);
+        if shown.year() < 2000 || shown.year() > 2099 {
             return None;
         }
         Some(shown)
     }
 
-    /// When the clocks show this, in milliseconds from the beginning of 1970 by them.
-    pub(crate) fn instant_of(&self, shown: u64) -> u64
-        requires low { START_OF_2000 ≤ shown }
-        requires high { shown < START_OF_2100 }
-        ensures { pos result ≡ pos shown -ℤ (pos 60000 *ℤ self.now.offset_minutes) }
+    /// When the clocks show a civil time of whole milliseconds.
+    pub(crate) fn instant_of(&self, shown: DateTime) -> u64
+        requires low { pos 2000 ≤ℤ shown.date.year }
+        requires high { shown.date.year ≤ℤ pos 2099 }
+        ensures { (z : ℤ) → civil_nanos shown ≡ z *ℤ pos 1_000_000
+            → pos result ≡ z -ℤ (pos 60000 *ℤ self.now.offset_minutes) }
     {
-        (shown as i64 - self.offset_milliseconds()) as u64
+        let timestamp = self.offset().to_timestamp(shown).unwrap();
+        timestamp.as_millisecond() as u64
     }
+}
+
+/// An instant, given in milliseconds since 1970, if clocks show it at every offset.
+fn timestamp_of(instant: u64) -> Option<Timestamp>
+    ensures found { IsSome result ↔ (instant ≤ LAST_INSTANT) }
+    ensures value { IfSome result (λ timestamp. timestamp.nanosecond ≡ pos (instant * 1_000_000)) }
+{
+    if instant > LAST_INSTANT {
+        return None;
+    }
+    Timestamp::from_millisecond(instant as i64).ok()
 }

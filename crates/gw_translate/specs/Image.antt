@@ -1,4 +1,4 @@
--- The image of a report: what clients are shown of it.
+-- The image of a report: what clients are shown of it; and whether it is news.
 use Rattle.std.specs.Prelude.{ℕ, ℤ, pos, negsuc, Bool, ◌||◌, not, List, Option, is_some, if◌then◌else◌}
 use Rattle.std.specs.Option.{option_map}
 use Rattle.std.specs.Int.{w32, int_min, int_max, cast_unsigned}
@@ -14,38 +14,56 @@ use Rattle.gw_model.specs.declared.row.Show.TheVariants as shows
 use Rattle.gw_model.specs.declared.observation.Value.TheVariants.{Single, Double, Scaled, Word, Total}
 use Rattle.gw_model.specs.declared.observation.Quality.{Quality}
 use Rattle.gw_model.specs.declared.observation.Observation.{Observation}
+use Rattle.gw_model.specs.Keys.{same_shown}
 use Rattle.gw_model.specs.Rows.{row_from}
 use Rattle.gw_time.specs.Spelling.{tag_of}
 use Rattle.gw_translate.specs.Quality.{quality_of}
 
 -- the nearest value of 16 bits
-abbrev pub clamped : ℤ → ℤ
-clamped z = int_min (int_max z (negsuc 32767)) (pos 32767)
+abbrev pub nearest_scaled_value : ℤ → ℤ
+nearest_scaled_value z = int_min (int_max z (negsuc 32767)) (pos 32767)
 
 -- the quality with OV set as well where a test says so
-abbrev pub overflowed : Bool → Quality → Quality
-overflowed ov q = record q { ov = q.ov || ov }
+abbrev pub quality_with_overflow : Bool → Quality → Quality
+quality_with_overflow ov q = record q { ov = q.ov || ov }
 
--- an analog value shown by a type: the 32 bits of its two's complement, or the nearest scaled value, with OV where it isn't the value itself
+-- an analog value shown by a type: the 32 bits of its two's complement, or the nearest scaled value, with OV where it
+-- isn't the value itself
 abbrev pub analog_image : Show → ℤ → Quality → (address : ℕ) → Stamp → Observation
-analog_image shows.Word z q address stamp = record { address = address; value = Word (cast_unsigned w32 z); quality = q; stamp = stamp }
-analog_image _ z q address stamp = record { address = address; value = Scaled (clamped z); quality = overflowed (not (int_eq (clamped z) z)) q; stamp = stamp }
+analog_image shows.Word z q address stamp =
+    record { address = address; value = Word (cast_unsigned w32 z); quality = q; stamp = stamp }
+analog_image _ z q address stamp = record {
+  address = address;
+  value = Scaled (nearest_scaled_value z);
+  quality = quality_with_overflow (not (int_eq (nearest_scaled_value z) z)) q;
+  stamp = stamp;
+}
 
 -- a raw value shown by a type
 abbrev pub raw_image : Show → Raw → Quality → (address : ℕ) → Stamp → Observation
-raw_image show (Bit on) q address stamp = record { address = address; value = Single on; quality = q; stamp = stamp }
-raw_image show (Two state) q address stamp = record { address = address; value = Double state; quality = q; stamp = stamp }
-raw_image show (Count n) q address stamp = record { address = address; value = Total n; quality = q; stamp = stamp }
+raw_image show (Bit on) q address stamp =
+    record { address = address; value = Single on; quality = q; stamp = stamp }
+raw_image show (Two state) q address stamp =
+    record { address = address; value = Double state; quality = q; stamp = stamp }
+raw_image show (Count n) q address stamp =
+    record { address = address; value = Total n; quality = q; stamp = stamp }
 raw_image show (Number z) q address stamp = analog_image show z q address stamp
 
--- the time that is shown: none where clocks that are offset minutes ahead of UTC don't show one of the years 2000 to 2099
+-- the time that is shown: none where clocks that are offset minutes ahead of UTC don't show one of the years 2000 to
+-- 2099
 abbrev pub stamp_image : ℤ → Stamp → Stamp
 stamp_image offset stamp = if is_some (tag_of offset stamp) then stamp else Untimed
 
 -- the image of a report by its own row, where clocks are offset minutes ahead of UTC
 abbrev pub image_of : ℤ → Row → Report → Observation
-image_of offset row report = raw_image row.show report.raw (quality_of report.key.kind report.flags) row.address (stamp_image offset report.stamp)
+image_of offset row report =
+    let quality : Quality = quality_of report.key.kind report.flags in
+    raw_image row.show report.raw quality row.address (stamp_image offset report.stamp)
 
 -- the image of a report by the rows of a point map: none for a point without a row
 abbrev pub image_in : ℤ → List Row → Report → Option Observation
 image_in offset rows report = option_map (λ found. image_of offset found.1 report) (row_from 0 report.key rows)
+
+-- an event always, a static value where value or quality isn't what was shown before
+abbrev pub is_news_of : Report → Observation → Observation → Bool
+is_news_of report before image = report.event || not (same_shown before image)

@@ -1,4 +1,3 @@
 pub mod Quality
 pub mod Image
-pub mod News
 pub mod Example

@@ -29,14 +29,23 @@ abbrev pub bit_6 : ℕ → Bool
 bit_6 flags = (flags / 64) % 2 == 1
 
 -- a point with this IV, BL and OV, whose NT and SB are the flags'
-abbrev pub described : ℕ → Bool → Bool → Bool → Quality
-described flags iv bl ov = record { iv = iv; nt = comm_lost flags; sb = forced flags; bl = bl; ov = ov; cy = false; ca = false }
+abbrev pub quality_by_flags : ℕ → Bool → Bool → Bool → Quality
+quality_by_flags flags iv bl ov =
+    record { iv = iv; nt = comm_lost flags; sb = forced flags; bl = bl; ov = ov; cy = false; ca = false }
 
 -- the quality of a point of a kind with these flags; a binary counter reading has no NT, so its IV stands for it
 abbrev pub quality_of : Kind → ℕ → Quality
-quality_of Binary flags = described flags (not (online flags) || restart flags) (bit_5 flags) false
-quality_of Double flags = described flags (not (online flags) || restart flags) (bit_5 flags) false
-quality_of Output flags = described flags (not (online flags) || restart flags) false false
-quality_of Analog flags = described flags (not (online flags) || restart flags || bit_6 flags) false (bit_5 flags)
-quality_of Counter flags =
-    record { iv = not (online flags) || restart flags || comm_lost flags; nt = false; sb = false; bl = false; ov = false; cy = bit_5 flags; ca = bit_6 flags }
+quality_of Binary flags = quality_by_flags flags (not (online flags) || restart flags) (bit_5 flags) false
+quality_of Double flags = quality_by_flags flags (not (online flags) || restart flags) (bit_5 flags) false
+quality_of Output flags = quality_by_flags flags (not (online flags) || restart flags) false false
+quality_of Analog flags =
+    quality_by_flags flags (not (online flags) || restart flags || bit_6 flags) false (bit_5 flags)
+quality_of Counter flags = record {
+  iv = not (online flags) || restart flags || comm_lost flags;
+  nt = false;
+  sb = false;
+  bl = false;
+  ov = false;
+  cy = bit_5 flags;
+  ca = bit_6 flags;
+}

@@ -2,9 +2,9 @@
 #![tactic(auto)]
 
 mod examples;
+mod images;
 mod news;
-mod translation;
 
 pub use examples::{images_by_example, news_by_example, qualities_by_example};
+pub use images::{image, quality};
 pub use news::is_news;
-pub use translation::{image, quality};

@@ -1,6 +1,6 @@
 //! Which images are news.
 ghost use Rattle.std.specs.Prelude.{◌≡◌};
-ghost use Rattle.gw_translate.specs.News.{is_news_of};
+ghost use Rattle.gw_translate.specs.Image.{is_news_of};
 
 use gw_model::{Observation, Report};
 

@@ -1,7 +1,7 @@
 use Rattle.std.proofs.Common.{rules, ◌≡◌, ◌+◌, ◌≤◌, List, take, arith}
 use Rattle.std.proofs.lemmas.List.{length-take, take_more}
 use Rattle.gw_model.specs.declared.point.Report.{Report}
-use Rattle.gw_picture.specs.News.{picture_after}
+use Rattle.gw_picture.specs.Picture.{picture_after}
 use Rattle.gw_picture.proofs.Counts.{report_one, news_few, count-one}
 use Rattle.gw_picture.proofs.counting.count_news.Goals as goal
 

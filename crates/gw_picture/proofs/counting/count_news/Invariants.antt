@@ -1,6 +1,6 @@
 -- The news of the reports before this one are counted.
 use Rattle.std.proofs.Common.{◌≡◌, length, take}
-use Rattle.gw_picture.specs.News.{news_of}
+use Rattle.gw_picture.specs.Picture.{news_of}
 use Rattle.gw_picture.proofs.counting.count_news.Given as goal
 
 abbrev pub invariant-loop-position : goal.invariant-loop-position

@@ -1,6 +1,6 @@
 use Rattle.std.proofs.Common.{sym, ◌∙◌, ap, arith}
-use Rattle.gw_translate.specs.News.{is_news_of}
-use Rattle.gw_picture.specs.Change.{change}
+use Rattle.gw_translate.specs.Image.{is_news_of}
+use Rattle.gw_model.specs.Places.{change}
 use Rattle.gw_picture.proofs.Images.{news_true, news_false}
 use Rattle.gw_picture.proofs.Lists.{change-past, set-change}
 use Rattle.gw_picture.proofs.taking.show_at.Goals as goal

@@ -2,8 +2,8 @@ use Rattle.std.proofs.Common.{rules, ◌≡◌, ℕ, Option, Some, ap, ◌∙◌
 use Rattle.gw_model.specs.declared.row.Row.{Row}
 use Rattle.gw_model.specs.declared.observation.Observation.{Observation}
 use Rattle.gw_model.specs.Rows.{row_from}
-use Rattle.gw_picture.specs.Change.{change}
-use Rattle.gw_picture.specs.News.{shown_at, untimed}
+use Rattle.gw_model.specs.Places.{change}
+use Rattle.gw_picture.specs.Picture.{picture_by_row, without_time}
 use Rattle.gw_picture.proofs.taking.take_report.Goals as goal
 
 pub returns-in-Some-clause-shown : goal.returns-in-Some-clause-shown
@@ -11,5 +11,5 @@ returns-in-Some-clause-shown c =
     let picture = c.args.shown.now.items in
     let found : Some (c.in-Some.position, c.in-Some.row.now) ≡ row_from 0 c.args.report.now.key c.args.settings.now.rows = search rules in
     c.show_at.ensures.shown
-    ∙ (ap (λ (x : Observation). change c.in-Some.position (λ _. untimed x) picture) c.image-image.ensures.image
-    ∙ ap (λ (row : Option (ℕ × Row)). shown_at c.args.zone.now.offset_minutes picture c.args.report.now row) found)
+    ∙ (ap (λ (x : Observation). change c.in-Some.position (λ _. without_time x) picture) c.image-image.ensures.image
+    ∙ ap (λ (row : Option (ℕ × Row)). picture_by_row c.args.zone.now.offset_minutes picture c.args.report.now row) found)
