@@ -1,2 +1,5 @@
 //! Tests of the DNP3 layers through their public calls.
 #![tactic(auto)]
+
+#[cfg(test)]
+mod receive;

@@ -29,16 +29,21 @@ same_value-true _ _ e = absurd cc
 abbrev quality_of : Bool → Bool → Bool → Bool → Bool → Bool → Bool → Quality
 quality_of iv nt sb bl ov cy ca = record { iv = iv; nt = nt; sb = sb; bl = bl; ov = ov; cy = cy; ca = ca }
 
-qualities_equal : (a0 a1 a2 a3 a4 a5 a6 b0 b1 b2 b3 b4 b5 b6 : Bool) → a0 ≡ b0 → a1 ≡ b1 → a2 ≡ b2 → a3 ≡ b3 → a4 ≡ b4 → a5 ≡ b5 → a6 ≡ b6
+qualities_equal : (a0 a1 a2 a3 a4 a5 a6 b0 b1 b2 b3 b4 b5 b6 : Bool)
+    → a0 ≡ b0 → a1 ≡ b1 → a2 ≡ b2 → a3 ≡ b3 → a4 ≡ b4 → a5 ≡ b5 → a6 ≡ b6
     → quality_of a0 a1 a2 a3 a4 a5 a6 ≡ quality_of b0 b1 b2 b3 b4 b5 b6
 qualities_equal a0 a1 a2 a3 a4 a5 a6 b0 b1 b2 b3 b4 b5 b6 e0 e1 e2 e3 e4 e5 e6 = cc
 
 pub same_quality-true : (a b : Quality) → same_quality a b ≡ true → a ≡ b
 same_quality-true a b e =
-    let p6 = and_parts (beq a.iv b.iv && beq a.nt b.nt && beq a.sb b.sb && beq a.bl b.bl && beq a.ov b.ov && beq a.cy b.cy) (beq a.ca b.ca) e in
-    let p5 = and_parts (beq a.iv b.iv && beq a.nt b.nt && beq a.sb b.sb && beq a.bl b.bl && beq a.ov b.ov) (beq a.cy b.cy) p6.0 in
-    let p4 = and_parts (beq a.iv b.iv && beq a.nt b.nt && beq a.sb b.sb && beq a.bl b.bl) (beq a.ov b.ov) p5.0 in
-    let p3 = and_parts (beq a.iv b.iv && beq a.nt b.nt && beq a.sb b.sb) (beq a.bl b.bl) p4.0 in
+    let to_sb = beq a.iv b.iv && beq a.nt b.nt && beq a.sb b.sb in
+    let to_ov = to_sb && beq a.bl b.bl && beq a.ov b.ov in
+    let p6 = and_parts (to_ov && beq a.cy b.cy) (beq a.ca b.ca) e in
+    let p5 = and_parts to_ov (beq a.cy b.cy) p6.0 in
+    let p4 = and_parts (to_sb && beq a.bl b.bl) (beq a.ov b.ov) p5.0 in
+    let p3 = and_parts to_sb (beq a.bl b.bl) p4.0 in
     let p2 = and_parts (beq a.iv b.iv && beq a.nt b.nt) (beq a.sb b.sb) p3.0 in
     let p1 = and_parts (beq a.iv b.iv) (beq a.nt b.nt) p2.0 in
-    qualities_equal a.iv a.nt a.sb a.bl a.ov a.cy a.ca b.iv b.nt b.sb b.bl b.ov b.cy b.ca (beq-true _ _ p1.0) (beq-true _ _ p1.1) (beq-true _ _ p2.1) (beq-true _ _ p3.1) (beq-true _ _ p4.1) (beq-true _ _ p5.1) (beq-true _ _ p6.1)
+    qualities_equal a.iv a.nt a.sb a.bl a.ov a.cy a.ca b.iv b.nt b.sb b.bl b.ov b.cy b.ca
+    (beq-true _ _ p1.0) (beq-true _ _ p1.1) (beq-true _ _ p2.1) (beq-true _ _ p3.1)
+    (beq-true _ _ p4.1) (beq-true _ _ p5.1) (beq-true _ _ p6.1)

@@ -30,7 +30,8 @@ same_value (Total a) (Total b) = a == b
 same_value _ _ = false
 
 abbrev pub same_quality : Quality → Quality → Bool
-same_quality a b = beq a.iv b.iv && beq a.nt b.nt && beq a.sb b.sb && beq a.bl b.bl && beq a.ov b.ov && beq a.cy b.cy && beq a.ca b.ca
+same_quality a b =
+    beq a.iv b.iv && beq a.nt b.nt && beq a.sb b.sb && beq a.bl b.bl && beq a.ov b.ov && beq a.cy b.cy && beq a.ca b.ca
 
 -- value and quality are the same
 abbrev pub same_shown : Observation → Observation → Bool

@@ -18,7 +18,8 @@ row_from n key (row ∷ rows) = if same_key row.key key then Some (n, row) else 
 -- no row of the list has this row's key or address
 abbrev pub is_fresh : Row → List Row → Bool
 is_fresh row [] = true
-is_fresh row (other ∷ rows) = not (same_key row.key other.key) && not (row.address == other.address) && is_fresh row rows
+is_fresh row (other ∷ rows) =
+    not (same_key row.key other.key) && not (row.address == other.address) && is_fresh row rows
 
 -- no two rows have one key or one address
 abbrev pub is_point_map : List Row → Bool

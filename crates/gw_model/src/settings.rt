@@ -23,7 +23,8 @@ impl Model for Settings {
 
     ghost view = { λ s. record { common_address = s.common_address; offset = s.offset_minutes; rows = s.rows } };
 
-    ghost invariant = { λ s. IsTrue (is_point_map s.rows) × (s.common_address < 65536) × (negsuc 839 ≤ℤ s.offset_minutes) × (s.offset_minutes ≤ℤ pos 840) };
+    ghost invariant = { λ s. IsTrue (is_point_map s.rows) × (s.common_address < 65536)
+        × (negsuc 839 ≤ℤ s.offset_minutes) × (s.offset_minutes ≤ℤ pos 840) };
 }
 
 impl Settings {

@@ -5,5 +5,3 @@ pub mod StepLaws
 pub mod DecisionLaws
 pub mod ReplayLaws
 pub mod PositionLaws
-pub mod Receiving
-pub mod Responding

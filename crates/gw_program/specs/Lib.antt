@@ -3,5 +3,3 @@ pub mod Answers
 pub mod Reading
 pub mod CommandLine
 pub mod Replay
-pub mod Laws
-pub mod Receiver

@@ -3,7 +3,6 @@
 
 mod command_line;
 mod decision;
-pub mod laws;
 mod reading;
 mod replay;
 mod translate;

@@ -1,0 +1,65 @@
+//! What a whole stream of octets gives, through the layers that read it.
+ghost use Rattle.std.specs.Prelude.{◌≡◌, ◌≤◌, map, length, IfOk};
+ghost use Rattle.std.specs.List.{flat_map};
+ghost use Rattle.dnp_receive.specs.Delivery.{response_at, stream_fragments, stream_responses};
+
+use crate::receiver::Receiver;
+use dnp_app::{AppFault, Response, read_response};
+use dnp_link::LinkFeed;
+use gw_model::Memory;
+use std::alloc::Global;
+
+/// The fragments in the octets of one outstation's connection, which come in these pieces. The frames are
+/// those from the outstation's address, `peer`, to `own`.
+pub fn fragments_of(
+    alloc: Global,
+    pieces: &[&[u8]],
+    own: u16,
+    peer: u16,
+) -> Result<Vec<Vec<u8>>, Memory>
+    ensures { IfOk result (λ fragments. map (λ f. f.items) fragments.items
+        ≡ stream_fragments own peer (flat_map (λ piece. piece.now) pieces.now)) }
+{
+    let mut feed = LinkFeed::new(alloc);
+    let mut receiver = Receiver::new(alloc, own, peer);
+    for piece in pieces {
+        feed.feed(piece)?;
+        receiver.drain(&mut feed)?;
+    }
+    Ok(receiver.into_fragments())
+}
+
+/// The responses of an outstation in the octets of its connection, which come in these pieces: the fragments
+/// that aren't refused. The frames are those from the outstation's address, `peer`, to `own`.
+pub fn responses_of(
+    alloc: Global,
+    outstation: u8,
+    pieces: &[&[u8]],
+    own: u16,
+    peer: u16,
+) -> Result<Vec<Response>, Memory>
+    ensures { IfOk result (λ responses. responses.items
+        ≡ stream_responses outstation own peer (flat_map (λ piece. piece.now) pieces.now)) }
+{
+    let fragments = fragments_of(alloc, pieces, own, peer)?;
+    let mut responses = Vec::new(alloc);
+    for fragment in fragments {
+        if let Some(response) = response_in(alloc, outstation, fragment)? {
+            responses.push(response)?;
+        }
+    }
+    Ok(responses)
+}
+
+/// The response that a fragment is, where it isn't refused.
+#[tactic(auto, unfolding(crate::specs::Delivery::response_at))]
+fn response_in(alloc: Global, outstation: u8, fragment: Vec<u8>) -> Result<Option<Response>, Memory>
+    requires { length fragment.items ≤ 2048 }
+    ensures { IfOk result (λ response. response ≡ response_at outstation fragment.items) }
+{
+    match read_response(alloc, outstation, fragment) {
+        Ok(response) => Ok(Some(response)),
+        Err(AppFault::Memory) => Err(Memory),
+        Err(AppFault::Short | AppFault::NotResponse | AppFault::Object(_)) => Ok(None),
+    }
+}
