@@ -12,7 +12,7 @@ use Rattle.gw_hub.specs.declared.step.Step.{Step}
 use Rattle.gw_hub.specs.declared.step.Step.TheVariants as steps
 use Rattle.gw_hub.specs.declared.step.Reply.{Reply}
 use Rattle.gw_hub.specs.State.{State, Outstation, Link}
-use Rattle.gw_picture.specs.News.{news_of, picture_after}
+use Rattle.gw_picture.specs.Picture.{news_of, picture_after}
 use Rattle.gw_hub.specs.Steps.{is_last, accepts, client_with_news, session_with_news, fragment_outcome, outcome, state_with_step, state_after_response, state_after_fragment, after}
 use Rattle.gw_hub.specs.History.{Entry, log_of, last_text, is_accepted, news_after_log}
 use Rattle.gw_hub.specs.Headline.{link_session}

@@ -19,7 +19,7 @@ use Rattle.gw_hub.specs.declared.step.Ignored.TheVariants.{NoRequest}
 use Rattle.gw_hub.specs.declared.step.StepFault.{StepFault}
 use Rattle.gw_hub.specs.declared.step.Why.TheVariants.{Flooded}
 use Rattle.gw_hub.specs.State.{State, Outstation, Session, Link, at_first}
-use Rattle.gw_picture.specs.News.{news_of}
+use Rattle.gw_picture.specs.Picture.{news_of}
 use Rattle.gw_hub.specs.Steps.{is_last, accepts, verdict_of, reply_to_start, pump_reply, pump_session, pump_queue, is_start, reply_to_apdu, up_outcome, fragment_outcome, client_outcome, outcome, after, Allowed}
 use Rattle.gw_hub.specs.History.{Entry, history, last_text, is_started}
 use Rattle.gw_hub.specs.Headline.{link_session, state_after, IsRun, TellsNews, QuietLast, Confirms, ConfirmsLast, Holds, AtEach}

@@ -7,7 +7,7 @@ use Rattle.gw_model.specs.declared.observation.Observation.{Observation}
 use Rattle.gw_model.specs.declared.row.Row.{Row}
 use Rattle.gw_model.specs.declared.point.Report.{Report}
 use Rattle.gw_model.specs.Places.{change}
-use Rattle.gw_picture.specs.News.{news_of, news_of_report, shown_after, picture_after}
+use Rattle.gw_picture.specs.Picture.{news_of, news_of_report, picture_after_report, picture_after}
 use Rattle.gw_picture.proofs.Lists.{map-get}
 use Rattle.gw_hub.specs.State.{Session, Link}
 use Rattle.gw_hub.specs.Steps.{client_with_news, session_with_news, client_after_start, client_after_pump, session_after_start, link_after_news, tail_of}
@@ -151,14 +151,14 @@ pub left_first : (offset : ℤ) (rows : List Row) (picture : List Observation) (
 left_first offset rows picture rs links = record { count = omega arith; shown = refl; links_left = refl; sendable = λ all. all }
 
 pub left_more : (offset : ℤ) (rows : List Row) (n m : ℕ) (picture new : List Observation) (r : Report) (now rest : List Report) (links changed : List (Option Link)) (all last : List Observation) (final : List (Option Link))
-    → Left offset rows n picture now links all last final → now ≡ r ∷ rest → m ≡ length (news_of_report offset rows picture r) → new ≡ shown_after offset rows picture r
+    → Left offset rows n picture now links all last final → now ≡ r ∷ rest → m ≡ length (news_of_report offset rows picture r) → new ≡ picture_after_report offset rows picture r
     → changed ≡ map (client_with_news (news_of_report offset rows picture r)) links → AllByRecursion (IsSendable offset) (news_of_report offset rows picture r)
     → Left offset rows (n + m) new rest changed all last final
 left_more offset rows n m picture new r now rest links changed all last final left is em en ec sends =
     let xs : List Observation = news_of_report offset rows picture r in
-    let ys : List Observation = news_of offset rows (shown_after offset rows picture r) rest in
+    let ys : List Observation = news_of offset rows (picture_after_report offset rows picture r) rest in
     let here : Left offset rows n picture (r ∷ rest) links all last final = subst (λ (rs : List Report). Left offset rows n picture rs links all last final) is left in
-    let on : Left offset rows (n + m) (shown_after offset rows picture r) rest changed all last final = record {
+    let on : Left offset rows (n + m) (picture_after_report offset rows picture r) rest changed all last final = record {
       count = omega (arith, here.count, length-append xs ys, em);
       shown = here.shown;
       links_left = ap (map (client_with_news ys)) ec ∙ (map_came-twice xs ys links ∙ here.links_left);

@@ -4,7 +4,7 @@ use Rattle.std.specs.Prelude.{pos, List, [], ◌∷◌}
 use Rattle.gw_model.specs.Rows.{Setup}
 use Rattle.dnp_points.specs.Objects.{binary_report}
 use Rattle.dnp_app.specs.Response.{Fragment}
-use Rattle.gw_picture.specs.Example.{rows, measured}
+use Rattle.gw_picture.specs.Example.{rows, analog_value}
 use Rattle.iec_apci.specs.declared.apdu.Apdu.TheVariants.{U}
 use Rattle.iec_apci.specs.declared.apdu.Signal.TheVariants.{StartAct}
 use Rattle.gw_hub.specs.declared.step.Step.{Step}
@@ -28,14 +28,14 @@ abbrev pub reading : Fragment
 reading = record {
   outstation = 0;
   octets = 0xF1 ∷ 0x82 ∷ 0 ∷ 0 ∷ 0x1E ∷ 2 ∷ 0x17 ∷ 1 ∷ 0 ∷ 1 ∷ 7 ∷ 0 ∷ [];
-  reports = measured 0x01 (pos 7) ∷ [];
+  reports = analog_value 0x01 (pos 7) ∷ [];
 }
 
 abbrev pub next_reading : Fragment
 next_reading = record {
   outstation = 0;
   octets = 0xF2 ∷ 0x82 ∷ 0 ∷ 0 ∷ 0x1E ∷ 2 ∷ 0x17 ∷ 1 ∷ 0 ∷ 1 ∷ 7 ∷ 0 ∷ [];
-  reports = measured 0x01 (pos 7) ∷ [];
+  reports = analog_value 0x01 (pos 7) ∷ [];
 }
 
 -- C0 81 00 00: solicited

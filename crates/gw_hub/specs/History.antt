@@ -8,7 +8,7 @@ use Rattle.gw_model.specs.Rows.{Setup}
 use Rattle.dnp_app.specs.Response.{Fragment, is_unsolicited}
 use Rattle.iec_asdu.specs.Asdu.{Asdu, asdu_meaning, monitor_types}
 use Rattle.gw_picture.specs.Log.{picture_of}
-use Rattle.gw_picture.specs.News.{news_of_report}
+use Rattle.gw_picture.specs.Picture.{news_of_report}
 use Rattle.iec_apci.specs.Apdu.{Content, Information, Supervisory, Unnumbered}
 use Rattle.iec_apci.specs.Stream.{reading}
 use Rattle.gw_hub.specs.declared.step.Step.{Step}

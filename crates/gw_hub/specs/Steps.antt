@@ -23,7 +23,7 @@ use Rattle.gw_hub.specs.declared.step.Ignored.TheVariants.{NoRequest}
 use Rattle.gw_hub.specs.declared.step.Why.TheVariants.{Flooded}
 use Rattle.gw_hub.specs.declared.step.StepFault.{StepFault}
 use Rattle.gw_hub.specs.declared.step.StepFault.TheVariants.{NoOutstation, NoClient, NotUp, AlreadyUp, Memory, Spent}
-use Rattle.gw_picture.specs.News.{news_of, news_of_report, picture_after}
+use Rattle.gw_picture.specs.Picture.{news_of, news_of_report, picture_after}
 use Rattle.gw_hub.specs.State.{Outstation, Session, Link, State}
 
 -- ---- fragments

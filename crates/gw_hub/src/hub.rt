@@ -1,7 +1,7 @@
 //! The core as one machine.
 ghost use Rattle.std.specs.Prelude.{◌≡◌, ◌<◌, ◌+◌, ℕ, [], length, map, true, false, IfOk, IfErr, IsTrue, OnOk, OnErr, slice_get};
 ghost use Rattle.std.specs.List.{AllByRecursion};
-ghost use Rattle.gw_picture.specs.News.{picture_after, shown_after};
+ghost use Rattle.gw_picture.specs.Picture.{picture_after, picture_after_report};
 ghost use Rattle.gw_hub.specs.State.{at_first};
 ghost use Rattle.gw_hub.specs.Steps.{Allowed, client_with_news, can_rise, news_among, news_of_one, state_with_step};
 ghost use Rattle.gw_hub.specs.Hub.{Answers, can_take, state_with_response};
@@ -295,7 +295,7 @@ fn take_report(
 ) -> u64
     requires { AllByRecursion (HasRoom 1) clients.old }
     ensures count { result ≡ length (news_of_one settings.now picture.old report.now) }
-    ensures picture { picture.new ≡ shown_after settings.now.offset settings.now.rows picture.old report.now }
+    ensures picture { picture.new ≡ picture_after_report settings.now.offset settings.now.rows picture.old report.now }
     ensures links { links_of clients.new
         ≡ map (client_with_news (news_of_one settings.now picture.old report.now)) (links_of clients.old) }
     ensures room { (n : ℕ) → AllByRecursion (HasRoom (n + 1)) clients.old → AllByRecursion (HasRoom n) clients.new }

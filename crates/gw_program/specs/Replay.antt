@@ -4,8 +4,8 @@ use Rattle.std.specs.Fmt.{decimal}
 use Rattle.std.specs.Io.KnownBytes.{Appends}
 use Rattle.gw_model.specs.Rows.{Setup}
 use Rattle.dnp_app.specs.Response.{Fragment as Meant, response_of}
-use Rattle.gw_hub.specs.declared.apdu.Apdu.TheVariants.{U}
-use Rattle.gw_hub.specs.declared.apdu.Signal.TheVariants.{StartAct}
+use Rattle.iec_apci.specs.declared.apdu.Apdu.TheVariants.{U}
+use Rattle.iec_apci.specs.declared.apdu.Signal.TheVariants.{StartAct}
 use Rattle.gw_hub.specs.declared.step.Step.TheVariants as steps
 use Rattle.gw_hub.specs.Hub.{Hub}
 use Rattle.gw_hub.specs.State.{at_first}

@@ -7,7 +7,7 @@ use Rattle.dnp_app.specs.declared.fault.AppFault.{AppFault}
 use Rattle.dnp_app.specs.declared.fault.AppFault.TheVariants.{Short, NotResponse, Object, Memory}
 use Rattle.dnp_app.specs.Control.{confirm_of}
 use Rattle.dnp_app.specs.Response.{Fragment, StoresHeader, response_of}
-use Rattle.gw_picture.specs.News.{news_of, picture_after}
+use Rattle.gw_picture.specs.Picture.{news_of, picture_after}
 use Rattle.gw_program.specs.declared.decision.Decision.{Decision}
 use Rattle.gw_program.specs.declared.decision.Decision.TheVariants.{Empty, NotHex, Refused, Accepted}
 use Rattle.gw_program.specs.declared.reading.Ended.{Ended}

@@ -1,5 +1,5 @@
 use Rattle.std.proofs.Common.{◌≡◌, ℤ, [], subst}
-use Rattle.gw_picture.specs.News.{news_of_report}
+use Rattle.gw_picture.specs.Picture.{news_of_report}
 use Rattle.gw_hub.specs.Seats.{links_of}
 use Rattle.gw_hub.proofs.Taking.{came_none, room_less}
 use Rattle.gw_hub.proofs.hub.take_report.Goals as goal

@@ -1,7 +1,7 @@
 -- The reports from this one on bring what is left of the news, and there is room for them.
 use Rattle.std.proofs.Common.{◌-◌, ◌≤◌, length, map, drop}
 use Rattle.std.specs.List.{AllByRecursion}
-use Rattle.gw_picture.specs.News.{news_of, picture_after}
+use Rattle.gw_picture.specs.Picture.{news_of, picture_after}
 use Rattle.gw_hub.specs.Steps.{client_with_news}
 use Rattle.gw_hub.specs.Seats.{links_of, HasRoom}
 use Rattle.gw_hub.proofs.Taking.{Left}
