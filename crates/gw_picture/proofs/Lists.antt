@@ -26,7 +26,7 @@ change-past n f [] le = refl
 change-past zero f (x ∷ xs) le = absurd (omega arith)
 change-past (suc n) f (x ∷ xs) le = ap (λ (zs : List _). x ∷ zs) (change-past n f xs (omega arith))
 
-some_is : {A : Type 0} (x y : A) → Some x ≡ Some y → x ≡ y
+pub some_is : {A : Type 0} (x y : A) → Some x ≡ Some y → x ≡ y
 some_is x y e = cc
 
 -- a change to what is there changes nothing

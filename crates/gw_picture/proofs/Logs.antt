@@ -16,16 +16,13 @@ use Rattle.gw_model.specs.Places.{change}
 use Rattle.gw_picture.specs.Opening.{opening}
 use Rattle.gw_picture.specs.Picture.{without_time, news_by_row, news_of_report, picture_by_row, picture_after_report, news_of, picture_after}
 use Rattle.gw_picture.specs.Log.{last_observation, picture_of}
-use Rattle.gw_picture.proofs.Lists.{change-same}
+use Rattle.gw_picture.proofs.Lists.{some_is, change-same}
 use Rattle.gw_picture.proofs.Images.{image_address, no_news}
 
 -- ---- the look-up of a row
 
 abbrev some : {A : Type 0} → A → Option A
 some x = Some x
-
-pub some_is : {A : Type 0} (x y : A) → some x ≡ some y → x ≡ y
-some_is x y e = cc
 
 abbrev both : ℕ → Row → ℕ × Row
 both n row = (n, row)

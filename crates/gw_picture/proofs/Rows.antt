@@ -16,7 +16,7 @@ use Rattle.gw_model.specs.Places.{change}
 use Rattle.gw_picture.specs.Opening.{opening}
 use Rattle.gw_picture.specs.Picture.{without_time, news_by_row, news_of_report, picture_by_row, picture_after_report, picture_after}
 use Rattle.gw_picture.specs.Rows.{IsPictureOf, ShowsImage}
-use Rattle.gw_picture.proofs.Lists.{change-here, change-there, change-same, change-maps, map-get}
+use Rattle.gw_picture.proofs.Lists.{some_is, change-here, change-there, change-same, change-maps, map-get}
 use Rattle.gw_picture.proofs.Images.{image_address, no_news}
 use Rattle.gw_picture.proofs.Logs.{row_from-le, pair, pair_is}
 
@@ -60,9 +60,6 @@ row_from-get k n key (r ∷ rows) row found =
 
 row_at : (key : PointKey) (rows : List Row) (n : ℕ) (row : Row) → row_from 0 key rows ≡ Some (n, row) → slice_get rows n ≡ Some row
 row_at key rows n row found = let zero_off : n - 0 ≡ n = omega arith in rw zero_off at (row_from-get 0 n key rows row found)
-
-some_is : {A : Type 0} (x y : A) → Some x ≡ Some y → x ≡ y
-some_is x y e = cc
 
 all_get : (P : Observation → Type 0) (xs : List Observation) (n : ℕ) (y : Observation) → AllByRecursion P xs → slice_get xs n ≡ Some y → P y
 all_get P [] n y all e = absurd cc

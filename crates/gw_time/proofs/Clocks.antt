@@ -17,6 +17,7 @@ use Rattle.gw_time.specs.Spelling.{numbers_at}
 use Rattle.gw_time.proofs.Calendar.{from_2000, before_2100}
 use Rattle.gw_time.proofs.Century.{window_is_of_years}
 use Rattle.gw_time.proofs.Months.{numbers_are}
+use Rattle.gw_time.proofs.Spelled.{numbers}
 
 -- ---- whole milliseconds
 
@@ -155,17 +156,6 @@ pub record HasNumbers (dt : DateTime) (x : BinaryTime) : Type 0 where
   pub year : pos (2000 + x.year) ≡ dt.date.year
   pub low : pos 2000 ≤ℤ dt.date.year
   pub high : dt.date.year ≤ℤ pos 2099
-
-abbrev numbers : Bool → ℕ → ℕ → ℕ → ℕ → ℕ → ℕ → BinaryTime
-numbers invalid milliseconds minute hour day month year = record {
-  milliseconds = milliseconds;
-  minute = minute;
-  invalid = invalid;
-  hour = hour;
-  day = day;
-  month = month;
-  year = year;
-}
 
 equal_numbers : (invalid : Bool) (a a₂ b b₂ c c₂ d d₂ e e₂ f : ℕ) → a ≡ a₂ → b ≡ b₂ → c ≡ c₂ → d ≡ d₂ → e ≡ e₂
     → numbers invalid a b c d e f ≡ numbers invalid a₂ b₂ c₂ d₂ e₂ f

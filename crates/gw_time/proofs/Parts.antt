@@ -21,7 +21,7 @@ pub record IsCivilTime (x : BinaryTime) : Type 0 where
   pub date : IsCivilDate (civil_year x) x.month x.day
 
 -- the result where both tests are passed
-abbrev result_of : Bool → Bool → Stamp → Result Stamp TagFault
+abbrev pub result_of : Bool → Bool → Stamp → Result Stamp TagFault
 result_of a b s = if a then (if b then Ok s else Err Date) else Err Field
 
 chosen : (a b : Bool) (s t : Stamp) → result_of a b s ≡ Ok t → (a ≡ true) × (b ≡ true) × (s ≡ t)

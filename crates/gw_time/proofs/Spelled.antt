@@ -1,5 +1,5 @@
 -- What the tag of a stamp means, and which stamps have one.
-use Rattle.std.proofs.Common.{◌≡◌, ◌↔◌, ℕ, zero, suc, [], ◌∷◌, if◌then◌else◌, slice_index, ◌+◌, ◌-◌, ◌*◌, ◌/◌, ◌%◌, ◌<◌, ◌≤◌, Bool, true, false, cond, List, refl, ap, sym, ◌∙◌, arith, ℤ, pos, negsuc, ◌-ℤ◌, ◌*ℤ◌, Option, Some, None, Result, Ok, Err, is_some, IsSome, IsSomeAnd, IfSome, ◌⊎◌, inl, inr}
+use Rattle.std.proofs.Common.{◌≡◌, ◌↔◌, ℕ, zero, suc, [], ◌∷◌, slice_index, ◌+◌, ◌-◌, ◌*◌, ◌/◌, ◌%◌, ◌<◌, ◌≤◌, Bool, true, false, cond, List, refl, ap, sym, ◌∙◌, arith, ℤ, pos, negsuc, ◌-ℤ◌, ◌*ℤ◌, Option, Some, None, Ok, is_some, IsSome, IsSomeAnd, IfSome, ◌⊎◌, inl, inr}
 use Rattle.std.proofs.lemmas.Bool.Decides.{nat_tests}
 use Rattle.std.proofs.lemmas.Bool.{false≢true}
 use Rattle.std.proofs.lemmas.Int.{by_lt_z}
@@ -8,8 +8,6 @@ use Rattle.jiff_core.proofs.CalendarLemmas.{days_in_month_bounds}
 use Rattle.jiff_core.proofs.SignedLemmas.{signed_arith, one_part}
 use Rattle.gw_model.specs.declared.point.Stamp.{Stamp}
 use Rattle.gw_model.specs.declared.point.Stamp.TheVariants.{Untimed, At, Doubtful}
-use Rattle.gw_time.specs.declared.fault.TagFault.{TagFault}
-use Rattle.gw_time.specs.declared.fault.TagFault.TheVariants.{Field, Date}
 use Rattle.gw_time.specs.declared.binary_time.BinaryTime.{BinaryTime}
 use Rattle.gw_time.specs.Tag.{numbers_in, is_in_range, has_day, civil_year, time_of_day, civil_milliseconds, stamp_of, instant_of, time_meaning, tag_meaning, plain}
 use Rattle.gw_time.specs.Window.{shown_at, HasTag, IsFrom2000To2099}
@@ -17,7 +15,7 @@ use Rattle.gw_time.specs.Spelling.{date_after, numbers_at, octets_of, tag_showin
 use Rattle.gw_time.specs.Laws.{AreSevenOctets}
 use Rattle.gw_time.proofs.Calendar.{year_before_2100}
 use Rattle.gw_time.proofs.Century.{IsShown, window_of_shown, shown_in_window}
-use Rattle.gw_time.proofs.Parts.{IsCivilTime}
+use Rattle.gw_time.proofs.Parts.{IsCivilTime, result_of}
 use Rattle.gw_time.proofs.Months.{IsDay, day_after, same_number, outside, inside}
 
 -- ---- the numbers at a time of the years 2000 to 2099
@@ -48,7 +46,7 @@ numbers_of invalid shown low high =
 
 -- ---- the numbers in their octets
 
-abbrev numbers : Bool → ℕ → ℕ → ℕ → ℕ → ℕ → ℕ → BinaryTime
+abbrev pub numbers : Bool → ℕ → ℕ → ℕ → ℕ → ℕ → ℕ → BinaryTime
 numbers invalid ms minute hour day month year = record { milliseconds = ms; minute = minute; invalid = invalid; hour = hour; day = day; month = month; year = year }
 
 read_again : (invalid : Bool) (ms minute hour day month year : ℕ) → ms < 65536 → minute < 60 → hour < 24 → day < 32 → month < 16 → year < 100
@@ -96,9 +94,6 @@ pub record IsTagOf (offset : ℤ) (stamp : Stamp) (tag : List ℕ) : Type 0 wher
   pub meant : tag_meaning offset tag ≡ Ok stamp
   pub seven : AreSevenOctets tag
   pub plain : plain tag ≡ tag
-
-abbrev result_of : Bool → Bool → Stamp → Result Stamp TagFault
-result_of a b s = if a then (if b then Ok s else Err Date) else Err Field
 
 passed : (a b : Bool) (s t : Stamp) → a ≡ true → b ≡ true → s ≡ t → result_of a b s ≡ Ok t
 passed true true s t e f g = cc

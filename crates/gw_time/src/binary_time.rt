@@ -67,7 +67,7 @@ impl BinaryTime {
     }
 
     /// The civil time, if the month has the day.
-    pub fn civil(&self) -> Option<DateTime>
+    pub fn civil_time(&self) -> Option<DateTime>
         requires { IsTrue (is_in_range self.now) }
         ensures found { IsSome result ↔ IsTrue (has_day self.now) }
         ensures value { IfSome result

@@ -1,7 +1,7 @@
 //! Time tags and the stamps that they mean.
 ghost use Rattle.std.specs.Prelude.{◌≡◌, ◌↔◌, Bool, is_some, IsSome, IfSome, Ok};
-ghost use Rattle.gw_time.specs.Tag.{tag_meaning, stamp_of, plain};
-ghost use Rattle.gw_time.specs.Window.{shown_at, HasTag, IsFrom2000To2099};
+ghost use Rattle.gw_time.specs.Tag.{tag_meaning, plain};
+ghost use Rattle.gw_time.specs.Window.{shown_at, HasTag};
 ghost use Rattle.gw_time.specs.Spelling.{tag_showing, tag_of};
 
 use crate::binary_time::BinaryTime;
@@ -18,7 +18,7 @@ pub fn from_tag(tag: &[u8; 7], zone: &Zone) -> Result<Stamp, TagFault>
     if !time.is_in_range() {
         return Err(TagFault::Field);
     }
-    let Some(civil) = time.civil() else {
+    let Some(civil) = time.civil_time() else {
         return Err(TagFault::Date);
     };
     let instant = zone.instant_of(civil);

@@ -3,7 +3,7 @@ use Rattle.jiff_core.specs.Date.{IsYmd}
 use Rattle.jiff_core.specs.Time.{time_nanos}
 use Rattle.gw_time.specs.Tag.{civil_year, time_of_day}
 use Rattle.gw_time.proofs.Clocks.{civil_is}
-use Rattle.gw_time.proofs.binary_time.BinaryTime.civil.Goals as goal
+use Rattle.gw_time.proofs.binary_time.BinaryTime.civil_time.Goals as goal
 
 pub returns-clause-value : goal.returns-clause-value
 returns-clause-value c =
