@@ -2,6 +2,7 @@
 use Rattle.std.proofs.Common.{◌≡◌, ℕ, ℤ, true, false, ◌+◌, ◌*◌, ◌/◌, ◌%◌, ◌<◌, ◌∙◌, List, [], ◌∷◌, length, take, Option, Some, None, Ok, refl, ap, arith}
 use Rattle.std.specs.Prelude.{option_map, IsTrue, IfSome, IsSomeAnd, All, slice_get}
 use Rattle.std.specs.Option.{is_some}
+use Rattle.std.specs.Result.{result_ok}
 use Rattle.std.proofs.lemmas.List.Elements.{All-head}
 use Rattle.gw_model.specs.declared.point.Stamp.{Stamp}
 use Rattle.gw_model.specs.declared.point.Stamp.TheVariants.{Untimed, At, Doubtful}
@@ -15,7 +16,8 @@ use Rattle.gw_time.specs.Spelling.{tag_of}
 use Rattle.gw_time.proofs.Century.{window_is_century}
 use Rattle.gw_time.proofs.Spelled.{IsTagOf, tag_in_window}
 use Rattle.iec_asdu.specs.Laws.{single_again, double_again, word_again, scaled_again, counter_again}
-use Rattle.iec_asdu.specs.Asdu.{◌>>=◌, Asdu, told, monitor_types, objects_apart, objects_of, asdu_meaning}
+use Rattle.gw_model.specs.Optional.{◌>>=◌}
+use Rattle.iec_asdu.specs.Asdu.{Asdu, monitor_types, objects_apart, objects_of, asdu_meaning}
 use Rattle.iec_asdu.specs.Spelling.{type_of, spelling, spelling_with, HasWidth}
 
 abbrev observed : ℕ → Stamp → Value × Quality → Observation
@@ -62,18 +64,18 @@ seven a b c d e f g = a ∷ b ∷ c ∷ d ∷ e ∷ f ∷ g ∷ []
 
 shown_means : (offset : ℤ) (common cause address : ℕ) (value : Value) (quality : Quality) (a b c d e f g : ℕ) (stamp : Stamp) → HasWidth value → IsTrue (is_of_element value quality)
     → asdu_meaning (monitor_types offset) (spelling_with (Some (seven a b c d e f g)) common cause (observed address stamp (value, quality)))
-    ≡ after (type_of value true) (common_read common) cause (address_read address) (Some (value, quality)) (told (tag_meaning offset (seven a b c d e f g)))
+    ≡ after (type_of value true) (common_read common) cause (address_read address) (Some (value, quality)) (result_ok (tag_meaning offset (seven a b c d e f g)))
 unfolding asdu_meaning objects_of objects_apart
 shown_means offset common cause address (Single on) quality a b c d e f g stamp width fit =
-    ap (λ m. after 30 (common_read common) cause (address_read address) (option_map (λ x. (Single x.on, x.quality)) m) (told (tag_meaning offset (seven a b c d e f g)))) (single_again (record { on = on; quality = quality }) fit)
+    ap (λ m. after 30 (common_read common) cause (address_read address) (option_map (λ x. (Single x.on, x.quality)) m) (result_ok (tag_meaning offset (seven a b c d e f g)))) (single_again (record { on = on; quality = quality }) fit)
 shown_means offset common cause address (Double state) quality a b c d e f g stamp width fit =
-    ap (λ m. after 31 (common_read common) cause (address_read address) (option_map (λ x. (Double x.state, x.quality)) m) (told (tag_meaning offset (seven a b c d e f g)))) (double_again (record { state = state; quality = quality }) fit)
+    ap (λ m. after 31 (common_read common) cause (address_read address) (option_map (λ x. (Double x.state, x.quality)) m) (result_ok (tag_meaning offset (seven a b c d e f g)))) (double_again (record { state = state; quality = quality }) fit)
 shown_means offset common cause address (Word n) quality a b c d e f g stamp width fit =
-    ap (λ m. after 33 (common_read common) cause (address_read address) (option_map (λ x. (Word x.word, x.quality)) m) (told (tag_meaning offset (seven a b c d e f g)))) (word_again (record { word = n; quality = quality }) (fit, width))
+    ap (λ m. after 33 (common_read common) cause (address_read address) (option_map (λ x. (Word x.word, x.quality)) m) (result_ok (tag_meaning offset (seven a b c d e f g)))) (word_again (record { word = n; quality = quality }) (fit, width))
 shown_means offset common cause address (Scaled z) quality a b c d e f g stamp width fit =
-    ap (λ m. after 35 (common_read common) cause (address_read address) (option_map (λ x. (Scaled x.value, x.quality)) m) (told (tag_meaning offset (seven a b c d e f g)))) (scaled_again (record { value = z; quality = quality }) (fit, width))
+    ap (λ m. after 35 (common_read common) cause (address_read address) (option_map (λ x. (Scaled x.value, x.quality)) m) (result_ok (tag_meaning offset (seven a b c d e f g)))) (scaled_again (record { value = z; quality = quality }) (fit, width))
 shown_means offset common cause address (Total n) quality a b c d e f g stamp width fit =
-    ap (λ m. after 37 (common_read common) cause (address_read address) (option_map (λ x. (Total x.count, x.quality)) m) (told (tag_meaning offset (seven a b c d e f g)))) (counter_again (record { count = n; quality = quality }) (fit, width))
+    ap (λ m. after 37 (common_read common) cause (address_read address) (option_map (λ x. (Total x.count, x.quality)) m) (result_ok (tag_meaning offset (seven a b c d e f g)))) (counter_again (record { count = n; quality = quality }) (fit, width))
 
 -- the same for any tag of seven octets that means the stamp
 timed_means : (offset : ℤ) (common cause address : ℕ) (value : Value) (quality : Quality) (tag : List ℕ) (stamp : Stamp) → HasWidth value → IsTrue (is_of_element value quality)
@@ -82,7 +84,7 @@ timed_means : (offset : ℤ) (common cause address : ℕ) (value : Value) (quali
     ≡ Some (one_of (type_of value true) (common_read common) cause (observed (address_read address) stamp (value, quality)))
 timed_means offset common cause address value quality (a ∷ b ∷ c ∷ d ∷ e ∷ f ∷ g ∷ []) stamp width fit long meant =
     shown_means offset common cause address value quality a b c d e f g stamp width fit
-    ∙ ap (λ r. after (type_of value true) (common_read common) cause (address_read address) (Some (value, quality)) (told r)) meant
+    ∙ ap (λ r. after (type_of value true) (common_read common) cause (address_read address) (Some (value, quality)) (result_ok r)) meant
 timed_means offset common cause address value quality _ stamp width fit long meant = absurd (omega arith)
 
 -- ---- numbers again

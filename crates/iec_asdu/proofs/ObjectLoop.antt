@@ -4,8 +4,10 @@ use Rattle.std.specs.Prelude.{ok_or}
 use Rattle.std.proofs.lemmas.List.{append-nil, drop-drop}
 use Rattle.gw_model.specs.declared.observation.Observation.{Observation}
 use Rattle.iec_asdu.specs.declared.fault.AsduFault.{AsduFault}
-use Rattle.iec_asdu.specs.Asdu.{Layout, size_of, address_at}
-use Rattle.iec_asdu.specs.Reading.{◌>>=◌, object_read, read_apart, read_in_sequence, UnlessMemory}
+use Rattle.gw_model.specs.Outcome.{◌>>=◌, UnlessMemory}
+use Rattle.iec_asdu.specs.Types.{Layout}
+use Rattle.iec_asdu.specs.Asdu.{size_of, address_at}
+use Rattle.iec_asdu.specs.Reading.{is_memory, object_read, read_apart, read_in_sequence}
 use Rattle.iec_asdu.specs.declared.fault.AsduFault.TheVariants.{Short, Long, UnknownType, ZeroObjects, Reserved, Tag, Memory}
 
 -- what was read before, and what is still read
@@ -17,7 +19,7 @@ regroup front x (Ok xs) = ap (λ (ys : List Observation). Ok ys) (simp append_as
 regroup front x (Err e) = refl
 
 -- what holds of a fault is told of it
-pub told_of : {P : Type 0} (f : AsduFault) → P → UnlessMemory f P
+pub told_of : {P : Type 0} (f : AsduFault) → P → UnlessMemory (is_memory f) P
 told_of Memory p = tt
 told_of Short p = p
 told_of Long p = p

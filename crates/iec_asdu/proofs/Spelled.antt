@@ -7,7 +7,9 @@ use Rattle.gw_model.specs.declared.observation.Value.{Value}
 use Rattle.gw_model.specs.declared.observation.Quality.{Quality}
 use Rattle.gw_model.specs.declared.observation.Observation.{Observation}
 use Rattle.iec_asdu.specs.Bits.{is_set}
-use Rattle.iec_asdu.specs.Asdu.{◌>>=◌, Asdu, Layout, layout_of, size_of, address_at, observed_at, objects_apart, objects_in_sequence, objects_of, asdu_meaning}
+use Rattle.gw_model.specs.Optional.{◌>>=◌}
+use Rattle.iec_asdu.specs.Types.{Layout}
+use Rattle.iec_asdu.specs.Asdu.{Asdu, layout_of, size_of, address_at, observation_at, objects_apart, objects_in_sequence, objects_of, asdu_meaning}
 use Rattle.iec_asdu.specs.Grammar.{IsAddress, IsInformation, AreApart, AreInSequence, AreObjects, IsAsdu}
 
 -- ---- steps of a reading
@@ -34,10 +36,10 @@ address_again octets address rest a = rw a.text (sym a.number, refl)
 abbrev observed : ℕ → Value × Quality → Stamp → Observation
 observed address shown stamp = record { address = address; value = shown.0; quality = shown.1; stamp = stamp }
 
-information_takes : (address : ℕ) (layout : Layout) (octets : List ℕ) (x : Observation) → length octets ≡ size_of layout → observed_at address layout octets ≡ Some x
+information_takes : (address : ℕ) (layout : Layout) (octets : List ℕ) (x : Observation) → length octets ≡ size_of layout → observation_at address layout octets ≡ Some x
     → IsInformation layout octets x × (x.address ≡ address)
 information_takes address layout octets x long e =
-    let s = bind_some (layout.shown (take layout.element octets)) _ x e in
+    let s = bind_some (layout.value (take layout.element octets)) _ x e in
     let t = bind_some (layout.stamp (drop layout.element octets)) _ x s.2 in
     let is : observed address s.0 t.0 ≡ x = cc (t.2) in
     rw (← is) (
@@ -47,7 +49,7 @@ information_takes address layout octets x long e =
         text = sym (take-append-drop layout.element octets);
         element_length = omega (arith, length-take layout.element octets);
         tag_length = omega (arith, length-drop layout.element octets);
-        shown = s.1;
+        valued = s.1;
         stamped = t.1;
       },
       refl,
@@ -57,11 +59,11 @@ made : (o : Option (Value × Quality)) (t : Option Stamp) (x : Observation) → 
     → (o >>= λ s. (t >>= λ stamp. Some (observed x.address s stamp))) ≡ Some x
 made o t x e f = rw (e, f) refl
 
-information_again : (layout : Layout) (octets : List ℕ) (x : Observation) → IsInformation layout octets x → (observed_at x.address layout octets ≡ Some x) × (length octets ≡ size_of layout)
+information_again : (layout : Layout) (octets : List ℕ) (x : Observation) → IsInformation layout octets x → (observation_at x.address layout octets ≡ Some x) × (length octets ≡ size_of layout)
 information_again layout octets x i =
     let front : take layout.element octets ≡ i.element = ap (λ (o : List ℕ). take layout.element o) i.text ∙ take_at i.element i.tag layout.element i.element_length in
     let back : drop layout.element octets ≡ i.tag = ap (λ (o : List ℕ). drop layout.element o) i.text ∙ drop_at i.element i.tag layout.element i.element_length in (
-      made (layout.shown (take layout.element octets)) (layout.stamp (drop layout.element octets)) x (ap (λ (o : List ℕ). layout.shown o) front ∙ i.shown) (ap (λ (o : List ℕ). layout.stamp o) back ∙ i.stamped),
+      made (layout.value (take layout.element octets)) (layout.stamp (drop layout.element octets)) x (ap (λ (o : List ℕ). layout.value o) front ∙ i.valued) (ap (λ (o : List ℕ). layout.stamp o) back ∙ i.stamped),
       ap length i.text ∙ omega (arith, length-append i.element i.tag, i.element_length, i.tag_length),
     )
 
@@ -84,7 +86,7 @@ unfolding objects_apart
 apart_takes layout zero octets [] long e = (empty octets (omega (arith, long)), refl)
 apart_takes layout zero octets (x ∷ xs) long e = absurd cc
 apart_takes layout (suc n) octets xs long e =
-    let first = bind_some (observed_at (address_at octets) layout (take (size_of layout) (drop 3 octets))) _ xs e in
+    let first = bind_some (observation_at (address_at octets) layout (take (size_of layout) (drop 3 octets))) _ xs e in
     let others = bind_some (objects_apart layout n (drop (3 + size_of layout) octets)) _ xs first.2 in
     let is : first.0 ∷ others.0 ≡ xs = cc (others.2) in
     let room : 3 + size_of layout ≤ length octets = omega (arith, long) in
@@ -115,7 +117,7 @@ unfolding objects_in_sequence
 sequence_takes layout zero address octets [] long e = (empty octets (omega (arith, long)), refl)
 sequence_takes layout zero address octets (x ∷ xs) long e = absurd cc
 sequence_takes layout (suc n) address octets xs long e =
-    let first = bind_some (observed_at address layout (take (size_of layout) octets)) _ xs e in
+    let first = bind_some (observation_at address layout (take (size_of layout) octets)) _ xs e in
     let others = bind_some (objects_in_sequence layout n (address + 1) (drop (size_of layout) octets)) _ xs first.2 in
     let is : first.0 ∷ others.0 ≡ xs = cc (others.2) in
     let room : length (take (size_of layout) octets) ≡ size_of layout = omega (arith, long, length-take (size_of layout) octets) in
@@ -133,7 +135,7 @@ sequence_again layout address octets (x ∷ xs) (information, rest, text, at, is
     let front : take (size_of layout) octets ≡ information = ap (λ (o : List ℕ). take (size_of layout) o) text ∙ take_at information rest (size_of layout) i.1 in
     let behind : drop (size_of layout) octets ≡ rest = ap (λ (o : List ℕ). drop (size_of layout) o) text ∙ drop_at information rest (size_of layout) i.1 in
     let long : length octets ≡ size_of layout + length rest = ap length text ∙ omega (arith, length-append information rest, i.1) in
-    let first : observed_at address layout (take (size_of layout) octets) ≡ Some x = rw (front, ← at) i.0 in
+    let first : observation_at address layout (take (size_of layout) octets) ≡ Some x = rw (front, ← at) i.0 in
     (rw (first, behind, o.0) refl, omega (arith, long, o.1))
 
 -- so many objects by SQ, at least one
