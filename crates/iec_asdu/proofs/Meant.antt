@@ -25,7 +25,8 @@ observed address stamp shown = record { address = address; value = shown.0; qual
 
 -- an ASDU of one object, originator 0
 abbrev one_of : ℕ → ℕ → ℕ → Observation → Asdu
-one_of identification common cause x = record { identification = identification; cause = cause; originator = 0; common_address = common; observations = x ∷ [] }
+one_of identification common cause x =
+    record { identification = identification; cause = cause; originator = 0; common_address = common; observations = x ∷ [] }
 
 -- what is meant, once element and tag are shown
 abbrev after : ℕ → ℕ → ℕ → ℕ → Option (Value × Quality) → Option Stamp → Option Asdu
@@ -41,7 +42,8 @@ address_read n = n % 256 + 256 * (n / 256 % 256) + 65536 * (n / 65536 % 256)
 
 -- ---- without time
 
-untimed_means : (offset : ℤ) (common cause address : ℕ) (value : Value) (quality : Quality) → HasWidth value → IsTrue (is_of_element value quality)
+untimed_means : (offset : ℤ) (common cause address : ℕ) (value : Value) (quality : Quality) → HasWidth value
+    → IsTrue (is_of_element value quality)
     → asdu_meaning (monitor_types offset) (spelling_with None common cause (observed address Untimed (value, quality)))
     ≡ Some (one_of (type_of value false) (common_read common) cause (observed (address_read address) Untimed (value, quality)))
 unfolding asdu_meaning objects_of objects_apart
@@ -78,7 +80,8 @@ shown_means offset common cause address (Total n) quality a b c d e f g stamp wi
     ap (λ m. after 37 (common_read common) cause (address_read address) (option_map (λ x. (Total x.count, x.quality)) m) (result_ok (tag_meaning offset (seven a b c d e f g)))) (counter_again (record { count = n; quality = quality }) (fit, width))
 
 -- the same for any tag of seven octets that means the stamp
-timed_means : (offset : ℤ) (common cause address : ℕ) (value : Value) (quality : Quality) (tag : List ℕ) (stamp : Stamp) → HasWidth value → IsTrue (is_of_element value quality)
+timed_means : (offset : ℤ) (common cause address : ℕ) (value : Value) (quality : Quality) (tag : List ℕ) (stamp : Stamp)
+    → HasWidth value → IsTrue (is_of_element value quality)
     → length tag ≡ 7 → tag_meaning offset tag ≡ Ok stamp
     → asdu_meaning (monitor_types offset) (spelling_with (Some tag) common cause (observed address stamp (value, quality)))
     ≡ Some (one_of (type_of value true) (common_read common) cause (observed (address_read address) stamp (value, quality)))
@@ -95,8 +98,10 @@ common_again n small = omega arith
 address_again : (n : ℕ) → n < 16777216 → address_read n ≡ n
 address_again n small = omega arith
 
-one_same : (identification common cause address m a : ℕ) (value : Value) (quality : Quality) (stamp : Stamp) → m ≡ common → a ≡ address
-    → one_of identification m cause (observed a stamp (value, quality)) ≡ one_of identification common cause (observed address stamp (value, quality))
+one_same : (identification common cause address m a : ℕ) (value : Value) (quality : Quality) (stamp : Stamp)
+    → m ≡ common → a ≡ address
+    → one_of identification m cause (observed a stamp (value, quality))
+    ≡ one_of identification common cause (observed address stamp (value, quality))
 one_same identification common cause address m a value quality stamp em ea = cc
 
 -- ---- whole
@@ -111,7 +116,8 @@ with_tag offset common cause address value quality stamp (Some tag) small low wi
     timed_means offset common cause address value quality tag stamp width fit h.seven.seven h.meant
     ∙ ap Some (one_same (type_of value true) common cause address _ _ value quality stamp (common_again common small) (address_again address low))
 
-by_stamp : (offset : ℤ) (common cause address : ℕ) (value : Value) (quality : Quality) (stamp : Stamp) → common < 65536 → address < 16777216 → HasWidth value
+by_stamp : (offset : ℤ) (common cause address : ℕ) (value : Value) (quality : Quality) (stamp : Stamp) → common < 65536
+    → address < 16777216 → HasWidth value
     → IsTrue (is_of_element value quality) → IsInWindow offset stamp
     → asdu_meaning (monitor_types offset) (spelling offset common cause (observed address stamp (value, quality)))
     ≡ Some (one_of (type_of value (is_some (tag_of offset stamp))) common cause (observed address stamp (value, quality)))
@@ -125,16 +131,19 @@ by_stamp offset common cause address value quality (Doubtful t) small low width 
 
 -- what is spelled for a fit observation means it, with the cause and the common address
 pub meant : (offset : ℤ) (common cause : ℕ) (x : Observation) → common < 65536 → HasWidth x.value → IsFit offset x
-    → asdu_meaning (monitor_types offset) (spelling offset common cause x) ≡ Some (one_of (type_of x.value (is_some (tag_of offset x.stamp))) common cause x)
+    → asdu_meaning (monitor_types offset) (spelling offset common cause x)
+    ≡ Some (one_of (type_of x.value (is_some (tag_of offset x.stamp))) common cause x)
 meant offset common cause x small width fit =
     by_stamp offset common cause x.address x.value x.quality x.stamp small (omega (arith, fit.address)) width fit.element fit.stamp
 
 -- the same of the first of a list
-pub meant_of_first : (offset : ℤ) (common cause : ℕ) (xs : List Observation) (octets : List ℕ) → 0 < length xs → IfSome (slice_get xs 0) (λ x. octets ≡ spelling offset common cause x)
+pub meant_of_first : (offset : ℤ) (common cause : ℕ) (xs : List Observation) (octets : List ℕ) → 0 < length xs
+    → IfSome (slice_get xs 0) (λ x. octets ≡ spelling offset common cause x)
     → IfSome (slice_get xs 0) (λ x. HasWidth x.value) → common < 65536 → All (IsFit offset) (take 1 xs)
     → IsSomeAnd (asdu_meaning (monitor_types offset) octets) (λ asdu. (asdu.cause ≡ cause) × (asdu.originator ≡ 0) × (asdu.common_address ≡ common) × (asdu.observations ≡ take 1 xs))
 meant_of_first offset common cause [] octets some spelled width small fits = absurd (omega arith)
 meant_of_first offset common cause (x ∷ xs) octets some spelled width small fits =
     let fit : IsFit offset x = All-head (IsFit offset) x [] fits in
-    let e = ap (λ (o : List ℕ). asdu_meaning (monitor_types offset) o) spelled ∙ meant offset common cause x small width fit in
+    let e = ap (λ (o : List ℕ). asdu_meaning (monitor_types offset) o) spelled
+    ∙ meant offset common cause x small width fit in
     rw e (refl, refl, refl, refl)
