@@ -9,10 +9,13 @@ use Rattle.gw_model.specs.declared.observation.Observation.{Observation}
 use Rattle.iec_asdu.specs.declared.fault.AsduFault.{AsduFault}
 use Rattle.iec_asdu.specs.declared.fault.AsduFault.TheVariants.{Short, Long, UnknownType, Reserved, Tag}
 use Rattle.iec_asdu.specs.declared.reading.Monitor.{Monitor}
-use Rattle.iec_asdu.specs.Asdu.{◌>>=◌, Asdu, Layout, size_of, address_at, observed_at, objects_apart, objects_in_sequence, objects_of, asdu_meaning}
+use Rattle.gw_model.specs.Optional.{◌>>=◌}
+use Rattle.gw_model.specs.Outcome.{Gives}
+use Rattle.iec_asdu.specs.Types.{Layout}
+use Rattle.iec_asdu.specs.Asdu.{Asdu, size_of, address_at, observation_at, objects_apart, objects_in_sequence, objects_of, asdu_meaning}
 use Rattle.iec_asdu.specs.Grammar.{IsAsdu}
-use Rattle.iec_asdu.specs.Reading.{object_read, read_apart, read_in_sequence, objects_read, asdu_read, Gives}
-use Rattle.iec_asdu.specs.Contents.{Contents, contents_of, Spells, seen, contents_read}
+use Rattle.iec_asdu.specs.Reading.{object_read, read_apart, read_in_sequence, objects_read, asdu_read, is_memory}
+use Rattle.iec_asdu.specs.Contents.{Contents, contents_of, Spells, monitor_contents, contents_read}
 use Rattle.iec_asdu.proofs.Spelled.{meaning_is_spelled}
 
 -- one reading after another
@@ -36,7 +39,8 @@ object_parts address None t = refl
 object_parts address (Some s) None = refl
 object_parts address (Some s) (Some t) = refl
 
-object_given : (address : ℕ) (layout : Layout) (octets : List ℕ) → given (object_read address layout octets) ≡ observed_at address layout octets
+object_given : (address : ℕ) (layout : Layout) (octets : List ℕ)
+    → given (object_read address layout octets) ≡ observation_at address layout octets
 object_given address layout octets = object_parts address _ _
 
 two_given : (r : Result Observation AsduFault) (rs : Result (List Observation) AsduFault) (o : Option Observation) (os : Option (List Observation)) → given r ≡ o → given rs ≡ os
@@ -45,15 +49,18 @@ two_given (Ok x) (Ok xs) o os e f = rw (← e, ← f) refl
 two_given (Ok x) (Err d) o os e f = rw (← e, ← f) refl
 two_given (Err d) rs o os e f = rw (← e) refl
 
-apart_given : (layout : Layout) (n : ℕ) (octets : List ℕ) → given (read_apart layout n octets) ≡ objects_apart layout n octets
+apart_given : (layout : Layout) (n : ℕ) (octets : List ℕ)
+    → given (read_apart layout n octets) ≡ objects_apart layout n octets
 unfolding read_apart objects_apart
 apart_given layout zero octets = refl
 apart_given layout (suc n) octets = two_given _ _ _ _ (object_given _ layout _) (apart_given layout n _)
 
-sequence_given : (layout : Layout) (n address : ℕ) (octets : List ℕ) → given (read_in_sequence layout n address octets) ≡ objects_in_sequence layout n address octets
+sequence_given : (layout : Layout) (n address : ℕ) (octets : List ℕ)
+    → given (read_in_sequence layout n address octets) ≡ objects_in_sequence layout n address octets
 unfolding read_in_sequence objects_in_sequence
 sequence_given layout zero address octets = refl
-sequence_given layout (suc n) address octets = two_given _ _ _ _ (object_given address layout _) (sequence_given layout n (address + 1) _)
+sequence_given layout (suc n) address octets =
+    two_given _ _ _ _ (object_given address layout _) (sequence_given layout n (address + 1) _)
 
 by_length : (has wanted : ℕ) (r : Result (List Observation) AsduFault) (o : Option (List Observation)) → given r ≡ o
     → given (cond (nat_lt has wanted) (Err Short) (cond (nat_lt wanted has) (Err Long) r)) ≡ cond (has == wanted) o None
@@ -64,7 +71,8 @@ by_length has wanted r o e =
       | inr (inr gt) ↦ rw (le-ltb has wanted (omega arith), lt-ltb wanted has gt, ne_eqb has wanted (λ e. omega arith)) refl
     ]
 
-objects_given : (layout : Layout) (sequence : Bool) (n : ℕ) (octets : List ℕ) → given (objects_read layout sequence n octets) ≡ objects_of layout sequence n octets
+objects_given : (layout : Layout) (sequence : Bool) (n : ℕ) (octets : List ℕ)
+    → given (objects_read layout sequence n octets) ≡ objects_of layout sequence n octets
 unfolding objects_read objects_of
 objects_given layout sequence zero octets = refl
 objects_given layout true (suc n) octets =
@@ -82,7 +90,8 @@ objects_made (Ok xs) o make e = rw (← e) refl
 objects_made (Err d) o make e = rw (← e) refl
 
 header_given : (l : Option Layout) (read : Layout → Result (List Observation) AsduFault) (of : Layout → Option (List Observation)) (make : List Observation → Asdu) → ((layout : Layout) → given (read layout) ≡ of layout)
-    → given (then_read (ok_or l UnknownType) (λ layout. then_read (read layout) (λ xs. Ok (make xs)))) ≡ (l >>= λ layout. (of layout >>= λ xs. Some (make xs)))
+    → given (then_read (ok_or l UnknownType) (λ layout. then_read (read layout) (λ xs. Ok (make xs))))
+    ≡ (l >>= λ layout. (of layout >>= λ xs. Some (make xs)))
 header_given None read of make e = refl
 header_given (Some layout) read of make e = objects_made (read layout) (of layout) make (e layout)
 
@@ -100,14 +109,16 @@ asdu_given types (a ∷ b ∷ c ∷ d ∷ e ∷ []) = refl
 
 -- ---- what a call tells
 
-read_some : (r : Result Asdu AsduFault) (c : Contents) → then_read r (λ a. Ok (contents_of a)) ≡ Ok c → (a : Asdu) × (r ≡ Ok a) × (contents_of a ≡ c)
+read_some : (r : Result Asdu AsduFault) (c : Contents) → then_read r (λ a. Ok (contents_of a)) ≡ Ok c
+    → (a : Asdu) × (r ≡ Ok a) × (contents_of a ≡ c)
 read_some (Ok a) c e = (a, refl, cc)
 read_some (Err d) c e = absurd cc
 
-pub found_for : (types : List Layout) (octets : List ℕ) (result : Result Monitor AsduFault) → Gives seen result (contents_read types octets)
-    → IfOk result (λ m. Spells types octets (seen m))
+pub found_for : (types : List Layout) (octets : List ℕ) (result : Result Monitor AsduFault)
+    → Gives is_memory monitor_contents result (contents_read types octets)
+    → IfOk result (λ m. Spells types octets (monitor_contents m))
 found_for types octets (Ok m) h =
-    let r = read_some (asdu_read types octets) (seen m) h in
+    let r = read_some (asdu_read types octets) (monitor_contents m) h in
     (r.0, (meaning_is_spelled types octets r.0).0 (sym (asdu_given types octets) ∙ ap (λ (x : Result Asdu AsduFault). given x) r.1), r.2)
 found_for types octets (Err e) h = tt
 
@@ -115,8 +126,10 @@ read_of : (r : Result Asdu AsduFault) (a : Asdu) → given r ≡ Some a → r �
 read_of (Ok b) a e = cc
 read_of (Err d) a e = absurd cc
 
-pub only_for : (types : List Layout) (octets : List ℕ) (result : Result Monitor AsduFault) → Gives seen result (contents_read types octets)
-    → (asdu : Asdu) → IsAsdu types octets asdu → Gives seen result (Ok (contents_of asdu))
+pub only_for : (types : List Layout) (octets : List ℕ) (result : Result Monitor AsduFault)
+    → Gives is_memory monitor_contents result (contents_read types octets)
+    → (asdu : Asdu) → IsAsdu types octets asdu → Gives is_memory monitor_contents result (Ok (contents_of asdu))
 only_for types octets result h asdu is =
-    let read : asdu_read types octets ≡ Ok asdu = read_of (asdu_read types octets) asdu (asdu_given types octets ∙ (meaning_is_spelled types octets asdu).1 is) in
-    subst (λ (r : Result Asdu AsduFault). Gives seen result (then_read r (λ a. Ok (contents_of a)))) read h
+    let read : asdu_read types octets ≡ Ok asdu =
+    read_of (asdu_read types octets) asdu (asdu_given types octets ∙ (meaning_is_spelled types octets asdu).1 is) in
+    subst (λ (r : Result Asdu AsduFault). Gives is_memory monitor_contents result (then_read r (λ a. Ok (contents_of a)))) read h

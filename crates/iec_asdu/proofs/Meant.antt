@@ -2,6 +2,7 @@
 use Rattle.std.proofs.Common.{◌≡◌, ℕ, ℤ, true, false, ◌+◌, ◌*◌, ◌/◌, ◌%◌, ◌<◌, ◌∙◌, List, [], ◌∷◌, length, take, Option, Some, None, Ok, refl, ap, arith}
 use Rattle.std.specs.Prelude.{option_map, IsTrue, IfSome, IsSomeAnd, All, slice_get}
 use Rattle.std.specs.Option.{is_some}
+use Rattle.std.specs.Result.{result_ok}
 use Rattle.std.proofs.lemmas.List.Elements.{All-head}
 use Rattle.gw_model.specs.declared.point.Stamp.{Stamp}
 use Rattle.gw_model.specs.declared.point.Stamp.TheVariants.{Untimed, At, Doubtful}
@@ -15,7 +16,8 @@ use Rattle.gw_time.specs.Spelling.{tag_of}
 use Rattle.gw_time.proofs.Century.{window_is_century}
 use Rattle.gw_time.proofs.Spelled.{IsTagOf, tag_in_window}
 use Rattle.iec_asdu.specs.Laws.{single_again, double_again, word_again, scaled_again, counter_again}
-use Rattle.iec_asdu.specs.Asdu.{◌>>=◌, Asdu, told, monitor_types, objects_apart, objects_of, asdu_meaning}
+use Rattle.gw_model.specs.Optional.{◌>>=◌}
+use Rattle.iec_asdu.specs.Asdu.{Asdu, monitor_types, objects_apart, objects_of, asdu_meaning}
 use Rattle.iec_asdu.specs.Spelling.{type_of, spelling, spelling_with, HasWidth}
 
 abbrev observed : ℕ → Stamp → Value × Quality → Observation
@@ -23,7 +25,8 @@ observed address stamp shown = record { address = address; value = shown.0; qual
 
 -- an ASDU of one object, originator 0
 abbrev one_of : ℕ → ℕ → ℕ → Observation → Asdu
-one_of identification common cause x = record { identification = identification; cause = cause; originator = 0; common_address = common; observations = x ∷ [] }
+one_of identification common cause x =
+    record { identification = identification; cause = cause; originator = 0; common_address = common; observations = x ∷ [] }
 
 -- what is meant, once element and tag are shown
 abbrev after : ℕ → ℕ → ℕ → ℕ → Option (Value × Quality) → Option Stamp → Option Asdu
@@ -39,7 +42,8 @@ address_read n = n % 256 + 256 * (n / 256 % 256) + 65536 * (n / 65536 % 256)
 
 -- ---- without time
 
-untimed_means : (offset : ℤ) (common cause address : ℕ) (value : Value) (quality : Quality) → HasWidth value → IsTrue (is_of_element value quality)
+untimed_means : (offset : ℤ) (common cause address : ℕ) (value : Value) (quality : Quality) → HasWidth value
+    → IsTrue (is_of_element value quality)
     → asdu_meaning (monitor_types offset) (spelling_with None common cause (observed address Untimed (value, quality)))
     ≡ Some (one_of (type_of value false) (common_read common) cause (observed (address_read address) Untimed (value, quality)))
 unfolding asdu_meaning objects_of objects_apart
@@ -62,27 +66,28 @@ seven a b c d e f g = a ∷ b ∷ c ∷ d ∷ e ∷ f ∷ g ∷ []
 
 shown_means : (offset : ℤ) (common cause address : ℕ) (value : Value) (quality : Quality) (a b c d e f g : ℕ) (stamp : Stamp) → HasWidth value → IsTrue (is_of_element value quality)
     → asdu_meaning (monitor_types offset) (spelling_with (Some (seven a b c d e f g)) common cause (observed address stamp (value, quality)))
-    ≡ after (type_of value true) (common_read common) cause (address_read address) (Some (value, quality)) (told (tag_meaning offset (seven a b c d e f g)))
+    ≡ after (type_of value true) (common_read common) cause (address_read address) (Some (value, quality)) (result_ok (tag_meaning offset (seven a b c d e f g)))
 unfolding asdu_meaning objects_of objects_apart
 shown_means offset common cause address (Single on) quality a b c d e f g stamp width fit =
-    ap (λ m. after 30 (common_read common) cause (address_read address) (option_map (λ x. (Single x.on, x.quality)) m) (told (tag_meaning offset (seven a b c d e f g)))) (single_again (record { on = on; quality = quality }) fit)
+    ap (λ m. after 30 (common_read common) cause (address_read address) (option_map (λ x. (Single x.on, x.quality)) m) (result_ok (tag_meaning offset (seven a b c d e f g)))) (single_again (record { on = on; quality = quality }) fit)
 shown_means offset common cause address (Double state) quality a b c d e f g stamp width fit =
-    ap (λ m. after 31 (common_read common) cause (address_read address) (option_map (λ x. (Double x.state, x.quality)) m) (told (tag_meaning offset (seven a b c d e f g)))) (double_again (record { state = state; quality = quality }) fit)
+    ap (λ m. after 31 (common_read common) cause (address_read address) (option_map (λ x. (Double x.state, x.quality)) m) (result_ok (tag_meaning offset (seven a b c d e f g)))) (double_again (record { state = state; quality = quality }) fit)
 shown_means offset common cause address (Word n) quality a b c d e f g stamp width fit =
-    ap (λ m. after 33 (common_read common) cause (address_read address) (option_map (λ x. (Word x.word, x.quality)) m) (told (tag_meaning offset (seven a b c d e f g)))) (word_again (record { word = n; quality = quality }) (fit, width))
+    ap (λ m. after 33 (common_read common) cause (address_read address) (option_map (λ x. (Word x.word, x.quality)) m) (result_ok (tag_meaning offset (seven a b c d e f g)))) (word_again (record { word = n; quality = quality }) (fit, width))
 shown_means offset common cause address (Scaled z) quality a b c d e f g stamp width fit =
-    ap (λ m. after 35 (common_read common) cause (address_read address) (option_map (λ x. (Scaled x.value, x.quality)) m) (told (tag_meaning offset (seven a b c d e f g)))) (scaled_again (record { value = z; quality = quality }) (fit, width))
+    ap (λ m. after 35 (common_read common) cause (address_read address) (option_map (λ x. (Scaled x.value, x.quality)) m) (result_ok (tag_meaning offset (seven a b c d e f g)))) (scaled_again (record { value = z; quality = quality }) (fit, width))
 shown_means offset common cause address (Total n) quality a b c d e f g stamp width fit =
-    ap (λ m. after 37 (common_read common) cause (address_read address) (option_map (λ x. (Total x.count, x.quality)) m) (told (tag_meaning offset (seven a b c d e f g)))) (counter_again (record { count = n; quality = quality }) (fit, width))
+    ap (λ m. after 37 (common_read common) cause (address_read address) (option_map (λ x. (Total x.count, x.quality)) m) (result_ok (tag_meaning offset (seven a b c d e f g)))) (counter_again (record { count = n; quality = quality }) (fit, width))
 
 -- the same for any tag of seven octets that means the stamp
-timed_means : (offset : ℤ) (common cause address : ℕ) (value : Value) (quality : Quality) (tag : List ℕ) (stamp : Stamp) → HasWidth value → IsTrue (is_of_element value quality)
+timed_means : (offset : ℤ) (common cause address : ℕ) (value : Value) (quality : Quality) (tag : List ℕ) (stamp : Stamp)
+    → HasWidth value → IsTrue (is_of_element value quality)
     → length tag ≡ 7 → tag_meaning offset tag ≡ Ok stamp
     → asdu_meaning (monitor_types offset) (spelling_with (Some tag) common cause (observed address stamp (value, quality)))
     ≡ Some (one_of (type_of value true) (common_read common) cause (observed (address_read address) stamp (value, quality)))
 timed_means offset common cause address value quality (a ∷ b ∷ c ∷ d ∷ e ∷ f ∷ g ∷ []) stamp width fit long meant =
     shown_means offset common cause address value quality a b c d e f g stamp width fit
-    ∙ ap (λ r. after (type_of value true) (common_read common) cause (address_read address) (Some (value, quality)) (told r)) meant
+    ∙ ap (λ r. after (type_of value true) (common_read common) cause (address_read address) (Some (value, quality)) (result_ok r)) meant
 timed_means offset common cause address value quality _ stamp width fit long meant = absurd (omega arith)
 
 -- ---- numbers again
@@ -93,8 +98,10 @@ common_again n small = omega arith
 address_again : (n : ℕ) → n < 16777216 → address_read n ≡ n
 address_again n small = omega arith
 
-one_same : (identification common cause address m a : ℕ) (value : Value) (quality : Quality) (stamp : Stamp) → m ≡ common → a ≡ address
-    → one_of identification m cause (observed a stamp (value, quality)) ≡ one_of identification common cause (observed address stamp (value, quality))
+one_same : (identification common cause address m a : ℕ) (value : Value) (quality : Quality) (stamp : Stamp)
+    → m ≡ common → a ≡ address
+    → one_of identification m cause (observed a stamp (value, quality))
+    ≡ one_of identification common cause (observed address stamp (value, quality))
 one_same identification common cause address m a value quality stamp em ea = cc
 
 -- ---- whole
@@ -109,7 +116,8 @@ with_tag offset common cause address value quality stamp (Some tag) small low wi
     timed_means offset common cause address value quality tag stamp width fit h.seven.seven h.meant
     ∙ ap Some (one_same (type_of value true) common cause address _ _ value quality stamp (common_again common small) (address_again address low))
 
-by_stamp : (offset : ℤ) (common cause address : ℕ) (value : Value) (quality : Quality) (stamp : Stamp) → common < 65536 → address < 16777216 → HasWidth value
+by_stamp : (offset : ℤ) (common cause address : ℕ) (value : Value) (quality : Quality) (stamp : Stamp) → common < 65536
+    → address < 16777216 → HasWidth value
     → IsTrue (is_of_element value quality) → IsInWindow offset stamp
     → asdu_meaning (monitor_types offset) (spelling offset common cause (observed address stamp (value, quality)))
     ≡ Some (one_of (type_of value (is_some (tag_of offset stamp))) common cause (observed address stamp (value, quality)))
@@ -123,16 +131,19 @@ by_stamp offset common cause address value quality (Doubtful t) small low width 
 
 -- what is spelled for a fit observation means it, with the cause and the common address
 pub meant : (offset : ℤ) (common cause : ℕ) (x : Observation) → common < 65536 → HasWidth x.value → IsFit offset x
-    → asdu_meaning (monitor_types offset) (spelling offset common cause x) ≡ Some (one_of (type_of x.value (is_some (tag_of offset x.stamp))) common cause x)
+    → asdu_meaning (monitor_types offset) (spelling offset common cause x)
+    ≡ Some (one_of (type_of x.value (is_some (tag_of offset x.stamp))) common cause x)
 meant offset common cause x small width fit =
     by_stamp offset common cause x.address x.value x.quality x.stamp small (omega (arith, fit.address)) width fit.element fit.stamp
 
 -- the same of the first of a list
-pub meant_of_first : (offset : ℤ) (common cause : ℕ) (xs : List Observation) (octets : List ℕ) → 0 < length xs → IfSome (slice_get xs 0) (λ x. octets ≡ spelling offset common cause x)
+pub meant_of_first : (offset : ℤ) (common cause : ℕ) (xs : List Observation) (octets : List ℕ) → 0 < length xs
+    → IfSome (slice_get xs 0) (λ x. octets ≡ spelling offset common cause x)
     → IfSome (slice_get xs 0) (λ x. HasWidth x.value) → common < 65536 → All (IsFit offset) (take 1 xs)
     → IsSomeAnd (asdu_meaning (monitor_types offset) octets) (λ asdu. (asdu.cause ≡ cause) × (asdu.originator ≡ 0) × (asdu.common_address ≡ common) × (asdu.observations ≡ take 1 xs))
 meant_of_first offset common cause [] octets some spelled width small fits = absurd (omega arith)
 meant_of_first offset common cause (x ∷ xs) octets some spelled width small fits =
     let fit : IsFit offset x = All-head (IsFit offset) x [] fits in
-    let e = ap (λ (o : List ℕ). asdu_meaning (monitor_types offset) o) spelled ∙ meant offset common cause x small width fit in
+    let e = ap (λ (o : List ℕ). asdu_meaning (monitor_types offset) o) spelled
+    ∙ meant offset common cause x small width fit in
     rw e (refl, refl, refl, refl)

@@ -4,20 +4,23 @@ use Rattle.std.specs.Prelude.{ok_or}
 use Rattle.std.proofs.lemmas.List.{append-nil, drop-drop}
 use Rattle.gw_model.specs.declared.observation.Observation.{Observation}
 use Rattle.iec_asdu.specs.declared.fault.AsduFault.{AsduFault}
-use Rattle.iec_asdu.specs.Asdu.{Layout, size_of, address_at}
-use Rattle.iec_asdu.specs.Reading.{◌>>=◌, object_read, read_apart, read_in_sequence, UnlessMemory}
+use Rattle.gw_model.specs.Outcome.{◌>>=◌, UnlessMemory}
+use Rattle.iec_asdu.specs.Types.{Layout}
+use Rattle.iec_asdu.specs.Asdu.{size_of, address_at}
+use Rattle.iec_asdu.specs.Reading.{is_memory, object_read, read_apart, read_in_sequence}
 use Rattle.iec_asdu.specs.declared.fault.AsduFault.TheVariants.{Short, Long, UnknownType, ZeroObjects, Reserved, Tag, Memory}
 
 -- what was read before, and what is still read
 abbrev pub with_front : List Observation → Result (List Observation) AsduFault → Result (List Observation) AsduFault
 with_front front read = read >>= λ xs. Ok (front ++ xs)
 
-regroup : (front : List Observation) (x : Observation) (read : Result (List Observation) AsduFault) → with_front front (read >>= λ xs. Ok (x ∷ xs)) ≡ with_front (front ++ x ∷ []) read
+regroup : (front : List Observation) (x : Observation) (read : Result (List Observation) AsduFault)
+    → with_front front (read >>= λ xs. Ok (x ∷ xs)) ≡ with_front (front ++ x ∷ []) read
 regroup front x (Ok xs) = ap (λ (ys : List Observation). Ok ys) (simp append_assoc)
 regroup front x (Err e) = refl
 
 -- what holds of a fault is told of it
-pub told_of : {P : Type 0} (f : AsduFault) → P → UnlessMemory f P
+pub told_of : {P : Type 0} (f : AsduFault) → P → UnlessMemory (is_memory f) P
 told_of Memory p = tt
 told_of Short p = p
 told_of Long p = p
@@ -34,12 +37,16 @@ pub record StartsRight (behind : ℕ) (here first : Result Observation AsduFault
   pub behind_first : 0 < behind → IsOk first
 
 -- behind one more
-pub starts_behind_first : (behind : ℕ) (here first : Result Observation AsduFault) → IsOk first → StartsRight (behind + 1) here first
-starts_behind_first behind here first right = record { at_first = λ z. absurd (omega arith); behind_first = λ lt. right }
+pub starts_behind_first : (behind : ℕ) (here first : Result Observation AsduFault) → IsOk first
+    → StartsRight (behind + 1) here first
+starts_behind_first behind here first right =
+    record { at_first = λ z. absurd (omega arith); behind_first = λ lt. right }
 
 -- where the one here is right, the first is
-pub first_is_right : (behind : ℕ) (here first : Result Observation AsduFault) (x : Observation) → StartsRight behind here first → here ≡ Ok x → IsOk first
-first_is_right zero here first x s right = ap (λ (r : Result Observation AsduFault). is_ok r) (sym (s.at_first refl) ∙ right)
+pub first_is_right : (behind : ℕ) (here first : Result Observation AsduFault) (x : Observation)
+    → StartsRight behind here first → here ≡ Ok x → IsOk first
+first_is_right zero here first x s right =
+    ap (λ (r : Result Observation AsduFault). is_ok r) (sym (s.at_first refl) ∙ right)
 first_is_right (suc n) here first x s right = s.behind_first (omega arith)
 
 -- the faults of two parts, one after the other
@@ -50,8 +57,10 @@ parts_fault (Some x) None make f e m = cc
 parts_fault (Some x) (Some y) make f e m = cc
 
 -- no object has the fault of memory
-pub object_fault : (address : ℕ) (layout : Layout) (octets : List ℕ) (f : AsduFault) → Err f ≡ object_read address layout octets → f ≡ Memory → ⊥
-object_fault address layout octets f e m = parts_fault _ _ (λ shown stamp. record { address = address; value = shown.0; quality = shown.1; stamp = stamp }) f (sym e) m
+pub object_fault : (address : ℕ) (layout : Layout) (octets : List ℕ) (f : AsduFault)
+    → Err f ≡ object_read address layout octets → f ≡ Memory → ⊥
+object_fault address layout octets f e m =
+    parts_fault _ _ (λ shown stamp. record { address = address; value = shown.0; quality = shown.1; stamp = stamp }) f (sym e) m
 
 -- ---- SQ 0
 
@@ -62,66 +71,86 @@ address_in_front _ long = absurd (omega arith)
 
 -- the object at the front, as it is split off
 pub apart_object : (layout : Layout) (address size : ℕ) (rest front behind information : List ℕ) (read : Result Observation AsduFault) → 3 ≤ length rest
-    → front ≡ take 3 rest → behind ≡ drop 3 rest → size ≡ size_of layout → information ≡ take size behind → address ≡ address_at front
-    → read ≡ object_read address layout information → object_read (address_at rest) layout (take (size_of layout) (drop 3 rest)) ≡ read
+    → front ≡ take 3 rest → behind ≡ drop 3 rest → size ≡ size_of layout → information ≡ take size behind
+    → address ≡ address_at front
+    → read ≡ object_read address layout information
+    → object_read (address_at rest) layout (take (size_of layout) (drop 3 rest)) ≡ read
 apart_object layout address size rest front behind information read long ef eb es ei ea er =
-    let address_is : address ≡ address_at rest = ea ∙ (ap (λ (o : List ℕ). address_at o) ef ∙ address_in_front rest long) in
-    let octets_are : information ≡ take (size_of layout) (drop 3 rest) = ei ∙ (ap (λ (n : ℕ). take n behind) es ∙ ap (λ (o : List ℕ). take (size_of layout) o) eb) in
-    ap (λ (n : ℕ). object_read n layout (take (size_of layout) (drop 3 rest))) (sym address_is) ∙ (ap (λ (o : List ℕ). object_read address layout o) (sym octets_are) ∙ sym er)
+    let address_is : address ≡ address_at rest =
+    ea ∙ (ap (λ (o : List ℕ). address_at o) ef ∙ address_in_front rest long) in
+    let octets_are : information ≡ take (size_of layout) (drop 3 rest) =
+    ei ∙ (ap (λ (n : ℕ). take n behind) es ∙ ap (λ (o : List ℕ). take (size_of layout) o) eb) in
+    ap (λ (n : ℕ). object_read n layout (take (size_of layout) (drop 3 rest))) (sym address_is)
+    ∙ (ap (λ (o : List ℕ). object_read address layout o) (sym octets_are) ∙ sym er)
 
 -- what is left behind it
-pub behind_object : (size : ℕ) (n : ℕ) (rest behind after : List ℕ) → behind ≡ drop 3 rest → size ≡ n → after ≡ drop size behind → after ≡ drop (3 + n) rest
-behind_object size n rest behind after eb es ea = ea ∙ (ap (λ (k : ℕ). drop k behind) es ∙ (ap (λ (o : List ℕ). drop n o) eb ∙ drop-drop n 3 rest))
+pub behind_object : (size : ℕ) (n : ℕ) (rest behind after : List ℕ) → behind ≡ drop 3 rest → size ≡ n
+    → after ≡ drop size behind → after ≡ drop (3 + n) rest
+behind_object size n rest behind after eb es ea =
+    ea ∙ (ap (λ (k : ℕ). drop k behind) es ∙ (ap (λ (o : List ℕ). drop n o) eb ∙ drop-drop n 3 rest))
 
-apart_step : (layout : Layout) (n m : ℕ) (octets : List ℕ) (read : Result Observation AsduFault) → n ≡ suc m → object_read (address_at octets) layout (take (size_of layout) (drop 3 octets)) ≡ read
-    → read_apart layout n octets ≡ (read >>= λ x. (read_apart layout m (drop (3 + size_of layout) octets) >>= λ xs. Ok (x ∷ xs)))
+apart_step : (layout : Layout) (n m : ℕ) (octets : List ℕ) (read : Result Observation AsduFault) → n ≡ suc m
+    → object_read (address_at octets) layout (take (size_of layout) (drop 3 octets)) ≡ read
+    → read_apart layout n octets
+    ≡ (read >>= λ x. (read_apart layout m (drop (3 + size_of layout) octets) >>= λ xs. Ok (x ∷ xs)))
 unfolding read_apart
 apart_step layout n m octets read e at = rw (e, at) refl
 
 pub apart_goes_on : (layout : Layout) (n m : ℕ) (octets : List ℕ) (front : List Observation) (x : Observation) (whole : Result (List Observation) AsduFault)
     → n ≡ suc m → object_read (address_at octets) layout (take (size_of layout) (drop 3 octets)) ≡ Ok x
-    → with_front front (read_apart layout n octets) ≡ whole → with_front (front ++ x ∷ []) (read_apart layout m (drop (3 + size_of layout) octets)) ≡ whole
+    → with_front front (read_apart layout n octets) ≡ whole
+    → with_front (front ++ x ∷ []) (read_apart layout m (drop (3 + size_of layout) octets)) ≡ whole
 apart_goes_on layout n m octets front x whole e at so_far =
-    sym (regroup front x (read_apart layout m (drop (3 + size_of layout) octets))) ∙ (ap (with_front front) (sym (apart_step layout n m octets (Ok x) e at)) ∙ so_far)
+    sym (regroup front x (read_apart layout m (drop (3 + size_of layout) octets)))
+    ∙ (ap (with_front front) (sym (apart_step layout n m octets (Ok x) e at)) ∙ so_far)
 
 pub apart_fails : (layout : Layout) (n m : ℕ) (octets : List ℕ) (front : List Observation) (f : AsduFault) (whole : Result (List Observation) AsduFault)
     → n ≡ suc m → object_read (address_at octets) layout (take (size_of layout) (drop 3 octets)) ≡ Err f
     → with_front front (read_apart layout n octets) ≡ whole → whole ≡ Err f
-apart_fails layout n m octets front f whole e at so_far = sym so_far ∙ ap (with_front front) (apart_step layout n m octets (Err f) e at)
+apart_fails layout n m octets front f whole e at so_far =
+    sym so_far ∙ ap (with_front front) (apart_step layout n m octets (Err f) e at)
 
 pub apart_done : (layout : Layout) (n : ℕ) (octets : List ℕ) (front : List Observation) (whole : Result (List Observation) AsduFault)
     → n ≡ 0 → with_front front (read_apart layout n octets) ≡ whole → whole ≡ Ok front
 unfolding read_apart
-apart_done layout zero octets front whole e so_far = sym so_far ∙ ap (λ (xs : List Observation). Ok xs) (append-nil front)
+apart_done layout zero octets front whole e so_far =
+    sym so_far ∙ ap (λ (xs : List Observation). Ok xs) (append-nil front)
 apart_done layout (suc n) octets front whole e so_far = absurd (omega arith)
 
 -- ---- SQ 1
 
 -- the element and the time tag at the front, as they are split off
 pub sequence_object : (layout : Layout) (address size : ℕ) (rest information : List ℕ) (read : Result Observation AsduFault)
-    → size ≡ size_of layout → information ≡ take size rest → read ≡ object_read address layout information → object_read address layout (take (size_of layout) rest) ≡ read
+    → size ≡ size_of layout → information ≡ take size rest → read ≡ object_read address layout information
+    → object_read address layout (take (size_of layout) rest) ≡ read
 sequence_object layout address size rest information read es ei er =
     let octets_are : information ≡ take (size_of layout) rest = ei ∙ ap (λ (n : ℕ). take n rest) es in
     ap (λ (o : List ℕ). object_read address layout o) (sym octets_are) ∙ sym er
 
-sequence_step : (layout : Layout) (n m address : ℕ) (octets : List ℕ) (read : Result Observation AsduFault) → n ≡ suc m → object_read address layout (take (size_of layout) octets) ≡ read
-    → read_in_sequence layout n address octets ≡ (read >>= λ x. (read_in_sequence layout m (address + 1) (drop (size_of layout) octets) >>= λ xs. Ok (x ∷ xs)))
+sequence_step : (layout : Layout) (n m address : ℕ) (octets : List ℕ) (read : Result Observation AsduFault) → n ≡ suc m
+    → object_read address layout (take (size_of layout) octets) ≡ read
+    → read_in_sequence layout n address octets
+    ≡ (read >>= λ x. (read_in_sequence layout m (address + 1) (drop (size_of layout) octets) >>= λ xs. Ok (x ∷ xs)))
 unfolding read_in_sequence
 sequence_step layout n m address octets read e at = rw (e, at) refl
 
 pub sequence_goes_on : (layout : Layout) (n m address : ℕ) (octets : List ℕ) (front : List Observation) (x : Observation) (whole : Result (List Observation) AsduFault)
     → n ≡ suc m → object_read address layout (take (size_of layout) octets) ≡ Ok x
-    → with_front front (read_in_sequence layout n address octets) ≡ whole → with_front (front ++ x ∷ []) (read_in_sequence layout m (address + 1) (drop (size_of layout) octets)) ≡ whole
+    → with_front front (read_in_sequence layout n address octets) ≡ whole
+    → with_front (front ++ x ∷ []) (read_in_sequence layout m (address + 1) (drop (size_of layout) octets)) ≡ whole
 sequence_goes_on layout n m address octets front x whole e at so_far =
-    sym (regroup front x (read_in_sequence layout m (address + 1) (drop (size_of layout) octets))) ∙ (ap (with_front front) (sym (sequence_step layout n m address octets (Ok x) e at)) ∙ so_far)
+    sym (regroup front x (read_in_sequence layout m (address + 1) (drop (size_of layout) octets)))
+    ∙ (ap (with_front front) (sym (sequence_step layout n m address octets (Ok x) e at)) ∙ so_far)
 
 pub sequence_fails : (layout : Layout) (n m address : ℕ) (octets : List ℕ) (front : List Observation) (f : AsduFault) (whole : Result (List Observation) AsduFault)
     → n ≡ suc m → object_read address layout (take (size_of layout) octets) ≡ Err f
     → with_front front (read_in_sequence layout n address octets) ≡ whole → whole ≡ Err f
-sequence_fails layout n m address octets front f whole e at so_far = sym so_far ∙ ap (with_front front) (sequence_step layout n m address octets (Err f) e at)
+sequence_fails layout n m address octets front f whole e at so_far =
+    sym so_far ∙ ap (with_front front) (sequence_step layout n m address octets (Err f) e at)
 
 pub sequence_done : (layout : Layout) (n address : ℕ) (octets : List ℕ) (front : List Observation) (whole : Result (List Observation) AsduFault)
     → n ≡ 0 → with_front front (read_in_sequence layout n address octets) ≡ whole → whole ≡ Ok front
 unfolding read_in_sequence
-sequence_done layout zero address octets front whole e so_far = sym so_far ∙ ap (λ (xs : List Observation). Ok xs) (append-nil front)
+sequence_done layout zero address octets front whole e so_far =
+    sym so_far ∙ ap (λ (xs : List Observation). Ok xs) (append-nil front)
 sequence_done layout (suc n) address octets front whole e so_far = absurd (omega arith)

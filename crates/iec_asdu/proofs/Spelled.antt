@@ -7,12 +7,15 @@ use Rattle.gw_model.specs.declared.observation.Value.{Value}
 use Rattle.gw_model.specs.declared.observation.Quality.{Quality}
 use Rattle.gw_model.specs.declared.observation.Observation.{Observation}
 use Rattle.iec_asdu.specs.Bits.{is_set}
-use Rattle.iec_asdu.specs.Asdu.{◌>>=◌, Asdu, Layout, layout_of, size_of, address_at, observed_at, objects_apart, objects_in_sequence, objects_of, asdu_meaning}
+use Rattle.gw_model.specs.Optional.{◌>>=◌}
+use Rattle.iec_asdu.specs.Types.{Layout}
+use Rattle.iec_asdu.specs.Asdu.{Asdu, layout_of, size_of, address_at, observation_at, objects_apart, objects_in_sequence, objects_of, asdu_meaning}
 use Rattle.iec_asdu.specs.Grammar.{IsAddress, IsInformation, AreApart, AreInSequence, AreObjects, IsAsdu}
 
 -- ---- steps of a reading
 
-bind_some : {A B : Type 0} (o : Option A) (f : A → Option B) (y : B) → (o >>= f) ≡ Some y → (x : A) × (o ≡ Some x) × (f x ≡ Some y)
+bind_some : {A B : Type 0} (o : Option A) (f : A → Option B) (y : B) → (o >>= f) ≡ Some y
+    → (x : A) × (o ≡ Some x) × (f x ≡ Some y)
 bind_some (Some x) f y e = (x, refl, e)
 bind_some None f y e = absurd cc
 
@@ -26,7 +29,8 @@ pub address_takes : (octets : List ℕ) → 3 ≤ length octets → IsAddress (t
 address_takes (a ∷ b ∷ c ∷ octets) long = record { low = a; middle = b; high = c; text = refl; number = refl }
 address_takes _ long = absurd (omega arith)
 
-pub address_again : (octets : List ℕ) (address : ℕ) (rest : List ℕ) → IsAddress octets address → (address_at (octets ++ rest) ≡ address) × (length octets ≡ 3)
+pub address_again : (octets : List ℕ) (address : ℕ) (rest : List ℕ) → IsAddress octets address
+    → (address_at (octets ++ rest) ≡ address) × (length octets ≡ 3)
 address_again octets address rest a = rw a.text (sym a.number, refl)
 
 -- ---- information
@@ -34,10 +38,11 @@ address_again octets address rest a = rw a.text (sym a.number, refl)
 abbrev observed : ℕ → Value × Quality → Stamp → Observation
 observed address shown stamp = record { address = address; value = shown.0; quality = shown.1; stamp = stamp }
 
-information_takes : (address : ℕ) (layout : Layout) (octets : List ℕ) (x : Observation) → length octets ≡ size_of layout → observed_at address layout octets ≡ Some x
+information_takes : (address : ℕ) (layout : Layout) (octets : List ℕ) (x : Observation) → length octets ≡ size_of layout
+    → observation_at address layout octets ≡ Some x
     → IsInformation layout octets x × (x.address ≡ address)
 information_takes address layout octets x long e =
-    let s = bind_some (layout.shown (take layout.element octets)) _ x e in
+    let s = bind_some (layout.value (take layout.element octets)) _ x e in
     let t = bind_some (layout.stamp (drop layout.element octets)) _ x s.2 in
     let is : observed address s.0 t.0 ≡ x = cc (t.2) in
     rw (← is) (
@@ -47,21 +52,25 @@ information_takes address layout octets x long e =
         text = sym (take-append-drop layout.element octets);
         element_length = omega (arith, length-take layout.element octets);
         tag_length = omega (arith, length-drop layout.element octets);
-        shown = s.1;
+        valued = s.1;
         stamped = t.1;
       },
       refl,
     )
 
-made : (o : Option (Value × Quality)) (t : Option Stamp) (x : Observation) → o ≡ Some (x.value, x.quality) → t ≡ Some x.stamp
+made : (o : Option (Value × Quality)) (t : Option Stamp) (x : Observation) → o ≡ Some (x.value, x.quality)
+    → t ≡ Some x.stamp
     → (o >>= λ s. (t >>= λ stamp. Some (observed x.address s stamp))) ≡ Some x
 made o t x e f = rw (e, f) refl
 
-information_again : (layout : Layout) (octets : List ℕ) (x : Observation) → IsInformation layout octets x → (observed_at x.address layout octets ≡ Some x) × (length octets ≡ size_of layout)
+information_again : (layout : Layout) (octets : List ℕ) (x : Observation) → IsInformation layout octets x
+    → (observation_at x.address layout octets ≡ Some x) × (length octets ≡ size_of layout)
 information_again layout octets x i =
-    let front : take layout.element octets ≡ i.element = ap (λ (o : List ℕ). take layout.element o) i.text ∙ take_at i.element i.tag layout.element i.element_length in
-    let back : drop layout.element octets ≡ i.tag = ap (λ (o : List ℕ). drop layout.element o) i.text ∙ drop_at i.element i.tag layout.element i.element_length in (
-      made (layout.shown (take layout.element octets)) (layout.stamp (drop layout.element octets)) x (ap (λ (o : List ℕ). layout.shown o) front ∙ i.shown) (ap (λ (o : List ℕ). layout.stamp o) back ∙ i.stamped),
+    let front : take layout.element octets ≡ i.element =
+    ap (λ (o : List ℕ). take layout.element o) i.text ∙ take_at i.element i.tag layout.element i.element_length in
+    let back : drop layout.element octets ≡ i.tag =
+    ap (λ (o : List ℕ). drop layout.element o) i.text ∙ drop_at i.element i.tag layout.element i.element_length in (
+      made (layout.value (take layout.element octets)) (layout.stamp (drop layout.element octets)) x (ap (λ (o : List ℕ). layout.value o) front ∙ i.valued) (ap (λ (o : List ℕ). layout.stamp o) back ∙ i.stamped),
       ap length i.text ∙ omega (arith, length-append i.element i.tag, i.element_length, i.tag_length),
     )
 
@@ -73,18 +82,21 @@ empty (b ∷ octets) e = absurd (omega arith)
 
 regroup : (m n : ℕ) (octets : List ℕ) → octets ≡ take m octets ++ (take n (drop m octets) ++ drop (m + n) octets)
 regroup m n octets =
-    sym (take-append-drop m octets) ∙ ap (λ (o : List ℕ). take m octets ++ o) (sym (take-append-drop n (drop m octets)) ∙ ap (λ (o : List ℕ). take n (drop m octets) ++ o) (drop-drop n m octets))
+    sym (take-append-drop m octets)
+    ∙ ap (λ (o : List ℕ). take m octets ++ o) (sym (take-append-drop n (drop m octets)) ∙ ap (λ (o : List ℕ). take n (drop m octets) ++ o) (drop-drop n m octets))
 
-front_information : (layout : Layout) (octets : List ℕ) → 3 + size_of layout ≤ length octets → length (take (size_of layout) (drop 3 octets)) ≡ size_of layout
+front_information : (layout : Layout) (octets : List ℕ) → 3 + size_of layout ≤ length octets
+    → length (take (size_of layout) (drop 3 octets)) ≡ size_of layout
 front_information layout octets long = omega (arith, length-take (size_of layout) (drop 3 octets), length-drop 3 octets)
 
-apart_takes : (layout : Layout) (n : ℕ) (octets : List ℕ) (xs : List Observation) → length octets ≡ n * (3 + size_of layout) → objects_apart layout n octets ≡ Some xs
+apart_takes : (layout : Layout) (n : ℕ) (octets : List ℕ) (xs : List Observation)
+    → length octets ≡ n * (3 + size_of layout) → objects_apart layout n octets ≡ Some xs
     → AreApart layout octets xs × (length xs ≡ n)
 unfolding objects_apart
 apart_takes layout zero octets [] long e = (empty octets (omega (arith, long)), refl)
 apart_takes layout zero octets (x ∷ xs) long e = absurd cc
 apart_takes layout (suc n) octets xs long e =
-    let first = bind_some (observed_at (address_at octets) layout (take (size_of layout) (drop 3 octets))) _ xs e in
+    let first = bind_some (observation_at (address_at octets) layout (take (size_of layout) (drop 3 octets))) _ xs e in
     let others = bind_some (objects_apart layout n (drop (3 + size_of layout) octets)) _ xs first.2 in
     let is : first.0 ∷ others.0 ≡ xs = cc (others.2) in
     let room : 3 + size_of layout ≤ length octets = omega (arith, long) in
@@ -102,38 +114,48 @@ apart_again layout octets (x ∷ xs) (address, information, rest, text, is_addre
     let i = information_again layout information x is_information in
     let o = apart_again layout rest xs others in
     let at : address_at octets ≡ x.address = ap (λ (o : List ℕ). address_at o) text ∙ a.0 in
-    let back : drop 3 octets ≡ information ++ rest = ap (λ (o : List ℕ). drop 3 o) text ∙ drop_at address (information ++ rest) 3 a.1 in
-    let front : take (size_of layout) (drop 3 octets) ≡ information = ap (λ (o : List ℕ). take (size_of layout) o) back ∙ take_at information rest (size_of layout) i.1 in
+    let back : drop 3 octets ≡ information ++ rest =
+    ap (λ (o : List ℕ). drop 3 o) text ∙ drop_at address (information ++ rest) 3 a.1 in
+    let front : take (size_of layout) (drop 3 octets) ≡ information =
+    ap (λ (o : List ℕ). take (size_of layout) o) back ∙ take_at information rest (size_of layout) i.1 in
     let behind : drop (3 + size_of layout) octets ≡ rest =
-    sym (drop-drop (size_of layout) 3 octets) ∙ (ap (λ (o : List ℕ). drop (size_of layout) o) back ∙ drop_at information rest (size_of layout) i.1) in
-    let long : length octets ≡ 3 + size_of layout + length rest = ap length text ∙ omega (arith, length-append address (information ++ rest), length-append information rest, a.1, i.1) in
+    sym (drop-drop (size_of layout) 3 octets)
+    ∙ (ap (λ (o : List ℕ). drop (size_of layout) o) back ∙ drop_at information rest (size_of layout) i.1) in
+    let long : length octets ≡ 3 + size_of layout + length rest =
+    ap length text ∙ omega (arith, length-append address (information ++ rest), length-append information rest, a.1, i.1) in
     (rw (at, front, behind, i.0, o.0) refl, omega (arith, long, o.1))
 
-sequence_takes : (layout : Layout) (n address : ℕ) (octets : List ℕ) (xs : List Observation) → length octets ≡ n * size_of layout → objects_in_sequence layout n address octets ≡ Some xs
+sequence_takes : (layout : Layout) (n address : ℕ) (octets : List ℕ) (xs : List Observation)
+    → length octets ≡ n * size_of layout → objects_in_sequence layout n address octets ≡ Some xs
     → AreInSequence layout address octets xs × (length xs ≡ n)
 unfolding objects_in_sequence
 sequence_takes layout zero address octets [] long e = (empty octets (omega (arith, long)), refl)
 sequence_takes layout zero address octets (x ∷ xs) long e = absurd cc
 sequence_takes layout (suc n) address octets xs long e =
-    let first = bind_some (observed_at address layout (take (size_of layout) octets)) _ xs e in
+    let first = bind_some (observation_at address layout (take (size_of layout) octets)) _ xs e in
     let others = bind_some (objects_in_sequence layout n (address + 1) (drop (size_of layout) octets)) _ xs first.2 in
     let is : first.0 ∷ others.0 ≡ xs = cc (others.2) in
-    let room : length (take (size_of layout) octets) ≡ size_of layout = omega (arith, long, length-take (size_of layout) octets) in
+    let room : length (take (size_of layout) octets) ≡ size_of layout =
+    omega (arith, long, length-take (size_of layout) octets) in
     let information = information_takes address layout (take (size_of layout) octets) first.0 room first.1 in
     let behind = sequence_takes layout n (address + 1) (drop (size_of layout) octets) others.0 (omega (arith, long, length-drop (size_of layout) octets)) others.1 in
     rw (← is) ((take (size_of layout) octets, drop (size_of layout) octets, sym (take-append-drop (size_of layout) octets), information.1, information.0, behind.0), omega (arith, behind.1))
 
-sequence_again : (layout : Layout) (address : ℕ) (octets : List ℕ) (xs : List Observation) → AreInSequence layout address octets xs
+sequence_again : (layout : Layout) (address : ℕ) (octets : List ℕ) (xs : List Observation)
+    → AreInSequence layout address octets xs
     → (objects_in_sequence layout (length xs) address octets ≡ Some xs) × (length octets ≡ length xs * size_of layout)
 unfolding objects_in_sequence
 sequence_again layout address octets [] none = (refl, ap length none ∙ omega arith)
 sequence_again layout address octets (x ∷ xs) (information, rest, text, at, is_information, others) =
     let i = information_again layout information x is_information in
     let o = sequence_again layout (address + 1) rest xs others in
-    let front : take (size_of layout) octets ≡ information = ap (λ (o : List ℕ). take (size_of layout) o) text ∙ take_at information rest (size_of layout) i.1 in
-    let behind : drop (size_of layout) octets ≡ rest = ap (λ (o : List ℕ). drop (size_of layout) o) text ∙ drop_at information rest (size_of layout) i.1 in
-    let long : length octets ≡ size_of layout + length rest = ap length text ∙ omega (arith, length-append information rest, i.1) in
-    let first : observed_at address layout (take (size_of layout) octets) ≡ Some x = rw (front, ← at) i.0 in
+    let front : take (size_of layout) octets ≡ information =
+    ap (λ (o : List ℕ). take (size_of layout) o) text ∙ take_at information rest (size_of layout) i.1 in
+    let behind : drop (size_of layout) octets ≡ rest =
+    ap (λ (o : List ℕ). drop (size_of layout) o) text ∙ drop_at information rest (size_of layout) i.1 in
+    let long : length octets ≡ size_of layout + length rest =
+    ap length text ∙ omega (arith, length-append information rest, i.1) in
+    let first : observation_at address layout (take (size_of layout) octets) ≡ Some x = rw (front, ← at) i.0 in
     (rw (first, behind, o.0) refl, omega (arith, long, o.1))
 
 -- so many objects by SQ, at least one
@@ -142,7 +164,8 @@ pub record HasObjects (layout : Layout) (sequence : Bool) (n : ℕ) (octets : Li
   pub number : length xs ≡ n
   pub some : 0 < n
 
-objects_take : (layout : Layout) (sequence : Bool) (n : ℕ) (octets : List ℕ) (xs : List Observation) → objects_of layout sequence n octets ≡ Some xs → HasObjects layout sequence n octets xs
+objects_take : (layout : Layout) (sequence : Bool) (n : ℕ) (octets : List ℕ) (xs : List Observation)
+    → objects_of layout sequence n octets ≡ Some xs → HasObjects layout sequence n octets xs
 unfolding objects_of
 objects_take layout sequence zero octets xs e = absurd cc
 objects_take layout false (suc n) octets xs e =
@@ -159,7 +182,8 @@ chosen : {A : Type 0} (b : Bool) (o : Option A) (x : A) → b ≡ true → o ≡
 chosen true o x t e = e
 chosen false o x t e = absurd cc
 
-objects_again : (layout : Layout) (sequence : Bool) (octets : List ℕ) (xs : List Observation) → 0 < length xs → AreObjects layout sequence octets xs → objects_of layout sequence (length xs) octets ≡ Some xs
+objects_again : (layout : Layout) (sequence : Bool) (octets : List ℕ) (xs : List Observation) → 0 < length xs
+    → AreObjects layout sequence octets xs → objects_of layout sequence (length xs) octets ≡ Some xs
 unfolding objects_of
 objects_again layout sequence octets [] some are = absurd (omega arith)
 objects_again layout false octets (x ∷ xs) some are =
@@ -170,18 +194,21 @@ objects_again layout true octets (x ∷ xs) some (address, first, rest, text, is
     let o = sequence_again layout first rest (x ∷ xs) are in
     let at : address_at octets ≡ first = ap (λ (o : List ℕ). address_at o) text ∙ a.0 in
     let back : drop 3 octets ≡ rest = ap (λ (o : List ℕ). drop 3 o) text ∙ drop_at address rest 3 a.1 in
-    let long : length octets ≡ 3 + length (x ∷ xs) * size_of layout = ap length text ∙ (length-append address rest ∙ omega (arith, a.1, o.1)) in
+    let long : length octets ≡ 3 + length (x ∷ xs) * size_of layout =
+    ap length text ∙ (length-append address rest ∙ omega (arith, a.1, o.1)) in
     chosen (length octets == 3 + length (x ∷ xs) * size_of layout) _ (x ∷ xs) (eq-eqb _ _ long) (rw (at, back) o.0)
 
 -- ---- the whole
 
 abbrev asdu_with : ℕ → ℕ → ℕ → ℕ → List Observation → Asdu
-asdu_with identification cause originator common xs = record { identification = identification; cause = cause; originator = originator; common_address = common; observations = xs }
+asdu_with identification cause originator common xs =
+    record { identification = identification; cause = cause; originator = originator; common_address = common; observations = xs }
 
 no_header : (asdu : Asdu) → None ≡ Some asdu → ⊥
 no_header asdu e = absurd cc
 
-whole_takes : (types : List Layout) (octets : List ℕ) (asdu : Asdu) → asdu_meaning types octets ≡ Some asdu → IsAsdu types octets asdu
+whole_takes : (types : List Layout) (octets : List ℕ) (asdu : Asdu) → asdu_meaning types octets ≡ Some asdu
+    → IsAsdu types octets asdu
 unfolding asdu_meaning
 whole_takes types (identification ∷ qualifier ∷ cause ∷ originator ∷ low ∷ high ∷ objects) asdu e =
     let l = bind_some (layout_of identification types) _ asdu e in
@@ -208,17 +235,24 @@ whole_takes types (a ∷ b ∷ c ∷ []) asdu e = absurd (no_header asdu e)
 whole_takes types (a ∷ b ∷ c ∷ d ∷ []) asdu e = absurd (no_header asdu e)
 whole_takes types (a ∷ b ∷ c ∷ d ∷ f ∷ []) asdu e = absurd (no_header asdu e)
 
-header_again : (types : List Layout) (qualifier low high : ℕ) (objects : List ℕ) (asdu : Asdu) (layout : Layout) → asdu.common_address ≡ low + 256 * high
-    → layout_of asdu.identification types ≡ Some layout → objects_of layout (is_set 7 qualifier) (qualifier % 128) objects ≡ Some asdu.observations
-    → asdu_meaning types (asdu.identification ∷ qualifier ∷ asdu.cause ∷ asdu.originator ∷ low ∷ high ∷ objects) ≡ Some asdu
+header_again : (types : List Layout) (qualifier low high : ℕ) (objects : List ℕ) (asdu : Asdu) (layout : Layout)
+    → asdu.common_address ≡ low + 256 * high
+    → layout_of asdu.identification types ≡ Some layout
+    → objects_of layout (is_set 7 qualifier) (qualifier % 128) objects ≡ Some asdu.observations
+    → asdu_meaning types (asdu.identification ∷ qualifier ∷ asdu.cause ∷ asdu.originator ∷ low ∷ high ∷ objects)
+    ≡ Some asdu
 unfolding asdu_meaning
 header_again types qualifier low high objects asdu layout common known are = rw (known, are, ← common) refl
 
-whole_again : (types : List Layout) (octets : List ℕ) (asdu : Asdu) → IsAsdu types octets asdu → asdu_meaning types octets ≡ Some asdu
+whole_again : (types : List Layout) (octets : List ℕ) (asdu : Asdu) → IsAsdu types octets asdu
+    → asdu_meaning types octets ≡ Some asdu
 whole_again types octets asdu h =
     let are : objects_of h.layout (is_set 7 h.qualifier) (h.qualifier % 128) h.objects ≡ Some asdu.observations =
-    ap (λ (n : ℕ). objects_of h.layout (is_set 7 h.qualifier) n h.objects) (sym h.number) ∙ objects_again h.layout (is_set 7 h.qualifier) h.objects asdu.observations h.some h.are in
-    ap (λ (o : List ℕ). asdu_meaning types o) h.text ∙ header_again types h.qualifier h.low h.high h.objects asdu h.layout h.common h.known are
+    ap (λ (n : ℕ). objects_of h.layout (is_set 7 h.qualifier) n h.objects) (sym h.number)
+    ∙ objects_again h.layout (is_set 7 h.qualifier) h.objects asdu.observations h.some h.are in
+    ap (λ (o : List ℕ). asdu_meaning types o) h.text
+    ∙ header_again types h.qualifier h.low h.high h.objects asdu h.layout h.common h.known are
 
-pub meaning_is_spelled : (types : List Layout) (octets : List ℕ) (asdu : Asdu) → asdu_meaning types octets ≡ Some asdu ↔ IsAsdu types octets asdu
+pub meaning_is_spelled : (types : List Layout) (octets : List ℕ) (asdu : Asdu)
+    → asdu_meaning types octets ≡ Some asdu ↔ IsAsdu types octets asdu
 meaning_is_spelled types octets asdu = (whole_takes types octets asdu, whole_again types octets asdu)

@@ -1,10 +1,12 @@
--- Short words for the worked examples: qualities, and ASDUs of originator 0.
-use Rattle.std.specs.Prelude.{ℕ, true, false, List}
+-- Short words for the worked examples: qualities, observations, ASDUs of originator 0, and what octets mean.
+use Rattle.std.specs.Prelude.{ℕ, pos, true, false, List, Option, Result}
 use Rattle.gw_model.specs.declared.point.Stamp.TheVariants.{Untimed, At, Doubtful}
 use Rattle.gw_model.specs.declared.observation.Value.{Value}
 use Rattle.gw_model.specs.declared.observation.Quality.{Quality}
 use Rattle.gw_model.specs.declared.observation.Observation.{Observation}
-use Rattle.iec_asdu.specs.Asdu.{Asdu}
+use Rattle.iec_asdu.specs.declared.fault.AsduFault.{AsduFault}
+use Rattle.iec_asdu.specs.Asdu.{Asdu, monitor_types, asdu_meaning}
+use Rattle.iec_asdu.specs.Reading.{asdu_read}
 
 -- no bit set
 abbrev pub good : Quality
@@ -23,28 +25,44 @@ abbrev pub invalid_not_topical : Quality
 invalid_not_topical = record { iv = true; nt = true; sb = false; bl = false; ov = false; cy = false; ca = false }
 
 -- IV, NT, SB and BL
-abbrev pub all_set : Quality
-all_set = record { iv = true; nt = true; sb = true; bl = true; ov = false; cy = false; ca = false }
+abbrev pub all_flags : Quality
+all_flags = record { iv = true; nt = true; sb = true; bl = true; ov = false; cy = false; ca = false }
 
 -- OV
 abbrev pub overflow : Quality
 overflow = record { iv = false; nt = false; sb = false; bl = false; ov = true; cy = false; ca = false }
 
 -- CY
-abbrev pub carried : Quality
-carried = record { iv = false; nt = false; sb = false; bl = false; ov = false; cy = true; ca = false }
+abbrev pub carry : Quality
+carry = record { iv = false; nt = false; sb = false; bl = false; ov = false; cy = true; ca = false }
 
 -- an observation without time
-abbrev pub told : ℕ → Value → Quality → Observation
-told address value quality = record { address = address; value = value; quality = quality; stamp = Untimed }
+abbrev pub untimed_observation : ℕ → Value → Quality → Observation
+untimed_observation address value quality =
+    record { address = address; value = value; quality = quality; stamp = Untimed }
 
 -- an observation at an instant, and one in doubt
-abbrev pub told_at : ℕ → Value → Quality → ℕ → Observation
-told_at address value quality t = record { address = address; value = value; quality = quality; stamp = At t }
+abbrev pub timed_observation : ℕ → Value → Quality → ℕ → Observation
+timed_observation address value quality t =
+    record { address = address; value = value; quality = quality; stamp = At t }
 
-abbrev pub told_doubtful : ℕ → Value → Quality → ℕ → Observation
-told_doubtful address value quality t = record { address = address; value = value; quality = quality; stamp = Doubtful t }
+abbrev pub doubtful_observation : ℕ → Value → Quality → ℕ → Observation
+doubtful_observation address value quality t =
+    record { address = address; value = value; quality = quality; stamp = Doubtful t }
 
 -- type identification, cause, common address and observations
 abbrev pub asdu : ℕ → ℕ → ℕ → List Observation → Asdu
-asdu identification cause common observations = record { identification = identification; cause = cause; originator = 0; common_address = common; observations = observations }
+asdu identification cause common observations = record {
+  identification = identification;
+  cause = cause;
+  originator = 0;
+  common_address = common;
+  observations = observations;
+}
+
+-- what octets mean at a station whose clocks show UTC, and their first fault
+abbrev pub meaning : List ℕ → Option Asdu
+meaning octets = asdu_meaning (monitor_types (pos 0)) octets
+
+abbrev pub reading : List ℕ → Result Asdu AsduFault
+reading octets = asdu_read (monitor_types (pos 0)) octets

@@ -3,7 +3,8 @@
 use Rattle.std.specs.Prelude.{◌≡◌, ℕ, ◌+◌, ◌*◌, ◌%◌, ◌<◌, Bool, true, false, List, [], ◌∷◌, ◌++◌, length, Some}
 use Rattle.gw_model.specs.declared.observation.Observation.{Observation}
 use Rattle.iec_asdu.specs.Bits.{is_set}
-use Rattle.iec_asdu.specs.Asdu.{Asdu, Layout, layout_of}
+use Rattle.iec_asdu.specs.Types.{Layout}
+use Rattle.iec_asdu.specs.Asdu.{Asdu, layout_of}
 
 -- three octets are an address, low octet first
 pub record IsAddress (octets : List ℕ) (address : ℕ) : Type 0 where
@@ -20,20 +21,22 @@ pub record IsInformation (layout : Layout) (octets : List ℕ) (x : Observation)
   pub text : octets ≡ element ++ tag
   pub element_length : length element ≡ layout.element
   pub tag_length : length tag ≡ layout.tag
-  pub shown : layout.shown element ≡ Some (x.value, x.quality)
+  pub valued : layout.value element ≡ Some (x.value, x.quality)
   pub stamped : layout.stamp tag ≡ Some x.stamp
 
 -- SQ 0: each object with its address
 abbrev pub AreApart : Layout → List ℕ → List Observation → Type 0
 AreApart layout octets [] = octets ≡ []
 AreApart layout octets (x ∷ xs) = (address : List ℕ) × (information : List ℕ) × (rest : List ℕ)
-    × (octets ≡ address ++ (information ++ rest)) × IsAddress address x.address × IsInformation layout information x × AreApart layout rest xs
+    × (octets ≡ address ++ (information ++ rest)) × IsAddress address x.address
+    × IsInformation layout information x × AreApart layout rest xs
 
 -- SQ 1: one after another at consecutive addresses
 abbrev pub AreInSequence : Layout → ℕ → List ℕ → List Observation → Type 0
 AreInSequence layout address octets [] = octets ≡ []
 AreInSequence layout address octets (x ∷ xs) = (information : List ℕ) × (rest : List ℕ)
-    × (octets ≡ information ++ rest) × (x.address ≡ address) × IsInformation layout information x × AreInSequence layout (address + 1) rest xs
+    × (octets ≡ information ++ rest) × (x.address ≡ address) × IsInformation layout information x
+    × AreInSequence layout (address + 1) rest xs
 
 -- by SQ; under SQ 1 the one address stands first
 abbrev pub AreObjects : Layout → Bool → List ℕ → List Observation → Type 0
@@ -41,8 +44,8 @@ AreObjects layout false octets xs = AreApart layout octets xs
 AreObjects layout true octets xs = (address : List ℕ) × (first : ℕ) × (rest : List ℕ)
     × (octets ≡ address ++ rest) × IsAddress address first × AreInSequence layout first rest xs
 
--- type identification; variable structure qualifier, with SQ and the number of objects, at least one; the whole octet of
--- the cause; originator; common address, low octet first; objects
+-- type identification; variable structure qualifier, with SQ and the number of objects, at least one; the whole octet
+-- of the cause; originator; common address, low octet first; objects
 pub record IsAsdu (types : List Layout) (octets : List ℕ) (asdu : Asdu) : Type 0 where
   pub qualifier : ℕ
   pub low : ℕ

@@ -12,7 +12,7 @@ use Rattle.iec_asdu.specs.declared.elements.DoublePoint.{DoublePoint}
 use Rattle.iec_asdu.specs.declared.elements.BitString.{BitString}
 use Rattle.iec_asdu.specs.declared.elements.ScaledValue.{ScaledValue}
 use Rattle.iec_asdu.specs.declared.elements.CounterReading.{CounterReading}
-use Rattle.iec_asdu.specs.Bits.{descriptor, descriptor_shown, counter_bits, counter_quality}
+use Rattle.iec_asdu.specs.Bits.{descriptor, descriptor_quality, counter_bits, counter_quality}
 use Rattle.iec_asdu.specs.Elements.{single_spelling, single_meaning, IsSingleFit, double_spelling, double_meaning, IsDoubleFit, word_spelling, word_meaning, IsWordFit, scaled_spelling, scaled_meaning, IsScaledFit, counter_spelling, counter_meaning, IsCounterFit}
 
 pub single_fills : (x : SinglePoint) → length (single_spelling x) ≡ 1
@@ -33,94 +33,130 @@ counter_fills x = refl
 abbrev quality_of : Bool → Bool → Bool → Bool → Bool → Bool → Bool → Quality
 quality_of iv nt sb bl ov cy ca = record { iv = iv; nt = nt; sb = sb; bl = bl; ov = ov; cy = cy; ca = ca }
 
+-- the quality of a state: the bits that SIQ and DIQ have
+abbrev state_quality : Bool → Bool → Bool → Bool → Quality
+state_quality iv nt sb bl = quality_of iv nt sb bl false false false
+
+-- ---- SIQ
+
 abbrev single_of : Bool → Quality → SinglePoint
 single_of on q = record { on = on; quality = q }
 
-single_on : (iv nt sb bl : Bool) → single_meaning (single_spelling (single_of true (quality_of iv nt sb bl false false false))) ≡ Some (single_of true (quality_of iv nt sb bl false false false))
+-- what is spelled means it again
+abbrev IsSingleAgain : SinglePoint → Type 0
+IsSingleAgain x = single_meaning (single_spelling x) ≡ Some x
+
+single_on : (iv nt sb bl : Bool) → IsSingleAgain (single_of true (state_quality iv nt sb bl))
 single_on iv nt sb bl = grind arith
 
-single_off : (iv nt sb bl : Bool) → single_meaning (single_spelling (single_of false (quality_of iv nt sb bl false false false))) ≡ Some (single_of false (quality_of iv nt sb bl false false false))
+single_off : (iv nt sb bl : Bool) → IsSingleAgain (single_of false (state_quality iv nt sb bl))
 single_off iv nt sb bl = grind arith
 
 single_cases : (on iv nt sb bl ov cy ca : Bool) → IsSingleFit (single_of on (quality_of iv nt sb bl ov cy ca))
-    → single_meaning (single_spelling (single_of on (quality_of iv nt sb bl ov cy ca))) ≡ Some (single_of on (quality_of iv nt sb bl ov cy ca))
+    → IsSingleAgain (single_of on (quality_of iv nt sb bl ov cy ca))
 single_cases true iv nt sb bl false false false fit = single_on iv nt sb bl
 single_cases false iv nt sb bl false false false fit = single_off iv nt sb bl
 single_cases on iv nt sb bl _ _ _ fit = absurd cc
 
 pub single_again : (x : SinglePoint) → IsSingleFit x → single_meaning (single_spelling x) ≡ Some x
-single_again x fit = single_cases x.on x.quality.iv x.quality.nt x.quality.sb x.quality.bl x.quality.ov x.quality.cy x.quality.ca fit
+single_again x fit =
+    let q = x.quality in
+    single_cases x.on q.iv q.nt q.sb q.bl q.ov q.cy q.ca fit
+
+-- ---- DIQ
 
 abbrev double_of : ℕ → Quality → DoublePoint
 double_of state q = record { state = state; quality = q }
 
-double_same : (state : ℕ) (iv nt sb bl : Bool) → state < 4 → double_meaning (double_spelling (double_of state (quality_of iv nt sb bl false false false))) ≡ Some (double_of state (quality_of iv nt sb bl false false false))
+-- what is spelled means it again
+abbrev IsDoubleAgain : DoublePoint → Type 0
+IsDoubleAgain x = double_meaning (double_spelling x) ≡ Some x
+
+double_same : (state : ℕ) (iv nt sb bl : Bool) → state < 4 → IsDoubleAgain (double_of state (state_quality iv nt sb bl))
 double_same state iv nt sb bl small = grind arith
 
 -- the parts of a fit double point
-double_parts : (state : ℕ) (a b c : Bool) → IsTrue (nat_lt state 4 && not a && not b && not c) → (state < 4) × (a ≡ false) × (b ≡ false) × (c ≡ false)
+double_parts : (state : ℕ) (a b c : Bool) → IsTrue (nat_lt state 4 && not a && not b && not c)
+    → (state < 4) × (a ≡ false) × (b ≡ false) × (c ≡ false)
 double_parts state false false false fit = (ltb-true state 4 (grind (arith, and_parts)), refl, refl, refl)
 double_parts state _ _ _ fit = absurd (grind (arith, and_parts))
 
 double_cases : (state : ℕ) (iv nt sb bl ov cy ca : Bool) → state < 4 → ov ≡ false → cy ≡ false → ca ≡ false
-    → double_meaning (double_spelling (double_of state (quality_of iv nt sb bl ov cy ca))) ≡ Some (double_of state (quality_of iv nt sb bl ov cy ca))
+    → IsDoubleAgain (double_of state (quality_of iv nt sb bl ov cy ca))
 double_cases state iv nt sb bl false false false small _ _ _ = double_same state iv nt sb bl small
 double_cases state iv nt sb bl _ _ _ small eo ey ea = absurd cc
 
 pub double_again : (x : DoublePoint) → IsDoubleFit x → double_meaning (double_spelling x) ≡ Some x
 double_again x fit =
-    let p = double_parts x.state x.quality.ov x.quality.cy x.quality.ca fit in
-    double_cases x.state x.quality.iv x.quality.nt x.quality.sb x.quality.bl x.quality.ov x.quality.cy x.quality.ca p.0 p.1 p.2 p.3
+    let q = x.quality in
+    let p = double_parts x.state q.ov q.cy q.ca fit in
+    double_cases x.state q.iv q.nt q.sb q.bl q.ov q.cy q.ca p.0 p.1 p.2 p.3
 
-descriptor_same : (iv nt sb bl ov : Bool) → descriptor_shown (descriptor (quality_of iv nt sb bl ov false false)) ≡ quality_of iv nt sb bl ov false false
+-- ---- QDS
+
+-- a descriptor has no reserved bit, and shows the quality that it was made of
+abbrev IsDescriptorAgain : Quality → Type 0
+IsDescriptorAgain q = ((descriptor q / 2 % 8 == 0) ≡ true) × (descriptor_quality (descriptor q) ≡ q)
+
+descriptor_same : (iv nt sb bl ov : Bool)
+    → let q = quality_of iv nt sb bl ov false false in descriptor_quality (descriptor q) ≡ q
 descriptor_same iv nt sb bl ov = grind arith
 
-descriptor_plain : (iv nt sb bl ov : Bool) → (descriptor (quality_of iv nt sb bl ov false false) / 2 % 8 == 0) ≡ true
+descriptor_plain : (iv nt sb bl ov : Bool)
+    → (descriptor (quality_of iv nt sb bl ov false false) / 2 % 8 == 0) ≡ true
 descriptor_plain iv nt sb bl ov = grind arith
 
 descriptor_cases : (iv nt sb bl ov cy ca : Bool) → IsTrue (not cy && not ca)
-    → ((descriptor (quality_of iv nt sb bl ov cy ca) / 2 % 8 == 0) ≡ true) × (descriptor_shown (descriptor (quality_of iv nt sb bl ov cy ca)) ≡ quality_of iv nt sb bl ov cy ca)
+    → IsDescriptorAgain (quality_of iv nt sb bl ov cy ca)
 descriptor_cases iv nt sb bl ov false false fit = (descriptor_plain iv nt sb bl ov, descriptor_same iv nt sb bl ov)
 descriptor_cases iv nt sb bl ov _ _ fit = absurd cc
 
--- a descriptor shows the quality that it was made of
-descriptor_again : (q : Quality) → IsTrue (not q.cy && not q.ca) → ((descriptor q / 2 % 8 == 0) ≡ true) × (descriptor_shown (descriptor q) ≡ q)
+descriptor_again : (q : Quality) → IsTrue (not q.cy && not q.ca) → IsDescriptorAgain q
 descriptor_again q fit = descriptor_cases q.iv q.nt q.sb q.bl q.ov q.cy q.ca fit
+
+-- a number with its quality, read behind the test of the reserved bits
+number_chosen : {A B : Type 0} (make : A → Quality → B) (n m : A) (p q : Quality) (b : Bool) → b ≡ true → n ≡ m → p ≡ q
+    → (if b then Some (make n p) else None) ≡ Some (make m q)
+number_chosen make n m p q true _ en eq = cc
+number_chosen make n m p q false e _ _ = absurd cc
+
+-- ---- BSI
 
 abbrev word_of : ℕ → Quality → BitString
 word_of n q = record { word = n; quality = q }
 
-abbrev scaled_of : ℤ → Quality → ScaledValue
-scaled_of z q = record { value = z; quality = q }
-
-abbrev counter_of : ℕ → Quality → CounterReading
-counter_of n q = record { count = n; quality = q }
-
-word_chosen : (n m : ℕ) (p q : Quality) (b : Bool) → b ≡ true → n ≡ m → p ≡ q → (if b then Some (word_of n p) else None) ≡ Some (word_of m q)
-word_chosen n m p q true _ en eq = cc
-word_chosen n m p q false e _ _ = absurd cc
-
 pub word_again : (x : BitString) → IsWordFit x → word_meaning (word_spelling x) ≡ Some x
 word_again x fit =
     let q = descriptor_again x.quality fit.0 in
-    word_chosen _ x.word _ x.quality (descriptor x.quality / 2 % 8 == 0) q.0 (from_le_bytes-to_le_bytes_4 x.word fit.1) q.1
+    let n = from_le_bytes-to_le_bytes_4 x.word fit.1 in
+    number_chosen word_of _ x.word _ x.quality (descriptor x.quality / 2 % 8 == 0) q.0 n q.1
+
+-- ---- SVA
+
+abbrev scaled_of : ℤ → Quality → ScaledValue
+scaled_of z q = record { value = z; quality = q }
 
 unsigned_small : (z : ℤ) → FitsSigned w16 z → cast_unsigned w16 z < 65536
 unsigned_small (pos n) fit = omega (arith, ints, fit)
 unsigned_small (negsuc n) fit = omega (arith, ints)
-
-scaled_chosen : (n m : ℤ) (p q : Quality) (b : Bool) → b ≡ true → n ≡ m → p ≡ q → (if b then Some (scaled_of n p) else None) ≡ Some (scaled_of m q)
-scaled_chosen n m p q true _ en eq = cc
-scaled_chosen n m p q false e _ _ = absurd cc
 
 pub scaled_again : (x : ScaledValue) → IsScaledFit x → scaled_meaning (scaled_spelling x) ≡ Some x
 scaled_again x fit =
     let q = descriptor_again x.quality fit.0 in
     let u = from_le_bytes-to_le_bytes_2 (cast_unsigned w16 x.value) (unsigned_small x.value fit.1) in
     let z = ap (λ (n : ℕ). cast_signed w16 n) u ∙ to_z-of_z w16 x.value fit.1 in
-    scaled_chosen _ x.value _ x.quality (descriptor x.quality / 2 % 8 == 0) q.0 z q.1
+    number_chosen scaled_of _ x.value _ x.quality (descriptor x.quality / 2 % 8 == 0) q.0 z q.1
 
-counter_same : (iv cy ca : Bool) → counter_quality (counter_bits (quality_of iv false false false false cy ca)) ≡ quality_of iv false false false false cy ca
+-- ---- BCR
+
+abbrev counter_of : ℕ → Quality → CounterReading
+counter_of n q = record { count = n; quality = q }
+
+-- the quality of a counter: the bits that it has
+abbrev total_quality : Bool → Bool → Bool → Quality
+total_quality iv cy ca = quality_of iv false false false false cy ca
+
+counter_same : (iv cy ca : Bool) → counter_quality (counter_bits (total_quality iv cy ca)) ≡ total_quality iv cy ca
 counter_same iv cy ca = grind arith
 
 counter_cases : (iv nt sb bl ov cy ca : Bool) → IsTrue (not nt && not sb && not bl && not ov)
@@ -133,5 +169,6 @@ counter_made n m p q en eq = cc
 
 pub counter_again : (x : CounterReading) → IsCounterFit x → counter_meaning (counter_spelling x) ≡ Some x
 counter_again x fit =
-    let q = counter_cases x.quality.iv x.quality.nt x.quality.sb x.quality.bl x.quality.ov x.quality.cy x.quality.ca fit.0 in
-    counter_made _ x.count _ x.quality (from_le_bytes-to_le_bytes_4 x.count fit.1) q
+    let q = x.quality in
+    let e = counter_cases q.iv q.nt q.sb q.bl q.ov q.cy q.ca fit.0 in
+    counter_made _ x.count _ q (from_le_bytes-to_le_bytes_4 x.count fit.1) e

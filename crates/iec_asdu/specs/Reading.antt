@@ -1,22 +1,19 @@
 -- An ASDU read from left to right: its meaning, or the first fault.
-use Rattle.std.specs.Prelude.{ℕ, zero, suc, ◌+◌, ◌*◌, ◌%◌, ◌<◌, ◌≤◌, Bool, List, [], ◌∷◌, length, take, drop, ok_or, Result, Ok, Err, ◌≡◌, ◌==◌, nat_lt, slice_index, IsSomeAnd, IsOk, if◌then◌else◌}
+use Rattle.std.specs.Prelude.{ℕ, zero, suc, ◌+◌, ◌*◌, ◌%◌, ◌<◌, ◌≤◌, Bool, List, [], ◌∷◌, length, take, drop, ok_or, Result, Ok, Err, ◌≡◌, ◌==◌, true, false, nat_lt, slice_index, IsSomeAnd, IsOk, if◌then◌else◌}
+use Rattle.gw_model.specs.Outcome.{◌>>=◌}
 use Rattle.gw_model.specs.declared.observation.Observation.{Observation}
 use Rattle.iec_asdu.specs.declared.fault.AsduFault.{AsduFault}
 use Rattle.iec_asdu.specs.declared.fault.AsduFault.TheVariants.{Short, Long, UnknownType, ZeroObjects, Reserved, Tag, Memory}
 use Rattle.iec_asdu.specs.Bits.{is_set}
-use Rattle.iec_asdu.specs.Asdu.{Asdu, Layout, layout_of, size_of, address_at}
-
-infixl 10 ◌>>=◌
-abbrev pub ◌>>=◌ : {A B : Type 0} → Result A AsduFault → (A → Result B AsduFault) → Result B AsduFault
-(Ok x) >>= f = f x
-(Err e) >>= f = Err e
+use Rattle.iec_asdu.specs.Types.{Layout}
+use Rattle.iec_asdu.specs.Asdu.{Asdu, layout_of, size_of, address_at}
 
 -- what element and time tag tell of an address: a reserved bit comes before a tag that means nothing
 abbrev pub object_read : ℕ → Layout → List ℕ → Result Observation AsduFault
 object_read address layout octets = do
-  shown ← ok_or (layout.shown (take layout.element octets)) Reserved
+  value ← ok_or (layout.value (take layout.element octets)) Reserved
   stamp ← ok_or (layout.stamp (drop layout.element octets)) Tag
-  Ok (record { address = address; value = shown.0; quality = shown.1; stamp = stamp })
+  Ok (record { address = address; value = value.0; quality = value.1; stamp = stamp })
 
 -- the object at the front, with the address before it
 abbrev pub front_read : Layout → List ℕ → Result Observation AsduFault
@@ -48,7 +45,8 @@ objects_read layout sequence n octets =
     if n == 0 then Err ZeroObjects
     else (if nat_lt (length octets) (objects_length (size_of layout) sequence n) then Err Short
     else (if nat_lt (objects_length (size_of layout) sequence n) (length octets) then Err Long
-    else (if sequence then read_in_sequence layout n (address_at octets) (drop 3 octets) else read_apart layout n octets)))
+    else (if sequence then read_in_sequence layout n (address_at octets) (drop 3 octets)
+    else read_apart layout n octets)))
 
 -- the whole: a header of six octets, then the type, then the objects
 unfoldable pub asdu_read : List Layout → List ℕ → Result Asdu AsduFault
@@ -56,7 +54,8 @@ asdu_read types octets =
     if nat_lt (length octets) 6 then Err Short
     else (do
       layout ← ok_or (layout_of (slice_index octets 0) types) UnknownType
-      observations ← objects_read layout (is_set 7 (slice_index octets 1)) (slice_index octets 1 % 128) (drop 6 octets)
+      let qualifier = slice_index octets 1
+      observations ← objects_read layout (is_set 7 qualifier) (qualifier % 128) (drop 6 octets)
       Ok (record {
         identification = slice_index octets 0;
         cause = slice_index octets 2;
@@ -76,19 +75,10 @@ pub record HasOneToStore (layout : Layout) (qualifier : ℕ) (objects : List ℕ
 -- the type is known, and there is an object to store: each is stored as soon as it is read, the first one first
 abbrev pub NeedsMemory : List Layout → List ℕ → Type 0
 NeedsMemory types octets = (6 ≤ length octets)
-    × IsSomeAnd (layout_of (slice_index octets 0) types) (λ layout. HasOneToStore layout (slice_index octets 1) (drop 6 octets))
+    × IsSomeAnd (layout_of (slice_index octets 0) types)
+    (λ layout. HasOneToStore layout (slice_index octets 1) (drop 6 octets))
 
--- a fault of the octets is told as it is; where memory ran out nothing is said of them
-abbrev pub UnlessMemory : AsduFault → Type 0 → Type 0
-UnlessMemory Memory P = Unit {0}
-UnlessMemory Short P = P
-UnlessMemory Long P = P
-UnlessMemory UnknownType P = P
-UnlessMemory ZeroObjects P = P
-UnlessMemory Reserved P = P
-UnlessMemory Tag P = P
-
--- what a function returned, seen by view, is what reading gives, unless memory ran out
-abbrev pub Gives : {X Y : Type 0} → (X → Y) → Result X AsduFault → Result Y AsduFault → Type 0
-Gives view (Ok x) read = read ≡ Ok (view x)
-Gives view (Err e) read = UnlessMemory e (read ≡ Err e)
+-- memory ran out
+abbrev pub is_memory : AsduFault → Bool
+is_memory Memory = true
+is_memory _ = false

@@ -7,15 +7,22 @@ use Rattle.gw_model.specs.declared.observation.Value.TheVariants.{Single, Double
 use Rattle.gw_model.specs.declared.observation.Quality.{Quality}
 use Rattle.gw_model.specs.declared.observation.Observation.{Observation}
 use Rattle.gw_time.specs.Spelling.{tag_of}
+use Rattle.iec_asdu.specs.declared.types.ElementKind.{ElementKind}
+use Rattle.iec_asdu.specs.declared.types.ElementKind.TheVariants.{SinglePoint, DoublePoint, BitString, ScaledValue, CounterReading}
+use Rattle.iec_asdu.specs.Types.{identification_by}
 use Rattle.iec_asdu.specs.Elements.{single_spelling, double_spelling, word_spelling, scaled_spelling, counter_spelling}
+
+-- the element that carries a value
+abbrev pub element_kind : Value → ElementKind
+element_kind (Single on) = SinglePoint
+element_kind (Double state) = DoublePoint
+element_kind (Word n) = BitString
+element_kind (Scaled z) = ScaledValue
+element_kind (Total n) = CounterReading
 
 -- the type identification of a value, with a time tag or without
 abbrev pub type_of : Value → Bool → ℕ
-type_of (Single on) timed = if timed then 30 else 1
-type_of (Double state) timed = if timed then 31 else 3
-type_of (Word n) timed = if timed then 33 else 7
-type_of (Scaled z) timed = if timed then 35 else 11
-type_of (Total n) timed = if timed then 37 else 15
+type_of value timed = identification_by (element_kind value) timed
 
 -- the information element of a value with its quality
 abbrev pub element_spelling : Value → Quality → List ℕ
@@ -34,7 +41,8 @@ tag_octets (Some tag) = tag
 abbrev pub spelling_with : Option (List ℕ) → ℕ → ℕ → Observation → List ℕ
 spelling_with tag common cause x =
     type_of x.value (is_some tag) ∷ 1 ∷ cause ∷ 0
-    ∷ (to_le_bytes w16 common ++ take 3 (to_le_bytes w32 x.address) ++ (element_spelling x.value x.quality ++ tag_octets tag))
+    ∷ (to_le_bytes w16 common ++ take 3 (to_le_bytes w32 x.address)
+    ++ (element_spelling x.value x.quality ++ tag_octets tag))
 
 -- the ASDU of an observation, at a station whose clocks are offset minutes ahead of UTC
 abbrev pub spelling : ℤ → ℕ → ℕ → Observation → List ℕ

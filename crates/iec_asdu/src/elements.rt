@@ -1,6 +1,6 @@
 //! The information elements of IEC 60870-5-101, 7.2.6, that carry a value and its quality.
 ghost use Rattle.std.specs.Prelude.{◌≡◌, ◌/◌, ◌%◌, ◌==◌, false, Some, None, if◌then◌else◌};
-ghost use Rattle.iec_asdu.specs.Bits.{quality_bits, quality_shown, descriptor, descriptor_shown, counter_bits, counter_quality};
+ghost use Rattle.iec_asdu.specs.Bits.{quality_bits, quality_of_bits, descriptor, descriptor_quality, counter_bits, counter_quality};
 ghost use Rattle.iec_asdu.specs.Elements.{single_spelling, single_meaning, IsSingleFit, double_spelling, double_meaning, IsDoubleFit, word_spelling, word_meaning, IsWordFit, scaled_spelling, scaled_meaning, IsScaledFit, counter_spelling, counter_meaning, IsCounterFit};
 
 use gw_model::{Element, Quality};
@@ -51,7 +51,7 @@ fn bits_of_quality(quality: &Quality) -> u8
 
 /// The quality that those bits show, without overflow.
 fn quality_of_bits(octet: u8) -> Quality
-    ensures { result ≡ quality_shown false octet }
+    ensures { result ≡ quality_of_bits false octet }
 {
     Quality {
         iv: octet / 128 % 2 == 1,
@@ -71,7 +71,7 @@ fn octet_of_descriptor(quality: &Quality) -> u8
 
 /// The quality that a descriptor shows, or nothing where a reserved bit, 1 to 3, is set.
 fn quality_of_descriptor(octet: u8) -> Option<Quality>
-    ensures { result ≡ (if octet / 2 % 8 == 0 then Some (descriptor_shown octet) else None) }
+    ensures { result ≡ (if octet / 2 % 8 == 0 then Some (descriptor_quality octet) else None) }
 {
     if octet / 2 % 8 != 0 {
         return None;

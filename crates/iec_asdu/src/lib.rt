@@ -14,6 +14,3 @@ pub use examples::{asdu_examples, fault_examples, timed_examples};
 pub use fault::AsduFault;
 pub use reading::{Monitor, read_monitor};
 pub use writing::{SPONTANEOUS, Written, write_monitor};
-
-#[cfg(test)]
-mod tests;

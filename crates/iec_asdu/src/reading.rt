@@ -3,9 +3,10 @@ ghost use Rattle.std.specs.Prelude.{◌≡◌, ◌+◌, ◌*◌, ◌%◌, ◌≤
 ghost use Rattle.iec_asdu.specs.Asdu.{Asdu as Meaning, monitor_types, size_of, address_at};
 ghost use Rattle.iec_asdu.specs.Grammar.{IsAsdu};
 ghost use Rattle.iec_asdu.specs.Bits.{is_set};
-ghost use Rattle.iec_asdu.specs.Reading.{Gives, object_read, front_read, read_apart, read_in_sequence, objects_length, objects_read, HasOneToStore, NeedsMemory};
+ghost use Rattle.gw_model.specs.Outcome.{Gives};
+ghost use Rattle.iec_asdu.specs.Reading.{is_memory, object_read, front_read, read_apart, read_in_sequence, objects_length, objects_read, HasOneToStore, NeedsMemory};
 ghost use Rattle.iec_asdu.specs.Types.{layout_at, type_length};
-ghost use Rattle.iec_asdu.specs.Contents.{contents_of, Spells, seen, contents_read};
+ghost use Rattle.iec_asdu.specs.Contents.{contents_of, Spells, monitor_contents, contents_read};
 
 use crate::fault::AsduFault;
 use crate::types::MonitorType;
@@ -74,8 +75,10 @@ fn read_objects_apart(
     zone: &Zone,
 ) -> Result<Vec<Observation>, AsduFault>
     requires { count * (3 + size_of (layout_at zone.now.offset_minutes kind)) ≤ length objects.now }
-    ensures read { Gives (λ v. v.items) result (read_apart (layout_at zone.now.offset_minutes kind) count objects.now) }
-    ensures memory { IfErr result (λ fault. fault ≡ AsduFault.Memory → IsOk (front_read (layout_at zone.now.offset_minutes kind) objects.now)) }
+    ensures read { let layout = layout_at zone.now.offset_minutes kind in
+        Gives is_memory (λ v. v.items) result (read_apart layout count objects.now) }
+    ensures memory { let layout = layout_at zone.now.offset_minutes kind in
+        IfErr result (λ fault. fault ≡ AsduFault.Memory → IsOk (front_read layout objects.now)) }
 {
     let mut found = Vec::new(alloc);
     let mut rest = objects;
@@ -113,9 +116,11 @@ fn read_objects_in_sequence(
 ) -> Result<Vec<Observation>, AsduFault>
     requires octets { count * size_of (layout_at zone.now.offset_minutes kind) ≤ length objects.now }
     requires first { first ≤ 16777215 }
-    ensures read { Gives (λ v. v.items) result (read_in_sequence (layout_at zone.now.offset_minutes kind) count first objects.now) }
+    ensures read { let layout = layout_at zone.now.offset_minutes kind in
+        Gives is_memory (λ v. v.items) result (read_in_sequence layout count first objects.now) }
     ensures memory { let layout = layout_at zone.now.offset_minutes kind in
-        IfErr result (λ fault. fault ≡ AsduFault.Memory → IsOk (object_read first layout (take (size_of layout) objects.now))) }
+        let information = take (size_of layout) objects.now in
+        IfErr result (λ fault. fault ≡ AsduFault.Memory → IsOk (object_read first layout information)) }
 {
     let mut found = Vec::new(alloc);
     let mut rest = objects;
@@ -153,8 +158,11 @@ fn read_objects(
     objects: &[u8],
     zone: &Zone,
 ) -> Result<Vec<Observation>, AsduFault>
-    ensures read { Gives (λ v. v.items) result (objects_read (layout_at zone.now.offset_minutes kind) (is_set 7 qualifier) (qualifier % 128) objects.now) }
-    ensures memory { IfErr result (λ fault. fault ≡ AsduFault.Memory → HasOneToStore (layout_at zone.now.offset_minutes kind) qualifier objects.now) }
+    ensures read { let layout = layout_at zone.now.offset_minutes kind in
+        Gives is_memory (λ v. v.items) result
+        (objects_read layout (is_set 7 qualifier) (qualifier % 128) objects.now) }
+    ensures memory { let layout = layout_at zone.now.offset_minutes kind in
+        IfErr result (λ fault. fault ≡ AsduFault.Memory → HasOneToStore layout qualifier objects.now) }
 {
     let sequence = qualifier / 128 % 2 == 1;
     let count = qualifier % 128;
@@ -179,8 +187,10 @@ fn read_objects(
 /// The whole ASDU.
 #[tactic(auto, unfolding(crate::specs::Reading::asdu_read))]
 fn read_whole(alloc: Global, octets: &[u8], zone: &Zone) -> Result<Monitor, AsduFault>
-    ensures exact { Gives seen result (contents_read (monitor_types zone.now.offset_minutes) octets.now) }
-    ensures memory { IfErr result (λ fault. fault ≡ AsduFault.Memory → NeedsMemory (monitor_types zone.now.offset_minutes) octets.now) }
+    ensures exact { let types = monitor_types zone.now.offset_minutes in
+        Gives is_memory monitor_contents result (contents_read types octets.now) }
+    ensures memory { let types = monitor_types zone.now.offset_minutes in
+        IfErr result (λ fault. fault ≡ AsduFault.Memory → NeedsMemory types octets.now) }
 {
     if octets.len() < HEADER_OCTETS {
         return Err(AsduFault::Short);
@@ -207,14 +217,19 @@ fn read_whole(alloc: Global, octets: &[u8], zone: &Zone) -> Result<Monitor, Asdu
 /// then, object by object, of element and time tag.
 pub fn read_monitor(alloc: Global, octets: &[u8], zone: &Zone) -> Result<Monitor, AsduFault>
     // What is read is spelled so.
-    ensures found { IfOk result (λ m. Spells (monitor_types zone.now.offset_minutes) octets.now (seen m)) }
+    ensures found { let types = monitor_types zone.now.offset_minutes in
+        IfOk result (λ m. Spells types octets.now (monitor_contents m)) }
     // What is spelled so is read, unless memory runs out.
-    ensures only { (asdu : Meaning) → IsAsdu (monitor_types zone.now.offset_minutes) octets.now asdu → Gives seen result (Ok (contents_of asdu)) }
+    ensures only { let types = monitor_types zone.now.offset_minutes in
+        (asdu : Meaning) → IsAsdu types octets.now asdu
+        → Gives is_memory monitor_contents result (Ok (contents_of asdu)) }
     // Which fault it is.
-    ensures exact { Gives seen result (contents_read (monitor_types zone.now.offset_minutes) octets.now) }
+    ensures exact { let types = monitor_types zone.now.offset_minutes in
+        Gives is_memory monitor_contents result (contents_read types octets.now) }
     // Memory runs out only where there is an object to store: the type is known, the objects have their
     // octets, and the first one is right.
-    ensures memory { IfErr result (λ fault. fault ≡ AsduFault.Memory → NeedsMemory (monitor_types zone.now.offset_minutes) octets.now) }
+    ensures memory { let types = monitor_types zone.now.offset_minutes in
+        IfErr result (λ fault. fault ≡ AsduFault.Memory → NeedsMemory types octets.now) }
 {
     read_whole(alloc, octets, zone)
 }

@@ -1,7 +1,6 @@
 //! The types of process information in monitor direction that the gateway has (IEC 60870-5-101, 7.2.1 and
 //! 7.3.1), without time and with the time tag CP56Time2a.
 ghost use Rattle.std.specs.Prelude.{◌≡◌, ◌≤◌, ℤ, true, false, length, option_map, ok_or};
-ghost use Rattle.iec_asdu.specs.Asdu.{layout_of, monitor_types};
 ghost use Rattle.iec_asdu.specs.Spelling.{type_of};
 
 use crate::elements::{BitString, CounterReading, DoublePoint, ScaledValue, SinglePoint};
@@ -71,7 +70,7 @@ pub enum ElementKind {
 }
 
 impl ElementKind {
-    ghost use Rattle.iec_asdu.specs.Types.{element_length, shown_by};
+    ghost use Rattle.iec_asdu.specs.Types.{element_length, element_value};
 
     /// How many octets the element has.
     pub fn octets(self) -> usize
@@ -86,10 +85,10 @@ impl ElementKind {
         }
     }
 
-    /// The value and the quality that octets show, or nothing where a reserved bit is set.
+    /// The value and the quality that octets mean, or nothing where a reserved bit is set.
     pub fn read(self, octets: &[u8]) -> Option<(Value, Quality)>
         requires { length octets.now ≡ element_length self }
-        ensures { result ≡ shown_by self octets.now }
+        ensures { result ≡ element_value self octets.now }
     {
         match self {
             ElementKind::SinglePoint => {
@@ -124,7 +123,8 @@ pub struct MonitorType {
 }
 
 impl MonitorType {
-    ghost use Rattle.iec_asdu.specs.Types.{layout_at, tag_length, type_length, stamp_by};
+    ghost use Rattle.iec_asdu.specs.Asdu.{layout_of, monitor_types};
+    ghost use Rattle.iec_asdu.specs.Types.{layout_at, tag_length, type_length, tag_stamp};
 
     fn plain(element: ElementKind) -> MonitorType
         ensures { result ≡ record { element = element; timed = false } }
@@ -146,7 +146,8 @@ impl MonitorType {
 
     /// The type with an identification.
     pub fn of(identification: u8) -> Option<MonitorType>
-        ensures { (offset : ℤ) → option_map (layout_at offset) result ≡ layout_of identification (monitor_types offset) }
+        ensures { (offset : ℤ) →
+            option_map (layout_at offset) result ≡ layout_of identification (monitor_types offset) }
     {
         Some(match identification {
             M_SP_NA_1 => MonitorType::plain(ElementKind::SinglePoint),
@@ -174,7 +175,7 @@ impl MonitorType {
     /// The stamp that a time tag means, if the type has one.
     pub fn stamp(self, tag: &[u8], zone: &Zone) -> Result<Stamp, AsduFault>
         requires { length tag.now ≡ tag_length self.timed }
-        ensures { result ≡ ok_or (stamp_by zone.now.offset_minutes self.timed tag.now) AsduFault.Tag }
+        ensures { result ≡ ok_or (tag_stamp zone.now.offset_minutes self.timed tag.now) AsduFault.Tag }
     {
         if !self.timed {
             return Ok(Stamp::Untimed);

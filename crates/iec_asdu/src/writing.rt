@@ -64,7 +64,8 @@ fn write_information(
 ) -> usize
     ensures end { result ≡ 9 + length (element_spelling value quality ++ tag_octets tag) }
     ensures room { result ≤ 21 }
-    ensures information { take (length (element_spelling value quality ++ tag_octets tag)) (drop 9 out.new) ≡ element_spelling value quality ++ tag_octets tag }
+    ensures information { let information = element_spelling value quality ++ tag_octets tag in
+        take (length information) (drop 9 out.new) ≡ information }
     ensures width { HasWidth value }
     ensures rest { drop result out.new ≡ drop result out.old }
 {
@@ -86,7 +87,8 @@ fn write_first(
 ) -> usize
     requires { 0 < length observations.now }
     ensures room { result ≤ 249 }
-    ensures spelled { IfSome (slice_get observations.now 0) (λ x. take result out.new ≡ spelling zone.now.offset_minutes common cause x) }
+    ensures spelled { IfSome (slice_get observations.now 0) (λ x.
+        take result out.new ≡ spelling zone.now.offset_minutes common cause x) }
     ensures width { IfSome (slice_get observations.now 0) (λ x. HasWidth x.value) }
     ensures rest { drop result out.new ≡ drop result out.old }
 {
@@ -115,11 +117,15 @@ pub fn write_monitor(
     ensures room { result.octets ≤ 249 }
     ensures rest { drop result.octets out.new ≡ drop result.octets out.old }
     // Which octets are written, for an observation that isn't fit too.
-    ensures spelled { IfSome (slice_get observations.now 0) (λ x. take result.octets out.new ≡ spelling zone.now.offset_minutes common cause x) }
+    ensures spelled { IfSome (slice_get observations.now 0) (λ x.
+        take result.octets out.new ≡ spelling zone.now.offset_minutes common cause x) }
     // What is written means the observations that were taken.
-    ensures meant { All (IsFit zone.now.offset_minutes) (take result.taken observations.now)
-        → IsSomeAnd (asdu_meaning (monitor_types zone.now.offset_minutes) (take result.octets out.new))
-        (λ asdu. (asdu.cause ≡ cause) × (asdu.originator ≡ 0) × (asdu.common_address ≡ common) × (asdu.observations ≡ take result.taken observations.now)) }
+    ensures meant { let offset = zone.now.offset_minutes in
+        let written = take result.taken observations.now in
+        All (IsFit offset) written
+        → IsSomeAnd (asdu_meaning (monitor_types offset) (take result.octets out.new)) (λ asdu.
+        (asdu.cause ≡ cause) × (asdu.originator ≡ 0) × (asdu.common_address ≡ common)
+        × (asdu.observations ≡ written)) }
 {
     let octets = write_first(observations, common, cause, zone, out);
     Written { octets, taken: 1 }

@@ -4,19 +4,21 @@ use Rattle.std.proofs.lemmas.List.{length-append, length-drop, drop-append-le, d
 use Rattle.std.proofs.lemmas.Bool.{le-leb}
 use Rattle.iec_window.specs.declared.limits.Limits.{Limits}
 use Rattle.iec_window.specs.Counts.{Counts}
-use Rattle.iec_window.specs.Sequence.{Acknowledges, newly, is_right_send, is_right_receive, receive_number}
-use Rattle.iec_window.specs.Steps.{first_of, after_s, after_i}
-use Rattle.iec_window.specs.History.{Frame, SentI, SentS, SentTest, GotI, GotS, GotConfirmation, GotOther, sent_at, got_at, acknowledged_by, receipted_by, waiting_at, owed_at, heard_at, test_at, counts_of, IsLegal, step, kept}
-use Rattle.iec_window.proofs.Numbers.{newly-within, newly-means, ahead_of-number}
+use Rattle.iec_window.specs.Sequence.{Acknowledges, new_acknowledgements, is_right_send, is_right_receive, receive_number}
+use Rattle.iec_window.specs.Steps.{first_of, counts_after_s, counts_after_i}
+use Rattle.iec_window.specs.History.{Frame, SentI, SentS, SentTest, GotI, GotS, GotConfirmation, GotOther, sent_at, got_at, acknowledged_by, receipted_by, waiting_at, owed_at, heard_at, test_at, counts_of, IsLegal, step, window_counts}
+use Rattle.iec_window.proofs.Numbers.{new_acknowledgements-within, new_acknowledgements-means, ahead_of-number}
 
 -- one more at the end
 length-more : (xs : List ℕ) (x : ℕ) → length (xs ++ x ∷ []) ≡ length xs + 1
 length-more xs x = length-append xs (x ∷ [])
 
 -- no more are acknowledged than were sent
-acknowledged_by-le : (limits : Limits) (frames : List Frame) → IsLegal limits frames → acknowledged_by frames ≤ length (sent_at frames)
+acknowledged_by-le : (limits : Limits) (frames : List Frame) → IsLegal limits frames
+    → acknowledged_by frames ≤ length (sent_at frames)
 acknowledged_by-le limits [] legal = omega arith
-acknowledged_by-le limits (SentI moment ∷ older) legal = omega (arith, acknowledged_by-le limits older legal.1, length-more (sent_at older) moment)
+acknowledged_by-le limits (SentI moment ∷ older) legal =
+    omega (arith, acknowledged_by-le limits older legal.1, length-more (sent_at older) moment)
 acknowledged_by-le limits (SentS ∷ older) legal = acknowledged_by-le limits older legal
 acknowledged_by-le limits (SentTest moment ∷ older) legal = acknowledged_by-le limits older legal
 acknowledged_by-le limits (GotI n moment ∷ older) legal = legal.1
@@ -36,13 +38,17 @@ receipted_by-le (GotConfirmation moment ∷ older) = receipted_by-le older
 receipted_by-le (GotOther moment ∷ older) = receipted_by-le older
 
 -- those that wait after one more was sent
-waiting_at-sent : (limits : Limits) (moment : ℕ) (older : List Frame) → IsLegal limits older → waiting_at (SentI moment ∷ older) ≡ waiting_at older ++ moment ∷ []
-waiting_at-sent limits moment older legal = drop-append-le (acknowledged_by older) (sent_at older) (moment ∷ []) (acknowledged_by-le limits older legal)
+waiting_at-sent : (limits : Limits) (moment : ℕ) (older : List Frame) → IsLegal limits older
+    → waiting_at (SentI moment ∷ older) ≡ waiting_at older ++ moment ∷ []
+waiting_at-sent limits moment older legal =
+    drop-append-le (acknowledged_by older) (sent_at older) (moment ∷ []) (acknowledged_by-le limits older legal)
 
 -- no more than k wait
-pub waiting_at-le : (limits : Limits) (frames : List Frame) → IsLegal limits frames → length (waiting_at frames) ≤ limits.k
+pub waiting_at-le : (limits : Limits) (frames : List Frame) → IsLegal limits frames
+    → length (waiting_at frames) ≤ limits.k
 waiting_at-le limits [] legal = omega arith
-waiting_at-le limits (SentI moment ∷ older) legal = rw (waiting_at-sent limits moment older legal.1) (omega (arith, length-more (waiting_at older) moment, legal.0))
+waiting_at-le limits (SentI moment ∷ older) legal =
+    rw (waiting_at-sent limits moment older legal.1) (omega (arith, length-more (waiting_at older) moment, legal.0))
 waiting_at-le limits (SentS ∷ older) legal = waiting_at-le limits older legal
 waiting_at-le limits (SentTest moment ∷ older) legal = waiting_at-le limits older legal
 waiting_at-le limits (GotI n moment ∷ older) legal =
@@ -53,14 +59,18 @@ waiting_at-le limits (GotConfirmation moment ∷ older) legal = waiting_at-le li
 waiting_at-le limits (GotOther moment ∷ older) legal = waiting_at-le limits older legal
 
 -- a count names itself by its number, where the connection may go on with it
-Acknowledges-legal : (limits : Limits) (start n : ℕ) (older : List Frame) → acknowledged_by older ≤ n → n ≤ length (sent_at older) → Acknowledges (n % 32768) (counts_of limits start older) n
-Acknowledges-legal limits start n older low high = record { not_fewer = low; not_more = omega (arith, length-drop (acknowledged_by older) (sent_at older)); number = refl }
+Acknowledges-legal : (limits : Limits) (start n : ℕ) (older : List Frame) → acknowledged_by older ≤ n
+    → n ≤ length (sent_at older) → Acknowledges (n % 32768) (counts_of limits start older) n
+Acknowledges-legal limits start n older low high =
+    record { not_fewer = low; not_more = omega (arith, length-drop (acknowledged_by older) (sent_at older)); number = refl }
 
 -- the number of a count is right
-is_right_receive-number : (nr n : ℕ) (c : Counts) → length c.waiting < 32768 → Acknowledges nr c n → is_right_receive nr c ≡ true
+is_right_receive-number : (nr n : ℕ) (c : Counts) → length c.waiting < 32768 → Acknowledges nr c n
+    → is_right_receive nr c ≡ true
 is_right_receive-number nr n c small a =
     let below : nat_lt nr 32768 ≡ true = le-leb (suc nr) 32768 (omega (arith, a.number)) in
-    let within : nat_le (newly nr c) (length c.waiting) ≡ true = le-leb (newly nr c) (length c.waiting) (newly-within nr c n small a) in
+    let within : nat_le (new_acknowledgements nr c) (length c.waiting) ≡ true =
+    le-leb (new_acknowledgements nr c) (length c.waiting) (new_acknowledgements-within nr c n small a) in
     rw (below, within) refl
 
 -- a choice whose test is true
@@ -70,14 +80,14 @@ chosen false x y e = cc
 
 -- counts, field by field
 abbrev made : Limits → ℕ → List ℕ → ℕ → ℕ → Option ℕ → ℕ → Option ℕ → Counts
-made limits acknowledged waiting received owed since heard test = record {
+made limits acknowledged waiting received owed since moment test = record {
   limits = limits;
   acknowledged = acknowledged;
   waiting = waiting;
   received = received;
   owed = owed;
   owed_since = since;
-  last_heard = heard;
+  last_heard = moment;
   test = test;
 }
 
@@ -85,35 +95,39 @@ made limits acknowledged waiting received owed since heard test = record {
 made-same : (limits : Limits) (a a' : ℕ) (w w' : List ℕ) (r r' o o' : ℕ) (s s' : Option ℕ) (h : ℕ) (t : Option ℕ) →
     a ≡ a' → w ≡ w' → r ≡ r' → o ≡ o' → s ≡ s' → made limits a w r o s h t ≡ made limits a' w' r' o' s' h t
 made-same limits a a' w w' r r' o o' s s' h t e1 e2 e3 e4 e5 =
-    ap (λ x. made limits x w r o s h t) e1 ∙ (ap (λ x. made limits a' x r o s h t) e2 ∙ (ap (λ x. made limits a' w' x o s h t) e3
+    ap (λ x. made limits x w r o s h t) e1
+    ∙ (ap (λ x. made limits a' x r o s h t) e2 ∙ (ap (λ x. made limits a' w' x o s h t) e3
     ∙ (ap (λ x. made limits a' w' r' x s h t) e4 ∙ ap (λ x. made limits a' w' r' o' x h t) e5)))
 
 -- as many as are newly acknowledged go
-moved : (c : Counts) (newly n : ℕ) (received owed : ℕ) (since : Option ℕ) (heard : ℕ) → c.acknowledged ≤ n → newly ≡ n - c.acknowledged →
-    made c.limits (c.acknowledged + newly) (drop newly c.waiting) received owed since heard c.test
-    ≡ made c.limits n (drop (n - c.acknowledged) c.waiting) received owed since heard c.test
-moved c newly n received owed since heard low e =
-    made-same c.limits _ _ _ _ received received owed owed since since heard c.test (omega (arith, e)) (ap (λ i. drop i c.waiting) e) refl refl refl
+moved : (c : Counts) (ahead n : ℕ) (received owed : ℕ) (since : Option ℕ) (moment : ℕ) → c.acknowledged ≤ n
+    → ahead ≡ n - c.acknowledged →
+    made c.limits (c.acknowledged + ahead) (drop ahead c.waiting) received owed since moment c.test
+    ≡ made c.limits n (drop (n - c.acknowledged) c.waiting) received owed since moment c.test
+moved c ahead n received owed since moment low e =
+    made-same c.limits _ _ _ _ received received owed owed since since moment c.test (omega (arith, e)) (ap (λ i. drop i c.waiting) e) refl refl refl
 
 -- how many a right number acknowledges newly
-newly-number : (n : ℕ) (c : Counts) → length c.waiting < 32768 → Acknowledges (n % 32768) c n → newly (n % 32768) c ≡ n - c.acknowledged
-newly-number n c small a = ahead_of-number (n % 32768) c.acknowledged n (length c.waiting) small a.not_fewer a.not_more a.number
+new_acknowledgements-number : (n : ℕ) (c : Counts) → length c.waiting < 32768 → Acknowledges (n % 32768) c n
+    → new_acknowledgements (n % 32768) c ≡ n - c.acknowledged
+new_acknowledgements-number n c small a =
+    ahead_of-number (n % 32768) c.acknowledged n (length c.waiting) small a.not_fewer a.not_more a.number
 
 -- what an S format with the number of a count leaves
-after_s-number : (n moment : ℕ) (c : Counts) → length c.waiting < 32768 → Acknowledges (n % 32768) c n →
-    after_s (n % 32768) moment c ≡ made c.limits n (drop (n - c.acknowledged) c.waiting) c.received c.owed c.owed_since moment c.test
-after_s-number n moment c small a =
+counts_after_s-number : (n moment : ℕ) (c : Counts) → length c.waiting < 32768 → Acknowledges (n % 32768) c n →
+    counts_after_s (n % 32768) moment c ≡ made c.limits n (drop (n - c.acknowledged) c.waiting) c.received c.owed c.owed_since moment c.test
+counts_after_s-number n moment c small a =
     chosen (is_right_receive (n % 32768) c) _ c (is_right_receive-number (n % 32768) n c small a)
-    ∙ moved c (newly (n % 32768) c) n c.received c.owed c.owed_since moment a.not_fewer (newly-number n c small a)
+    ∙ moved c (new_acknowledgements (n % 32768) c) n c.received c.owed c.owed_since moment a.not_fewer (new_acknowledgements-number n c small a)
 
 -- what the right I format with the number of a count leaves
-after_i-number : (n moment : ℕ) (c : Counts) → length c.waiting < 32768 → Acknowledges (n % 32768) c n →
-    after_i (receive_number c) (n % 32768) moment c
+counts_after_i-number : (n moment : ℕ) (c : Counts) → length c.waiting < 32768 → Acknowledges (n % 32768) c n →
+    counts_after_i (receive_number c) (n % 32768) moment c
     ≡ made c.limits n (drop (n - c.acknowledged) c.waiting) (c.received + 1) (c.owed + 1) (Some (first_of c.owed_since moment)) moment c.test
-after_i-number n moment c small a =
+counts_after_i-number n moment c small a =
     chosen (is_right_send (receive_number c) c) _ c (search rules)
     ∙ (chosen (is_right_receive (n % 32768) c) _ c (is_right_receive-number (n % 32768) n c small a)
-    ∙ moved c (newly (n % 32768) c) n (c.received + 1) (c.owed + 1) (Some (first_of c.owed_since moment)) moment a.not_fewer (newly-number n c small a))
+    ∙ moved c (new_acknowledgements (n % 32768) c) n (c.received + 1) (c.owed + 1) (Some (first_of c.owed_since moment)) moment a.not_fewer (new_acknowledgements-number n c small a))
 
 -- the first of moments of which one more came
 first-more : (xs : List ℕ) (x : ℕ) → Some (first_of (slice_get xs 0) x) ≡ slice_get (xs ++ x ∷ []) 0
@@ -122,17 +136,22 @@ first-more (y ∷ ys) x = refl
 
 -- what waits after n are acknowledged
 waiting-acknowledged : (xs : List ℕ) (a n : ℕ) → a ≤ n → drop (n - a) (drop a xs) ≡ drop n xs
-waiting-acknowledged xs a n low = let e : a + (n - a) ≡ n = omega arith in drop-drop (n - a) a xs ∙ ap (λ i. drop i xs) e
+waiting-acknowledged xs a n low =
+    let e : a + (n - a) ≡ n = omega arith in
+    drop-drop (n - a) a xs ∙ ap (λ i. drop i xs) e
 
 -- a window makes of a frame what the connection comes to
-step-counts_of : (limits : Limits) (start : ℕ) (frame : Frame) (older : List Frame) → limits.k < 32768 → IsLegal limits (frame ∷ older) →
+step-counts_of : (limits : Limits) (start : ℕ) (frame : Frame) (older : List Frame) → limits.k < 32768
+    → IsLegal limits (frame ∷ older) →
     step frame (counts_of limits start older) ≡ counts_of limits start (frame ∷ older)
 step-counts_of limits start (SentI moment) older small legal =
-    let none : drop (length (got_at older)) (got_at older) ≡ [] = drop_all (length (got_at older)) (got_at older) (omega arith) in
+    let none : drop (length (got_at older)) (got_at older) ≡ [] =
+    drop_all (length (got_at older)) (got_at older) (omega arith) in
     made-same limits _ _ _ _ _ _ _ _ _ _ (heard_at start older) (test_at older)
     refl (sym (waiting_at-sent limits moment older legal.1)) refl (sym (ap length none)) (sym (ap (λ xs. slice_get xs 0) none))
 step-counts_of limits start SentS older small legal =
-    let none : drop (length (got_at older)) (got_at older) ≡ [] = drop_all (length (got_at older)) (got_at older) (omega arith) in
+    let none : drop (length (got_at older)) (got_at older) ≡ [] =
+    drop_all (length (got_at older)) (got_at older) (omega arith) in
     made-same limits _ _ _ _ _ _ _ _ _ _ (heard_at start older) (test_at older)
     refl refl refl (sym (ap length none)) (sym (ap (λ xs. slice_get xs 0) none))
 step-counts_of limits start (SentTest moment) older small legal = refl
@@ -140,21 +159,22 @@ step-counts_of limits start (GotI n moment) older small legal =
     let bound : length (waiting_at older) < 32768 = omega (arith, waiting_at-le limits older legal.2) in
     let more : drop (receipted_by older) (got_at older ++ moment ∷ []) ≡ owed_at older ++ moment ∷ [] =
     drop-append-le (receipted_by older) (got_at older) (moment ∷ []) (receipted_by-le older) in
-    after_i-number n moment (counts_of limits start older) bound (Acknowledges-legal limits start n older legal.0 legal.1)
+    counts_after_i-number n moment (counts_of limits start older) bound (Acknowledges-legal limits start n older legal.0 legal.1)
     ∙ made-same limits _ _ _ _ _ _ _ _ _ _ moment (test_at older)
     refl (waiting-acknowledged (sent_at older) (acknowledged_by older) n legal.0)
     (sym (length-more (got_at older) moment)) (sym (ap length more ∙ length-more (owed_at older) moment))
     (first-more (owed_at older) moment ∙ sym (ap (λ xs. slice_get xs 0) more))
 step-counts_of limits start (GotS n moment) older small legal =
     let bound : length (waiting_at older) < 32768 = omega (arith, waiting_at-le limits older legal.2) in
-    after_s-number n moment (counts_of limits start older) bound (Acknowledges-legal limits start n older legal.0 legal.1)
+    counts_after_s-number n moment (counts_of limits start older) bound (Acknowledges-legal limits start n older legal.0 legal.1)
     ∙ made-same limits _ _ _ _ _ _ _ _ _ _ moment (test_at older)
     refl (waiting-acknowledged (sent_at older) (acknowledged_by older) n legal.0) refl refl refl
 step-counts_of limits start (GotConfirmation moment) older small legal = refl
 step-counts_of limits start (GotOther moment) older small legal = refl
 
 -- what came before a legal frame is legal
-legal_before : (limits : Limits) (frame : Frame) (older : List Frame) → IsLegal limits (frame ∷ older) → IsLegal limits older
+legal_before : (limits : Limits) (frame : Frame) (older : List Frame) → IsLegal limits (frame ∷ older)
+    → IsLegal limits older
 legal_before limits (SentI moment) older legal = legal.1
 legal_before limits SentS older legal = legal
 legal_before limits (SentTest moment) older legal = legal
@@ -164,10 +184,12 @@ legal_before limits (GotConfirmation moment) older legal = legal
 legal_before limits (GotOther moment) older legal = legal
 
 -- a window keeps what the connection comes to
-pub kept-counts_of : (limits : Limits) (start : ℕ) (frames : List Frame) → limits.k < 32768 → IsLegal limits frames → kept limits start frames ≡ counts_of limits start frames
-kept-counts_of limits start [] small legal = refl
-kept-counts_of limits start (frame ∷ older) small legal =
-    ap (step frame) (kept-counts_of limits start older small (legal_before limits frame older legal)) ∙ step-counts_of limits start frame older small legal
+pub window_counts-counts_of : (limits : Limits) (start : ℕ) (frames : List Frame) → limits.k < 32768
+    → IsLegal limits frames → window_counts limits start frames ≡ counts_of limits start frames
+window_counts-counts_of limits start [] small legal = refl
+window_counts-counts_of limits start (frame ∷ older) small legal =
+    ap (step frame) (window_counts-counts_of limits start older small (legal_before limits frame older legal))
+    ∙ step-counts_of limits start frame older small legal
 
 -- two tests that are both true
 both : (a b : Bool) → IsTrue (a && b) → IsTrue a × IsTrue b
@@ -176,30 +198,37 @@ both true false t = let no : ⊥ = cc in absurd no
 both false b t = let no : ⊥ = cc in absurd no
 
 -- a right N(R) names a count
-right-names : (nr : ℕ) (c : Counts) → length c.waiting < 32768 → IsTrue (is_right_receive nr c) → (n : ℕ) × Acknowledges nr c n
+right-names : (nr : ℕ) (c : Counts) → length c.waiting < 32768 → IsTrue (is_right_receive nr c)
+    → (n : ℕ) × Acknowledges nr c n
 right-names nr c small t =
-    let tests : IsTrue (nat_lt nr 32768) × IsTrue (nat_le (newly nr c) (length c.waiting)) = both _ _ t in
+    let tests : IsTrue (nat_lt nr 32768) × IsTrue (nat_le (new_acknowledgements nr c) (length c.waiting)) =
+    both _ _ t in
     let below : nr < 32768 = search (rules, tests.0) in
-    (newly-means nr c (newly nr c) (length c.waiting) below small refl refl).0 tests.1
+    (new_acknowledgements-means nr c (new_acknowledgements nr c) (length c.waiting) below small refl refl).0 tests.1
 
 -- the number of a count is right
 names-right : (nr n : ℕ) (c : Counts) → length c.waiting < 32768 → Acknowledges nr c n → IsTrue (is_right_receive nr c)
 names-right nr n c small a = is_right_receive-number nr n c small a
 
 -- N(R) is right where the connection may go on with it
-right-legal_of : (limits : Limits) (start nr moment : ℕ) (frames : List Frame) → limits.k < 32768 → IsLegal limits frames →
+right-legal_of : (limits : Limits) (start nr moment : ℕ) (frames : List Frame) → limits.k < 32768
+    → IsLegal limits frames →
     IsTrue (is_right_receive nr (counts_of limits start frames)) ↔ ((n : ℕ) × (nr ≡ n % 32768) × IsLegal limits (GotS n moment ∷ frames))
 right-legal_of limits start nr moment frames small legal =
     let bound : length (waiting_at frames) < 32768 = omega (arith, waiting_at-le limits frames legal) in
-    let sent : length (waiting_at frames) ≡ length (sent_at frames) - acknowledged_by frames = length-drop (acknowledged_by frames) (sent_at frames) in
+    let sent : length (waiting_at frames) ≡ length (sent_at frames) - acknowledged_by frames =
+    length-drop (acknowledged_by frames) (sent_at frames) in
     let least : acknowledged_by frames ≤ length (sent_at frames) = acknowledged_by-le limits frames legal in (
-      λ t. let a : (n : ℕ) × Acknowledges nr (counts_of limits start frames) n = right-names nr (counts_of limits start frames) bound t in
+      λ t. let a : (n : ℕ) × Acknowledges nr (counts_of limits start frames) n =
+          right-names nr (counts_of limits start frames) bound t in
           (a.0, a.1.number, (a.1.not_fewer, omega (arith, a.1.not_more, sent, least), legal)),
       λ g. names-right nr g.0 (counts_of limits start frames) bound
           (record { not_fewer = g.2.0; not_more = omega (arith, g.2.1, sent, least); number = g.1 }),
     )
 
-pub right-legal : (limits : Limits) (start nr moment : ℕ) (frames : List Frame) → limits.k < 32768 → IsLegal limits frames →
-    IsTrue (is_right_receive nr (kept limits start frames)) ↔ ((n : ℕ) × (nr ≡ n % 32768) × IsLegal limits (GotS n moment ∷ frames))
+pub right-legal : (limits : Limits) (start nr moment : ℕ) (frames : List Frame) → limits.k < 32768
+    → IsLegal limits frames →
+    IsTrue (is_right_receive nr (window_counts limits start frames))
+    ↔ ((n : ℕ) × (nr ≡ n % 32768) × IsLegal limits (GotS n moment ∷ frames))
 right-legal limits start nr moment frames small legal =
-    rw (kept-counts_of limits start frames small legal) (right-legal_of limits start nr moment frames small legal)
+    rw (window_counts-counts_of limits start frames small legal) (right-legal_of limits start nr moment frames small legal)

@@ -4,7 +4,7 @@ use Rattle.std.specs.Prelude.{ℕ, ◌%◌, ◌<◌, ◌≤◌, List, [], ◌∷
 use Rattle.iec_window.specs.declared.limits.Limits.{Limits}
 use Rattle.iec_window.specs.Counts.{Counts}
 use Rattle.iec_window.specs.Sequence.{numbers, receive_number}
-use Rattle.iec_window.specs.Steps.{begun, first_of, heard, after_s, after_i, settled, after_sending, testing, confirmed}
+use Rattle.iec_window.specs.Steps.{counts_at_start, first_of, counts_after_frame, counts_after_s, counts_after_i, counts_after_sending_s, counts_after_sending_i, counts_after_sending_test, counts_after_confirmation}
 
 -- SentI: an I format was sent, at that moment; SentS: an S format; SentTest: a TESTFR act, at that moment
 -- GotI: an I format came that acknowledges so many in all, at that moment; GotS: an S format
@@ -86,21 +86,23 @@ counts_of limits start frames = record {
 abbrev pub IsLegal : Limits → List Frame → Type 0
 IsLegal limits [] = Unit {0}
 IsLegal limits (SentI moment ∷ older) = (length (waiting_at older) < limits.k) × IsLegal limits older
-IsLegal limits (GotI n moment ∷ older) = (acknowledged_by older ≤ n) × (n ≤ length (sent_at older)) × IsLegal limits older
-IsLegal limits (GotS n moment ∷ older) = (acknowledged_by older ≤ n) × (n ≤ length (sent_at older)) × IsLegal limits older
+IsLegal limits (GotI n moment ∷ older) =
+    (acknowledged_by older ≤ n) × (n ≤ length (sent_at older)) × IsLegal limits older
+IsLegal limits (GotS n moment ∷ older) =
+    (acknowledged_by older ≤ n) × (n ≤ length (sent_at older)) × IsLegal limits older
 IsLegal limits (_ ∷ older) = IsLegal limits older
 
 -- what a window makes of a frame: it sees the numbers alone, the counts modulo 32,768
 abbrev pub step : Frame → Counts → Counts
-step (SentI moment) c = after_sending moment c
-step SentS c = settled c
-step (SentTest moment) c = testing moment c
-step (GotI n moment) c = after_i (receive_number c) (n % numbers) moment c
-step (GotS n moment) c = after_s (n % numbers) moment c
-step (GotConfirmation moment) c = confirmed moment c
-step (GotOther moment) c = heard moment c
+step (SentI moment) c = counts_after_sending_i moment c
+step SentS c = counts_after_sending_s c
+step (SentTest moment) c = counts_after_sending_test moment c
+step (GotI n moment) c = counts_after_i (receive_number c) (n % numbers) moment c
+step (GotS n moment) c = counts_after_s (n % numbers) moment c
+step (GotConfirmation moment) c = counts_after_confirmation moment c
+step (GotOther moment) c = counts_after_frame moment c
 
 -- what a window makes of these frames, one after another
-abbrev pub kept : Limits → ℕ → List Frame → Counts
-kept limits start [] = begun limits start
-kept limits start (frame ∷ older) = step frame (kept limits start older)
+abbrev pub window_counts : Limits → ℕ → List Frame → Counts
+window_counts limits start [] = counts_at_start limits start
+window_counts limits start (frame ∷ older) = step frame (window_counts limits start older)

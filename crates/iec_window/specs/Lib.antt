@@ -2,6 +2,6 @@ pub mod Counts
 pub mod Sequence
 pub mod Timers
 pub mod Steps
-pub mod Shown
+pub mod View
 pub mod Examples
 pub mod History

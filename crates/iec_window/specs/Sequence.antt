@@ -25,9 +25,9 @@ abbrev pub is_right_send : ℕ → Counts → Bool
 is_right_send ns c = ns == receive_number c
 
 -- how many I formats N(R) acknowledges newly, if it is right
-abbrev pub newly : ℕ → Counts → ℕ
-newly nr c = (nr + numbers - c.acknowledged % numbers) % numbers
+abbrev pub new_acknowledgements : ℕ → Counts → ℕ
+new_acknowledgements nr c = (nr + numbers - c.acknowledged % numbers) % numbers
 
 -- the N(R) of a frame received is right
 abbrev pub is_right_receive : ℕ → Counts → Bool
-is_right_receive nr c = nat_lt nr numbers && nat_le (newly nr c) (length c.waiting)
+is_right_receive nr c = nat_lt nr numbers && nat_le (new_acknowledgements nr c) (length c.waiting)

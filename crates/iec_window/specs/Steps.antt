@@ -4,11 +4,11 @@ use Rattle.iec_window.specs.declared.limits.Limits.{Limits}
 use Rattle.iec_window.specs.declared.fault.WindowFault.{WindowFault}
 use Rattle.iec_window.specs.declared.fault.WindowFault.TheVariants.{WrongSend, WrongReceive}
 use Rattle.iec_window.specs.Counts.{Counts}
-use Rattle.iec_window.specs.Sequence.{is_right_send, is_right_receive, newly}
+use Rattle.iec_window.specs.Sequence.{is_right_send, is_right_receive, new_acknowledgements}
 
 -- a connection that begins at that moment
-abbrev pub begun : Limits → ℕ → Counts
-begun limits moment = record {
+abbrev pub counts_at_start : Limits → ℕ → Counts
+counts_at_start limits moment = record {
   limits = limits;
   acknowledged = 0;
   waiting = [];
@@ -25,23 +25,20 @@ first_of None moment = moment
 first_of (Some since) moment = since
 
 -- a frame came
-abbrev pub heard : ℕ → Counts → Counts
-heard moment c = record c { last_heard = moment }
+abbrev pub counts_after_frame : ℕ → Counts → Counts
+counts_after_frame moment c = record c { last_heard = moment }
 
--- N(R) of a frame that came is right, and acknowledges
-abbrev pub acknowledged_to : ℕ → ℕ → Counts → Counts
-acknowledged_to nr moment c = record c {
-  acknowledged = c.acknowledged + newly nr c;
-  waiting = drop (newly nr c) c.waiting;
+-- a frame came whose N(R) is right, and acknowledges
+abbrev pub counts_after_right_s : ℕ → ℕ → Counts → Counts
+counts_after_right_s nr moment c = record c {
+  acknowledged = c.acknowledged + new_acknowledgements nr c;
+  waiting = drop (new_acknowledgements nr c) c.waiting;
   last_heard = moment;
 }
 
 -- an I format came, and both its numbers are right
-abbrev pub accepted : ℕ → ℕ → Counts → Counts
-accepted nr moment c = record c {
-  acknowledged = c.acknowledged + newly nr c;
-  waiting = drop (newly nr c) c.waiting;
-  last_heard = moment;
+abbrev pub counts_after_right_i : ℕ → ℕ → Counts → Counts
+counts_after_right_i nr moment c = record (counts_after_right_s nr moment c) {
   received = c.received + 1;
   owed = c.owed + 1;
   owed_since = Some (first_of c.owed_since moment);
@@ -52,29 +49,30 @@ abbrev pub answer_to_s : ℕ → Counts → Result (Unit {0}) WindowFault
 answer_to_s nr c = if is_right_receive nr c then Ok tt else Err WrongReceive
 
 -- what that S format leaves
-abbrev pub after_s : ℕ → ℕ → Counts → Counts
-after_s nr moment c = if is_right_receive nr c then acknowledged_to nr moment c else c
+abbrev pub counts_after_s : ℕ → ℕ → Counts → Counts
+counts_after_s nr moment c = if is_right_receive nr c then counts_after_right_s nr moment c else c
 
 -- the answer to an I format that came with these numbers: N(S) is judged first
 abbrev pub answer_to_i : ℕ → ℕ → Counts → Result (Unit {0}) WindowFault
 answer_to_i ns nr c = if is_right_send ns c then answer_to_s nr c else Err WrongSend
 
 -- what that I format leaves
-abbrev pub after_i : ℕ → ℕ → ℕ → Counts → Counts
-after_i ns nr moment c = if is_right_send ns c then (if is_right_receive nr c then accepted nr moment c else c) else c
+abbrev pub counts_after_i : ℕ → ℕ → ℕ → Counts → Counts
+counts_after_i ns nr moment c =
+    if is_right_send ns c then (if is_right_receive nr c then counts_after_right_i nr moment c else c) else c
 
 -- a frame with N(R) was sent: nothing is owed
-abbrev pub settled : Counts → Counts
-settled c = record c { owed = 0; owed_since = None }
+abbrev pub counts_after_sending_s : Counts → Counts
+counts_after_sending_s c = record c { owed = 0; owed_since = None }
 
 -- an I format was sent
-abbrev pub after_sending : ℕ → Counts → Counts
-after_sending moment c = record c { waiting = c.waiting ++ moment ∷ []; owed = 0; owed_since = None }
+abbrev pub counts_after_sending_i : ℕ → Counts → Counts
+counts_after_sending_i moment c = record (counts_after_sending_s c) { waiting = c.waiting ++ moment ∷ [] }
 
 -- a TESTFR act was sent: where one waits already, that one counts
-abbrev pub testing : ℕ → Counts → Counts
-testing moment c = record c { test = Some (first_of c.test moment) }
+abbrev pub counts_after_sending_test : ℕ → Counts → Counts
+counts_after_sending_test moment c = record c { test = Some (first_of c.test moment) }
 
 -- a TESTFR con came
-abbrev pub confirmed : ℕ → Counts → Counts
-confirmed moment c = record c { test = None; last_heard = moment }
+abbrev pub counts_after_confirmation : ℕ → Counts → Counts
+counts_after_confirmation moment c = record c { test = None; last_heard = moment }

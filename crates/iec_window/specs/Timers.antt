@@ -5,21 +5,21 @@ use Rattle.iec_window.specs.declared.due.Due.{Due}
 use Rattle.iec_window.specs.declared.due.Due.TheVariants as due
 
 -- as many milliseconds as the limit, or more, have passed since that moment, if there is one
-abbrev pub passed : ℕ → Option ℕ → ℕ → Bool
-passed limit None moment = false
-passed limit (Some since) moment = nat_le (since + limit) moment
+abbrev pub has_passed : ℕ → Option ℕ → ℕ → Bool
+has_passed limit None moment = false
+has_passed limit (Some since) moment = nat_le (since + limit) moment
 
 -- t1 has passed since the oldest I format sent that is not acknowledged, or the TESTFR act that is not confirmed
 abbrev pub ran_out : ℕ → Counts → Bool
-ran_out moment c = passed c.limits.t1 (slice_get c.waiting 0) moment || passed c.limits.t1 c.test moment
+ran_out moment c = has_passed c.limits.t1 (slice_get c.waiting 0) moment || has_passed c.limits.t1 c.test moment
 
 -- I formats received are not acknowledged: w or more of them, or since t2 or longer
 abbrev pub owes_ack : ℕ → Counts → Bool
-owes_ack moment c = nat_lt 0 c.owed && (nat_le c.limits.w c.owed || passed c.limits.t2 c.owed_since moment)
+owes_ack moment c = nat_lt 0 c.owed && (nat_le c.limits.w c.owed || has_passed c.limits.t2 c.owed_since moment)
 
 -- t3 has passed since the last frame came, and no TESTFR act waits for its confirmation
 abbrev pub owes_test : ℕ → Counts → Bool
-owes_test moment c = is_none c.test && passed c.limits.t3 (Some c.last_heard) moment
+owes_test moment c = is_none c.test && has_passed c.limits.t3 (Some c.last_heard) moment
 
 -- what is due at that moment: the end of the connection comes before a test
 abbrev pub due_at : ℕ → Counts → Due

@@ -13,6 +13,3 @@ pub use due::Due;
 pub use fault::WindowFault;
 pub use limits::Limits;
 pub use window::Window;
-
-#[cfg(test)]
-mod tests;

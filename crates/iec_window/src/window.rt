@@ -2,9 +2,9 @@
 ghost use Rattle.std.specs.Prelude.{◌≡◌, ℕ, ◌+◌, ◌^◌, ◌<◌, ◌≤◌, ◌↔◌, IsTrue, IfOk, OnOk, nat_lt, length, slice_get, drop};
 ghost use Rattle.std.specs.VecDeque.{deque_capacity};
 ghost use Rattle.iec_window.specs.Counts.{Counts, sent_in_all};
-ghost use Rattle.iec_window.specs.Sequence.{Acknowledges, send_number, receive_number, is_right_send, newly, is_right_receive};
-ghost use Rattle.iec_window.specs.Timers.{passed, ran_out, owes_ack, owes_test, due_at};
-ghost use Rattle.iec_window.specs.Steps.{begun, heard, answer_to_s, after_s, answer_to_i, after_i, settled, after_sending, testing, confirmed};
+ghost use Rattle.iec_window.specs.Sequence.{Acknowledges, send_number, receive_number, is_right_send, new_acknowledgements, is_right_receive};
+ghost use Rattle.iec_window.specs.Timers.{has_passed, ran_out, owes_ack, owes_test, due_at};
+ghost use Rattle.iec_window.specs.Steps.{counts_at_start, counts_after_frame, answer_to_s, counts_after_s, answer_to_i, counts_after_i, counts_after_sending_s, counts_after_sending_i, counts_after_sending_test, counts_after_confirmation};
 
 use crate::due::Due;
 use crate::fault::WindowFault;
@@ -43,9 +43,9 @@ impl Model for Window {
 
     ghost Value = { Counts };
 
-    ghost use Rattle.iec_window.specs.Shown.{shown, IsSound};
+    ghost use Rattle.iec_window.specs.View.{counts_in, IsSound};
 
-    ghost view = { shown };
+    ghost view = { counts_in };
 
     ghost invariant = { IsSound };
 }
@@ -55,7 +55,7 @@ impl Window {
     /// milliseconds. The connection begins at moment 0: see `begin`.
     pub fn new(alloc: Global, k: u16, w: u16, t1: u64, t2: u64, t3: u64) -> Result<Window, Memory>
         requires { k < 32768 }
-        ensures { IfOk result (λ v. v ≡ begun (record { k = k; w = w; t1 = t1; t2 = t2; t3 = t3 }) 0) }
+        ensures { IfOk result (λ v. v ≡ counts_at_start (record { k = k; w = w; t1 = t1; t2 = t2; t3 = t3 }) 0) }
     {
         let waiting = VecDeque::with_capacity(alloc, usize::from(k))?;
         Ok(Window {
@@ -72,7 +72,7 @@ impl Window {
 
     /// A connection begins: all counts are 0, nothing waits, and t3 runs from this moment.
     pub fn begin(&mut self, moment: u64)
-        ensures { self.new ≡ begun self.old.limits moment }
+        ensures { self.new ≡ counts_at_start self.old.limits moment }
     {
         self.acknowledged = 0;
         self.waiting.clear();
@@ -85,7 +85,7 @@ impl Window {
 
     /// A frame came that has no number: a U format other than a TESTFR con. t3 runs anew.
     pub fn heard(&mut self, moment: u64)
-        ensures { self.new ≡ heard moment self.old }
+        ensures { self.new ≡ counts_after_frame moment self.old }
     {
         self.last_heard = moment;
     }
@@ -102,14 +102,14 @@ impl Window {
         ensures value { result ≡ is_right_receive nr self.now }
         ensures meaning { IsTrue result ↔ ((n : ℕ) × Acknowledges nr self.now n) }
     {
-        u64::from(nr) < NUMBERS && self.newly(nr) <= self.waiting.len() as u64
+        u64::from(nr) < NUMBERS && self.new_acknowledgements(nr) <= self.waiting.len() as u64
     }
 
     /// An I format came with these numbers. At `Err` nothing changes.
     pub fn received(&mut self, ns: u16, nr: u16, moment: u64) -> Result<(), WindowFault>
         requires { self.old.received + 1 < 2 ^ 64 }
         ensures answer { result ≡ answer_to_i ns nr self.old }
-        ensures after { self.new ≡ after_i ns nr moment self.old }
+        ensures after { self.new ≡ counts_after_i ns nr moment self.old }
         // N(R) names the count that is acknowledged then.
         ensures counted { OnOk result (Acknowledges nr self.old self.new.acknowledged) }
     {
@@ -128,16 +128,16 @@ impl Window {
     /// An S format came with this N(R). At `Err` nothing changes.
     pub fn acknowledged(&mut self, nr: u16, moment: u64) -> Result<(), WindowFault>
         ensures answer { result ≡ answer_to_s nr self.old }
-        ensures after { self.new ≡ after_s nr moment self.old }
+        ensures after { self.new ≡ counts_after_s nr moment self.old }
         // N(R) names the count that is acknowledged then.
         ensures counted { OnOk result (Acknowledges nr self.old self.new.acknowledged) }
     {
         if !self.is_right_receive(nr) {
             return Err(WindowFault::WrongReceive);
         }
-        let newly = self.newly(nr);
-        forget(&mut self.waiting, newly as usize);
-        self.acknowledged += newly;
+        let count = self.new_acknowledgements(nr);
+        forget(&mut self.waiting, count as usize);
+        self.acknowledged += count;
         self.heard(moment);
         Ok(())
     }
@@ -156,7 +156,7 @@ impl Window {
         requires count { sent_in_all self.old + 1 < 2 ^ 64 }
         ensures send { result.0 ≡ send_number self.old }
         ensures receive { result.1 ≡ receive_number self.old }
-        ensures after { self.new ≡ after_sending moment self.old }
+        ensures after { self.new ≡ counts_after_sending_i moment self.old }
     {
         let sent = self.acknowledged + self.waiting.len() as u64;
         self.waiting.push_back_reserved(moment);
@@ -177,7 +177,7 @@ impl Window {
     /// An S format is sent: its N(R). It acknowledges all I formats received.
     pub fn ack_sent(&mut self) -> u16
         ensures receive { result ≡ receive_number self.old }
-        ensures after { self.new ≡ settled self.old }
+        ensures after { self.new ≡ counts_after_sending_s self.old }
     {
         self.owed = 0;
         self.owed_since = None;
@@ -186,7 +186,7 @@ impl Window {
 
     /// A TESTFR act is sent. Where an earlier one isn't confirmed yet, t1 runs on from that one.
     pub fn test_sent(&mut self, moment: u64)
-        ensures { self.new ≡ testing moment self.old }
+        ensures { self.new ≡ counts_after_sending_test moment self.old }
     {
         if self.test.is_none() {
             self.test = Some(moment);
@@ -195,7 +195,7 @@ impl Window {
 
     /// A TESTFR con came.
     pub fn test_confirmed(&mut self, moment: u64)
-        ensures { self.new ≡ confirmed moment self.old }
+        ensures { self.new ≡ counts_after_confirmation moment self.old }
     {
         self.test = None; // Its t1 ends.
         self.heard(moment);
@@ -231,8 +231,8 @@ impl Window {
     }
 
     /// How many I formats this N(R) acknowledges newly, if it is right.
-    fn newly(&self, nr: u16) -> u64
-        ensures value { result ≡ newly nr self.now }
+    fn new_acknowledgements(&self, nr: u16) -> u64
+        ensures value { result ≡ new_acknowledgements nr self.now }
         ensures bounded { length self.now.waiting < 32768 }
     {
         (u64::from(nr) + NUMBERS - self.acknowledged % NUMBERS) % NUMBERS
@@ -241,7 +241,7 @@ impl Window {
 
 /// Whether as many milliseconds as the limit have passed since that moment, if there is one.
 fn has_passed(limit: u64, since: Option<u64>, moment: u64) -> bool
-    ensures { result ≡ passed limit since moment }
+    ensures { result ≡ has_passed limit since moment }
 {
     since.is_some_and(|since| moment >= since && moment - since >= limit)
 }

@@ -26,7 +26,8 @@ loop-place-preserved c =
     let address : c.args.first + (c.loop-place.place + 1) ≡ c.args.first + c.loop-place.place + 1 = omega arith in
     let after = c.split_at.ensures.back in
     let enough = rw more at c.loop-place.invariant.enough in
-    let lens : length c.split_at.result.1.now + type_length c.args.kind ≡ length rest = omega (arith, c.octets.ensures.octets, c.split_at.ensures.back_len) in
+    let lens : length c.split_at.result.1.now + type_length c.args.kind ≡ length rest =
+    omega (arith, c.octets.ensures.octets, c.split_at.ensures.back_len) in
     record {
       read = rw (items, address, after, c.octets.ensures.octets) next;
       first = starts_behind_first c.loop-place.place _ _ (first_is_right c.loop-place.place _ _ c.in-Ok.observation c.loop-place.invariant.first at);

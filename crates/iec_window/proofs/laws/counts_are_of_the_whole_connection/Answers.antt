@@ -1,8 +1,8 @@
-use Rattle.iec_window.proofs.WholeConnection.{kept-counts_of, waiting_at-le, right-legal}
+use Rattle.iec_window.proofs.WholeConnection.{window_counts-counts_of, waiting_at-le, right-legal}
 use Rattle.iec_window.proofs.laws.counts_are_of_the_whole_connection.Goals as goal
 
 pub returns-clause-counts : goal.returns-clause-counts
-returns-clause-counts c = kept-counts_of
+returns-clause-counts c = window_counts-counts_of
 
 pub returns-clause-window : goal.returns-clause-window
 returns-clause-window c = waiting_at-le

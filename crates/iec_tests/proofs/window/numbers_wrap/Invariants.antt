@@ -1,5 +1,5 @@
 use Rattle.std.proofs.Common.{◌≤◌}
-use Rattle.iec_window.proofs.tests.numbers_wrap.Given as goal
+use Rattle.iec_tests.proofs.window.numbers_wrap.Given as goal
 
 -- no more came than were fed
 abbrev pub invariant-loop-number : goal.invariant-loop-number

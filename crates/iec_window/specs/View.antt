@@ -4,8 +4,8 @@ use Rattle.std.specs.VecDeque.{deque_capacity}
 use Rattle.iec_window.specs.declared.window.Window.TheInside.{Inside}
 use Rattle.iec_window.specs.Counts.{Counts}
 
-abbrev pub shown : Inside → Counts
-shown s = record {
+abbrev pub counts_in : Inside → Counts
+counts_in s = record {
   limits = s.limits;
   acknowledged = s.acknowledged;
   waiting = s.waiting.items;

@@ -1,6 +1,6 @@
 //! Worked examples on real windows, with values from outside.
 
-use crate::{Due, Window, WindowFault};
+use iec_window::{Due, Window, WindowFault};
 use std::test::Fail;
 
 /// I formats numbered 0 to 32,767 came; the next one has number 0 again.

@@ -1,14 +1,18 @@
-use super::*;
+//! ASDUs with process information, with octets from outside.
 use gw_model::{Element, Observation, Quality, Stamp, Value};
 use gw_time::Zone;
+use iec_asdu::{
+    AsduFault, BitString, CounterReading, DoublePoint, ScaledValue, SinglePoint, read_monitor,
+    write_monitor,
+};
 use std::alloc::Global;
 use std::process::Abort;
 use std::test::Fail;
 
 /// The address, value, quality and stamp of an observation.
-type Shown = (u32, Value, Quality, Stamp);
+type Told = (u32, Value, Quality, Stamp);
 
-fn observed((address, value, quality, stamp): Shown) -> Observation {
+fn observed((address, value, quality, stamp): Told) -> Observation {
     Observation {
         address,
         value,
@@ -56,15 +60,15 @@ const CENTRAL_EUROPE: Zone = Zone { offset_minutes: 60 };
 const EVENT: Stamp = Stamp::At(1_700_000_000_000);
 
 /// An observation, and the common address, the cause, the offset and the octets of its ASDU.
-type Row = (Shown, u16, u8, Zone, &'static [u8]);
+type Row = (Told, u16, u8, Zone, &'static [u8]);
 
 /// Writes the observation and reads it again.
 fn check(
-    (shown, common, cause, zone, octets): Row,
+    (told, common, cause, zone, octets): Row,
     rt: &impl Abort,
     alloc: Global,
 ) -> Result<(), Fail> {
-    let observation = observed(shown);
+    let observation = observed(told);
     let mut out = [0xAA; 249];
     let written = write_monitor(&[observation], common, cause, &zone, &mut out);
     assert_eq!(rt; written.taken, 1);
@@ -159,62 +163,48 @@ fn assert_again<E: Element + PartialEq + Drop>(rt: &impl Abort, octets: &[u8], w
 
 #[test]
 fn states_again(rt: HostRuntime) {
-    assert_again(
-        &rt,
-        &[0x81],
-        Some(SinglePoint {
-            on: true,
-            quality: INVALID,
-        }),
-    );
+    let quality = INVALID;
+    assert_again(&rt, &[0x81], Some(SinglePoint { on: true, quality }));
     assert_again::<SinglePoint>(&rt, &[0x09], None);
-    assert_again(
-        &rt,
-        &[0x83],
-        Some(DoublePoint {
-            state: 3,
-            quality: INVALID,
-        }),
-    );
+    assert_again(&rt, &[0x83], Some(DoublePoint { state: 3, quality }));
     assert_again::<DoublePoint>(&rt, &[0x04], None);
+}
+
+/// Not topical, with overflow.
+const OVERFLOW_NOT_TOPICAL: Quality = Quality {
+    nt: true,
+    ..OVERFLOW
+};
+
+/// Invalid, and adjusted.
+const ADJUSTED: Quality = Quality {
+    ca: true,
+    ..INVALID
+};
+
+#[test]
+fn words_again(rt: HostRuntime) {
+    let word = BitString {
+        word: 0x1234_5678,
+        quality: OVERFLOW_NOT_TOPICAL,
+    };
+    assert_again(&rt, &[0x78, 0x56, 0x34, 0x12, 0x41], Some(word));
+    assert_again::<BitString>(&rt, &[0, 0, 0, 0, 0x02], None);
 }
 
 #[test]
 fn numbers_again(rt: HostRuntime) {
-    let quality = Quality {
-        nt: true,
-        ..OVERFLOW
+    let scaled = ScaledValue {
+        value: -32768,
+        quality: OVERFLOW_NOT_TOPICAL,
     };
-    let adjusted = Quality {
-        ca: true,
-        ..INVALID
-    };
-    assert_again(
-        &rt,
-        &[0x78, 0x56, 0x34, 0x12, 0x41],
-        Some(BitString {
-            word: 0x1234_5678,
-            quality,
-        }),
-    );
-    assert_again::<BitString>(&rt, &[0, 0, 0, 0, 0x02], None);
-    assert_again(
-        &rt,
-        &[0x00, 0x80, 0x41],
-        Some(ScaledValue {
-            value: -32768,
-            quality,
-        }),
-    );
+    assert_again(&rt, &[0x00, 0x80, 0x41], Some(scaled));
     assert_again::<ScaledValue>(&rt, &[0, 0, 0x08], None);
-    assert_again(
-        &rt,
-        &[0x78, 0x56, 0x34, 0x12, 0xC0],
-        Some(CounterReading {
-            count: 0x1234_5678,
-            quality: adjusted,
-        }),
-    );
+    let total = CounterReading {
+        count: 0x1234_5678,
+        quality: ADJUSTED,
+    };
+    assert_again(&rt, &[0x78, 0x56, 0x34, 0x12, 0xC0], Some(total));
 }
 
 /// The event of a single point, in UTC, and with a common time of a clock that wasn't synchronized; then the other
@@ -322,7 +312,7 @@ fn beyond_the_window(rt: HostRuntime) {
 }
 
 /// ASDUs, their common address and cause, and their observations.
-const SEVERAL: [(&[u8], u16, u8, &[Shown]); 6] = [
+const SEVERAL: [(&[u8], u16, u8, &[Told]); 6] = [
     (
         b"\x01\x83\x14\x00\x01\x00\x05\x10\x00\x01\x00\xC0",
         1,
@@ -364,7 +354,8 @@ const SEVERAL: [(&[u8], u16, u8, &[Shown]); 6] = [
     ),
     // With time, under SQ 0 and under SQ 1.
     (
-        b"\x1E\x02\x03\x00\x01\x00\x05\x10\x00\x01\x20\x4E\x0D\x16\x0E\x0B\x17\x09\x10\x00\x00\x20\x4E\x8D\x16\x0E\x0B\x17",
+        b"\x1E\x02\x03\x00\x01\x00\x05\x10\x00\x01\x20\x4E\x0D\x16\x0E\x0B\x17\
+        \x09\x10\x00\x00\x20\x4E\x8D\x16\x0E\x0B\x17",
         1,
         3,
         &[
@@ -401,8 +392,8 @@ fn several_objects(rt: HostRuntime) -> Result<(), Fail> {
         let read = read_monitor(rt.alloc(), octets, &Zone::UTC)?;
         assert_eq!(rt; (read.common, read.cause), (common, cause));
         assert_eq!(rt; read.observations.len(), wanted.len());
-        for (found, shown) in read.observations.iter().zip(wanted) {
-            assert_eq!(rt; *found, observed(*shown));
+        for (found, told) in read.observations.iter().zip(wanted) {
+            assert_eq!(rt; *found, observed(*told));
         }
     }
     Ok(())

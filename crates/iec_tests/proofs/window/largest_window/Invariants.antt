@@ -1,6 +1,6 @@
 use Rattle.std.proofs.Common.{◌≤◌}
 use Rattle.iec_window.specs.Counts.{sent_in_all}
-use Rattle.iec_window.proofs.tests.largest_window.Given as goal
+use Rattle.iec_tests.proofs.window.largest_window.Given as goal
 
 -- no more were sent than were asked for
 abbrev pub invariant-loop-number : goal.invariant-loop-number
