@@ -1,4 +1,5 @@
 pub mod Padding
+pub mod Buffered
 pub mod Front
 pub mod Streams
 pub mod Round

@@ -2,6 +2,7 @@
 #![tactic(auto)]
 
 mod apdu;
+mod buffer;
 pub mod examples;
 mod fault;
 mod feed;
@@ -11,6 +12,7 @@ mod reading;
 mod writing;
 
 pub use apdu::{Apdu, Asdu, Signal};
+pub use buffer::ApduBuf;
 pub use fault::ApciFault;
 pub use feed::ApduFeed;
 pub use writing::write_apdu;
