@@ -3,7 +3,7 @@ use Rattle.std.proofs.Common.{◌≡◌, ℕ, ◌+◌, ◌*◌, ◌%◌, ◌<◌
 use Rattle.std.specs.List.{range_with_len}
 use Rattle.std.proofs.lemmas.List.{drop-drop, take_min, drop_min}
 use Rattle.std.proofs.lemmas.Bool.Decides.{nat_tests}
-use Rattle.dnp_transport.specs.Cut.{segment_count, header_of, cut}
+use Rattle.dnp_transport.specs.Cut.{segment_count, header_of, segments_from}
 
 same_test : (a b c d : ℕ) → (a ≡ b → c ≡ d) → (c ≡ d → a ≡ b) → eqb a b ≡ eqb c d
 same_test a b c d to from = grind (arith, nat_tests)
@@ -43,9 +43,9 @@ piece-first : (n : ℕ) (begins : Bool) (first : ℕ) (octets : List ℕ) → eq
     → piece (suc n) begins first octets 0 ≡ header_of (eqb (length (drop 249 octets)) 0) begins first ∷ take 249 octets
 piece-first n begins first octets last = piece_same _ _ _ _ _ _ _ _ last (and-true begins) (omega arith) refl
 
-pub cut-nil : (begins : Bool) (first : ℕ) → cut begins first [] ≡ []
-unfolding cut
-cut-nil begins first = refl
+pub segments_from-nil : (begins : Bool) (first : ℕ) → segments_from begins first [] ≡ []
+unfolding segments_from
+segments_from-nil begins first = refl
 
 count_rest : (octets : List ℕ) → 0 < length octets → segment_count (length octets) ≡ suc (segment_count (length (drop 249 octets)))
 count_rest octets some = rw length-drop (omega arith)
@@ -53,10 +53,10 @@ count_rest octets some = rw length-drop (omega arith)
 ends_test : (octets : List ℕ) (n : ℕ) → n ≡ segment_count (length (drop 249 octets)) → eqb 1 (suc n) ≡ eqb (length (drop 249 octets)) 0
 ends_test octets n e = same_test 1 (suc n) (length (drop 249 octets)) 0 (λ h. omega arith) (λ h. omega arith)
 
-pub cut-cons : (begins : Bool) (first : ℕ) (octets : List ℕ) → 0 < length octets
-    → cut begins first octets ≡ (header_of (eqb (length (drop 249 octets)) 0) begins first ∷ take 249 octets) ∷ cut false ((first + 1) % 64) (drop 249 octets)
-unfolding cut
-cut-cons begins first octets some =
+pub segments_from-cons : (begins : Bool) (first : ℕ) (octets : List ℕ) → 0 < length octets
+    → segments_from begins first octets ≡ (header_of (eqb (length (drop 249 octets)) 0) begins first ∷ take 249 octets) ∷ segments_from false ((first + 1) % 64) (drop 249 octets)
+unfolding segments_from
+segments_from-cons begins first octets some =
     let n = segment_count (length (drop 249 octets)) in
     let head = piece-first n begins first octets (ends_test octets n refl) in
     let tail = map_shifted (piece (suc n) begins first octets) (piece n false ((first + 1) % 64) (drop 249 octets)) 0 n (piece-later n begins first octets) in
@@ -65,10 +65,10 @@ cut-cons begins first octets some =
     ∙ ap (λ (t : List (List ℕ)). (header_of (eqb (length (drop 249 octets)) 0) begins first ∷ take 249 octets) ∷ t) tail)
 
 -- the same, of octets that are parted at 249 or at their end
-pub cut-parted : (begins : Bool) (first : ℕ) (octets front back : List ℕ) (n : ℕ) → 0 < length octets
+pub segments_from-parted : (begins : Bool) (first : ℕ) (octets front back : List ℕ) (n : ℕ) → 0 < length octets
     → n ≡ min 249 (length octets) → front ≡ take n octets → back ≡ drop n octets
-    → cut begins first octets ≡ (header_of (eqb (length back) 0) begins first ∷ front) ∷ cut false ((first + 1) % 64) back
-cut-parted begins first octets front back n some en ef eb =
+    → segments_from begins first octets ≡ (header_of (eqb (length back) 0) begins first ∷ front) ∷ segments_from false ((first + 1) % 64) back
+segments_from-parted begins first octets front back n some en ef eb =
     let taken : front ≡ take 249 octets = ef ∙ (ap (λ (j : ℕ). take j octets) en ∙ take_min 249 octets) in
     let dropped : back ≡ drop 249 octets = eb ∙ (ap (λ (j : ℕ). drop j octets) en ∙ drop_min 249 octets) in
-    rw (taken, dropped) (cut-cons begins first octets some)
+    rw (taken, dropped) (segments_from-cons begins first octets some)

@@ -6,7 +6,7 @@ use Rattle.std.proofs.lemmas.Bool.{cases_Bool, cond-true, cond-false}
 use Rattle.std.proofs.lemmas.List.{append-nil, reverse-append}
 use Rattle.std.proofs.lemmas.List.Elements.{filter_map-append}
 use Rattle.dnp_transport.specs.Segment.{is_whole}
-use Rattle.dnp_transport.specs.Fragment.{ended_in, fragments_of}
+use Rattle.dnp_transport.specs.Fragment.{fragments_ended_in, fragments_of}
 use Rattle.dnp_transport.specs.Series.{Series, Answer, step}
 use Rattle.dnp_transport.specs.Runs.{answers_from, series_after, fragment_in, fragments_in}
 use Rattle.dnp_transport.proofs.LookingBack.{kept_after, step-empty, step_agrees}
@@ -39,30 +39,30 @@ grown-empty older s more empty = ap (λ (xs : List (List ℕ)). reverse xs ++ ol
 -- From a history on: what is kept in the end, and the fragments of all.
 run_agrees : (older segments : List (List ℕ))
     → (series_after (kept_after older) segments ≡ kept_after (grown older segments))
-    × (ended_in older ++ fragments_in (answers_from (kept_after older) segments) ≡ ended_in (grown older segments))
-run_agrees older [] = (refl, append-nil (ended_in older))
+    × (fragments_ended_in older ++ fragments_in (answers_from (kept_after older) segments) ≡ fragments_ended_in (grown older segments))
+run_agrees older [] = (refl, append-nil (fragments_ended_in older))
 run_agrees older (s ∷ more) = elim (cases_Bool (is_whole s)) [
   | inl whole ↦
       let taken = step_agrees s older whole in
       let rest = run_agrees (s ∷ older) more in
       let history = grown-whole older s more whole in (
         ap (λ (kept : Option Series). series_after kept more) taken.0 ∙ (rest.0 ∙ ap kept_after (sym history)),
-        cons_option-append (ended_in older) (fragment_in (step (kept_after older) s).0) (fragments_in (answers_from (step (kept_after older) s).1 more))
-            ∙ (ap (λ (o : Option (List ℕ)). (ended_in older ++ option_to_list o) ++ fragments_in (answers_from (step (kept_after older) s).1 more)) taken.1
-            ∙ (ap (λ (kept : Option Series). ended_in (s ∷ older) ++ fragments_in (answers_from kept more)) taken.0
-            ∙ (rest.1 ∙ ap ended_in (sym history)))),
+        cons_option-append (fragments_ended_in older) (fragment_in (step (kept_after older) s).0) (fragments_in (answers_from (step (kept_after older) s).1 more))
+            ∙ (ap (λ (o : Option (List ℕ)). (fragments_ended_in older ++ option_to_list o) ++ fragments_in (answers_from (step (kept_after older) s).1 more)) taken.1
+            ∙ (ap (λ (kept : Option Series). fragments_ended_in (s ∷ older) ++ fragments_in (answers_from kept more)) taken.0
+            ∙ (rest.1 ∙ ap fragments_ended_in (sym history)))),
       )
   | inr empty ↦
       let taken = step-empty (kept_after older) s empty in
       let rest = run_agrees older more in
       let history = grown-empty older s more empty in (
         ap (λ (kept : Answer × Option Series). series_after kept.1 more) taken ∙ (rest.0 ∙ ap kept_after (sym history)),
-        ap (λ (kept : Answer × Option Series). ended_in older ++ cons_option (fragment_in kept.0) (fragments_in (answers_from kept.1 more))) taken ∙ (rest.1 ∙ ap ended_in (sym history)),
+        ap (λ (kept : Answer × Option Series). fragments_ended_in older ++ cons_option (fragment_in kept.0) (fragments_in (answers_from kept.1 more))) taken ∙ (rest.1 ∙ ap fragments_ended_in (sym history)),
       )
 ]
 
 pub whole : (segments : List (List ℕ)) → fragments_in (answers_from None segments) ≡ fragments_of segments
-whole segments = (run_agrees [] segments).1 ∙ ap ended_in (append-nil (reverse (filter is_whole segments)))
+whole segments = (run_agrees [] segments).1 ∙ ap fragments_ended_in (append-nil (reverse (filter is_whole segments)))
 
 pub each : (segments : List (List ℕ)) (s : List ℕ)
     → fragments_of (segments ++ s ∷ []) ≡ fragments_of segments ++ option_to_list (fragment_in (step (series_after None segments) s).0)

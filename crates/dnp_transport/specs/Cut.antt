@@ -12,11 +12,12 @@ header_of is_final is_first number = (if is_final then 128 else 0) + (if is_firs
 
 -- The segments of these octets: the sequence numbers count from first, FIN is on the last, and FIR
 -- on the first where the octets begin a fragment.
-unfoldable pub cut : Bool → ℕ → List ℕ → List (List ℕ)
-cut begins first octets =
-    map (λ k. header_of (k + 1 == segment_count (length octets)) (begins && (k == 0)) (first + k) ∷ take 249 (drop (249 * k) octets))
-    (range_with_len 0 (segment_count (length octets)))
+unfoldable pub segments_from : Bool → ℕ → List ℕ → List (List ℕ)
+segments_from begins first octets =
+    let count = segment_count (length octets) in
+    map (λ k. header_of (k + 1 == count) (begins && (k == 0)) (first + k) ∷ take 249 (drop (249 * k) octets))
+    (range_with_len 0 count)
 
 -- the segments of a fragment
 abbrev pub segments_of : List ℕ → ℕ → List (List ℕ)
-segments_of fragment first = cut true first fragment
+segments_of fragment first = segments_from true first fragment

@@ -18,9 +18,9 @@ sequence [] = 0
 sequence (header ∷ octets) = header % 64
 
 -- the octets of the fragment that the segment carries
-abbrev pub carried : List ℕ → List ℕ
-carried [] = []
-carried (header ∷ octets) = octets
+abbrev pub carried_octets : List ℕ → List ℕ
+carried_octets [] = []
+carried_octets (header ∷ octets) = octets
 
 -- there is a header, and at least one octet after it
 abbrev pub is_whole : List ℕ → Bool
@@ -28,4 +28,4 @@ is_whole segment = nat_lt 1 (length segment)
 
 -- a fragment may begin with the segment: it has FIR, and carries 1 to 2,048 octets
 abbrev pub may_begin : List ℕ → Bool
-may_begin segment = is_whole segment && is_first segment && nat_le (length (carried segment)) 2048
+may_begin segment = is_whole segment && is_first segment && nat_le (length (carried_octets segment)) 2048

@@ -1,11 +1,11 @@
 //! Fragments from segments.
 ghost use Rattle.std.specs.Prelude.{◌≡◌, ◌≤◌, IsTrue, IfOk, OnOk, OnErr, None, length};
-ghost use Rattle.dnp_transport.specs.Segment.{carried, is_whole, may_begin};
-ghost use Rattle.dnp_transport.specs.Series.{answer_of, joined, step, HasLength};
+ghost use Rattle.dnp_transport.specs.Segment.{carried_octets, is_whole, may_begin};
+ghost use Rattle.dnp_transport.specs.Series.{answer_of, step_joining, step, HasLength};
 
 use crate::FRAGMENT_LIMIT;
 use crate::answer::{DropCause, Taken};
-use crate::header::{carried, is_final, is_first};
+use crate::header::{carried_octets, is_final, is_first};
 use crate::series::Series;
 use gw_model::Memory;
 use std::alloc::Global;
@@ -68,12 +68,13 @@ impl Assembler {
 
     fn begin(&mut self, segment: &[u8]) -> Result<Taken, Memory>
         requires { IsTrue (is_whole segment.now) }
-        ensures answer { IfOk result (λ taken. answer_of taken ≡ (joined (carried segment.now) segment.now).0) }
-        ensures series { OnOk result (self.new ≡ (joined (carried segment.now) segment.now).1) }
+        ensures answer { IfOk result (λ taken. answer_of taken
+            ≡ (step_joining (carried_octets segment.now) segment.now).0) }
+        ensures series { OnOk result (self.new ≡ (step_joining (carried_octets segment.now) segment.now).1) }
         ensures err { OnErr result (self.new ≡ self.old) }
-        ensures memory { OnErr result (length (carried segment.now) ≤ 2048) }
+        ensures memory { OnErr result (length (carried_octets segment.now) ≤ 2048) }
     {
-        let octets = carried(segment);
+        let octets = carried_octets(segment);
         if octets.len() > FRAGMENT_LIMIT {
             self.series = None;
             return Ok(Taken::Dropped(DropCause::TooLong));

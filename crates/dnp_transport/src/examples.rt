@@ -18,9 +18,11 @@ pub fn three_segments()
 /// After FIR with number 1 comes number 3, and the fragment is lost. A header alone is left out, and
 /// a segment with FIR and FIN is a fragment.
 pub fn lost_segment()
-    ensures fragments { fragments_of ((0x41 ∷ 0xAA ∷ []) ∷ (0x83 ∷ 0xBB ∷ []) ∷ (0x84 ∷ 0xCC ∷ []) ∷ (0xC6 ∷ []) ∷ (0xC5 ∷ 0xDD ∷ []) ∷ [])
+    ensures fragments { fragments_of ((0x41 ∷ 0xAA ∷ []) ∷ (0x83 ∷ 0xBB ∷ []) ∷ (0x84 ∷ 0xCC ∷ []) ∷ (0xC6 ∷ [])
+        ∷ (0xC5 ∷ 0xDD ∷ []) ∷ [])
         ≡ (0xDD ∷ []) ∷ [] }
-    ensures answers { answers_from None ((0x41 ∷ 0xAA ∷ []) ∷ (0x83 ∷ 0xBB ∷ []) ∷ (0x84 ∷ 0xCC ∷ []) ∷ (0xC6 ∷ []) ∷ (0xC5 ∷ 0xDD ∷ []) ∷ [])
+    ensures answers { answers_from None ((0x41 ∷ 0xAA ∷ []) ∷ (0x83 ∷ 0xBB ∷ []) ∷ (0x84 ∷ 0xCC ∷ []) ∷ (0xC6 ∷ [])
+        ∷ (0xC5 ∷ 0xDD ∷ []) ∷ [])
         ≡ More ∷ Dropped Gap ∷ Dropped Lone ∷ Dropped Empty ∷ Fragment (0xDD ∷ []) ∷ [] }
 {}
 
@@ -33,7 +35,8 @@ pub fn header_alone()
 
 /// FIR begins anew, and a second FIN after a fragment ends none.
 pub fn begun_anew()
-    ensures fragments { fragments_of ((0x40 ∷ 1 ∷ []) ∷ (0x41 ∷ 2 ∷ []) ∷ (0x82 ∷ 3 ∷ []) ∷ (0x83 ∷ 4 ∷ []) ∷ []) ≡ (2 ∷ 3 ∷ []) ∷ [] }
+    ensures fragments { fragments_of ((0x40 ∷ 1 ∷ []) ∷ (0x41 ∷ 2 ∷ []) ∷ (0x82 ∷ 3 ∷ []) ∷ (0x83 ∷ 4 ∷ []) ∷ [])
+        ≡ (2 ∷ 3 ∷ []) ∷ [] }
     ensures answers { answers_from None ((0x40 ∷ 1 ∷ []) ∷ (0x41 ∷ 2 ∷ []) ∷ (0x82 ∷ 3 ∷ []) ∷ (0x83 ∷ 4 ∷ []) ∷ [])
         ≡ More ∷ More ∷ Fragment (2 ∷ 3 ∷ []) ∷ Dropped Lone ∷ [] }
 {}
@@ -42,11 +45,12 @@ pub fn begun_anew()
 pub fn longest_fragment()
     ensures longest { fragments_of ((0x40 ∷ replicate 2000 7) ∷ (0x81 ∷ replicate 48 7) ∷ []) ≡ replicate 2048 7 ∷ [] }
     ensures longer { fragments_of ((0x40 ∷ replicate 2000 7) ∷ (0x81 ∷ replicate 49 7) ∷ []) ≡ [] }
-    ensures answers { answers_from None ((0x40 ∷ replicate 2000 7) ∷ (0x81 ∷ replicate 49 7) ∷ []) ≡ More ∷ Dropped TooLong ∷ [] }
+    ensures answers { answers_from None ((0x40 ∷ replicate 2000 7) ∷ (0x81 ∷ replicate 49 7) ∷ [])
+        ≡ More ∷ Dropped TooLong ∷ [] }
 {}
 
 /// 250 octets from number 63 on: FIR and 249 octets, then FIN with number 0 and one octet.
-#[tactic(auto, unfolding(crate::specs::Cut::cut))]
+#[tactic(auto, unfolding(crate::specs::Cut::segments_from))]
 pub fn two_segments()
     ensures two { segments_of (replicate 250 7) 63 ≡ (0x7F ∷ replicate 249 7) ∷ (0x80 ∷ 7 ∷ []) ∷ [] }
     ensures one { segments_of (replicate 249 7) 5 ≡ (0xC5 ∷ replicate 249 7) ∷ [] }

@@ -1,6 +1,6 @@
 //! The header octet of a segment.
 ghost use Rattle.std.specs.Prelude.{◌≡◌, ◌<◌, IsTrue};
-ghost use Rattle.dnp_transport.specs.Segment.{is_final, is_first, sequence, carried, is_whole};
+ghost use Rattle.dnp_transport.specs.Segment.{is_final, is_first, sequence, carried_octets, is_whole};
 
 /// FIN: the fragment ends with this segment.
 pub fn is_final(segment: &[u8]) -> bool
@@ -28,9 +28,9 @@ pub fn sequence(segment: &[u8]) -> u8
 }
 
 /// The octets of the fragment that the segment carries.
-pub fn carried(segment: &[u8]) -> &[u8]
+pub fn carried_octets(segment: &[u8]) -> &[u8]
     requires { IsTrue (is_whole segment.now) }
-    ensures { result.now ≡ carried segment.now }
+    ensures { result.now ≡ carried_octets segment.now }
 {
     &segment[1..]
 }

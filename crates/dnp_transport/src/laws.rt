@@ -25,6 +25,7 @@ pub fn segments_are_taken()
         ≡ replicate (segment_count (length fragment) - 1) More ++ Fragment fragment ∷ answers_from None more }
     ensures fragments { (before more : List (List ℕ)) (fragment : List ℕ) (first : ℕ) →
         0 < length fragment → length fragment ≤ 2048 →
-        fragments_of (before ++ segments_of fragment first ++ more) ≡ fragments_of before ++ fragment ∷ fragments_of more }
+        fragments_of (before ++ segments_of fragment first ++ more)
+        ≡ fragments_of before ++ fragment ∷ fragments_of more }
     ensures none { (first : ℕ) → segments_of [] first ≡ [] }
 {}

@@ -10,8 +10,6 @@ pub mod laws;
 mod segment;
 mod series;
 mod split;
-#[cfg(test)]
-mod tests;
 
 pub use answer::{DropCause, Taken};
 pub use assembler::Assembler;

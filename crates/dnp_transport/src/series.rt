@@ -1,11 +1,11 @@
 //! A fragment that has begun.
 ghost use Rattle.std.specs.Prelude.{◌≡◌, ◌+◌, ◌%◌, ◌≤◌, IsTrue, IfOk, length, Option, Some};
-ghost use Rattle.dnp_transport.specs.Segment.{sequence, carried, is_whole};
-ghost use Rattle.dnp_transport.specs.Series.{continued, answer_of};
+ghost use Rattle.dnp_transport.specs.Segment.{sequence, carried_octets, is_whole};
+ghost use Rattle.dnp_transport.specs.Series.{step_without_first, answer_of};
 
 use crate::FRAGMENT_LIMIT;
 use crate::answer::{DropCause, Taken};
-use crate::header::{carried, is_final, sequence};
+use crate::header::{carried_octets, is_final, sequence};
 use std::alloc::{AllocError, Global};
 use std::marker::Model;
 
@@ -32,11 +32,12 @@ impl Series {
     /// Begins a fragment with a segment of at most 2,048 octets.
     pub fn begin(alloc: Global, segment: &[u8]) -> Result<Series, AllocError>
         requires whole { IsTrue (is_whole segment.now) }
-        requires within { length (carried segment.now) ≤ 2048 }
-        ensures { IfOk result (λ s. (s.next ≡ (sequence segment.now + 1) % 64) × (s.octets ≡ carried segment.now)) }
+        requires within { length (carried_octets segment.now) ≤ 2048 }
+        ensures { IfOk result (λ s. (s.next ≡ (sequence segment.now + 1) % 64)
+            × (s.octets ≡ carried_octets segment.now)) }
     {
         let mut octets = Vec::with_capacity(alloc, FRAGMENT_LIMIT)?;
-        octets.extend_from_slice(carried(segment))?;
+        octets.extend_from_slice(carried_octets(segment))?;
         Ok(Series {
             next: (sequence(segment) + 1) % 64,
             octets,
@@ -46,12 +47,12 @@ impl Series {
     /// Takes a segment without FIR, and tells what is left.
     pub fn join(self, segment: &[u8]) -> (Taken, Option<Series>)
         requires { IsTrue (is_whole segment.now) }
-        ensures { (answer_of result.0, result.1) ≡ continued (Some self) segment.now }
+        ensures { (answer_of result.0, result.1) ≡ step_without_first (Some self) segment.now }
     {
         if sequence(segment) != self.next {
             return (Taken::Dropped(DropCause::Gap), None);
         }
-        let part = carried(segment);
+        let part = carried_octets(segment);
         if part.len() > FRAGMENT_LIMIT - self.octets.len() {
             return (Taken::Dropped(DropCause::TooLong), None);
         }

@@ -19,11 +19,11 @@ pub struct SegmentIter<'a> {
 
 impl<'a> Model for SegmentIter<'a> {
     ghost use Rattle.std.specs.Prelude.{ℕ, ◌<◌, List};
-    ghost use Rattle.dnp_transport.specs.Cut.{cut};
+    ghost use Rattle.dnp_transport.specs.Cut.{segments_from};
 
     ghost Value = { List (List ℕ) };
 
-    ghost view = { λ s. cut s.is_first s.sequence s.rest.now };
+    ghost view = { λ s. segments_from s.is_first s.sequence s.rest.now };
 
     ghost invariant = { λ s. s.sequence < 64 };
 }

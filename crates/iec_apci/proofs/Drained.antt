@@ -8,42 +8,42 @@ use Rattle.iec_apci.specs.declared.apdu.Apdu.{Apdu}
 use Rattle.iec_apci.specs.declared.fault.ApciFault.{ApciFault}
 use Rattle.iec_apci.specs.Apdu.{Content, apdu}
 use Rattle.iec_apci.specs.Content.{content, content_if_ok}
-use Rattle.iec_apci.specs.Stream.{front_of, Ending, Open, Faulty, Reading, preceded, reading}
-use Rattle.iec_apci.specs.Calls.{fed, answer, behind, asked, said_by}
-use Rattle.iec_apci.specs.Laws.{followed, fault_of}
+use Rattle.iec_apci.specs.Stream.{answer_at_front, Ending, Open, Faulty, Reading, reading_with_first, reading}
+use Rattle.iec_apci.specs.Calls.{ending_after_piece, answer, ending_behind, ending_after_answer, reading_of_ending}
+use Rattle.iec_apci.specs.Laws.{joined_readings, fault_of}
 use Rattle.iec_apci.proofs.Front.{Shown, front_taken}
 use Rattle.iec_apci.proofs.Streams.{reading_apdu, reading_fault, reading_none, reading-append, size_held}
 
 -- an APDU that is given is the first of what is said, and fewer octets are held back then
 record Gave (held : Ending) (c : Content) : Type 0 where
-  pub said : said_by held ≡ preceded c (said_by (asked held))
-  pub fewer : size_held (asked held) < size_held held
+  pub said : reading_of_ending held ≡ reading_with_first c (reading_of_ending (ending_after_answer held))
+  pub fewer : size_held (ending_after_answer held) < size_held held
 
-open_gave : (octets : List ℕ) (o : Option Shown) (c : Content) → front_of octets ≡ o → o ≡ Some (Ok c) → (reading octets ≡ preceded c (said_by (behind octets o))) × (size_held (behind octets o) < length octets)
+open_gave : (octets : List ℕ) (o : Option Shown) (c : Content) → answer_at_front octets ≡ o → o ≡ Some (Ok c) → (reading octets ≡ reading_with_first c (reading_of_ending (ending_behind octets o))) × (size_held (ending_behind octets o) < length octets)
 open_gave octets o c front is =
-    let shown : front_of octets ≡ Some (Ok c) = front ∙ is in
+    let shown : answer_at_front octets ≡ Some (Ok c) = front ∙ is in
     let fewer : length (drop (length (apdu c)) octets) < length octets = omega (arith, front_taken octets c shown, length-drop (length (apdu c)) octets) in
-    subst (λ (x : Option Shown). (reading octets ≡ preceded c (said_by (behind octets x))) × (size_held (behind octets x) < length octets)) (sym is) (reading_apdu octets c shown, fewer)
+    subst (λ (x : Option Shown). (reading octets ≡ reading_with_first c (reading_of_ending (ending_behind octets x))) × (size_held (ending_behind octets x) < length octets)) (sym is) (reading_apdu octets c shown, fewer)
 
 err_ok : (f : ApciFault) (c : Content) → ◌≡◌ {A = Option Shown} (Some (Err f)) (Some (Ok c)) → ⊥
 err_ok f c h = cc
 
 gave : (held : Ending) (c : Content) → answer held ≡ Some (Ok c) → Gave held c
-gave (Open octets) c h = let g = open_gave octets (front_of octets) c refl h in record { said = g.0; fewer = g.1 }
+gave (Open octets) c h = let g = open_gave octets (answer_at_front octets) c refl h in record { said = g.0; fewer = g.1 }
 gave (Faulty f) c h = absurd (err_ok f c h)
 
 -- nothing more is said
 record Ended (held : Ending) (o : Option ApciFault) : Type 0 where
-  pub said : said_by held ≡ record { apdus = []; ending = asked held }
-  pub fault : o ≡ fault_of (asked held)
+  pub said : reading_of_ending held ≡ record { apdus = []; ending = ending_after_answer held }
+  pub fault : o ≡ fault_of (ending_after_answer held)
 
-open_none : (octets : List ℕ) (o : Option Shown) → front_of octets ≡ o → o ≡ None → (reading octets ≡ record { apdus = []; ending = behind octets o }) × (None ≡ fault_of (behind octets o))
+open_none : (octets : List ℕ) (o : Option Shown) → answer_at_front octets ≡ o → o ≡ None → (reading octets ≡ record { apdus = []; ending = ending_behind octets o }) × (None ≡ fault_of (ending_behind octets o))
 open_none octets o front is =
-    subst (λ (x : Option Shown). (reading octets ≡ record { apdus = []; ending = behind octets x }) × (None ≡ fault_of (behind octets x))) (sym is) (reading_none octets (front ∙ is), refl)
+    subst (λ (x : Option Shown). (reading octets ≡ record { apdus = []; ending = ending_behind octets x }) × (None ≡ fault_of (ending_behind octets x))) (sym is) (reading_none octets (front ∙ is), refl)
 
-open_fault : (octets : List ℕ) (o : Option Shown) (f : ApciFault) → front_of octets ≡ o → o ≡ Some (Err f) → (reading octets ≡ record { apdus = []; ending = behind octets o }) × (Some f ≡ fault_of (behind octets o))
+open_fault : (octets : List ℕ) (o : Option Shown) (f : ApciFault) → answer_at_front octets ≡ o → o ≡ Some (Err f) → (reading octets ≡ record { apdus = []; ending = ending_behind octets o }) × (Some f ≡ fault_of (ending_behind octets o))
 open_fault octets o f front is =
-    subst (λ (x : Option Shown). (reading octets ≡ record { apdus = []; ending = behind octets x }) × (Some f ≡ fault_of (behind octets x))) (sym is) (reading_fault octets f (front ∙ is), refl)
+    subst (λ (x : Option Shown). (reading octets ≡ record { apdus = []; ending = ending_behind octets x }) × (Some f ≡ fault_of (ending_behind octets x))) (sym is) (reading_fault octets f (front ∙ is), refl)
 
 none_err : (f : ApciFault) → ◌≡◌ {A = Option Shown} (Some (Err f)) None → ⊥
 none_err f h = cc
@@ -52,28 +52,28 @@ err_is : (f g : ApciFault) → ◌≡◌ {A = Option Shown} (Some (Err f)) (Some
 err_is f g h = cc
 
 gave_none : (held : Ending) → answer held ≡ None → Ended held None
-gave_none (Open octets) h = let g = open_none octets (front_of octets) refl h in record { said = g.0; fault = g.1 }
+gave_none (Open octets) h = let g = open_none octets (answer_at_front octets) refl h in record { said = g.0; fault = g.1 }
 gave_none (Faulty f) h = absurd (none_err f h)
 
 gave_fault : (held : Ending) (f : ApciFault) → answer held ≡ Some (Err f) → Ended held (Some f)
-gave_fault (Open octets) f h = let g = open_fault octets (front_of octets) f refl h in record { said = g.0; fault = g.1 }
+gave_fault (Open octets) f h = let g = open_fault octets (answer_at_front octets) f refl h in record { said = g.0; fault = g.1 }
 gave_fault (Faulty g) f h = record { said = refl; fault = ap (λ (x : ApciFault). Some x) (err_is g f h) }
 
 -- what the loop keeps after one more APDU, and that it ends
 pub record Goes (xs all : List Content) (held last before : Ending) : Type 0 where
-  pub apdus : xs ++ (said_by held).apdus ≡ all
-  pub rest : (said_by held).ending ≡ last
+  pub apdus : xs ++ (reading_of_ending held).apdus ≡ all
+  pub rest : (reading_of_ending held).ending ≡ last
   pub fewer : size_held held < size_held before
 
-pub goes_on : (old new : List Apdu) (r : Result Apdu ApciFault) (a : Apdu) (held next last : Ending) (all : List Content) → r ≡ Ok a → Some (content_if_ok r) ≡ answer held → next ≡ asked held → new ≡ old ++ a ∷ []
-    → map content old ++ (said_by held).apdus ≡ all → (said_by held).ending ≡ last → Goes (map content new) all next last held
+pub goes_on : (old new : List Apdu) (r : Result Apdu ApciFault) (a : Apdu) (held next last : Ending) (all : List Content) → r ≡ Ok a → Some (content_if_ok r) ≡ answer held → next ≡ ending_after_answer held → new ≡ old ++ a ∷ []
+    → map content old ++ (reading_of_ending held).apdus ≡ all → (reading_of_ending held).ending ≡ last → Goes (map content new) all next last held
 goes_on old new r a held next last all is answered after pushed apdus rest =
     let g = gave held (content a) (sym answered ∙ ap (λ x. Some (content_if_ok x)) is) in
     subst (λ (x : Ending). Goes (map content new) all x last held) (sym after) (record {
       apdus =
-          ap (λ xs. map content xs ++ (said_by (asked held)).apdus) pushed
-          ∙ (ap (λ t. t ++ (said_by (asked held)).apdus) (map_push content old a)
-          ∙ (append_assoc (map content old) (content a ∷ []) (said_by (asked held)).apdus
+          ap (λ xs. map content xs ++ (reading_of_ending (ending_after_answer held)).apdus) pushed
+          ∙ (ap (λ t. t ++ (reading_of_ending (ending_after_answer held)).apdus) (map_push content old a)
+          ∙ (append_assoc (map content old) (content a ∷ []) (reading_of_ending (ending_after_answer held)).apdus
           ∙ (ap (λ (x : Reading). map content old ++ x.apdus) (sym g.said) ∙ apdus)));
       rest = ap (λ (x : Reading). x.ending) (sym g.said) ∙ rest;
       fewer = g.fewer;
@@ -85,19 +85,19 @@ pub record Done (xs all : List Content) (next last : Ending) (o : Option ApciFau
   pub rest : next ≡ last
   pub fault : o ≡ fault_of last
 
-is_done : (xs all : List Content) (held next last : Ending) (o : Option ApciFault) → Ended held o → next ≡ asked held → xs ++ (said_by held).apdus ≡ all → (said_by held).ending ≡ last → Done xs all next last o
+is_done : (xs all : List Content) (held next last : Ending) (o : Option ApciFault) → Ended held o → next ≡ ending_after_answer held → xs ++ (reading_of_ending held).apdus ≡ all → (reading_of_ending held).ending ≡ last → Done xs all next last o
 is_done xs all held next last o e after apdus rest =
-    let ends : asked held ≡ last = ap (λ (x : Reading). x.ending) (sym e.said) ∙ rest in
+    let ends : ending_after_answer held ≡ last = ap (λ (x : Reading). x.ending) (sym e.said) ∙ rest in
     record {
       apdus = sym (append-nil xs) ∙ (ap (λ (x : Reading). xs ++ x.apdus) (sym e.said) ∙ apdus);
       rest = after ∙ ends;
       fault = e.fault ∙ ap fault_of ends;
     }
 
-pub done_none : (xs all : List Content) (held next last : Ending) → None ≡ answer held → next ≡ asked held → xs ++ (said_by held).apdus ≡ all → (said_by held).ending ≡ last → Done xs all next last None
+pub done_none : (xs all : List Content) (held next last : Ending) → None ≡ answer held → next ≡ ending_after_answer held → xs ++ (reading_of_ending held).apdus ≡ all → (reading_of_ending held).ending ≡ last → Done xs all next last None
 done_none xs all held next last answered after apdus rest = is_done xs all held next last None (gave_none held (sym answered)) after apdus rest
 
-pub done_fault : (xs all : List Content) (r : Result Apdu ApciFault) (f : ApciFault) (held next last : Ending) → r ≡ Err f → Some (content_if_ok r) ≡ answer held → next ≡ asked held → xs ++ (said_by held).apdus ≡ all → (said_by held).ending ≡ last → Done xs all next last (Some f)
+pub done_fault : (xs all : List Content) (r : Result Apdu ApciFault) (f : ApciFault) (held next last : Ending) → r ≡ Err f → Some (content_if_ok r) ≡ answer held → next ≡ ending_after_answer held → xs ++ (reading_of_ending held).apdus ≡ all → (reading_of_ending held).ending ≡ last → Done xs all next last (Some f)
 done_fault xs all r f held next last is answered after apdus rest =
     is_done xs all held next last (Some f) (gave_fault held f (sym answered ∙ ap (λ x. Some (content_if_ok x)) is)) after apdus rest
 
@@ -118,19 +118,19 @@ said_nil = record {
   met = refl;
 }
 
-said_more : (octets piece : List ℕ) (xs ys : List Content) (held given next : Ending) (f g : Option ApciFault) → Said octets xs held f → given ≡ fed held piece → ys ≡ xs ++ (said_by given).apdus → next ≡ (said_by given).ending → g ≡ fault_of (said_by given).ending → Said (octets ++ piece) ys next g
+said_more : (octets piece : List ℕ) (xs ys : List Content) (held given next : Ending) (f g : Option ApciFault) → Said octets xs held f → given ≡ ending_after_piece held piece → ys ≡ xs ++ (reading_of_ending given).apdus → next ≡ (reading_of_ending given).ending → g ≡ fault_of (reading_of_ending given).ending → Said (octets ++ piece) ys next g
 said_more octets piece xs ys held given next f g s given_is apdus rest fault =
-    let same : given ≡ fed (reading octets).ending piece = given_is ∙ ap (λ (e : Ending). fed e piece) s.held_back in
-    let whole : reading (octets ++ piece) ≡ followed (reading octets) (said_by given) = reading-append octets piece ∙ ap (λ (e : Ending). followed (reading octets) (said_by e)) (sym same) in
+    let same : given ≡ ending_after_piece (reading octets).ending piece = given_is ∙ ap (λ (e : Ending). ending_after_piece e piece) s.held_back in
+    let whole : reading (octets ++ piece) ≡ joined_readings (reading octets) (reading_of_ending given) = reading-append octets piece ∙ ap (λ (e : Ending). joined_readings (reading octets) (reading_of_ending e)) (sym same) in
     record {
-      apdus = apdus ∙ (ap (λ t. t ++ (said_by given).apdus) s.apdus ∙ ap (λ (r : Reading). r.apdus) (sym whole));
+      apdus = apdus ∙ (ap (λ t. t ++ (reading_of_ending given).apdus) s.apdus ∙ ap (λ (r : Reading). r.apdus) (sym whole));
       held_back = rest ∙ ap (λ (r : Reading). r.ending) (sym whole);
       met = fault ∙ ap fault_of (sym rest);
     }
 
 -- what was said of the first i pieces, and of one more
 pub said_next : {X : Type 0} (now : X → List ℕ) (pieces : List X) (i : ℕ) (d : X) (xs ys : List Content) (held given next : Ending) (f g : Option ApciFault) → i < length pieces
-    → Said (flat_map now (take i pieces)) xs held f → given ≡ fed held (now (get_or pieces i d)) → ys ≡ xs ++ (said_by given).apdus → next ≡ (said_by given).ending → g ≡ fault_of (said_by given).ending
+    → Said (flat_map now (take i pieces)) xs held f → given ≡ ending_after_piece held (now (get_or pieces i d)) → ys ≡ xs ++ (reading_of_ending given).apdus → next ≡ (reading_of_ending given).ending → g ≡ fault_of (reading_of_ending given).ending
     → Said (flat_map now (take (i + 1) pieces)) ys next g
 said_next now pieces i d xs ys held given next f g lt s given_is apdus rest fault =
     let octets : flat_map now (take (i + 1) pieces) ≡ flat_map now (take i pieces) ++ now (get_or pieces i d) =

@@ -7,7 +7,7 @@ use Rattle.iec_apci.specs.declared.apdu.Signal.{Signal}
 use Rattle.iec_apci.specs.declared.fault.ApciFault.{ApciFault}
 use Rattle.iec_apci.specs.declared.fault.ApciFault.TheVariants as faults
 use Rattle.iec_apci.specs.Apdu.{Content, Information, Supervisory, Unnumbered, body, apdu}
-use Rattle.iec_apci.specs.Stream.{signal_of, word_at, content_of, controlled, front_of}
+use Rattle.iec_apci.specs.Stream.{signal_of, word_at, content_of, content_or_fault, answer_at_front}
 
 -- what an APDU or a fault is called
 abbrev pub Shown : Type 0
@@ -83,11 +83,11 @@ given c = Some (Ok c)
 fault_given : (f : ApciFault) (c : Content) → fault f ≡ given c → ⊥
 fault_given f c h = cc
 
-controlled_given : (o : Option Content) (c : Content) → Some (controlled o) ≡ given c → o ≡ Some c
+controlled_given : (o : Option Content) (c : Content) → Some (content_or_fault o) ≡ given c → o ≡ Some c
 controlled_given None c h = absurd (fault_given faults.Control c h)
 controlled_given (Some x) c h = let e : given x ≡ given c = h in let same : x ≡ c = cc in ap (λ (y : Content). Some y) same
 
-pub chain_passed : (wrong bad short : Bool) (o : Option Content) (c : Content) → chain wrong bad short (controlled o) ≡ given c → Passed wrong bad short o c
+pub chain_passed : (wrong bad short : Bool) (o : Option Content) (c : Content) → chain wrong bad short (content_or_fault o) ≡ given c → Passed wrong bad short o c
 chain_passed true bad short o c h = absurd (fault_given faults.Start c h)
 chain_passed false true short o c h = absurd (fault_given faults.Length c h)
 chain_passed false false true o c h = absurd (none_some (let r : Shown = Ok c in r) h)
@@ -110,16 +110,16 @@ front_start : (start : ℕ) (c : Content) (b : Bool) → (if b then None else fa
 front_start start c true h = none_some (let r : Shown = Ok c in r) h
 front_start start c false h = fault_given faults.Start c h
 
-pub shown_one : (start : ℕ) (c : Content) → front_of (start ∷ []) ≡ given c → ⊥
-unfolding front_of
+pub shown_one : (start : ℕ) (c : Content) → answer_at_front (start ∷ []) ≡ given c → ⊥
+unfolding answer_at_front
 shown_one start c h = front_start start c (eqb start 0x68) h
 
-pub shown_nil : (c : Content) → front_of [] ≡ given c → ⊥
-unfolding front_of
+pub shown_nil : (c : Content) → answer_at_front [] ≡ given c → ⊥
+unfolding answer_at_front
 shown_nil c h = none_some (let r : Shown = Ok c in r) h
 
-pub shown : (start size : ℕ) (octets : List ℕ) (c : Content) → front_of (start ∷ size ∷ octets) ≡ given c → IsShown start size octets c
-unfolding front_of
+pub shown : (start size : ℕ) (octets : List ℕ) (c : Content) → answer_at_front (start ∷ size ∷ octets) ≡ given c → IsShown start size octets c
+unfolding answer_at_front
 shown start size octets c h =
     let p = chain_passed (not (eqb start 0x68)) (nat_lt size 4 || nat_lt 253 size) (nat_lt (length octets) size) (content_of (take size octets)) c h in
     let range = or_false (nat_lt size 4) (nat_lt 253 size) p.size in
@@ -137,7 +137,7 @@ shown start size octets c h =
     }
 
 -- what an APDU uses up is there
-pub front_taken : (octets : List ℕ) (c : Content) → front_of octets ≡ given c → length (apdu c) ≤ length octets
+pub front_taken : (octets : List ℕ) (c : Content) → answer_at_front octets ≡ given c → length (apdu c) ≤ length octets
 front_taken [] c h = absurd (shown_nil c h)
 front_taken (start ∷ []) c h = absurd (shown_one start c h)
 front_taken (start ∷ size ∷ octets) c h =
@@ -154,13 +154,13 @@ start_more true start x more h = absurd (none_some x h)
 start_more false start x more h = h
 
 -- what octets show they show whatever follows them
-pub front-append : (a b : List ℕ) (x : Shown) → front_of a ≡ Some x → front_of (a ++ b) ≡ Some x
-unfolding front_of
+pub front-append : (a b : List ℕ) (x : Shown) → answer_at_front a ≡ Some x → answer_at_front (a ++ b) ≡ Some x
+unfolding answer_at_front
 front-append [] b x h = absurd (none_some x h)
 front-append (start ∷ []) [] x h = h
 front-append (start ∷ []) (size ∷ b) x h = start_more (eqb start 0x68) start x _ h
 front-append (start ∷ size ∷ a) b x h =
-    chain_more (not (eqb start 0x68)) (nat_lt size 4 || nat_lt 253 size) (nat_lt (length a) size) (nat_lt (length (a ++ b)) size) (controlled (content_of (take size a))) (controlled (content_of (take size (a ++ b)))) x
+    chain_more (not (eqb start 0x68)) (nat_lt size 4 || nat_lt 253 size) (nat_lt (length a) size) (nat_lt (length (a ++ b)) size) (content_or_fault (content_of (take size a))) (content_or_fault (content_of (take size (a ++ b)))) x
     (λ p. le-ltb (length (a ++ b)) size (omega (arith, ltb-false (length a) size p, length-append a b)))
-    (λ p. ap (λ t. controlled (content_of t)) (take-append-le size a b (ltb-false (length a) size p)))
+    (λ p. ap (λ t. content_or_fault (content_of t)) (take-append-le size a b (ltb-false (length a) size p)))
     h

@@ -6,7 +6,7 @@ use Rattle.std.proofs.lemmas.Bool.{cases_lt, eqb-true}
 use Rattle.iec_apci.specs.declared.apdu.Signal.{Signal}
 use Rattle.iec_apci.specs.declared.apdu.Signal.TheVariants.{StartAct, StartCon, StopAct, StopCon, TestAct, TestCon}
 use Rattle.iec_apci.specs.Apdu.{Content, Information, Supervisory, Unnumbered, code_of, word, body, Fits}
-use Rattle.iec_apci.specs.Stream.{signal_of, content_of, front_of}
+use Rattle.iec_apci.specs.Stream.{signal_of, content_of, answer_at_front}
 use Rattle.iec_apci.specs.Laws.{AreOctets, BeginsWith}
 use Rattle.iec_apci.proofs.Front.{none_some, some_same, fields, not_false, shown_nil, shown_one, shown}
 use Rattle.iec_apci.proofs.Round.{front_apdu-append}
@@ -106,7 +106,7 @@ content_is (a ∷ b ∷ d ∷ e ∷ rest) c l m o h =
     h
 
 -- octets that show an APDU begin with it
-pub begins : (octets : List ℕ) (c : Content) → AreOctets octets → front_of octets ≡ Some (Ok c) → BeginsWith octets c
+pub begins : (octets : List ℕ) (c : Content) → AreOctets octets → answer_at_front octets ≡ Some (Ok c) → BeginsWith octets c
 begins [] c o h = absurd (shown_nil c h)
 begins (start ∷ []) c o h = absurd (shown_one start c h)
 begins (start ∷ size ∷ octets) c o h =
@@ -117,5 +117,5 @@ begins (start ∷ size ∷ octets) c o h =
     let parts : octets ≡ body c ++ drop size octets = sym (take-append-drop size octets) ∙ ap (λ t. t ++ drop size octets) is.same in
     (is.fits, (drop size octets, ap (λ n. n ∷ size ∷ octets) s.start_is ∙ (ap (λ n. 0x68 ∷ n ∷ octets) (sym s.sized) ∙ ap (λ t. 0x68 ∷ length (body c) ∷ t) parts)))
 
-pub begins_shows : (octets : List ℕ) (c : Content) → BeginsWith octets c → front_of octets ≡ Some (Ok c)
-begins_shows octets c h = ap front_of h.1.1 ∙ front_apdu-append c h.1.0 h.0
+pub begins_shows : (octets : List ℕ) (c : Content) → BeginsWith octets c → answer_at_front octets ≡ Some (Ok c)
+begins_shows octets c h = ap answer_at_front h.1.1 ∙ front_apdu-append c h.1.0 h.0

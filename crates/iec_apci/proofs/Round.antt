@@ -4,7 +4,7 @@ use Rattle.std.proofs.lemmas.List.{take_all, drop_at}
 use Rattle.iec_apci.specs.declared.apdu.Signal.{Signal}
 use Rattle.iec_apci.specs.declared.apdu.Signal.TheVariants.{StartAct, StartCon, StopAct, StopCon, TestAct, TestCon}
 use Rattle.iec_apci.specs.Apdu.{Content, Information, Supervisory, Unnumbered, body, apdu, Fits}
-use Rattle.iec_apci.specs.Stream.{signal_of, word_at, content_of, controlled, front_of, preceded, reading}
+use Rattle.iec_apci.specs.Stream.{signal_of, word_at, content_of, content_or_fault, answer_at_front, reading_with_first, reading}
 use Rattle.iec_apci.proofs.Front.{Shown, fields, chain, front-append}
 use Rattle.iec_apci.proofs.Streams.{reading_apdu}
 
@@ -61,22 +61,22 @@ or_both : (p q : Bool) → p ≡ false → q ≡ false → (p || q) ≡ false
 or_both p q h g = rw (h, g) refl
 
 -- the front of an APDU shows it
-pub front_apdu : (c : Content) → Fits c → front_of (apdu c) ≡ Some (Ok c)
-unfolding front_of
+pub front_apdu : (c : Content) → Fits c → answer_at_front (apdu c) ≡ Some (Ok c)
+unfolding answer_at_front
 front_apdu c h =
     let n = length (body c) in
     let size = body_sized c h in
-    chain_whole (nat_lt n 4 || nat_lt 253 n) (nat_lt n n) (controlled (content_of (take n (body c)))) (Ok c)
+    chain_whole (nat_lt n 4 || nat_lt 253 n) (nat_lt n n) (content_or_fault (content_of (take n (body c)))) (Ok c)
     (or_both (nat_lt n 4) (nat_lt 253 n) (le-ltb n 4 size.0) (le-ltb 253 n size.1))
     (le-ltb n n (omega arith))
-    (ap (λ t. controlled (content_of t)) (take_all n (body c) (omega arith)) ∙ ap controlled (content_of-body c))
+    (ap (λ t. content_or_fault (content_of t)) (take_all n (body c) (omega arith)) ∙ ap content_or_fault (content_of-body c))
 
 -- whatever follows it
-pub front_apdu-append : (c : Content) (behind : List ℕ) → Fits c → front_of (apdu c ++ behind) ≡ Some (Ok c)
+pub front_apdu-append : (c : Content) (behind : List ℕ) → Fits c → answer_at_front (apdu c ++ behind) ≡ Some (Ok c)
 front_apdu-append c behind h = front-append (apdu c) behind (Ok c) (front_apdu c h)
 
 -- an APDU is read first, and then what follows it
-pub reading-apdu : (c : Content) (behind : List ℕ) → Fits c → reading (apdu c ++ behind) ≡ preceded c (reading behind)
+pub reading-apdu : (c : Content) (behind : List ℕ) → Fits c → reading (apdu c ++ behind) ≡ reading_with_first c (reading behind)
 reading-apdu c behind h =
     reading_apdu (apdu c ++ behind) c (front_apdu-append c behind h)
-    ∙ ap (λ t. preceded c (reading t)) (drop_at (apdu c) behind (length (apdu c)) refl)
+    ∙ ap (λ t. reading_with_first c (reading t)) (drop_at (apdu c) behind (length (apdu c)) refl)

@@ -3,8 +3,8 @@ use Rattle.std.proofs.Common.{◌≡◌, ℕ, zero, suc, ◌+◌, ◌≤◌, ◌
 use Rattle.std.specs.List.{AllByRecursion, flat_map}
 use Rattle.std.proofs.lemmas.List.{drop_at, get_or-drop, length-drop}
 use Rattle.iec_apci.specs.Apdu.{Content, apdu, Fits}
-use Rattle.iec_apci.specs.Stream.{front_of, Reading, preceded, reading}
-use Rattle.iec_apci.specs.Laws.{AreOctets, Splits, led_by}
+use Rattle.iec_apci.specs.Stream.{answer_at_front, Reading, reading_with_first, reading}
+use Rattle.iec_apci.specs.Laws.{AreOctets, Splits, reading_with_all_first}
 use Rattle.iec_apci.proofs.Front.{Shown, front_taken}
 use Rattle.iec_apci.proofs.Streams.{reading_apdu, reading_fault, reading_none}
 use Rattle.iec_apci.proofs.Round.{reading-apdu}
@@ -13,7 +13,7 @@ use Rattle.iec_apci.proofs.Only.{begins}
 octets-drop : (n : ℕ) (octets : List ℕ) → AreOctets octets → AreOctets (drop n octets)
 octets-drop n octets h i = subst (λ (x : ℕ). x < 256) (sym (get_or-drop n octets i 0)) (h (n + i))
 
-split_at : (octets : List ℕ) (o : Option Shown) → front_of octets ≡ o → AreOctets octets
+split_at : (octets : List ℕ) (o : Option Shown) → answer_at_front octets ≡ o → AreOctets octets
     → ((c : Content) → o ≡ Some (Ok c) → Splits (drop (length (apdu c)) octets) (reading (drop (length (apdu c)) octets)))
     → Splits octets (reading octets)
 split_at octets None e a h = subst (λ (r : Reading). Splits octets r) (sym (reading_none octets e)) (record { rest = octets; whole = refl; each = tt; ends = (refl, e) })
@@ -32,8 +32,8 @@ split_at octets (Some (Ok c)) e a h =
     })
 
 split_within : (n : ℕ) (octets : List ℕ) → length octets ≤ n → AreOctets octets → Splits octets (reading octets)
-split_within zero octets h a = split_at octets (front_of octets) refl a (λ c e. absurd (let t = front_taken octets c e in omega arith))
-split_within (suc n) octets h a = split_at octets (front_of octets) refl a (λ c e.
+split_within zero octets h a = split_at octets (answer_at_front octets) refl a (λ c e. absurd (let t = front_taken octets c e in omega arith))
+split_within (suc n) octets h a = split_at octets (answer_at_front octets) refl a (λ c e.
     let t = front_taken octets c e in
     split_within n (drop (length (apdu c)) octets) (omega (arith, length-drop (length (apdu c)) octets)) (octets-drop (length (apdu c)) octets a))
 
@@ -41,9 +41,9 @@ pub splits : (octets : List ℕ) → AreOctets octets → Splits octets (reading
 splits octets a = split_within (length octets) octets (omega arith) a
 
 -- APDUs that were written one after another are read first, and then what follows them
-pub reading-apdus : (cs : List Content) (behind : List ℕ) → AllByRecursion Fits cs → reading (flat_map apdu cs ++ behind) ≡ led_by cs (reading behind)
+pub reading-apdus : (cs : List Content) (behind : List ℕ) → AllByRecursion Fits cs → reading (flat_map apdu cs ++ behind) ≡ reading_with_all_first cs (reading behind)
 reading-apdus [] behind h = refl
 reading-apdus (c ∷ cs) behind h =
     ap reading (append_assoc (apdu c) (flat_map apdu cs) behind)
     ∙ (reading-apdu c (flat_map apdu cs ++ behind) h.0
-    ∙ ap (preceded c) (reading-apdus cs behind h.1))
+    ∙ ap (reading_with_first c) (reading-apdus cs behind h.1))

@@ -3,7 +3,7 @@ use Rattle.std.specs.Prelude.{◌≡◌, ℕ, ◌<◌, List, ◌++◌, slice_ind
 use Rattle.std.specs.List.{AllByRecursion, flat_map}
 use Rattle.iec_apci.specs.declared.fault.ApciFault.{ApciFault}
 use Rattle.iec_apci.specs.Apdu.{Content, apdu, Fits}
-use Rattle.iec_apci.specs.Stream.{Ending, Open, Faulty, front_of, Reading}
+use Rattle.iec_apci.specs.Stream.{Ending, Open, Faulty, answer_at_front, Reading}
 
 -- each is an octet
 abbrev pub AreOctets : List ℕ → Type 0
@@ -14,8 +14,8 @@ abbrev pub BeginsWith : List ℕ → Content → Type 0
 BeginsWith octets c = Fits c × ((behind : List ℕ) × (octets ≡ apdu c ++ behind))
 
 -- one reading, and then another
-abbrev pub followed : Reading → Reading → Reading
-followed a b = record { apdus = a.apdus ++ b.apdus; ending = b.ending }
+abbrev pub joined_readings : Reading → Reading → Reading
+joined_readings a b = record { apdus = a.apdus ++ b.apdus; ending = b.ending }
 
 -- the fault that a stream ends with, if it does
 abbrev pub fault_of : Ending → Option ApciFault
@@ -23,13 +23,13 @@ fault_of (Open octets) = None
 fault_of (Faulty f) = Some f
 
 -- APDUs, and what comes behind them
-abbrev pub led_by : List Content → Reading → Reading
-led_by cs r = record { apdus = cs ++ r.apdus; ending = r.ending }
+abbrev pub reading_with_all_first : List Content → Reading → Reading
+reading_with_all_first cs r = record { apdus = cs ++ r.apdus; ending = r.ending }
 
 -- a rest that shows no APDU: nothing yet, or a fault
 abbrev pub Ends : List ℕ → Ending → Type 0
-Ends rest (Open octets) = (octets ≡ rest) × (front_of rest ≡ None)
-Ends rest (Faulty f) = front_of rest ≡ Some (Err f)
+Ends rest (Open octets) = (octets ≡ rest) × (answer_at_front rest ≡ None)
+Ends rest (Faulty f) = answer_at_front rest ≡ Some (Err f)
 
 -- octets are these APDUs, one after another, and a rest that shows none
 pub record Splits (octets : List ℕ) (r : Reading) : Type 0 where

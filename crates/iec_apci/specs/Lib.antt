@@ -3,6 +3,5 @@ pub mod Stream
 pub mod Content
 pub mod Calls
 pub mod Laws
-pub mod Octets
 pub mod Shown
 pub mod Buffer

@@ -3,12 +3,11 @@ use Rattle.std.specs.Prelude.{◌≡◌}
 use Rattle.std.specs.Option.{ForSome}
 use Rattle.iec_apci.specs.declared.feed.ApduFeed.TheInside.{Inside}
 use Rattle.iec_apci.specs.Stream.{Ending}
-use Rattle.iec_apci.specs.Calls.{held}
-use Rattle.iec_apci.specs.Octets.{left_of, count_of}
+use Rattle.iec_apci.specs.Calls.{ending_of}
 
-abbrev pub shown : Inside → Ending
-shown f = held f.fault (left_of f.octets)
+abbrev pub ending_shown : Inside → Ending
+ending_shown f = ending_of f.fault f.octets.left
 
 -- After a fault nothing is kept.
 pub record IsSound (f : Inside) : Type 0 where
-  pub ended : ForSome f.fault (λ _. count_of f.octets ≡ 0)
+  pub ended : ForSome f.fault (λ _. f.octets.kept ≡ 0)

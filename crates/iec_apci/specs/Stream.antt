@@ -35,19 +35,19 @@ content_of octets =
     else option_map Unnumbered (signal_of first)
 
 -- a right control field, or the fault
-abbrev pub controlled : Option Content → Result Content ApciFault
-controlled None = Err faults.Control
-controlled (Some c) = Ok c
+abbrev pub content_or_fault : Option Content → Result Content ApciFault
+content_or_fault None = Err faults.Control
+content_or_fault (Some c) = Ok c
 
 -- what the front of the octets shows, if it shows anything yet: an APDU, or the first fault
-unfoldable pub front_of : List ℕ → Option (Result Content ApciFault)
-front_of [] = None
-front_of (start ∷ []) = if start == 0x68 then None else Some (Err faults.Start)
-front_of (start ∷ size ∷ octets) =
+unfoldable pub answer_at_front : List ℕ → Option (Result Content ApciFault)
+answer_at_front [] = None
+answer_at_front (start ∷ []) = if start == 0x68 then None else Some (Err faults.Start)
+answer_at_front (start ∷ size ∷ octets) =
     if not (start == 0x68) then Some (Err faults.Start)
     else if nat_lt size 4 || nat_lt 253 size then Some (Err faults.Length)
     else if nat_lt (length octets) size then None
-    else Some (controlled (content_of (take size octets)))
+    else Some (content_or_fault (content_of (take size octets)))
 
 -- how a stream ends so far: with octets that show nothing yet, or with a fault for ever
 pub data Ending : Type 0 where
@@ -60,17 +60,17 @@ pub record Reading : Type 0 where
   pub ending : Ending
 
 -- an APDU, and what comes behind it
-abbrev pub preceded : Content → Reading → Reading
-preceded c r = record { apdus = c ∷ r.apdus; ending = r.ending }
+abbrev pub reading_with_first : Content → Reading → Reading
+reading_with_first c r = record { apdus = c ∷ r.apdus; ending = r.ending }
 
 -- in at most n steps
 abbrev pub reading_within : ℕ → List ℕ → Reading
 reading_within zero octets = record { apdus = []; ending = Open octets }
-reading_within (suc n) octets = elim (front_of octets) [
+reading_within (suc n) octets = elim (answer_at_front octets) [
   | None ↦ record { apdus = []; ending = Open octets }
   | Some r ↦ elim r [
     | Err f ↦ record { apdus = []; ending = Faulty f }
-    | Ok c ↦ preceded c (reading_within n (drop (length (apdu c)) octets))
+    | Ok c ↦ reading_with_first c (reading_within n (drop (length (apdu c)) octets))
   ]
 ]
 

@@ -1,7 +1,7 @@
 //! APDUs in buffers of their own.
 ghost use Rattle.std.specs.Prelude.{◌≡◌, ◌++◌, List, ℕ, take};
 ghost use Rattle.iec_apci.specs.Apdu.{apdu as apdu_octets};
-ghost use Rattle.iec_apci.specs.Stream.{reading, preceded};
+ghost use Rattle.iec_apci.specs.Stream.{reading, reading_with_first};
 ghost use Rattle.iec_apci.specs.Content.{content, IsNumbered};
 
 use crate::apdu::Apdu;
@@ -25,7 +25,9 @@ impl ApduBuf {
         ensures octets { result ≡ buffer (apdu_octets (content apdu.now)) }
 
         // It is read back, whatever follows it.
-        ensures read_back { (behind : List ℕ) → reading (take result.len result.octets ++ behind) ≡ preceded (content apdu.now) (reading behind) }
+        ensures read_back { (behind : List ℕ)
+            → reading (take result.len result.octets ++ behind)
+            ≡ reading_with_first (content apdu.now) (reading behind) }
     {
         let mut octets = [0; 255];
         let len = write_apdu(apdu, &mut octets);

@@ -1,14 +1,14 @@
 //! A stream of octets that comes in pieces.
 ghost use Rattle.std.specs.Prelude.{◌≡◌, ◌<◌, [], IsOk, OnOk, OnErr, IfNone, IfSome, IfOk};
 ghost use Rattle.iec_apci.specs.Stream.{Open};
-ghost use Rattle.iec_apci.specs.Calls.{fed, answer, asked, IsFaulty, IsShort};
+ghost use Rattle.iec_apci.specs.Calls.{ending_after_piece, answer, ending_after_answer, IsFaulty, IsShort};
 ghost use Rattle.iec_apci.specs.Content.{content_if, IsNumbered, IsPadded};
 
 use crate::apdu::Apdu;
 use crate::fault::ApciFault;
-use crate::octets::Octets;
 use crate::reading::{apdu_at, size_of};
 use gw_model::Memory;
+use gw_octets::OctetQueue;
 use std::alloc::Global;
 use std::marker::Model;
 
@@ -16,7 +16,7 @@ use std::marker::Model;
 /// fed and that no answer has used up yet, or the fault that was met.
 #[derive(Debug, Drop)]
 pub struct ApduFeed {
-    octets: Octets,
+    octets: OctetQueue,
     /// The fault that was met.
     fault: Option<ApciFault>,
 }
@@ -26,9 +26,9 @@ impl Model for ApduFeed {
 
     ghost Value = { Ending };
 
-    ghost use Rattle.iec_apci.specs.Shown.{shown, IsSound};
+    ghost use Rattle.iec_apci.specs.Shown.{ending_shown, IsSound};
 
-    ghost view = { shown };
+    ghost view = { ending_shown };
 
     ghost invariant = { IsSound };
 }
@@ -39,18 +39,19 @@ impl ApduFeed {
         ensures { result ≡ Open [] }
     {
         ApduFeed {
-            octets: Octets::new(alloc),
+            octets: OctetQueue::new(alloc),
             fault: None,
         }
     }
 
     /// Takes the next octets of the stream. After a fault it changes nothing.
     pub fn feed(&mut self, piece: &[u8]) -> Result<(), Memory>
-        ensures ok { OnOk result (self.new ≡ fed self.old piece.now) }
+        ensures ok { OnOk result (self.new ≡ ending_after_piece self.old piece.now) }
         ensures err { OnErr result (self.new ≡ self.old) }
 
-        // After a fault no memory is asked for.
+        // After a fault no memory is asked for, and nothing needs none.
         ensures faulty { IsFaulty self.old → IsOk result }
+        ensures nothing { piece.now ≡ [] → IsOk result }
     {
         if self.fault.is_some() {
             return Ok(());
@@ -61,7 +62,7 @@ impl ApduFeed {
     /// The next APDU, if the octets so far show one, or the fault, from then on for ever. It takes no memory.
     pub fn next(&mut self) -> Option<Result<Apdu, ApciFault>>
         ensures answer { content_if result ≡ answer self.old }
-        ensures rest { self.new ≡ asked self.old }
+        ensures rest { self.new ≡ ending_after_answer self.old }
 
         // What is given may be written, and its padding is zero.
         ensures numbered { IfSome result (λ r. IfOk r IsNumbered) }

@@ -7,7 +7,6 @@ pub mod examples;
 mod fault;
 mod feed;
 pub mod laws;
-mod octets;
 mod reading;
 mod writing;
 
@@ -16,6 +15,3 @@ pub use buffer::ApduBuf;
 pub use fault::ApciFault;
 pub use feed::ApduFeed;
 pub use writing::write_apdu;
-
-#[cfg(test)]
-mod tests;

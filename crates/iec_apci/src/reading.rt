@@ -1,7 +1,7 @@
 //! Reading the front of a stream.
 ghost use Rattle.std.specs.Prelude.{◌≡◌, ◌+◌, ◌≤◌, ◌<◌, length, IfNone, IfSome, IfOk, option_map};
 ghost use Rattle.iec_apci.specs.Apdu.{apdu as apdu_octets};
-ghost use Rattle.iec_apci.specs.Stream.{front_of, content_of, signal_of as signal_of_lem};
+ghost use Rattle.iec_apci.specs.Stream.{answer_at_front, content_of, signal_of as signal_of_lem};
 ghost use Rattle.iec_apci.specs.Content.{octets_of, content, content_if, IsNumbered, IsPadded};
 
 use crate::apdu::{Apdu, Asdu, Signal};
@@ -72,9 +72,9 @@ fn apdu_of(octets: &[u8]) -> Option<Apdu>
 }
 
 /// What the front of octets shows: nothing yet, an APDU, or the first fault.
-#[tactic(auto, unfolding(crate::specs::Stream::front_of))]
+#[tactic(auto, unfolding(crate::specs::Stream::answer_at_front))]
 pub fn apdu_at(octets: &[u8]) -> Option<Result<Apdu, ApciFault>>
-    ensures shown { content_if result ≡ front_of octets.now }
+    ensures shown { content_if result ≡ answer_at_front octets.now }
     ensures numbered { IfSome result (λ r. IfOk r IsNumbered) }
     ensures padded { IfSome result (λ r. IfOk r IsPadded) }
     ensures held { IfNone result (length octets.now < 255) }

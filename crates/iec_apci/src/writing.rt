@@ -1,7 +1,7 @@
 //! Writing APDUs.
 ghost use Rattle.std.specs.Prelude.{◌≡◌, ◌++◌, List, ℕ, length, take, drop};
 ghost use Rattle.iec_apci.specs.Apdu.{body, apdu as apdu_octets};
-ghost use Rattle.iec_apci.specs.Stream.{reading, preceded};
+ghost use Rattle.iec_apci.specs.Stream.{reading, reading_with_first};
 ghost use Rattle.iec_apci.specs.Content.{content, IsNumbered};
 
 use crate::apdu::Apdu;
@@ -44,7 +44,8 @@ pub fn write_apdu(apdu: &Apdu, out: &mut [u8; 255]) -> usize
     ensures written { out.new ≡ apdu_octets (content apdu.now) ++ drop result out.old }
 
     // It is read back, whatever follows it.
-    ensures read_back { (behind : List ℕ) → reading (take result out.new ++ behind) ≡ preceded (content apdu.now) (reading behind) }
+    ensures read_back { (behind : List ℕ)
+        → reading (take result out.new ++ behind) ≡ reading_with_first (content apdu.now) (reading behind) }
 {
     put(apdu, out)
 }
