@@ -5,7 +5,7 @@ use Rattle.std.specs.List.{list_any}
 use Rattle.std.proofs.lemmas.Bool.{and_parts, cases_Bool, leb-true}
 use Rattle.dnp_link.specs.Stream.{reading}
 use Rattle.dnp_transport.specs.Segment.{is_whole, is_final}
-use Rattle.dnp_transport.specs.Fragment.{back_to_first, are_consecutive, octets_of, is_fragment, ended_by_newest, ended_in, fragments_of}
+use Rattle.dnp_transport.specs.Fragment.{back_to_first, are_consecutive, octets_of, is_fragment, fragment_ended_by_newest, fragments_ended_in, fragments_of}
 use Rattle.dnp_receive.specs.Delivery.{frames_of, station_at, delivered_user_data, stream_fragments}
 
 -- each has at most 2,048 octets
@@ -34,10 +34,10 @@ newest_short : (found : Option (List (List ℕ)))
 newest_short None = tt
 newest_short (Some run) = run_short run
 
-ended_short : (history : List (List ℕ)) → AreShort (ended_in history)
+ended_short : (history : List (List ℕ)) → AreShort (fragments_ended_in history)
 ended_short [] = tt
 ended_short (newest ∷ older) =
-    short-append (ended_in older) (option_to_list (ended_by_newest (newest ∷ older)))
+    short-append (fragments_ended_in older) (option_to_list (fragment_ended_by_newest (newest ∷ older)))
     (ended_short older) (newest_short (back_to_first (newest ∷ older)))
 
 fragments_short : (segments : List (List ℕ)) → AreShort (fragments_of segments)
