@@ -1,2 +1,7 @@
 //! Tests of the layers of IEC 60870-5-101 and -104 through their public calls.
 #![tactic(auto)]
+
+#[cfg(test)]
+mod bits;
+#[cfg(test)]
+mod largest;
