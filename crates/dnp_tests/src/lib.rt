@@ -2,4 +2,6 @@
 #![tactic(auto)]
 
 #[cfg(test)]
+mod largest;
+#[cfg(test)]
 mod receive;

@@ -2,6 +2,8 @@
 #![tactic(auto)]
 
 #[cfg(test)]
+mod flags;
+#[cfg(test)]
 mod hub;
 #[cfg(test)]
 mod picture;

@@ -4,4 +4,8 @@
 #[cfg(test)]
 mod asdu;
 #[cfg(test)]
+mod bits;
+#[cfg(test)]
+mod largest;
+#[cfg(test)]
 mod window;

@@ -1,0 +1,197 @@
+//! Calls that take memory, at their largest sizes: no contract tells memory that ran out from a limit of the code.
+ghost use Rattle.std.specs.Prelude.{◌≤◌, length};
+
+use dnp_app::read_response;
+use dnp_link::laws::events_of;
+use dnp_link::{LinkEvent, LinkFeed, Why, write_frame};
+use dnp_objects::headers;
+use dnp_points::reports;
+use dnp_receive::{fragments_of, responses_of};
+use dnp_transport::{Assembler, FRAGMENT_LIMIT, Taken, segments};
+use std::alloc::Global;
+use std::test::Fail;
+
+/// Some octets, and then others so many times.
+fn repeated(alloc: Global, front: &[u8], octets: &[u8], times: u16) -> Result<Vec<u8>, Fail> {
+    let mut all = Vec::from_slice(alloc, front)?;
+    for _ in 0..times {
+        all.extend_from_slice(octets)?;
+    }
+    Ok(all)
+}
+
+/// 224 of the longest frames, of 292 octets, and behind them 128 octets that begin none.
+#[test]
+fn many_octets_in_one_piece(rt: HostRuntime) -> Result<(), Fail> {
+    let mut frame = [0; 292];
+    assert_eq!(rt; write_frame(0x44, 1024, 1, &[0x11; 250], &mut frame), 292);
+    let mut stream = repeated(rt.alloc(), b"", &frame, 224)?;
+    stream.extend_from_slice(&[0; 128])?;
+    assert_eq!(rt; stream.len(), 65_536);
+    let mut feed = LinkFeed::new(rt.alloc());
+    feed.feed(&[])?;
+    feed.feed(&stream)?;
+    feed.feed(&[])?;
+    for _ in 0..224u8 {
+        let Some(LinkEvent::Frame(found)) = feed.next() else {
+            return Err(Fail::from("no frame"));
+        };
+        assert_eq!(rt; found.user(), [0x11; 250].as_slice());
+    }
+    for _ in 0..128u8 {
+        assert_eq!(rt; feed.next(), Some(LinkEvent::Skipped(Why::BadStart)));
+    }
+    assert_eq!(rt; feed.next(), None);
+    let events = events_of(rt.alloc(), &[&stream])?;
+    assert_eq!(rt; events.len(), 224 + 128);
+    Ok(())
+}
+
+/// Object parts: 511 headers in 2,048 octets, the last with two events, and one header of 65,536 inputs that are on.
+#[test]
+fn largest_object_parts(rt: HostRuntime) -> Result<(), Fail> {
+    let mut part = repeated(rt.alloc(), b"", b"\x33\x02\x07\x00", 510)?;
+    part.extend_from_slice(b"\x02\x01\x17\x02\x05\x81\x06\x81")?;
+    assert_eq!(rt; part.len(), 2048);
+    let found = headers(rt.alloc(), &part)?;
+    assert_eq!(rt; found.len(), 511);
+    assert_eq!(rt; reports(rt.alloc(), 0, &found, &part)?.len(), 2);
+
+    let part = repeated(rt.alloc(), b"\x01\x01\x01\x00\x00\xFF\xFF", b"\xFF", 8192)?;
+    let found = headers(rt.alloc(), &part)?;
+    assert_eq!(rt; found.len(), 1);
+    assert_eq!(rt; found[0].count, 65_536);
+    let told = reports(rt.alloc(), 0, &found, &part)?;
+    assert_eq!(rt; told.len(), 65_536);
+    assert_eq!(rt; told.last().map(|report| report.key.index), Some(65_535));
+    Ok(())
+}
+
+/// Fragments of 2,048 octets: the octets up to the objects, what stands behind them so many times, how many reports
+/// they give, the index of the last, and how many objects are stepped over.
+const RESPONSES: [(&[u8], &[u8], u16, usize, Option<u16>, usize); 6] = [
+    // 511 headers without an object; 341 headers, all but the first with an event.
+    (b"\xC0\x81\x00\x00", b"\x33\x02\x07\x00", 511, 0, None, 0),
+    (
+        b"\xC0\x81\x00\x00\x33\x02\x07\x00",
+        b"\x02\x01\x17\x01\x05\x81",
+        340,
+        340,
+        Some(5),
+        0,
+    ),
+    // 2,037 output states; as many strings of one octet, which are stepped over.
+    (
+        b"\xC0\x81\x00\x00\x0A\x02\x01\x00\x00\xF4\x07",
+        b"\x81",
+        2037,
+        2037,
+        Some(2036),
+        0,
+    ),
+    (
+        b"\xC0\x81\x00\x00\x6E\x01\x01\x00\x00\xF4\x07",
+        b"\x41",
+        2037,
+        0,
+        None,
+        2037,
+    ),
+    // 16,296 inputs, and 8,148 double-bit inputs.
+    (PACKED_FRONT, b"\xFF", 2037, 16_296, Some(16_295), 0),
+    (
+        b"\xC0\x81\x00\x00\x03\x01\x01\x00\x00\xD3\x1F",
+        b"\xAA",
+        2037,
+        8148,
+        Some(8147),
+        0,
+    ),
+];
+
+/// The octets before the states of 16,296 inputs.
+const PACKED_FRONT: &[u8] = b"\xC0\x81\x00\x00\x01\x01\x01\x00\x00\xA7\x3F";
+
+#[test]
+fn largest_responses(rt: HostRuntime) -> Result<(), Fail> {
+    for (front, octets, times, count, last, stepped_over) in RESPONSES {
+        let fragment = repeated(rt.alloc(), front, octets, times)?;
+        assert_eq!(rt; fragment.len(), 2048);
+        let response = read_response(rt.alloc(), 0, fragment)?;
+        assert_eq!(rt; response.octets().len(), 2048);
+        assert_eq!(rt; response.reports().len(), count);
+        let index = response.reports().last().map(|report| report.key.index);
+        assert_eq!(rt; index, last);
+        assert_eq!(rt; response.stepped_over(), stepped_over);
+    }
+    Ok(())
+}
+
+/// The fragment that a segment ends, if it ends one.
+fn ended(assembler: &mut Assembler, segment: &[u8]) -> Result<Option<Vec<u8>>, Fail> {
+    match assembler.segment(segment)? {
+        Taken::Fragment(fragment) => Ok(Some(fragment)),
+        Taken::More => Ok(None),
+        Taken::Dropped(_) => Err(Fail::from("dropped")),
+    }
+}
+
+/// In nine segments, after eight of them that stay unfinished, and in one segment after eight again.
+#[test]
+fn longest_fragment(rt: HostRuntime) -> Result<(), Fail> {
+    let mut fragment = [0; FRAGMENT_LIMIT];
+    for (octet, n) in fragment.iter_mut().zip(0..2048u16) {
+        *octet = (n % 251) as u8;
+    }
+    let mut assembler = Assembler::new(rt.alloc());
+    for segment in segments(&fragment, 60).take(8) {
+        let found = ended(&mut assembler, segment.octets())?;
+        assert!(rt; found.is_none());
+    }
+    let mut last = None;
+    for segment in segments(&fragment, 60) {
+        assert!(rt; last.is_none());
+        last = ended(&mut assembler, segment.octets())?;
+    }
+    assert_eq!(rt; last.as_deref(), Some(fragment.as_slice()));
+    for segment in segments(&fragment, 60).take(8) {
+        let found = ended(&mut assembler, segment.octets())?;
+        assert!(rt; found.is_none());
+    }
+    let whole = repeated(rt.alloc(), b"\xC5", &fragment, 1)?;
+    let last = ended(&mut assembler, &whole)?;
+    assert_eq!(rt; last.as_deref(), Some(fragment.as_slice()));
+    Ok(())
+}
+
+/// The frames of a fragment.
+fn frames_of(alloc: Global, fragment: &[u8]) -> Result<Vec<u8>, Fail>
+    requires { length fragment.now ≤ 2048 }
+{
+    let mut stream = Vec::new(alloc);
+    let mut frame = [0; 292];
+    for segment in segments(fragment, 0) {
+        let octets = write_frame(0x44, 1024, 1, segment.octets(), &mut frame);
+        stream.extend_from_slice(&frame[..octets])?;
+    }
+    Ok(stream)
+}
+
+/// 27 of the largest responses in one piece, through all layers: each in eight frames of 292 octets and one of 75.
+#[test]
+fn many_largest_responses(rt: HostRuntime) -> Result<(), Fail> {
+    let fragment = repeated(rt.alloc(), PACKED_FRONT, b"\xFF", 2037)?;
+    assert_eq!(rt; fragment.len(), 2048);
+    let frames = frames_of(rt.alloc(), &fragment)?;
+    let stream = repeated(rt.alloc(), b"", &frames, 27)?;
+    assert_eq!(rt; stream.len(), 65_097);
+    let fragments = fragments_of(rt.alloc(), &[&stream], 1024, 1)?;
+    assert_eq!(rt; fragments.len(), 27);
+    let responses = responses_of(rt.alloc(), 0, &[&stream], 1024, 1)?;
+    assert_eq!(rt; responses.len(), 27);
+    for response in responses.iter() {
+        assert_eq!(rt; response.octets(), fragment.as_slice());
+        assert_eq!(rt; response.reports().len(), 16_296);
+    }
+    Ok(())
+}

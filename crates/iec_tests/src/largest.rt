@@ -1,0 +1,124 @@
+//! Calls that take memory, at their largest sizes: no contract tells memory that ran out from a limit of the code.
+ghost use Rattle.std.specs.Prelude.{◌<◌};
+
+use gw_model::{Observation, Quality, Stamp, Value};
+use gw_time::Zone;
+use iec_apci::laws::apdus_of;
+use iec_apci::{Apdu, ApduFeed};
+use iec_asdu::read_monitor;
+use iec_window::Window;
+use std::alloc::Global;
+use std::process::Abort;
+use std::test::Fail;
+
+const SINGLE: (Value, Stamp) = (Value::Single(true), Stamp::Untimed);
+
+/// On 14 November 2023 at 22:13:20 UTC.
+const TOTAL: (Value, Stamp) = (Value::Total(0x8765_4321), Stamp::At(1_700_000_000_000));
+
+/// The same as octets: binary counter reading and time tag.
+const TOTAL_OCTETS: &[u8] = b"\x21\x43\x65\x87\x00\x20\x4E\x0D\x16\x0E\x0B\x17";
+
+/// A type identification, SQ, how many objects there are, the octets of each, how many the ASDU has, and what each
+/// object tells. 60 single-points are the most under SQ 0 that an APDU holds; the reader itself has no such limit.
+const ASDUS: [(u8, bool, u8, &[u8], usize, (Value, Stamp)); 5] = [
+    (1, false, 60, b"\x01", 246, SINGLE),
+    (1, false, 127, b"\x01", 514, SINGLE),
+    (1, true, 127, b"\x01", 136, SINGLE),
+    (37, false, 127, TOTAL_OCTETS, 1911, TOTAL),
+    (37, true, 127, TOTAL_OCTETS, 1533, TOTAL),
+];
+
+/// An ASDU with so many of these objects, from address 4096 on.
+fn asdu_of(
+    alloc: Global,
+    identification: u8,
+    sequence: bool,
+    count: u8,
+    object: &[u8],
+) -> Result<Vec<u8>, Fail> {
+    let qualifier = if sequence { 0x80 | count } else { count };
+    let mut octets = Vec::from_slice(alloc, &[identification, qualifier, 20, 0, 1, 0])?;
+    for place in 0..count {
+        if place == 0 || !sequence {
+            octets.extend_from_slice(&[place, 0x10, 0x00])?;
+        }
+        octets.extend_from_slice(object)?;
+    }
+    Ok(octets)
+}
+
+#[test]
+fn most_objects(rt: HostRuntime) -> Result<(), Fail> {
+    for (identification, sequence, count, object, octets, (value, stamp)) in ASDUS {
+        let asdu = asdu_of(rt.alloc(), identification, sequence, count, object)?;
+        assert_eq!(rt; asdu.len(), octets);
+        let read = read_monitor(rt.alloc(), &asdu, &Zone::UTC)?;
+        assert_eq!(rt; read.observations.len(), usize::from(count));
+        for (found, place) in read.observations.iter().zip(0..count) {
+            let wanted = Observation {
+                address: 4096 + u32::from(place),
+                value,
+                quality: Quality::GOOD,
+                stamp,
+            };
+            assert_eq!(rt; *found, wanted);
+        }
+    }
+    Ok(())
+}
+
+/// 257 of the longest APDUs, with N(S) 1 and N(R) 2, and the first octet of another: 65,536 octets.
+fn long_stream(alloc: Global) -> Result<Vec<u8>, Fail> {
+    let mut stream = Vec::new(alloc);
+    for _ in 0..257u16 {
+        stream.extend_from_slice(b"\x68\xFD\x02\x00\x04\x00")?;
+        stream.extend_from_slice(&[0x11; 249])?;
+    }
+    stream.push(0x68)?;
+    Ok(stream)
+}
+
+#[test]
+fn many_octets_in_one_piece(rt: HostRuntime) -> Result<(), Fail> {
+    let stream = long_stream(rt.alloc())?;
+    assert_eq!(rt; stream.len(), 65_536);
+    let mut feed = ApduFeed::new(rt.alloc());
+    feed.feed(&[])?;
+    feed.feed(&stream)?;
+    feed.feed(&[])?;
+    for _ in 0..257u16 {
+        let Some(Ok(Apdu::I { ns, nr, asdu })) = feed.next() else {
+            return Err(Fail::from("no I format"));
+        };
+        assert_eq!(rt; (ns, nr), (1, 2));
+        assert_eq!(rt; asdu.as_slice(), [0x11; 249].as_slice());
+    }
+    assert_eq!(rt; feed.next(), None);
+    let (apdus, fault) = apdus_of(rt.alloc(), &[&stream])?;
+    assert_eq!(rt; apdus.len(), 257);
+    assert_eq!(rt; fault, None);
+    Ok(())
+}
+
+/// A window of k takes k I formats and no more, and after their acknowledgement as many again.
+fn check_window(rt: &impl Abort, alloc: Global, k: u16) -> Result<(), Fail>
+    requires { k < 32768 }
+{
+    let mut window = Window::new(alloc, k, 8, 15_000, 10_000, 20_000)?;
+    for number in 0..k {
+        assert!(rt; window.may_send());
+        assert_eq!(rt; window.sent(5), (number, 0));
+    }
+    assert!(rt; !window.may_send());
+    assert_eq!(rt; window.acknowledged(k, 6), Ok(()));
+    assert!(rt; window.may_send());
+    assert_eq!(rt; window.sent(7), (k, 0));
+    Ok(())
+}
+
+#[test]
+fn largest_windows(rt: HostRuntime) -> Result<(), Fail> {
+    check_window(&rt, rt.alloc(), 1_000)?;
+    check_window(&rt, rt.alloc(), 32_767)
+}
