@@ -1,6 +1,7 @@
 -- What is read is what the octets mean, and a fault comes only where they mean nothing.
 use Rattle.std.proofs.Common.{◌≡◌, ℕ, zero, suc, ◌+◌, ◌*◌, ◌==◌, Bool, true, false, cond, nat_lt, List, [], ◌∷◌, length, drop, Option, Some, None, Result, Ok, Err, refl, sym, ap, ◌∙◌, subst, arith, inl, inr}
 use Rattle.std.specs.Prelude.{IfOk, ok_or}
+use Rattle.std.specs.Result.{result_ok}
 use Rattle.std.proofs.lemmas.Bool.{cases_order, le-ltb, lt-ltb, eq-eqb, ne_eqb}
 use Rattle.gw_model.specs.declared.point.Stamp.{Stamp}
 use Rattle.gw_model.specs.declared.observation.Value.{Value}
@@ -12,7 +13,7 @@ use Rattle.iec_asdu.specs.declared.reading.Monitor.{Monitor}
 use Rattle.gw_model.specs.Optional.{◌>>=◌}
 use Rattle.gw_model.specs.Outcome.{Gives}
 use Rattle.iec_asdu.specs.Types.{Layout}
-use Rattle.iec_asdu.specs.Asdu.{Asdu, size_of, address_at, observation_at, objects_apart, objects_in_sequence, objects_of, asdu_meaning}
+use Rattle.iec_asdu.specs.Asdu.{Asdu, size_of, address_at, observation_of, observation_at, objects_apart, objects_in_sequence, objects_of, asdu_meaning}
 use Rattle.iec_asdu.specs.Grammar.{IsAsdu}
 use Rattle.iec_asdu.specs.Reading.{object_read, read_apart, read_in_sequence, objects_read, asdu_read, is_memory}
 use Rattle.iec_asdu.specs.Contents.{Contents, contents_of, Spells, monitor_contents, contents_read}
@@ -23,47 +24,39 @@ abbrev then_read : {A B : Type 0} → Result A AsduFault → (A → Result B Asd
 then_read (Ok x) f = f x
 then_read (Err e) f = Err e
 
--- what was read, without its faults
-abbrev pub given : {A : Type 0} → Result A AsduFault → Option A
-given (Ok x) = Some x
-given (Err e) = None
-
 -- ---- objects
 
-abbrev observed : ℕ → Value × Quality → Stamp → Observation
-observed address shown stamp = record { address = address; value = shown.0; quality = shown.1; stamp = stamp }
-
 object_parts : (address : ℕ) (s : Option (Value × Quality)) (t : Option Stamp)
-    → given (then_read (ok_or s Reserved) (λ shown. then_read (ok_or t Tag) (λ stamp. Ok (observed address shown stamp)))) ≡ (s >>= λ shown. (t >>= λ stamp. Some (observed address shown stamp)))
+    → result_ok (then_read (ok_or s Reserved) (λ value. then_read (ok_or t Tag) (λ stamp. Ok (observation_of address value stamp)))) ≡ (s >>= λ value. (t >>= λ stamp. Some (observation_of address value stamp)))
 object_parts address None t = refl
 object_parts address (Some s) None = refl
 object_parts address (Some s) (Some t) = refl
 
 object_given : (address : ℕ) (layout : Layout) (octets : List ℕ)
-    → given (object_read address layout octets) ≡ observation_at address layout octets
+    → result_ok (object_read address layout octets) ≡ observation_at address layout octets
 object_given address layout octets = object_parts address _ _
 
-two_given : (r : Result Observation AsduFault) (rs : Result (List Observation) AsduFault) (o : Option Observation) (os : Option (List Observation)) → given r ≡ o → given rs ≡ os
-    → given (then_read r (λ x. then_read rs (λ xs. Ok (x ∷ xs)))) ≡ (o >>= λ x. (os >>= λ xs. Some (x ∷ xs)))
+two_given : (r : Result Observation AsduFault) (rs : Result (List Observation) AsduFault) (o : Option Observation) (os : Option (List Observation)) → result_ok r ≡ o → result_ok rs ≡ os
+    → result_ok (then_read r (λ x. then_read rs (λ xs. Ok (x ∷ xs)))) ≡ (o >>= λ x. (os >>= λ xs. Some (x ∷ xs)))
 two_given (Ok x) (Ok xs) o os e f = rw (← e, ← f) refl
 two_given (Ok x) (Err d) o os e f = rw (← e, ← f) refl
 two_given (Err d) rs o os e f = rw (← e) refl
 
 apart_given : (layout : Layout) (n : ℕ) (octets : List ℕ)
-    → given (read_apart layout n octets) ≡ objects_apart layout n octets
+    → result_ok (read_apart layout n octets) ≡ objects_apart layout n octets
 unfolding read_apart objects_apart
 apart_given layout zero octets = refl
 apart_given layout (suc n) octets = two_given _ _ _ _ (object_given _ layout _) (apart_given layout n _)
 
 sequence_given : (layout : Layout) (n address : ℕ) (octets : List ℕ)
-    → given (read_in_sequence layout n address octets) ≡ objects_in_sequence layout n address octets
+    → result_ok (read_in_sequence layout n address octets) ≡ objects_in_sequence layout n address octets
 unfolding read_in_sequence objects_in_sequence
 sequence_given layout zero address octets = refl
 sequence_given layout (suc n) address octets =
     two_given _ _ _ _ (object_given address layout _) (sequence_given layout n (address + 1) _)
 
-by_length : (has wanted : ℕ) (r : Result (List Observation) AsduFault) (o : Option (List Observation)) → given r ≡ o
-    → given (cond (nat_lt has wanted) (Err Short) (cond (nat_lt wanted has) (Err Long) r)) ≡ cond (has == wanted) o None
+by_length : (has wanted : ℕ) (r : Result (List Observation) AsduFault) (o : Option (List Observation)) → result_ok r ≡ o
+    → result_ok (cond (nat_lt has wanted) (Err Short) (cond (nat_lt wanted has) (Err Long) r)) ≡ cond (has == wanted) o None
 by_length has wanted r o e =
     elim (cases_order has wanted) [
       | inl same ↦ rw (le-ltb has wanted (omega arith), le-ltb wanted has (omega arith), eq-eqb has wanted same) e
@@ -72,7 +65,7 @@ by_length has wanted r o e =
     ]
 
 objects_given : (layout : Layout) (sequence : Bool) (n : ℕ) (octets : List ℕ)
-    → given (objects_read layout sequence n octets) ≡ objects_of layout sequence n octets
+    → result_ok (objects_read layout sequence n octets) ≡ objects_of layout sequence n octets
 unfolding objects_read objects_of
 objects_given layout sequence zero octets = refl
 objects_given layout true (suc n) octets =
@@ -84,18 +77,18 @@ objects_given layout false (suc n) octets =
 
 -- ---- the whole
 
-objects_made : (r : Result (List Observation) AsduFault) (o : Option (List Observation)) (make : List Observation → Asdu) → given r ≡ o
-    → given (then_read r (λ xs. Ok (make xs))) ≡ (o >>= λ xs. Some (make xs))
+objects_made : (r : Result (List Observation) AsduFault) (o : Option (List Observation)) (make : List Observation → Asdu) → result_ok r ≡ o
+    → result_ok (then_read r (λ xs. Ok (make xs))) ≡ (o >>= λ xs. Some (make xs))
 objects_made (Ok xs) o make e = rw (← e) refl
 objects_made (Err d) o make e = rw (← e) refl
 
-header_given : (l : Option Layout) (read : Layout → Result (List Observation) AsduFault) (of : Layout → Option (List Observation)) (make : List Observation → Asdu) → ((layout : Layout) → given (read layout) ≡ of layout)
-    → given (then_read (ok_or l UnknownType) (λ layout. then_read (read layout) (λ xs. Ok (make xs))))
+header_given : (l : Option Layout) (read : Layout → Result (List Observation) AsduFault) (of : Layout → Option (List Observation)) (make : List Observation → Asdu) → ((layout : Layout) → result_ok (read layout) ≡ of layout)
+    → result_ok (then_read (ok_or l UnknownType) (λ layout. then_read (read layout) (λ xs. Ok (make xs))))
     ≡ (l >>= λ layout. (of layout >>= λ xs. Some (make xs)))
 header_given None read of make e = refl
 header_given (Some layout) read of make e = objects_made (read layout) (of layout) make (e layout)
 
-pub asdu_given : (types : List Layout) (octets : List ℕ) → given (asdu_read types octets) ≡ asdu_meaning types octets
+pub asdu_given : (types : List Layout) (octets : List ℕ) → result_ok (asdu_read types octets) ≡ asdu_meaning types octets
 unfolding asdu_read asdu_meaning
 asdu_given types (identification ∷ qualifier ∷ cause ∷ originator ∷ low ∷ high ∷ objects) =
     rw (le-ltb (length (identification ∷ qualifier ∷ cause ∷ originator ∷ low ∷ high ∷ objects)) 6 (omega arith))
@@ -119,10 +112,10 @@ pub found_for : (types : List Layout) (octets : List ℕ) (result : Result Monit
     → IfOk result (λ m. Spells types octets (monitor_contents m))
 found_for types octets (Ok m) h =
     let r = read_some (asdu_read types octets) (monitor_contents m) h in
-    (r.0, (meaning_is_spelled types octets r.0).0 (sym (asdu_given types octets) ∙ ap (λ (x : Result Asdu AsduFault). given x) r.1), r.2)
+    (r.0, (meaning_is_spelled types octets r.0).0 (sym (asdu_given types octets) ∙ ap (λ (x : Result Asdu AsduFault). result_ok x) r.1), r.2)
 found_for types octets (Err e) h = tt
 
-read_of : (r : Result Asdu AsduFault) (a : Asdu) → given r ≡ Some a → r ≡ Ok a
+read_of : (r : Result Asdu AsduFault) (a : Asdu) → result_ok r ≡ Some a → r ≡ Ok a
 read_of (Ok b) a e = cc
 read_of (Err d) a e = absurd cc
 

@@ -17,11 +17,8 @@ use Rattle.gw_time.proofs.Century.{window_is_century}
 use Rattle.gw_time.proofs.Spelled.{IsTagOf, tag_in_window}
 use Rattle.iec_asdu.specs.Laws.{single_again, double_again, word_again, scaled_again, counter_again}
 use Rattle.gw_model.specs.Optional.{◌>>=◌}
-use Rattle.iec_asdu.specs.Asdu.{Asdu, monitor_types, objects_apart, objects_of, asdu_meaning}
+use Rattle.iec_asdu.specs.Asdu.{Asdu, monitor_types, observation_of, objects_apart, objects_of, asdu_meaning}
 use Rattle.iec_asdu.specs.Spelling.{type_of, spelling, spelling_with, HasWidth}
-
-abbrev observed : ℕ → Stamp → Value × Quality → Observation
-observed address stamp shown = record { address = address; value = shown.0; quality = shown.1; stamp = stamp }
 
 -- an ASDU of one object, originator 0
 abbrev one_of : ℕ → ℕ → ℕ → Observation → Asdu
@@ -31,7 +28,7 @@ one_of identification common cause x =
 -- what is meant, once element and tag are shown
 abbrev after : ℕ → ℕ → ℕ → ℕ → Option (Value × Quality) → Option Stamp → Option Asdu
 after identification common cause address shown stamp =
-    (((shown >>= λ s. (stamp >>= λ t. Some (observed address t s))) >>= λ first. Some (first ∷ [])) >>= λ xs. Some (record { identification = identification; cause = cause; originator = 0; common_address = common; observations = xs }))
+    (((shown >>= λ s. (stamp >>= λ t. Some (observation_of address s t))) >>= λ first. Some (first ∷ [])) >>= λ xs. Some (record { identification = identification; cause = cause; originator = 0; common_address = common; observations = xs }))
 
 -- the address and the common address that are read
 abbrev common_read : ℕ → ℕ
@@ -44,8 +41,8 @@ address_read n = n % 256 + 256 * (n / 256 % 256) + 65536 * (n / 65536 % 256)
 
 untimed_means : (offset : ℤ) (common cause address : ℕ) (value : Value) (quality : Quality) → HasWidth value
     → IsTrue (is_of_element value quality)
-    → asdu_meaning (monitor_types offset) (spelling_with None common cause (observed address Untimed (value, quality)))
-    ≡ Some (one_of (type_of value false) (common_read common) cause (observed (address_read address) Untimed (value, quality)))
+    → asdu_meaning (monitor_types offset) (spelling_with None common cause (observation_of address (value, quality) Untimed))
+    ≡ Some (one_of (type_of value false) (common_read common) cause (observation_of (address_read address) (value, quality) Untimed))
 unfolding asdu_meaning objects_of objects_apart
 untimed_means offset common cause address (Single on) quality width fit =
     ap (λ m. after 1 (common_read common) cause (address_read address) (option_map (λ x. (Single x.on, x.quality)) m) (Some Untimed)) (single_again (record { on = on; quality = quality }) fit)
@@ -65,7 +62,7 @@ abbrev seven : ℕ → ℕ → ℕ → ℕ → ℕ → ℕ → ℕ → List ℕ
 seven a b c d e f g = a ∷ b ∷ c ∷ d ∷ e ∷ f ∷ g ∷ []
 
 shown_means : (offset : ℤ) (common cause address : ℕ) (value : Value) (quality : Quality) (a b c d e f g : ℕ) (stamp : Stamp) → HasWidth value → IsTrue (is_of_element value quality)
-    → asdu_meaning (monitor_types offset) (spelling_with (Some (seven a b c d e f g)) common cause (observed address stamp (value, quality)))
+    → asdu_meaning (monitor_types offset) (spelling_with (Some (seven a b c d e f g)) common cause (observation_of address (value, quality) stamp))
     ≡ after (type_of value true) (common_read common) cause (address_read address) (Some (value, quality)) (result_ok (tag_meaning offset (seven a b c d e f g)))
 unfolding asdu_meaning objects_of objects_apart
 shown_means offset common cause address (Single on) quality a b c d e f g stamp width fit =
@@ -83,8 +80,8 @@ shown_means offset common cause address (Total n) quality a b c d e f g stamp wi
 timed_means : (offset : ℤ) (common cause address : ℕ) (value : Value) (quality : Quality) (tag : List ℕ) (stamp : Stamp)
     → HasWidth value → IsTrue (is_of_element value quality)
     → length tag ≡ 7 → tag_meaning offset tag ≡ Ok stamp
-    → asdu_meaning (monitor_types offset) (spelling_with (Some tag) common cause (observed address stamp (value, quality)))
-    ≡ Some (one_of (type_of value true) (common_read common) cause (observed (address_read address) stamp (value, quality)))
+    → asdu_meaning (monitor_types offset) (spelling_with (Some tag) common cause (observation_of address (value, quality) stamp))
+    ≡ Some (one_of (type_of value true) (common_read common) cause (observation_of (address_read address) (value, quality) stamp))
 timed_means offset common cause address value quality (a ∷ b ∷ c ∷ d ∷ e ∷ f ∷ g ∷ []) stamp width fit long meant =
     shown_means offset common cause address value quality a b c d e f g stamp width fit
     ∙ ap (λ r. after (type_of value true) (common_read common) cause (address_read address) (Some (value, quality)) (result_ok r)) meant
@@ -100,8 +97,8 @@ address_again n small = omega arith
 
 one_same : (identification common cause address m a : ℕ) (value : Value) (quality : Quality) (stamp : Stamp)
     → m ≡ common → a ≡ address
-    → one_of identification m cause (observed a stamp (value, quality))
-    ≡ one_of identification common cause (observed address stamp (value, quality))
+    → one_of identification m cause (observation_of a (value, quality) stamp)
+    ≡ one_of identification common cause (observation_of address (value, quality) stamp)
 one_same identification common cause address m a value quality stamp em ea = cc
 
 -- ---- whole
@@ -109,8 +106,8 @@ one_same identification common cause address m a value quality stamp em ea = cc
 -- an observation with its parts: of a stamp that has this tag, or of none where it is untimed
 with_tag : (offset : ℤ) (common cause address : ℕ) (value : Value) (quality : Quality) (stamp : Stamp) (tag : Option (List ℕ)) → common < 65536 → address < 16777216 → HasWidth value
     → IsTrue (is_of_element value quality) → IsSomeAnd tag (IsTagOf offset stamp)
-    → asdu_meaning (monitor_types offset) (spelling_with tag common cause (observed address stamp (value, quality)))
-    ≡ Some (one_of (type_of value (is_some tag)) common cause (observed address stamp (value, quality)))
+    → asdu_meaning (monitor_types offset) (spelling_with tag common cause (observation_of address (value, quality) stamp))
+    ≡ Some (one_of (type_of value (is_some tag)) common cause (observation_of address (value, quality) stamp))
 with_tag offset common cause address value quality stamp None small low width fit h = absurd h
 with_tag offset common cause address value quality stamp (Some tag) small low width fit h =
     timed_means offset common cause address value quality tag stamp width fit h.seven.seven h.meant
@@ -119,8 +116,8 @@ with_tag offset common cause address value quality stamp (Some tag) small low wi
 by_stamp : (offset : ℤ) (common cause address : ℕ) (value : Value) (quality : Quality) (stamp : Stamp) → common < 65536
     → address < 16777216 → HasWidth value
     → IsTrue (is_of_element value quality) → IsInWindow offset stamp
-    → asdu_meaning (monitor_types offset) (spelling offset common cause (observed address stamp (value, quality)))
-    ≡ Some (one_of (type_of value (is_some (tag_of offset stamp))) common cause (observed address stamp (value, quality)))
+    → asdu_meaning (monitor_types offset) (spelling offset common cause (observation_of address (value, quality) stamp))
+    ≡ Some (one_of (type_of value (is_some (tag_of offset stamp))) common cause (observation_of address (value, quality) stamp))
 by_stamp offset common cause address value quality Untimed small low width fit h =
     untimed_means offset common cause address value quality width fit
     ∙ ap Some (one_same (type_of value false) common cause address _ _ value quality Untimed (common_again common small) (address_again address low))

@@ -6,7 +6,7 @@ use Rattle.gw_model.specs.declared.observation.Observation.{Observation}
 use Rattle.iec_asdu.specs.declared.fault.AsduFault.{AsduFault}
 use Rattle.gw_model.specs.Outcome.{◌>>=◌, UnlessMemory}
 use Rattle.iec_asdu.specs.Types.{Layout}
-use Rattle.iec_asdu.specs.Asdu.{size_of, address_at}
+use Rattle.iec_asdu.specs.Asdu.{size_of, address_at, observation_of}
 use Rattle.iec_asdu.specs.Reading.{is_memory, object_read, read_apart, read_in_sequence}
 use Rattle.iec_asdu.specs.declared.fault.AsduFault.TheVariants.{Short, Long, UnknownType, ZeroObjects, Reserved, Tag, Memory}
 
@@ -60,7 +60,7 @@ parts_fault (Some x) (Some y) make f e m = cc
 pub object_fault : (address : ℕ) (layout : Layout) (octets : List ℕ) (f : AsduFault)
     → Err f ≡ object_read address layout octets → f ≡ Memory → ⊥
 object_fault address layout octets f e m =
-    parts_fault _ _ (λ shown stamp. record { address = address; value = shown.0; quality = shown.1; stamp = stamp }) f (sym e) m
+    parts_fault _ _ (observation_of address) f (sym e) m
 
 -- ---- SQ 0
 

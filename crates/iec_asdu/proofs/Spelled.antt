@@ -9,7 +9,7 @@ use Rattle.gw_model.specs.declared.observation.Observation.{Observation}
 use Rattle.iec_asdu.specs.Bits.{is_set}
 use Rattle.gw_model.specs.Optional.{◌>>=◌}
 use Rattle.iec_asdu.specs.Types.{Layout}
-use Rattle.iec_asdu.specs.Asdu.{Asdu, layout_of, size_of, address_at, observation_at, objects_apart, objects_in_sequence, objects_of, asdu_meaning}
+use Rattle.iec_asdu.specs.Asdu.{Asdu, layout_of, size_of, address_at, observation_of, observation_at, objects_apart, objects_in_sequence, objects_of, asdu_meaning}
 use Rattle.iec_asdu.specs.Grammar.{IsAddress, IsInformation, AreApart, AreInSequence, AreObjects, IsAsdu}
 
 -- ---- steps of a reading
@@ -35,16 +35,13 @@ address_again octets address rest a = rw a.text (sym a.number, refl)
 
 -- ---- information
 
-abbrev observed : ℕ → Value × Quality → Stamp → Observation
-observed address shown stamp = record { address = address; value = shown.0; quality = shown.1; stamp = stamp }
-
 information_takes : (address : ℕ) (layout : Layout) (octets : List ℕ) (x : Observation) → length octets ≡ size_of layout
     → observation_at address layout octets ≡ Some x
     → IsInformation layout octets x × (x.address ≡ address)
 information_takes address layout octets x long e =
     let s = bind_some (layout.value (take layout.element octets)) _ x e in
     let t = bind_some (layout.stamp (drop layout.element octets)) _ x s.2 in
-    let is : observed address s.0 t.0 ≡ x = cc (t.2) in
+    let is : observation_of address s.0 t.0 ≡ x = cc (t.2) in
     rw (← is) (
       record {
         element = take layout.element octets;
@@ -60,7 +57,7 @@ information_takes address layout octets x long e =
 
 made : (o : Option (Value × Quality)) (t : Option Stamp) (x : Observation) → o ≡ Some (x.value, x.quality)
     → t ≡ Some x.stamp
-    → (o >>= λ s. (t >>= λ stamp. Some (observed x.address s stamp))) ≡ Some x
+    → (o >>= λ s. (t >>= λ stamp. Some (observation_of x.address s stamp))) ≡ Some x
 made o t x e f = rw (e, f) refl
 
 information_again : (layout : Layout) (octets : List ℕ) (x : Observation) → IsInformation layout octets x

@@ -2,6 +2,9 @@
 -- structure qualifier, cause, originator, common address, and information objects to the end.
 use Rattle.std.specs.Prelude.{ℕ, ℤ, ◌+◌, ◌*◌, ◌%◌, Bool, true, false, List, [], ◌∷◌, ◌++◌, zero, suc, length, take, drop, map, Option, Some, None, ◌==◌, if◌then◌else◌, slice_index}
 use Rattle.gw_model.specs.Optional.{◌>>=◌}
+use Rattle.gw_model.specs.declared.point.Stamp.{Stamp}
+use Rattle.gw_model.specs.declared.observation.Value.{Value}
+use Rattle.gw_model.specs.declared.observation.Quality.{Quality}
 use Rattle.gw_model.specs.declared.observation.Observation.{Observation}
 use Rattle.iec_asdu.specs.declared.types.ElementKind.{ElementKind}
 use Rattle.iec_asdu.specs.declared.types.ElementKind.TheVariants.{SinglePoint, DoublePoint, BitString, ScaledValue, CounterReading}
@@ -36,12 +39,16 @@ size_of layout = layout.element + layout.tag
 abbrev pub address_at : List ℕ → ℕ
 address_at octets = slice_index octets 0 + 256 * slice_index octets 1 + 65536 * slice_index octets 2
 
+-- an observation of an address: its value with quality, and its stamp
+abbrev pub observation_of : ℕ → Value × Quality → Stamp → Observation
+observation_of address value stamp = record { address = address; value = value.0; quality = value.1; stamp = stamp }
+
 -- what element and time tag tell of an address
 abbrev pub observation_at : ℕ → Layout → List ℕ → Option Observation
 observation_at address layout octets = do
   value ← layout.value (take layout.element octets)
   stamp ← layout.stamp (drop layout.element octets)
-  Some (record { address = address; value = value.0; quality = value.1; stamp = stamp })
+  Some (observation_of address value stamp)
 
 -- SQ 0: so many objects, each with its address
 unfoldable pub objects_apart : Layout → ℕ → List ℕ → Option (List Observation)

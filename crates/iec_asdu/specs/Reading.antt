@@ -6,14 +6,14 @@ use Rattle.iec_asdu.specs.declared.fault.AsduFault.{AsduFault}
 use Rattle.iec_asdu.specs.declared.fault.AsduFault.TheVariants.{Short, Long, UnknownType, ZeroObjects, Reserved, Tag, Memory}
 use Rattle.iec_asdu.specs.Bits.{is_set}
 use Rattle.iec_asdu.specs.Types.{Layout}
-use Rattle.iec_asdu.specs.Asdu.{Asdu, layout_of, size_of, address_at}
+use Rattle.iec_asdu.specs.Asdu.{Asdu, layout_of, size_of, address_at, observation_of}
 
 -- what element and time tag tell of an address: a reserved bit comes before a tag that means nothing
 abbrev pub object_read : ℕ → Layout → List ℕ → Result Observation AsduFault
 object_read address layout octets = do
   value ← ok_or (layout.value (take layout.element octets)) Reserved
   stamp ← ok_or (layout.stamp (drop layout.element octets)) Tag
-  Ok (record { address = address; value = value.0; quality = value.1; stamp = stamp })
+  Ok (observation_of address value stamp)
 
 -- the object at the front, with the address before it
 abbrev pub front_read : Layout → List ℕ → Result Observation AsduFault
