@@ -3,6 +3,7 @@ ghost use Rattle.std.specs.Prelude.{◌≡◌, ◌≢◌, ◌≤◌, length, tak
 ghost use Rattle.dnp_objects.specs.Headers.{number, octets_of, is_among, codes_of, qualifiers, range_of, range_for, range_at};
 
 use crate::fault::{ObjectFault, Why};
+use crate::numbers::number;
 use crate::object::Access;
 
 /// How many octets a number of a range field has.
@@ -44,15 +45,12 @@ fn octets_of(width: Width) -> usize
 }
 
 /// The number at the front of a field, low octet first.
-#[tactic(auto, using(crate::proofs::Numbers::numbers))]
+#[tactic(auto, using(crate::proofs::NumberLaws::in_two_octets))]
 fn number_at(width: Width, field: &[u8]) -> u16
     requires { octets_of width ≤ length field.now }
     ensures { result ≡ number (take (octets_of width) field.now) }
 {
-    match width {
-        Width::One => u16::from(field[0]),
-        Width::Two => u16::from(field[0]) + 256 * u16::from(field[1]),
-    }
+    number(&field[..octets_of(width)]) as u16
 }
 
 /// The qualifier code is one of those that objects may stand under.
