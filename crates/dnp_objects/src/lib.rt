@@ -18,6 +18,3 @@ pub use header::{Header, headers};
 pub use law::one_reading;
 pub use numbers::number;
 pub use object::{Size, length_of};
-
-#[cfg(test)]
-mod tests;
