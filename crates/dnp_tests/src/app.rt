@@ -1,4 +1,4 @@
-use super::*;
+use dnp_app::{AppFault, Control, Echo, Response, confirm, read_response};
 use gw_model::{Kind, PointKey, Raw};
 use std::test::Fail;
 
@@ -114,8 +114,8 @@ fn one_command_alone_is_an_echo(rt: HostRuntime) -> Result<(), Fail> {
         assert_eq!(rt; response_with(&rt, part)?.echo(), None);
     }
     // A header of commands without a command, one with two, and an event, beside one with one.
-    let part =
-        b"\x0C\x01\x17\x00\x29\x02\x17\x02\x04\xE8\x03\x00\x05\xE8\x03\x00\x29\x02\x17\x01\x06\x18\xFC\x01\x02\x01\x17\x01\x05\x81";
+    let part = b"\x0C\x01\x17\x00\x29\x02\x17\x02\x04\xE8\x03\x00\x05\xE8\x03\x00\
+        \x29\x02\x17\x01\x06\x18\xFC\x01\x02\x01\x17\x01\x05\x81";
     let echo = Echo {
         index: 6,
         group: 41,

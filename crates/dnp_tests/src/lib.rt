@@ -1,2 +1,7 @@
 //! Tests of the DNP3 layers through their public calls.
 #![tactic(auto)]
+
+#[cfg(test)]
+mod app;
+#[cfg(test)]
+mod objects;

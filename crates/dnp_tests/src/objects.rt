@@ -1,4 +1,4 @@
-use super::*;
+use dnp_objects::{Header, ObjectFault, Size, Why, headers, length_of};
 use std::alloc::{AllocError, Global};
 use std::process::Abort;
 use std::test::Fail;
@@ -198,7 +198,8 @@ const OBJECTS: [(u8, u8, Size, &[u8], &[u8]); 67] = [
     (111, 3, Size::Octets(3), ANY, b"\x61\x62\x63"),
 ];
 
-/// A qualifier code, the range field of one object, its index prefix, and what the header then has: first index and prefix.
+/// A qualifier code, the range field of one object, its index prefix, and what the header then has: first index
+/// and prefix.
 const QUALIFIERS: [(u8, &[u8], &[u8], u16, u8); 8] = [
     (0x00, b"\x05\x05", b"", 5, 0),
     (0x01, b"\x05\x01\x05\x01", b"", 261, 0),
