@@ -15,7 +15,7 @@ use Rattle.dnp_objects.specs.Headers.{number, headers_of, IsPart}
 use Rattle.dnp_objects.proofs.Results.{map_some, when_some}
 use Rattle.dnp_objects.proofs.HeaderLaws.{IsPart-found, IsPart-again}
 use Rattle.dnp_app.specs.declared.echoed.Echo.{Echo}
-use Rattle.dnp_app.specs.Echo.{filled, StandsAlone, IsEcho, command_octets, command_length, echo_with, first_echo, lone_echo, lone_echoes, only_one, echo_of, IsWithin}
+use Rattle.dnp_app.specs.Echo.{body_of, StandsAlone, IsEcho, command_octets, command_length, echo_with, first_echo, lone_echo, lone_echoes, only_one, echo_of, HasCommandsWithin}
 use Rattle.dnp_app.proofs.Rows.{is_long, object_of-long}
 use Rattle.dnp_app.proofs.Within.{all_within}
 
@@ -79,7 +79,7 @@ stands_first part h v n known command sized single long within =
     }
 
 -- what is read under a header stands there alone
-pub lone_echo-stands : (part : List ℕ) (h : Header) (e : Echo) → IsWithin part h → lone_echo part h ≡ Some e → StandsAlone part h e
+pub lone_echo-stands : (part : List ℕ) (h : Header) (e : Echo) → HasCommandsWithin part h → lone_echo part h ≡ Some e → StandsAlone part h e
 lone_echo-stands part h e w read =
     let one = when_some (eqb h.count 1) _ e read in
     let single : h.count ≡ 1 = eqb-true h.count 1 one.0 in
@@ -114,8 +114,8 @@ lone_echo-again part h e s =
     let value : take (length object - 1) object ≡ s.octets = take_at s.octets (e.status ∷ []) (length object - 1) (sym last) in
     let end : length object - 1 ≡ length s.octets + 0 = omega (arith, long) in
     let status : slice_index object (length object - 1) ≡ e.status = rw end (get_or-append-add s.octets (e.status ∷ []) 0 0) in
-    let is : echo_with h.group s.index object ≡ e = echoes_equal e (number s.index) h.group (slice_index object (length object - 1)) (filled (take (length object - 1) object))
-    s.numbered s.grouped (sym status) (s.told ∙ ap filled (sym value)) in
+    let is : echo_with h.group s.index object ≡ e = echoes_equal e (number s.index) h.group (slice_index object (length object - 1)) (body_of (take (length object - 1) object))
+    s.numbered s.grouped (sym status) (s.told ∙ ap body_of (sym value)) in
     let one : eqb h.count 1 ≡ true = eq-eqb h.count 1 s.single in
     rw (one, known, index, whole) (ap Some is)
 
@@ -178,11 +178,11 @@ none_stands part (h ∷ hs) e =
     let one = none_here part h (lone_echo part h) (lone_echoes part hs) refl e in
     (one.0, none_stands part hs one.1)
 
-none_read_here : (part : List ℕ) (h : Header) (o : Option Echo) (others : List Echo) → lone_echo part h ≡ o → IsWithin part h → NoneStands part h → others ≡ [] → cons_option o others ≡ []
+none_read_here : (part : List ℕ) (h : Header) (o : Option Echo) (others : List Echo) → lone_echo part h ≡ o → HasCommandsWithin part h → NoneStands part h → others ≡ [] → cons_option o others ≡ []
 none_read_here part h None others is w none e = e
 none_read_here part h (Some y) others is w none e = absurd (none y (lone_echo-stands part h y w is))
 
-none_read : (part : List ℕ) (hs : List Header) → AllByRecursion (IsWithin part) hs → AllByRecursion (NoneStands part) hs → lone_echoes part hs ≡ []
+none_read : (part : List ℕ) (hs : List Header) → AllByRecursion (HasCommandsWithin part) hs → AllByRecursion (NoneStands part) hs → lone_echoes part hs ≡ []
 none_read part [] within none = refl
 none_read part (h ∷ hs) within none = none_read_here part h (lone_echo part h) (lone_echoes part hs) refl within.0 none.0 (none_read part hs within.1 none.1)
 
@@ -190,7 +190,7 @@ is_echo : (part : List ℕ) (hs : List Header) (e : Echo) → IsPart part hs →
 is_echo part hs e is read =
     let s = split (lone_echo part) hs e (only_one-some (lone_echoes part hs) e read) in
     let part_of : IsPart part (s.before ++ s.here ∷ s.after) = subst (IsPart part) s.parts is in
-    let within : AllByRecursion (IsWithin part) (s.here ∷ s.after) = behind (IsWithin part) s.before (s.here ∷ s.after) (all_within part (s.before ++ s.here ∷ s.after) part_of) in
+    let within : AllByRecursion (HasCommandsWithin part) (s.here ∷ s.after) = behind (HasCommandsWithin part) s.before (s.here ∷ s.after) (all_within part (s.before ++ s.here ∷ s.after) part_of) in
     record {
       before = s.before;
       header = s.here;
@@ -214,7 +214,7 @@ echo_of_again octets e is =
     let part : List ℕ = drop 4 octets in
     let hs : List Header = is.before ++ is.header ∷ is.after in
     let read : headers_of part ≡ Ok hs = IsPart-again part hs is.headers in
-    let within : AllByRecursion (IsWithin part) (is.before ++ is.after) = without (IsWithin part) is.before is.header is.after (all_within part hs is.headers) in
+    let within : AllByRecursion (HasCommandsWithin part) (is.before ++ is.after) = without (HasCommandsWithin part) is.before is.header is.after (all_within part hs is.headers) in
     let others : lone_echoes part (is.before ++ is.after) ≡ [] = none_read part (is.before ++ is.after) within (recursion_from_All (NoneStands part) (is.before ++ is.after) is.no_other) in
     let one : lone_echoes part hs ≡ e ∷ [] = joined (lone_echo part) is.before is.header is.after e (lone_echo-again part is.header e is.alone) others in
     rw (read, one) refl

@@ -1,16 +1,19 @@
 -- A response is read.
-use Rattle.std.proofs.Common.{◌≡◌, ◌≢◌, ℕ, ◌-◌, ◌≤◌, List, [], ◌∷◌, length, take, drop, ltb, true, false, Option, Result, Ok, refl, sym, ap, subst, ◌∙◌}
+use Rattle.std.proofs.Common.{◌≡◌, ◌≢◌, ℕ, ◌-◌, ◌≤◌, List, [], ◌∷◌, length, take, drop, ltb, true, false, Option, Result, Ok, Err, refl, sym, ap, subst, ◌∙◌}
+use Rattle.std.specs.Prelude.{IfErr, IsErrOf}
 use Rattle.std.proofs.lemmas.Bool.{le-ltb}
+use Rattle.gw_model.specs.Outcome.{Gives}
 use Rattle.dnp_objects.specs.declared.header.Header.{Header}
 use Rattle.dnp_objects.specs.Headers.{headers_of, IsStoredAt}
 use Rattle.dnp_objects.proofs.HeaderLaws.{first_stored}
 use Rattle.dnp_points.specs.Meaning.{reports_of}
 use Rattle.dnp_points.proofs.ReportLaws.{meaning-again}
 use Rattle.dnp_app.specs.declared.fault.AppFault.{AppFault}
-use Rattle.dnp_app.specs.Response.{Fragment, IsResponse, is_response, StoresHeader, response_of, Gives}
+use Rattle.dnp_app.specs.declared.fault.AppFault.TheVariants.{Short, NotResponse, Object, Memory}
+use Rattle.dnp_app.specs.Response.{Fragment, IsResponse, is_response, StoresHeader, IsRefused, response_of, is_memory}
 use Rattle.dnp_app.specs.declared.echoed.Echo.{Echo}
 use Rattle.dnp_app.specs.Echo.{headers_in, lone_echoes, only_one, echo_of}
-use Rattle.dnp_app.specs.SteppedOver.{stepped_over, stepped_over_of}
+use Rattle.dnp_app.specs.SteppedOver.{stepped_over_count, stepped_over_count_of}
 use Rattle.dnp_app.proofs.Echoes.{all_from}
 
 response-again : (f : Fragment) → IsResponse f → response_of f.outstation f.octets ≡ Ok f
@@ -18,11 +21,21 @@ response-again f is =
     let long : ltb (length f.octets) 4 ≡ false = le-ltb _ _ is.long in
     rw (long, is.function, meaning-again f.outstation _ f.reports is.means) refl
 
-pub only : {X : Type 0} (view : X → Fragment) (r : Result X AppFault) (outstation : ℕ) (octets : List ℕ) → Gives view r (response_of outstation octets)
-    → (f : Fragment) → IsResponse f → f.octets ≡ octets → f.outstation ≡ outstation → Gives view r (Ok f)
+pub only : {X : Type 0} (view : X → Fragment) (r : Result X AppFault) (outstation : ℕ) (octets : List ℕ) → Gives is_memory view r (response_of outstation octets)
+    → (f : Fragment) → IsResponse f → f.octets ≡ octets → f.outstation ≡ outstation → Gives is_memory view r (Ok f)
 only view r outstation octets exact f is eo es =
     let read : response_of outstation octets ≡ Ok f = rw (← eo, ← es) (response-again f is) in
-    subst (λ (x : Result Fragment AppFault). Gives view r x) read exact
+    subst (λ (x : Result Fragment AppFault). Gives is_memory view r x) read exact
+
+-- which refusal it is
+pub refused : {X : Type 0} (view : X → Fragment) (r : Result X AppFault) (outstation : ℕ) (octets : List ℕ)
+    → Gives is_memory view r (response_of outstation octets) → (IsErrOf r Memory → StoresHeader octets)
+    → IfErr r (λ fault. IsRefused outstation fault octets)
+refused view (Ok x) outstation octets exact memory = tt
+refused view (Err Memory) outstation octets exact memory = memory refl
+refused view (Err Short) outstation octets exact memory = exact
+refused view (Err NotResponse) outstation octets exact memory = exact
+refused view (Err (Object e)) outstation octets exact memory = exact
 
 -- ---- while a response is read
 
@@ -52,5 +65,5 @@ echo_kept octets part hs seen kept at read same e =
     e ∙ (ap (λ (t : List ℕ). only_one (lone_echoes t seen)) at ∙ ap (λ (xs : List Header). only_one (lone_echoes (drop 4 octets) xs)) (same ∙ sym (headers_known octets part hs at read)))
 
 pub count_kept : (octets part : List ℕ) (hs seen : List Header) (kept : ℕ) → part ≡ drop 4 octets → headers_of part ≡ Ok hs → seen ≡ hs
-    → kept ≡ stepped_over seen → kept ≡ stepped_over_of octets
-count_kept octets part hs seen kept at read same e = e ∙ ap stepped_over (same ∙ sym (headers_known octets part hs at read))
+    → kept ≡ stepped_over_count seen → kept ≡ stepped_over_count_of octets
+count_kept octets part hs seen kept at read same e = e ∙ ap stepped_over_count (same ∙ sym (headers_known octets part hs at read))

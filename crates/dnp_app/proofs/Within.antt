@@ -12,7 +12,7 @@ use Rattle.dnp_objects.specs.declared.range.Range.{Range}
 use Rattle.dnp_objects.specs.declared.range.Range.TheVariants.{StartStop, Count}
 use Rattle.dnp_objects.specs.Library.{Role, Point, CommonTime, Echo, SteppedOver, size_of}
 use Rattle.dnp_objects.specs.Headers.{body_length, octets_after, range_of, qualifiers, IsRange, StandsAt, AreHeaders, IsPart}
-use Rattle.dnp_app.specs.Echo.{command_octets, IsWithin}
+use Rattle.dnp_app.specs.Echo.{command_octets, HasCommandsWithin}
 
 -- an index of two octets at most
 abbrev is_short : Range → Bool
@@ -46,7 +46,7 @@ commands_within (Point kind) size start count prefix total le = tt
 commands_within CommonTime size start count prefix total le = tt
 commands_within SteppedOver size start count prefix total le = tt
 
-one_within : (part : List ℕ) (place : ℕ) (octets : List ℕ) (h : Header) (rest : List ℕ) → StandsAt place octets h rest → place + length octets ≤ length part → IsWithin part h
+one_within : (part : List ℕ) (place : ℕ) (octets : List ℕ) (h : Header) (rest : List ℕ) → StandsAt place octets h rest → place + length octets ≤ length part → HasCommandsWithin part h
 one_within part place octets h rest s le =
     let v = s.variation in
     let lens : length octets ≡ length s.text + (length s.body + length rest) = ap length s.parts ∙ (length-append s.text (s.body ++ rest) ∙ ap (λ (n : ℕ). length s.text + n) (length-append s.body rest)) in
@@ -56,7 +56,7 @@ one_within part place octets h rest s le =
       inside = rw s.spelled.known (commands_within v.role (size_of v) h.start h.count h.prefix (length part) within);
     }
 
-headers_within : (part : List ℕ) (place : ℕ) (octets : List ℕ) (hs : List Header) → AreHeaders place octets hs → place + length octets ≤ length part → AllByRecursion (IsWithin part) hs
+headers_within : (part : List ℕ) (place : ℕ) (octets : List ℕ) (hs : List Header) → AreHeaders place octets hs → place + length octets ≤ length part → AllByRecursion (HasCommandsWithin part) hs
 headers_within part place octets [] are le = tt
 headers_within part place octets (h ∷ hs) are le =
     let s = are.1 in
@@ -64,8 +64,8 @@ headers_within part place octets (h ∷ hs) are le =
     let lens : length octets ≡ length s.text + (length s.body + length rest) = ap length s.parts ∙ (length-append s.text (s.body ++ rest) ∙ ap (λ (n : ℕ). length s.text + n) (length-append s.body rest)) in
     (one_within part place octets h rest s le, headers_within part (h.start + octets_after s.variation h) rest hs are.2 (omega (arith, lens, s.starts, s.sized)))
 
-pub all_within : (part : List ℕ) (hs : List Header) → IsPart part hs → AllByRecursion (IsWithin part) hs
+pub all_within : (part : List ℕ) (hs : List Header) → IsPart part hs → AllByRecursion (HasCommandsWithin part) hs
 all_within part hs is = headers_within part 0 part hs is.0 (omega arith)
 
-pub within : (part : List ℕ) (hs : List Header) (i : ℕ) (d : Header) → IsPart part hs → i < length hs → IsWithin part (get_or hs i d)
-within part hs i d is lt = All-get_or (IsWithin part) hs i d lt (All-from_recursion (IsWithin part) hs (all_within part hs is))
+pub within : (part : List ℕ) (hs : List Header) (i : ℕ) (d : Header) → IsPart part hs → i < length hs → HasCommandsWithin part (get_or hs i d)
+within part hs i d is lt = All-get_or (HasCommandsWithin part) hs i d lt (All-from_recursion (HasCommandsWithin part) hs (all_within part hs is))

@@ -5,7 +5,13 @@ use Rattle.dnp_app.specs.declared.response.Control.{Control}
 -- bit 7 FIR, 6 FIN, 5 CON, 4 UNS, 0 to 3 the sequence number
 abbrev pub control_of : ℕ → Control
 control_of octet =
-    record { fir = nat_le 128 octet; fin = (octet / 64) % 2 == 1; con = (octet / 32) % 2 == 1; uns = (octet / 16) % 2 == 1; sequence = octet % 16 }
+    record {
+      fir = nat_le 128 octet;
+      fin = (octet / 64) % 2 == 1;
+      con = (octet / 32) % 2 == 1;
+      uns = (octet / 16) % 2 == 1;
+      sequence = octet % 16;
+    }
 
 -- a confirmation (function 0): FIR and FIN, UNS where an unsolicited response is confirmed, and its sequence number
 abbrev pub confirmation_of : ℕ → Bool → List ℕ

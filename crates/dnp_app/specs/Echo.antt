@@ -12,9 +12,9 @@ use Rattle.dnp_app.specs.declared.echoed.Echo.{Echo}
 
 -- ---- what an echo is
 
--- the octets of a command before its status, filled up by zeros
-abbrev pub filled : List ℕ → List ℕ
-filled octets = octets ++ replicate (11 - length octets) 0
+-- the body of an echo: the octets of a command before its status, filled up by zeros
+abbrev pub body_of : List ℕ → List ℕ
+body_of octets = octets ++ replicate (11 - length octets) 0
 
 -- under this header of a part stands one command and nothing else: an index, the command's octets, and its status
 pub record StandsAlone (part : List ℕ) (h : Header) (e : Echo) : Type 0 where
@@ -30,7 +30,7 @@ pub record StandsAlone (part : List ℕ) (h : Header) (e : Echo) : Type 0 where
   pub sized : size_of variation ≡ Octets (length octets + 1)
   pub numbered : e.index ≡ number index
   pub grouped : e.group ≡ h.group
-  pub told : e.body ≡ filled octets
+  pub told : e.body ≡ body_of octets
 
 -- under one header of a part, and no other, stands one command and nothing else
 pub record IsEcho (part : List ℕ) (e : Echo) : Type 0 where
@@ -64,15 +64,23 @@ command_length group number = option_and_then (λ v. command_octets v.role (size
 -- a command of a group behind its index; the last octet is its status
 abbrev pub echo_with : ℕ → List ℕ → List ℕ → Echo
 echo_with group index object =
-    record { index = number index; group = group; body = filled (take (length object - 1) object); status = slice_index object (length object - 1) }
+    let last = length object - 1 in
+    record {
+      index = number index;
+      group = group;
+      body = body_of (take last object);
+      status = slice_index object last;
+    }
 
 -- the first command of a header of a part, of so many octets
 abbrev pub first_echo : List ℕ → Header → ℕ → Echo
-first_echo part h octets = echo_with h.group (take h.prefix (drop h.start part)) (take octets (drop (h.start + h.prefix) part))
+first_echo part h octets =
+    echo_with h.group (take h.prefix (drop h.start part)) (take octets (drop (h.start + h.prefix) part))
 
 -- the command that stands alone under a header, where one does
 abbrev pub lone_echo : List ℕ → Header → Option Echo
-lone_echo part h = if h.count == 1 then option_map (first_echo part h) (command_length h.group h.variation) else None
+lone_echo part h =
+    if h.count == 1 then option_map (first_echo part h) (command_length h.group h.variation) else None
 
 -- the commands of a part that stand alone under their header
 abbrev pub lone_echoes : List ℕ → List Header → List Echo
@@ -88,7 +96,9 @@ only_one (x ∷ y ∷ rest) = None
 abbrev pub echo_of : List ℕ → Option Echo
 echo_of octets = only_one (lone_echoes (drop 4 octets) (headers_in octets))
 
--- a header of a part, and its objects where they are commands: within the part, each behind an index of two octets at most
-pub record IsWithin (part : List ℕ) (h : Header) : Type 0 where
+-- a header of a part, and its objects where they are commands: within the part, each behind an index of two octets
+-- at most
+pub record HasCommandsWithin (part : List ℕ) (h : Header) : Type 0 where
   pub prefix : h.prefix ≤ 2
-  pub inside : IfSome (command_length h.group h.variation) (λ octets. h.start + h.count * (h.prefix + octets) ≤ length part)
+  pub inside :
+      IfSome (command_length h.group h.variation) (λ octets. h.start + h.count * (h.prefix + octets) ≤ length part)

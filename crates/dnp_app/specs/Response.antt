@@ -1,6 +1,6 @@
 -- What a response fragment is (IEEE Std 1815, 4.2.2): application control, function 129 or 130, two octets of
 -- internal indications, and an object part.
-use Rattle.std.specs.Prelude.{◌≡◌, ℕ, ◌≤◌, Bool, true, ◌||◌, ◌==◌, List, length, drop, slice_index, Result, Ok, Err, nat_lt, if◌then◌else◌}
+use Rattle.std.specs.Prelude.{◌≡◌, ℕ, ◌≤◌, Bool, true, false, ◌||◌, ◌==◌, List, length, drop, slice_index, Result, Ok, Err, nat_lt, if◌then◌else◌}
 use Rattle.gw_model.specs.declared.point.Report.{Report}
 use Rattle.dnp_objects.specs.declared.fault.ObjectFault.{ObjectFault}
 use Rattle.dnp_objects.specs.Headers.{IsStoredAt}
@@ -13,6 +13,9 @@ pub record Fragment : Type 0 where
   pub outstation : ℕ
   pub octets : List ℕ
   pub reports : List Report
+
+abbrev pub fragment_of : ℕ → List ℕ → List Report → Fragment
+fragment_of outstation octets reports = record { outstation = outstation; octets = octets; reports = reports }
 
 -- function 129 is a response, 130 an unsolicited response
 abbrev pub is_response : List ℕ → Bool
@@ -37,7 +40,7 @@ pub record StoresHeader (octets : List ℕ) : Type 0 where
 
 -- the response with an object part that was read, or the fault of that part
 abbrev pub with_reports : ℕ → List ℕ → Result (List Report) ObjectFault → Result Fragment AppFault
-with_reports outstation octets (Ok rs) = Ok (record { outstation = outstation; octets = octets; reports = rs })
+with_reports outstation octets (Ok reports) = Ok (fragment_of outstation octets reports)
 with_reports outstation octets (Err e) = Err (Object e)
 
 -- the response that octets are, or the first fault
@@ -47,17 +50,17 @@ response_of outstation octets =
     else if is_response octets then with_reports outstation octets (meaning_of outstation (drop 4 octets))
     else Err NotResponse
 
--- octets are refused for this fault: the first that reading meets; memory runs out only where a header of a response is stored
+-- octets are refused for this fault: the first that reading meets; memory runs out only where a header of a response
+-- is stored
 abbrev pub IsRefused : ℕ → AppFault → List ℕ → Type 0
 IsRefused outstation Memory octets = StoresHeader octets
 IsRefused outstation Short octets = response_of outstation octets ≡ Err Short
 IsRefused outstation NotResponse octets = response_of outstation octets ≡ Err NotResponse
 IsRefused outstation (Object e) octets = response_of outstation octets ≡ Err (Object e)
 
--- what a function returned, seen by view, is what reading gives, unless memory ran out
-abbrev pub Gives : {X Y : Type 0} → (X → Y) → Result X AppFault → Result Y AppFault → Type 0
-Gives view (Ok x) read = read ≡ Ok (view x)
-Gives view (Err Memory) read = Unit {0}
-Gives view (Err Short) read = read ≡ Err Short
-Gives view (Err NotResponse) read = read ≡ Err NotResponse
-Gives view (Err (Object e)) read = read ≡ Err (Object e)
+-- the fault is that memory ran out
+abbrev pub is_memory : AppFault → Bool
+is_memory Memory = true
+is_memory Short = false
+is_memory NotResponse = false
+is_memory (Object e) = false

@@ -20,9 +20,9 @@ abbrev pub is_stepped_over : ℕ → ℕ → Bool
 is_stepped_over group number = is_known_for_nothing (object_of group number)
 
 -- how many objects under these headers are stepped over
-abbrev pub stepped_over : List Header → ℕ
-stepped_over hs = sum_by (λ h. h.count) (filter (λ h. is_stepped_over h.group h.variation) hs)
+abbrev pub stepped_over_count : List Header → ℕ
+stepped_over_count hs = sum_by (λ h. h.count) (filter (λ h. is_stepped_over h.group h.variation) hs)
 
 -- how many objects of a fragment are stepped over
-abbrev pub stepped_over_of : List ℕ → ℕ
-stepped_over_of octets = stepped_over (headers_in octets)
+abbrev pub stepped_over_count_of : List ℕ → ℕ
+stepped_over_count_of octets = stepped_over_count (headers_in octets)

@@ -1,9 +1,9 @@
 //! The command that a response echoes.
 ghost use Rattle.std.specs.Prelude.{◌≡◌, ◌≤◌, ◌<◌, length, IfSome};
 ghost use Rattle.dnp_objects.specs.Headers.{number, IsPart};
-ghost use Rattle.dnp_app.specs.Echo.{command_length, echo_with, lone_echo, lone_echoes, only_one, IsWithin};
+ghost use Rattle.dnp_app.specs.Echo.{command_length, echo_with, lone_echo, lone_echoes, only_one, HasCommandsWithin};
 
-use dnp_objects::Header;
+use dnp_objects::{Header, number};
 
 /// A command object that a response gives back: a control relay output block (group 12, variation 1) or a
 /// 16-bit analog output (group 41, variation 2).
@@ -37,11 +37,7 @@ fn index_in(octets: &[u8]) -> u16
     requires { length octets.now ≤ 2 }
     ensures { result ≡ number octets.now }
 {
-    match octets {
-        [] => 0,
-        [low] => u16::from(*low),
-        [low, high, ..] => u16::from_le_bytes([*low, *high]),
-    }
+    number(octets) as u16
 }
 
 /// A command object of a group behind its index.
@@ -64,7 +60,7 @@ fn echo_with(group: u8, index: &[u8], object: &[u8]) -> Echo
 
 /// The command object that stands alone under a header, where there is one.
 fn lone_echo(header: &Header, part: &[u8]) -> Option<Echo>
-    requires { IsWithin part.now header.now }
+    requires { HasCommandsWithin part.now header.now }
     ensures { result ≡ lone_echo part.now header.now }
 {
     if header.count != 1 {

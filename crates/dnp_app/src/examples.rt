@@ -6,34 +6,44 @@ ghost use Rattle.dnp_points.specs.Objects.{binary_report};
 ghost use Rattle.dnp_app.specs.declared.fault.AppFault.TheVariants.{Short, NotResponse, Object};
 ghost use Rattle.dnp_app.specs.Control.{control_of, confirmation_of};
 ghost use Rattle.dnp_app.specs.Echo.{echo_of};
-ghost use Rattle.dnp_app.specs.Response.{response_of};
-ghost use Rattle.dnp_app.specs.SteppedOver.{stepped_over_of};
+ghost use Rattle.dnp_app.specs.Response.{response_of, fragment_of};
+ghost use Rattle.dnp_app.specs.SteppedOver.{stepped_over_count_of};
 
 /// What some fragments are, read for an outstation, and which fault others have.
 #[tactic(auto, unfolding(dnp_objects::specs::Headers::headers_from, dnp_objects::specs::Library::object_of, dnp_points::specs::Objects::point_report))]
 pub fn fragments_by_example()
-    // E3 81 00 00 02 01 17 01 05 81: a response that reports input 5 on, as a point of the outstation that it is read for.
+    // E3 81 00 00 02 01 17 01 05 81: a response that reports input 5 on, as a point of the outstation that it is
+    // read for.
     ensures response { response_of 0 (0xE3 ∷ 0x81 ∷ 0x00 ∷ 0x00 ∷ 0x02 ∷ 0x01 ∷ 0x17 ∷ 0x01 ∷ 0x05 ∷ 0x81 ∷ [])
-        ≡ Ok (record { outstation = 0; octets = 0xE3 ∷ 0x81 ∷ 0x00 ∷ 0x00 ∷ 0x02 ∷ 0x01 ∷ 0x17 ∷ 0x01 ∷ 0x05 ∷ 0x81 ∷ []; reports = binary_report 0 5 0x81 ∷ [] }) }
+        ≡ Ok (fragment_of 0 (0xE3 ∷ 0x81 ∷ 0x00 ∷ 0x00 ∷ 0x02 ∷ 0x01 ∷ 0x17 ∷ 0x01 ∷ 0x05 ∷ 0x81 ∷ [])
+        (binary_report 0 5 0x81 ∷ [])) }
     ensures other { response_of 7 (0xC0 ∷ 0x81 ∷ 0x00 ∷ 0x00 ∷ 0x02 ∷ 0x01 ∷ 0x17 ∷ 0x01 ∷ 0x05 ∷ 0x81 ∷ [])
-        ≡ Ok (record { outstation = 7; octets = 0xC0 ∷ 0x81 ∷ 0x00 ∷ 0x00 ∷ 0x02 ∷ 0x01 ∷ 0x17 ∷ 0x01 ∷ 0x05 ∷ 0x81 ∷ []; reports = binary_report 7 5 0x81 ∷ [] }) }
+        ≡ Ok (fragment_of 7 (0xC0 ∷ 0x81 ∷ 0x00 ∷ 0x00 ∷ 0x02 ∷ 0x01 ∷ 0x17 ∷ 0x01 ∷ 0x05 ∷ 0x81 ∷ [])
+        (binary_report 7 5 0x81 ∷ [])) }
     // F0 82 90 08: an unsolicited response with internal indications and an empty object part.
-    ensures unsolicited { response_of 0 (0xF0 ∷ 0x82 ∷ 0x90 ∷ 0x08 ∷ []) ≡ Ok (record { outstation = 0; octets = 0xF0 ∷ 0x82 ∷ 0x90 ∷ 0x08 ∷ []; reports = [] }) }
-    ensures empty { response_of 0 (0xC0 ∷ 0x81 ∷ 0x00 ∷ 0x00 ∷ []) ≡ Ok (record { outstation = 0; octets = 0xC0 ∷ 0x81 ∷ 0x00 ∷ 0x00 ∷ []; reports = [] }) }
-    // Fewer than four octets, whatever the function; then other functions: WRITE and 131 (an authentication response), whatever follows.
+    ensures unsolicited { response_of 0 (0xF0 ∷ 0x82 ∷ 0x90 ∷ 0x08 ∷ [])
+        ≡ Ok (fragment_of 0 (0xF0 ∷ 0x82 ∷ 0x90 ∷ 0x08 ∷ []) []) }
+    ensures empty { response_of 0 (0xC0 ∷ 0x81 ∷ 0x00 ∷ 0x00 ∷ [])
+        ≡ Ok (fragment_of 0 (0xC0 ∷ 0x81 ∷ 0x00 ∷ 0x00 ∷ []) []) }
+    // Fewer than four octets, whatever the function; then other functions: WRITE and 131 (an authentication
+    // response), whatever follows.
     ensures short { response_of 0 (0xC0 ∷ 0x81 ∷ 0x00 ∷ []) ≡ Err Short }
     ensures short_first { response_of 0 (0xC0 ∷ 0x02 ∷ 0x00 ∷ []) ≡ Err Short }
     ensures nothing { response_of 0 [] ≡ Err Short }
     ensures request { response_of 0 (0xC0 ∷ 0x02 ∷ 0x00 ∷ 0x00 ∷ []) ≡ Err NotResponse }
-    ensures authentication { response_of 0 (0xC0 ∷ 0x83 ∷ 0x00 ∷ 0x00 ∷ 0x02 ∷ 0x01 ∷ 0x17 ∷ 0x01 ∷ 0x05 ∷ []) ≡ Err NotResponse }
+    ensures authentication { response_of 0 (0xC0 ∷ 0x83 ∷ 0x00 ∷ 0x00 ∷ 0x02 ∷ 0x01 ∷ 0x17 ∷ 0x01 ∷ 0x05 ∷ [])
+        ≡ Err NotResponse }
     // An object part at fault: places count in the part.
-    ensures data { response_of 0 (0xC0 ∷ 0x81 ∷ 0x00 ∷ 0x00 ∷ 0x02 ∷ 0x01 ∷ 0x17 ∷ 0x01 ∷ 0x05 ∷ []) ≡ Err (Object (record { why = ShortData; place = 0 })) }
-    ensures second { response_of 0 (0xC0 ∷ 0x81 ∷ 0x00 ∷ 0x00 ∷ 0x02 ∷ 0x01 ∷ 0x17 ∷ 0x01 ∷ 0x05 ∷ 0x81 ∷ 0xC8 ∷ 0x01 ∷ 0x00 ∷ []) ≡ Err (Object (record { why = UnknownObject; place = 6 })) }
+    ensures data { response_of 0 (0xC0 ∷ 0x81 ∷ 0x00 ∷ 0x00 ∷ 0x02 ∷ 0x01 ∷ 0x17 ∷ 0x01 ∷ 0x05 ∷ [])
+        ≡ Err (Object (record { why = ShortData; place = 0 })) }
+    ensures second { response_of 0 (0xC0 ∷ 0x81 ∷ 0x00 ∷ 0x00 ∷ 0x02 ∷ 0x01 ∷ 0x17 ∷ 0x01 ∷ 0x05 ∷ 0x81 ∷ 0xC8
+        ∷ 0x01 ∷ 0x00 ∷ []) ≡ Err (Object (record { why = UnknownObject; place = 6 })) }
 {}
 
 /// What some application control octets say, and which octets confirm a fragment.
 pub fn controls_by_example()
-    // E3: first and last, to be confirmed, sequence number 3; F0: an unsolicited one; 40 and 8F: a last fragment, and a first one.
+    // E3: first and last, to be confirmed, sequence number 3; F0: an unsolicited one; 40 and 8F: a last fragment, and
+    // a first one.
     ensures e3 { control_of 0xE3 ≡ record { fir = true; fin = true; con = true; uns = false; sequence = 3 } }
     ensures f0 { control_of 0xF0 ≡ record { fir = true; fin = true; con = true; uns = true; sequence = 0 } }
     ensures last { control_of 0x40 ≡ record { fir = false; fin = true; con = false; uns = false; sequence = 0 } }
@@ -43,42 +53,72 @@ pub fn controls_by_example()
 {}
 
 /// Which command some fragments echo.
-#[tactic(auto, unfolding(dnp_objects::specs::Headers::headers_from, dnp_objects::specs::Library::object_of, dnp_points::specs::Objects::point_report))]
+#[tactic(auto, unfolding(dnp_objects::specs::Headers::headers_from, dnp_objects::specs::Library::object_of))]
 pub fn echoes_by_example()
-    // A control relay output block under 28, whatever its octets are: index of two octets, code, count, on-time, off-time and status.
+    // A control relay output block under 28, whatever its octets are: index of two octets, code, count, on-time,
+    // off-time and status.
     ensures relay { (low high code count on₀ on₁ on₂ on₃ off₀ off₁ off₂ off₃ status : ℕ)
-        → echo_of (0xC1 ∷ 0x81 ∷ 0x00 ∷ 0x00 ∷ 0x0C ∷ 0x01 ∷ 0x28 ∷ 0x01 ∷ 0x00 ∷ low ∷ high ∷ code ∷ count ∷ on₀ ∷ on₁ ∷ on₂ ∷ on₃ ∷ off₀ ∷ off₁ ∷ off₂ ∷ off₃ ∷ status ∷ [])
-        ≡ Some (record { index = number (low ∷ high ∷ []); group = 12; body = code ∷ count ∷ on₀ ∷ on₁ ∷ on₂ ∷ on₃ ∷ off₀ ∷ off₁ ∷ off₂ ∷ off₃ ∷ 0 ∷ []; status = status }) }
+        → echo_of (0xC1 ∷ 0x81 ∷ 0x00 ∷ 0x00 ∷ 0x0C ∷ 0x01 ∷ 0x28 ∷ 0x01 ∷ 0x00 ∷ low ∷ high ∷ code ∷ count ∷ on₀
+        ∷ on₁ ∷ on₂ ∷ on₃ ∷ off₀ ∷ off₁ ∷ off₂ ∷ off₃ ∷ status ∷ [])
+        ≡ Some (record {
+          index = number (low ∷ high ∷ []);
+          group = 12;
+          body = code ∷ count ∷ on₀ ∷ on₁ ∷ on₂ ∷ on₃ ∷ off₀ ∷ off₁ ∷ off₂ ∷ off₃ ∷ 0 ∷ [];
+          status = status;
+        }) }
     // A 16-bit analog output under 28, and under 17: its value, and zeros.
     ensures setpoint { (low high value₀ value₁ status : ℕ)
-        → echo_of (0xC1 ∷ 0x81 ∷ 0x00 ∷ 0x00 ∷ 0x29 ∷ 0x02 ∷ 0x28 ∷ 0x01 ∷ 0x00 ∷ low ∷ high ∷ value₀ ∷ value₁ ∷ status ∷ [])
-        ≡ Some (record { index = number (low ∷ high ∷ []); group = 41; body = value₀ ∷ value₁ ∷ 0 ∷ 0 ∷ 0 ∷ 0 ∷ 0 ∷ 0 ∷ 0 ∷ 0 ∷ 0 ∷ []; status = status }) }
-    ensures one_octet_of_index { echo_of (0xC0 ∷ 0x81 ∷ 0x00 ∷ 0x00 ∷ 0x29 ∷ 0x02 ∷ 0x17 ∷ 0x01 ∷ 0xFF ∷ 0xE8 ∷ 0x03 ∷ 0x04 ∷ [])
-        ≡ Some (record { index = 255; group = 41; body = 0xE8 ∷ 0x03 ∷ 0 ∷ 0 ∷ 0 ∷ 0 ∷ 0 ∷ 0 ∷ 0 ∷ 0 ∷ 0 ∷ []; status = 4 }) }
+        → echo_of (0xC1 ∷ 0x81 ∷ 0x00 ∷ 0x00 ∷ 0x29 ∷ 0x02 ∷ 0x28 ∷ 0x01 ∷ 0x00 ∷ low ∷ high ∷ value₀ ∷ value₁
+        ∷ status ∷ [])
+        ≡ Some (record {
+          index = number (low ∷ high ∷ []);
+          group = 41;
+          body = value₀ ∷ value₁ ∷ 0 ∷ 0 ∷ 0 ∷ 0 ∷ 0 ∷ 0 ∷ 0 ∷ 0 ∷ 0 ∷ [];
+          status = status;
+        }) }
+    ensures one_octet_of_index { echo_of (0xC0 ∷ 0x81 ∷ 0x00 ∷ 0x00 ∷ 0x29 ∷ 0x02 ∷ 0x17 ∷ 0x01 ∷ 0xFF ∷ 0xE8
+        ∷ 0x03 ∷ 0x04 ∷ [])
+        ≡ Some (record {
+          index = 255;
+          group = 41;
+          body = 0xE8 ∷ 0x03 ∷ 0 ∷ 0 ∷ 0 ∷ 0 ∷ 0 ∷ 0 ∷ 0 ∷ 0 ∷ 0 ∷ [];
+          status = 4;
+        }) }
     // Two such headers are no echo, though they are alike; nor are two commands under one header, nor none.
-    ensures two_headers { echo_of (0xC0 ∷ 0x81 ∷ 0x00 ∷ 0x00 ∷ 0x29 ∷ 0x02 ∷ 0x17 ∷ 0x01 ∷ 0x04 ∷ 0xE8 ∷ 0x03 ∷ 0x00 ∷ 0x29 ∷ 0x02 ∷ 0x17 ∷ 0x01 ∷ 0x04 ∷ 0xE8 ∷ 0x03 ∷ 0x00 ∷ []) ≡ None }
-    ensures two_commands { echo_of (0xC0 ∷ 0x81 ∷ 0x00 ∷ 0x00 ∷ 0x29 ∷ 0x02 ∷ 0x17 ∷ 0x02 ∷ 0x04 ∷ 0xE8 ∷ 0x03 ∷ 0x00 ∷ 0x05 ∷ 0xE8 ∷ 0x03 ∷ 0x00 ∷ []) ≡ None }
+    ensures two_headers { echo_of (0xC0 ∷ 0x81 ∷ 0x00 ∷ 0x00 ∷ 0x29 ∷ 0x02 ∷ 0x17 ∷ 0x01 ∷ 0x04 ∷ 0xE8 ∷ 0x03
+        ∷ 0x00 ∷ 0x29 ∷ 0x02 ∷ 0x17 ∷ 0x01 ∷ 0x04 ∷ 0xE8 ∷ 0x03 ∷ 0x00 ∷ []) ≡ None }
+    ensures two_commands { echo_of (0xC0 ∷ 0x81 ∷ 0x00 ∷ 0x00 ∷ 0x29 ∷ 0x02 ∷ 0x17 ∷ 0x02 ∷ 0x04 ∷ 0xE8 ∷ 0x03
+        ∷ 0x00 ∷ 0x05 ∷ 0xE8 ∷ 0x03 ∷ 0x00 ∷ []) ≡ None }
     ensures no_command { echo_of (0xC0 ∷ 0x81 ∷ 0x00 ∷ 0x00 ∷ 0x29 ∷ 0x02 ∷ 0x17 ∷ 0x00 ∷ []) ≡ None }
     // Headers with no command or with two, and those of other objects, don't matter beside one that has one.
     ensures beside_others { echo_of (0xC0 ∷ 0x81 ∷ 0x00 ∷ 0x00 ∷ 0x0C ∷ 0x01 ∷ 0x28 ∷ 0x00 ∷ 0x00
         ∷ 0x29 ∷ 0x02 ∷ 0x17 ∷ 0x02 ∷ 0x04 ∷ 0xE8 ∷ 0x03 ∷ 0x00 ∷ 0x05 ∷ 0xE8 ∷ 0x03 ∷ 0x00
         ∷ 0x29 ∷ 0x02 ∷ 0x27 ∷ 0x01 ∷ 0x05 ∷ 0x01 ∷ 0x18 ∷ 0xFC ∷ 0x01
         ∷ 0x02 ∷ 0x01 ∷ 0x17 ∷ 0x01 ∷ 0x05 ∷ 0x81 ∷ [])
-        ≡ Some (record { index = 261; group = 41; body = 0x18 ∷ 0xFC ∷ 0 ∷ 0 ∷ 0 ∷ 0 ∷ 0 ∷ 0 ∷ 0 ∷ 0 ∷ 0 ∷ []; status = 1 }) }
+        ≡ Some (record {
+          index = 261;
+          group = 41;
+          body = 0x18 ∷ 0xFC ∷ 0 ∷ 0 ∷ 0 ∷ 0 ∷ 0 ∷ 0 ∷ 0 ∷ 0 ∷ 0 ∷ [];
+          status = 1;
+        }) }
     ensures reports_alone { echo_of (0xC0 ∷ 0x81 ∷ 0x00 ∷ 0x00 ∷ 0x02 ∷ 0x01 ∷ 0x17 ∷ 0x01 ∷ 0x05 ∷ 0x81 ∷ []) ≡ None }
 {}
 
 /// How many objects of some fragments are stepped over.
-#[tactic(auto, unfolding(dnp_objects::specs::Headers::headers_from, dnp_objects::specs::Library::object_of, dnp_points::specs::Objects::point_report))]
+#[tactic(auto, unfolding(dnp_objects::specs::Headers::headers_from, dnp_objects::specs::Library::object_of))]
 pub fn stepped_over_by_example()
     // An analog input is reported, and one in floating point behind it is stepped over.
-    ensures one { stepped_over_of (0xE1 ∷ 0x81 ∷ 0x00 ∷ 0x00 ∷ 0x1E ∷ 0x01 ∷ 0x00 ∷ 0x00 ∷ 0x00 ∷ 0x01 ∷ 0x0A ∷ 0x00 ∷ 0x00 ∷ 0x00
+    ensures one { stepped_over_count_of (0xE1 ∷ 0x81 ∷ 0x00 ∷ 0x00
+        ∷ 0x1E ∷ 0x01 ∷ 0x00 ∷ 0x00 ∷ 0x00 ∷ 0x01 ∷ 0x0A ∷ 0x00 ∷ 0x00 ∷ 0x00
         ∷ 0x1E ∷ 0x05 ∷ 0x00 ∷ 0x01 ∷ 0x01 ∷ 0x01 ∷ 0x00 ∷ 0x00 ∷ 0x80 ∷ 0x3F ∷ []) ≡ 1 }
     // Each object counts: three frozen counters under one header, and an octet string.
-    ensures four { stepped_over_of (0xC0 ∷ 0x81 ∷ 0x00 ∷ 0x00 ∷ 0x15 ∷ 0x0A ∷ 0x00 ∷ 0x00 ∷ 0x02 ∷ 0x01 ∷ 0x00 ∷ 0x02 ∷ 0x00 ∷ 0x03 ∷ 0x00
+    ensures four { stepped_over_count_of (0xC0 ∷ 0x81 ∷ 0x00 ∷ 0x00
+        ∷ 0x15 ∷ 0x0A ∷ 0x00 ∷ 0x00 ∷ 0x02 ∷ 0x01 ∷ 0x00 ∷ 0x02 ∷ 0x00 ∷ 0x03 ∷ 0x00
         ∷ 0x6E ∷ 0x02 ∷ 0x17 ∷ 0x01 ∷ 0x00 ∷ 0x48 ∷ 0x69 ∷ []) ≡ 4 }
     // A common time, a command and an event are not stepped over.
-    ensures none { stepped_over_of (0xC0 ∷ 0x81 ∷ 0x00 ∷ 0x00 ∷ 0x33 ∷ 0x01 ∷ 0x07 ∷ 0x01 ∷ 0x00 ∷ 0x68 ∷ 0xE5 ∷ 0xCF ∷ 0x8B ∷ 0x01
-        ∷ 0x29 ∷ 0x02 ∷ 0x17 ∷ 0x01 ∷ 0x04 ∷ 0xE8 ∷ 0x03 ∷ 0x00 ∷ 0x02 ∷ 0x03 ∷ 0x17 ∷ 0x01 ∷ 0x05 ∷ 0x81 ∷ 0xFF ∷ 0xFF ∷ []) ≡ 0 }
-    ensures empty { stepped_over_of (0xC0 ∷ 0x81 ∷ 0x00 ∷ 0x00 ∷ []) ≡ 0 }
+    ensures none { stepped_over_count_of (0xC0 ∷ 0x81 ∷ 0x00 ∷ 0x00
+        ∷ 0x33 ∷ 0x01 ∷ 0x07 ∷ 0x01 ∷ 0x00 ∷ 0x68 ∷ 0xE5 ∷ 0xCF ∷ 0x8B ∷ 0x01
+        ∷ 0x29 ∷ 0x02 ∷ 0x17 ∷ 0x01 ∷ 0x04 ∷ 0xE8 ∷ 0x03 ∷ 0x00
+        ∷ 0x02 ∷ 0x03 ∷ 0x17 ∷ 0x01 ∷ 0x05 ∷ 0x81 ∷ 0xFF ∷ 0xFF ∷ []) ≡ 0 }
+    ensures empty { stepped_over_count_of (0xC0 ∷ 0x81 ∷ 0x00 ∷ 0x00 ∷ []) ≡ 0 }
 {}

@@ -18,6 +18,3 @@ pub use examples::{
 pub use fault::AppFault;
 pub use law::one_echo;
 pub use response::{Control, Response, read_response};
-
-#[cfg(test)]
-mod tests;

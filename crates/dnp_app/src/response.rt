@@ -1,7 +1,8 @@
 //! Responses of an outstation.
-ghost use Rattle.std.specs.Prelude.{◌≡◌, ◌≤◌, ◌<◌, length, drop, List, [], ◌∷◌, Ok, Some, IfOk, IfSome, IsErrOf, slice_index, ◌==◌, true};
+ghost use Rattle.std.specs.Prelude.{◌≡◌, ◌≤◌, ◌<◌, length, drop, List, [], ◌∷◌, Ok, Some, IfOk, IfErr, IfSome, IsErrOf, slice_index, true};
+ghost use Rattle.gw_model.specs.Outcome.{Gives};
 ghost use Rattle.dnp_app.specs.declared.echoed.Echo.{Echo as Echoed};
-ghost use Rattle.dnp_app.specs.Response.{Fragment, IsResponse, StoresHeader, response_of, Gives};
+ghost use Rattle.dnp_app.specs.Response.{Fragment, IsResponse, IsRefused, StoresHeader, is_unsolicited, response_of, is_memory};
 
 use crate::confirmation::confirm;
 use crate::echoed::{Echo, only_echo};
@@ -40,22 +41,23 @@ pub struct Response {
 
 impl Model for Response {
     ghost use Rattle.std.specs.Prelude.{◌≡◌, ◌≤◌, length};
-    ghost use Rattle.dnp_app.specs.Response.{Fragment, IsResponse};
+    ghost use Rattle.dnp_app.specs.Response.{Fragment, IsResponse, fragment_of};
     ghost use Rattle.dnp_app.specs.Echo.{echo_of};
-    ghost use Rattle.dnp_app.specs.SteppedOver.{stepped_over_of};
+    ghost use Rattle.dnp_app.specs.SteppedOver.{stepped_over_count_of};
 
     ghost Value = { Fragment };
 
-    ghost view = { λ r. record { outstation = r.outstation; octets = r.octets.items; reports = r.reports.items } };
+    ghost view = { λ r. fragment_of r.outstation r.octets.items r.reports.items };
 
-    ghost invariant = { λ r. IsResponse (record { outstation = r.outstation; octets = r.octets.items; reports = r.reports.items }) × (length r.octets.items ≤ 2048)
-        × (r.echo ≡ echo_of r.octets.items) × (r.stepped_over ≡ stepped_over_of r.octets.items) };
+    ghost invariant = { λ r. IsResponse (fragment_of r.outstation r.octets.items r.reports.items)
+        × (length r.octets.items ≤ 2048)
+        × (r.echo ≡ echo_of r.octets.items) × (r.stepped_over ≡ stepped_over_count_of r.octets.items) };
 }
 
 impl Response {
     ghost use Rattle.dnp_app.specs.Control.{confirm_of, control_of};
     ghost use Rattle.dnp_app.specs.Echo.{echo_of, IsEcho};
-    ghost use Rattle.dnp_app.specs.SteppedOver.{stepped_over_of};
+    ghost use Rattle.dnp_app.specs.SteppedOver.{stepped_over_count_of};
 
     /// The outstation that the fragment was read for, by its position in the settings.
     pub fn outstation(&self) -> u8
@@ -92,7 +94,7 @@ impl Response {
 
     /// How many objects of the fragment were stepped over, since they are of no point.
     pub fn stepped_over(&self) -> usize
-        ensures { result ≡ stepped_over_of self.now.octets }
+        ensures { result ≡ stepped_over_count_of self.now.octets }
     {
         self.stepped_over
     }
@@ -126,7 +128,7 @@ impl Response {
 
     /// Whether the fragment is an unsolicited response (function 130).
     pub fn is_unsolicited(&self) -> bool
-        ensures { result ≡ (slice_index self.now.octets 1 == 130) }
+        ensures { result ≡ is_unsolicited self.now }
     {
         self.octets[1] == 130
     }
@@ -147,11 +149,14 @@ pub fn read_response(alloc: Global, outstation: u8, octets: Vec<u8>) -> Result<R
     // What is read is a response of these octets.
     ensures found { IfOk result (λ r. IsResponse r × (r.octets ≡ octets.items) × (r.outstation ≡ outstation)) }
     // A response is read, unless memory runs out.
-    ensures only { (f : Fragment) → IsResponse f → f.octets ≡ octets.items → f.outstation ≡ outstation → Gives (λ r. r) result (Ok f) }
+    ensures only { (f : Fragment) → IsResponse f → f.octets ≡ octets.items → f.outstation ≡ outstation
+        → Gives is_memory (λ r. r) result (Ok f) }
     // Which fault it is.
-    ensures exact { Gives (λ r. r) result (response_of outstation octets.items) }
+    ensures exact { Gives is_memory (λ r. r) result (response_of outstation octets.items) }
     // Memory runs out only where a header of the object part of a response is stored.
     ensures memory { IsErrOf result AppFault.Memory → StoresHeader octets.items }
+    // Each refusal is of what reading meets first.
+    ensures refused { IfErr result (λ fault. IsRefused outstation fault octets.items) }
 {
     read(alloc, outstation, octets)
 }
@@ -159,7 +164,7 @@ pub fn read_response(alloc: Global, outstation: u8, octets: Vec<u8>) -> Result<R
 fn read(alloc: Global, outstation: u8, octets: Vec<u8>) -> Result<Response, AppFault>
     requires { length octets.items ≤ 2048 }
     ensures found { IfOk result (λ r. IsResponse r × (r.octets ≡ octets.items) × (r.outstation ≡ outstation)) }
-    ensures exact { Gives (λ r. r) result (response_of outstation octets.items) }
+    ensures exact { Gives is_memory (λ r. r) result (response_of outstation octets.items) }
     ensures memory { IsErrOf result AppFault.Memory → StoresHeader octets.items }
 {
     if octets.len() < 4 {

@@ -1,6 +1,6 @@
 //! The objects that a response steps over.
 ghost use Rattle.std.specs.Prelude.{◌≡◌, ◌≤◌, length};
-ghost use Rattle.dnp_app.specs.SteppedOver.{is_stepped_over, stepped_over};
+ghost use Rattle.dnp_app.specs.SteppedOver.{is_stepped_over, stepped_over_count};
 
 use dnp_objects::{Header, length_of};
 
@@ -22,7 +22,7 @@ fn is_stepped_over(group: u8, variation: u8) -> bool
 /// How many objects under these headers are stepped over.
 pub fn count_stepped_over(headers: &[Header]) -> usize
     requires { length headers.now ≤ 512 }
-    ensures { result ≡ stepped_over headers.now }
+    ensures { result ≡ stepped_over_count headers.now }
 {
     headers
         .iter()

@@ -4,33 +4,34 @@ use Rattle.std.specs.Global.{Vec}
 use Rattle.std.specs.Prelude.{IfOk, is_ok}
 use Rattle.std.proofs.lemmas.Bool.{ltb-false, le-ltb}
 use Rattle.std.proofs.lemmas.List.{take_at, drop_at, take-append-drop, length-append, length-take, length-drop, drop-drop}
+use Rattle.gw_model.specs.Outcome.{◌>>=◌, Gives}
 use Rattle.dnp_objects.specs.declared.fault.ObjectFault.{ObjectFault}
 use Rattle.dnp_objects.specs.declared.fault.Why.TheVariants.{UnknownObject, UnknownQualifier, ShortRange, StopBeforeStart, ShortData}
 use Rattle.dnp_objects.specs.declared.header.Header.{Header}
 use Rattle.dnp_objects.specs.declared.object.Form.{Form}
 use Rattle.dnp_objects.specs.declared.range.Range.{Range}
 use Rattle.dnp_objects.specs.declared.range.Range.TheVariants.{StartStop, Count}
-use Rattle.dnp_objects.specs.declared.range.Ranged.{Ranged}
+use Rattle.dnp_objects.specs.declared.range.RangeField.{RangeField}
 use Rattle.dnp_objects.specs.Library.{Variation, object_of, form_of, form_of_row, size_of}
-use Rattle.dnp_objects.specs.Headers.{◌>>=◌, some_or, number, octets_of, codes_of, is_among, qualifiers, range_of, range_for, start_stop, range_at, ended_at, header_with, header_at, headers_from, headers_of, body_length, octets_after, IsRange, StandsAt, AreHeaders, IsPart, IsStoredAt, Gives}
+use Rattle.dnp_objects.specs.Headers.{is_memory, some_or, number, octets_of, codes_of, is_among, qualifiers, range_of, range_for, start_stop, range_at, header_and_rest, header_with, header_at, headers_from, headers_of, body_length, octets_after, IsRange, StandsAt, AreHeaders, IsPart, IsStoredAt}
 use Rattle.dnp_objects.proofs.Results.{bind_ok, guard_ok, otherwise_ok, some_ok, map_some, when_some}
 use Rattle.dnp_objects.proofs.HeaderLoop.{step}
 
 -- ---- one header
 
 -- a range that was read is the one that the octets in front give
-record Takes (range : Range) (field : List ℕ) (r : Ranged) : Type 0 where
+record Takes (range : Range) (field : List ℕ) (r : RangeField) : Type 0 where
   front : List ℕ
   parts : field ≡ front ++ drop r.octets field
   long : length front ≡ r.octets
   given : (group variation place start : ℕ) → IsRange range (header_with group variation r.first r.count r.prefix place start) front
 
-range_taken : (place : ℕ) (range : Range) (field : List ℕ) (r : Ranged) → range_at place range field ≡ Ok r → Takes range field r
+range_taken : (place : ℕ) (range : Range) (field : List ℕ) (r : RangeField) → range_at place range field ≡ Ok r → Takes range field r
 range_taken place (StartStop width) field r e =
     let n : ℕ = octets_of width in
     let first : ℕ = number (take n field) in
     let last : ℕ = number (take n (drop n field)) in
-    let made : Ranged = record { octets = n + n; first = first; count = last - first + 1; prefix = 0 } in
+    let made : RangeField = record { octets = n + n; first = first; count = last - first + 1; prefix = 0 } in
     let g = otherwise_ok (ltb (length field) (n + n)) (record { why = ShortRange; place = place }) (start_stop place (n + n) first last) r e in
     let long : n + n ≤ length field = ltb-false _ _ g.0 in
     let g2 = guard_ok (ltb last first) (record { why = StopBeforeStart; place = place }) made r g.1 in
@@ -41,7 +42,7 @@ range_taken place (StartStop width) field r e =
     sym (take-append-drop n (drop n field)) ∙ ap (λ (t : List ℕ). take n (drop n field) ++ t) (drop-drop n n field) in
     let whole : field ≡ (take n field ++ take n (drop n field)) ++ drop (n + n) field =
     sym (take-append-drop n field) ∙ (ap (λ (t : List ℕ). take n field ++ t) rest ∙ sym (append_assoc (take n field) (take n (drop n field)) (drop (n + n) field))) in
-    subst (λ (x : Ranged). Takes (StartStop width) field x) g2.1
+    subst (λ (x : RangeField). Takes (StartStop width) field x) g2.1
     (record {
       front = take n field ++ take n (drop n field);
       parts = whole;
@@ -50,24 +51,24 @@ range_taken place (StartStop width) field r e =
     })
 range_taken place (Count width prefix) field r e =
     let n : ℕ = octets_of width in
-    let made : Ranged = record { octets = n; first = 0; count = number (take n field); prefix = prefix } in
+    let made : RangeField = record { octets = n; first = 0; count = number (take n field); prefix = prefix } in
     let g = guard_ok (ltb (length field) n) (record { why = ShortRange; place = place }) made r e in
     let long : n ≤ length field = ltb-false _ _ g.0 in
     let len : length (take n field) ≡ n = omega (arith, length-take n field) in
-    subst (λ (x : Ranged). Takes (Count width prefix) field x) g.1
+    subst (λ (x : RangeField). Takes (Count width prefix) field x) g.1
     (record { front = take n field; parts = sym (take-append-drop n field); long = len; given = λ group variation place start. (len, refl, refl, refl) })
 
 -- what is left to read once the variation is known
 abbrev read_under : ℕ → ℕ → ℕ → ℕ → List ℕ → Form → Result (Header × List ℕ) ObjectFault
 read_under place group variation code field form =
-    some_or place UnknownQualifier (range_for form.access code) >>= λ range. range_at place range field >>= λ r. ended_at place group variation form.size r (drop r.octets field)
+    some_or place UnknownQualifier (range_for form.access code) >>= λ range. range_at place range field >>= λ r. header_and_rest place group variation form.size r (drop r.octets field)
 
 found_row : (place group variation code : ℕ) (field : List ℕ) (v : Variation) (x : Header × List ℕ) → object_of group variation ≡ Some v
     → read_under place group variation code field (form_of_row v) ≡ Ok x → StandsAt place (group ∷ variation ∷ code ∷ field) x.0 x.1
 found_row place group variation code field v x known e =
-    let two = bind_ok (some_or place UnknownQualifier (range_for v.access code)) (λ range. range_at place range field >>= λ r. ended_at place group variation (size_of v) r (drop r.octets field)) x e in
+    let two = bind_ok (some_or place UnknownQualifier (range_for v.access code)) (λ range. range_at place range field >>= λ r. header_and_rest place group variation (size_of v) r (drop r.octets field)) x e in
     let range = two.0 in
-    let three = bind_ok (range_at place range field) (λ r. ended_at place group variation (size_of v) r (drop r.octets field)) x two.2 in
+    let three = bind_ok (range_at place range field) (λ r. header_and_rest place group variation (size_of v) r (drop r.octets field)) x two.2 in
     let r = three.0 in
     let may = when_some (is_among code (codes_of v.access)) (range_of qualifiers code) range (some_ok place UnknownQualifier (range_for v.access code) range two.1) in
     let took = range_taken place range field r three.1 in
@@ -194,6 +195,6 @@ first_stored part h hs e =
     record { before = []; are = refl; fewer = omega arith; here = ap is_ok (again_at 0 part h are.0 are.1) }
 
 -- the same of what a function returned
-pub part_found : (part : List ℕ) (r : Result (Vec Header) ObjectFault) → Gives (λ v. v.items) r (headers_of part) → IfOk r (λ v. IsPart part v.items)
+pub part_found : (part : List ℕ) (r : Result (Vec Header) ObjectFault) → Gives is_memory (λ v. v.items) r (headers_of part) → IfOk r (λ v. IsPart part v.items)
 part_found part (Ok v) e = IsPart-found part v.items e
 part_found part (Err f) e = tt

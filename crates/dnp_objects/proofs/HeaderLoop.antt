@@ -1,10 +1,11 @@
 -- Reading headers one after the other, as a loop does.
 use Rattle.std.proofs.Common.{◌≡◌, ℕ, suc, ◌-◌, ◌<◌, List, [], ◌∷◌, ◌++◌, length, Result, Ok, Err, refl, sym, ap, ◌∙◌, append_assoc, arith}
 use Rattle.std.proofs.lemmas.List.{append-nil}
+use Rattle.gw_model.specs.Outcome.{◌>>=◌, UnlessMemory}
 use Rattle.dnp_objects.specs.declared.fault.ObjectFault.{ObjectFault}
 use Rattle.dnp_objects.specs.declared.fault.Why.TheVariants.{TooMany}
 use Rattle.dnp_objects.specs.declared.header.Header.{Header}
-use Rattle.dnp_objects.specs.Headers.{◌>>=◌, header_at, headers_from, UnlessMemory}
+use Rattle.dnp_objects.specs.Headers.{header_at, headers_from, is_memory}
 use Rattle.dnp_objects.proofs.Results.{UnlessMemory-map}
 
 -- what was read before, and what is still read
@@ -29,10 +30,10 @@ goes_on total more m bytes front h after whole e lt at so_far =
     sym (regroup front h (headers_from total m after)) ∙ (ap (with_front front) (sym (step total more m bytes (Ok (h, after)) e lt at)) ∙ so_far)
 
 pub fails : (total more m : ℕ) (bytes : List ℕ) (front : List Header) (e : ObjectFault) (whole : Result (List Header) ObjectFault)
-    → more ≡ suc m → 0 < length bytes → UnlessMemory e.why (header_at (total - length bytes) bytes ≡ Err e)
-    → with_front front (headers_from total more bytes) ≡ whole → UnlessMemory e.why (whole ≡ Err e)
+    → more ≡ suc m → 0 < length bytes → UnlessMemory (is_memory e) (header_at (total - length bytes) bytes ≡ Err e)
+    → with_front front (headers_from total more bytes) ≡ whole → UnlessMemory (is_memory e) (whole ≡ Err e)
 fails total more m bytes front e whole is lt at so_far =
-    UnlessMemory-map e.why (λ (h : header_at (total - length bytes) bytes ≡ Err e). sym so_far ∙ ap (with_front front) (step total more m bytes (Err e) is lt h)) at
+    UnlessMemory-map (is_memory e) (λ (h : header_at (total - length bytes) bytes ≡ Err e). sym so_far ∙ ap (with_front front) (step total more m bytes (Err e) is lt h)) at
 
 pub too_many : (total : ℕ) (bytes : List ℕ) (front : List Header) (whole : Result (List Header) ObjectFault)
     → 0 < length bytes → with_front front (headers_from total 0 bytes) ≡ whole → whole ≡ Err (record { why = TooMany; place = total - length bytes })

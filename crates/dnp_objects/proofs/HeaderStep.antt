@@ -5,7 +5,7 @@ use Rattle.std.proofs.lemmas.List.{length-drop, drop-drop}
 use Rattle.std.proofs.Math.Seq.{take-length}
 use Rattle.dnp_objects.specs.declared.object.Form.{Form}
 use Rattle.dnp_objects.specs.declared.range.Range.{Range}
-use Rattle.dnp_objects.specs.declared.range.Ranged.{Ranged}
+use Rattle.dnp_objects.specs.declared.range.RangeField.{RangeField}
 use Rattle.dnp_objects.specs.Library.{form_of}
 use Rattle.dnp_objects.specs.Headers.{range_for, range_at, body_length, header_at}
 
@@ -14,7 +14,7 @@ pub all_from : (n : ℕ) (octets : List ℕ) → take (length octets - n) (drop 
 all_from n octets = rw (← length-drop n octets) (take-length (drop n octets))
 
 -- a header whose parts were all found
-pub header_read : (place : ℕ) (front : List ℕ) (form : Form) (range : Range) (r : Ranged) (body : ℕ)
+pub header_read : (place : ℕ) (front : List ℕ) (form : Form) (range : Range) (r : RangeField) (body : ℕ)
     → 3 ≤ length front
     → form_of (get_or front 0 0) (get_or front 1 0) ≡ Some form
     → range_for form.access (get_or front 2 0) ≡ Some range

@@ -1,5 +1,5 @@
 pub mod LibraryLaws
-pub mod Numbers
+pub mod NumberLaws
 pub mod Results
 pub mod HeaderStep
 pub mod HeaderLoop

@@ -1,10 +1,10 @@
 -- Steps of a reading that did not fail, and what was not asked where memory ran out.
 use Rattle.std.proofs.Common.{◌≡◌, Bool, true, false, cond, Option, Some, None, Result, Ok, Err, refl}
 use Rattle.std.specs.Option.{option_map}
+use Rattle.gw_model.specs.Outcome.{◌>>=◌, UnlessMemory}
 use Rattle.dnp_objects.specs.declared.fault.ObjectFault.{ObjectFault}
 use Rattle.dnp_objects.specs.declared.fault.Why.{Why}
-use Rattle.dnp_objects.specs.declared.fault.Why.TheVariants.{UnknownObject, UnknownQualifier, ShortRange, StopBeforeStart, ShortData, TooMany, Memory}
-use Rattle.dnp_objects.specs.Headers.{◌>>=◌, some_or, UnlessMemory}
+use Rattle.dnp_objects.specs.Headers.{some_or}
 
 pub bind_ok : {A B : Type 0} (r : Result A ObjectFault) (f : A → Result B ObjectFault) (y : B) → (r >>= f) ≡ Ok y → (x : A) × (r ≡ Ok x) × (f x ≡ Ok y)
 bind_ok (Ok x) f y e = (x, refl, e)
@@ -30,11 +30,6 @@ pub when_some : {A : Type 0} (b : Bool) (o : Option A) (x : A) → cond b o None
 when_some true o x e = (refl, e)
 when_some false o x e = absurd cc
 
-pub UnlessMemory-map : {P Q : Type 0} (why : Why) → (P → Q) → UnlessMemory why P → UnlessMemory why Q
-UnlessMemory-map Memory f p = tt
-UnlessMemory-map UnknownObject f p = f p
-UnlessMemory-map UnknownQualifier f p = f p
-UnlessMemory-map ShortRange f p = f p
-UnlessMemory-map StopBeforeStart f p = f p
-UnlessMemory-map ShortData f p = f p
-UnlessMemory-map TooMany f p = f p
+pub UnlessMemory-map : {P Q : Type 0} (is_memory : Bool) → (P → Q) → UnlessMemory is_memory P → UnlessMemory is_memory Q
+UnlessMemory-map true f p = tt
+UnlessMemory-map false f p = f p

@@ -1,6 +1,7 @@
 -- Object headers (IEEE Std 1815, 4.2.2.7): how one is spelled, and reading them from left to right with the
 -- first fault that is met.
 use Rattle.std.specs.Prelude.{◌≡◌, ℕ, zero, suc, ◌+◌, ◌-◌, ◌*◌, ◌/◌, ◌<◌, ◌≤◌, Bool, true, false, ◌||◌, ◌==◌, List, [], ◌∷◌, ◌++◌, length, take, drop, Option, Some, None, Result, Ok, Err, IsOk, nat_lt, if◌then◌else◌}
+use Rattle.gw_model.specs.Outcome.{◌>>=◌}
 use Rattle.dnp_objects.specs.declared.fault.ObjectFault.{ObjectFault}
 use Rattle.dnp_objects.specs.declared.fault.Why.{Why}
 use Rattle.dnp_objects.specs.declared.fault.Why.TheVariants.{UnknownObject, UnknownQualifier, ShortRange, StopBeforeStart, ShortData, TooMany, Memory}
@@ -13,7 +14,7 @@ use Rattle.dnp_objects.specs.declared.range.Width.{Width}
 use Rattle.dnp_objects.specs.declared.range.Width.TheVariants.{One, Two}
 use Rattle.dnp_objects.specs.declared.range.Range.{Range}
 use Rattle.dnp_objects.specs.declared.range.Range.TheVariants.{StartStop, Count}
-use Rattle.dnp_objects.specs.declared.range.Ranged.{Ranged}
+use Rattle.dnp_objects.specs.declared.range.RangeField.{RangeField}
 use Rattle.dnp_objects.specs.Library.{Variation, object_of, size_of, form_of}
 
 -- ---- qualifiers and range fields
@@ -66,9 +67,13 @@ octets_after v h = body_length (size_of v) h.count h.prefix
 
 -- octets of a range field that give the header's range
 abbrev pub IsRange : Range → Header → List ℕ → Type 0
-IsRange (StartStop width) h field = (start : List ℕ) × (stop : List ℕ) × (field ≡ start ++ stop) × (length start ≡ octets_of width) × (length stop ≡ octets_of width)
-    × (number start ≤ number stop) × (h.first ≡ number start) × (h.count ≡ number stop - number start + 1) × (h.prefix ≡ 0)
-IsRange (Count width prefix) h field = (length field ≡ octets_of width) × (h.count ≡ number field) × (h.first ≡ 0) × (h.prefix ≡ prefix)
+IsRange (StartStop width) h field =
+    (start : List ℕ) × (stop : List ℕ) × (field ≡ start ++ stop)
+    × (length start ≡ octets_of width) × (length stop ≡ octets_of width)
+    × (number start ≤ number stop) × (h.first ≡ number start) × (h.count ≡ number stop - number start + 1)
+    × (h.prefix ≡ 0)
+IsRange (Count width prefix) h field =
+    (length field ≡ octets_of width) × (h.count ≡ number field) × (h.first ≡ 0) × (h.prefix ≡ prefix)
 
 -- the text of a header: group, variation, a qualifier code that the variation may stand under, and the range field
 pub record IsHeaderText (h : Header) (v : Variation) (text : List ℕ) : Type 0 where
@@ -96,18 +101,14 @@ pub record StandsAt (place : ℕ) (octets : List ℕ) (h : Header) (rest : List 
 abbrev pub AreHeaders : ℕ → List ℕ → List Header → Type 0
 AreHeaders place octets [] = octets ≡ []
 AreHeaders place octets (h ∷ hs) =
-    (rest : List ℕ) × (front : StandsAt place octets h rest) × AreHeaders (h.start + octets_after front.variation h) rest hs
+    (rest : List ℕ) × (front : StandsAt place octets h rest)
+    × AreHeaders (h.start + octets_after front.variation h) rest hs
 
 -- a part is at most 512 headers, each followed by its objects
 abbrev pub IsPart : List ℕ → List Header → Type 0
 IsPart part hs = AreHeaders 0 part hs × (length hs ≤ 512)
 
 -- ---- reading from left to right
-
-infixl 10 ◌>>=◌
-abbrev pub ◌>>=◌ : {A B : Type 0} → Result A ObjectFault → (A → Result B ObjectFault) → Result B ObjectFault
-(Ok x) >>= f = f x
-(Err e) >>= f = Err e
 
 -- a fault of the header at this place
 abbrev pub fault_at : {A : Type 0} → ℕ → Why → Result A ObjectFault
@@ -123,28 +124,38 @@ abbrev pub range_for : Access → ℕ → Option Range
 range_for access code = if is_among code (codes_of access) then range_of qualifiers code else None
 
 -- the range from a first to a last index
-abbrev pub start_stop : ℕ → ℕ → ℕ → ℕ → Result Ranged ObjectFault
+abbrev pub start_stop : ℕ → ℕ → ℕ → ℕ → Result RangeField ObjectFault
 start_stop place octets first last =
     if nat_lt last first then fault_at place StopBeforeStart
     else Ok (record { octets = octets; first = first; count = last - first + 1; prefix = 0 })
 
 -- the range that the field at the front of octets gives
-abbrev pub range_at : ℕ → Range → List ℕ → Result Ranged ObjectFault
+abbrev pub range_at : ℕ → Range → List ℕ → Result RangeField ObjectFault
 range_at place (StartStop width) front =
-    if nat_lt (length front) (octets_of width + octets_of width) then fault_at place ShortRange
-    else start_stop place (octets_of width + octets_of width) (number (take (octets_of width) front)) (number (take (octets_of width) (drop (octets_of width) front)))
+    let octets = octets_of width in
+    if nat_lt (length front) (octets + octets) then fault_at place ShortRange
+    else start_stop place (octets + octets) (number (take octets front)) (number (take octets (drop octets front)))
 range_at place (Count width prefix) front =
-    if nat_lt (length front) (octets_of width) then fault_at place ShortRange
-    else Ok (record { octets = octets_of width; first = 0; count = number (take (octets_of width) front); prefix = prefix })
+    let octets = octets_of width in
+    if nat_lt (length front) octets then fault_at place ShortRange
+    else Ok (record { octets = octets; first = 0; count = number (take octets front); prefix = prefix })
 
 -- a header with these fields
 abbrev pub header_with : ℕ → ℕ → ℕ → ℕ → ℕ → ℕ → ℕ → Header
 header_with group variation first count prefix place start =
-    record { group = group; variation = variation; first = first; count = count; prefix = prefix; place = place; start = start }
+    record {
+      group = group;
+      variation = variation;
+      first = first;
+      count = count;
+      prefix = prefix;
+      place = place;
+      start = start;
+    }
 
 -- the header with a range that was read, where its objects stand at the front of octets, and the octets after them
-abbrev pub ended_at : ℕ → ℕ → ℕ → Size → Ranged → List ℕ → Result (Header × List ℕ) ObjectFault
-ended_at place group variation size r objects =
+abbrev pub header_and_rest : ℕ → ℕ → ℕ → Size → RangeField → List ℕ → Result (Header × List ℕ) ObjectFault
+header_and_rest place group variation size r objects =
     let body = body_length size r.count r.prefix in
     if nat_lt (length objects) body then fault_at place ShortData
     else Ok (header_with group variation r.first r.count r.prefix place (place + (3 + r.octets)), drop body objects)
@@ -155,7 +166,7 @@ header_at place (group ∷ variation ∷ code ∷ field) = do
   form ← some_or place UnknownObject (form_of group variation)
   range ← some_or place UnknownQualifier (range_for form.access code)
   r ← range_at place range field
-  ended_at place group variation form.size r (drop r.octets field)
+  header_and_rest place group variation form.size r (drop r.octets field)
 header_at place _ = fault_at place ShortRange
 
 -- the headers of the octets that end a part of this length; at most so many more may come
@@ -178,24 +189,18 @@ pub record IsStoredAt (part : List ℕ) (place : ℕ) : Type 0 where
   pub fewer : length before < 512
   pub here : IsOk (header_at place (drop place part))
 
--- octets so many times over
-abbrev pub repeated : ℕ → List ℕ → List ℕ
-repeated zero octets = []
-repeated (suc n) octets = octets ++ repeated n octets
-
 -- ---- what a function returned
 
--- not asked where memory ran out
-abbrev pub UnlessMemory : Why → Type 0 → Type 0
-UnlessMemory Memory P = Unit {0}
-UnlessMemory UnknownObject P = P
-UnlessMemory UnknownQualifier P = P
-UnlessMemory ShortRange P = P
-UnlessMemory StopBeforeStart P = P
-UnlessMemory ShortData P = P
-UnlessMemory TooMany P = P
+-- the reason is that memory ran out
+abbrev pub is_memory_reason : Why → Bool
+is_memory_reason Memory = true
+is_memory_reason UnknownObject = false
+is_memory_reason UnknownQualifier = false
+is_memory_reason ShortRange = false
+is_memory_reason StopBeforeStart = false
+is_memory_reason ShortData = false
+is_memory_reason TooMany = false
 
--- what a function returned, seen by view, is what reading gives, unless memory ran out
-abbrev pub Gives : {X Y : Type 0} → (X → Y) → Result X ObjectFault → Result Y ObjectFault → Type 0
-Gives view (Ok x) read = read ≡ Ok (view x)
-Gives view (Err e) read = UnlessMemory e.why (read ≡ Err e)
+-- the fault is that memory ran out
+abbrev pub is_memory : ObjectFault → Bool
+is_memory fault = is_memory_reason fault.why

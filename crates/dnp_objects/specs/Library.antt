@@ -39,7 +39,8 @@ pub record Variation : Type 0 where
   pub access : Access
 
 abbrev pub entry : ℕ → ℕ → Role → Bool → Parts → Access → Variation
-entry group number role event parts access = record { group = group; number = number; role = role; event = event; parts = parts; access = access }
+entry group number role event parts access =
+    record { group = group; number = number; role = role; event = event; parts = parts; access = access }
 
 -- words of the table
 abbrev pub static : Bool
@@ -141,12 +142,15 @@ objects =
 -- octet strings and their events: each variation from 1 on has as many octets as its number says
 abbrev pub octet_string : ℕ → ℕ → Option Variation
 octet_string group number =
-    if ((group == 110) || (group == 111)) && nat_lt 0 number then Some (entry group number SteppedOver (group == 111) (Whole plain number Timeless) RangesAndIndexes) else None
+    if ((group == 110) || (group == 111)) && nat_lt 0 number
+    then Some (entry group number SteppedOver (group == 111) (Whole plain number Timeless) RangesAndIndexes)
+    else None
 
 -- the row of a list for a group and a variation number, or an octet string
 abbrev pub object_among : List Variation → ℕ → ℕ → Option Variation
 object_among [] group number = octet_string group number
-object_among (v ∷ vs) group number = if (group == v.group) && (number == v.number) then Some v else object_among vs group number
+object_among (v ∷ vs) group number =
+    if (group == v.group) && (number == v.number) then Some v else object_among vs group number
 
 -- what is known of a group and a variation number
 unfoldable pub object_of : ℕ → ℕ → Option Variation

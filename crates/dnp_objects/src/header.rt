@@ -1,6 +1,7 @@
 //! Object headers: which objects stand in a part, and where.
 ghost use Rattle.std.specs.Prelude.{◌≡◌, ◌≢◌, ◌+◌, ◌^◌, ◌<◌, length, List, Ok, IfOk, IfErr};
-ghost use Rattle.dnp_objects.specs.Headers.{Gives, body_length, header_at, headers_of, IsPart, IsStoredAt};
+ghost use Rattle.gw_model.specs.Outcome.{Gives};
+ghost use Rattle.dnp_objects.specs.Headers.{is_memory, body_length, header_at, headers_of, IsPart, IsStoredAt};
 
 use crate::fault::{ObjectFault, Why};
 use crate::object::{Size, form_of};
@@ -43,7 +44,7 @@ fn body_length(size: Size, count: u32, prefix: u8) -> usize
 /// The header at the front of octets, and the octets after its objects.
 fn header_at(place: usize, front: &[u8]) -> Result<(Header, &[u8]), ObjectFault>
     requires { place + length front.now < 2 ^ 64 }
-    ensures read { Gives (λ x. (x.0, x.1.now)) result (header_at place front.now) }
+    ensures read { Gives is_memory (λ x. (x.0, x.1.now)) result (header_at place front.now) }
     ensures goes { IfOk result (λ x. length x.1.now < length front.now) }
     ensures place { IfErr result (λ fault. fault.place ≡ place) }
     ensures no_memory { IfErr result (λ fault. fault.why ≢ Why.Memory) }
@@ -82,7 +83,7 @@ fn header_at(place: usize, front: &[u8]) -> Result<(Header, &[u8]), ObjectFault>
 
 /// The headers of a part, read from left to right.
 fn all_headers(alloc: Global, part: &[u8]) -> Result<Vec<Header>, ObjectFault>
-    ensures exact { Gives (λ v. v.items) result (headers_of part.now) }
+    ensures exact { Gives is_memory (λ v. v.items) result (headers_of part.now) }
     ensures place { IfErr result (λ fault. fault.place < length part.now) }
     ensures memory { IfErr result (λ fault. fault.why ≡ Why.Memory → IsStoredAt part.now fault.place) }
 {
@@ -112,9 +113,9 @@ pub fn headers(alloc: Global, part: &[u8]) -> Result<Vec<Header>, ObjectFault>
     // What is read is spelled so.
     ensures found { IfOk result (λ v. IsPart part.now v.items) }
     // What is spelled so is read, unless memory runs out.
-    ensures only { (hs : List Header) → IsPart part.now hs → Gives (λ v. v.items) result (Ok hs) }
+    ensures only { (hs : List Header) → IsPart part.now hs → Gives is_memory (λ v. v.items) result (Ok hs) }
     // Which fault it is.
-    ensures exact { Gives (λ v. v.items) result (headers_of part.now) }
+    ensures exact { Gives is_memory (λ v. v.items) result (headers_of part.now) }
     // Each fault is told of a place in the part; memory runs out only where a header is stored.
     ensures place { IfErr result (λ fault. fault.place < length part.now) }
     ensures memory { IfErr result (λ fault. fault.why ≡ Why.Memory → IsStoredAt part.now fault.place) }

@@ -6,6 +6,7 @@ mod examples;
 mod fault;
 mod header;
 mod law;
+mod numbers;
 mod object;
 mod range;
 
@@ -15,7 +16,5 @@ pub use examples::{
 pub use fault::{ObjectFault, Why};
 pub use header::{Header, headers};
 pub use law::one_reading;
+pub use numbers::number;
 pub use object::{Size, length_of};
-
-#[cfg(test)]
-mod tests;

@@ -3,6 +3,7 @@ ghost use Rattle.std.specs.Prelude.{◌≡◌, ◌≢◌, ◌≤◌, length, tak
 ghost use Rattle.dnp_objects.specs.Headers.{number, octets_of, is_among, codes_of, qualifiers, range_of, range_for, range_at};
 
 use crate::fault::{ObjectFault, Why};
+use crate::numbers::number;
 use crate::object::Access;
 
 /// How many octets a number of a range field has.
@@ -23,7 +24,7 @@ pub enum Range {
 
 /// What a range field gives.
 #[derive(Clone, Copy, Debug, PartialEq, Eq)]
-pub struct Ranged {
+pub struct RangeField {
     /// How many octets the field has.
     pub octets: usize,
     /// The first index, or 0 where a count alone is given.
@@ -44,15 +45,12 @@ fn octets_of(width: Width) -> usize
 }
 
 /// The number at the front of a field, low octet first.
-#[tactic(auto, using(crate::proofs::Numbers::numbers))]
+#[tactic(auto, using(crate::proofs::NumberLaws::in_two_octets))]
 fn number_at(width: Width, field: &[u8]) -> u16
     requires { octets_of width ≤ length field.now }
     ensures { result ≡ number (take (octets_of width) field.now) }
 {
-    match width {
-        Width::One => u16::from(field[0]),
-        Width::Two => u16::from(field[0]) + 256 * u16::from(field[1]),
-    }
+    number(&field[..octets_of(width)]) as u16
 }
 
 /// The qualifier code is one of those that objects may stand under.
@@ -95,7 +93,7 @@ pub fn range_for(access: Access, code: u8) -> Option<Range>
     }
 }
 
-fn start_stop_at(place: usize, width: Width, field: &[u8]) -> Result<Ranged, ObjectFault>
+fn start_stop_at(place: usize, width: Width, field: &[u8]) -> Result<RangeField, ObjectFault>
     ensures read { result ≡ range_at place (Range.StartStop width) field.now }
     ensures within { IfOk result (λ range. range.octets ≤ length field.now) }
     ensures place { IfErr result (λ fault. fault.place ≡ place) }
@@ -110,7 +108,7 @@ fn start_stop_at(place: usize, width: Width, field: &[u8]) -> Result<Ranged, Obj
     if last < first {
         return Err(Why::StopBeforeStart.at(place));
     }
-    Ok(Ranged {
+    Ok(RangeField {
         octets: octets + octets,
         first,
         count: u32::from(last - first) + 1,
@@ -118,7 +116,7 @@ fn start_stop_at(place: usize, width: Width, field: &[u8]) -> Result<Ranged, Obj
     })
 }
 
-fn count_at(place: usize, width: Width, prefix: u8, field: &[u8]) -> Result<Ranged, ObjectFault>
+fn count_at(place: usize, width: Width, prefix: u8, field: &[u8]) -> Result<RangeField, ObjectFault>
     ensures read { result ≡ range_at place (Range.Count width prefix) field.now }
     ensures within { IfOk result (λ range. range.octets ≤ length field.now) }
     ensures place { IfErr result (λ fault. fault.place ≡ place) }
@@ -128,7 +126,7 @@ fn count_at(place: usize, width: Width, prefix: u8, field: &[u8]) -> Result<Rang
     if field.len() < octets {
         return Err(Why::ShortRange.at(place));
     }
-    Ok(Ranged {
+    Ok(RangeField {
         octets,
         first: 0,
         count: u32::from(number_at(width, field)),
@@ -137,7 +135,7 @@ fn count_at(place: usize, width: Width, prefix: u8, field: &[u8]) -> Result<Rang
 }
 
 /// What the range field at the front of octets gives, for the header at this place.
-pub fn range_at(place: usize, range: Range, field: &[u8]) -> Result<Ranged, ObjectFault>
+pub fn range_at(place: usize, range: Range, field: &[u8]) -> Result<RangeField, ObjectFault>
     ensures read { result ≡ range_at place range field.now }
     ensures within { IfOk result (λ range. range.octets ≤ length field.now) }
     ensures place { IfErr result (λ fault. fault.place ≡ place) }

@@ -8,7 +8,8 @@ use Rattle.dnp_objects.specs.declared.header.Header.{Header}
 use Rattle.dnp_objects.specs.declared.object.Size.{Size}
 use Rattle.dnp_objects.specs.declared.object.Size.TheVariants.{Octets, Bits}
 use Rattle.dnp_objects.specs.Library.{Role, Point, CommonTime, Echo, SteppedOver, Variation, object_of, size_of}
-use Rattle.dnp_objects.specs.Headers.{◌>>=◌, number, octets_after, headers_of, IsPart}
+use Rattle.gw_model.specs.Outcome.{◌>>=◌}
+use Rattle.dnp_objects.specs.Headers.{number, octets_after, headers_of, IsPart}
 use Rattle.dnp_points.specs.declared.objects.Objects.{Objects}
 use Rattle.dnp_points.specs.Values.{IsClock, bits_of}
 use Rattle.dnp_points.specs.Objects.{AreWhole, ArePacked, whole_from, packed_from}

@@ -7,7 +7,7 @@ use Rattle.gw_model.specs.declared.point.Stamp.TheVariants.{Untimed}
 use Rattle.gw_model.specs.declared.point.PointKey.{PointKey}
 use Rattle.gw_model.specs.declared.point.Report.{Report}
 use Rattle.dnp_objects.specs.declared.fault.ObjectFault.{ObjectFault}
-use Rattle.dnp_objects.specs.Headers.{◌>>=◌}
+use Rattle.gw_model.specs.Outcome.{◌>>=◌}
 use Rattle.dnp_points.specs.Meaning.{meaning_of}
 
 -- what a report says

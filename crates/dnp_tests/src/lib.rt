@@ -2,6 +2,10 @@
 #![tactic(auto)]
 
 #[cfg(test)]
+mod app;
+#[cfg(test)]
 mod largest;
+#[cfg(test)]
+mod objects;
 #[cfg(test)]
 mod receive;
