@@ -1,7 +1,1 @@
-pub mod Translation
-pub mod Answers
-pub mod Reading
 pub mod CommandLine
-pub mod Replay
-pub mod Laws
-pub mod Receiver
