@@ -1,5 +1,1 @@
-pub mod Translation
-pub mod Answers
-pub mod Reading
 pub mod CommandLine
-pub mod Replay

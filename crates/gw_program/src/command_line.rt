@@ -15,8 +15,6 @@ use clap::{ArgMatches, Command, Error};
 use std::alloc::{AllocError, Global};
 
 pub mod examples;
-#[cfg(test)]
-mod tests;
 
 /// What a command line asks for.
 #[derive(Clone, Copy, Debug, PartialEq, Eq)]

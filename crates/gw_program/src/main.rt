@@ -2,21 +2,14 @@
 #![tactic(auto)]
 
 mod command_line;
-mod decision;
-mod reading;
-mod replay;
-mod translate;
 
 use command_line::{Asked, LineFault, command_line as read_words};
 use gw_model::Settings;
-use replay::replay as replay_lines;
+use gw_replay::replay;
+use gw_translator::translate;
 use std::env;
 use std::io::{self, BufReader, BufWriter};
 use std::process::ExitCode;
-use translate::translate as translate_lines;
-
-#[cfg(test)]
-mod tests;
 
 /// The status of a command line that asks for nothing.
 const USAGE: u8 = 2;
@@ -33,8 +26,8 @@ fn main(rt: HostRuntime) -> io::Result<ExitCode> {
             let writer = BufWriter::new(rt.alloc(), io::writer(&rt))?;
             let settings = Settings::built_in();
             let status = match asked {
-                Asked::Translate => translate_lines(rt.alloc(), &settings, reader, writer),
-                Asked::Replay => replay_lines(rt.alloc(), settings, reader, writer),
+                Asked::Translate => translate(rt.alloc(), settings, reader, writer),
+                Asked::Replay => replay(rt.alloc(), settings, reader, writer),
             };
             Ok(ExitCode::from(status))
         }

@@ -8,4 +8,10 @@ mod hub;
 #[cfg(test)]
 mod picture;
 #[cfg(test)]
+mod replay;
+#[cfg(test)]
+mod text;
+#[cfg(test)]
 mod time;
+#[cfg(test)]
+mod translator;

@@ -1,0 +1,4 @@
+pub mod FrontLaws
+pub mod InputLines
+pub mod PositionLaws
+pub mod AnsweringLaws

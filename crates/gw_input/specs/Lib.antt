@@ -1,0 +1,4 @@
+pub mod Front
+pub mod Lines
+pub mod Reading
+pub mod Status

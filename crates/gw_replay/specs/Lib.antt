@@ -1,0 +1,5 @@
+pub mod Instructions
+pub mod Replies
+pub mod Place
+pub mod Replay
+pub mod KeptLaws

@@ -1,0 +1,166 @@
+//! The lines of a replay.
+ghost use Rattle.std.specs.Prelude.{◌≡◌, ◌≤◌, ◌⊎◌, IfOk, IfSome, Some, length, option_map};
+ghost use Rattle.std.specs.Str.{bytes_eq};
+ghost use Rattle.dnp_app.specs.declared.fault.AppFault.TheVariants.{Memory as NoMemory};
+ghost use Rattle.gw_replay.specs.Instructions.{IsRead, IsReadWith, NeedsMemory, asked_with, first_word, fragment_in, frame_in, numbers_and_octets, rest_of, short_with, space_in, start_spelling, two_numbers};
+ghost use Rattle.gw_replay.specs.declared.instruction.Instruction.TheVariants.{Refused};
+
+use dnp_app::{AppFault, read_response};
+use gw_hub::{Apdu, Signal, Step};
+use gw_model::Memory;
+use gw_text::{line_octets, number_8, number_64};
+use iec_apci::{Apdu as Frame, Signal as Function, write_apdu};
+use std::alloc::Global;
+
+/// What a line of a replay asks for. Outstations and clients go by their position, moments are in
+/// milliseconds.
+#[derive(Debug, Drop)]
+pub enum Instruction {
+    /// `up O M`: an outstation comes up. `open C M`: a client comes up. `pump C M`: a client's writer asks for the
+    /// next APDU. `frag O M HEX`, with the octets of a response: a fragment of an outstation. `frame C M HEX`, with
+    /// the octets of STARTDT act: a client sends it.
+    Make(Step),
+    /// `frag O M HEX`, with other octets: they are refused.
+    Refused(AppFault),
+    /// `queue C`: how many news wait for a client, and how many were dropped.
+    Queue(u8),
+}
+
+/// Where the first space is.
+fn space_in(text: &[u8]) -> Option<usize>
+    ensures { result ≡ space_in text.now }
+{
+    text.iter().position(|character| *character == b' ')
+}
+
+/// The text before the first space, and what follows that.
+fn split_word(text: &[u8]) -> (&[u8], Option<&[u8]>)
+    ensures word { result.0.now ≡ first_word text.now }
+    ensures rest { option_map (λ rest. rest.now) result.1 ≡ rest_of text.now }
+{
+    match space_in(text) {
+        None => (text, None),
+        Some(end) => {
+            let (word, _) = text.split_at(end);
+            let (_, rest) = text.split_at(end + 1);
+            (word, Some(rest))
+        }
+    }
+}
+
+/// `O M` or `C M`.
+fn two_numbers(text: &[u8]) -> Option<(u8, u64)>
+    ensures { result ≡ two_numbers text.now }
+{
+    let (place, rest) = split_word(text);
+    Some((number_8(place)?, number_64(rest?)?))
+}
+
+/// `O M HEX` or `C M HEX`.
+fn numbers_and_octets(alloc: Global, text: &[u8]) -> Result<Option<(u8, u64, Vec<u8>)>, Memory>
+    ensures octets { IfOk result (λ found.
+        option_map (λ p. (p.0, p.1, p.2.items)) found ≡ numbers_and_octets text.now) }
+    ensures short { IfOk result (λ found. IfSome found (λ p. length p.2.items ≤ 2048)) }
+{
+    let (place, Some(rest)) = split_word(text) else {
+        return Ok(None);
+    };
+    let (moment, Some(hex)) = split_word(rest) else {
+        return Ok(None);
+    };
+    let (Some(place), Some(moment)) = (number_8(place), number_64(moment)) else {
+        return Ok(None);
+    };
+    match line_octets(alloc, hex)? {
+        Some(octets) => Ok(Some((place, moment, octets))),
+        None => Ok(None),
+    }
+}
+
+/// What a line asks for; none where it is no such line.
+pub fn read_instruction(alloc: Global, line: &[u8]) -> Result<Option<Instruction>, Memory>
+    ensures { IfOk result (IsRead line.now) }
+{
+    match split_word(line) {
+        (verb, Some(text)) => instruction_with(alloc, verb, text),
+        (_, None) => Ok(None),
+    }
+}
+
+/// What a verb asks for, with the text after it.
+fn instruction_with(alloc: Global, verb: &[u8], text: &[u8]) -> Result<Option<Instruction>, Memory>
+    ensures { IfOk result (IsReadWith verb.now text.now) }
+{
+    match verb {
+        b"frag" => fragment(alloc, text),
+        b"frame" => frame(alloc, text),
+        _ => Ok(short_instruction(verb, text)),
+    }
+}
+
+/// A fragment, with the text after the verb: its response, or why its octets are none.
+fn fragment(alloc: Global, text: &[u8]) -> Result<Option<Instruction>, Memory>
+    ensures { IfOk result (λ found. (found ≡ fragment_in text.now)
+        ⊎ (NeedsMemory text.now × (found ≡ Some (Refused NoMemory)))) }
+{
+    let Some((outstation, moment, octets)) = numbers_and_octets(alloc, text)? else {
+        return Ok(None);
+    };
+    match read_response(alloc, outstation, octets) {
+        Ok(response) => Ok(Some(Instruction::Make(Step::Fragment { response, moment }))),
+        Err(fault) => Ok(Some(Instruction::Refused(fault))),
+    }
+}
+
+/// A frame of a client, with the text after the verb: STARTDT act alone.
+fn frame(alloc: Global, text: &[u8]) -> Result<Option<Instruction>, Memory>
+    ensures { IfOk result (λ found. found ≡ frame_in text.now) }
+{
+    let Some((client, moment, octets)) = numbers_and_octets(alloc, text)? else {
+        return Ok(None);
+    };
+    if !is_start(octets.as_slice()) {
+        return Ok(None);
+    }
+    let apdu = Apdu::U(Signal::StartAct);
+    Ok(Some(Instruction::Make(Step::Frame {
+        client,
+        apdu,
+        moment,
+    })))
+}
+
+/// Whether octets are STARTDT act.
+fn is_start(octets: &[u8]) -> bool
+    ensures { result ≡ bytes_eq octets.now start_spelling }
+{
+    let mut buffer = [0; 255];
+    let end = write_apdu(&Frame::U(Function::StartAct), &mut buffer);
+    octets == &buffer[..end]
+}
+
+/// What the other verbs ask for.
+fn short_instruction(verb: &[u8], text: &[u8]) -> Option<Instruction>
+    ensures { result ≡ short_with verb.now text.now }
+{
+    if verb == b"queue".as_slice() {
+        return Some(Instruction::Queue(number_8(text)?));
+    }
+    let (place, moment) = two_numbers(text)?;
+    let step = match verb {
+        b"up" => Step::OutstationUp {
+            outstation: place,
+            moment,
+        },
+        b"open" => Step::ClientUp {
+            client: place,
+            moment,
+        },
+        b"pump" => Step::Pump {
+            client: place,
+            moment,
+        },
+        _ => return None,
+    };
+    Some(Instruction::Make(step))
+}

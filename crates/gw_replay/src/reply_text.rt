@@ -1,0 +1,104 @@
+//! The texts of replies.
+ghost use Rattle.std.specs.Prelude.{◌≡◌, ◌++◌, OnOk};
+ghost use Rattle.gw_replay.specs.Replies.{fault_name, ignored_name, reply_line, reply_words, verdict_words, why_name, with_confirm};
+
+use gw_hub::{Ignored, Reply, StepFault, Verdict, Why};
+use gw_model::Memory;
+use gw_text::push_spaced;
+
+/// Adds the line that tells a reply.
+pub fn push_reply(text: &mut Vec<u8>, reply: Result<Reply, StepFault>) -> Result<(), Memory>
+    ensures { OnOk result (text.new.items ≡ text.old.items ++ reply_line reply) }
+{
+    match reply {
+        Ok(reply) => push_reply_words(text, &reply)?,
+        Err(fault) => {
+            text.extend_from_slice(b"fault ")?;
+            text.extend_from_slice(fault_name(fault))?;
+        }
+    }
+    text.push(b'\n')?;
+    Ok(())
+}
+
+fn push_reply_words(text: &mut Vec<u8>, reply: &Reply) -> Result<(), Memory>
+    ensures { OnOk result (text.new.items ≡ text.old.items ++ reply_words reply.now) }
+{
+    match reply {
+        Reply::Done => text.extend_from_slice(b"ok")?,
+        Reply::Verdict(verdict) => push_verdict(text, verdict)?,
+        Reply::Apdu(apdu) => {
+            text.extend_from_slice(b"apdu")?;
+            push_spaced(text, &apdu.octets[..usize::from(apdu.len)])?;
+        }
+        Reply::Taken => text.extend_from_slice(b"taken")?,
+        Reply::Closed(why) => {
+            text.extend_from_slice(b"closed ")?;
+            text.extend_from_slice(why_name(*why))?;
+        }
+        Reply::Nothing => text.extend_from_slice(b"nothing")?,
+    }
+    Ok(())
+}
+
+fn push_verdict(text: &mut Vec<u8>, verdict: &Verdict) -> Result<(), Memory>
+    ensures { OnOk result (text.new.items ≡ text.old.items ++ verdict_words verdict.now) }
+{
+    match verdict {
+        Verdict::Accepted { confirm } => push_confirmed(text, b"accepted", *confirm),
+        Verdict::Repeated { confirm } => push_confirmed(text, b"repeated", *confirm),
+        Verdict::Ignored(why) => {
+            text.extend_from_slice(b"ignored ")?;
+            text.extend_from_slice(ignored_name(*why))?;
+            Ok(())
+        }
+    }
+}
+
+/// Adds a verdict with the confirmation that is to be sent, where there is one.
+fn push_confirmed(
+    text: &mut Vec<u8>,
+    verdict: &[u8],
+    confirm: Option<[u8; 2]>,
+) -> Result<(), Memory>
+    ensures { OnOk result (text.new.items ≡ text.old.items ++ with_confirm verdict.now confirm) }
+{
+    text.extend_from_slice(verdict)?;
+    if let Some(octets) = confirm {
+        text.extend_from_slice(b" confirm")?;
+        push_spaced(text, &octets)?;
+    }
+    Ok(())
+}
+
+/// Why a fragment isn't taken, by its name.
+fn ignored_name(why: Ignored) -> &'static [u8]
+    ensures { result.now ≡ ignored_name why }
+{
+    match why {
+        Ignored::NoRequest => b"NoRequest",
+    }
+}
+
+/// Why a client is closed, by its name.
+fn why_name(why: Why) -> &'static [u8]
+    ensures { result.now ≡ why_name why }
+{
+    match why {
+        Why::Flooded => b"Flooded",
+    }
+}
+
+/// A fault, by its number and name.
+fn fault_name(fault: StepFault) -> &'static [u8]
+    ensures { result.now ≡ fault_name fault }
+{
+    match fault {
+        StepFault::NoOutstation => b"1 NoOutstation",
+        StepFault::NoClient => b"2 NoClient",
+        StepFault::NotUp => b"3 NotUp",
+        StepFault::AlreadyUp => b"4 AlreadyUp",
+        StepFault::Memory => b"5 Memory",
+        StepFault::Spent => b"6 Spent",
+    }
+}

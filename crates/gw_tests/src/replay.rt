@@ -1,0 +1,171 @@
+//! Tests of gw_replay.
+use gw_hub::{Reply, Step, StepFault, Why};
+use gw_model::Settings;
+use gw_replay::{Instruction, push_reply, read_instruction, replay};
+use std::test::Fail;
+
+/// What `replay` writes for an input, and its status.
+fn replayed(rt: &HostRuntime, input: &[u8]) -> Result<(Vec<u8>, u8), Fail> {
+    let mut output = Vec::new(rt.alloc());
+    let status = replay(rt.alloc(), Settings::built_in(), input, &mut output);
+    Ok((output, status))
+}
+
+/// Lines, what `replay` writes for them, and its status.
+const REPLAYS: [(&str, &str, u8); 9] = [
+    // An unsolicited response is taken once, and confirmed each time.
+    (
+        "open 0 0\nframe 0 0 68 04 07 00 00 00\npump 0 0\nup 0 0\n\
+         frag 0 0 F0 82 00 00 02 01 17 01 05 81\nfrag 0 0 F0 82 00 00 02 01 17 01 05 81\n\
+         queue 0\nfrag 0 0 C0 81 00 00\npump 0 7\npump 0 8\nqueue 0\n",
+        "ok\ntaken\napdu 68 04 0B 00 00 00\nok\naccepted confirm D0 00\nrepeated confirm D0 00\n\
+         queued 1 dropped 0\nignored NoRequest\n\
+         apdu 68 0E 00 00 00 00 01 01 03 00 01 00 05 10 00 01\nnothing\nqueued 0 dropped 0\n",
+        0,
+    ),
+    // A response without CON; N(S) rises; news come once the client is started.
+    (
+        "up 0 0\nfrag 0 0 D1 82 00 00 02 01 17 01 05 81\nopen 0 0\nqueue 0\n\
+         frame 0 0 68 04 07 00 00 00\npump 0 0\nfrag 0 0 D2 82 00 00 02 01 17 02 05 01 05 81\n\
+         pump 0 0\npump 0 0",
+        "ok\naccepted\nok\nqueued 0 dropped 0\ntaken\napdu 68 04 0B 00 00 00\naccepted\n\
+         apdu 68 0E 00 00 00 00 01 01 03 00 01 00 05 10 00 00\n\
+         apdu 68 0E 02 00 00 00 01 01 03 00 01 00 05 10 00 01\n",
+        0,
+    ),
+    // An event with its time: 1,700,000,000,000 milliseconds are 14 November 2023, 22:13:20.
+    (
+        "open 0 0\nframe 0 0 68 04 07 00 00 00\npump 0 0\nup 0 0\n\
+         frag 0 0 F0 82 00 00 02 02 17 01 05 81 00 68 E5 CF 8B 01\npump 0 0\n",
+        "ok\ntaken\napdu 68 04 0B 00 00 00\nok\naccepted confirm D0 00\n\
+         apdu 68 15 00 00 00 00 1E 01 03 00 01 00 05 10 00 01 20 4E 0D 16 0E 0B 17\n",
+        0,
+    ),
+    // Each fault, in its order; a fault is no refusal.
+    (
+        "up 1 0\npump 1 0\npump 0 0\nfrag 0 0 C0 81 00 00\nup 0 0\nup 0 0\nopen 0 0\nopen 0 0\n\
+         frame 1 0 68 04 07 00 00 00\nqueue 255\n",
+        "fault 1 NoOutstation\nfault 2 NoClient\nfault 3 NotUp\nfault 3 NotUp\nok\nfault 4 AlreadyUp\n\
+         ok\nfault 4 AlreadyUp\nfault 2 NoClient\nqueued 0 dropped 0\n",
+        0,
+    ),
+    // A refused fragment is told before any fault, and makes no step.
+    (
+        "frag 9 0 C0 81 00\nfrag 0 0 C0 02 00 00\nup 0 0\n",
+        "refused 1 Short\nrefused 2 NotResponse\nok\n",
+        1,
+    ),
+    // Leading zeros; empty lines count.
+    (
+        "\nup 000 00018446744073709551615\n\nup 0 18446744073709551616\nup 0 0\n",
+        "ok\nrefused line 4\n",
+        1,
+    ),
+    // Other octets than those of STARTDT act.
+    (
+        "open 0 0\nframe 0 0 68 04 43 00 00 00\nopen 0 0\n",
+        "ok\nrefused line 2\n",
+        1,
+    ),
+    // A space too many.
+    ("up 0  0\n", "refused line 1\n", 1),
+    ("", "", 0),
+];
+
+#[test]
+fn replays(rt: HostRuntime) -> Result<(), Fail> {
+    for (input, output, status) in REPLAYS {
+        let (text, code) = replayed(&rt, input.as_bytes())?;
+        assert_eq!(rt; text.as_slice(), output.as_bytes(), "at {input:?}");
+        assert_eq!(rt; code, status, "at {input:?}");
+    }
+    Ok(())
+}
+
+#[test]
+fn other_lines(rt: HostRuntime) -> Result<(), Fail> {
+    let rows = [
+        "down 0 0",
+        "up 0",
+        "up 0 ",
+        "up  0",
+        "up 256 0",
+        "up -1 0",
+        "up +1 0",
+        "up 0 0 ",
+        "up 0 0\r",
+        "frag 0 0",
+        "frag 0 0 ",
+        "frag 0 0 C0 8",
+        "frame 0 0",
+        "queue",
+        "queue 0 ",
+        "queue 256",
+        "Up 0 0",
+        "pump 0 0x1",
+        " up 0 0",
+    ];
+    for row in rows {
+        let (text, code) = replayed(&rt, row.as_bytes())?;
+        assert_eq!(rt;
+            text.as_slice(),
+            b"refused line 1\n".as_slice(),
+            "at {row:?}"
+        );
+        assert_eq!(rt; code, 1, "at {row:?}");
+    }
+    Ok(())
+}
+
+/// `frag 0 0` with a response of so many octets, all behind the fourth of an object that isn't known.
+fn long_fragment(rt: &HostRuntime, octets: usize) -> Result<Vec<u8>, Fail> {
+    let mut line = Vec::new(rt.alloc());
+    line.extend_from_slice(b"frag 0 0 C0 81 00 00")?;
+    for _ in 4..octets {
+        line.extend_from_slice(b" 63")?;
+    }
+    Ok(line)
+}
+
+#[test]
+fn long_lines(rt: HostRuntime) -> Result<(), Fail> {
+    let rows: [(usize, &[u8]); 2] = [
+        (2048, b"refused 3 Object 1 UnknownObject at 0\n"),
+        (2049, b"refused line 1\n"),
+    ];
+    for (octets, output) in rows {
+        let line = long_fragment(&rt, octets)?;
+        let (text, code) = replayed(&rt, line.as_slice())?;
+        assert_eq!(rt; text.as_slice(), output, "at {octets}");
+        assert_eq!(rt; code, 1, "at {octets}");
+    }
+    let mut zeros = Vec::new(rt.alloc());
+    zeros.extend_from_slice(b"queue ")?;
+    for _ in 0..8186 {
+        zeros.push(b'0')?;
+    }
+    let (text, _) = replayed(&rt, zeros.as_slice())?;
+    assert_eq!(rt; text.as_slice(), b"refused line 1\n".as_slice());
+    zeros.truncate(8191);
+    let (text, _) = replayed(&rt, zeros.as_slice())?;
+    assert_eq!(rt; text.as_slice(), b"queued 0 dropped 0\n".as_slice());
+    Ok(())
+}
+
+#[test]
+fn instructions_are_read_with_ample_memory(rt: HostRuntime) -> Result<(), Fail> {
+    let found = read_instruction(rt.alloc(), b"frag 3 4 C0 81 00 00")?;
+    assert!(rt; matches!(found, Some(Instruction::Make(Step::Fragment { moment: 4, .. }))));
+    Ok(())
+}
+
+#[test]
+fn replies_are_told_with_ample_memory(rt: HostRuntime) -> Result<(), Fail> {
+    let mut text = Vec::new(rt.alloc());
+    push_reply(&mut text, Ok(Reply::Closed(Why::Flooded)))?;
+    push_reply(&mut text, Err(StepFault::Memory))?;
+    push_reply(&mut text, Err(StepFault::Spent))?;
+    let want = b"closed Flooded\nfault 5 Memory\nfault 6 Spent\n";
+    assert_eq!(rt; text.as_slice(), want.as_slice());
+    Ok(())
+}

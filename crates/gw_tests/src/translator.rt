@@ -1,0 +1,312 @@
+//! Tests of gw_translator.
+use dnp_app::AppFault;
+use dnp_objects::{ObjectFault, Why};
+use gw_model::{Memory, Settings};
+use gw_picture::Picture;
+use gw_translator::{Decision, decide, translate};
+use std::io::{self, Read, Write};
+use std::process::Abort;
+use std::test::Fail;
+
+/// What `translate` writes for an input, and its status.
+fn translated(rt: &impl AllocGlobal, input: &[u8]) -> Result<(Vec<u8>, u8), Fail> {
+    let mut output = Vec::new(rt.alloc());
+    let status = translate(rt.alloc(), Settings::built_in(), input, &mut output);
+    Ok((output, status))
+}
+
+/// Lines, what `translate` writes for them, and its status.
+const LINES: [(&str, &str, u8); 14] = [
+    (
+        "E3 81 00 00 02 01 17 01 05 81\n",
+        "confirm C3 00\nasdu 01 01 03 00 01 00 05 10 00 01\n",
+        0,
+    ),
+    // Input 6 has no row; all flags are set.
+    (
+        "C0 81 00 00 02 01 17 02 05 FF 06 81\n",
+        "asdu 01 01 03 00 01 00 05 10 00 F1\n",
+        0,
+    ),
+    // No flag is set.
+    (
+        "C0 81 00 00 02 01 17 01 05 00\n",
+        "asdu 01 01 03 00 01 00 05 10 00 80\n",
+        0,
+    ),
+    // Lower case; an unsolicited response that asks for a confirmation.
+    (
+        "f5 82 00 00 02 01 17 01 05 01\n",
+        "confirm D5 00\nasdu 01 01 03 00 01 00 05 10 00 00\n",
+        0,
+    ),
+    ("C0 81 00 00\n", "", 0),
+    ("C0 81 00\n", "refused 1 Short\n", 1),
+    ("C0 02 00 00\n", "refused 2 NotResponse\n", 1),
+    (
+        "C0 81 00 00 02 01 17 01 05\n",
+        "refused 3 Object 5 ShortData at 0\n",
+        1,
+    ),
+    (
+        "C0 81 00 00 02 01 17 00 C8 01 06 00\n",
+        "refused 3 Object 1 UnknownObject at 4\n",
+        1,
+    ),
+    ("C0 8\n", "refused 0 Hex\n", 1),
+    // What follows a refusal is answered; the last line has no end.
+    (
+        "C0  81\n\nC0 81 00 00 02 01 17 01 05 81",
+        "refused 0 Hex\nasdu 01 01 03 00 01 00 05 10 00 01\n",
+        1,
+    ),
+    // A carriage return, a tab, a space at an end, a NUL, a letter that is no digit.
+    (
+        "C0 81 00 00\r\nC0\t81 00 00\nC0 81 00 00 \n C0\n\0\nC0 81 00 0G\n",
+        "refused 0 Hex\nrefused 0 Hex\nrefused 0 Hex\nrefused 0 Hex\nrefused 0 Hex\nrefused 0 Hex\n",
+        1,
+    ),
+    ("\n\n\n", "", 0),
+    ("", "", 0),
+];
+
+/// `translate` writes so for lines.
+fn check_lines(
+    rt: &(impl Abort + AllocGlobal),
+    rows: &[(&'static str, &'static str, u8)],
+) -> Result<(), Fail> {
+    for row in rows {
+        let (input, want, status) = *row;
+        let (output, ended) = translated(rt, input.as_bytes())?;
+        assert_eq!(rt; output.as_slice(), want.as_bytes(), "at {input:?}");
+        assert_eq!(rt; ended, status, "at {input:?}");
+    }
+    Ok(())
+}
+
+#[test]
+fn lines(rt: HostRuntime) -> Result<(), Fail> {
+    check_lines(&rt, &LINES)
+}
+
+/// The same for objects of many kinds, of binary input 5, analog input 0 and counter 0.
+const OBJECTS: [(&str, &str, u8); 14] = [
+    // An event at 22:13:20 on 14 November 2023.
+    (
+        "E3 81 02 00 02 02 17 01 05 81 00 68 E5 CF 8B 01",
+        "confirm C3 00\nasdu 1E 01 03 00 01 00 05 10 00 01 20 4E 0D 16 0E 0B 17\n",
+        0,
+    ),
+    // 65,535 ms after a common time of a clock that wasn't synchronized.
+    (
+        "C0 81 00 00 33 02 07 01 00 68 E5 CF 8B 01 02 03 17 01 05 81 FF FF",
+        "asdu 1E 01 03 00 01 00 05 10 00 01 BF 63 8E 16 0E 0B 17\n",
+        0,
+    ),
+    // The same without a common time, and where one stands behind the event.
+    (
+        "C0 81 00 00 02 03 17 01 05 81 FF FF",
+        "asdu 01 01 03 00 01 00 05 10 00 01\n",
+        0,
+    ),
+    (
+        "C0 81 00 00 02 03 17 01 05 81 FF FF 33 01 07 01 00 68 E5 CF 8B 01",
+        "asdu 01 01 03 00 01 00 05 10 00 01\n",
+        0,
+    ),
+    // The common time of one line is none of the next one.
+    (
+        "C0 81 00 00 33 01 07 01 00 68 E5 CF 8B 01\nC0 81 00 00 02 03 17 01 05 81 00 00",
+        "asdu 01 01 03 00 01 00 05 10 00 01\n",
+        0,
+    ),
+    // A time of 1970, which no tag shows.
+    (
+        "C0 81 00 00 02 02 17 01 05 81 01 00 00 00 00 00",
+        "asdu 01 01 03 00 01 00 05 10 00 01\n",
+        0,
+    ),
+    // An analog input of 40000 as scaled value, with overflow; one of 16 bits, -1, with time.
+    (
+        "C0 81 00 00 20 01 17 01 00 01 40 9C 00 00",
+        "asdu 0B 01 03 00 01 00 69 10 00 FF 7F 01\n",
+        0,
+    ),
+    (
+        "C0 81 00 00 20 04 28 01 00 00 00 01 FF FF 00 68 E5 CF 8B 01",
+        "asdu 23 01 03 00 01 00 69 10 00 FF FF 00 20 4E 0D 16 0E 0B 17\n",
+        0,
+    ),
+    // A counter that rolled over; one of 16 bits with time.
+    (
+        "C0 81 00 00 16 01 17 01 00 21 FF FF FF FF",
+        "asdu 0F 01 03 00 01 00 CD 10 00 FF FF FF FF 20\n",
+        0,
+    ),
+    (
+        "C0 81 00 00 16 06 17 01 00 01 FF FF 00 68 E5 CF 8B 01",
+        "asdu 25 01 03 00 01 00 CD 10 00 FF FF 00 00 00 20 4E 0D 16 0E 0B 17\n",
+        0,
+    ),
+    // An analog input, and one in floating point, which is stepped over.
+    (
+        "E1 81 00 00 1E 01 00 00 00 01 0A 00 00 00 1E 05 00 01 01 01 00 00 80 3F",
+        "confirm C1 00\nasdu 0B 01 03 00 01 00 69 10 00 0A 00 00\n",
+        0,
+    ),
+    (
+        "E1 81 00 00 1E 01 00 00 00 01 0A 00 00 00 1E 05 00 01 01 01 00 00 80 3F C8 01 00 00 00 00",
+        "refused 3 Object 1 UnknownObject at 20\n",
+        1,
+    ),
+    // Inputs 0 to 7, packed, of which input 5 alone has a row: off, and then on twice.
+    (
+        "C0 81 00 00 01 01 00 00 07 DF\nC1 81 00 00 01 01 00 00 07 20\nC2 81 00 00 01 01 00 00 07 20",
+        "asdu 01 01 03 00 01 00 05 10 00 00\nasdu 01 01 03 00 01 00 05 10 00 01\n",
+        0,
+    ),
+    // An event changes what static values are compared with; a refused line doesn't.
+    (
+        "C0 81 00 00 02 01 17 01 05 81\nC1 81 00 00 01 02 00 05 05 81\nC2 81 00 00 01 02 00 05 05 01 C8 01 00\n\
+         C3 81 00 00 01 02 00 05 05 81\nC4 81 00 00 01 02 00 05 05 01",
+        "asdu 01 01 03 00 01 00 05 10 00 01\nrefused 3 Object 1 UnknownObject at 6\n\
+         asdu 01 01 03 00 01 00 05 10 00 00\n",
+        1,
+    ),
+];
+
+#[test]
+fn objects(rt: HostRuntime) -> Result<(), Fail> {
+    check_lines(&rt, &OBJECTS)
+}
+
+/// A line of octets that says nothing: a response with empty headers, cut or filled to `count` octets.
+fn long_line(rt: &HostRuntime, count: usize) -> Result<Vec<u8>, Fail> {
+    let mut line = Vec::new(rt.alloc());
+    line.extend_from_slice(b"C0 81 00 00")?;
+    for _ in 4..count {
+        line.extend_from_slice(b" 00")?;
+    }
+    Ok(line)
+}
+
+#[test]
+fn long_lines(rt: HostRuntime) -> Result<(), Fail> {
+    let longest = long_line(&rt, 2048)?;
+    let (output, _) = translated(&rt, longest.as_slice())?;
+    assert_eq!(rt;
+        output.as_slice(),
+        b"refused 3 Object 1 UnknownObject at 0\n".as_slice()
+    );
+    let mut input = long_line(&rt, 2049)?;
+    input.push(b'\n')?;
+    input.extend_from_slice(long_line(&rt, 40_000)?.as_slice())?;
+    input.extend_from_slice(b"\n\xFF\xFE\nC0 81 00\n")?;
+    let (output, status) = translated(&rt, input.as_slice())?;
+    assert_eq!(rt;
+        output.as_slice(),
+        b"refused 0 Hex\nrefused 0 Hex\nrefused 0 Hex\nrefused 1 Short\n".as_slice()
+    );
+    assert_eq!(rt; status, 1);
+    Ok(())
+}
+
+/// A reader that gives an octet at a time and fails at last, and a writer that takes a few octets.
+#[derive(Drop)]
+struct Faulty<'a> {
+    rest: &'a [u8],
+}
+
+impl Read for Faulty<'_> {
+    fn read(&mut self, buf: &mut [u8]) -> io::Result<usize> {
+        match self.rest.split_first() {
+            Some((octet, rest)) if !buf.is_empty() => {
+                buf[0] = *octet;
+                self.rest = rest;
+                Ok(1)
+            }
+            _ => Err(io::Error::from(io::ErrorKind::Other)),
+        }
+    }
+}
+
+impl Write for Faulty<'_> {
+    fn write(&mut self, buf: &[u8]) -> io::Result<usize> {
+        let count = buf.len().min(self.rest.len());
+        if count == 0 && !buf.is_empty() {
+            return Err(io::Error::from(io::ErrorKind::Other));
+        }
+        self.rest = &self.rest[count..];
+        Ok(count)
+    }
+
+    fn flush(&mut self) -> io::Result<()> {
+        Ok(())
+    }
+}
+
+#[test]
+fn faults_of_reader_and_writer(rt: HostRuntime) -> Result<(), Fail> {
+    let line = b"E3 81 00 00 02 01 17 01 05 81\nC0 81";
+    let mut output = Vec::new(rt.alloc());
+    let reader = io::BufReader::new(rt.alloc(), Faulty { rest: line })?;
+    let status = translate(rt.alloc(), Settings::built_in(), reader, &mut output);
+    assert_eq!(rt;
+        output.as_slice(),
+        b"confirm C3 00\nasdu 01 01 03 00 01 00 05 10 00 01\n".as_slice()
+    );
+    assert_eq!(rt; status, 1);
+    let writer = Faulty { rest: b"room" };
+    assert_eq!(rt;
+        translate(rt.alloc(), Settings::built_in(), line.as_slice(), writer),
+        1
+    );
+    Ok(())
+}
+
+/// What is written is not all taken until the writer was flushed, and a failure there is a failure to write.
+#[test]
+fn fault_of_the_last_write(rt: HostRuntime) -> Result<(), Fail> {
+    let line = b"E3 81 00 00 02 01 17 01 05 81\n";
+    for (room, status) in [(48, 1), (49, 0)] {
+        let taken = vec![in rt.alloc(); 0; room]?;
+        let rest = Faulty {
+            rest: taken.as_slice(),
+        };
+        let writer = io::BufWriter::new(rt.alloc(), rest)?;
+        let ended = translate(rt.alloc(), Settings::built_in(), line.as_slice(), writer);
+        assert_eq!(rt; ended, status, "with room for {room} octets");
+    }
+    Ok(())
+}
+
+#[test]
+fn with_ample_memory(rt: HostRuntime) -> Result<(), Fail> {
+    let settings = Settings::built_in();
+    let mut picture = Picture::new(rt.alloc(), &settings)?;
+    let mut news = Vec::new(rt.alloc());
+    let short = decide(rt.alloc(), &settings, b"C0 81 00", &mut picture, &mut news);
+    assert_eq!(rt; short, Ok(Decision::Refused(AppFault::Short)));
+    let fault = ObjectFault {
+        why: Why::ShortRange,
+        place: 0,
+    };
+    let cut = decide(
+        rt.alloc(),
+        &settings,
+        b"C0 81 00 00 02",
+        &mut picture,
+        &mut news,
+    );
+    assert_eq!(rt; cut, Ok(Decision::Refused(AppFault::Object(fault))));
+    let taken: Result<Decision, Memory> = decide(
+        rt.alloc(),
+        &settings,
+        b"E0 81 00 00 02 01 17 01 05 81",
+        &mut picture,
+        &mut news,
+    );
+    assert_eq!(rt; taken, Ok(Decision::Accepted(Some([0xC0, 0]))));
+    assert_eq!(rt; news.len(), 1);
+    Ok(())
+}

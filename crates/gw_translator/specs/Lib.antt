@@ -1,0 +1,4 @@
+pub mod Standing
+pub mod Translation
+pub mod Answers
+pub mod KeptLaws
