@@ -5,9 +5,8 @@ use Rattle.dnp_app.specs.declared.fault.AppFault.{AppFault}
 use Rattle.dnp_app.specs.declared.fault.AppFault.TheVariants.{Memory}
 use Rattle.dnp_app.specs.Response.{Fragment, StoresHeader, response_of}
 use Rattle.iec_apci.specs.Apdu.{Unnumbered, apdu as spelling}
-use Rattle.iec_apci.specs.declared.apdu.Signal.TheVariants as signals
-use Rattle.gw_hub.specs.declared.apdu.Apdu.TheVariants.{U}
-use Rattle.gw_hub.specs.declared.apdu.Signal.TheVariants.{StartAct}
+use Rattle.iec_apci.specs.declared.apdu.Apdu.TheVariants.{U}
+use Rattle.iec_apci.specs.declared.apdu.Signal.TheVariants.{StartAct}
 use Rattle.gw_hub.specs.declared.step.Step.TheVariants as steps
 use Rattle.gw_text.specs.Decimal.{number}
 use Rattle.gw_text.specs.Hex.{line_octets}
@@ -68,7 +67,7 @@ fragment_in text = option_map (λ p. step_or_refusal p.1 (response_of p.0 p.2)) 
 
 -- the octets of STARTDT act (IEC 60870-5-104, 5.3)
 abbrev pub start_spelling : List ℕ
-start_spelling = spelling (Unnumbered signals.StartAct)
+start_spelling = spelling (Unnumbered StartAct)
 
 -- `C M HEX` of a frame: STARTDT act alone
 abbrev pub start_with : ℕ × ℕ × List ℕ → Option Instruction

@@ -6,10 +6,10 @@ ghost use Rattle.gw_replay.specs.Instructions.{IsRead, IsReadWith, NeedsMemory, 
 ghost use Rattle.gw_replay.specs.declared.instruction.Instruction.TheVariants.{Refused};
 
 use dnp_app::{AppFault, read_response};
-use gw_hub::{Apdu, Signal, Step};
+use gw_hub::Step;
 use gw_model::Memory;
 use gw_text::{line_octets, number_8, number_64};
-use iec_apci::{Apdu as Frame, Signal as Function, write_apdu};
+use iec_apci::{Apdu, Signal, write_apdu};
 use std::alloc::Global;
 
 /// What a line of a replay asks for. Outstations and clients go by their position, moments are in
@@ -135,7 +135,7 @@ fn is_start(octets: &[u8]) -> bool
     ensures { result ≡ bytes_eq octets.now start_spelling }
 {
     let mut buffer = [0; 255];
-    let end = write_apdu(&Frame::U(Function::StartAct), &mut buffer);
+    let end = write_apdu(&Apdu::U(Signal::StartAct), &mut buffer);
     octets == &buffer[..end]
 }
 

@@ -81,16 +81,16 @@ fn a_picture_shows_what_came_last(rt: HostRuntime) -> Result<(), Memory> {
     ];
     assert_eq!(rt; picture.rows(), opening.as_slice());
     let on = shown(4101, Value::Single(true), Quality::GOOD);
-    let measured = shown(4201, Value::Scaled(-2), Quality::GOOD);
+    let analog_value = shown(4201, Value::Scaled(-2), Quality::GOOD);
     assert_eq!(rt;
         picture.take(&input_5(true, true), &settings, &Zone::UTC),
         Some(on)
     );
     assert_eq!(rt;
         picture.take(&analog_0(-2), &settings, &Zone::UTC),
-        Some(measured)
+        Some(analog_value)
     );
-    assert_eq!(rt; picture.rows(), [on, measured, total].as_slice());
+    assert_eq!(rt; picture.rows(), [on, analog_value, total].as_slice());
     Ok(())
 }
 

@@ -5,7 +5,7 @@ use Rattle.gw_model.specs.declared.observation.Observation.{Observation}
 use Rattle.gw_model.specs.Rows.{Setup}
 use Rattle.dnp_app.specs.Control.{confirm_of}
 use Rattle.dnp_app.specs.Response.{Fragment, IsRefused, response_of}
-use Rattle.gw_picture.specs.News.{news_of, picture_after}
+use Rattle.gw_picture.specs.Picture.{news_of, picture_after}
 use Rattle.gw_text.specs.Hex.{line_octets}
 use Rattle.gw_text.specs.Text.{accepted_text, refusal_text}
 use Rattle.gw_translator.specs.declared.decision.Decision.{Decision}
