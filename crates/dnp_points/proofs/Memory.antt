@@ -11,7 +11,7 @@ use Rattle.dnp_objects.specs.Library.{Variation, object_of, size_of}
 use Rattle.dnp_objects.specs.Headers.{body_length}
 use Rattle.dnp_points.specs.Values.{bits_of}
 use Rattle.dnp_points.specs.Objects.{object_reports, packed_reports, index_of, whole_from, packed_from}
-use Rattle.dnp_points.specs.Meaning.{body_of, times_of, last_or, header_reports, reports_from, reports_of}
+use Rattle.dnp_points.specs.Meaning.{octets_of_objects, times_of, last_or, header_reports, reports_from, reports_of}
 use Rattle.dnp_points.proofs.Steps.{header_is, whole_turn, packed_turn, packed_octets}
 
 -- a list stays as long as one before it, where one more report is stored
@@ -31,13 +31,13 @@ pub one_whole_told : (part : List ℕ) (h : Header) (v : Variation) (long long' 
     → object_of h.group h.variation ≡ Some v → size_of v ≡ Octets long → turn < h.count → prefix' ≡ h.prefix → first' ≡ h.first → long' ≡ long
     → index ≡ take prefix' rest → behind ≡ drop prefix' rest → object ≡ take long' behind
     → at ≡ index_of (first' + turn) index → object_reports v outstation at common object ≡ r ∷ [] → length before ≤ length found
-    → found ++ whole_from v long outstation common h.prefix (h.first + turn) (h.count - turn) rest ≡ before ++ whole_from v long outstation common h.prefix h.first h.count (body_of part v h)
+    → found ++ whole_from v long outstation common h.prefix (h.first + turn) (h.count - turn) rest ≡ before ++ whole_from v long outstation common h.prefix h.first h.count (octets_of_objects part v h)
     → header_reports part (object_of h.group h.variation) outstation common h ≢ []
 one_whole_told part h v long long' outstation common prefix' first' turn rest index behind object at found before r known sized lt ep ef el ei eb eo ex told le so_far = λ none.
     let further = whole_turn v long long' outstation common h.prefix prefix' h.first first' turn h.count rest index behind object (drop long' behind) at
-    found (found ++ r ∷ []) before (body_of part v h) r lt ep ef el ei eb eo refl ex told refl so_far in
+    found (found ++ r ∷ []) before (octets_of_objects part v h) r lt ep ef el ei eb eo refl ex told refl so_far in
     told_more found (whole_from v long outstation common h.prefix (h.first + (turn + 1)) (h.count - (turn + 1)) (drop long' behind)) before
-    (whole_from v long outstation common h.prefix h.first h.count (body_of part v h)) r le further (sym (header_is part h v outstation common (Octets long) known sized) ∙ none)
+    (whole_from v long outstation common h.prefix h.first h.count (octets_of_objects part v h)) r le further (sym (header_is part h v outstation common (Octets long) known sized) ∙ none)
 
 -- packed objects, where the report of one of them isn't stored
 pub one_packed_told : (part : List ℕ) (h : Header) (v : Variation) (width width' outstation : ℕ) (common : Stamp) (first' turn : ℕ) (own : List ℕ) (at : ℕ) (found before : List Report) (r : Report)
@@ -50,7 +50,7 @@ pub one_packed_told : (part : List ℕ) (h : Header) (v : Variation) (width widt
 one_packed_told part h v width width' outstation common first' turn own at found before r known sized lt ew ef ex eo told le so_far = λ none.
     let octets : List ℕ = take (h.start + (h.count * width' + 7) / 8 - h.start) (drop h.start part) in
     let further = packed_turn v width width' outstation h.first first' turn h.count (bits_of octets) own at found (found ++ r ∷ []) before r lt ew ef ex eo told refl so_far in
-    let body : octets ≡ body_of part v h = packed_octets width width' h.count h.start part ew ∙ sym (ap (λ (s : Size). take (body_length s h.count h.prefix) (drop h.start part)) sized) in
+    let body : octets ≡ octets_of_objects part v h = packed_octets width width' h.count h.start part ew ∙ sym (ap (λ (s : Size). take (body_length s h.count h.prefix) (drop h.start part)) sized) in
     told_more found (packed_from v width outstation (h.first + (turn + 1)) (h.count - (turn + 1)) (drop ((turn + 1) * width) (bits_of octets))) before
     (packed_from v width outstation h.first h.count (bits_of octets)) r le further
     (ap (λ (t : List ℕ). packed_from v width outstation h.first h.count (bits_of t)) body ∙ (sym (header_is part h v outstation common (Bits width) known sized) ∙ none))

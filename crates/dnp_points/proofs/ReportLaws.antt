@@ -17,7 +17,7 @@ use Rattle.dnp_objects.specs.Headers.{headers_of, body_length, octets_after}
 use Rattle.dnp_objects.proofs.Results.{bind_ok}
 use Rattle.dnp_objects.proofs.HeaderLaws.{IsPart-found, IsPart-again}
 use Rattle.dnp_points.specs.Values.{bits_of}
-use Rattle.dnp_points.specs.Meaning.{IsWithin, body_of, times_of, all_times, last_or, common_time, AreSized, AreObjects, AreReports, Means, sized_reports, header_reports, reports_from, reports_of, meaning_of}
+use Rattle.dnp_points.specs.Meaning.{IsWithin, octets_of_objects, times_of, all_times, last_or, common_time, AreSized, AreObjects, AreReports, Means, sized_reports, header_reports, reports_from, reports_of, meaning_of}
 use Rattle.dnp_points.proofs.Bits.{length-bits_of}
 use Rattle.dnp_points.proofs.Texts.{whole_found, whole_only, packed_found, packed_only}
 use Rattle.dnp_points.proofs.Within.{part_within}
@@ -43,14 +43,14 @@ objects_found : (part : List ℕ) (h : Header) (outstation : ℕ) (common : Stam
     → AreObjects part (object_of h.group h.variation) outstation common h (header_reports part (object_of h.group h.variation) outstation common h)
 objects_found part h outstation common w =
     let v : Variation = w.variation in
-    let long : length (body_of part v h) ≡ octets_after v h = omega (arith, w.inside, length-take (octets_after v h) (drop h.start part), length-drop h.start part) in
+    let long : length (octets_of_objects part v h) ≡ octets_after v h = omega (arith, w.inside, length-take (octets_after v h) (drop h.start part), length-drop h.start part) in
     subst (λ (o : Option Variation). AreObjects part o outstation common h (header_reports part o outstation common h)) (sym w.known)
-    (sized_found (size_of v) v outstation common h (body_of part v h) refl long)
+    (sized_found (size_of v) v outstation common h (octets_of_objects part v h) refl long)
 
 known_only : (part : List ℕ) (o : Option Variation) (outstation : ℕ) (common : Stamp) (h : Header) (rs : List Report)
     → AreObjects part o outstation common h rs → rs ≡ header_reports part o outstation common h
 known_only part None outstation common h rs are = are
-known_only part (Some v) outstation common h rs are = sized_only (size_of v) v outstation common h (body_of part v h) rs are
+known_only part (Some v) outstation common h rs are = sized_only (size_of v) v outstation common h (octets_of_objects part v h) rs are
 
 -- ---- the common time
 

@@ -12,7 +12,7 @@ use Rattle.dnp_objects.specs.Library.{Role, Point, CommonTime, Echo, SteppedOver
 use Rattle.dnp_objects.specs.Headers.{number, body_length}
 use Rattle.dnp_points.specs.Values.{bits_of}
 use Rattle.dnp_points.specs.Objects.{object_reports, packed_reports, index_of, whole_from, packed_from}
-use Rattle.dnp_points.specs.Meaning.{IsWithin, body_of, time_by, times_from, times_told, times_of, last_or, sized_reports, header_reports}
+use Rattle.dnp_points.specs.Meaning.{IsWithin, octets_of_objects, time_by, times_from, times_by_role, times_of, last_or, sized_reports, header_reports}
 use Rattle.dnp_points.proofs.Table.{are_times}
 
 some_is : {A : Type 0} (x y : A) → Some x ≡ Some y → x ≡ y
@@ -32,17 +32,17 @@ whole_goes_on v long outstation common prefix next after n m octets front whole 
     rw f (append_assoc front (r ∷ []) others ∙ (ap (λ (rs : List Report). front ++ rs) (sym one) ∙ (ap (λ (k : ℕ). front ++ whole_from v long outstation common prefix next k octets) (sym e) ∙ so_far)))
 
 pub header_is : (part : List ℕ) (h : Header) (v : Variation) (outstation : ℕ) (common : Stamp) (size : Size) → object_of h.group h.variation ≡ Some v → size_of v ≡ size
-    → header_reports part (object_of h.group h.variation) outstation common h ≡ sized_reports size v outstation common h (body_of part v h)
+    → header_reports part (object_of h.group h.variation) outstation common h ≡ sized_reports size v outstation common h (octets_of_objects part v h)
 header_is part h v outstation common size known sized =
-    ap (λ (o : Option Variation). header_reports part o outstation common h) known ∙ ap (λ (s : Size). sized_reports s v outstation common h (body_of part v h)) sized
+    ap (λ (o : Option Variation). header_reports part o outstation common h) known ∙ ap (λ (s : Size). sized_reports s v outstation common h (octets_of_objects part v h)) sized
 
 -- all objects
 pub whole_is_done : (part : List ℕ) (h : Header) (v : Variation) (long outstation : ℕ) (common : Stamp) (next n : ℕ) (rest : List ℕ) (front before : List Report)
     → object_of h.group h.variation ≡ Some v → size_of v ≡ Octets long → n ≡ 0
-    → front ++ whole_from v long outstation common h.prefix next n rest ≡ before ++ whole_from v long outstation common h.prefix h.first h.count (body_of part v h)
+    → front ++ whole_from v long outstation common h.prefix next n rest ≡ before ++ whole_from v long outstation common h.prefix h.first h.count (octets_of_objects part v h)
     → front ≡ before ++ header_reports part (object_of h.group h.variation) outstation common h
 whole_is_done part h v long outstation common next n rest front before known sized e so_far =
-    let none : front ++ whole_from v long outstation common h.prefix next 0 rest ≡ before ++ whole_from v long outstation common h.prefix h.first h.count (body_of part v h) =
+    let none : front ++ whole_from v long outstation common h.prefix next 0 rest ≡ before ++ whole_from v long outstation common h.prefix h.first h.count (octets_of_objects part v h) =
     ap (λ (k : ℕ). front ++ whole_from v long outstation common h.prefix next k rest) (sym e) ∙ so_far in
     sym (append-nil front) ∙ (none ∙ ap (λ (rs : List Report). before ++ rs) (sym (header_is part h v outstation common (Octets long) known sized)))
 
@@ -74,7 +74,7 @@ pub packed_is_done : (part : List ℕ) (h : Header) (v : Variation) (width outst
     → front ++ packed_from v width outstation next n rest ≡ before ++ packed_from v width outstation h.first h.count (bits_of (take ((h.count * width + 7) / 8) (drop h.start part)))
     → front ≡ before ++ header_reports part (object_of h.group h.variation) outstation common h
 packed_is_done part h v width outstation common next n rest front before known sized e so_far =
-    let body : body_of part v h ≡ take ((h.count * width + 7) / 8) (drop h.start part) = ap (λ (s : Size). take (body_length s h.count h.prefix) (drop h.start part)) sized in
+    let body : octets_of_objects part v h ≡ take ((h.count * width + 7) / 8) (drop h.start part) = ap (λ (s : Size). take (body_length s h.count h.prefix) (drop h.start part)) sized in
     let none : front ++ packed_from v width outstation next 0 rest ≡ before ++ packed_from v width outstation h.first h.count (bits_of (take ((h.count * width + 7) / 8) (drop h.start part))) =
     ap (λ (k : ℕ). front ++ packed_from v width outstation next k rest) (sym e) ∙ so_far in
     sym (append-nil front) ∙ (none ∙ (ap (λ (t : List ℕ). before ++ packed_from v width outstation h.first h.count (bits_of t)) (sym body)
@@ -87,10 +87,10 @@ last_time : (variation n m place : ℕ) (other : Stamp) (octets : List ℕ) → 
 last_time variation n zero place other octets e f = rw (e, f) refl
 last_time variation n (suc m) place other octets e f =
     let more : last_or other (times_from variation (suc (suc m)) octets) ≡ last_or (time_by variation (number (take 6 octets))) (times_from variation (suc m) (drop 6 octets)) = refl in
-    let later : drop (6 * m) (drop 6 octets) ≡ drop (6 + 6 * m) octets = drop-drop (6 * m) 6 octets in
+    let behind : drop (6 * m) (drop 6 octets) ≡ drop (6 + 6 * m) octets = drop-drop (6 * m) 6 octets in
     let place_is : place ≡ 6 + 6 * m = omega (arith, f) in
     rw (e, place_is) (more ∙ (last_time variation (suc m) m (6 * m) (time_by variation (number (take 6 octets))) (drop 6 octets) refl refl
-    ∙ ap (λ (t : List ℕ). time_by variation (number (take 6 t))) later))
+    ∙ ap (λ (t : List ℕ). time_by variation (number (take 6 t))) behind))
 
 -- six octets within a body, by their place in the part
 six_at : (place start long : ℕ) (part : List ℕ) → place + 6 ≤ long → take 6 (drop place (take long (drop start part))) ≡ take 6 (drop (start + place) part)
@@ -112,24 +112,24 @@ last_told part h common w here some =
     let v : Variation = w.variation in
     let are = are_times part h w here in
     let long : ℕ = h.count * (h.prefix + 6) in
-    let body : body_of part v h ≡ take long (drop h.start part) = ap (λ (s : Size). take (body_length s h.count h.prefix) (drop h.start part)) are.1 in
+    let body : octets_of_objects part v h ≡ take long (drop h.start part) = ap (λ (s : Size). take (body_length s h.count h.prefix) (drop h.start part)) are.1 in
     let all : long ≡ h.count * h.prefix + h.count * 6 = omega arith in
     let enough : 6 * (h.count - 1) + 6 ≤ long = omega (arith, all, some) in
     let one_less : h.count ≡ suc (h.count - 1) = omega (arith, some) in
     ap (λ (o : Option Variation). last_or common (times_of part o h)) w.known
-    ∙ (ap (λ r. last_or common (times_told r h (body_of part v h))) are.0
+    ∙ (ap (λ r. last_or common (times_by_role r h (octets_of_objects part v h))) are.0
     ∙ (ap (λ (t : List ℕ). last_or common (times_from h.variation h.count t)) body
     ∙ (last_time h.variation h.count (h.count - 1) (6 * (h.count - 1)) common (take long (drop h.start part)) one_less refl
     ∙ ap (λ (t : List ℕ). time_by h.variation (number t)) (six_at (6 * (h.count - 1)) h.start long part enough))))
 
-times_nil : (role : Role) (h : Header) (body : List ℕ) → h.count ≡ 0 → times_told role h body ≡ []
+times_nil : (role : Role) (h : Header) (body : List ℕ) → h.count ≡ 0 → times_by_role role h body ≡ []
 times_nil CommonTime h body e = ap (λ (n : ℕ). times_from h.variation n body) e
 times_nil (Point kind) h body e = refl
 times_nil Echo h body e = refl
 times_nil SteppedOver h body e = refl
 
 no_count : (part : List ℕ) (h : Header) (v : Variation) → h.count ≡ 0 → times_of part (Some v) h ≡ []
-no_count part h v e = times_nil v.role h (body_of part v h) e
+no_count part h v e = times_nil v.role h (octets_of_objects part v h) e
 
 -- a header without objects gives none
 pub no_objects : (part : List ℕ) (h : Header) → IsWithin part h → h.count ≡ 0 → times_of part (object_of h.group h.variation) h ≡ []

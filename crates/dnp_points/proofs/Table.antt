@@ -12,8 +12,8 @@ use Rattle.dnp_objects.specs.declared.object.Access.TheVariants.{RangesAndIndexe
 use Rattle.dnp_objects.specs.Library.{Role, Point, CommonTime, Echo, SteppedOver, Timeless, Parts, Whole, Variation, entry, plain, objects, object_among, octet_string, object_of, size_of}
 use Rattle.dnp_objects.specs.Headers.{is_among}
 use Rattle.dnp_points.specs.Values.{bits_of}
-use Rattle.dnp_points.specs.Objects.{told_of, packed_told, object_reports, packed_reports, index_of, whole_from, packed_from}
-use Rattle.dnp_points.specs.Meaning.{IsWithin, body_of, times_told, times_of, sized_reports, header_reports}
+use Rattle.dnp_points.specs.Objects.{reports_by_role, packed_reports_by_role, object_reports, packed_reports, index_of, whole_from, packed_from}
+use Rattle.dnp_points.specs.Meaning.{IsWithin, octets_of_objects, times_by_role, times_of, sized_reports, header_reports}
 
 some_is : {A : Type 0} (x y : A) → Some x ≡ Some y → x ≡ y
 some_is x y e = cc
@@ -76,13 +76,13 @@ IsQuiet CommonTime = Unit {0}
 IsQuiet Echo = Unit {0}
 IsQuiet SteppedOver = Unit {0}
 
-told_quiet : (role : Role) (parts : Parts) (event : Bool) (outstation index : ℕ) (common : Stamp) (text : List ℕ) → IsQuiet role → told_of role parts event outstation index common text ≡ []
+told_quiet : (role : Role) (parts : Parts) (event : Bool) (outstation index : ℕ) (common : Stamp) (text : List ℕ) → IsQuiet role → reports_by_role role parts event outstation index common text ≡ []
 told_quiet (Point kind) parts event outstation index common text q = absurd q
 told_quiet CommonTime parts event outstation index common text q = refl
 told_quiet Echo parts event outstation index common text q = refl
 told_quiet SteppedOver parts event outstation index common text q = refl
 
-packed_told_quiet : (role : Role) (event : Bool) (outstation index state : ℕ) → IsQuiet role → packed_told role event outstation index state ≡ []
+packed_told_quiet : (role : Role) (event : Bool) (outstation index state : ℕ) → IsQuiet role → packed_reports_by_role role event outstation index state ≡ []
 packed_told_quiet (Point kind) event outstation index state q = absurd q
 packed_told_quiet CommonTime event outstation index state q = refl
 packed_told_quiet Echo event outstation index state q = refl
@@ -113,7 +113,7 @@ header_quiet : (part : List ℕ) (h : Header) (outstation : ℕ) (common : Stamp
     → header_reports part (object_of h.group h.variation) outstation common h ≡ []
 header_quiet part h outstation common w q =
     subst (λ (o : Option Variation). header_reports part o outstation common h ≡ []) (sym w.known)
-    (sized_quiet (size_of w.variation) w.variation outstation common h (body_of part w.variation h) q)
+    (sized_quiet (size_of w.variation) w.variation outstation common h (octets_of_objects part w.variation h) q)
 
 -- where the variations of points stand in the table
 abbrev point_row : Role → ℕ → ℕ → Bool
@@ -229,22 +229,22 @@ time_row SteppedOver group size = not (eqb group 51)
 abbrev row_of_time : Variation → Bool
 row_of_time v = time_row v.role v.group (size_of v)
 
-no_time_told : (role : Role) (group : ℕ) (size : Size) (h : Header) (body : List ℕ) → time_row role group size ≡ true → eqb group 51 ≡ false → times_told role h body ≡ []
+no_time_told : (role : Role) (group : ℕ) (size : Size) (h : Header) (body : List ℕ) → time_row role group size ≡ true → eqb group 51 ≡ false → times_by_role role h body ≡ []
 no_time_told CommonTime group size h body row other = absurd (cc ((and_parts (eqb group 51) (six_octets size) row).0, other))
 no_time_told (Point kind) group size h body row other = refl
 no_time_told Echo group size h body row other = refl
 no_time_told SteppedOver group size h body row other = refl
 
-string_no_time : (role : Role) (h : Header) (body : List ℕ) → role ≡ SteppedOver → times_told role h body ≡ []
-string_no_time role h body e = ap (λ (r : Role). times_told r h body) e
+string_no_time : (role : Role) (h : Header) (body : List ℕ) → role ≡ SteppedOver → times_by_role role h body ≡ []
+string_no_time role h body e = ap (λ (r : Role). times_by_role r h body) e
 
 -- objects of another group give no common time
 pub no_times : (part : List ℕ) (h : Header) → IsWithin part h → h.group ≢ 51 → times_of part (object_of h.group h.variation) h ≡ []
 no_times part h w other =
     let v : Variation = w.variation in
     subst (λ (o : Option Variation). times_of part o h ≡ []) (sym w.known) (elim (tested row_of_time h.group h.variation v refl w.known) [
-      | inl row ↦ no_time_told v.role v.group (size_of v) h (body_of part v h) row.0 (rw row.1 at (ne_eqb h.group 51 other))
-      | inr string ↦ string_no_time v.role h (body_of part v h) (string_is h.group h.variation v string).1
+      | inl row ↦ no_time_told v.role v.group (size_of v) h (octets_of_objects part v h) row.0 (rw row.1 at (ne_eqb h.group 51 other))
+      | inr string ↦ string_no_time v.role h (octets_of_objects part v h) (string_is h.group h.variation v string).1
     ])
 
 six_is : (size : Size) → six_octets size ≡ true → size ≡ Octets 6

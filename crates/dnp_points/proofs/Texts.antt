@@ -8,7 +8,7 @@ use Rattle.dnp_objects.specs.declared.object.Size.{Size}
 use Rattle.dnp_objects.specs.declared.object.Size.TheVariants.{Octets, Bits}
 use Rattle.dnp_objects.specs.Library.{Role, Point, CommonTime, Echo, SteppedOver, Time, time_octets, Parts, Packed, Whole, Variation, size_of, size_of_parts}
 use Rattle.dnp_points.specs.Values.{flags_of, stamp_of, report_of}
-use Rattle.dnp_points.specs.Objects.{flags_octets, IsPointText, IsTextOf, IsObjectText, packed_reports, index_of, AreWhole, ArePacked, point_report, told_of, object_reports, whole_from, packed_from}
+use Rattle.dnp_points.specs.Objects.{flags_octets, IsPointText, IsTextOf, IsObjectText, packed_reports, index_of, AreWhole, ArePacked, point_report, reports_by_role, object_reports, whole_from, packed_from}
 
 -- ---- one object
 
@@ -60,7 +60,7 @@ layout_long true width time long e = sym (octets_are (1 + width + time_octets ti
 layout_long false width time long e = omega (arith, octets_are (width + time_octets time) long e)
 
 told_found : (role : Role) (parts : Parts) (event : Bool) (outstation index : ℕ) (common : Stamp) (text : List ℕ) → size_of_parts parts ≡ Octets (length text)
-    → IsTextOf role parts event outstation index common text (told_of role parts event outstation index common text)
+    → IsTextOf role parts event outstation index common text (reports_by_role role parts event outstation index common text)
 told_found (Point kind) (Packed bits) event outstation index common text e = absurd cc
 told_found (Point kind) (Whole has_flags width time) event outstation index common text e = (
   point_report kind event has_flags width time outstation index common text,
@@ -72,7 +72,7 @@ told_found Echo parts event outstation index common text e = refl
 told_found SteppedOver parts event outstation index common text e = refl
 
 told_only : (role : Role) (parts : Parts) (event : Bool) (outstation index : ℕ) (common : Stamp) (text : List ℕ) (rs : List Report)
-    → IsTextOf role parts event outstation index common text rs → rs ≡ told_of role parts event outstation index common text
+    → IsTextOf role parts event outstation index common text rs → rs ≡ reports_by_role role parts event outstation index common text
 told_only (Point kind) (Packed bits) event outstation index common text rs is = absurd is
 told_only (Point kind) (Whole has_flags width time) event outstation index common text rs is =
     is.2 ∙ ap (λ (r : Report). r ∷ []) (point_only kind event has_flags width time outstation index common text is.0 is.1)

@@ -2,4 +2,4 @@ pub mod Values
 pub mod Objects
 pub mod Layouts
 pub mod Meaning
-pub mod Shown
+pub mod Fields

@@ -17,7 +17,8 @@ flags_octets true = 1
 flags_octets false = 0
 
 -- octets that spell an object of a point: its flags where it has any, its value, its time; and its report
-pub record IsPointText (kind : Kind) (event has_flags : Bool) (width : ℕ) (time : Time) (outstation index : ℕ) (common : Stamp) (text : List ℕ) (report : Report) : Type 0 where
+pub record IsPointText (kind : Kind) (event has_flags : Bool) (width : ℕ) (time : Time)
+    (outstation index : ℕ) (common : Stamp) (text : List ℕ) (report : Report) : Type 0 where
   pub flags : List ℕ
   pub value : List ℕ
   pub instant : List ℕ
@@ -27,7 +28,8 @@ pub record IsPointText (kind : Kind) (event has_flags : Bool) (width : ℕ) (tim
   pub instant_long : length instant ≡ time_octets time
   pub told : report ≡ report_of outstation index kind event (flags_of flags) value (stamp_of time common instant)
 
--- octets that spell an object, and its reports: one of its point, or none; packed objects of points aren't spelled in whole octets
+-- octets that spell an object, and its reports: one of its point, or none; packed objects of points aren't spelled
+-- in whole octets
 abbrev pub IsTextOf : Role → Parts → Bool → ℕ → ℕ → Stamp → List ℕ → List Report → Type 0
 IsTextOf (Point kind) (Whole has_flags width time) event outstation index common text rs =
     (r : Report) × IsPointText kind event has_flags width time outstation index common text r × (rs ≡ r ∷ [])
@@ -40,14 +42,15 @@ abbrev pub IsObjectText : Variation → ℕ → ℕ → Stamp → List ℕ → L
 IsObjectText v = IsTextOf v.role v.parts v.event
 
 -- what a packed object with this state reports
-abbrev pub packed_told : Role → Bool → ℕ → ℕ → ℕ → List Report
-packed_told (Point kind) event outstation index state = packed_report_of outstation index kind event state ∷ []
-packed_told CommonTime event outstation index state = []
-packed_told Echo event outstation index state = []
-packed_told SteppedOver event outstation index state = []
+abbrev pub packed_reports_by_role : Role → Bool → ℕ → ℕ → ℕ → List Report
+packed_reports_by_role (Point kind) event outstation index state =
+    packed_report_of outstation index kind event state ∷ []
+packed_reports_by_role CommonTime event outstation index state = []
+packed_reports_by_role Echo event outstation index state = []
+packed_reports_by_role SteppedOver event outstation index state = []
 
 abbrev pub packed_reports : Variation → ℕ → ℕ → List ℕ → List Report
-packed_reports v outstation index bits = packed_told v.role v.event outstation index (number_of_bits bits)
+packed_reports v outstation index bits = packed_reports_by_role v.role v.event outstation index (number_of_bits bits)
 
 -- the index of an object: that before it, where one stands there, and else it counts on from the range's start
 abbrev pub index_of : ℕ → List ℕ → ℕ
@@ -57,8 +60,10 @@ index_of next (octet ∷ octets) = number (octet ∷ octets)
 -- octets that are so many objects of this length, each after its index, and their reports
 abbrev pub AreWhole : Variation → ℕ → ℕ → Stamp → ℕ → ℕ → ℕ → List ℕ → List Report → Type 0
 AreWhole v long outstation common prefix next zero octets rs = (octets ≡ []) × (rs ≡ [])
-AreWhole v long outstation common prefix next (suc n) octets rs = (index : List ℕ) × (text : List ℕ) × (rest : List ℕ) × (one : List Report) × (others : List Report)
-    × (octets ≡ index ++ (text ++ rest)) × (length index ≡ prefix) × (length text ≡ long) × IsObjectText v outstation (index_of next index) common text one
+AreWhole v long outstation common prefix next (suc n) octets rs =
+    (index : List ℕ) × (text : List ℕ) × (rest : List ℕ) × (one : List Report) × (others : List Report)
+    × (octets ≡ index ++ (text ++ rest)) × (length index ≡ prefix) × (length text ≡ long)
+    × IsObjectText v outstation (index_of next index) common text one
     × (rs ≡ one ++ others) × AreWhole v long outstation common prefix (next + 1) n rest others
 
 -- bits that begin with so many objects of so many bits, and their reports; the bits that are left over fill up
@@ -74,18 +79,20 @@ ArePacked v width outstation next (suc n) bits rs = (own : List ℕ) × (rest : 
 unfoldable pub point_report : Kind → Bool → Bool → ℕ → Time → ℕ → ℕ → Stamp → List ℕ → Report
 point_report kind event has_flags width time outstation index common text =
     let behind = drop (flags_octets has_flags) text in
-    report_of outstation index kind event (flags_of (take (flags_octets has_flags) text)) (take width behind) (stamp_of time common (drop width behind))
+    let flags = flags_of (take (flags_octets has_flags) text) in
+    report_of outstation index kind event flags (take width behind) (stamp_of time common (drop width behind))
 
-abbrev pub told_of : Role → Parts → Bool → ℕ → ℕ → Stamp → List ℕ → List Report
-told_of (Point kind) (Whole has_flags width time) event outstation index common text = point_report kind event has_flags width time outstation index common text ∷ []
-told_of (Point kind) (Packed bits) event outstation index common text = []
-told_of CommonTime parts event outstation index common text = []
-told_of Echo parts event outstation index common text = []
-told_of SteppedOver parts event outstation index common text = []
+abbrev pub reports_by_role : Role → Parts → Bool → ℕ → ℕ → Stamp → List ℕ → List Report
+reports_by_role (Point kind) (Whole has_flags width time) event outstation index common text =
+    point_report kind event has_flags width time outstation index common text ∷ []
+reports_by_role (Point kind) (Packed bits) event outstation index common text = []
+reports_by_role CommonTime parts event outstation index common text = []
+reports_by_role Echo parts event outstation index common text = []
+reports_by_role SteppedOver parts event outstation index common text = []
 
 -- what an object with these octets reports
 abbrev pub object_reports : Variation → ℕ → ℕ → Stamp → List ℕ → List Report
-object_reports v = told_of v.role v.parts v.event
+object_reports v = reports_by_role v.role v.parts v.event
 
 abbrev pub whole_from : Variation → ℕ → ℕ → Stamp → ℕ → ℕ → ℕ → List ℕ → List Report
 whole_from v long outstation common prefix next zero octets = []

@@ -21,8 +21,8 @@ flags_of [] = 1
 flags_of (octet ∷ octets) = octet
 
 -- a number of some octets in two's complement, low octet first
-abbrev pub signed : List ℕ → ℤ
-signed octets =
+abbrev pub signed_number : List ℕ → ℤ
+signed_number octets =
     let n = number octets in
     let all = 256 ^ length octets in
     if nat_lt n (all / 2) then pos n else pos n -ℤ pos all
@@ -33,7 +33,7 @@ raw_of Binary flags value = Bit (nat_le 128 flags)
 raw_of Output flags value = Bit (nat_le 128 flags)
 raw_of Double flags value = Two (flags / 64 % 4)
 raw_of Counter flags value = Count (number value)
-raw_of Analog flags value = Number (signed value)
+raw_of Analog flags value = Number (signed_number value)
 
 -- the bits of octets, low bits first in each
 abbrev pub bits_of : List ℕ → List ℕ
@@ -57,16 +57,16 @@ packed_raw_of Analog state = Number (pos 0)
 -- ---- times
 
 -- so many milliseconds after a common time, which is doubtful where that is; no time where there was none
-abbrev pub later : Stamp → ℕ → Stamp
-later Untimed milliseconds = Untimed
-later (At base) milliseconds = At (base + milliseconds)
-later (Doubtful base) milliseconds = Doubtful (base + milliseconds)
+abbrev pub stamp_after : Stamp → ℕ → Stamp
+stamp_after Untimed milliseconds = Untimed
+stamp_after (At base) milliseconds = At (base + milliseconds)
+stamp_after (Doubtful base) milliseconds = Doubtful (base + milliseconds)
 
 -- the time of an object, where the common time before it is given
 abbrev pub stamp_of : Time → Stamp → List ℕ → Stamp
 stamp_of Timeless common octets = Untimed
 stamp_of Absolute common octets = At (number octets)
-stamp_of Relative common octets = later common (number octets)
+stamp_of Relative common octets = stamp_after common (number octets)
 
 -- a static value has no time
 abbrev pub stamp_where : Bool → Stamp → Stamp
@@ -118,6 +118,19 @@ packed_report_of outstation index kind event state = record {
   event = event;
   of_kind = packed_raw_fits kind state;
   stamped = stamp_fits event Untimed;
+}
+
+-- the static report of an online point with this value
+abbrev pub online_report : (outstation : ℕ) (kind : Kind) (index : ℕ) (raw : Raw)
+    → IsTrue (is_of_kind kind raw) → Report
+online_report outstation kind index raw fits = record {
+  key = record { outstation = outstation; kind = kind; index = index };
+  raw = raw;
+  flags = 1;
+  stamp = Untimed;
+  event = false;
+  of_kind = fits;
+  stamped = refl;
 }
 
 -- ---- what the functions of the crate ask

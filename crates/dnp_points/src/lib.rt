@@ -34,6 +34,3 @@ pub use law::one_meaning;
 pub use object::Object;
 pub use packed::{PackedBinary, PackedDouble, PackedObject, PackedOutput};
 pub use report::reports;
-
-#[cfg(test)]
-mod tests;

@@ -8,7 +8,8 @@ ghost use Rattle.dnp_points.specs.Values.{stamp_of, stamp_where, IsClock, is_wid
 ghost use Rattle.dnp_points.specs.Objects.{flags_octets, point_report, object_reports};
 ghost use Rattle.dnp_points.specs.Layouts.{time_of, octets_of};
 
-use crate::value::{flags_of, later, number_16, number_48, raw_of};
+use crate::value::{flags_of, raw_of, stamp_after};
+use dnp_objects::number;
 use gw_model::{Kind, PointKey, Report, Stamp};
 
 /// One variation of the object library: octets that report a point.
@@ -59,6 +60,7 @@ pub struct Layout {
 
 impl Time {
     /// The time of an object.
+    #[tactic(auto, using(dnp_objects::proofs::NumberLaws::in_octets))]
     fn stamp(self, common: Stamp, octets: &[u8]) -> Stamp
         requires long { length octets.now ≡ time_octets (time_of self) }
         requires clock { IsClock common }
@@ -66,8 +68,8 @@ impl Time {
     {
         match self {
             Time::Timeless => Stamp::Untimed,
-            Time::Absolute => Stamp::At(number_48(octets)),
-            Time::Relative => later(common, number_16(octets)),
+            Time::Absolute => Stamp::At(number(octets)),
+            Time::Relative => stamp_after(common, number(octets) as u16),
         }
     }
 }
@@ -126,7 +128,8 @@ impl Layout {
         requires wide { IsTrue (is_wide_enough self.kind self.value) }
         requires long { length octets.now ≡ octets_of self }
         requires clock { IsClock common }
-        ensures { result ≡ point_report self.kind self.event self.flags self.value (time_of self.time) outstation index common octets.now }
+        ensures { result ≡ point_report self.kind self.event self.flags self.value (time_of self.time)
+            outstation index common octets.now }
     {
         let (flags, behind) = octets.split_at(usize::from(self.flags));
         let (value, instant) = behind.split_at(self.value);

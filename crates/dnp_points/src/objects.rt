@@ -6,8 +6,7 @@ ghost use Rattle.dnp_points.specs.Meaning.{AreFound, Adds};
 
 use crate::object::Object;
 use crate::packed::{PackedObject, bits_at};
-use crate::value::number_16;
-use dnp_objects::Header;
+use dnp_objects::{Header, number};
 use gw_model::{Memory, Report, Stamp};
 
 /// The index of an object: that before it, where one stands there, and else it counts on.
@@ -18,8 +17,7 @@ fn index_of(next: u32, octets: &[u8]) -> u16
 {
     match octets {
         [] => next as u16,
-        [index] => u16::from(*index),
-        _ => number_16(octets),
+        _ => number(octets) as u16,
     }
 }
 

@@ -2,12 +2,11 @@
 ghost use Rattle.std.specs.Prelude.{◌≡◌, ◌*◌, ◌+◌, ◌≤◌, ◌%◌, ℕ, List, [], ◌∷◌, Some, length, take, drop, IsTrue, refl};
 ghost use Rattle.gw_model.specs.Point.{is_of_kind};
 ghost use Rattle.gw_model.specs.declared.point.Kind.TheVariants.{Binary, Double, Output};
-ghost use Rattle.gw_model.specs.declared.point.Stamp.TheVariants.{Untimed};
 ghost use Rattle.dnp_objects.specs.declared.object.Size.TheVariants.{Bits};
 ghost use Rattle.dnp_objects.specs.declared.object.Access.TheVariants.{Ranges};
 ghost use Rattle.dnp_objects.specs.Library.{Variation, objects, object_among, size_of, entry, Point, static, Packed};
-ghost use Rattle.dnp_points.specs.Values.{bits_of, number_of_bits, is_packed_width};
-ghost use Rattle.dnp_points.specs.Objects.{packed_told};
+ghost use Rattle.dnp_points.specs.Values.{bits_of, number_of_bits, is_packed_width, online_report};
+ghost use Rattle.dnp_points.specs.Objects.{packed_reports_by_role};
 
 use crate::value::ONLINE;
 use gw_model::{Kind, PointKey, Raw, Report, Stamp};
@@ -25,7 +24,7 @@ pub trait PackedObject {
     /// What an object whose bits are this number reports of the point with this index.
     fn report(state: u8, outstation: u8, index: u16) -> Report
         // It is the library's report, and there is no other.
-        ensures { packed_told variation.role variation.event outstation index state ≡ result ∷ [] };
+        ensures { packed_reports_by_role variation.role variation.event outstation index state ≡ result ∷ [] };
 
     /// The variation stands in the library.
     ghost known: { object_among objects variation.group variation.number ≡ Some variation };
@@ -53,7 +52,7 @@ pub fn bits_at(octets: &[u8], bit: usize, width: usize) -> u8
 /// The static report of an online point.
 fn online(outstation: u8, kind: Kind, index: u16, raw: Raw) -> Report
     requires { IsTrue (is_of_kind kind raw) }
-    ensures { (p : IsTrue (is_of_kind kind raw)) → result ≡ record { key = record { outstation = outstation; kind = kind; index = index }; raw = raw; flags = 1; stamp = Untimed; event = static; of_kind = p; stamped = refl } }
+    ensures { (fits : IsTrue (is_of_kind kind raw)) → result ≡ online_report outstation kind index raw fits }
 {
     let key = PointKey {
         outstation,

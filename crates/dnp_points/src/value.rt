@@ -1,66 +1,34 @@
 //! Flags, values and times as octets give them (IEEE Std 1815, Annex A).
-ghost use Rattle.std.specs.Prelude.{◌≡◌, ◌≤◌, ◌<◌, ◌^◌, ◌⊎◌, length, IsTrue};
+ghost use Rattle.std.specs.Prelude.{◌≡◌, ◌⊎◌, length, IsTrue};
 ghost use Rattle.gw_model.specs.Point.{is_of_kind};
 ghost use Rattle.dnp_objects.specs.Headers.{number};
-ghost use Rattle.dnp_points.specs.Values.{flags_of, signed, raw_of, later, IsClock, is_wide_enough};
+ghost use Rattle.dnp_points.specs.Values.{flags_of, signed_number, raw_of, stamp_after, IsClock, is_wide_enough};
 
+use dnp_objects::number;
 use gw_model::{Kind, Raw, Stamp};
 
 /// The flags of an object without flags: online.
 pub const ONLINE: u8 = 0x01;
 
-/// A number of two octets, low octet first.
-#[tactic(auto, using(crate::proofs::Numbers::numbers))]
-pub fn number_16(octets: &[u8]) -> u16
-    requires { length octets.now ≡ 2 }
-    ensures { result ≡ number octets.now }
-{
-    u16::from_le_bytes([octets[0], octets[1]])
-}
-
-/// A number of four octets, low octet first.
-#[tactic(auto, using(crate::proofs::Numbers::numbers))]
-pub fn number_32(octets: &[u8]) -> u32
-    requires { length octets.now ≡ 4 }
-    ensures { result ≡ number octets.now }
-{
-    u32::from_le_bytes([octets[0], octets[1], octets[2], octets[3]])
-}
-
-/// A number of six octets, low octet first.
-#[tactic(auto, using(crate::proofs::Numbers::numbers))]
-pub fn number_48(octets: &[u8]) -> u64
-    requires { length octets.now ≡ 6 }
-    ensures value { result ≡ number octets.now }
-    ensures small { result < 2 ^ 48 }
-{
-    let low = u32::from_le_bytes([octets[0], octets[1], octets[2], octets[3]]);
-    let high = u16::from_le_bytes([octets[4], octets[5]]);
-    u64::from(low) + 0x1_0000_0000 * u64::from(high)
-}
-
 /// A number of two or of four octets.
+#[tactic(auto, using(dnp_objects::proofs::NumberLaws::in_octets))]
 fn count_of(octets: &[u8]) -> u32
     requires { (length octets.now ≡ 2) ⊎ (length octets.now ≡ 4) }
     ensures { result ≡ number octets.now }
 {
-    if octets.len() == 2 {
-        u32::from(number_16(octets))
-    } else {
-        number_32(octets)
-    }
+    number(octets) as u32
 }
 
 /// A number of two or of four octets in two's complement.
-#[tactic(auto, using(crate::proofs::Numbers::numbers))]
+#[tactic(auto, using(dnp_objects::proofs::NumberLaws::in_octets))]
 fn signed_of(octets: &[u8]) -> i32
     requires { (length octets.now ≡ 2) ⊎ (length octets.now ≡ 4) }
-    ensures { result ≡ signed octets.now }
+    ensures { result ≡ signed_number octets.now }
 {
     if octets.len() == 2 {
-        i32::from(number_16(octets).cast_signed())
+        i32::from((number(octets) as u16).cast_signed())
     } else {
-        number_32(octets).cast_signed()
+        (number(octets) as u32).cast_signed()
     }
 }
 
@@ -89,9 +57,9 @@ pub fn raw_of(kind: Kind, flags: u8, value: &[u8]) -> Raw
 }
 
 /// So many milliseconds after a common time.
-pub fn later(common: Stamp, milliseconds: u16) -> Stamp
+pub fn stamp_after(common: Stamp, milliseconds: u16) -> Stamp
     requires { IsClock common }
-    ensures { result ≡ later common milliseconds }
+    ensures { result ≡ stamp_after common milliseconds }
 {
     match common {
         Stamp::Untimed => Stamp::Untimed,

@@ -8,4 +8,6 @@ mod largest;
 #[cfg(test)]
 mod objects;
 #[cfg(test)]
+mod points;
+#[cfg(test)]
 mod receive;

@@ -1,7 +1,7 @@
 use Rattle.std.proofs.Common.{◌≡◌, ◌+◌, ◌-◌, ◌*◌, ◌/◌, ◌<◌, [], ◌≢◌, take, drop, refl, sym, ap, ◌∙◌, arith, rules}
 use Rattle.dnp_points.specs.Values.{bits_of}
-use Rattle.dnp_points.specs.Objects.{packed_told}
-use Rattle.dnp_points.specs.Meaning.{told_by}
+use Rattle.dnp_points.specs.Objects.{packed_reports_by_role}
+use Rattle.dnp_points.specs.Meaning.{reports_of_objects}
 use Rattle.dnp_points.proofs.Steps.{packed_turn, packed_ends}
 use Rattle.dnp_points.proofs.Memory.{one_packed_told, grown, on_error}
 use Rattle.dnp_points.proofs.objects.Objects.push_packed.Goals as goal
@@ -13,7 +13,7 @@ loop-n-preserved g c =
     record {
       read = packed_turn g.P.PackedObject.variation g.P.PackedObject.BITS c.BITS-width.result c.args.self.now.outstation c.args.self.now.header.now.first c.from-first.result c.loop-n.n c.args.self.now.header.now.count
           bits (take c.BITS-width.result (drop (c.loop-n.n * c.BITS-width.result) bits)) (c.from-first.result + c.loop-n.n) c.loop-n.found.items c.push.new.self.items c.args.found.now.items c.report.result
-          lt c.BITS-width.ensures c.from-first.ensures refl refl (ap (packed_told g.P.PackedObject.variation.role g.P.PackedObject.variation.event c.args.self.now.outstation (c.from-first.result + c.loop-n.n)) (sym c.bits_at-state.ensures) ∙ c.report.ensures) c.in_ok-push.ensures.items c.loop-n.invariant.read;
+          lt c.BITS-width.ensures c.from-first.ensures refl refl (ap (packed_reports_by_role g.P.PackedObject.variation.role g.P.PackedObject.variation.event c.args.self.now.outstation (c.from-first.result + c.loop-n.n)) (sym c.bits_at-state.ensures) ∙ c.report.ensures) c.in_ok-push.ensures.items c.loop-n.invariant.read;
       grown = grown c.loop-n.found.items c.push.new.self.items c.args.found.now.items c.report.result c.in_ok-push.ensures.items c.loop-n.invariant.grown;
     }
 
@@ -32,10 +32,10 @@ returns-in_err-push g c =
     let bits = bits_of (take (c.args.self.now.header.now.start + (c.args.self.now.header.now.count * c.BITS-width.result + 7) / 8 - c.args.self.now.header.now.start) (drop c.args.self.now.header.now.start c.args.self.now.part.now)) in
     record {
       told = search rules;
-      memory = on_error c.from_residual.result (told_by c.args.self.now ≢ [])
+      memory = on_error c.from_residual.result (reports_of_objects c.args.self.now ≢ [])
           (one_packed_told c.args.self.now.part.now c.args.self.now.header.now g.P.PackedObject.variation g.P.PackedObject.BITS c.BITS-width.result c.args.self.now.outstation c.args.self.now.common c.from-first.result c.loop-n.n
           (take c.BITS-width.result (drop (c.loop-n.n * c.BITS-width.result) bits)) (c.from-first.result + c.loop-n.n) c.loop-n.found.items c.args.found.now.items c.report.result
           c.requires.known g.met.P.PackedObject.sized lt c.BITS-width.ensures c.from-first.ensures refl refl
-          (ap (packed_told g.P.PackedObject.variation.role g.P.PackedObject.variation.event c.args.self.now.outstation (c.from-first.result + c.loop-n.n)) (sym c.bits_at-state.ensures) ∙ c.report.ensures)
+          (ap (packed_reports_by_role g.P.PackedObject.variation.role g.P.PackedObject.variation.event c.args.self.now.outstation (c.from-first.result + c.loop-n.n)) (sym c.bits_at-state.ensures) ∙ c.report.ensures)
           c.loop-n.invariant.grown c.loop-n.invariant.read);
     }

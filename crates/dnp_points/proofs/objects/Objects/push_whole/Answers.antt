@@ -1,5 +1,5 @@
 use Rattle.std.proofs.Common.{◌≡◌, ◌+◌, ◌-◌, ◌<◌, [], ◌≢◌, arith, rules}
-use Rattle.dnp_points.specs.Meaning.{body_of, told_by}
+use Rattle.dnp_points.specs.Meaning.{octets_of_objects, reports_of_objects}
 use Rattle.dnp_points.proofs.Steps.{whole_turn, left_behind, whole_is_done}
 use Rattle.dnp_points.proofs.Memory.{one_whole_told, grown, on_error}
 use Rattle.dnp_points.proofs.objects.Objects.push_whole.Goals as goal
@@ -10,7 +10,7 @@ loop-n-preserved g c =
     record {
       read = whole_turn g.O.Object.variation g.O.Object.LENGTH c.LENGTH-in-loop-n.result c.args.self.now.outstation c.args.self.now.common c.args.self.now.header.now.prefix c.from-prefix.result c.args.self.now.header.now.first c.from-first.result c.loop-n.n c.args.self.now.header.now.count
           c.loop-n.rest.now c.split_at.result.0.now c.split_at.result.1.now c.split_at-in-loop-n.result.0.now c.split_at-in-loop-n.result.1.now c.index_of-index.result
-          c.loop-n.found.items c.push.new.self.items c.args.found.now.items (body_of c.args.self.now.part.now g.O.Object.variation c.args.self.now.header.now) c.report.result
+          c.loop-n.found.items c.push.new.self.items c.args.found.now.items (octets_of_objects c.args.self.now.part.now g.O.Object.variation c.args.self.now.header.now) c.report.result
           lt c.from-prefix.ensures c.from-first.ensures c.LENGTH-in-loop-n.ensures
           c.split_at.ensures.front c.split_at.ensures.back c.split_at-in-loop-n.ensures.front c.split_at-in-loop-n.ensures.back
           c.index_of-index.ensures c.report.ensures c.in_ok-push.ensures.items c.loop-n.invariant.read;
@@ -34,7 +34,7 @@ returns-in_err-push g c =
     let lt : c.loop-n.n < c.args.self.now.header.now.count = omega arith in
     record {
       told = search rules;
-      memory = on_error c.from_residual.result (told_by c.args.self.now ≢ [])
+      memory = on_error c.from_residual.result (reports_of_objects c.args.self.now ≢ [])
           (one_whole_told c.args.self.now.part.now c.args.self.now.header.now g.O.Object.variation g.O.Object.LENGTH c.LENGTH-in-loop-n.result c.args.self.now.outstation c.args.self.now.common c.from-prefix.result c.from-first.result c.loop-n.n
           c.loop-n.rest.now c.split_at.result.0.now c.split_at.result.1.now c.split_at-in-loop-n.result.0.now c.index_of-index.result c.loop-n.found.items c.args.found.now.items c.report.result
           c.requires.known g.met.O.Object.sized lt c.from-prefix.ensures c.from-first.ensures c.LENGTH-in-loop-n.ensures
