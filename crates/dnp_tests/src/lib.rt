@@ -11,3 +11,5 @@ mod objects;
 mod points;
 #[cfg(test)]
 mod receive;
+#[cfg(test)]
+mod transport;

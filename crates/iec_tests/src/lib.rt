@@ -2,6 +2,8 @@
 #![tactic(auto)]
 
 #[cfg(test)]
+mod apci;
+#[cfg(test)]
 mod asdu;
 #[cfg(test)]
 mod bits;
