@@ -3,7 +3,7 @@ use Rattle.std.proofs.Common.{◌≡◌, ℕ, ◌+◌, List, [], ◌∷◌, ◌+
 use Rattle.std.specs.Io.KnownBytes.{Consumes, IsAtEnd}
 use Rattle.std.proofs.lemmas.List.{append-nil}
 use Rattle.std.proofs.lemmas.List.Elements.{filter_map-append}
-use Rattle.dnp_link.specs.Stream.{Event, Reading, reading, preceded, followed}
+use Rattle.dnp_link.specs.Stream.{Event, Reading, reading, reading_with_first, joined_readings}
 use Rattle.dnp_link.proofs.Streams.{reading-append}
 use Rattle.dnp_transport.specs.Fragment.{fragments_of}
 use Rattle.dnp_transport.specs.Runs.{answers_from, series_after, fragment_in, fragments_in}
@@ -38,7 +38,7 @@ abbrev pub Completes : Meter → Meter → List Event → List Event → Type 0
 Completes first now left all = (end : Meter) → Meters now end left → Meters first end all
 
 -- the event at the front was taken
-pub event_taken : (first now next : Meter) (octets behind : List ℕ) (e : Event) (all : List Event) → reading octets ≡ preceded e (reading behind) → Meters now next (e ∷ [])
+pub event_taken : (first now next : Meter) (octets behind : List ℕ) (e : Event) (all : List Event) → reading octets ≡ reading_with_first e (reading behind) → Meters now next (e ∷ [])
     → Completes first now (reading octets).events all → Completes first next (reading behind).events all
 event_taken first now next octets behind e all reads taken completes end left =
     completes end (subst (Meters now end) (sym (ap (λ (r : Reading). r.events) reads)) (meters_more now next end (e ∷ []) (reading behind).events taken left))
@@ -61,7 +61,7 @@ pub piece_more : (first now next : Meter) (octets piece held fed left : List ℕ
     → IsSoFar first next (octets ++ piece) left
 piece_more first now next octets piece held fed left so_far fed_is taken left_is =
     let all : fed ≡ (reading octets).rest ++ piece = fed_is ∙ ap (λ t. t ++ piece) so_far.held_is in
-    let goes_on : reading (octets ++ piece) ≡ followed (reading octets) (reading fed) = reading-append octets piece ∙ ap (λ t. followed (reading octets) (reading t)) (sym all) in
+    let goes_on : reading (octets ++ piece) ≡ joined_readings (reading octets) (reading fed) = reading-append octets piece ∙ ap (λ t. joined_readings (reading octets) (reading t)) (sym all) in
     record {
       counted = subst (Meters first next) (sym (ap (λ (r : Reading). r.events) goes_on)) (meters_more first now next _ _ so_far.counted taken);
       held_is = left_is ∙ sym (ap (λ (r : Reading). r.rest) goes_on);

@@ -10,4 +10,5 @@ use Rattle.bench_link.specs.Counts.{segments_in}
 pub record Meters (old new : Meter) (events : List Event) : Type 0 where
   pub series : new.assembler ≡ series_after old.assembler (segments_in events)
   pub events_more : new.events ≡ old.events + length events
-  pub fragments_more : new.fragments ≡ old.fragments + length (fragments_in (answers_from old.assembler (segments_in events)))
+  pub fragments_more : new.fragments
+      ≡ old.fragments + length (fragments_in (answers_from old.assembler (segments_in events)))

@@ -1,6 +1,6 @@
 //! What a stream of octets shows, counted.
 ghost use Rattle.std.specs.Prelude.{◌≡◌, ◌+◌, ◌∷◌, [], None, IfOk, IfSome, OnOk};
-ghost use Rattle.dnp_link.specs.Content.{seen};
+ghost use Rattle.dnp_link.specs.Content.{event_content};
 ghost use Rattle.dnp_link.specs.Stream.{reading};
 ghost use Rattle.bench_link.specs.Counts.{counts_of};
 ghost use Rattle.bench_link.specs.Meter.{Meters};
@@ -83,7 +83,7 @@ impl Meter {
 
     /// Takes an event.
     fn take(&mut self, event: &LinkEvent) -> io::Result<()>
-        ensures { OnOk result (Meters self.old self.new (seen event.now ∷ [])) }
+        ensures { OnOk result (Meters self.old self.new (event_content event.now ∷ [])) }
     {
         self.events = sum(self.events, 1)?;
         let frame = match event {

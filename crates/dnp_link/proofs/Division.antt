@@ -1,6 +1,6 @@
 -- Long division leaves the remainder, and no other polynomial is one; how it goes on as the message grows.
 use Rattle.std.proofs.Common.{◌≡◌, ℕ, zero, suc, ◌+◌, ◌-◌, ◌≤◌, Bool, true, false, List, [], ◌∷◌, ◌++◌, length, refl, sym, ◌∙◌, ap, arith, append_assoc, zero-add, suc-add, length-append}
-use Rattle.dnp_link.specs.Polynomial.{differs, plus, zeros, below_16, generator, times_generator, IsRemainder, divided, remainder}
+use Rattle.dnp_link.specs.Polynomial.{differs, plus, zeros, below_16, generator, times_generator, IsRemainder, long_division, remainder}
 
 pub differs_comm : (a b : Bool) → differs a b ≡ differs b a
 differs_comm false false = refl
@@ -56,14 +56,14 @@ plus_zeros (suc n) [] h = absurd (omega arith)
 plus_zeros (suc n) (b ∷ q) h = ap (λ r. b ∷ r) (plus_zeros n q (omega arith))
 
 -- what stands behind the places that are divided is only added to
-pub divided-plus : (n : ℕ) (p r : List Bool) → n ≤ length p → divided n (plus p (zeros n ++ r)) ≡ plus (divided n p) r
-unfolding divided
-divided-plus zero p r h = refl
-divided-plus (suc n) [] r h = absurd (omega arith)
-divided-plus (suc n) (false ∷ p) r h = divided-plus n p r (omega arith)
-divided-plus (suc n) (true ∷ p) r h =
-    ap (divided n) (plus_assoc p (zeros n ++ r) below_16 ∙ (ap (plus p) (plus_comm (zeros n ++ r) below_16) ∙ sym (plus_assoc p below_16 (zeros n ++ r))))
-    ∙ divided-plus n (plus p below_16) r (omega (arith, length-plus_ge p below_16))
+pub long_division-plus : (n : ℕ) (p r : List Bool) → n ≤ length p → long_division n (plus p (zeros n ++ r)) ≡ plus (long_division n p) r
+unfolding long_division
+long_division-plus zero p r h = refl
+long_division-plus (suc n) [] r h = absurd (omega arith)
+long_division-plus (suc n) (false ∷ p) r h = long_division-plus n p r (omega arith)
+long_division-plus (suc n) (true ∷ p) r h =
+    ap (long_division n) (plus_assoc p (zeros n ++ r) below_16 ∙ (ap (plus p) (plus_comm (zeros n ++ r) below_16) ∙ sym (plus_assoc p below_16 (zeros n ++ r))))
+    ∙ long_division-plus n (plus p below_16) r (omega (arith, length-plus_ge p below_16))
 
 -- a message followed by zeros, with r added there
 pub plus_behind : (m r : List Bool) → 16 ≤ length r → plus (m ++ zeros 16) (zeros (length m) ++ r) ≡ m ++ r
@@ -72,37 +72,37 @@ plus_behind (false ∷ m) r h = ap (λ p. false ∷ p) (plus_behind m r h)
 plus_behind (true ∷ m) r h = ap (λ p. true ∷ p) (plus_behind m r h)
 
 -- what stands behind the message is only added to the remainder
-pub divided_behind : (m r : List Bool) → 16 ≤ length r → divided (length m) (m ++ r) ≡ plus (remainder m) r
+pub divided_behind : (m r : List Bool) → 16 ≤ length r → long_division (length m) (m ++ r) ≡ plus (remainder m) r
 unfolding remainder
-divided_behind m r h = ap (divided (length m)) (sym (plus_behind m r h)) ∙ divided-plus (length m) (m ++ zeros 16) r (omega (arith, length-append m (zeros 16)))
+divided_behind m r h = ap (long_division (length m)) (sym (plus_behind m r h)) ∙ long_division-plus (length m) (m ++ zeros 16) r (omega (arith, length-append m (zeros 16)))
 
-pub length-divided : (n : ℕ) (p : List Bool) → n + 16 ≤ length p → length (divided n p) ≡ length p - n
-unfolding divided
-length-divided zero p h = omega arith
-length-divided (suc n) [] h = absurd (omega arith)
-length-divided (suc n) (false ∷ p) h = length-divided n p (omega arith) ∙ omega arith
-length-divided (suc n) (true ∷ p) h = length-divided n (plus p below_16) (omega (arith, length-plus p below_16 (omega arith))) ∙ omega (arith, length-plus p below_16 (omega arith))
+pub length-long_division : (n : ℕ) (p : List Bool) → n + 16 ≤ length p → length (long_division n p) ≡ length p - n
+unfolding long_division
+length-long_division zero p h = omega arith
+length-long_division (suc n) [] h = absurd (omega arith)
+length-long_division (suc n) (false ∷ p) h = length-long_division n p (omega arith) ∙ omega arith
+length-long_division (suc n) (true ∷ p) h = length-long_division n (plus p below_16) (omega (arith, length-plus p below_16 (omega arith))) ∙ omega (arith, length-plus p below_16 (omega arith))
 
 pub length-remainder : (m : List Bool) → length (remainder m) ≡ 16
 unfolding remainder
-length-remainder m = length-divided (length m) (m ++ zeros 16) (omega (arith, length-append m (zeros 16))) ∙ omega (arith, length-append m (zeros 16))
+length-remainder m = length-long_division (length m) (m ++ zeros 16) (omega (arith, length-append m (zeros 16))) ∙ omega (arith, length-append m (zeros 16))
 
 -- division in two parts
-pub divided-add : (n k : ℕ) (p : List Bool) → n + k + 16 ≤ length p → divided (n + k) p ≡ divided k (divided n p)
-unfolding divided
-divided-add zero k p h = ap (λ j. divided j p) (zero-add k)
-divided-add (suc n) k [] h = absurd (omega arith)
-divided-add (suc n) k (false ∷ p) h = ap (λ j. divided j (false ∷ p)) (suc-add n k) ∙ divided-add n k p (omega arith)
-divided-add (suc n) k (true ∷ p) h = ap (λ j. divided j (true ∷ p)) (suc-add n k) ∙ divided-add n k (plus p below_16) (omega (arith, length-plus_ge p below_16))
+pub long_division-add : (n k : ℕ) (p : List Bool) → n + k + 16 ≤ length p → long_division (n + k) p ≡ long_division k (long_division n p)
+unfolding long_division
+long_division-add zero k p h = ap (λ j. long_division j p) (zero-add k)
+long_division-add (suc n) k [] h = absurd (omega arith)
+long_division-add (suc n) k (false ∷ p) h = ap (λ j. long_division j (false ∷ p)) (suc-add n k) ∙ long_division-add n k p (omega arith)
+long_division-add (suc n) k (true ∷ p) h = ap (λ j. long_division j (true ∷ p)) (suc-add n k) ∙ long_division-add n k (plus p below_16) (omega (arith, length-plus_ge p below_16))
 
 -- the remainder of a message that goes on by t: the remainder so far, added to t, is divided on
-pub remainder-append : (m t : List Bool) → remainder (m ++ t) ≡ divided (length t) (plus (remainder m) (t ++ zeros 16))
+pub remainder-append : (m t : List Bool) → remainder (m ++ t) ≡ long_division (length t) (plus (remainder m) (t ++ zeros 16))
 unfolding remainder
 remainder-append m t =
-    ap (λ n. divided n (m ++ t ++ zeros 16)) (length-append m t)
-    ∙ (divided-add (length m) (length t) (m ++ t ++ zeros 16) (omega (arith, length-append (m ++ t) (zeros 16), length-append m t))
-    ∙ (ap (λ p. divided (length t) (divided (length m) p)) (append_assoc m t (zeros 16))
-    ∙ ap (divided (length t)) (divided_behind m (t ++ zeros 16) (omega (arith, length-append t (zeros 16))))))
+    ap (λ n. long_division n (m ++ t ++ zeros 16)) (length-append m t)
+    ∙ (long_division-add (length m) (length t) (m ++ t ++ zeros 16) (omega (arith, length-append (m ++ t) (zeros 16), length-append m t))
+    ∙ (ap (λ p. long_division (length t) (long_division (length m) p)) (append_assoc m t (zeros 16))
+    ∙ ap (long_division (length t)) (divided_behind m (t ++ zeros 16) (omega (arith, length-append t (zeros 16))))))
 
 differs_false : (a : Bool) → differs a false ≡ a
 differs_false false = refl
@@ -115,19 +115,19 @@ plus_parts (a ∷ p) [] h z e = absurd (omega arith)
 plus_parts (a ∷ p) (b ∷ t) h z e = rw (differs_false (differs a b), plus_parts p t h z (omega arith)) refl
 
 -- the part of the register behind the first places is only added
-pub remainder_step : (t a h : List Bool) → length a ≡ length t → divided (length t) (plus (a ++ h) (t ++ zeros 16)) ≡ plus (remainder (plus a t)) h
+pub remainder_step : (t a h : List Bool) → length a ≡ length t → long_division (length t) (plus (a ++ h) (t ++ zeros 16)) ≡ plus (remainder (plus a t)) h
 unfolding remainder
 remainder_step t a h e =
     let same : length (plus a t) ≡ length t = length-plus a t (omega arith) ∙ e in
-    ap (divided (length t)) (plus_parts a t h (zeros 16) e)
-    ∙ (divided-plus (length t) (plus a t ++ zeros 16) h (omega (arith, length-append (plus a t) (zeros 16)))
-    ∙ ap (λ n. plus (divided n (plus a t ++ zeros 16)) h) (sym same))
+    ap (long_division (length t)) (plus_parts a t h (zeros 16) e)
+    ∙ (long_division-plus (length t) (plus a t ++ zeros 16) h (omega (arith, length-append (plus a t) (zeros 16)))
+    ∙ ap (λ n. plus (long_division n (plus a t ++ zeros 16)) h) (sym same))
 
 -- what long division finds: a quotient, and the remainder
 record Divides (n : ℕ) (p : List Bool) : Type 0 where
   pub quotient : List Bool
   pub as_long : length quotient ≡ n
-  pub sum : p ≡ plus (times_generator quotient) (zeros n ++ divided n p)
+  pub sum : p ≡ plus (times_generator quotient) (zeros n ++ long_division n p)
 
 length-times : (q : List Bool) → length (times_generator q) ≡ length q + 16
 length-times [] = refl
@@ -135,7 +135,7 @@ length-times (false ∷ q) = omega (arith, length-times q)
 length-times (true ∷ q) = omega (arith, length-times q, length-plus (false ∷ times_generator q) generator (omega (arith, length-times q)), ap length (plus_comm generator (false ∷ times_generator q)))
 
 divides : (n : ℕ) (p : List Bool) → length p ≡ n + 16 → Divides n p
-unfolding divided
+unfolding long_division
 divides zero p e = record { quotient = []; as_long = refl; sum = sym (plus_zeros 16 p (omega arith)) }
 divides (suc n) [] e = absurd (omega arith)
 divides (suc n) (false ∷ p) e = let d = divides n p (omega arith) in
@@ -145,19 +145,19 @@ divides (suc n) (true ∷ p) e =
     record {
       quotient = true ∷ d.quotient;
       as_long = ap suc d.as_long;
-      sum = ap (λ r. true ∷ r) (sym (plus_twice p below_16 (omega arith)) ∙ (ap (λ r. plus r below_16) d.sum ∙ (plus_comm (plus (times_generator d.quotient) (zeros n ++ divided n (plus p below_16))) below_16 ∙ sym (plus_assoc below_16 (times_generator d.quotient) (zeros n ++ divided n (plus p below_16))))));
+      sum = ap (λ r. true ∷ r) (sym (plus_twice p below_16 (omega arith)) ∙ (ap (λ r. plus r below_16) d.sum ∙ (plus_comm (plus (times_generator d.quotient) (zeros n ++ long_division n (plus p below_16))) below_16 ∙ sym (plus_assoc below_16 (times_generator d.quotient) (zeros n ++ long_division n (plus p below_16))))));
     }
 
 -- whatever the quotient is, long division leaves what is added to its product
-divided-sum : (q r : List Bool) → length r ≡ 16 → divided (length q) (plus (times_generator q) (zeros (length q) ++ r)) ≡ r
-unfolding divided
-divided-sum [] r e = plus_zeros 16 r (omega arith)
-divided-sum (false ∷ q) r e = divided-sum q r e
-divided-sum (true ∷ q) r e =
-    ap (divided (length q)) (
+long_division-sum : (q r : List Bool) → length r ≡ 16 → long_division (length q) (plus (times_generator q) (zeros (length q) ++ r)) ≡ r
+unfolding long_division
+long_division-sum [] r e = plus_zeros 16 r (omega arith)
+long_division-sum (false ∷ q) r e = long_division-sum q r e
+long_division-sum (true ∷ q) r e =
+    ap (long_division (length q)) (
     ap (λ p. plus p below_16) (plus_assoc below_16 (times_generator q) (zeros (length q) ++ r) ∙ plus_comm below_16 (plus (times_generator q) (zeros (length q) ++ r)))
     ∙ plus_twice (plus (times_generator q) (zeros (length q) ++ r)) below_16 (omega (arith, length-times q, length-plus_ge (times_generator q) (zeros (length q) ++ r))))
-    ∙ divided-sum q r e
+    ∙ long_division-sum q r e
 
 -- what long division leaves is a remainder
 pub remainder_is : (m : List Bool) → IsRemainder m (remainder m)
@@ -168,4 +168,4 @@ remainder_is m = let d = divides (length m) (m ++ zeros 16) (length-append m (ze
 -- no other polynomial is
 pub remainder_only : (m r : List Bool) → IsRemainder m r → r ≡ remainder m
 unfolding remainder
-remainder_only m r h = sym (divided-sum h.quotient r h.places) ∙ (ap (λ n. divided (length h.quotient) (plus (times_generator h.quotient) (zeros n ++ r))) h.as_long ∙ (ap (divided (length h.quotient)) (sym h.sum) ∙ ap (λ n. divided n (m ++ zeros 16)) h.as_long))
+remainder_only m r h = sym (long_division-sum h.quotient r h.places) ∙ (ap (λ n. long_division (length h.quotient) (plus (times_generator h.quotient) (zeros n ++ r))) h.as_long ∙ (ap (long_division (length h.quotient)) (sym h.sum) ∙ ap (λ n. long_division n (m ++ zeros 16)) h.as_long))

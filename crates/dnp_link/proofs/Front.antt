@@ -1,16 +1,16 @@
 -- What the front of octets shows: how much it takes, and that octets behind it change nothing.
 use Rattle.std.proofs.Common.{◌≡◌, ℕ, zero, suc, ◌+◌, ◌-◌, ◌*◌, ◌≤◌, ◌<◌, min, Bool, true, false, not, ◌||◌, List, [], ◌∷◌, ◌++◌, length, take, drop, Option, Some, None, refl, ap, arith, length-append, nat_lt, slice_index, if◌then◌else◌, IfSome, subst, ltb-false, le-ltb, eqb}
 use Rattle.std.proofs.lemmas.List.{length-take, length-drop, take-append-le, drop-append-le, get_or_append_left}
-use Rattle.dnp_link.specs.Frame.{Content, block_count, frame_length, is_sealed, are_sealed, unsealed}
-use Rattle.dnp_link.specs.Stream.{Event, Framed, Dropped, taken, is_bad_start, user_length, content_at, front_of}
+use Rattle.dnp_link.specs.Frame.{Content, block_count, frame_length, is_sealed, are_sealed, user_data_in_blocks}
+use Rattle.dnp_link.specs.Stream.{Event, Framed, Dropped, octets_used_by, is_bad_start, user_length, content_at, event_at_front}
 use Rattle.dnp_link.specs.declared.event.Why.TheVariants.{BadStart, BadLength, BadHeaderCrc, BadBlockCrc}
 
 -- n blocks of u octets of user data carry u octets
-pub length-unsealed : (n u : ℕ) (octets : List ℕ) → n ≡ block_count u → u + 2 * n ≤ length octets → length (unsealed n u octets) ≡ u
-length-unsealed zero u octets e h = omega arith
-length-unsealed (suc n) u octets e h =
-    let rest : length (unsealed n (u - 16) (drop (min 16 u + 2) octets)) ≡ u - 16 = length-unsealed n (u - 16) (drop (min 16 u + 2) octets) (omega arith) (omega (arith, length-drop (min 16 u + 2) octets)) in
-    omega (arith, length-append (take (min 16 u) octets) (unsealed n (u - 16) (drop (min 16 u + 2) octets)), length-take (min 16 u) octets, rest)
+pub length-user_data_in_blocks : (n u : ℕ) (octets : List ℕ) → n ≡ block_count u → u + 2 * n ≤ length octets → length (user_data_in_blocks n u octets) ≡ u
+length-user_data_in_blocks zero u octets e h = omega arith
+length-user_data_in_blocks (suc n) u octets e h =
+    let rest : length (user_data_in_blocks n (u - 16) (drop (min 16 u + 2) octets)) ≡ u - 16 = length-user_data_in_blocks n (u - 16) (drop (min 16 u + 2) octets) (omega arith) (omega (arith, length-drop (min 16 u + 2) octets)) in
+    omega (arith, length-append (take (min 16 u) octets) (user_data_in_blocks n (u - 16) (drop (min 16 u + 2) octets)), length-take (min 16 u) octets, rest)
 
 -- blocks that are there stay what they are, whatever follows
 pub are_sealed-append : (n u : ℕ) (a b : List ℕ) → n ≡ block_count u → u + 2 * n ≤ length a → are_sealed n u (a ++ b) ≡ are_sealed n u a
@@ -20,18 +20,18 @@ are_sealed-append (suc n) u a b e h =
     let behind : drop (min 16 u + 2) (a ++ b) ≡ drop (min 16 u + 2) a ++ b = drop-append-le (min 16 u + 2) a b (omega arith) in
     rw (here, behind, are_sealed-append n (u - 16) (drop (min 16 u + 2) a) b (omega arith) (omega (arith, length-drop (min 16 u + 2) a))) refl
 
-pub unsealed-append : (n u : ℕ) (a b : List ℕ) → n ≡ block_count u → u + 2 * n ≤ length a → unsealed n u (a ++ b) ≡ unsealed n u a
-unsealed-append zero u a b e h = refl
-unsealed-append (suc n) u a b e h =
+pub user_data_in_blocks-append : (n u : ℕ) (a b : List ℕ) → n ≡ block_count u → u + 2 * n ≤ length a → user_data_in_blocks n u (a ++ b) ≡ user_data_in_blocks n u a
+user_data_in_blocks-append zero u a b e h = refl
+user_data_in_blocks-append (suc n) u a b e h =
     let here : take (min 16 u) (a ++ b) ≡ take (min 16 u) a = take-append-le (min 16 u) a b (omega arith) in
     let behind : drop (min 16 u + 2) (a ++ b) ≡ drop (min 16 u + 2) a ++ b = drop-append-le (min 16 u + 2) a b (omega arith) in
-    rw (here, behind, unsealed-append n (u - 16) (drop (min 16 u + 2) a) b (omega arith) (omega (arith, length-drop (min 16 u + 2) a))) refl
+    rw (here, behind, user_data_in_blocks-append n (u - 16) (drop (min 16 u + 2) a) b (omega arith) (omega (arith, length-drop (min 16 u + 2) a))) refl
 
 none_some : {e : Event} → ◌≡◌ {A = Option Event} None (Some e) → ⊥
 none_some h = cc
 
-some_taken : (x e : Event) (n : ℕ) → Some x ≡ Some e → taken x ≤ n → taken e ≤ n
-some_taken x e n h t = let P : Option Event → Type 0 = λ o. IfSome o (λ y. taken y ≤ n) in subst P h t
+some_taken : (x e : Event) (n : ℕ) → Some x ≡ Some e → octets_used_by x ≤ n → octets_used_by e ≤ n
+some_taken x e n h t = let P : Option Event → Type 0 = λ o. IfSome o (λ y. octets_used_by y ≤ n) in subst P h t
 
 some_none : {e : Event} → ◌≡◌ {A = Option Event} (Some e) None → ⊥
 some_none h = cc
@@ -87,9 +87,9 @@ chain-append false false false false false false false c bad' short3' low' short
 chain_taken : (bad short3 low short10 wrong short broken : Bool) (c : Content) (n : ℕ) (e : Event)
     → (bad ≡ true → 0 < n)
     → (short3 ≡ false → 0 < n)
-    → (short10 ≡ false → short ≡ false → taken (Framed c) ≤ n)
+    → (short10 ≡ false → short ≡ false → octets_used_by (Framed c) ≤ n)
     → chain bad short3 low short10 wrong short broken c ≡ Some e
-    → taken e ≤ n
+    → octets_used_by e ≤ n
 chain_taken true short3 low short10 wrong short broken c n e f g k h = some_taken _ e n h (f refl)
 chain_taken false true low short10 wrong short broken c n e f g k h = absurd (none_some h)
 chain_taken false false true short10 wrong short broken c n e f g k h = some_taken _ e n h (g refl)
@@ -119,14 +119,14 @@ bad_same (x ∷ []) b h = absurd (omega arith)
 bad_same (x ∷ y ∷ a) b h = refl
 
 -- what an event uses up is there
-pub front_taken : (a : List ℕ) (e : Event) → front_of a ≡ Some e → taken e ≤ length a
-unfolding front_of
+pub front_taken : (a : List ℕ) (e : Event) → event_at_front a ≡ Some e → octets_used_by e ≤ length a
+unfolding event_at_front
 front_taken a e h =
     let u = user_length a in
     chain_taken (is_bad_start a) (nat_lt (length a) 3) (nat_lt (slice_index a 2) 5) (nat_lt (length a) 10) (not (is_sealed (take 10 a))) (nat_lt (length a) (frame_length u)) (not (are_sealed (block_count u) u (drop 10 a))) (content_at a) (length a) e
     (bad_some a)
     (λ p. omega (arith, ltb-false (length a) 3 p))
-    (λ p q. omega (arith, ltb-false (length a) (frame_length u) q, length-unsealed (block_count u) u (drop 10 a) refl (omega (arith, ltb-false (length a) (frame_length u) q, length-drop 10 a))))
+    (λ p q. omega (arith, ltb-false (length a) (frame_length u) q, length-user_data_in_blocks (block_count u) u (drop 10 a) refl (omega (arith, ltb-false (length a) (frame_length u) q, length-drop 10 a))))
     h
 
 front-append_3 : (a b : List ℕ) → nat_lt (length a) 3 ≡ false → Same3 (is_bad_start a) (nat_lt (length a) 3) (nat_lt (slice_index a 2) 5) (is_bad_start (a ++ b)) (nat_lt (length (a ++ b)) 3) (nat_lt (slice_index (a ++ b) 2) 5)
@@ -157,12 +157,12 @@ front-append_frame a b p q =
     record {
       long = rw u (le-ltb (length (a ++ b)) (frame_length (user_length a)) (omega (arith, length-append a b)));
       broken_same = rw (u, behind) (ap not (are_sealed-append (block_count (user_length a)) (user_length a) (drop 10 a) b refl (omega (arith, length-drop 10 a))));
-      content_same = rw (same 3 (omega arith), same 4 (omega arith), same 5 (omega arith), same 6 (omega arith), same 7 (omega arith), u, behind, unsealed-append (block_count (user_length a)) (user_length a) (drop 10 a) b refl (omega (arith, length-drop 10 a))) refl;
+      content_same = rw (same 3 (omega arith), same 4 (omega arith), same 5 (omega arith), same 6 (omega arith), same 7 (omega arith), u, behind, user_data_in_blocks-append (block_count (user_length a)) (user_length a) (drop 10 a) b refl (omega (arith, length-drop 10 a))) refl;
     }
 
 -- what octets show they show whatever follows them
-pub front-append : (a b : List ℕ) (e : Event) → front_of a ≡ Some e → front_of (a ++ b) ≡ Some e
-unfolding front_of
+pub front-append : (a b : List ℕ) (e : Event) → event_at_front a ≡ Some e → event_at_front (a ++ b) ≡ Some e
+unfolding event_at_front
 front-append a b e h =
     let u = user_length a in
     let v = user_length (a ++ b) in

@@ -3,6 +3,7 @@ pub mod Register
 pub mod Blocks
 pub mod Front
 pub mod Streams
+pub mod Answering
 pub mod Written
 pub mod Round
 pub mod Only

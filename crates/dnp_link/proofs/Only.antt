@@ -5,10 +5,10 @@ use Rattle.std.proofs.lemmas.Bool.{cases_lt, eqb-true}
 use Rattle.std.proofs.Math.Seq.{take-add}
 use Rattle.dnp_link.specs.declared.event.Why.{Why}
 use Rattle.dnp_link.specs.Crc.{crc_of}
-use Rattle.dnp_link.specs.Frame.{Content, block_count, header, sealed, blocks, frame, frame_length, is_sealed, are_sealed, unsealed}
-use Rattle.dnp_link.specs.Stream.{Event, Framed, Dropped, is_bad_start, user_length, content_at, front_of}
+use Rattle.dnp_link.specs.Frame.{Content, block_count, header, octets_with_crc, blocks, frame, frame_length, is_sealed, are_sealed, user_data_in_blocks}
+use Rattle.dnp_link.specs.Stream.{Event, Framed, Dropped, is_bad_start, user_length, content_at, event_at_front}
 use Rattle.dnp_link.specs.Laws.{AreOctets, BeginsWith}
-use Rattle.dnp_link.proofs.Front.{chain, length-unsealed}
+use Rattle.dnp_link.proofs.Front.{chain, length-user_data_in_blocks}
 use Rattle.dnp_link.proofs.Round.{front_frame-append}
 
 octets-take : (n : ℕ) (octets : List ℕ) → AreOctets octets → AreOctets (take n octets)
@@ -28,8 +28,8 @@ last_two n octets h =
     sym (take-append-drop n octets) ∙ ap (λ t. take n octets ++ t) (one ∙ ap (λ t. slice_index octets n ∷ t) (two ∙ ap (λ t. slice_index octets (n + 1) ∷ t) none))
 
 -- octets that are found sealed are what sealing gives
-sealed_is : (n : ℕ) (octets : List ℕ) → length octets ≡ n + 2 → AreOctets octets → is_sealed octets ≡ true → octets ≡ sealed (take n octets)
-unfolding is_sealed sealed
+sealed_is : (n : ℕ) (octets : List ℕ) → length octets ≡ n + 2 → AreOctets octets → is_sealed octets ≡ true → octets ≡ octets_with_crc (take n octets)
+unfolding is_sealed octets_with_crc
 sealed_is n octets h o s =
     let size : length octets - 2 ≡ n = omega arith in
     let crc : crc_of (take n octets) ≡ slice_index octets n + 256 * slice_index octets (n + 1) = eqb-true _ _ (rw size at s) in
@@ -54,7 +54,7 @@ cut_16 u x y h g = elim (cases_lt u 16) [
   | inr from ↦ (take_at x y 16 (omega arith), drop_at x y 16 (omega arith))
 ]
 
-blocks_are : (n u : ℕ) (octets : List ℕ) → n ≡ block_count u → u + 2 * n ≤ length octets → AreOctets octets → are_sealed n u octets ≡ true → take (u + 2 * n) octets ≡ blocks n (unsealed n u octets)
+blocks_are : (n u : ℕ) (octets : List ℕ) → n ≡ block_count u → u + 2 * n ≤ length octets → AreOctets octets → are_sealed n u octets ≡ true → take (u + 2 * n) octets ≡ blocks n (user_data_in_blocks n u octets)
 blocks_are zero u octets e l o h = ap (λ k. take k octets) (let z : u + 2 * 0 ≡ 0 = omega arith in z)
 blocks_are (suc n) u octets e l o h =
     let s = min 16 u in
@@ -63,16 +63,16 @@ blocks_are (suc n) u octets e l o h =
     let sealed_rest = and_second (is_sealed (take (s + 2) octets)) (are_sealed n (u - 16) behind) h in
     let count : n ≡ block_count (u - 16) = omega arith in
     let room : u - 16 + 2 * n ≤ length behind = omega (arith, length-drop (s + 2) octets) in
-    let block : take (s + 2) octets ≡ sealed (take s octets) =
+    let block : take (s + 2) octets ≡ octets_with_crc (take s octets) =
     sealed_is s (take (s + 2) octets) (length-take-le (s + 2) octets (omega arith)) (octets-take (s + 2) octets o) sealed_first
-    ∙ ap sealed (take-take s (s + 2) octets (omega arith)) in
-    let rest = unsealed n (u - 16) behind in
-    let cut = cut_16 u (take s octets) rest (length-take-le s octets (omega arith)) (length-unsealed n (u - 16) behind count room) in
+    ∙ ap octets_with_crc (take-take s (s + 2) octets (omega arith)) in
+    let rest = user_data_in_blocks n (u - 16) behind in
+    let cut = cut_16 u (take s octets) rest (length-take-le s octets (omega arith)) (length-user_data_in_blocks n (u - 16) behind count room) in
     let split : u + 2 * suc n ≡ s + 2 + (u - 16 + 2 * n) = omega arith in
     ap (λ k. take k octets) split
     ∙ (take-add (s + 2) (u - 16 + 2 * n) octets
     ∙ (ap (λ t. t ++ take (u - 16 + 2 * n) behind) block
-    ∙ (ap (λ t. sealed (take s octets) ++ t) (blocks_are n (u - 16) behind count room (octets-drop (s + 2) octets o) sealed_rest)
+    ∙ (ap (λ t. octets_with_crc (take s octets) ++ t) (blocks_are n (u - 16) behind count room (octets-drop (s + 2) octets o) sealed_rest)
     ∙ rw (cut.0, cut.1) refl)))
 
 or_false : (p q : Bool) → (p || q) ≡ false → (p ≡ false) × (q ≡ false)
@@ -145,10 +145,10 @@ begins_here octets o start five ten right whole blocks_right =
     let m = u + 2 * block_count u in
     let body = drop 10 octets in
     let room : m ≤ length body = omega (arith, length-drop 10 octets) in
-    let size : length (content_at octets).user ≡ u = length-unsealed (block_count u) u body refl room in
-    let head : take 10 octets ≡ sealed (header (content_at octets)) =
+    let size : length (content_at octets).user ≡ u = length-user_data_in_blocks (block_count u) u body refl room in
+    let head : take 10 octets ≡ octets_with_crc (header (content_at octets)) =
     sealed_is 8 (take 10 octets) (length-take-le 10 octets ten) (octets-take 10 octets o) right
-    ∙ ap sealed (take-take 8 10 octets (omega arith) ∙ header_is octets (omega arith) o start five size) in
+    ∙ ap octets_with_crc (take-take 8 10 octets (omega arith) ∙ header_is octets (omega arith) o start five size) in
     let data_blocks : take m body ≡ blocks (block_count (length (content_at octets).user)) (content_at octets).user =
     blocks_are (block_count u) u body refl room (octets-drop 10 octets o) blocks_right
     ∙ ap (λ k. blocks (block_count k) (content_at octets).user) (sym size) in (
@@ -157,19 +157,19 @@ begins_here octets o start five ten right whole blocks_right =
         drop m body,
         sym (take-append-drop 10 octets)
             ∙ (ap (λ t. t ++ body) head
-            ∙ (ap (λ t. sealed (header (content_at octets)) ++ t) (sym (take-append-drop m body) ∙ ap (λ t. t ++ drop m body) data_blocks)
-            ∙ sym (append_assoc (sealed (header (content_at octets))) _ (drop m body)))),
+            ∙ (ap (λ t. octets_with_crc (header (content_at octets)) ++ t) (sym (take-append-drop m body) ∙ ap (λ t. t ++ drop m body) data_blocks)
+            ∙ sym (append_assoc (octets_with_crc (header (content_at octets))) _ (drop m body)))),
       ),
     )
 
 -- what octets show as a frame, they begin with
-pub begins : (octets : List ℕ) (c : Content) → AreOctets octets → front_of octets ≡ Some (Framed c) → BeginsWith octets c
-unfolding front_of
+pub begins : (octets : List ℕ) (c : Content) → AreOctets octets → event_at_front octets ≡ Some (Framed c) → BeginsWith octets c
+unfolding event_at_front
 begins octets c o h =
     let u = user_length octets in
     let p = passed (is_bad_start octets) (nat_lt (length octets) 3) (nat_lt (slice_index octets 2) 5) (nat_lt (length octets) 10) (not (is_sealed (take 10 octets))) (nat_lt (length octets) (frame_length u)) (not (are_sealed (block_count u) u (drop 10 octets))) (content_at octets) c h in
     subst (BeginsWith octets) p.same (begins_here octets o p.start (ltb-false (slice_index octets 2) 5 p.length) (ltb-false (length octets) 10 p.header) (not_false (is_sealed (take 10 octets)) p.right) (ltb-false (length octets) (frame_length u) p.whole) (not_false _ p.blocks_right))
 
 -- and the other way round
-pub begins_shows : (octets : List ℕ) (c : Content) → BeginsWith octets c → front_of octets ≡ Some (Framed c)
-begins_shows octets c b = ap front_of b.1.1 ∙ front_frame-append c b.1.0
+pub begins_shows : (octets : List ℕ) (c : Content) → BeginsWith octets c → event_at_front octets ≡ Some (Framed c)
+begins_shows octets c b = ap event_at_front b.1.1 ∙ front_frame-append c b.1.0

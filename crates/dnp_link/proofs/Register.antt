@@ -5,7 +5,7 @@ use Rattle.std.proofs.lemmas.Nat.{xor_comm, xor_mod, xor_shr, xor_block, and_mas
 use Rattle.std.specs.Int.Bits.{xor_zero_r}
 use Rattle.std.proofs.lemmas.List.Concat.{flat_map-append}
 use lib.Ieee.Fits.{and_l, and_r}
-use Rattle.dnp_link.specs.Polynomial.{differs, plus, zeros, divided, remainder}
+use Rattle.dnp_link.specs.Polynomial.{differs, plus, zeros, long_division, remainder}
 use Rattle.dnp_link.specs.Crc.{bits, number, message}
 use Rattle.dnp_link.proofs.Division.{length-remainder, remainder-append, remainder_step}
 use Rattle.dnp_link.specs.declared.table.TheConstants.{TABLE}
@@ -97,7 +97,7 @@ below (suc n) i t h =
 
 -- the table has each octet's remainder
 pub TABLE_at : (i : ℕ) → i < 256 → get_or TABLE i 0 ≡ number (remainder (bits 8 i))
-unfolding remainder divided
+unfolding remainder long_division
 TABLE_at i h = below 256 i tt h
 
 -- the remainder of octets, as the bits of its number
@@ -112,7 +112,7 @@ next_remainder : (before : List ℕ) (r o : ℕ) → r ≡ number (remainder (me
 next_remainder before r o e =
     ap remainder (flat_map-append (bits 8) before (o ∷ []))
     ∙ (remainder-append (message before) (bits 8 o)
-    ∙ (ap (λ p. divided 8 (plus p (bits 8 o ++ zeros 16))) (bits_of_remainder before r e)
+    ∙ (ap (λ p. long_division 8 (plus p (bits 8 o ++ zeros 16))) (bits_of_remainder before r e)
     ∙ (remainder_step (bits 8 o) (bits 8 r) (bits 8 (r / 256)) refl
     ∙ ap (λ p. plus (remainder p) (bits 8 (r / 256))) (plus-bits 8 r o))))
 

@@ -1,27 +1,25 @@
 -- The reading of a stream goes on event by event, and doesn't depend on how the stream is cut.
 use Rattle.std.proofs.Common.{◌≡◌, ℕ, zero, suc, ◌+◌, ◌-◌, ◌≤◌, ◌<◌, List, [], ◌∷◌, ◌++◌, length, get_or, take, drop, Option, Some, None, refl, sym, ◌∙◌, ap, inl, inr, ◌⊎◌, arith, length-drop}
-use Rattle.std.proofs.lemmas.List.{drop-append-le, drop-drop, take_rest, take_more, flat_map_more}
+use Rattle.std.proofs.lemmas.List.{drop-append-le, drop-drop, take_more, flat_map_more}
 use Rattle.std.specs.List.{flat_map}
-use Rattle.dnp_link.specs.Content.{seen_if}
-use Rattle.dnp_link.specs.declared.event.LinkEvent.{LinkEvent}
-use Rattle.dnp_link.specs.Stream.{Event, Framed, Dropped, taken, front_of, Reading, taken_if, preceded, reading_within, reading, going_on, followed}
+use Rattle.dnp_link.specs.Stream.{Event, Framed, Dropped, octets_used_by, event_at_front, Reading, octets_used_if_any, reading_with_first, reading_within, reading, reading_with_front, joined_readings}
 use Rattle.dnp_link.proofs.Front.{front_taken, front-append}
 
 -- what an optional event makes of the reading
 abbrev onward : ℕ → List ℕ → Option Event → Reading
 onward n octets None = record { events = []; rest = octets }
-onward n octets (Some e) = preceded e (reading_within n (drop (taken e) octets))
+onward n octets (Some e) = reading_with_first e (reading_within n (drop (octets_used_by e) octets))
 
-taken_some : (e : Event) → 0 < taken e
+pub taken_some : (e : Event) → 0 < octets_used_by e
 taken_some (Framed c) = omega arith
 taken_some (Dropped why) = omega arith
 
-front_nil : (octets : List ℕ) → length octets ≤ 0 → front_of octets ≡ None
-unfolding front_of
+front_nil : (octets : List ℕ) → length octets ≤ 0 → event_at_front octets ≡ None
+unfolding event_at_front
 front_nil [] h = refl
 front_nil (x ∷ octets) h = absurd (omega arith)
 
-step : (n : ℕ) (octets : List ℕ) (o : Option Event) → front_of octets ≡ o → reading_within (suc n) octets ≡ onward n octets o
+step : (n : ℕ) (octets : List ℕ) (o : Option Event) → event_at_front octets ≡ o → reading_within (suc n) octets ≡ onward n octets o
 step n octets None e = rw (e, reading_within) refl
 step n octets (Some x) e = rw (e, reading_within) refl
 
@@ -35,86 +33,65 @@ enough zero zero octets h g = refl
 enough zero (suc m) octets h g = sym (step m octets None (front_nil octets h))
 enough (suc n) zero octets h g = step n octets None (front_nil octets g)
 enough (suc n) (suc m) octets h g =
-    elim (decided (front_of octets)) [
+    elim (decided (event_at_front octets)) [
       | inl none ↦ step n octets None none ∙ sym (step m octets None none)
       | inr some ↦
           let t = front_taken octets some.0 some.1 in
           let p = taken_some some.0 in
           step n octets (Some some.0) some.1
-          ∙ (ap (preceded some.0) (enough n m (drop (taken some.0) octets) (omega (arith, length-drop (taken some.0) octets)) (omega (arith, length-drop (taken some.0) octets)))
+          ∙ (ap (reading_with_first some.0) (enough n m (drop (octets_used_by some.0) octets) (omega (arith, length-drop (octets_used_by some.0) octets)) (omega (arith, length-drop (octets_used_by some.0) octets)))
           ∙ sym (step m octets (Some some.0) some.1))
     ]
 
 -- what octets say that show an event
-pub reading_event : (octets : List ℕ) (e : Event) → front_of octets ≡ Some e → reading octets ≡ preceded e (reading (drop (taken e) octets))
+pub reading_event : (octets : List ℕ) (e : Event) → event_at_front octets ≡ Some e → reading octets ≡ reading_with_first e (reading (drop (octets_used_by e) octets))
 unfolding reading
 reading_event octets e h =
     let t = front_taken octets e h in
     let p = taken_some e in
     enough (length octets) (suc (length octets)) octets (omega arith) (omega arith)
     ∙ (step (length octets) octets (Some e) h
-    ∙ ap (preceded e) (enough (length octets) (length (drop (taken e) octets)) (drop (taken e) octets) (omega (arith, length-drop (taken e) octets)) (omega arith)))
+    ∙ ap (reading_with_first e) (enough (length octets) (length (drop (octets_used_by e) octets)) (drop (octets_used_by e) octets) (omega (arith, length-drop (octets_used_by e) octets)) (omega arith)))
 
 -- what octets say that show nothing
-pub reading_none : (octets : List ℕ) → front_of octets ≡ None → reading octets ≡ record { events = []; rest = octets }
+pub reading_none : (octets : List ℕ) → event_at_front octets ≡ None → reading octets ≡ record { events = []; rest = octets }
 unfolding reading
 reading_none octets h = enough (length octets) (suc (length octets)) octets (omega arith) (omega arith) ∙ step (length octets) octets None h
 
-cut_none : (a b : List ℕ) → front_of a ≡ None → reading (a ++ b) ≡ followed (reading a) (reading ((reading a).rest ++ b))
-cut_none a b h = sym (ap (λ (r : Reading). followed r (reading (r.rest ++ b))) (reading_none a h))
+cut_none : (a b : List ℕ) → event_at_front a ≡ None → reading (a ++ b) ≡ joined_readings (reading a) (reading ((reading a).rest ++ b))
+cut_none a b h = sym (ap (λ (r : Reading). joined_readings r (reading (r.rest ++ b))) (reading_none a h))
 
-cut_some : (a b : List ℕ) (e : Event) → front_of a ≡ Some e
-    → reading (drop (taken e) a ++ b) ≡ followed (reading (drop (taken e) a)) (reading ((reading (drop (taken e) a)).rest ++ b))
-    → reading (a ++ b) ≡ followed (reading a) (reading ((reading a).rest ++ b))
+cut_some : (a b : List ℕ) (e : Event) → event_at_front a ≡ Some e
+    → reading (drop (octets_used_by e) a ++ b) ≡ joined_readings (reading (drop (octets_used_by e) a)) (reading ((reading (drop (octets_used_by e) a)).rest ++ b))
+    → reading (a ++ b) ≡ joined_readings (reading a) (reading ((reading a).rest ++ b))
 cut_some a b e h behind =
     reading_event (a ++ b) e (front-append a b e h)
-    ∙ (ap (λ t. preceded e (reading t)) (drop-append-le (taken e) a b (front_taken a e h))
-    ∙ (ap (preceded e) behind
-    ∙ sym (ap (λ (r : Reading). followed r (reading (r.rest ++ b))) (reading_event a e h))))
+    ∙ (ap (λ t. reading_with_first e (reading t)) (drop-append-le (octets_used_by e) a b (front_taken a e h))
+    ∙ (ap (reading_with_first e) behind
+    ∙ sym (ap (λ (r : Reading). joined_readings r (reading (r.rest ++ b))) (reading_event a e h))))
 
-cut_within : (n : ℕ) (a b : List ℕ) → length a ≤ n → reading (a ++ b) ≡ followed (reading a) (reading ((reading a).rest ++ b))
+cut_within : (n : ℕ) (a b : List ℕ) → length a ≤ n → reading (a ++ b) ≡ joined_readings (reading a) (reading ((reading a).rest ++ b))
 cut_within zero a b h = cut_none a b (front_nil a h)
 cut_within (suc n) a b h =
-    elim (decided (front_of a)) [
+    elim (decided (event_at_front a)) [
       | inl none ↦ cut_none a b none
       | inr some ↦
           let t = front_taken a some.0 some.1 in
           let p = taken_some some.0 in
-          cut_some a b some.0 some.1 (cut_within n (drop (taken some.0) a) b (omega (arith, length-drop (taken some.0) a)))
+          cut_some a b some.0 some.1 (cut_within n (drop (octets_used_by some.0) a) b (omega (arith, length-drop (octets_used_by some.0) a)))
     ]
 
 -- however a stream is cut, it says the same
-pub reading-append : (a b : List ℕ) → reading (a ++ b) ≡ followed (reading a) (reading ((reading a).rest ++ b))
+pub reading-append : (a b : List ℕ) → reading (a ++ b) ≡ joined_readings (reading a) (reading ((reading a).rest ++ b))
 reading-append a b = cut_within (length a) a b (omega arith)
 
 -- the reading goes on by what the front shows
-reading_on : (octets : List ℕ) (o : Option Event) → o ≡ front_of octets → reading octets ≡ going_on o (drop (taken_if o) octets)
+reading_on : (octets : List ℕ) (o : Option Event) → o ≡ event_at_front octets → reading octets ≡ reading_with_front o (drop (octets_used_if_any o) octets)
 reading_on octets None h = reading_none octets (sym h)
 reading_on octets (Some e) h = reading_event octets e (sym h)
 
-pub reading_is : (octets : List ℕ) → reading octets ≡ going_on (front_of octets) (drop (taken_if (front_of octets)) octets)
-reading_is octets = reading_on octets (front_of octets) refl
-
--- what is left of items behind position once e is used up
-pub record GoesOn (old new : List ℕ) (e : Event) : Type 0 where
-  pub reads : reading old ≡ preceded e (reading new)
-  pub shorter : length new < length old
-
-pub goes_on : (items all old : List ℕ) (position n : ℕ) (e : Event) → all ≡ items → drop position items ≡ old → Some e ≡ front_of (take (length all - position) (drop position all)) → n ≡ taken e → GoesOn old (drop (position + n) items) e
-goes_on items all old position n e same held shown used =
-    let whole : take (length all - position) (drop position all) ≡ old = take_rest all position ∙ (ap (drop position) same ∙ held) in
-    let front : front_of old ≡ Some e = sym (shown ∙ ap front_of whole) in
-    let behind : drop (position + n) items ≡ drop (taken e) old = sym (drop-drop n position items) ∙ (ap (drop n) held ∙ ap (λ k. drop k old) used) in
-    record {
-      reads = reading_event old e front ∙ ap (λ t. preceded e (reading t)) (sym behind);
-      shorter = omega (arith, ap length behind, length-drop (taken e) old, front_taken old e front, taken_some e);
-    }
-
--- nothing of items behind position is used up where they show nothing
-pub waits_on : (items all old : List ℕ) (position : ℕ) (o : Option LinkEvent) → all ≡ items → drop position items ≡ old → None ≡ front_of (take (length all - position) (drop position all)) → o ≡ None → reading old ≡ going_on (seen_if o) old
-waits_on items all old position o same held shown none =
-    let whole : take (length all - position) (drop position all) ≡ old = take_rest all position ∙ (ap (drop position) same ∙ held) in
-    rw none (reading_none old (sym (shown ∙ ap front_of whole)))
+pub reading_is : (octets : List ℕ) → reading octets ≡ reading_with_front (event_at_front octets) (drop (octets_used_if_any (event_at_front octets)) octets)
+reading_is octets = reading_on octets (event_at_front octets) refl
 
 -- one more piece, whose events went to the end
 pub record IsSoFar (octets : List ℕ) (events : List Event) (held : List ℕ) : Type 0 where

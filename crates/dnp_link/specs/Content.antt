@@ -11,11 +11,11 @@ abbrev pub content : Frame → Content
 content f = record { control = f.control; destination = f.destination; source = f.source; user = take f.len f.user }
 
 -- an event, with what its frame carries
-abbrev pub seen : LinkEvent → Event
-seen (events.Frame f) = Framed (content f)
-seen (events.Skipped why) = Dropped why
+abbrev pub event_content : LinkEvent → Event
+event_content (events.Frame f) = Framed (content f)
+event_content (events.Skipped why) = Dropped why
 
 -- a call's answer, likewise
-abbrev pub seen_if : Option LinkEvent → Option Event
-seen_if None = None
-seen_if (Some e) = Some (seen e)
+abbrev pub event_content_if : Option LinkEvent → Option Event
+event_content_if None = None
+event_content_if (Some e) = Some (event_content e)

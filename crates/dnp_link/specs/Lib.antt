@@ -3,6 +3,7 @@ pub mod Crc
 pub mod Frame
 pub mod Stream
 pub mod Content
+pub mod Front
 pub mod Station
 pub mod Secondary
 pub mod Laws

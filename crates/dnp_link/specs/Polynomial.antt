@@ -18,7 +18,8 @@ zeros n = replicate n false
 
 -- the generator below x^16, from x^15 down
 abbrev pub below_16 : List Bool
-below_16 = false ∷ false ∷ true ∷ true ∷ true ∷ true ∷ false ∷ true ∷ false ∷ true ∷ true ∷ false ∷ false ∷ true ∷ false ∷ true ∷ []
+below_16 = false ∷ false ∷ true ∷ true ∷ true ∷ true ∷ false ∷ true ∷ false ∷ true ∷ true ∷ false ∷ false ∷ true
+    ∷ false ∷ true ∷ []
 
 -- the generator of IEEE Std 1815: x^16 + x^13 + x^12 + x^11 + x^10 + x^8 + x^6 + x^5 + x^2 + 1
 abbrev pub generator : List Bool
@@ -37,12 +38,12 @@ pub record IsRemainder (m r : List Bool) : Type 0 where
   pub sum : m ++ zeros 16 ≡ plus (times_generator quotient) (zeros (length m) ++ r)
 
 -- long division over the first n places: where one has a coefficient, the generator is subtracted there
-unfoldable pub divided : ℕ → List Bool → List Bool
-divided zero p = p
-divided (suc n) [] = []
-divided (suc n) (false ∷ p) = divided n p
-divided (suc n) (true ∷ p) = divided n (plus p below_16)
+unfoldable pub long_division : ℕ → List Bool → List Bool
+long_division zero p = p
+long_division (suc n) [] = []
+long_division (suc n) (false ∷ p) = long_division n p
+long_division (suc n) (true ∷ p) = long_division n (plus p below_16)
 
 -- what is left when m, raised by 16 places, is divided by the generator
 unfoldable pub remainder : List Bool → List Bool
-remainder m = divided (length m) (m ++ zeros 16)
+remainder m = long_division (length m) (m ++ zeros 16)

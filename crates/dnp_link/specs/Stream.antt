@@ -1,6 +1,6 @@
 -- What a stream of octets says: frames, and octets that begin none.
 use Rattle.std.specs.Prelude.{ℕ, zero, suc, ◌+◌, ◌-◌, ◌*◌, Bool, false, not, ◌||◌, ◌==◌, nat_lt, List, [], ◌∷◌, ◌++◌, length, take, drop, slice_index, Option, Some, None, if◌then◌else◌}
-use Rattle.dnp_link.specs.Frame.{Content, block_count, frame_length, is_sealed, are_sealed, unsealed}
+use Rattle.dnp_link.specs.Frame.{Content, block_count, frame_length, is_sealed, are_sealed, user_data_in_blocks}
 use Rattle.dnp_link.specs.declared.event.Why.{Why}
 use Rattle.dnp_link.specs.declared.event.Why.TheVariants.{BadStart, BadLength, BadHeaderCrc, BadBlockCrc}
 
@@ -10,9 +10,9 @@ pub data Event : Type 0 where
   Dropped : Why → Event
 
 -- the octets that the event uses up
-abbrev pub taken : Event → ℕ
-taken (Framed c) = frame_length (length c.user)
-taken (Dropped why) = 1
+abbrev pub octets_used_by : Event → ℕ
+octets_used_by (Framed c) = frame_length (length c.user)
+octets_used_by (Dropped why) = 1
 
 -- the start octets, 05 and 64 hex, as far as they are there
 abbrev pub is_bad_start : List ℕ → Bool
@@ -30,25 +30,26 @@ content_at octets = record {
   control = slice_index octets 3;
   destination = slice_index octets 4 + 256 * slice_index octets 5;
   source = slice_index octets 6 + 256 * slice_index octets 7;
-  user = unsealed (block_count (user_length octets)) (user_length octets) (drop 10 octets);
+  user = user_data_in_blocks (block_count (user_length octets)) (user_length octets) (drop 10 octets);
 }
 
 -- what the front of the octets shows, if it shows anything yet: the first cause of refusal, or a frame
-unfoldable pub front_of : List ℕ → Option Event
-front_of octets =
+unfoldable pub event_at_front : List ℕ → Option Event
+event_at_front octets =
     if is_bad_start octets then Some (Dropped BadStart)
     else if nat_lt (length octets) 3 then None
     else if nat_lt (slice_index octets 2) 5 then Some (Dropped BadLength)
     else if nat_lt (length octets) 10 then None
     else if not (is_sealed (take 10 octets)) then Some (Dropped BadHeaderCrc)
     else if nat_lt (length octets) (frame_length (user_length octets)) then None
-    else if not (are_sealed (block_count (user_length octets)) (user_length octets) (drop 10 octets)) then Some (Dropped BadBlockCrc)
+    else if not (are_sealed (block_count (user_length octets)) (user_length octets) (drop 10 octets))
+    then Some (Dropped BadBlockCrc)
     else Some (Framed (content_at octets))
 
 -- the octets that it uses up, if any
-abbrev pub taken_if : Option Event → ℕ
-taken_if None = 0
-taken_if (Some e) = taken e
+abbrev pub octets_used_if_any : Option Event → ℕ
+octets_used_if_any None = 0
+octets_used_if_any (Some e) = octets_used_by e
 
 -- events one after another, and the octets behind them, which show nothing yet
 pub record Reading : Type 0 where
@@ -56,13 +57,16 @@ pub record Reading : Type 0 where
   pub rest : List ℕ
 
 -- an event, and what comes behind it
-abbrev pub preceded : Event → Reading → Reading
-preceded e r = record { events = e ∷ r.events; rest = r.rest }
+abbrev pub reading_with_first : Event → Reading → Reading
+reading_with_first e r = record { events = e ∷ r.events; rest = r.rest }
 
 -- in at most n events
 abbrev pub reading_within : ℕ → List ℕ → Reading
 reading_within zero octets = record { events = []; rest = octets }
-reading_within (suc n) octets = elim (front_of octets) [ None ↦ record { events = []; rest = octets } | Some e ↦ preceded e (reading_within n (drop (taken e) octets)) ]
+reading_within (suc n) octets = elim (event_at_front octets) [
+  | None ↦ record { events = []; rest = octets }
+  | Some e ↦ reading_with_first e (reading_within n (drop (octets_used_by e) octets))
+]
 
 -- what a stream of octets says: the event that its front shows, and then what the octets behind it say. Each
 -- event uses up at least one octet
@@ -70,10 +74,10 @@ unfoldable pub reading : List ℕ → Reading
 reading octets = reading_within (length octets) octets
 
 -- an event, and then what the octets behind it say; without an event these octets wait
-abbrev pub going_on : Option Event → List ℕ → Reading
-going_on None behind = record { events = []; rest = behind }
-going_on (Some e) behind = preceded e (reading behind)
+abbrev pub reading_with_front : Option Event → List ℕ → Reading
+reading_with_front None behind = record { events = []; rest = behind }
+reading_with_front (Some e) behind = reading_with_first e (reading behind)
 
 -- one reading, and then another
-abbrev pub followed : Reading → Reading → Reading
-followed a b = record { events = a.events ++ b.events; rest = b.rest }
+abbrev pub joined_readings : Reading → Reading → Reading
+joined_readings a b = record { events = a.events ++ b.events; rest = b.rest }

@@ -6,7 +6,7 @@ ghost use Rattle.dnp_link.specs.Polynomial.{remainder};
 use crate::table::TABLE;
 
 /// The CRC of octets (IEEE Std 1815-2012, clause 9), transmitted low octet first.
-#[tactic(auto, unfolding(crate::specs::Crc::crc_of, crate::specs::Polynomial::remainder, crate::specs::Polynomial::divided))]
+#[tactic(auto, unfolding(crate::specs::Crc::crc_of, crate::specs::Polynomial::remainder, crate::specs::Polynomial::long_division))]
 pub fn crc(octets: &[u8]) -> u16
     ensures { result ≡ crc_of octets.now }
 {

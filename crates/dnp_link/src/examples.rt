@@ -1,19 +1,19 @@
 //! Worked examples, computed with the definitions that the contracts cite.
-ghost use Rattle.std.specs.Prelude.{◌≡◌, true, false, [], ◌∷◌, Some, None, codes};
+ghost use Rattle.std.specs.Prelude.{◌≡◌, true, false, [], ◌∷◌, ◌++◌, replicate, Some, None, codes};
 ghost use Rattle.dnp_link.specs.Crc.{crc_of};
 ghost use Rattle.dnp_link.specs.Stream.{Framed, Dropped, reading};
 ghost use Rattle.dnp_link.specs.Examples.{replies_to};
 ghost use Rattle.dnp_link.specs.declared.event.Why.TheVariants.{BadStart, BadLength, BadHeaderCrc};
 
 /// The check value of the CRC.
-#[tactic(auto, unfolding(crate::specs::Crc::crc_of, crate::specs::Polynomial::remainder, crate::specs::Polynomial::divided))]
+#[tactic(auto, unfolding(crate::specs::Crc::crc_of, crate::specs::Polynomial::remainder, crate::specs::Polynomial::long_division))]
 pub fn check_value()
     ensures { crc_of (codes "123456789") ≡ 0xEA82 }
 {}
 
 /// CONTROL C0 to address 1 from 1024; the same with its last octet missing, with that octet changed, and
 /// behind its own first six octets; and a LENGTH below 5.
-#[tactic(auto, unfolding(crate::specs::Stream::reading, crate::specs::Stream::front_of, crate::specs::Frame::is_sealed, crate::specs::Crc::crc_of, crate::specs::Polynomial::remainder, crate::specs::Polynomial::divided))]
+#[tactic(auto, unfolding(crate::specs::Stream::reading, crate::specs::Stream::event_at_front, crate::specs::Frame::is_sealed, crate::specs::Crc::crc_of, crate::specs::Polynomial::remainder, crate::specs::Polynomial::long_division))]
 pub fn streams()
     ensures frame { reading (0x05 ∷ 0x64 ∷ 0x05 ∷ 0xC0 ∷ 0x01 ∷ 0x00 ∷ 0x00 ∷ 0x04 ∷ 0xE9 ∷ 0x21 ∷ []) ≡ record {
       events = Framed (record { control = 0xC0; destination = 1; source = 1024; user = [] }) ∷ [];
@@ -24,13 +24,15 @@ pub fn streams()
       rest = 0x05 ∷ 0x64 ∷ 0x05 ∷ 0xC0 ∷ 0x01 ∷ 0x00 ∷ 0x00 ∷ 0x04 ∷ 0xE9 ∷ [];
     } }
     ensures wrong_crc { reading (0x05 ∷ 0x64 ∷ 0x05 ∷ 0xC0 ∷ 0x01 ∷ 0x00 ∷ 0x00 ∷ 0x04 ∷ 0xE9 ∷ 0x20 ∷ []) ≡ record {
-      events = Dropped BadHeaderCrc ∷ Dropped BadStart ∷ Dropped BadStart ∷ Dropped BadStart ∷ Dropped BadStart ∷ Dropped BadStart ∷ Dropped BadStart ∷ Dropped BadStart ∷ Dropped BadStart ∷ Dropped BadStart ∷ [];
+      events = Dropped BadHeaderCrc ∷ replicate 9 (Dropped BadStart);
       rest = [];
     } }
-    ensures resynchronised { reading (0x05 ∷ 0x64 ∷ 0x05 ∷ 0xC0 ∷ 0x01 ∷ 0x00 ∷ 0x05 ∷ 0x64 ∷ 0x05 ∷ 0xC0 ∷ 0x01 ∷ 0x00 ∷ 0x00 ∷ 0x04 ∷ 0xE9 ∷ 0x21 ∷ []) ≡ record {
-      events = Dropped BadHeaderCrc ∷ Dropped BadStart ∷ Dropped BadStart ∷ Dropped BadStart ∷ Dropped BadStart ∷ Dropped BadStart ∷ Framed (record { control = 0xC0; destination = 1; source = 1024; user = [] }) ∷ [];
-      rest = [];
-    } }
+    ensures resynchronised { reading (0x05 ∷ 0x64 ∷ 0x05 ∷ 0xC0 ∷ 0x01 ∷ 0x00 ∷ 0x05 ∷ 0x64 ∷ 0x05 ∷ 0xC0 ∷ 0x01 ∷ 0x00
+        ∷ 0x00 ∷ 0x04 ∷ 0xE9 ∷ 0x21 ∷ []) ≡ record {
+          events = Dropped BadHeaderCrc ∷ replicate 5 (Dropped BadStart)
+              ++ Framed (record { control = 0xC0; destination = 1; source = 1024; user = [] }) ∷ [];
+          rest = [];
+        } }
     ensures short_length { reading (0x05 ∷ 0x64 ∷ 0x04 ∷ []) ≡ record {
       events = Dropped BadLength ∷ Dropped BadStart ∷ Dropped BadStart ∷ [];
       rest = [];
@@ -41,6 +43,7 @@ pub fn streams()
 /// user data is delivered, and the CONTROL octet of the reply.
 pub fn decisions()
     ensures { replies_to None (0x72 ∷ 0x40 ∷ 0x72 ∷ 0x73 ∷ 0x53 ∷ 0x53 ∷ 0x44 ∷ 0x49 ∷ 0x41 ∷ 0xC4 ∷ 0x00 ∷ []) ≡
-        (false, Some 0x81) ∷ (false, Some 0x80) ∷ (false, Some 0x80) ∷ (false, Some 0x80) ∷ (true, Some 0x80) ∷ (false, Some 0x80)
+        (false, Some 0x81) ∷ (false, Some 0x80) ∷ (false, Some 0x80) ∷ (false, Some 0x80) ∷ (true, Some 0x80)
+        ∷ (false, Some 0x80)
         ∷ (true, None) ∷ (false, Some 0x8B) ∷ (false, Some 0x8F) ∷ (false, None) ∷ (false, None) ∷ [] }
 {}

@@ -1,11 +1,12 @@
 //! A stream of octets that comes in pieces.
-ghost use Rattle.std.specs.Prelude.{◌≡◌, ◌≤◌, ◌<◌, [], ◌++◌, length, drop, OnOk, OnErr, IfNone, IfSome, vec_len};
-ghost use Rattle.dnp_link.specs.Stream.{front_of, taken_if, reading, going_on};
-ghost use Rattle.dnp_link.specs.Content.{seen_if};
+ghost use Rattle.std.specs.Prelude.{◌≡◌, ◌<◌, [], ◌++◌, length, drop, IsOk, OnOk, OnErr, IfNone, IfSome};
+ghost use Rattle.dnp_link.specs.Stream.{event_at_front, octets_used_if_any, reading, reading_with_front};
+ghost use Rattle.dnp_link.specs.Content.{event_content_if};
 
-use crate::event::LinkEvent;
-use crate::reading::{event_at, taken};
+use crate::event::{LinkEvent, Why};
+use crate::reading::{Front, frame_at, frame_length_of, front_of};
 use gw_model::Memory;
+use gw_octets::OctetQueue;
 use std::alloc::Global;
 use std::marker::Model;
 
@@ -13,19 +14,15 @@ use std::marker::Model;
 /// has used up yet.
 #[derive(Debug, Drop)]
 pub struct LinkFeed {
-    octets: Vec<u8>,
-    /// How many of them are used up.
-    position: usize,
+    octets: OctetQueue,
 }
 
 impl Model for LinkFeed {
-    ghost use Rattle.std.specs.Prelude.{ℕ, List, ◌≤◌, drop, vec_len};
+    ghost use Rattle.std.specs.Prelude.{ℕ, List};
 
     ghost Value = { List ℕ };
 
-    ghost view = { λ f. drop f.position f.octets.items };
-
-    ghost invariant = { λ f. f.position ≤ vec_len f.octets };
+    ghost view = { λ f. f.octets.left };
 }
 
 impl LinkFeed {
@@ -34,8 +31,7 @@ impl LinkFeed {
         ensures { result ≡ [] }
     {
         LinkFeed {
-            octets: Vec::new(alloc),
-            position: 0,
+            octets: OctetQueue::new(alloc),
         }
     }
 
@@ -43,41 +39,39 @@ impl LinkFeed {
     pub fn feed(&mut self, piece: &[u8]) -> Result<(), Memory>
         ensures ok { OnOk result (self.new ≡ self.old ++ piece.now) }
         ensures err { OnErr result (self.new ≡ self.old) }
+
+        // Nothing needs no memory.
+        ensures nothing { piece.now ≡ [] → IsOk result }
     {
-        // What is used up goes once it is as long as what is left, so an octet moves once on average.
-        if self.octets.len() - self.position <= self.position {
-            remove_front(&mut self.octets, self.position);
-            self.position = 0;
-        }
-        self.octets.extend_from_slice(piece)?;
-        Ok(())
+        self.octets.add(piece)
     }
 
     /// The next event, if the octets so far show one. It takes no memory.
-    #[tactic(auto, using(crate::proofs::Streams::reading_none))]
     pub fn next(&mut self) -> Option<LinkEvent>
-        ensures event { seen_if result ≡ front_of self.old }
-        ensures rest { self.new ≡ drop (taken_if (front_of self.old)) self.old }
+        ensures event { event_content_if result ≡ event_at_front self.old }
+        ensures rest { self.new ≡ drop (octets_used_if_any (event_at_front self.old)) self.old }
 
         // The reading of what was held back goes on by it.
-        ensures reads { reading self.old ≡ going_on (seen_if result) self.new }
+        ensures reads { reading self.old ≡ reading_with_front (event_content_if result) self.new }
         ensures shorter { IfSome result (λ _. length self.new < length self.old) }
 
         // Less than the longest frame is held back where there is none.
         ensures held { IfNone result (length self.new < 292) }
     {
-        let event = event_at(&self.octets[self.position..])?;
-        self.position += taken(&event);
-        Some(event)
+        match front_of(self.octets.left()) {
+            Front::Nothing => None,
+            Front::Skip(why) => {
+                self.octets.use_up(1);
+                Some(LinkEvent::Skipped(why))
+            }
+            Front::Whole(len) => {
+                let Some(frame) = frame_at(self.octets.left(), len) else {
+                    self.octets.use_up(1);
+                    return Some(LinkEvent::Skipped(Why::BadBlockCrc));
+                };
+                self.octets.use_up(frame_length_of(usize::from(len)));
+                Some(LinkEvent::Frame(frame))
+            }
+        }
     }
-}
-
-/// Removes octets from the front.
-fn remove_front(octets: &mut Vec<u8>, count: usize)
-    requires { count ≤ vec_len octets.old }
-    ensures { octets.new.items ≡ drop count octets.old.items }
-{
-    let left = octets.len() - count;
-    octets.copy_within(count.., 0);
-    octets.truncate(left);
 }

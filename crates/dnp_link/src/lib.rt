@@ -19,6 +19,3 @@ pub use feed::LinkFeed;
 pub use frame::Frame;
 pub use secondary::{Answer, Secondary};
 pub use writing::write_frame;
-
-#[cfg(test)]
-mod tests;

@@ -1,11 +1,12 @@
 //! Reading the front of a stream.
-ghost use Rattle.std.specs.Prelude.{◌≡◌, ◌+◌, ◌-◌, ◌*◌, ◌≤◌, ◌<◌, length, drop, IsTrue, IfNone, option_map, if◌then◌else◌};
-ghost use Rattle.dnp_link.specs.Frame.{block_count, frame_length, is_sealed as is_sealed_lem, are_sealed, unsealed};
-ghost use Rattle.dnp_link.specs.Stream.{front_of, content_at, user_length, is_bad_start as is_bad_start_lem, taken as taken_lem};
-ghost use Rattle.dnp_link.specs.Content.{content, seen, seen_if};
+ghost use Rattle.std.specs.Prelude.{◌≡◌, ◌+◌, ◌-◌, ◌*◌, ◌≤◌, length, drop, IsTrue, option_map, if◌then◌else◌};
+ghost use Rattle.dnp_link.specs.Frame.{block_count, frame_length, is_sealed as is_sealed_lem, are_sealed, user_data_in_blocks};
+ghost use Rattle.dnp_link.specs.Stream.{event_at_front, content_at, user_length, is_bad_start as is_bad_start_lem};
+ghost use Rattle.dnp_link.specs.Content.{content};
+ghost use Rattle.dnp_link.specs.Front.{event_shown_by, Tells};
 
 use crate::checksum::crc;
-use crate::event::{LinkEvent, Why};
+use crate::event::Why;
 use crate::frame::Frame;
 
 /// The last two octets of a block are the CRC of the others.
@@ -30,7 +31,7 @@ fn is_bad_start(octets: &[u8]) -> bool
 }
 
 /// The length of a frame with this many octets of user data.
-fn frame_length_of(user: usize) -> usize
+pub fn frame_length_of(user: usize) -> usize
     requires { user ≤ 250 }
     ensures { result ≡ frame_length user }
 {
@@ -42,7 +43,8 @@ fn frame_length_of(user: usize) -> usize
 fn read_blocks(octets: &[u8], user: &mut [u8]) -> bool
     requires { length user.old + 2 * block_count (length user.old) ≤ length octets.now }
     ensures right { result ≡ are_sealed (block_count (length user.old)) (length user.old) octets.now }
-    ensures copied { IsTrue result → user.new ≡ unsealed (block_count (length user.old)) (length user.old) octets.now }
+    ensures copied { IsTrue result
+        → user.new ≡ user_data_in_blocks (block_count (length user.old)) (length user.old) octets.now }
 {
     let len = user.len();
     let mut rest = octets;
@@ -62,11 +64,12 @@ fn read_blocks(octets: &[u8], user: &mut [u8]) -> bool
 
 /// The frame at the front of octets, where the CRC of each of its data blocks is right. The octets
 /// of the whole frame are there, and `len` is how many octets of user data LENGTH tells.
-fn frame_at(octets: &[u8], len: u8) -> Option<Frame>
+pub fn frame_at(octets: &[u8], len: u8) -> Option<Frame>
     requires fits { len ≤ 250 }
     requires told { len ≡ user_length octets.now }
     requires whole { frame_length len ≤ length octets.now }
-    ensures { option_map content result ≡ (if are_sealed (block_count len) len (drop 10 octets.now) then Some (content_at octets.now) else None) }
+    ensures { option_map content result
+        ≡ (if are_sealed (block_count len) len (drop 10 octets.now) then Some (content_at octets.now) else None) }
 {
     let mut user = [0; 250];
     if !read_blocks(&octets[10..], &mut user[..usize::from(len)]) {
@@ -81,43 +84,42 @@ fn frame_at(octets: &[u8], len: u8) -> Option<Frame>
     })
 }
 
-/// What the front of octets shows: nothing yet, a frame, or the first reason why none begins there.
-#[tactic(auto, unfolding(crate::specs::Stream::front_of))]
-pub fn event_at(octets: &[u8]) -> Option<LinkEvent>
-    ensures shown { seen_if result ≡ front_of octets.now }
-    ensures held { IfNone result (length octets.now < 292) }
+/// What the front of octets shows, before any data block is looked at.
+#[derive(Clone, Copy, Debug, PartialEq, Eq)]
+pub enum Front {
+    /// Nothing yet.
+    Nothing,
+    /// No frame begins there.
+    Skip(Why),
+    /// A right header block, and all octets of a frame with this many octets of user data.
+    Whole(u8),
+}
+
+/// What the front of octets shows: nothing yet, the first reason why no frame begins there, or as many
+/// octets as a frame has, with a right header block.
+#[tactic(auto, unfolding(crate::specs::Stream::event_at_front))]
+pub fn front_of(octets: &[u8]) -> Front
+    ensures shown { event_shown_by result octets.now ≡ event_at_front octets.now }
+    ensures tested { Tells result octets.now }
 {
     if is_bad_start(octets) {
-        return Some(LinkEvent::Skipped(Why::BadStart));
+        return Front::Skip(Why::BadStart);
     }
     if octets.len() < 3 {
-        return None;
+        return Front::Nothing;
     }
     if octets[2] < 5 {
-        return Some(LinkEvent::Skipped(Why::BadLength));
+        return Front::Skip(Why::BadLength);
     }
     if octets.len() < 10 {
-        return None;
+        return Front::Nothing;
     }
     if !is_sealed(&octets[..10]) {
-        return Some(LinkEvent::Skipped(Why::BadHeaderCrc));
+        return Front::Skip(Why::BadHeaderCrc);
     }
     let len = octets[2] - 5;
     if octets.len() < frame_length_of(usize::from(len)) {
-        return None;
+        return Front::Nothing;
     }
-    match frame_at(octets, len) {
-        None => Some(LinkEvent::Skipped(Why::BadBlockCrc)),
-        Some(frame) => Some(LinkEvent::Frame(frame)),
-    }
-}
-
-/// How many octets an event uses up.
-pub fn taken(event: &LinkEvent) -> usize
-    ensures { result ≡ taken_lem (seen event.now) }
-{
-    match event {
-        LinkEvent::Frame(frame) => frame_length_of(frame.user().len()),
-        LinkEvent::Skipped(_) => 1,
-    }
+    Front::Whole(len)
 }

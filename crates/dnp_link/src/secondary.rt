@@ -1,6 +1,6 @@
 //! The secondary station of the link: what it answers to the frames of the primary station.
 ghost use Rattle.std.specs.Prelude.{◌≡◌, [], None};
-ghost use Rattle.dnp_link.specs.Frame.{frame};
+ghost use Rattle.dnp_link.specs.Frame.{frame, frame_content};
 ghost use Rattle.dnp_link.specs.Content.{content};
 ghost use Rattle.dnp_link.specs.Secondary.{answer_of, station_after};
 
@@ -114,7 +114,7 @@ impl Secondary {
 /// A frame without user data, to the peer.
 #[tactic(auto, unfolding(crate::specs::Frame::frame))]
 fn reply(own: u16, peer: u16, control: u8) -> [u8; 10]
-    ensures { result ≡ frame (record { control = control; destination = peer; source = own; user = [] }) }
+    ensures { result ≡ frame (frame_content control peer own []) }
 {
     header_block(control, peer, own, &[])
 }

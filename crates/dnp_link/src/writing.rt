@@ -1,15 +1,15 @@
 //! Writing frames.
 ghost use Rattle.std.specs.Prelude.{◌≡◌, ◌+◌, ◌*◌, ◌≤◌, ◌++◌, List, ℕ, length, take, drop};
-ghost use Rattle.dnp_link.specs.Stream.{Framed, reading, preceded};
-ghost use Rattle.dnp_link.specs.Frame.{sealed, header, block_count, blocks, frame, frame_length};
+ghost use Rattle.dnp_link.specs.Stream.{Framed, reading, reading_with_first};
+ghost use Rattle.dnp_link.specs.Frame.{octets_with_crc, header, block_count, blocks, frame, frame_length, frame_content};
 
 use crate::checksum::crc;
 
 /// The header block of a frame that carries this.
-#[tactic(auto, unfolding(crate::specs::Frame::sealed))]
+#[tactic(auto, unfolding(crate::specs::Frame::octets_with_crc))]
 pub fn header_block(control: u8, destination: u16, source: u16, user: &[u8]) -> [u8; 10]
     requires { length user.now ≤ 250 }
-    ensures { result ≡ sealed (header (record { control = control; destination = destination; source = source; user = user.now })) }
+    ensures { result ≡ octets_with_crc (header (frame_content control destination source user.now)) }
 {
     let length = 5 + user.len() as u8;
     let [destination_low, destination_high] = destination.to_le_bytes();
@@ -40,10 +40,10 @@ pub fn header_block(control: u8, destination: u16, source: u16, user: &[u8]) -> 
 }
 
 /// Writes octets and their CRC at the front of `out`.
-#[tactic(auto, using(crate::proofs::Written::written), unfolding(crate::specs::Frame::sealed))]
+#[tactic(auto, using(crate::proofs::Written::written), unfolding(crate::specs::Frame::octets_with_crc))]
 fn write_block(octets: &[u8], out: &mut [u8])
     requires { length octets.now + 2 ≤ length out.old }
-    ensures { out.new ≡ sealed octets.now ++ drop (length octets.now + 2) out.old }
+    ensures { out.new ≡ octets_with_crc octets.now ++ drop (length octets.now + 2) out.old }
 {
     let end = octets.len();
     out[..end].copy_from_slice(octets);
@@ -77,10 +77,11 @@ pub fn write_frame(
 ) -> usize
     requires { length user.now ≤ 250 }
     ensures length { result ≡ frame_length (length user.now) }
-    ensures written { out.new ≡ frame (record { control = control; destination = destination; source = source; user = user.now }) ++ drop result out.old }
+    ensures written { out.new ≡ frame (frame_content control destination source user.now) ++ drop result out.old }
 
     // It is read back, whatever follows it.
-    ensures read_back { (behind : List ℕ) → reading (take result out.new ++ behind) ≡ preceded (Framed (record { control = control; destination = destination; source = source; user = user.now })) (reading behind) }
+    ensures read_back { (behind : List ℕ) → reading (take result out.new ++ behind)
+        ≡ reading_with_first (Framed (frame_content control destination source user.now)) (reading behind) }
 {
     let header = header_block(control, destination, source, user);
     out[..10].copy_from_slice(&header);

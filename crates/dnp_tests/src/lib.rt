@@ -6,6 +6,8 @@ mod app;
 #[cfg(test)]
 mod largest;
 #[cfg(test)]
+mod link;
+#[cfg(test)]
 mod objects;
 #[cfg(test)]
 mod points;

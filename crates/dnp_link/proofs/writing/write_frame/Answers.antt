@@ -3,7 +3,7 @@ use Rattle.dnp_link.specs.Frame.{Content, frame, blocks, block_count}
 use Rattle.dnp_link.specs.Stream.{reading}
 use Rattle.std.proofs.lemmas.List.{take_at}
 use Rattle.dnp_link.proofs.Round.{length-frame, reading-frame}
-use Rattle.dnp_link.proofs.Blocks.{length-sealed}
+use Rattle.dnp_link.proofs.Blocks.{length-octets_with_crc}
 use Rattle.dnp_link.proofs.Written.{front_then_body}
 use Rattle.dnp_link.proofs.writing.write_frame.Goals as goal
 
@@ -12,7 +12,7 @@ unfolding frame
 returns-clause-written c =
     let head = c.copy_from_slice.ensures.after ∙ c.header_block-header.ensures in
     let body = blocks (block_count (length c.args.user.now)) c.args.user.now in
-    front_then_body c.copy_from_slice.new.self body c.write_blocks.new.out c.args.out.now c.write_blocks.result (ap length head ∙ length-sealed _) (omega arith) c.write_blocks.ensures.written
+    front_then_body c.copy_from_slice.new.self body c.write_blocks.new.out c.args.out.now c.write_blocks.result (ap length head ∙ length-octets_with_crc _) (omega arith) c.write_blocks.ensures.written
     ∙ ap (λ t. (t ++ body) ++ drop (10 + c.write_blocks.result) c.args.out.now) head
 
 pub returns-clause-read_back : goal.returns-clause-read_back

@@ -1,19 +1,37 @@
-use Rattle.std.proofs.Common.{◌-◌, length, drop, sym, arith, length-take, length-drop}
-use Rattle.dnp_link.proofs.Front.{front_taken}
-use Rattle.dnp_link.proofs.Streams.{goes_on, waits_on}
+use Rattle.std.proofs.Common.{refl, ◌∙◌, ap, drop}
+use Rattle.gw_octets.specs.Queue.{Queue}
+use Rattle.dnp_link.specs.Content.{content}
+use Rattle.dnp_link.specs.Frame.{frame_length}
+use Rattle.dnp_link.specs.Stream.{Dropped, event_at_front}
+use Rattle.dnp_link.proofs.Answering.{goes_on, waits, block_dropped, frame_given}
 use Rattle.dnp_link.proofs.feed.LinkFeed.next.Goals as goal
 
-pub invariant_of-self : goal.invariant_of-self
-invariant_of-self c =
-    let all = c.deref.result.now in
-    let position = c.self.inside.position in
-    omega (arith, c.taken.ensures, front_taken _ _ (sym c.in_ok-event.ensures.shown), length-take (length all - position) (drop position all), length-drop position all, c.deref.ensures.len, c.self.invariant)
+pub returns-in-Nothing-clause-reads : goal.returns-in-Nothing-clause-reads
+returns-in-Nothing-clause-reads c =
+    (waits c.args.self.now (c.in-Nothing.ensures.shown ∙ ap event_at_front (c.left.ensures ∙ c.self.view_is))).reads
 
-pub returns-clause-reads : goal.returns-clause-reads
-returns-clause-reads c = (goes_on c.self.inside.octets.items c.deref.result.now c.args.self.now c.self.inside.position c.taken.result _ c.deref.ensures.value c.self.view_is c.in_ok-event.ensures.shown c.taken.ensures).reads
+pub returns-in-Skip-clause-reads : goal.returns-in-Skip-clause-reads
+returns-in-Skip-clause-reads c =
+    (goes_on c.args.self.now c.use_up.new.self.left (Dropped c.in-Skip.why) 1
+    (c.in-Skip.ensures.shown ∙ ap event_at_front (c.left.ensures ∙ c.self.view_is)) refl
+    (ap (λ (q : Queue). q.left) c.use_up.ensures ∙ ap (drop 1) c.self.view_is)).reads
 
-pub returns-clause-shorter : goal.returns-clause-shorter
-returns-clause-shorter c = (goes_on c.self.inside.octets.items c.deref.result.now c.args.self.now c.self.inside.position c.taken.result _ c.deref.ensures.value c.self.view_is c.in_ok-event.ensures.shown c.taken.ensures).shorter
+pub returns-in_default-clause-reads : goal.returns-in_default-clause-reads
+returns-in_default-clause-reads c =
+    (block_dropped c.in-Whole.len c.left.result.now c.left-in-Whole.result.now c.args.self.now c.use_up-in_default.new.self.left
+    (c.left.ensures ∙ c.self.view_is) (c.left-in-Whole.ensures ∙ c.self.view_is) c.in-Whole.ensures.shown c.in_default.ensures
+    (ap (λ (q : Queue). q.left) c.use_up-in_default.ensures ∙ ap (drop 1) c.self.view_is)).reads
 
-pub returns-in_err-event-clause-reads : goal.returns-in_err-event-clause-reads
-returns-in_err-event-clause-reads c = waits_on c.self.inside.octets.items c.deref.result.now c.args.self.now c.self.inside.position _ c.deref.ensures.value c.self.view_is c.in_err-event.ensures.shown c.from_residual.ensures
+pub returns-in-Some-clause-rest : goal.returns-in-Some-clause-rest
+returns-in-Some-clause-rest c =
+    (frame_given c.in-Whole.len c.left.result.now c.left-in-Whole.result.now c.args.self.now c.use_up-in-Whole.new.self.left (content c.in-Some.frame)
+    c.frame_length_of.result (c.left.ensures ∙ c.self.view_is) (c.left-in-Whole.ensures ∙ c.self.view_is) c.in-Whole.ensures.shown
+    c.in-Whole.ensures.tested c.in-Some.ensures (c.frame_length_of.ensures ∙ ap frame_length c.from.ensures)
+    (ap (λ (q : Queue). q.left) c.use_up-in-Whole.ensures ∙ ap (drop c.frame_length_of.result) c.self.view_is)).rest
+
+pub returns-in-Some-clause-reads : goal.returns-in-Some-clause-reads
+returns-in-Some-clause-reads c =
+    (frame_given c.in-Whole.len c.left.result.now c.left-in-Whole.result.now c.args.self.now c.use_up-in-Whole.new.self.left (content c.in-Some.frame)
+    c.frame_length_of.result (c.left.ensures ∙ c.self.view_is) (c.left-in-Whole.ensures ∙ c.self.view_is) c.in-Whole.ensures.shown
+    c.in-Whole.ensures.tested c.in-Some.ensures (c.frame_length_of.ensures ∙ ap frame_length c.from.ensures)
+    (ap (λ (q : Queue). q.left) c.use_up-in-Whole.ensures ∙ ap (drop c.frame_length_of.result) c.self.view_is)).reads

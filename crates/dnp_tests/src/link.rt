@@ -1,7 +1,7 @@
-//! Worked examples, and calls that take memory, with values from outside.
+//! The data link layer: worked examples with values from outside, and calls that take memory.
 
-use crate::laws::events_of;
-use crate::{Answer, Frame, LinkEvent, LinkFeed, Secondary, Why, crc, write_frame};
+use dnp_link::laws::events_of;
+use dnp_link::{Answer, Frame, LinkEvent, LinkFeed, Secondary, Why, crc, write_frame};
 use std::alloc::Global;
 use std::process::Abort;
 use std::test::Fail;
