@@ -5,9 +5,9 @@ use Rattle.std.specs.List.{cons_option}
 use Rattle.std.proofs.lemmas.List.{append-nil}
 use Rattle.std.proofs.lemmas.List.Elements.{filter_map-append}
 use Rattle.dnp_link.specs.Frame.{Content}
-use Rattle.dnp_link.specs.Stream.{Event, Reading, reading, preceded, followed}
+use Rattle.dnp_link.specs.Stream.{Event, Reading, reading, reading_with_first, joined_readings}
 use Rattle.dnp_link.specs.Station.{Station}
-use Rattle.dnp_link.specs.Secondary.{station_after, answer_by, answer_of, decided_on}
+use Rattle.dnp_link.specs.Secondary.{station_after, answer_by, answer_of, decision_on}
 use Rattle.dnp_link.specs.declared.secondary.Answer.{Answer}
 use Rattle.dnp_link.proofs.Streams.{reading-append}
 use Rattle.dnp_transport.specs.Series.{Series, step}
@@ -29,7 +29,7 @@ is_delivery-answer_by s false (Some control) = refl
 pub user_data_by-delivery : (s : Station) (c : Content) (a : Answer) → a ≡ answer_of s c → is_delivery a ≡ true
     → user_data_by s c ≡ Some c.user
 user_data_by-delivery s c a is delivers =
-    let d = decided_on s c in
+    let d = decision_on s c in
     ap (λ deliver. cond deliver (Some c.user) None)
     (sym (is_delivery-answer_by s d.deliver d.reply) ∙ ap is_delivery (sym is) ∙ delivers)
 
@@ -112,7 +112,7 @@ Completes first now left all = (end : Receiver) → Receives now end left → Re
 
 -- the event at the front was taken
 pub event_taken : (first now next : Receiver) (octets behind : List ℕ) (e : Event) (all : List Content)
-    → reading octets ≡ preceded e (reading behind) → Receives now next (frames_of (e ∷ []))
+    → reading octets ≡ reading_with_first e (reading behind) → Receives now next (frames_of (e ∷ []))
     → Completes first now (frames_of (reading octets).events) all
     → Completes first next (frames_of (reading behind).events) all
 event_taken first now next octets behind e all reads taken completes end left =
@@ -145,8 +145,8 @@ pub piece_more : (first now next : Receiver) (octets piece held fed left : List 
     → IsSoFar first next (octets ++ piece) left
 piece_more first now next octets piece held fed left so_far fed_is taken left_is =
     let all : fed ≡ (reading octets).rest ++ piece = fed_is ∙ ap (λ t. t ++ piece) so_far.held_is in
-    let goes_on : reading (octets ++ piece) ≡ followed (reading octets) (reading fed) =
-    reading-append octets piece ∙ ap (λ t. followed (reading octets) (reading t)) (sym all) in
+    let goes_on : reading (octets ++ piece) ≡ joined_readings (reading octets) (reading fed) =
+    reading-append octets piece ∙ ap (λ t. joined_readings (reading octets) (reading t)) (sym all) in
     let frames : frames_of (reading (octets ++ piece)).events
     ≡ frames_of (reading octets).events ++ frames_of (reading fed).events =
     ap (λ (r : Reading). frames_of r.events) goes_on

@@ -6,7 +6,7 @@ use Rattle.std.specs.Result.{result_ok}
 use Rattle.dnp_link.specs.Frame.{Content}
 use Rattle.dnp_link.specs.Stream.{Event, Framed, Dropped, reading}
 use Rattle.dnp_link.specs.Station.{Station}
-use Rattle.dnp_link.specs.Secondary.{decided_on, station_after}
+use Rattle.dnp_link.specs.Secondary.{decision_on, station_after}
 use Rattle.dnp_transport.specs.Fragment.{fragments_of}
 use Rattle.dnp_app.specs.Response.{Fragment, response_of}
 
@@ -25,7 +25,7 @@ station_at own peer = record { own = own; peer = peer; expected = None }
 
 -- the user data of a frame, where the station delivers it
 abbrev pub user_data_by : Station → Content → Option (List ℕ)
-user_data_by s c = if (decided_on s c).deliver then Some c.user else None
+user_data_by s c = if (decision_on s c).deliver then Some c.user else None
 
 -- the user data that the station delivers of these frames, which come one after another
 abbrev pub delivered_user_data : Station → List Content → List (List ℕ)

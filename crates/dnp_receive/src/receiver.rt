@@ -1,6 +1,6 @@
 //! The layers between the frames of one link and the fragments that they carry.
 ghost use Rattle.std.specs.Prelude.{◌≡◌, [], ◌∷◌, ◌++◌, None, option_to_list, OnOk};
-ghost use Rattle.dnp_link.specs.Content.{seen};
+ghost use Rattle.dnp_link.specs.Content.{event_content};
 ghost use Rattle.dnp_link.specs.Stream.{reading};
 ghost use Rattle.dnp_transport.specs.Runs.{fragment_in};
 ghost use Rattle.dnp_transport.specs.Series.{step};
@@ -57,7 +57,7 @@ impl Receiver {
 
     /// Takes an event: of a frame what it delivers, if anything.
     fn take(&mut self, event: &LinkEvent) -> Result<(), Memory>
-        ensures { OnOk result (Receives self.old self.new (frames_of (seen event.now ∷ []))) }
+        ensures { OnOk result (Receives self.old self.new (frames_of (event_content event.now ∷ []))) }
     {
         let frame = match event {
             LinkEvent::Frame(frame) => frame,
