@@ -29,7 +29,7 @@ unfolding lines_of
 lines_of-front [] rest none = sym (onto_first-nil rest)
 lines_of-front (x ∷ xs) rest none =
     ap (λ (b : Bool). cond b ([] ∷ lines_of (xs ++ rest)) (onto_first (x ∷ []) (lines_of (xs ++ rest))))
-        (ne_eqb x 10 (All-head (λ y. y ≢ 10) x xs none))
+    (ne_eqb x 10 (All-head (λ y. y ≢ 10) x xs none))
     ∙ ap (onto_first (x ∷ [])) (lines_of-front xs rest (All-tail (λ y. y ≢ 10) x xs none))
     ∙ onto_first-append (x ∷ []) xs (lines_of rest)
 

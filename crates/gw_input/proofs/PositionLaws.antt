@@ -20,7 +20,7 @@ all_in_line octets none k d within is =
           absurd cc
       | inr past ↦
           let passes : not (eqb (get_or octets k d) 10) ≡ true =
-              prefix_len_passes (λ (x : ℕ). not (eqb x 10)) octets k d (omega arith) in
+          prefix_len_passes (λ (x : ℕ). not (eqb x 10)) octets k d (omega arith) in
           absurd (true≢false (sym passes ∙ ap not (eq-eqb (get_or octets k d) 10 is)))
     ]
 

@@ -38,7 +38,7 @@ AreAnswered {S} R number before (line ∷ lines) goes_on text last =
     (now : S) × (one : Bool) × (answer : List ℕ) × (rest : List ℕ)
     × (text ≡ answer ++ rest) × R before number line one answer now
     × Further one (AreAnswered R (number + 1) now lines goes_on rest last)
-        ((goes_on ≡ false) × (rest ≡ []) × (last ≡ now))
+    ((goes_on ≡ false) × (rest ≡ []) × (last ≡ now))
 
 -- the lines of an input were, and a writer has got just their answers
 abbrev pub IsAnswered : {S : Type 0} → Answering S → S → List ℕ → Bool → Option (List ℕ) → Option (List ℕ) → S → Type 0

@@ -45,7 +45,7 @@ pub fn answer_lines<A: AnswersLines, R: BufRead, W: Write>(
         → OnSome (R.remaining reader.old) (IsAtEnd (R.remaining reader.new))) }
     ensures answers { IfOk result (λ goes_on. IfSome (R.remaining reader.old) (λ input.
         IsAnswered A.Answers answerer.old input goes_on
-            (W.contents writer.old) (W.contents writer.new) answerer.new)) }
+        (W.contents writer.old) (W.contents writer.new) answerer.new)) }
 {
     let mut line = Line::new(alloc, A::KEPT)?;
     for _read in 0..u32::MAX {

@@ -1,5 +1,5 @@
 -- The lines of a replay, one after the other.
-use Rattle.std.proofs.Common.{◌≡◌, ℕ, ◌+◌, Bool, true, false, not, List, [], ◌∷◌, Option, Some, None, Result, Ok, Err, IfOk, IfSome, refl, sym, ap, subst, ◌∙◌}
+use Rattle.std.proofs.Common.{◌≡◌, ℕ, ◌+◌, Bool, true, false, not, List, [], ◌∷◌, Option, Some, None, Result, Ok, Err, IfOk, IfSome, refl, sym, ap, ◌∙◌}
 use Rattle.std.proofs.lemmas.Bool.{false≢true, true≢false}
 use Rattle.gw_model.specs.Rows.{Setup}
 use Rattle.gw_input.specs.declared.reading.Stop.{Stop}
@@ -27,7 +27,7 @@ lines-stop number before last (line ∷ lines) goes_on text stops h =
   where
     go : (one : Bool) → AnswersLine before number line one h.2 h.0
         → Further one (AreAnswered AnswersLine (number + 1) h.0 lines goes_on h.3 last)
-            ((goes_on ≡ false) × (h.3 ≡ []) × (last ≡ h.0))
+        ((goes_on ≡ false) × (h.3 ≡ []) × (last ≡ h.0))
         → (AreAnswered AnswersLine (number + 1) h.0 lines goes_on h.3 last → last.has_refused ≡ true)
         → last.has_refused ≡ true
     go true answered further later = later further

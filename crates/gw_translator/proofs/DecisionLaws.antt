@@ -133,9 +133,9 @@ module _ (before : Standing) (line : List ℕ) where
   decision-answers (Accepted confirm) news shown decides =
       let read = line_text-read before.setup before.picture line decides.0 (Ok decides.1) decides.2 decides.3 in
       let confirmed = ap
-          (λ (c : Option (List ℕ)).
-              accepted_text before.setup c (news_in before.setup before.picture decides.1.reports))
-          (sym decides.4) in
+      (λ (c : Option (List ℕ)).
+      accepted_text before.setup c (news_in before.setup before.picture decides.1.reports))
+      (sym decides.4) in
       let told = ap (accepted_text before.setup confirm) (sym decides.5) in
       let reports = line_reports-read line decides.0 (Ok decides.1) decides.2 decides.3 in record {
         lacks = false;
@@ -155,5 +155,5 @@ module _ (before : Standing) (line : List ℕ) where
         answer.lacks,
         answer.answer,
         is ∙ ap (λ (f : Finding). standing before.setup f shown) answer.finding
-        ∙ ap (standing before.setup (finding_after_line before.finding line answer.lacks)) answer.picture,
+            ∙ ap (standing before.setup (finding_after_line before.finding line answer.lacks)) answer.picture,
       )

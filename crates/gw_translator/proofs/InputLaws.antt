@@ -1,5 +1,5 @@
 -- The lines of an input, one after the other.
-use Rattle.std.proofs.Common.{◌≡◌, ◌≢◌, ℕ, ◌+◌, Bool, true, false, ◌&&◌, List, [], ◌∷◌, ◌++◌, Option, Some, None, IfSome, OnSome, refl, sym, ap, ◌∙◌, subst}
+use Rattle.std.proofs.Common.{◌≡◌, ◌≢◌, ℕ, ◌+◌, Bool, true, false, ◌&&◌, List, [], ◌∷◌, ◌++◌, Option, Some, None, IfSome, OnSome, refl, ap, ◌∙◌, subst}
 use Rattle.std.specs.List.{list_all}
 use Rattle.std.specs.Io.KnownBytes.{Appends}
 use Rattle.gw_model.specs.Rows.{Setup}
@@ -12,12 +12,12 @@ use Rattle.gw_translator.specs.declared.translator.Finding.TheVariants.{Fine, Re
 -- the lines after one that was answered
 further : (number : ℕ) (now last : Standing) (lines : List (List ℕ)) (one goes_on : Bool) (rest : List ℕ) → one ≡ true
     → Further one (AreAnswered AnswersLine (number + 1) now lines goes_on rest last)
-        ((goes_on ≡ false) × (rest ≡ []) × (last ≡ now))
+    ((goes_on ≡ false) × (rest ≡ []) × (last ≡ now))
     → AreAnswered AnswersLine (number + 1) now lines goes_on rest last
 further number now last lines one goes_on rest is h =
     subst
     (λ (b : Bool). Further b (AreAnswered AnswersLine (number + 1) now lines goes_on rest last)
-        ((goes_on ≡ false) × (rest ≡ []) × (last ≡ now)))
+    ((goes_on ≡ false) × (rest ≡ []) × (last ≡ now)))
     is h
 
 -- it goes on after each line
@@ -104,7 +104,7 @@ module _ (setup : Setup) (last : Standing) (goes_on : Bool) (old new : Option (L
     last,
     refl,
     subst (λ (b : Bool). IsAnswered AnswersLine (beginning setup) input b old new last) (went_on input answered)
-    answered,
+        answered,
   )
 
   pub finding_is : (input : Option (List ℕ)) → IfSome input Whole → last.finding ≢ ShortOfMemory

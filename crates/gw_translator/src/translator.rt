@@ -94,7 +94,12 @@ impl AnswersLines for Translator {
 
     ghost Answers = { AnswersLine };
 
-    fn answer<W: Write>(&mut self, _number: u64, line: &[u8], writer: &mut W) -> Result<bool, Stop> {
+    fn answer<W: Write>(
+        &mut self,
+        _number: u64,
+        line: &[u8],
+        writer: &mut W,
+    ) -> Result<bool, Stop> {
         let decision = decide(
             self.alloc,
             &self.settings,

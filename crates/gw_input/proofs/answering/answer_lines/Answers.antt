@@ -21,7 +21,7 @@ returns-then-not-branch-clause-answers g c =
     let brings = subst (λ (p : Piece). Brings p middle rest front longer) c.in-Line.is c.in_ok-read_piece.ensures in
     let answered = c.in_ok-answer-in-Line.ensures in
     let line = told R first kept decides now then front longer most c.number.result c.octets.result.now _ false
-        answered.0 c.number.ensures c.octets.ensures c.if-not-branch.true answered.2 in
+    answered.0 c.number.ensures c.octets.ensures c.if-not-branch.true answered.2 in
     stopped R first kept decides now then front longer most (g.R.Read.remaining c.args.reader.now) middle rest
     (g.W.Write.contents c.args.writer.now) (g.W.Write.contents c.loop-read.writer)
     (g.W.Write.contents c.answer.new.writer) answered.0 c.loop-read.invariant.so_far brings answered.1 line
@@ -90,7 +90,7 @@ loop-read-preserved g c =
           let brings = subst (λ (p : Piece). Brings p middle rest front longer) w.in-Line.is read in
           let answered = w.in_ok-answer-in-Line.ensures in
           let line = told R first kept decides now then front longer most w.number.result w.octets.result.now _ true
-              answered.0 w.number.ensures w.octets.ensures w.if-not-branch.false answered.2 in
+          answered.0 w.number.ensures w.octets.ensures w.if-not-branch.false answered.2 in
           rw (w.answerer-is, w.writer-is, w.line-is, w.begin_next.ensures) (record {
             most = same.0 ∙ most;
             few = omega (arith, same.1, c.loop-read.invariant.few);

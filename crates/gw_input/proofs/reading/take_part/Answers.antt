@@ -1,4 +1,4 @@
-use Rattle.std.proofs.Common.{◌≡◌, ◌≢◌, ◌∙◌, ℕ, All, List, length, take, sym, ap, subst, take_all, le_refl}
+use Rattle.std.proofs.Common.{◌≡◌, ◌≢◌, ◌∙◌, ℕ, All, length, take, sym, ap, subst, take_all, le_refl}
 use Rattle.gw_input.specs.Front.{with_more}
 use Rattle.gw_input.proofs.PositionLaws.{all_in_line, line_before}
 use Rattle.gw_input.proofs.reading.take_part.Goals as goal

@@ -1,4 +1,4 @@
-use Rattle.std.proofs.Common.{◌≡◌, ◌≢◌, List, IfSome, subst, sym}
+use Rattle.std.proofs.Common.{◌≡◌, ◌≢◌, IfSome, subst, sym}
 use Rattle.std.specs.Io.KnownBytes.{Appends, IsAtEnd}
 use Rattle.gw_input.specs.Lines.{IsAnswered}
 use Rattle.gw_translator.specs.Answers.{AnswersInput, AnswersLine, finding_of, text_of}
@@ -17,8 +17,8 @@ returns g c =
     let last = c.answer_lines.new.answerer in
     let goes_on = c.in_ok-answer_lines.field-0 in
     let whole = subst
-        (λ (s : Standing). IfSome input (λ octets. IsAnswered AnswersLine s octets goes_on old new last))
-        c.in_ok-translator.ensures c.in_ok-answer_lines.ensures.answers in
+    (λ (s : Standing). IfSome input (λ octets. IsAnswered AnswersLine s octets goes_on old new last))
+    c.in_ok-translator.ensures c.in_ok-answer_lines.ensures.answers in
     let found = sym c.finding.ensures in
     record {
       end = at_end setup last goes_on old new (IsAtEnd (g.R.Read.remaining c.answer_lines.new.reader)) input whole

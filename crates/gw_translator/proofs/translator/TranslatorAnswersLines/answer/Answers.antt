@@ -20,9 +20,9 @@ returns g c =
     let text = decision_text fields.settings decision news in
     let found = ap (λ (f : Finding). standing fields.settings f picture) c.after-self-inside.ensures in
     let answered = AnswersLine-decided before line c.args._number decision news picture now c.in_ok-decision.ensures
-        found in
+    found in
     let written = subst
-        (λ (told : List Observation). Appends (g.W.Write.contents c.args.writer.now)
-            (g.W.Write.contents c.write_decision.new.writer) (decision_text fields.settings decision told))
-        c.as_slice.ensures.value c.in_ok-write_decision.ensures in
+    (λ (told : List Observation). Appends (g.W.Write.contents c.args.writer.now)
+    (g.W.Write.contents c.write_decision.new.writer) (decision_text fields.settings decision told))
+    c.as_slice.ensures.value c.in_ok-write_decision.ensures in
     (text, written, subst (λ (s : Standing). AnswersLine s c.args._number line true text now) c.self.view_is answered)
