@@ -1,5 +1,5 @@
 //! Worked examples, computed with the definitions that the contracts cite.
-#![tactic(auto, unfolding(dnp_link::specs::Stream::reading, dnp_link::specs::Stream::front_of, dnp_link::specs::Frame::is_sealed, dnp_link::specs::Crc::crc_of, dnp_link::specs::Polynomial::remainder, dnp_link::specs::Polynomial::divided))]
+#![tactic(auto, unfolding(dnp_link::specs::Stream::reading, dnp_link::specs::Stream::event_at_front, dnp_link::specs::Frame::is_sealed, dnp_link::specs::Crc::crc_of, dnp_link::specs::Polynomial::remainder, dnp_link::specs::Polynomial::long_division))]
 
 ghost use Rattle.std.specs.Prelude.{◌≡◌, [], ◌∷◌, ◌++◌, take};
 ghost use Rattle.dnp_receive.specs.Delivery.{stream_fragments};
