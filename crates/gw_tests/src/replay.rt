@@ -155,7 +155,12 @@ fn long_lines(rt: HostRuntime) -> Result<(), Fail> {
 #[test]
 fn instructions_are_read_with_ample_memory(rt: HostRuntime) -> Result<(), Fail> {
     let found = read_instruction(rt.alloc(), b"frag 3 4 C0 81 00 00")?;
-    assert!(rt; matches!(found, Some(Instruction::Make(Step::Fragment { moment: 4, .. }))));
+    assert!(rt;
+        matches!(
+            found,
+            Some(Instruction::Make(Step::Fragment { moment: 4, .. }))
+        )
+    );
     Ok(())
 }
 
