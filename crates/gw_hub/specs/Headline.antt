@@ -1,5 +1,6 @@
--- The headline, in its part on news: at each place of a run the picture is that of the log, and for each client's
--- session the observations put out, followed by those queued, are the news since its STARTDT, in order, less those dropped.
+-- The headline, in its part on news: at each place of a run the picture is that of the log, and for each
+-- client's session the observations put out, followed by those queued, are the news since its STARTDT, in
+-- order, less those dropped.
 use Rattle.std.specs.Prelude.{◌≡◌, ℕ, true, false, List, [], ◌∷◌, ◌++◌, length, slice_get, is_some, Option, Some, None, Result, Ok, Err, IfSome}
 use Rattle.gw_model.specs.Rows.{Setup}
 use Rattle.gw_picture.specs.Log.{picture_of}
@@ -46,8 +47,9 @@ pub record TellsNews (setup : Setup) (c : ℕ) (past : List Entry) (k : Session)
   pub queued : k.queue ≡ items_of is_queued (fates None (session_of setup c past))
   pub dropped : k.dropped ≡ length (items_of is_dropped (fates None (session_of setup c past)))
 
--- of a fragment: Accepted where its news enter the log with this step, Repeated where it is the last accepted one
--- again, Ignored where it is not accepted, and no other reply; confirmed exactly where it asks for it, and nothing else is
+-- of a fragment: Accepted where its news enter the log with this step, Repeated where it is the last accepted
+-- one again, Ignored where it is not accepted, and no other reply; confirmed exactly where it asks for it, and
+-- nothing else is
 abbrev pub Confirms : Setup → Step → Result Reply StepFault → List Entry → Type 0
 Confirms setup (steps.Fragment f moment) (Ok (replies.Verdict (verdicts.Accepted confirm))) past =
     (is_accepted past f ≡ true) × (confirm ≡ confirm_of f.octets)
