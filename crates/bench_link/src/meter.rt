@@ -75,8 +75,8 @@ impl Meter {
         ensures taken { OnOk result (Meters self.old self.new (reading feed.old).events) }
         ensures rest { OnOk result (feed.new ≡ (reading feed.old).rest) }
     {
-        while let Some(event) = feed.next() {
-            self.take(&event)?;
+        while let Some(event) = &feed.next() {
+            self.take(event)?;
         }
         Ok(())
     }

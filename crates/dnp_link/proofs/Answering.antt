@@ -1,5 +1,5 @@
 -- What a feed answers, and what it holds back then.
-use Rattle.std.proofs.Common.{◌≡◌, ℕ, ◌+◌, ◌-◌, ◌*◌, ◌≤◌, ◌<◌, Bool, true, false, if◌then◌else◌, List, length, drop, Option, Some, None, IfSome, refl, sym, ◌∙◌, ap, subst, arith, length-drop}
+use Rattle.std.proofs.Common.{◌≡◌, ℕ, ◌≤◌, ◌<◌, Bool, true, false, if◌then◌else◌, List, length, drop, Option, Some, None, IfSome, refl, sym, ◌∙◌, ap, subst, arith, length-drop}
 use Rattle.dnp_link.specs.declared.event.Why.TheVariants.{BadBlockCrc}
 use Rattle.dnp_link.specs.declared.reading.Front.TheVariants.{Whole}
 use Rattle.dnp_link.specs.Frame.{Content, block_count, frame_length, are_sealed}

@@ -49,8 +49,8 @@ impl Receiver {
         ensures received { OnOk result (Receives self.old self.new (frames_of (reading feed.old).events)) }
         ensures rest { OnOk result (feed.new ≡ (reading feed.old).rest) }
     {
-        while let Some(event) = feed.next() {
-            self.take(&event)?;
+        while let Some(event) = &feed.next() {
+            self.take(event)?;
         }
         Ok(())
     }

@@ -2,14 +2,14 @@
 use Rattle.std.proofs.Common.{◌≡◌, ℕ, suc, ◌+◌, ◌*◌, ◌<◌, ◌≤◌, Bool, true, false, cond, eqb, leb, List, [], ◌∷◌, ◌++◌, length, take, drop, get_or, inl, inr, Option, Some, None, refl, sym, ap, ◌∙◌, append_assoc, arith}
 use Rattle.std.proofs.lemmas.Bool.{lt-leb, le-leb, cases_lt}
 use Rattle.std.proofs.lemmas.List.{length-take, take_all}
-use Rattle.gw_text.specs.Hex.{octet, before, octets_of, at_most_2048}
+use Rattle.gw_text.specs.Hex.{octet, octet_before, octets_of, at_most_2048}
 
 -- octets that were read before others
 abbrev pub with_front : List ℕ → Option (List ℕ) → Option (List ℕ)
 with_front front None = None
 with_front front (Some os) = Some (front ++ os)
 
-regroup : (front : List ℕ) (o : ℕ) (os : Option (List ℕ)) → with_front front (before (Some o) os) ≡ with_front (front ++ o ∷ []) os
+regroup : (front : List ℕ) (o : ℕ) (os : Option (List ℕ)) → with_front front (octet_before (Some o) os) ≡ with_front (front ++ o ∷ []) os
 regroup front o None = refl
 regroup front o (Some os) = ap (λ (xs : List ℕ). Some xs) (sym (append_assoc front (o ∷ []) os))
 
@@ -21,7 +21,7 @@ goes_on front (a ∷ []) o whole lt at space so_far = absurd (omega arith)
 goes_on front (a ∷ b ∷ []) o whole lt at space so_far = absurd (omega arith)
 goes_on front (a ∷ b ∷ c ∷ rest) o whole lt at space so_far =
     let spaced : eqb c 32 ≡ true = ap (λ (x : ℕ). eqb x 32) space in
-    let one : octets_of (a ∷ b ∷ c ∷ rest) ≡ before (Some o) (octets_of rest) = rw (spaced, at) refl in
+    let one : octets_of (a ∷ b ∷ c ∷ rest) ≡ octet_before (Some o) (octets_of rest) = rw (spaced, at) refl in
     sym (regroup front o (octets_of rest)) ∙ (ap (with_front front) (sym one) ∙ so_far)
 
 -- n octets are a text of 3 n - 1 characters
@@ -31,7 +31,7 @@ some x = Some x
 some_is : {A : Type 0} (x y : A) → some x ≡ some y → x ≡ y
 some_is x y e = cc
 
-before_some : (o : Option ℕ) (os : Option (List ℕ)) (xs : List ℕ) → before o os ≡ Some xs → (ys : List ℕ) × (os ≡ Some ys) × (length xs ≡ suc (length ys))
+before_some : (o : Option ℕ) (os : Option (List ℕ)) (xs : List ℕ) → octet_before o os ≡ Some xs → (ys : List ℕ) × (os ≡ Some ys) × (length xs ≡ suc (length ys))
 before_some None None xs e = absurd cc
 before_some None (Some ys) xs e = absurd cc
 before_some (Some o) None xs e = absurd cc
@@ -49,7 +49,7 @@ long_text (a ∷ b ∷ []) os e =
     let none : [] ≡ one.0 = some_is [] one.0 one.1 in
     omega (arith, one.2, ap length none)
 long_text (a ∷ b ∷ c ∷ rest) os e =
-    let one = before_some (octet a b) (octets_of rest) os (when (eqb c 32) (before (octet a b) (octets_of rest)) os e) in
+    let one = before_some (octet a b) (octets_of rest) os (when (eqb c 32) (octet_before (octet a b) (octets_of rest)) os e) in
     omega (arith, one.2, long_text rest one.0 one.1)
 
 too_many : (found : Option (List ℕ)) → ((os : List ℕ) → found ≡ Some os → 2048 < length os) → at_most_2048 found ≡ None

@@ -10,23 +10,23 @@ digit c =
     else None
 
 -- both values as one octet
-abbrev pub both : Option ℕ → Option ℕ → Option ℕ
-both (Some high) (Some low) = Some (high * 16 + low)
-both _ _ = None
+abbrev pub octet_of_digits : Option ℕ → Option ℕ → Option ℕ
+octet_of_digits (Some high) (Some low) = Some (high * 16 + low)
+octet_of_digits _ _ = None
 
 -- the octet of two digits
 abbrev pub octet : ℕ → ℕ → Option ℕ
-octet a b = both (digit a) (digit b)
+octet a b = octet_of_digits (digit a) (digit b)
 
 -- an octet before others, where both were read
-abbrev pub before : Option ℕ → Option (List ℕ) → Option (List ℕ)
-before (Some o) (Some os) = Some (o ∷ os)
-before _ _ = None
+abbrev pub octet_before : Option ℕ → Option (List ℕ) → Option (List ℕ)
+octet_before (Some o) (Some os) = Some (o ∷ os)
+octet_before _ _ = None
 
 -- the octets that a text is
 abbrev pub octets_of : List ℕ → Option (List ℕ)
-octets_of (a ∷ b ∷ []) = before (octet a b) (Some [])
-octets_of (a ∷ b ∷ c ∷ rest) = if c == 32 then before (octet a b) (octets_of rest) else None
+octets_of (a ∷ b ∷ []) = octet_before (octet a b) (Some [])
+octets_of (a ∷ b ∷ c ∷ rest) = if c == 32 then octet_before (octet a b) (octets_of rest) else None
 octets_of _ = None
 
 -- at most 2,048 octets

@@ -1,6 +1,6 @@
 //! Numbers in decimal digits, leading zeros allowed.
 ghost use Rattle.std.specs.Prelude.{◌≡◌, ◌^◌, [], ◌∷◌};
-ghost use Rattle.gw_text.specs.Decimal.{below, decimal_after, number};
+ghost use Rattle.gw_text.specs.Decimal.{if_below, decimal_after, number};
 
 /// The number of 64 bits that a text is.
 pub fn number_64(text: &[u8]) -> Option<u64>
@@ -18,7 +18,7 @@ pub fn number_64(text: &[u8]) -> Option<u64>
 
 /// A number with one digit more.
 fn with_digit(value: u64, character: u8) -> Option<u64>
-    ensures { result ≡ below (2 ^ 64) (decimal_after value (character ∷ [])) }
+    ensures { result ≡ if_below (2 ^ 64) (decimal_after value (character ∷ [])) }
 {
     if !character.is_ascii_digit() {
         return None;
