@@ -1,5 +1,5 @@
 -- How long the ASDU of one observation is.
-use Rattle.std.proofs.Common.{◌≡◌, ℕ, ℤ, pos, negsuc, ◌+◌, ◌≤◌, Bool, true, false, ◌&&◌, nat_lt, nat_le, List, length, Option, Some, None, arith}
+use Rattle.std.proofs.Common.{ℕ, ℤ, pos, negsuc, ◌≤◌, Bool, true, false, ◌&&◌, nat_lt, nat_le, List, length, Option, Some, None, arith}
 use Rattle.gw_model.specs.declared.point.Stamp.{Stamp}
 use Rattle.gw_model.specs.declared.point.Stamp.TheVariants.{Untimed, At, Doubtful}
 use Rattle.gw_model.specs.declared.observation.Value.{Value}
@@ -8,7 +8,7 @@ use Rattle.gw_model.specs.declared.observation.Quality.{Quality}
 use Rattle.gw_model.specs.declared.observation.Observation.{Observation}
 use Rattle.gw_time.specs.Window.{shown_at}
 use Rattle.gw_time.specs.Spelling.{numbers_at, octets_of, tag_of, tag_showing}
-use Rattle.iec_asdu.specs.Spelling.{element_spelling, spelling, spelling_with, tag_octets}
+use Rattle.iec_asdu.specs.Spelling.{spelling, spelling_with, tag_octets}
 
 -- a tag has seven octets
 shown_short : (invalid : Bool) (z : ℤ) → length (tag_octets (tag_showing invalid z)) ≤ 7

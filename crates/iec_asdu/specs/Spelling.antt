@@ -1,5 +1,5 @@
 -- How one observation is spelled as an ASDU: with time, where its stamp has a tag, and without one elsewhere.
-use Rattle.std.specs.Prelude.{ℕ, ℤ, ◌<◌, ◌^◌, Bool, List, [], ◌∷◌, ◌++◌, take, Option, Some, None, if◌then◌else◌, FitsSigned}
+use Rattle.std.specs.Prelude.{ℕ, ℤ, ◌<◌, ◌^◌, Bool, List, [], ◌∷◌, ◌++◌, take, Option, Some, None, FitsSigned}
 use Rattle.std.specs.Option.{is_some}
 use Rattle.std.specs.Int.{w16, w32, to_le_bytes}
 use Rattle.gw_model.specs.declared.observation.Value.{Value}
