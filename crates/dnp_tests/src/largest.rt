@@ -1,14 +1,16 @@
 //! Calls that take memory, at their largest sizes: no contract tells memory that ran out from a limit of the code.
 ghost use Rattle.std.specs.Prelude.{◌≤◌, length};
 
-use dnp_app::read_response;
+use dnp_app::{Response, read_response};
 use dnp_link::laws::events_of;
 use dnp_link::{LinkEvent, LinkFeed, Why, write_frame};
-use dnp_objects::headers;
+use dnp_objects::{Header, headers};
 use dnp_points::reports;
 use dnp_receive::{fragments_of, responses_of};
 use dnp_transport::{Assembler, FRAGMENT_LIMIT, Taken, segments};
+use gw_model::Report;
 use std::alloc::Global;
+use std::process::Abort;
 use std::test::Fail;
 
 /// Some octets, and then others so many times.
@@ -21,55 +23,96 @@ fn repeated(alloc: Global, front: &[u8], octets: &[u8], times: u16) -> Result<Ve
 }
 
 /// 224 of the longest frames, of 292 octets, and behind them 128 octets that begin none.
-#[test]
-fn many_octets_in_one_piece(rt: HostRuntime) -> Result<(), Fail> {
+fn long_stream(rt: &(impl Abort + AllocGlobal)) -> Result<Vec<u8>, Fail> {
     let mut frame = [0; 292];
     assert_eq!(rt; write_frame(0x44, 1024, 1, &[0x11; 250], &mut frame), 292);
     let mut stream = repeated(rt.alloc(), b"", &frame, 224)?;
     stream.extend_from_slice(&[0; 128])?;
     assert_eq!(rt; stream.len(), 65_536);
-    let mut feed = LinkFeed::new(rt.alloc());
+    Ok(stream)
+}
+
+/// A feed that was fed this stream, between two empty pieces.
+fn fed(alloc: Global, stream: &[u8]) -> Result<LinkFeed, Fail> {
+    let mut feed = LinkFeed::new(alloc);
     feed.feed(&[])?;
-    feed.feed(&stream)?;
+    feed.feed(stream)?;
     feed.feed(&[])?;
+    Ok(feed)
+}
+
+fn is_longest(event: &Option<LinkEvent>) -> bool {
+    match event {
+        Some(LinkEvent::Frame(frame)) => frame.user() == [0x11; 250].as_slice(),
+        _ => false,
+    }
+}
+
+/// The feed's next events are 224 frames and 128 octets that were skipped.
+fn check_events(rt: &impl Abort, feed: &mut LinkFeed) {
     for _ in 0..224u8 {
-        let Some(LinkEvent::Frame(found)) = feed.next() else {
-            return Err(Fail::from("no frame"));
-        };
-        assert_eq!(rt; found.user(), [0x11; 250].as_slice());
+        assert!(rt; is_longest(&feed.next()));
     }
     for _ in 0..128u8 {
         assert_eq!(rt; feed.next(), Some(LinkEvent::Skipped(Why::BadStart)));
     }
     assert_eq!(rt; feed.next(), None);
+}
+
+#[test]
+fn many_octets_in_one_piece(rt: HostRuntime) -> Result<(), Fail> {
+    let stream = long_stream(&rt)?;
+    check_events(&rt, &mut fed(rt.alloc(), &stream)?);
     let events = events_of(rt.alloc(), &[&stream])?;
     assert_eq!(rt; events.len(), 224 + 128);
     Ok(())
 }
 
-/// Object parts: 511 headers in 2,048 octets, the last with two events, and one header of 65,536 inputs that are on.
-#[test]
-fn largest_object_parts(rt: HostRuntime) -> Result<(), Fail> {
+/// 511 headers in 2,048 octets, the last with two events.
+fn check_most_headers(rt: &(impl Abort + AllocGlobal)) -> Result<(), Fail> {
     let mut part = repeated(rt.alloc(), b"", b"\x33\x02\x07\x00", 510)?;
     part.extend_from_slice(b"\x02\x01\x17\x02\x05\x81\x06\x81")?;
     assert_eq!(rt; part.len(), 2048);
     let found = headers(rt.alloc(), &part)?;
     assert_eq!(rt; found.len(), 511);
     assert_eq!(rt; reports(rt.alloc(), 0, &found, &part)?.len(), 2);
+    Ok(())
+}
 
+/// They are one header, of 65,536 objects.
+fn are_most_objects(headers: &[Header]) -> bool {
+    match headers {
+        [header] => header.count == 65_536,
+        _ => false,
+    }
+}
+
+fn last_index(reports: &[Report]) -> Option<u16> {
+    reports.last().map(|report| report.key.index)
+}
+
+/// One header of 65,536 inputs that are on.
+fn check_most_objects(rt: &(impl Abort + AllocGlobal)) -> Result<(), Fail> {
     let part = repeated(rt.alloc(), b"\x01\x01\x01\x00\x00\xFF\xFF", b"\xFF", 8192)?;
     let found = headers(rt.alloc(), &part)?;
-    assert_eq!(rt; found.len(), 1);
-    assert_eq!(rt; found[0].count, 65_536);
+    assert!(rt; are_most_objects(&found));
     let told = reports(rt.alloc(), 0, &found, &part)?;
     assert_eq!(rt; told.len(), 65_536);
-    assert_eq!(rt; told.last().map(|report| report.key.index), Some(65_535));
+    assert_eq!(rt; last_index(&told), Some(65_535));
     Ok(())
+}
+
+#[test]
+fn largest_object_parts(rt: HostRuntime) -> Result<(), Fail> {
+    check_most_headers(&rt)?;
+    check_most_objects(&rt)
 }
 
 /// Fragments of 2,048 octets: the octets up to the objects, what stands behind them so many times, how many reports
 /// they give, the index of the last, and how many objects are stepped over.
-const RESPONSES: [(&[u8], &[u8], u16, usize, Option<u16>, usize); 6] = [
+type Largest = (&'static [u8], &'static [u8], u16, usize, Option<u16>, usize);
+
+const RESPONSES: &[Largest] = &[
     // 511 headers without an object; 341 headers, all but the first with an event.
     (b"\xC0\x81\x00\x00", b"\x33\x02\x07\x00", 511, 0, None, 0),
     (
@@ -112,17 +155,26 @@ const RESPONSES: [(&[u8], &[u8], u16, usize, Option<u16>, usize); 6] = [
 /// The octets before the states of 16,296 inputs.
 const PACKED_FRONT: &[u8] = b"\xC0\x81\x00\x00\x01\x01\x01\x00\x00\xA7\x3F";
 
+fn check_reports(rt: &impl Abort, reports: &[Report], count: usize, last: Option<u16>) {
+    assert_eq!(rt; reports.len(), count);
+    assert_eq!(rt; last_index(reports), last);
+}
+
+fn check_response(rt: &(impl Abort + AllocGlobal), row: &Largest) -> Result<(), Fail> {
+    let (front, octets, times, count, last, stepped_over) = *row;
+    let fragment = repeated(rt.alloc(), front, octets, times)?;
+    assert_eq!(rt; fragment.len(), 2048);
+    let response = read_response(rt.alloc(), 0, fragment)?;
+    assert_eq!(rt; response.octets().len(), 2048);
+    assert_eq!(rt; response.stepped_over(), stepped_over);
+    check_reports(rt, response.reports(), count, last);
+    Ok(())
+}
+
 #[test]
 fn largest_responses(rt: HostRuntime) -> Result<(), Fail> {
-    for (front, octets, times, count, last, stepped_over) in RESPONSES {
-        let fragment = repeated(rt.alloc(), front, octets, times)?;
-        assert_eq!(rt; fragment.len(), 2048);
-        let response = read_response(rt.alloc(), 0, fragment)?;
-        assert_eq!(rt; response.octets().len(), 2048);
-        assert_eq!(rt; response.reports().len(), count);
-        let index = response.reports().last().map(|report| report.key.index);
-        assert_eq!(rt; index, last);
-        assert_eq!(rt; response.stepped_over(), stepped_over);
+    for row in RESPONSES {
+        check_response(&rt, row)?;
     }
     Ok(())
 }
@@ -136,32 +188,73 @@ fn ended(assembler: &mut Assembler, segment: &[u8]) -> Result<Option<Vec<u8>>, F
     }
 }
 
+/// What the last of so many segments of a fragment ends; no other may end one.
+fn ended_by(
+    rt: &impl Abort,
+    assembler: &mut Assembler,
+    fragment: &[u8; FRAGMENT_LIMIT],
+    count: usize,
+) -> Result<Option<Vec<u8>>, Fail> {
+    let mut last = None;
+    for segment in segments(fragment, 60).take(count) {
+        assert!(rt; last.is_none());
+        last = ended(assembler, segment.octets())?;
+    }
+    Ok(last)
+}
+
+/// The octets 0 to 250, again and again.
+fn counted() -> [u8; FRAGMENT_LIMIT] {
+    let mut fragment = [0; FRAGMENT_LIMIT];
+    for place in 0..FRAGMENT_LIMIT {
+        fragment[place] = (place % 251) as u8;
+    }
+    fragment
+}
+
+/// Eight segments of a fragment.
+fn check_unfinished(
+    rt: &impl Abort,
+    assembler: &mut Assembler,
+    fragment: &[u8; FRAGMENT_LIMIT],
+) -> Result<(), Fail> {
+    let last = ended_by(rt, assembler, fragment, 8)?;
+    assert!(rt; last.is_none());
+    Ok(())
+}
+
+/// Nine segments of a fragment.
+fn check_finished(
+    rt: &impl Abort,
+    assembler: &mut Assembler,
+    fragment: &[u8; FRAGMENT_LIMIT],
+) -> Result<(), Fail> {
+    let last = ended_by(rt, assembler, fragment, 9)?;
+    assert_eq!(rt; last.as_deref(), Some(fragment.as_slice()));
+    Ok(())
+}
+
+/// A fragment in one segment.
+fn check_whole(
+    rt: &(impl Abort + AllocGlobal),
+    assembler: &mut Assembler,
+    fragment: &[u8; FRAGMENT_LIMIT],
+) -> Result<(), Fail> {
+    let segment = repeated(rt.alloc(), b"\xC5", fragment, 1)?;
+    let last = ended(assembler, &segment)?;
+    assert_eq!(rt; last.as_deref(), Some(fragment.as_slice()));
+    Ok(())
+}
+
 /// In nine segments, after eight of them that stay unfinished, and in one segment after eight again.
 #[test]
 fn longest_fragment(rt: HostRuntime) -> Result<(), Fail> {
-    let mut fragment = [0; FRAGMENT_LIMIT];
-    for (octet, n) in fragment.iter_mut().zip(0..2048u16) {
-        *octet = (n % 251) as u8;
-    }
+    let fragment = counted();
     let mut assembler = Assembler::new(rt.alloc());
-    for segment in segments(&fragment, 60).take(8) {
-        let found = ended(&mut assembler, segment.octets())?;
-        assert!(rt; found.is_none());
-    }
-    let mut last = None;
-    for segment in segments(&fragment, 60) {
-        assert!(rt; last.is_none());
-        last = ended(&mut assembler, segment.octets())?;
-    }
-    assert_eq!(rt; last.as_deref(), Some(fragment.as_slice()));
-    for segment in segments(&fragment, 60).take(8) {
-        let found = ended(&mut assembler, segment.octets())?;
-        assert!(rt; found.is_none());
-    }
-    let whole = repeated(rt.alloc(), b"\xC5", &fragment, 1)?;
-    let last = ended(&mut assembler, &whole)?;
-    assert_eq!(rt; last.as_deref(), Some(fragment.as_slice()));
-    Ok(())
+    check_unfinished(&rt, &mut assembler, &fragment)?;
+    check_finished(&rt, &mut assembler, &fragment)?;
+    check_unfinished(&rt, &mut assembler, &fragment)?;
+    check_whole(&rt, &mut assembler, &fragment)
 }
 
 /// The frames of a fragment.
@@ -177,21 +270,35 @@ fn frames_of(alloc: Global, fragment: &[u8]) -> Result<Vec<u8>, Fail>
     Ok(stream)
 }
 
-/// 27 of the largest responses in one piece, through all layers: each in eight frames of 292 octets and one of 75.
-#[test]
-fn many_largest_responses(rt: HostRuntime) -> Result<(), Fail> {
-    let fragment = repeated(rt.alloc(), PACKED_FRONT, b"\xFF", 2037)?;
+/// The response to a master with 16,296 inputs that are on.
+fn largest_fragment(alloc: Global) -> Result<Vec<u8>, Fail> {
+    repeated(alloc, PACKED_FRONT, b"\xFF", 2037)
+}
+
+/// So many of the largest responses in one piece: each in eight frames of 292 octets and one of 75.
+fn stream_of(rt: &(impl Abort + AllocGlobal), count: u16) -> Result<Vec<u8>, Fail> {
+    let fragment = largest_fragment(rt.alloc())?;
     assert_eq!(rt; fragment.len(), 2048);
     let frames = frames_of(rt.alloc(), &fragment)?;
-    let stream = repeated(rt.alloc(), b"", &frames, 27)?;
+    repeated(rt.alloc(), b"", &frames, count)
+}
+
+/// They are so many of the largest responses.
+fn are_largest(responses: &[Response], fragment: &[u8]) -> bool {
+    responses.iter().all(|response| response.octets() == fragment
+        && response.reports().len() == 16_296)
+}
+
+/// Through all layers.
+#[test]
+fn many_largest_responses(rt: HostRuntime) -> Result<(), Fail> {
+    let stream = stream_of(&rt, 27)?;
     assert_eq!(rt; stream.len(), 65_097);
     let fragments = fragments_of(rt.alloc(), &[&stream], 1024, 1)?;
     assert_eq!(rt; fragments.len(), 27);
     let responses = responses_of(rt.alloc(), 0, &[&stream], 1024, 1)?;
     assert_eq!(rt; responses.len(), 27);
-    for response in responses.iter() {
-        assert_eq!(rt; response.octets(), fragment.as_slice());
-        assert_eq!(rt; response.reports().len(), 16_296);
-    }
+    let fragment = largest_fragment(rt.alloc())?;
+    assert!(rt; are_largest(&responses, &fragment));
     Ok(())
 }

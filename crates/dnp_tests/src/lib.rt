@@ -10,6 +10,8 @@ mod link;
 #[cfg(test)]
 mod objects;
 #[cfg(test)]
+mod parts;
+#[cfg(test)]
 mod points;
 #[cfg(test)]
 mod receive;

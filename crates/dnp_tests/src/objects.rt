@@ -1,20 +1,14 @@
+use crate::parts::{ANY, COUNTS, INDEXES, QUALIFIERS, Qualifier, RANGES, part_of};
 use dnp_objects::{Header, ObjectFault, Size, Why, headers, length_of};
 use std::alloc::{AllocError, Global};
 use std::process::Abort;
 use std::test::Fail;
 
-/// The codes under which packed objects, times, commands and all others may stand.
-const RANGES: &[u8] = &[0x00, 0x01];
-
-const COUNTS: &[u8] = &[0x07, 0x08];
-
-const INDEXES: &[u8] = &[0x17, 0x18, 0x27, 0x28];
-
-const ANY: &[u8] = &[0x00, 0x01, 0x17, 0x18, 0x27, 0x28];
-
 /// Group, variation, size, the codes that it may stand under, and the octets of one object by hand:
 /// flags, value and time as the object library lays them out.
-const OBJECTS: [(u8, u8, Size, &[u8], &[u8]); 67] = [
+type Object = (u8, u8, Size, &'static [u8], &'static [u8]);
+
+const OBJECTS: &[Object] = &[
     (1, 1, Size::Bits(1), RANGES, b"\x01"),
     (1, 2, Size::Octets(1), ANY, b"\x81"),
     (2, 1, Size::Octets(1), ANY, b"\x81"),
@@ -198,61 +192,28 @@ const OBJECTS: [(u8, u8, Size, &[u8], &[u8]); 67] = [
     (111, 3, Size::Octets(3), ANY, b"\x61\x62\x63"),
 ];
 
-/// A qualifier code, the range field of one object, its index prefix, and what the header then has: first index
-/// and prefix.
-const QUALIFIERS: [(u8, &[u8], &[u8], u16, u8); 8] = [
-    (0x00, b"\x05\x05", b"", 5, 0),
-    (0x01, b"\x05\x01\x05\x01", b"", 261, 0),
-    (0x07, b"\x01", b"", 0, 0),
-    (0x08, b"\x01\x00", b"", 0, 0),
-    (0x17, b"\x01", b"\x05", 0, 1),
-    (0x18, b"\x01\x00", b"\x05", 0, 1),
-    (0x27, b"\x01", b"\x05\x01", 0, 2),
-    (0x28, b"\x01\x00", b"\x05\x01", 0, 2),
-];
-
-/// A header with one object: its first three octets, its range field, the object's index and the object.
-fn part_of(
-    alloc: Global,
-    head: &[u8],
-    range: &[u8],
-    index: &[u8],
-    object: &[u8],
-) -> Result<Vec<u8>, AllocError> {
-    let mut part = Vec::from_slice(alloc, head)?;
-    part.extend_from_slice(range)?;
-    part.extend_from_slice(index)?;
-    part.extend_from_slice(object)?;
-    Ok(part)
+/// The part is not read, since its header at octet 0 has this fault.
+fn check_refused(rt: &(impl Abort + AllocGlobal), part: &[u8], why: Why) {
+    let fault = ObjectFault { why, place: 0 };
+    assert_eq!(rt; headers(rt.alloc(), part).err(), Some(fault), "{part:?}");
 }
 
-/// A part with one header lacks data where its last octet is missing.
-fn check_cut(rt: &(impl Abort + AllocGlobal), part: &[u8]) -> Result<(), Fail> {
-    if let Some((_, cut)) = part.split_last() {
-        let fault = fault_of(Why::ShortData, 0);
-        assert_eq!(rt; headers(rt.alloc(), cut).err(), Some(fault), "{part:?}");
-    }
+/// The part is read as this header alone.
+fn check_read(
+    rt: &(impl Abort + AllocGlobal),
+    part: &[u8],
+    header: Header,
+) -> Result<(), ObjectFault> {
+    let found = headers(rt.alloc(), part)?;
+    assert_eq!(rt; found.as_slice(), [header].as_slice(), "{part:?}");
     Ok(())
 }
 
-/// A row of each table: the object is read under the qualifier, not read without its last octet, and refused where
-/// it may not stand under the code.
-fn check_object(
-    rt: &(impl Abort + AllocGlobal),
-    row: (u8, u8, Size, &'static [u8], &'static [u8]),
-    qualifier: (u8, &'static [u8], &'static [u8], u16, u8),
-) -> Result<(), Fail> {
-    let (group, variation, _, codes, object) = row;
-    let (code, range, index, first, prefix) = qualifier;
-    let head = [group, variation, code];
-    let part = part_of(rt.alloc(), &head, range, index, object)?;
-    let read = headers(rt.alloc(), &part);
-    if !codes.contains(&code) {
-        let fault = fault_of(Why::UnknownQualifier, 0);
-        assert_eq!(rt; read.err(), Some(fault), "{group} {variation} {code:02X}");
-        return Ok(());
-    }
-    let header = Header {
+/// The header of one object.
+fn header_of(object: &Object, qualifier: &Qualifier) -> Header {
+    let (group, variation, _, _, _) = *object;
+    let (_, range, _, first, prefix, _) = *qualifier;
+    Header {
         group,
         variation,
         first,
@@ -260,32 +221,55 @@ fn check_object(
         prefix,
         place: 0,
         start: 3 + range.len(),
-    };
-    let found = read?;
-    assert_eq!(rt;
-        found.as_slice(),
-        [header].as_slice(),
-        "{group} {variation} {code:02X}"
-    );
-    check_cut(rt, &part)
+    }
 }
 
-fn fault_of(why: Why, place: usize) -> ObjectFault {
-    ObjectFault { why, place }
+/// The object is read under the qualifier, and lacks data without its last octet.
+fn check_known(
+    rt: &(impl Abort + AllocGlobal),
+    part: &[u8],
+    header: Header,
+) -> Result<(), ObjectFault> {
+    if let Some((_, cut)) = part.split_last() {
+        check_refused(rt, cut, Why::ShortData);
+    }
+    check_read(rt, part, header)
+}
+
+/// A row of each table: the object is read under the qualifier, or refused where it may not stand under its code.
+fn check_object(
+    rt: &(impl Abort + AllocGlobal),
+    object: &Object,
+    qualifier: &Qualifier,
+) -> Result<(), Fail> {
+    let (group, variation, _, codes, octets) = *object;
+    let part = part_of(rt.alloc(), b"", group, variation, qualifier, octets)?;
+    if codes.contains(&qualifier.0) {
+        check_known(rt, &part, header_of(object, qualifier))?;
+    } else {
+        check_refused(rt, &part, Why::UnknownQualifier);
+    }
+    Ok(())
+}
+
+/// A row has its size, and is read under its qualifiers.
+fn check_row(rt: &(impl Abort + AllocGlobal), object: &Object) -> Result<(), Fail> {
+    let (group, variation, size, _, _) = *object;
+    assert_eq!(rt;
+        length_of(group, variation),
+        Some(size),
+        "{group} {variation}"
+    );
+    for qualifier in QUALIFIERS {
+        check_object(rt, object, qualifier)?;
+    }
+    Ok(())
 }
 
 #[test]
 fn every_object_is_read_under_its_qualifiers(rt: HostRuntime) -> Result<(), Fail> {
-    for row in OBJECTS {
-        let (group, variation, size, _, _) = row;
-        assert_eq!(rt;
-            length_of(group, variation),
-            Some(size),
-            "{group} {variation}"
-        );
-        for qualifier in QUALIFIERS {
-            check_object(&rt, row, qualifier)?;
-        }
+    for object in OBJECTS {
+        check_row(&rt, object)?;
     }
     Ok(())
 }
@@ -305,26 +289,31 @@ fn no_other_object_is_known(rt: HostRuntime) -> Result<(), Fail> {
     Ok(())
 }
 
+/// A header of packed objects.
+const fn packed(group: u8, first: u16, count: u32, place: usize, start: usize) -> Header {
+    Header {
+        group,
+        variation: 1,
+        first,
+        count,
+        prefix: 0,
+        place,
+        start,
+    }
+}
+
 #[test]
 fn packed_objects_fill_octets_up(rt: HostRuntime) -> Result<(), Fail> {
     // Inputs 3 to 12 in two octets, then double-bit inputs 0 to 4 in two, then one input behind them.
     let part =
         b"\x01\x01\x00\x03\x0C\x55\xFE\x03\x01\x00\x00\x04\xE4\x01\x01\x01\x01\xFF\xFF\xFF\xFF\x01";
-    let rows = [(1, 3, 10, 0, 5), (3, 0, 5, 7, 12), (1, 65535, 1, 14, 21)];
     let found = headers(rt.alloc(), part)?;
-    assert_eq!(rt; found.len(), 3);
-    for (header, (group, first, count, place, start)) in found.iter().zip(rows) {
-        let wanted = Header {
-            group,
-            variation: 1,
-            first,
-            count,
-            prefix: 0,
-            place,
-            start,
-        };
-        assert_eq!(rt; *header, wanted);
-    }
+    let wanted = [
+        packed(1, 3, 10, 0, 5),
+        packed(3, 0, 5, 7, 12),
+        packed(1, 65535, 1, 14, 21),
+    ];
+    assert_eq!(rt; found.as_slice(), wanted.as_slice());
     Ok(())
 }
 
@@ -336,39 +325,46 @@ fn told(alloc: Global, part: &[u8]) -> Result<String, AllocError> {
     }
 }
 
+/// Parts, and the text of the fault of each.
+const FAULTS: &[(&[u8], &str)] = &[
+    (b"\x02", "3 ShortRange at 0"),
+    (b"\x02\x01", "3 ShortRange at 0"),
+    (b"\xC8\x01", "3 ShortRange at 0"),
+    (b"\xC8\x01\x06", "1 UnknownObject at 0"),
+    (b"\x6E\x00\x00", "1 UnknownObject at 0"),
+    (b"\x02\x04\x00\x05\x04", "1 UnknownObject at 0"),
+    (b"\x02\x01\x06", "2 UnknownQualifier at 0"),
+    (b"\x33\x01\x17\x00", "2 UnknownQualifier at 0"),
+    (b"\x01\x01\x17\x00", "2 UnknownQualifier at 0"),
+    (b"\x02\x01\x07\x01\x81", "2 UnknownQualifier at 0"),
+    (b"\x02\x01\x17", "3 ShortRange at 0"),
+    (b"\x01\x02\x01\x05\x00\x04", "3 ShortRange at 0"),
+    (b"\x02\x01\x17\x00\x33\x01\x08\x01", "3 ShortRange at 4"),
+    (b"\x01\x02\x00\x05\x04", "4 StopBeforeStart at 0"),
+    (b"\x01\x02\x01\x00\x01\xFF\x00", "4 StopBeforeStart at 0"),
+    (b"\x01\x02\x00\x05\x06\x81", "5 ShortData at 0"),
+    (b"\x03\x01\x00\x00\x04\xE4", "5 ShortData at 0"),
+    (
+        b"\x02\x01\x17\x00\x16\x01\x28\x01\x00\x05\x00\x01\x00\x00\x00",
+        "5 ShortData at 4",
+    ),
+    (b"\x33\x02\x07\x00\x01", "3 ShortRange at 4"),
+    (
+        b"\x1E\x01\x00\x00\x00\x01\x0A\x00\x00\x00\x1E\x05\x00\x01\x01\x01\x00\x00\x80\x3F\xC8\x01\x00\x00\x00\x00",
+        "1 UnknownObject at 20",
+    ),
+];
+
+fn check_fault(rt: &(impl Abort + AllocGlobal), part: &[u8], wanted: &str) -> Result<(), Fail> {
+    let text = told(rt.alloc(), part)?;
+    assert_eq!(rt; text.as_str(), wanted);
+    Ok(())
+}
+
 #[test]
 fn faults_are_told(rt: HostRuntime) -> Result<(), Fail> {
-    let rows: [(&[u8], &str); 20] = [
-        (b"\x02", "3 ShortRange at 0"),
-        (b"\x02\x01", "3 ShortRange at 0"),
-        (b"\xC8\x01", "3 ShortRange at 0"),
-        (b"\xC8\x01\x06", "1 UnknownObject at 0"),
-        (b"\x6E\x00\x00", "1 UnknownObject at 0"),
-        (b"\x02\x04\x00\x05\x04", "1 UnknownObject at 0"),
-        (b"\x02\x01\x06", "2 UnknownQualifier at 0"),
-        (b"\x33\x01\x17\x00", "2 UnknownQualifier at 0"),
-        (b"\x01\x01\x17\x00", "2 UnknownQualifier at 0"),
-        (b"\x02\x01\x07\x01\x81", "2 UnknownQualifier at 0"),
-        (b"\x02\x01\x17", "3 ShortRange at 0"),
-        (b"\x01\x02\x01\x05\x00\x04", "3 ShortRange at 0"),
-        (b"\x02\x01\x17\x00\x33\x01\x08\x01", "3 ShortRange at 4"),
-        (b"\x01\x02\x00\x05\x04", "4 StopBeforeStart at 0"),
-        (b"\x01\x02\x01\x00\x01\xFF\x00", "4 StopBeforeStart at 0"),
-        (b"\x01\x02\x00\x05\x06\x81", "5 ShortData at 0"),
-        (b"\x03\x01\x00\x00\x04\xE4", "5 ShortData at 0"),
-        (
-            b"\x02\x01\x17\x00\x16\x01\x28\x01\x00\x05\x00\x01\x00\x00\x00",
-            "5 ShortData at 4",
-        ),
-        (b"\x33\x02\x07\x00\x01", "3 ShortRange at 4"),
-        (
-            b"\x1E\x01\x00\x00\x00\x01\x0A\x00\x00\x00\x1E\x05\x00\x01\x01\x01\x00\x00\x80\x3F\xC8\x01\x00\x00\x00\x00",
-            "1 UnknownObject at 20",
-        ),
-    ];
-    for (part, wanted) in rows {
-        let text = told(rt.alloc(), part)?;
-        assert_eq!(rt; text.as_str(), wanted);
+    for (part, wanted) in FAULTS {
+        check_fault(&rt, part, wanted)?;
     }
     Ok(())
 }
@@ -396,8 +392,7 @@ fn a_further_header_is_too_many(rt: HostRuntime) -> Result<(), Fail> {
     let rows: [&[u8]; 3] = [b"\x33\x02\x07\x00", b"\xC8\x01\x06\x00", b"\xC8"];
     for rest in rows {
         let part = empty_headers(rt.alloc(), 512, rest)?;
-        let text = told(rt.alloc(), &part)?;
-        assert_eq!(rt; text.as_str(), "6 TooMany at 2048");
+        check_fault(&rt, &part, "6 TooMany at 2048")?;
     }
     Ok(())
 }

@@ -1,8 +1,10 @@
 //! Worked examples through the layers, with values from outside.
 
+use dnp_app::Response;
 use dnp_receive::{fragments_of, responses_of};
-use gw_model::{Kind, PointKey, Raw, Stamp};
-use std::alloc::Global;
+use gw_model::{Kind, PointKey, Raw, Report, Stamp};
+use std::alloc::{AllocError, Global};
+use std::process::Abort;
 use std::test::Fail;
 
 /// The gateway's address.
@@ -46,78 +48,114 @@ const EVENT_FRAME: [u8; 31] = [
     0x02, 0x17, 0x01, 0x05, 0x81, 0x00, 0x68, 0xE5, 0xCF, 0x8B, 0x94, 0x03, 0x01, 0xA1, 0xC9,
 ];
 
-/// The fragments of a stream that comes octet by octet.
-fn octet_by_octet(alloc: Global, stream: &[u8]) -> Result<Vec<Vec<u8>>, Fail> {
+/// A stream in pieces of one octet.
+fn octet_by_octet(alloc: Global, stream: &[u8]) -> Result<Vec<&[u8]>, AllocError> {
     let mut pieces = Vec::new(alloc);
     for octet in stream.chunks(1) {
         pieces.push(octet)?;
     }
-    Ok(fragments_of(alloc, pieces.as_slice(), OWN, PEER)?)
+    Ok(pieces)
 }
 
-#[test]
-fn frame_octet_by_octet(rt: HostRuntime) -> Result<(), Fail> {
-    let fragments = octet_by_octet(rt.alloc(), &EVENT_FRAME)?;
-    assert_eq!(rt; fragments.len(), 1);
-    assert_eq!(rt; fragments[0].as_slice(), EVENT.as_slice());
-    // The frame goes from a master, and carries nothing.
-    assert!(rt; octet_by_octet(rt.alloc(), &RESET)?.is_empty());
-    assert!(rt; fragments_of(rt.alloc(), &[&RESET], 1, 1024)?.is_empty());
+fn are_fragments(found: &[Vec<u8>], wanted: &[&[u8]]) -> bool {
+    for (place, octets) in wanted.iter().enumerate() {
+        match found.get(place) {
+            Some(fragment) if fragment.as_slice() == *octets => {}
+            _ => return false,
+        }
+    }
+    found.len() == wanted.len()
+}
+
+/// The pieces of the outstation's stream hold these fragments.
+fn check_fragments(
+    rt: &(impl Abort + AllocGlobal),
+    pieces: &[&[u8]],
+    wanted: &[&[u8]],
+) -> Result<(), Fail> {
+    let found = fragments_of(rt.alloc(), pieces, OWN, PEER)?;
+    assert!(rt; are_fragments(&found, wanted), "{found:?}");
+    Ok(())
+}
+
+/// The pieces hold no fragment between these addresses.
+fn check_none(
+    rt: &(impl Abort + AllocGlobal),
+    pieces: &[&[u8]],
+    own: u16,
+    peer: u16,
+) -> Result<(), Fail> {
+    let found = fragments_of(rt.alloc(), pieces, own, peer)?;
+    assert!(rt; found.is_empty(), "{found:?}");
     Ok(())
 }
 
 #[test]
-fn response_octet_by_octet(rt: HostRuntime) -> Result<(), Fail> {
-    let mut pieces = Vec::new(rt.alloc());
-    for octet in EVENT_FRAME.chunks(1) {
-        pieces.push(octet)?;
+fn frame_octet_by_octet(rt: HostRuntime) -> Result<(), Fail> {
+    check_fragments(&rt, &octet_by_octet(rt.alloc(), &EVENT_FRAME)?, &[&EVENT])?;
+    // The frame goes from a master, and carries nothing.
+    check_fragments(&rt, &octet_by_octet(rt.alloc(), &RESET)?, &[])?;
+    check_none(&rt, &[&RESET], 1, 1024)
+}
+
+/// They are one response, that of `EVENT`, of this outstation.
+fn are_event(responses: &[Response], outstation: u8) -> bool {
+    match responses {
+        [response] => response.outstation() == outstation && response.octets() == EVENT.as_slice(),
+        _ => false,
     }
-    let responses = responses_of(rt.alloc(), 3, pieces.as_slice(), OWN, PEER)?;
-    assert_eq!(rt; responses.len(), 1);
-    assert_eq!(rt; responses[0].outstation(), 3);
-    assert_eq!(rt; responses[0].octets(), EVENT.as_slice());
-    let reports = responses[0].reports();
-    assert_eq!(rt; reports.len(), 1);
+}
+
+/// They are one report, that of `EVENT` of outstation 3.
+fn tell_event(reports: &[Report]) -> bool {
     let key = PointKey {
         outstation: 3,
         kind: Kind::Binary,
         index: 5,
     };
-    assert_eq!(rt; reports[0].key, key);
-    assert_eq!(rt; reports[0].raw, Raw::Bit(true));
-    assert_eq!(rt; reports[0].stamp, Stamp::At(1_700_000_000_000));
-    // Fragments that are no responses are left out.
+    match reports {
+        [report] => {
+            report.key == key
+                && report.raw == Raw::Bit(true)
+                && report.stamp == Stamp::At(1_700_000_000_000)
+        }
+        _ => false,
+    }
+}
+
+#[test]
+fn response_octet_by_octet(rt: HostRuntime) -> Result<(), Fail> {
+    let pieces = octet_by_octet(rt.alloc(), &EVENT_FRAME)?;
+    let responses = responses_of(rt.alloc(), 3, &pieces, OWN, PEER)?;
+    assert!(rt; are_event(&responses, 3));
+    for response in responses.iter() {
+        assert!(rt; tell_event(response.reports()));
+    }
+    Ok(())
+}
+
+#[test]
+fn other_fragments_are_left_out(rt: HostRuntime) -> Result<(), Fail> {
     let pieces = [THREE.as_slice(), EVENT_FRAME.as_slice(), FIVE.as_slice()];
     let responses = responses_of(rt.alloc(), 0, &pieces, OWN, PEER)?;
-    assert_eq!(rt; responses.len(), 1);
-    assert_eq!(rt; responses[0].octets(), EVENT.as_slice());
+    assert!(rt; are_event(&responses, 0));
     Ok(())
 }
 
 #[test]
 fn resynchronise(rt: HostRuntime) -> Result<(), Fail> {
     let pieces = [&RESET[..6], &RESET, &EVENT_FRAME[..6], &EVENT_FRAME];
-    let fragments = fragments_of(rt.alloc(), &pieces, OWN, PEER)?;
-    assert_eq!(rt; fragments.len(), 1);
-    assert_eq!(rt; fragments[0].as_slice(), EVENT.as_slice());
-    Ok(())
+    check_fragments(&rt, &pieces, &[&EVENT])
 }
 
 #[test]
 fn segments(rt: HostRuntime) -> Result<(), Fail> {
-    let fragments = octet_by_octet(rt.alloc(), &THREE)?;
-    assert_eq!(rt; fragments.len(), 1);
-    assert_eq!(rt; fragments[0].as_slice(), [0xAA, 0xBB, 0xCC].as_slice());
-    let fragments = octet_by_octet(rt.alloc(), &FIVE)?;
-    assert_eq!(rt; fragments.len(), 1);
-    assert_eq!(rt; fragments[0].as_slice(), [0xDD].as_slice());
+    let three: &[u8] = &[0xAA, 0xBB, 0xCC];
+    check_fragments(&rt, &octet_by_octet(rt.alloc(), &THREE)?, &[three])?;
+    check_fragments(&rt, &octet_by_octet(rt.alloc(), &FIVE)?, &[&[0xDD]])?;
     // Several in one piece, and a frame from elsewhere within a fragment.
     let pieces = [&THREE[..20], &THREE[20..28], &STRANGER, &THREE[28..], &FIVE];
-    let fragments = fragments_of(rt.alloc(), &pieces, OWN, PEER)?;
-    assert_eq!(rt; fragments.len(), 2);
-    assert_eq!(rt; fragments[0].as_slice(), [0xAA, 0xBB, 0xCC].as_slice());
-    assert_eq!(rt; fragments[1].as_slice(), [0xDD].as_slice());
-    assert!(rt; fragments_of(rt.alloc(), &pieces, OWN, 3)?.is_empty());
-    assert!(rt; fragments_of(rt.alloc(), &[], OWN, PEER)?.is_empty());
-    Ok(())
+    check_fragments(&rt, &pieces, &[three, &[0xDD]])?;
+    check_none(&rt, &pieces, OWN, 3)?;
+    check_fragments(&rt, &[], &[])
 }

@@ -1,6 +1,7 @@
 //! The transport function: segments one by one, and the segments of a fragment.
 
 use dnp_transport::{Assembler, DropCause, FRAGMENT_LIMIT, Taken, segments};
+use std::process::Abort;
 use std::test::Fail;
 
 #[derive(Clone, Copy, Debug, PartialEq, Eq)]
@@ -18,46 +19,64 @@ fn seen_of(taken: &Taken) -> Told<'_> {
     }
 }
 
+/// The assembler answers a segment so.
+fn check_segment(
+    rt: &impl Abort,
+    assembler: &mut Assembler,
+    segment: &[u8],
+    answer: Told<'_>,
+) -> Result<(), Fail> {
+    let taken = assembler.segment(segment)?;
+    assert!(rt; seen_of(&taken) == answer, "{answer:?}");
+    Ok(())
+}
+
+const ANSWERS: &[(&[u8], Told<'static>)] = &[
+    (&[0x7E, 0xAA], Told::More),
+    (&[0x3F, 0xBB], Told::More),
+    (&[0x80, 0xCC], Told::Fragment(&[0xAA, 0xBB, 0xCC])),
+    (&[0x41, 0xAA], Told::More),
+    (&[0x83, 0xBB], Told::Dropped(DropCause::Gap)),
+    (&[0x84, 0xCC], Told::Dropped(DropCause::Lone)),
+    (&[0xC6], Told::Dropped(DropCause::Empty)),
+    (&[0xC5, 0xDD], Told::Fragment(&[0xDD])),
+];
+
 #[test]
 fn segments_one_by_one(rt: HostRuntime) -> Result<(), Fail> {
-    let wanted = [
-        (&[0x7E, 0xAA][..], Told::More),
-        (&[0x3F, 0xBB][..], Told::More),
-        (&[0x80, 0xCC][..], Told::Fragment(&[0xAA, 0xBB, 0xCC][..])),
-        (&[0x41, 0xAA][..], Told::More),
-        (&[0x83, 0xBB][..], Told::Dropped(DropCause::Gap)),
-        (&[0x84, 0xCC][..], Told::Dropped(DropCause::Lone)),
-        (&[0xC6][..], Told::Dropped(DropCause::Empty)),
-        (&[0xC5, 0xDD][..], Told::Fragment(&[0xDD][..])),
-    ];
     let mut assembler = Assembler::new(rt.alloc());
-    for (segment, answer) in wanted {
-        let taken = assembler.segment(segment)?;
-        assert!(rt; seen_of(&taken) == answer);
+    for (segment, answer) in ANSWERS {
+        check_segment(&rt, &mut assembler, segment, *answer)?;
     }
     Ok(())
 }
 
-/// Eight segments of 249 octets, and a last one.
+/// A segment of 249 octets.
+fn full_segment(header: u8) -> [u8; 250] {
+    let mut segment = [7; 250];
+    segment[0] = header;
+    segment
+}
+
+/// The answer to so many octets of a segment, after eight segments of 249 octets.
+fn check_last(
+    rt: &(impl Abort + AllocGlobal),
+    octets: usize,
+    answer: Told<'_>,
+) -> Result<(), Fail> {
+    let mut assembler = Assembler::new(rt.alloc());
+    for header in [0x40, 1, 2, 3, 4, 5, 6, 7] {
+        check_segment(rt, &mut assembler, &full_segment(header), Told::More)?;
+    }
+    let last = full_segment(0x88);
+    let last = last.get(..=octets).unwrap_or_default();
+    check_segment(rt, &mut assembler, last, answer)
+}
+
 #[test]
 fn longest_fragment(rt: HostRuntime) -> Result<(), Fail> {
-    let wanted = [
-        (56, Told::Fragment(&[7; FRAGMENT_LIMIT][..])),
-        (57, Told::Dropped(DropCause::TooLong)),
-    ];
-    for (last, answer) in wanted {
-        let mut assembler = Assembler::new(rt.alloc());
-        let mut segment = [7u8; 250];
-        for number in 0..8u8 {
-            segment[0] = if number == 0 { 0x40 } else { number };
-            let taken = assembler.segment(&segment)?;
-            assert!(rt; seen_of(&taken) == Told::More);
-        }
-        segment[0] = 0x88;
-        let taken = assembler.segment(&segment[..=last])?;
-        assert!(rt; seen_of(&taken) == answer);
-    }
-    Ok(())
+    check_last(&rt, 56, Told::Fragment(&[7; FRAGMENT_LIMIT]))?;
+    check_last(&rt, 57, Told::Dropped(DropCause::TooLong))
 }
 
 #[test]

@@ -1,14 +1,6 @@
 //! Objects of the object library by hand, and what each reports.
+use crate::parts::{ANY, COUNTS, INDEXES};
 use gw_model::{Raw, Stamp};
-
-/// The codes under which packed objects, common times, commands and all others may stand.
-pub const RANGES: &[u8] = &[0x00, 0x01];
-
-const COUNTS: &[u8] = &[0x07, 0x08];
-
-const INDEXES: &[u8] = &[0x17, 0x18, 0x27, 0x28];
-
-pub const ANY: &[u8] = &[0x00, 0x01, 0x17, 0x18, 0x27, 0x28];
 
 /// A common time of a synchronized clock: 1,700,000,005,000 milliseconds.
 pub const COMMON_TIME: &[u8] = b"\x33\x01\x07\x01\x88\x7B\xE5\xCF\x8B\x01";
@@ -20,7 +12,7 @@ const OWN_TIME: Stamp = Stamp::At(1_700_000_000_000);
 /// it reports behind that common time: value, flags and time.
 pub type Row = (u8, u8, &'static [u8], Raw, u8, Stamp);
 
-pub const BINARY_INPUTS: [Row; 5] = [
+pub const BINARY_INPUTS: &[Row] = &[
     (1, 1, b"\x01", Raw::Bit(true), 0x01, Stamp::Untimed),
     (1, 2, b"\x81", Raw::Bit(true), 0x81, Stamp::Untimed),
     (2, 1, b"\x01", Raw::Bit(false), 0x01, Stamp::Untimed),
@@ -42,7 +34,7 @@ pub const BINARY_INPUTS: [Row; 5] = [
     ),
 ];
 
-pub const DOUBLE_INPUTS: [Row; 5] = [
+pub const DOUBLE_INPUTS: &[Row] = &[
     (3, 1, b"\x02", Raw::Two(2), 0x01, Stamp::Untimed),
     (3, 2, b"\x41", Raw::Two(1), 0x41, Stamp::Untimed),
     (4, 1, b"\x81", Raw::Two(2), 0x81, Stamp::Untimed),
@@ -64,7 +56,7 @@ pub const DOUBLE_INPUTS: [Row; 5] = [
     ),
 ];
 
-pub const OUTPUTS: [Row; 4] = [
+pub const OUTPUTS: &[Row] = &[
     (10, 1, b"\x01", Raw::Bit(true), 0x01, Stamp::Untimed),
     (10, 2, b"\x00", Raw::Bit(false), 0x00, Stamp::Untimed),
     (11, 1, b"\x85", Raw::Bit(true), 0x85, Stamp::Untimed),
@@ -78,7 +70,7 @@ pub const OUTPUTS: [Row; 4] = [
     ),
 ];
 
-pub const COUNTERS: [Row; 8] = [
+pub const COUNTERS: &[Row] = &[
     (
         20,
         1,
@@ -138,7 +130,7 @@ pub const COUNTERS: [Row; 8] = [
     ),
 ];
 
-pub const ANALOGS: [Row; 8] = [
+pub const ANALOGS: &[Row] = &[
     (
         30,
         1,
@@ -198,8 +190,11 @@ pub const ANALOGS: [Row; 8] = [
     ),
 ];
 
-/// Echoes, common times and objects that are stepped over: group, variation, codes, and the octets of one object.
-pub const SILENT: [(u8, u8, &[u8], &[u8]); 37] = [
+/// Group, variation, codes, and the octets of one object.
+pub type Object = (u8, u8, &'static [u8], &'static [u8]);
+
+/// Echoes, common times and objects that are stepped over.
+pub const SILENT: &[Object] = &[
     (
         12,
         1,
@@ -252,16 +247,4 @@ pub const SILENT: [(u8, u8, &[u8], &[u8]); 37] = [
     (110, 1, ANY, b"\x41"),
     (110, 5, ANY, b"\x48\x65\x6C\x6C\x6F"),
     (111, 3, ANY, b"\x61\x62\x63"),
-];
-
-/// A qualifier code, the range field of one object, its index prefix, and the index.
-pub const QUALIFIERS: [(u8, &[u8], &[u8], u16); 8] = [
-    (0x00, b"\x05\x05", b"", 5),
-    (0x01, b"\x05\x01\x05\x01", b"", 261),
-    (0x07, b"\x01", b"", 0),
-    (0x08, b"\x01\x00", b"", 0),
-    (0x17, b"\x01", b"\x05", 5),
-    (0x18, b"\x01\x00", b"\x05", 5),
-    (0x27, b"\x01", b"\x05\x01", 261),
-    (0x28, b"\x01\x00", b"\x05\x01", 261),
 ];
