@@ -1,8 +1,3 @@
-pub mod Pictures
-pub mod FateLemmas
-pub mod Tied
-pub mod StepTies
-pub mod FragmentTies
-pub mod Runs
+pub mod Places
 pub mod Seats
 pub mod Taking

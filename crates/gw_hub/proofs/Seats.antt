@@ -1,53 +1,54 @@
 -- A write to one place of the clients, and a walk over all of them.
-use Rattle.std.proofs.Common.{◌≡◌, ℕ, zero, suc, ◌+◌, ◌<◌, ◌≤◌, List, [], ◌∷◌, ◌++◌, map, take, drop, length, get_or, Option, None, refl, sym, ap, subst, ◌∙◌, arith}
+use Rattle.std.proofs.Common.{◌≡◌, ℕ, zero, suc, ◌+◌, ◌<◌, ◌≤◌, List, [], ◌∷◌, ◌++◌, map, take, drop, length, get_or, None, refl, sym, ap, subst, ◌∙◌, arith}
 use Rattle.std.specs.Prelude.{slice_get}
 use Rattle.std.specs.List.{AllByRecursion}
 use Rattle.std.proofs.Math.ListN.{set}
 use Rattle.std.proofs.lemmas.List.Edits.{map_over_more}
 use Rattle.gw_model.specs.Places.{change}
-use Rattle.gw_hub.specs.State.{Link}
-use Rattle.gw_hub.specs.Seats.{Seat, link_of, links_of}
+use Rattle.gw_station.specs.Client.{Client}
+use Rattle.gw_station.specs.Seat.{Seat}
+use Rattle.gw_hub.specs.Clients.{client_of, clients_of}
 use Rattle.gw_picture.proofs.Lists.{change-past}
 
-pub links-length : (ys : List (Option Seat)) → length (links_of ys) ≡ length ys
-links-length [] = refl
-links-length (y ∷ ys) = ap suc (links-length ys)
+pub clients-length : (ys : List Seat) → length (clients_of ys) ≡ length ys
+clients-length [] = refl
+clients-length (y ∷ ys) = ap suc (clients-length ys)
 
-pub links-set : (n : ℕ) (y : Option Seat) (ys : List (Option Seat)) → links_of (set ys n y) ≡ set (links_of ys) n (link_of y)
-links-set n y [] = refl
-links-set zero y (x ∷ ys) = refl
-links-set (suc n) y (x ∷ ys) = ap (λ (zs : List (Option Link)). link_of x ∷ zs) (links-set n y ys)
+pub clients-set : (n : ℕ) (y : Seat) (ys : List Seat) → clients_of (set ys n y) ≡ set (clients_of ys) n (client_of y)
+clients-set n y [] = refl
+clients-set zero y (x ∷ ys) = refl
+clients-set (suc n) y (x ∷ ys) = ap (λ (zs : List Client). client_of x ∷ zs) (clients-set n y ys)
 
-links-get : (n : ℕ) (ys : List (Option Seat)) (d : Option Seat) (l : Option Link) → n < length ys → link_of (get_or ys n d) ≡ get_or (links_of ys) n l
-links-get n [] d l lt = absurd (omega arith)
-links-get zero (y ∷ ys) d l lt = refl
-links-get (suc n) (y ∷ ys) d l lt = links-get n ys d l (omega arith)
+clients-get : (n : ℕ) (ys : List Seat) (d : Seat) (l : Client) → n < length ys → client_of (get_or ys n d) ≡ get_or (clients_of ys) n l
+clients-get n [] d l lt = absurd (omega arith)
+clients-get zero (y ∷ ys) d l lt = refl
+clients-get (suc n) (y ∷ ys) d l lt = clients-get n ys d l (omega arith)
 
-set-changed : (n : ℕ) (f : Option Link → Option Link) (ys : List (Option Seat)) (d y : Option Seat) → n < length ys → link_of y ≡ f (link_of (get_or ys n d))
-    → links_of (set ys n y) ≡ change n f (links_of ys)
+set-changed : (n : ℕ) (f : Client → Client) (ys : List Seat) (d y : Seat) → n < length ys → client_of y ≡ f (client_of (get_or ys n d))
+    → clients_of (set ys n y) ≡ change n f (clients_of ys)
 set-changed n f [] d y lt e = absurd (omega arith)
-set-changed zero f (x ∷ ys) d y lt e = ap (λ (z : Option Link). z ∷ links_of ys) e
-set-changed (suc n) f (x ∷ ys) d y lt e = ap (λ (zs : List (Option Link)). link_of x ∷ zs) (set-changed n f ys d y (omega arith) e)
+set-changed zero f (x ∷ ys) d y lt e = ap (λ (z : Client). z ∷ clients_of ys) e
+set-changed (suc n) f (x ∷ ys) d y lt e = ap (λ (zs : List Client). client_of x ∷ zs) (set-changed n f ys d y (omega arith) e)
 
 -- one client changed
-pub one_changed : (n p : ℕ) (f : Option Link → Option Link) (ys : List (Option Seat)) (d y : Option Seat) → p ≡ n → p < length ys → link_of y ≡ f (link_of (get_or ys p d))
-    → links_of (set ys p y) ≡ change n f (links_of ys)
-one_changed n p f ys d y same lt e = set-changed p f ys d y lt e ∙ ap (λ (m : ℕ). change m f (links_of ys)) same
+pub one_changed : (n p : ℕ) (f : Client → Client) (ys : List Seat) (d y : Seat) → p ≡ n → p < length ys → client_of y ≡ f (client_of (get_or ys p d))
+    → clients_of (set ys p y) ≡ change n f (clients_of ys)
+one_changed n p f ys d y same lt e = set-changed p f ys d y lt e ∙ ap (λ (m : ℕ). change m f (clients_of ys)) same
 
 -- no such client
-pub past_changed : (n : ℕ) (f : Option Link → Option Link) (ys : List (Option Seat)) → length ys ≤ n → links_of ys ≡ change n f (links_of ys)
-past_changed n f ys le = sym (change-past n f (links_of ys) (omega (arith, links-length ys)))
+pub past_changed : (n : ℕ) (f : Client → Client) (ys : List Seat) → length ys ≤ n → clients_of ys ≡ change n f (clients_of ys)
+past_changed n f ys le = sym (change-past n f (clients_of ys) (omega (arith, clients-length ys)))
 
-pub past_none : (n : ℕ) (ys : List (Option Seat)) → length ys ≤ n → slice_get (links_of ys) n ≡ None
+pub past_none : (n : ℕ) (ys : List Seat) → length ys ≤ n → slice_get (clients_of ys) n ≡ None
 past_none n [] le = refl
 past_none zero (y ∷ ys) le = absurd (omega arith)
 past_none (suc n) (y ∷ ys) le = past_none n ys (omega arith)
 
 -- every client changed, one after the other
-pub next_changed : (n : ℕ) (f : Option Link → Option Link) (xs : List (Option Link)) (ys : List (Option Seat)) (d y : Option Seat) → n < length xs → n < length ys
-    → links_of ys ≡ map f (take n xs) ++ drop n xs → link_of y ≡ f (link_of (get_or ys n d)) → links_of (set ys n y) ≡ map f (take (n + 1) xs) ++ drop (n + 1) xs
+pub next_changed : (n : ℕ) (f : Client → Client) (xs : List Client) (ys : List Seat) (d y : Seat) → n < length xs → n < length ys
+    → clients_of ys ≡ map f (take n xs) ++ drop n xs → client_of y ≡ f (client_of (get_or ys n d)) → clients_of (set ys n y) ≡ map f (take (n + 1) xs) ++ drop (n + 1) xs
 next_changed n f xs ys d y lt within so_far e =
-    links-set n y ys ∙ (ap (λ (z : Option Link). set (links_of ys) n z) e ∙ map_over_more f xs (links_of ys) n (link_of (get_or ys n d)) lt so_far (links-get n ys d (link_of (get_or ys n d)) within))
+    clients-set n y ys ∙ (ap (λ (z : Client). set (clients_of ys) n z) e ∙ map_over_more f xs (clients_of ys) n (client_of (get_or ys n d)) lt so_far (clients-get n ys d (client_of (get_or ys n d)) within))
 
 -- the first n places have P, the others Q
 abbrev pub Halves : {A : Type 0} → (A → Type 0) → (A → Type 0) → ℕ → List A → Type 0
@@ -81,8 +82,8 @@ pub everywhere : {A : Type 0} (ys : List A) → AllByRecursion (λ _. Unit {0}) 
 everywhere [] = tt
 everywhere (y ∷ ys) = (tt, everywhere ys)
 
--- a client whose link stays
-pub same_links : (n : ℕ) (ys : List (Option Seat)) (d y : Option Seat) → link_of y ≡ link_of (get_or ys n d) → links_of (set ys n y) ≡ links_of ys
-same_links n [] d y e = refl
-same_links zero (x ∷ ys) d y e = ap (λ (z : Option Link). z ∷ links_of ys) e
-same_links (suc n) (x ∷ ys) d y e = ap (λ (zs : List (Option Link)). link_of x ∷ zs) (same_links n ys d y e)
+-- a client whose client stays
+pub same_clients : (n : ℕ) (ys : List Seat) (d y : Seat) → client_of y ≡ client_of (get_or ys n d) → clients_of (set ys n y) ≡ clients_of ys
+same_clients n [] d y e = refl
+same_clients zero (x ∷ ys) d y e = ap (λ (z : Client). z ∷ clients_of ys) e
+same_clients (suc n) (x ∷ ys) d y e = ap (λ (zs : List Client). client_of x ∷ zs) (same_clients n ys d y e)

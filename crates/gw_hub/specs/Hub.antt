@@ -1,13 +1,16 @@
 -- The hub, as its contracts see it: the settings that it runs with, and its state.
-use Rattle.std.specs.Prelude.{Bool, List, length, Result}
+use Rattle.std.specs.Prelude.{◌≡◌, ℕ, Bool, true, false, List, length, Result}
 use Rattle.gw_model.specs.declared.point.Report.{Report}
 use Rattle.gw_model.specs.Rows.{Setup}
+use Rattle.gw_model.specs.declared.observation.Observation.{Observation}
+use Rattle.gw_picture.specs.Picture.{news_of, news_of_report}
 use Rattle.dnp_app.specs.Response.{Fragment}
-use Rattle.gw_hub.specs.declared.step.Step.{Step}
-use Rattle.gw_hub.specs.declared.step.Reply.{Reply}
-use Rattle.gw_hub.specs.declared.step.StepFault.{StepFault}
-use Rattle.gw_hub.specs.State.{State}
-use Rattle.gw_hub.specs.Steps.{Allowed, can_rise, news_among, state_after_response, state_with_step}
+use Rattle.gw_steps.specs.declared.step.Step.{Step}
+use Rattle.gw_steps.specs.declared.step.Reply.{Reply}
+use Rattle.gw_steps.specs.declared.step.StepFault.{StepFault}
+use Rattle.gw_steps.specs.declared.step.StepFault.TheVariants.{Memory, Spent}
+use Rattle.gw_steps.specs.State.{State, Counts}
+use Rattle.gw_steps.specs.Steps.{Allowed, can_rise, raised, latest, parts_after_fragment}
 
 pub record Hub : Type 0 where
   pub setup : Setup
@@ -17,10 +20,39 @@ pub record Hub : Type 0 where
 abbrev pub Answers : Hub → Step → Result Reply StepFault → Hub → Type 0
 Answers old step reply new = Allowed old.setup old.state step reply new.state
 
+-- a step with so many news
+abbrev pub step_with : ℕ → Counts
+step_with news = record { steps = 1; news = news }
+
+-- the news that a report is after a picture: none or one; and those that reports taken in turn are
+abbrev pub news_of_one : Setup → List Observation → Report → List Observation
+news_of_one setup picture report = news_of_report setup.offset setup.rows picture report
+
+abbrev pub news_of_all : Setup → List Observation → List Report → List Observation
+news_of_all setup picture reports = news_of setup.offset setup.rows picture reports
+
+-- how many news these reports are
+abbrev pub news_among : Hub → List Report → ℕ
+news_among hub reports = length (news_of_all hub.setup hub.state.picture reports)
+
 -- the counts of a hub can rise by a step and by the news that these reports are
 abbrev pub can_take : Hub → List Report → Bool
-can_take hub reports = can_rise hub.state (length (news_among hub.setup hub.state.picture reports))
+can_take hub reports = can_rise hub.state.counts (step_with (news_among hub reports))
 
--- the state of a hub that took a response
-abbrev pub state_with_response : Hub → Fragment → State
-state_with_response hub response = state_with_step (state_after_response hub.setup hub.state response)
+-- a step with so many news was counted at a moment
+abbrev pub state_counting : ℕ → ℕ → State → State
+state_counting news moment s =
+    record s { counts = raised s.counts (step_with news); moment = latest s moment }
+
+-- the state of a hub that took a response at a moment
+abbrev pub state_with_response : Hub → ℕ → Fragment → State
+state_with_response hub moment response =
+    record (parts_after_fragment hub.setup hub.state (latest hub.state moment) response) {
+      counts = raised hub.state.counts (step_with (news_among hub response.reports));
+      moment = latest hub.state moment;
+    }
+
+-- why a response was not taken: the counts can't rise, or memory ran out
+abbrev pub IsTakingFault : Bool → StepFault → Type 0
+IsTakingFault rises Memory = rises ≡ true
+IsTakingFault rises fault = (fault ≡ Spent) × (rises ≡ false)

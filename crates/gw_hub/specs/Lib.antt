@@ -1,9 +1,2 @@
-pub mod State
-pub mod Steps
-pub mod History
-pub mod Fates
-pub mod Headline
-pub mod Sound
-pub mod Example
-pub mod Seats
+pub mod Clients
 pub mod Hub

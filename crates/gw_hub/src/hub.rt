@@ -1,26 +1,33 @@
 //! The core as one machine.
-ghost use Rattle.std.specs.Prelude.{◌≡◌, ◌<◌, ◌+◌, ℕ, [], length, map, true, false, IfOk, IfErr, IsTrue, OnOk, OnErr, slice_get};
+ghost use Rattle.std.specs.Prelude.{◌≡◌, ◌<◌, ◌+◌, ℕ, [], length, map, true, false, nat_lt, if◌then◌else◌, IfOk, IfErr, IsTrue, OnOk, OnErr, slice_get};
 ghost use Rattle.std.specs.List.{AllByRecursion};
-ghost use Rattle.gw_picture.specs.Picture.{picture_after, picture_after_report};
-ghost use Rattle.gw_hub.specs.State.{at_first};
-ghost use Rattle.gw_hub.specs.Steps.{Allowed, client_with_news, can_rise, news_among, news_of_one, state_with_step};
-ghost use Rattle.gw_hub.specs.Hub.{Answers, can_take, state_with_response};
-ghost use Rattle.gw_hub.specs.Seats.{connected_at, dropped_at, links_of, queued_at, HasRoom, IsTakingFault};
-ghost use Rattle.gw_hub.specs.Sound.{IsSendable, IsSound};
-ghost use Rattle.gw_hub.specs.History.{history};
-ghost use Rattle.gw_hub.specs.Headline.{AtEach, Holds, IsRun, state_after};
 ghost use Rattle.gw_model.specs.Rows.{is_point_map};
-ghost use Rattle.gw_hub.specs.declared.step.Step.TheVariants as steps;
-ghost use Rattle.gw_hub.specs.declared.step.StepFault.TheVariants.{Spent};
+ghost use Rattle.gw_picture.specs.Picture.{picture_after, picture_after_report};
+ghost use Rattle.gw_station.specs.Client.{client_with_news};
+ghost use Rattle.gw_station.specs.Seat.{HasRoom};
+ghost use Rattle.gw_station.specs.Sound.{IsSendable};
+ghost use Rattle.gw_steps.specs.declared.step.Step.TheVariants as steps;
+ghost use Rattle.gw_steps.specs.declared.step.StepFault.TheVariants.{NoClient, Spent};
+ghost use Rattle.gw_steps.specs.State.{at_first};
+ghost use Rattle.gw_steps.specs.Steps.{client_up, fault_unless_up, latest, Allowed};
+ghost use Rattle.gw_steps.specs.Runs.{history, state_after, AtEach, IsRun};
+ghost use Rattle.gw_steps.specs.Sound.{IsSound};
+ghost use Rattle.gw_news.specs.Confirms.{ConfirmsLast};
+ghost use Rattle.gw_news.specs.News.{Holds};
+ghost use Rattle.gw_news.specs.Numbers.{NumbersLast};
+ghost use Rattle.gw_hub.specs.Clients.{clients_of, dropped_at, queued_at, unless};
+ghost use Rattle.gw_hub.specs.Hub.{can_take, news_of_all, news_of_one, state_counting, state_with_response, Answers, IsTakingFault};
 
 use crate::clients::Clients;
+use crate::counts::Counts;
 use crate::outstations::Outstations;
-use crate::step::{Reply, Step, StepFault};
 use dnp_app::Response;
 use gw_model::{Memory, Observation, Report, Settings};
 use gw_picture::Picture;
+use gw_station::Face;
+use gw_steps::{Reply, Step, StepFault};
 use gw_time::Zone;
-use iec_apci::{Apdu, Signal};
+use iec_apci::Apdu;
 use std::alloc::Global;
 use std::marker::Model;
 
@@ -33,14 +40,15 @@ pub struct Hub {
     outstations: Outstations,
     picture: Picture,
     clients: Clients,
-    steps: u64,
-    news: u64,
+    counts: Counts,
+    /// The largest moment of a step that was made.
+    moment: u64,
 }
 
 impl Model for Hub {
     ghost use Rattle.gw_hub.specs.Hub.{Hub as Seen};
-    ghost use Rattle.gw_hub.specs.Seats.{links_of};
-    ghost use Rattle.gw_hub.specs.Sound.{IsSound};
+    ghost use Rattle.gw_steps.specs.Sound.{IsSound};
+    ghost use Rattle.gw_hub.specs.Clients.{clients_of};
 
     ghost Value = { Seen };
 
@@ -49,18 +57,18 @@ impl Model for Hub {
       state = record {
         outstations = h.outstations;
         picture = h.picture;
-        clients = links_of h.clients;
-        steps = h.steps;
-        news = h.news;
+        clients = clients_of h.clients;
+        counts = h.counts;
+        moment = h.moment;
       };
     } };
 
     ghost invariant = { λ h. IsSound h.settings.offset (record {
       outstations = h.outstations;
       picture = h.picture;
-      clients = links_of h.clients;
-      steps = h.steps;
-      news = h.news;
+      clients = clients_of h.clients;
+      counts = h.counts;
+      moment = h.moment;
     }) };
 }
 
@@ -71,15 +79,17 @@ impl Hub {
         ensures state { IfOk result (λ hub. hub.state ≡ at_first settings) }
         ensures settings { IsTrue (is_point_map settings.rows) × (settings.common_address < 65536) }
     {
+        let outstations = Outstations::new(alloc, settings.outstations())?;
         let picture = Picture::new(alloc, &settings)?;
+        let clients = Clients::new(alloc, settings.clients())?;
         Ok(Hub {
             alloc,
             settings,
-            outstations: Outstations::new(),
+            outstations,
             picture,
-            clients: Clients::new(),
-            steps: 0,
-            news: 0,
+            clients,
+            counts: Counts::new(),
+            moment: 0,
         })
     }
 
@@ -106,10 +116,11 @@ impl Hub {
 
     /// Makes steps one after the other on a new hub; gives it with a reply for each of them.
     ///
-    /// At each place of the list the picture is that of the log, and for each client's session the
-    /// observations meant by the spontaneous ASDUs put out since its STARTDT, followed by those queued, are
-    /// the news since then, in order, less those dropped; and a confirmation was given only with the news
-    /// put into the log, or for a repeated fragment.
+    /// These are a run of the step relation. At each place of the list the picture is that of the log, and for each
+    /// client's session the observations meant by the spontaneous ASDUs put out since its STARTDT, followed by those
+    /// queued, are the news since then, in order, less those dropped (`news`); a confirmation was given only with
+    /// the news put into the log, or for a repeated fragment (`confirms`); and the nth I format put out since a client
+    /// came up, counted from 0, has N(S) n modulo 32,768 (`numbers`).
     pub fn run(
         alloc: Global,
         settings: Settings,
@@ -120,7 +131,9 @@ impl Hub {
         ensures run { IfOk result (λ run. IsRun settings (history [] steps.items run.1.items)) }
         ensures state { IfOk result (λ run.
             run.0.state ≡ state_after settings (history [] steps.items run.1.items)) }
-        ensures headline { IfOk result (λ run. AtEach (Holds settings) (history [] steps.items run.1.items)) }
+        ensures news { IfOk result (λ run. AtEach (Holds settings) (history [] steps.items run.1.items)) }
+        ensures confirms { IfOk result (λ run. AtEach ConfirmsLast (history [] steps.items run.1.items)) }
+        ensures numbers { IfOk result (λ run. AtEach (NumbersLast settings) (history [] steps.items run.1.items)) }
     {
         let mut hub = Hub::new(alloc, settings)?;
         let mut replies = Vec::with_capacity(alloc, steps.len())?;
@@ -135,28 +148,48 @@ impl Hub {
         ensures step { Allowed self.old.setup self.old.state step.now result self.new.state }
         ensures setup { self.new.setup ≡ self.old.setup }
         // Each observation that is queued can be sent.
-        ensures sound { IsSound self.old.setup.offset self.old.state }
+        ensures sound { IsSound self.new.setup.offset self.new.state }
     {
+        let reply = match step {
+            Step::OutstationUp { outstation, moment } => self.outstation_up(*outstation, *moment),
+            Step::Fragment { response, moment } => self.fragment(response, *moment),
+            Step::ClientUp { client, moment } => self.client_up(*client, *moment),
+            Step::Frame {
+                client,
+                apdu,
+                moment,
+            } => self.frame(*client, apdu, *moment),
+            Step::Pump { client, moment } => self.pump(*client, *moment),
+        };
         // A function that reads a field may use in its proof what the type keeps.
         let _ = &self.clients;
-        match step {
-            Step::OutstationUp { outstation, .. } => self.outstation_up(*outstation),
-            Step::Fragment { response, .. } => self.fragment(response),
-            Step::ClientUp { client, .. } => self.client_up(*client),
-            Step::Frame { client, apdu, .. } => self.frame(*client, apdu),
-            Step::Pump { client, .. } => self.pump(*client),
+        reply
+    }
+
+    /// The largest moment so far, this one included.
+    fn latest(&self, moment: u64) -> u64
+        ensures { result ≡ latest self.now.state moment }
+    {
+        if self.moment < moment {
+            moment
+        } else {
+            self.moment
         }
     }
 
     /// Counts a step that brings no news.
-    fn count(&mut self) -> Result<(), StepFault>
-        ensures ok { OnOk result ((can_rise self.old.state 0 ≡ true)
-            × (self.new.state ≡ state_with_step self.old.state)) }
+    fn count(&mut self, moment: u64) -> Result<(), StepFault>
+        ensures ok { OnOk result ((can_take self.old [] ≡ true)
+            × (self.new.state ≡ state_counting 0 moment self.old.state)) }
         ensures err { IfErr result (λ fault. fault ≡ Spent) }
-        ensures spent { OnErr result ((can_rise self.old.state 0 ≡ false) × (self.new.state ≡ self.old.state)) }
+        ensures spent { OnErr result ((can_take self.old [] ≡ false) × (self.new.state ≡ self.old.state)) }
         ensures setup { self.new.setup ≡ self.old.setup }
     {
-        self.steps = self.steps.checked_add(1).ok_or(StepFault::Spent)?;
+        if !self.counts.can_rise(0) {
+            return Err(StepFault::Spent);
+        }
+        self.counts.raise(0);
+        self.moment = self.latest(moment);
         Ok(())
     }
 
@@ -164,54 +197,54 @@ impl Hub {
     fn can_rise(&self, reports: &[Report]) -> bool
         ensures { result ≡ can_take self.now reports.now }
     {
-        if self.steps == u64::MAX {
-            return false;
+        if self.counts.can_rise(reports.len() as u64) {
+            return true;
         }
-        match self.news.checked_add(reports.len() as u64) {
-            Some(_) => true,
-            None => {
-                let zone = Zone::of(&self.settings);
-                let news = self.picture.news(reports, &self.settings, &zone);
-                self.news.checked_add(news).is_some()
-            }
-        }
+        let zone = Zone::of(&self.settings);
+        let news = self.picture.news(reports, &self.settings, &zone);
+        self.counts.can_rise(news)
     }
 
-    fn outstation_up(&mut self, outstation: u8) -> Result<Reply, StepFault>
-        ensures step { (moment : ℕ) → Answers self.old (steps.OutstationUp outstation moment) result self.new }
+    fn outstation_up(&mut self, outstation: u8, moment: u64) -> Result<Reply, StepFault>
+        ensures step { Answers self.old (steps.OutstationUp outstation moment) result self.new }
         ensures setup { self.new.setup ≡ self.old.setup }
     {
         match self.outstations.get(outstation) {
             None => return Err(StepFault::NoOutstation),
-            Some(Some(_)) => return Err(StepFault::AlreadyUp),
-            Some(None) => {}
+            Some(master) => {
+                if master.is_up() {
+                    return Err(StepFault::AlreadyUp);
+                }
+            }
         }
-        self.count()?;
-        self.outstations.come_up(outstation);
+        self.count(moment)?;
+        self.outstations.come_up(outstation, self.moment);
         Ok(Reply::Done)
     }
 
-    fn fragment(&mut self, response: &Response) -> Result<Reply, StepFault>
-        ensures step { (moment : ℕ) → Answers self.old (steps.Fragment response.now moment) result self.new }
+    fn fragment(&mut self, response: &Response, moment: u64) -> Result<Reply, StepFault>
+        ensures step { Answers self.old (steps.Fragment response.now moment) result self.new }
         ensures setup { self.new.setup ≡ self.old.setup }
     {
-        let (verdict, accepts) = match self.outstations.get(response.outstation()) {
-            None => return Err(StepFault::NoOutstation),
-            Some(None) => return Err(StepFault::NotUp),
-            Some(Some(outstation)) => (outstation.judge(response), outstation.accepts(response)),
+        let Some(master) = self.outstations.get(response.outstation()) else {
+            return Err(StepFault::NoOutstation);
         };
-        if accepts {
-            self.accept(response)?;
+        if !master.is_up() {
+            return Err(StepFault::NotUp);
+        }
+        let verdict = master.judge(response);
+        if master.accepts(response) {
+            self.accept(response, moment)?;
         } else {
-            self.count()?;
+            self.count(moment)?;
         }
         Ok(Reply::Verdict(verdict))
     }
 
     /// Takes an accepted response. All room is made before anything changes.
-    fn accept(&mut self, response: &Response) -> Result<(), StepFault>
+    fn accept(&mut self, response: &Response, moment: u64) -> Result<(), StepFault>
         ensures ok { OnOk result ((can_take self.old response.now.reports ≡ true)
-            × (self.new.state ≡ state_with_response self.old response.now)) }
+            × (self.new.state ≡ state_with_response self.old moment response.now)) }
         ensures err { IfErr result (IsTakingFault (can_take self.old response.now.reports)) }
         ensures same { OnErr result (self.new.state ≡ self.old.state) }
         ensures setup { self.new.setup ≡ self.old.setup }
@@ -220,6 +253,7 @@ impl Hub {
         if !self.can_rise(reports) {
             return Err(StepFault::Spent);
         }
+        let moment = self.latest(moment);
         let octets = match Vec::from_slice(self.alloc, response.octets()) {
             Ok(octets) => octets,
             Err(_) => return Err(StepFault::Memory),
@@ -227,19 +261,21 @@ impl Hub {
         if self.clients.reserve(reports.len()).is_err() {
             return Err(StepFault::Memory);
         }
-        self.news += take_reports(
+        let news = take_reports(
             &mut self.picture,
             &mut self.clients,
             &self.settings,
             reports,
         );
-        self.outstations.accepted(response.outstation(), octets);
-        self.steps += 1;
+        self.outstations
+            .accepted(response.outstation(), octets, moment);
+        self.counts.raise(news);
+        self.moment = moment;
         Ok(())
     }
 
-    fn client_up(&mut self, client: u8) -> Result<Reply, StepFault>
-        ensures step { (moment : ℕ) → Answers self.old (steps.ClientUp client moment) result self.new }
+    fn client_up(&mut self, client: u8, moment: u64) -> Result<Reply, StepFault>
+        ensures step { Answers self.old (steps.ClientUp client moment) result self.new }
         ensures setup { self.new.setup ≡ self.old.setup }
     {
         match self.clients.presence(client) {
@@ -247,14 +283,14 @@ impl Hub {
             Some(true) => return Err(StepFault::AlreadyUp),
             Some(false) => {}
         }
-        self.count()?;
-        self.clients.come_up(client);
+        self.count(moment)?;
+        self.clients.come_up(client, self.moment);
         Ok(Reply::Done)
     }
 
-    /// Whether a client is up.
+    /// Whether a client is up, or why it isn't.
     fn connected(&self, client: u8) -> Result<(), StepFault>
-        ensures { result ≡ connected_at (slice_get self.now.state.clients client) }
+        ensures { result ≡ unless (fault_unless_up NoClient (client_up self.now.state client)) }
     {
         match self.clients.presence(client) {
             None => Err(StepFault::NoClient),
@@ -263,26 +299,26 @@ impl Hub {
         }
     }
 
-    fn frame(&mut self, client: u8, apdu: &Apdu) -> Result<Reply, StepFault>
-        ensures step { (moment : ℕ) → Answers self.old (steps.Frame client apdu.now moment) result self.new }
+    fn frame(&mut self, client: u8, apdu: &Apdu, moment: u64) -> Result<Reply, StepFault>
+        ensures step { Answers self.old (steps.Frame client apdu.now moment) result self.new }
         ensures setup { self.new.setup ≡ self.old.setup }
     {
         self.connected(client)?;
-        self.count()?;
-        match apdu {
-            Apdu::U(Signal::StartAct) => Ok(self.clients.start(self.alloc, client)),
-            _ => Ok(Reply::Taken),
-        }
+        self.count(moment)?;
+        Ok(self.clients.frame(client, apdu, self.moment))
     }
 
-    fn pump(&mut self, client: u8) -> Result<Reply, StepFault>
-        ensures step { (moment : ℕ) → Answers self.old (steps.Pump client moment) result self.new }
+    fn pump(&mut self, client: u8, moment: u64) -> Result<Reply, StepFault>
+        ensures step { Answers self.old (steps.Pump client moment) result self.new }
         ensures setup { self.new.setup ≡ self.old.setup }
     {
         self.connected(client)?;
-        self.count()?;
-        let common = self.settings.common_address();
-        Ok(self.clients.pump(client, common, &Zone::of(&self.settings)))
+        self.count(moment)?;
+        let face = Face {
+            common_address: self.settings.common_address(),
+            zone: Zone::of(&self.settings),
+        };
+        Ok(self.clients.pump(client, &face, self.moment))
     }
 }
 
@@ -296,8 +332,8 @@ fn take_report(
     requires { AllByRecursion (HasRoom 1) clients.old }
     ensures count { result ≡ length (news_of_one settings.now picture.old report.now) }
     ensures picture { picture.new ≡ picture_after_report settings.now.offset settings.now.rows picture.old report.now }
-    ensures links { links_of clients.new
-        ≡ map (client_with_news (news_of_one settings.now picture.old report.now)) (links_of clients.old) }
+    ensures clients { clients_of clients.new
+        ≡ map (client_with_news (news_of_one settings.now picture.old report.now)) (clients_of clients.old) }
     ensures room { (n : ℕ) → AllByRecursion (HasRoom (n + 1)) clients.old → AllByRecursion (HasRoom n) clients.new }
     ensures sendable { AllByRecursion (IsSendable settings.now.offset)
         (news_of_one settings.now picture.old report.now) }
@@ -319,12 +355,12 @@ fn take_reports(
     reports: &[Report],
 ) -> u64
     requires { AllByRecursion (HasRoom (length reports.now)) clients.old }
-    ensures count { result ≡ length (news_among settings.now picture.old reports.now) }
+    ensures count { result ≡ length (news_of_all settings.now picture.old reports.now) }
     ensures picture { picture.new ≡ picture_after settings.now.offset settings.now.rows picture.old reports.now }
-    ensures links { links_of clients.new
-        ≡ map (client_with_news (news_among settings.now picture.old reports.now)) (links_of clients.old) }
+    ensures clients { clients_of clients.new
+        ≡ map (client_with_news (news_of_all settings.now picture.old reports.now)) (clients_of clients.old) }
     ensures sendable { AllByRecursion (IsSendable settings.now.offset)
-        (news_among settings.now picture.old reports.now) }
+        (news_of_all settings.now picture.old reports.now) }
 {
     let mut news = 0;
     for report in reports {

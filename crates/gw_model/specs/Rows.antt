@@ -4,10 +4,14 @@ use Rattle.gw_model.specs.declared.point.PointKey.{PointKey}
 use Rattle.gw_model.specs.declared.row.Row.{Row}
 use Rattle.gw_model.specs.Keys.{same_key}
 
--- the station's common address, how many minutes its clocks are ahead of UTC, and the rows of the point map in order
 pub record Setup : Type 0 where
+  -- the station's common address, and how many minutes its clocks are ahead of UTC
   pub common_address : ℕ
   pub offset : ℤ
+  -- how many outstations there are, and how many clients there can be
+  pub outstations : ℕ
+  pub clients : ℕ
+  -- the rows of the point map, in order
   pub rows : List Row
 
 -- the first row for a key, with its position

@@ -12,6 +12,8 @@ use std::marker::Model;
 pub struct Settings {
     common_address: u16,
     offset_minutes: i16,
+    outstations: u8,
+    clients: u8,
     rows: [Row; 3],
 }
 
@@ -21,7 +23,13 @@ impl Model for Settings {
 
     ghost Value = { Setup };
 
-    ghost view = { λ s. record { common_address = s.common_address; offset = s.offset_minutes; rows = s.rows } };
+    ghost view = { λ s. record {
+      common_address = s.common_address;
+      offset = s.offset_minutes;
+      outstations = s.outstations;
+      clients = s.clients;
+      rows = s.rows;
+    } };
 
     ghost invariant = { λ s. IsTrue (is_point_map s.rows) × (s.common_address < 65536)
         × (negsuc 839 ≤ℤ s.offset_minutes) × (s.offset_minutes ≤ℤ pos 840) };
@@ -29,9 +37,11 @@ impl Model for Settings {
 
 impl Settings {
     /// One outstation with three points, which station 1 shows: binary input 5 as single-point 4101, analog
-    /// input 0 as scaled value 4201, and counter 0 as integrated total 4301. Its clocks show UTC.
+    /// input 0 as scaled value 4201, and counter 0 as integrated total 4301. Its clocks show UTC, and it has one
+    /// client.
     pub fn built_in() -> Settings
         ensures station { (result.common_address ≡ 1) × (result.offset ≡ pos 0) }
+        ensures counts { (result.outstations ≡ 1) × (result.clients ≡ 1) }
         ensures keys { map (λ row. row.key) result.rows
             ≡ record { outstation = 0; kind = Kind.Binary; index = 5 }
             ∷ record { outstation = 0; kind = Kind.Analog; index = 0 }
@@ -47,6 +57,8 @@ impl Settings {
         Settings {
             common_address: 1,
             offset_minutes: 0,
+            outstations: 1,
+            clients: 1,
             rows: [
                 Row {
                     key: key(Kind::Binary, 5),
@@ -81,6 +93,20 @@ impl Settings {
         ensures to { self.now.offset ≤ℤ pos 840 }
     {
         self.offset_minutes
+    }
+
+    /// How many outstations there are.
+    pub fn outstations(&self) -> u8
+        ensures { result ≡ self.now.outstations }
+    {
+        self.outstations
+    }
+
+    /// How many clients there can be.
+    pub fn clients(&self) -> u8
+        ensures { result ≡ self.now.clients }
+    {
+        self.clients
     }
 
     /// The rows of the point map, in order. No two have one key or one address; and the common address

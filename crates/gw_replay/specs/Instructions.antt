@@ -7,7 +7,7 @@ use Rattle.dnp_app.specs.Response.{Fragment, StoresHeader, response_of}
 use Rattle.iec_apci.specs.Apdu.{Unnumbered, apdu as spelling}
 use Rattle.iec_apci.specs.declared.apdu.Apdu.TheVariants.{U}
 use Rattle.iec_apci.specs.declared.apdu.Signal.TheVariants.{StartAct}
-use Rattle.gw_hub.specs.declared.step.Step.TheVariants as steps
+use Rattle.gw_steps.specs.declared.step.Step.TheVariants as steps
 use Rattle.gw_text.specs.Decimal.{number}
 use Rattle.gw_text.specs.Hex.{line_octets}
 use Rattle.gw_replay.specs.declared.instruction.Instruction.{Instruction}

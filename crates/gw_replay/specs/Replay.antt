@@ -3,9 +3,9 @@ use Rattle.std.specs.Prelude.{◌≡◌, ℕ, Bool, true, false, not, nat_lt, Li
 use Rattle.std.specs.Fmt.{decimal}
 use Rattle.gw_model.specs.Rows.{Setup}
 use Rattle.gw_hub.specs.Hub.{Hub}
-use Rattle.gw_hub.specs.State.{at_first}
-use Rattle.gw_hub.specs.Steps.{Allowed}
-use Rattle.gw_hub.specs.Seats.{queued_at, dropped_at}
+use Rattle.gw_steps.specs.State.{at_first}
+use Rattle.gw_steps.specs.Steps.{Allowed}
+use Rattle.gw_hub.specs.Clients.{queued_at, dropped_at}
 use Rattle.gw_input.specs.Lines.{AreAnswered, IsAnswered, lines_of}
 use Rattle.gw_text.specs.Text.{refusal_text}
 use Rattle.gw_replay.specs.declared.instruction.Instruction.{Instruction}

@@ -1,15 +1,15 @@
 -- The texts of replies.
 use Rattle.std.specs.Prelude.{ℕ, List, [], ◌∷◌, ◌++◌, take, codes, Option, Some, None, Result, Ok, Err}
-use Rattle.gw_hub.specs.declared.step.Reply.{Reply}
-use Rattle.gw_hub.specs.declared.step.Reply.TheVariants as replies
-use Rattle.gw_hub.specs.declared.step.Verdict.{Verdict}
-use Rattle.gw_hub.specs.declared.step.Verdict.TheVariants as verdicts
-use Rattle.gw_hub.specs.declared.step.Ignored.{Ignored}
-use Rattle.gw_hub.specs.declared.step.Ignored.TheVariants.{NoRequest}
-use Rattle.gw_hub.specs.declared.step.Why.{Why}
-use Rattle.gw_hub.specs.declared.step.Why.TheVariants.{Flooded}
-use Rattle.gw_hub.specs.declared.step.StepFault.{StepFault}
-use Rattle.gw_hub.specs.declared.step.StepFault.TheVariants.{NoOutstation, NoClient, NotUp, AlreadyUp, Memory, Spent}
+use Rattle.gw_steps.specs.declared.step.Reply.{Reply}
+use Rattle.gw_steps.specs.declared.step.Reply.TheVariants as replies
+use Rattle.dnp_master.specs.declared.verdict.Verdict.{Verdict}
+use Rattle.dnp_master.specs.declared.verdict.Verdict.TheVariants as verdicts
+use Rattle.dnp_master.specs.declared.verdict.Ignored.{Ignored}
+use Rattle.dnp_master.specs.declared.verdict.Ignored.TheVariants.{NoRequest}
+use Rattle.gw_station.specs.declared.event.Why.{Why}
+use Rattle.gw_station.specs.declared.event.Why.TheVariants.{Flooded}
+use Rattle.gw_steps.specs.declared.step.StepFault.{StepFault}
+use Rattle.gw_steps.specs.declared.step.StepFault.TheVariants.{NoOutstation, NoClient, NotUp, AlreadyUp, Memory, Spent}
 use Rattle.gw_text.specs.Hex.{spaced_digits}
 
 -- a verdict with the confirmation that is to be sent, where there is one

@@ -1,10 +1,9 @@
 ghost use Rattle.std.specs.Prelude.{◌≤◌, length};
 
 use dnp_app::read_response;
-use gw_hub::{
-    Apdu, Hub, Ignored, Reply, Signal, Step, StepFault, Verdict, news_format, start_confirmation,
-};
+use gw_hub::{Apdu, Hub, Ignored, Reply, Signal, Step, StepFault, Verdict};
 use gw_model::{Observation, Quality, Settings, Stamp, Value};
+use gw_station::{news_format, start_confirmation};
 use gw_time::Zone;
 use std::test::Fail;
 

@@ -1,15 +1,12 @@
-use Rattle.std.proofs.Common.{ap, arith}
-use Rattle.std.specs.Prelude.{Some, None}
-use Rattle.gw_hub.specs.State.{Link}
-use Rattle.gw_hub.specs.Steps.{new_link}
+use Rattle.std.proofs.Common.{arith}
+use Rattle.gw_station.specs.Client.{client_after_up}
 use Rattle.gw_hub.proofs.Seats.{one_changed, past_changed}
 use Rattle.gw_hub.proofs.clients.come_up_at.Goals as goal
 
-pub returns-then-position-connections : goal.returns-then-position-connections
-returns-then-position-connections c =
-    one_changed c.args.client c.from-position.result (λ _. Some new_link) c.args.connections.now None (Some c.new.result) c.from-position.ensures (omega (arith, c.if-position-connections.true))
-    (ap (λ (l : Link). Some l) c.new.ensures)
+pub returns-then-position-stations : goal.returns-then-position-stations
+returns-then-position-stations c =
+    one_changed c.args.client c.from-position.result (client_after_up c.args.moment) c.args.stations.now c.index-stations-position.result c.up.new.self c.from-position.ensures (omega (arith, c.if-position-stations.true)) c.up.ensures
 
-pub returns-else-position-connections : goal.returns-else-position-connections
-returns-else-position-connections c =
-    past_changed c.args.client (λ _. Some new_link) c.args.connections.now (omega (arith, c.from-position.ensures, c.if-position-connections.false))
+pub returns-else-position-stations : goal.returns-else-position-stations
+returns-else-position-stations c =
+    past_changed c.args.client (client_after_up c.args.moment) c.args.stations.now (omega (arith, c.from-position.ensures, c.if-position-stations.false))

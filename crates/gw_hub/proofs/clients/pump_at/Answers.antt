@@ -1,15 +1,17 @@
 use Rattle.std.proofs.Common.{ap, sym, arith}
-use Rattle.gw_hub.specs.Steps.{client_after_pump, pump_reply}
-use Rattle.gw_hub.specs.Seats.{reply_at}
+use Rattle.gw_station.specs.Pump.{client_after_pump, given}
+use Rattle.gw_steps.specs.Steps.{client_reply, reply_giving}
 use Rattle.gw_hub.proofs.Seats.{one_changed, past_changed, past_none}
 use Rattle.gw_hub.proofs.clients.pump_at.Goals as goal
 
-pub returns-then-position-connections-clause-links : goal.returns-then-position-connections-clause-links
-returns-then-position-connections-clause-links c =
-    one_changed c.args.client c.from-position.result client_after_pump c.args.connections.now c.index-connections-position.result c.pump_one.new.slot c.from-position.ensures (omega (arith, c.if-position-connections.true)) c.pump_one.ensures.link
+pub returns-then-position-stations-clause-clients : goal.returns-then-position-stations-clause-clients
+returns-then-position-stations-clause-clients c =
+    one_changed c.args.client c.from-position.result (client_after_pump c.args.moment) c.args.stations.now c.index-stations-position.result c.pump_one.new.station c.from-position.ensures (omega (arith, c.if-position-stations.true)) c.pump_one.ensures.client
 
-pub returns-else-position-connections-clause-reply : goal.returns-else-position-connections-clause-reply
-returns-else-position-connections-clause-reply c = sym (ap (reply_at (pump_reply c.args.zone.now.offset_minutes c.args.common)) (past_none c.args.client c.args.connections.now (omega (arith, c.from-position.ensures, c.if-position-connections.false))))
+pub returns-else-position-stations-clause-reply : goal.returns-else-position-stations-clause-reply
+returns-else-position-stations-clause-reply c =
+    sym (ap (client_reply (λ k. reply_giving (given c.args.face.now.zone.offset_minutes c.args.face.now.common_address k))) (past_none c.args.client c.args.stations.now (omega (arith, c.from-position.ensures, c.if-position-stations.false))))
 
-pub returns-else-position-connections-clause-links : goal.returns-else-position-connections-clause-links
-returns-else-position-connections-clause-links c = past_changed c.args.client client_after_pump c.args.connections.now (omega (arith, c.from-position.ensures, c.if-position-connections.false))
+pub returns-else-position-stations-clause-clients : goal.returns-else-position-stations-clause-clients
+returns-else-position-stations-clause-clients c =
+    past_changed c.args.client (client_after_pump c.args.moment) c.args.stations.now (omega (arith, c.from-position.ensures, c.if-position-stations.false))

@@ -1,14 +1,14 @@
 use Rattle.std.proofs.Common.{◌≡◌, ◌+◌, ◌-◌, ◌≤◌, ◌∷◌, List, length, drop, sym, ap, ◌∙◌, arith, rules}
 use Rattle.std.proofs.lemmas.List.{drop_more, drop_all}
 use Rattle.gw_model.specs.declared.point.Report.{Report}
-use Rattle.gw_hub.specs.Seats.{links_of}
+use Rattle.gw_hub.specs.Clients.{clients_of}
 use Rattle.gw_picture.proofs.Counts.{report_one}
 use Rattle.gw_hub.proofs.Taking.{left_first, left_more, left_none, room_same, room_at_least}
 use Rattle.gw_hub.proofs.hub.take_reports.Goals as goal
 
 pub loop-report-init : goal.loop-report-init
 loop-report-init c = (
-  left_first c.args.settings.now.offset c.args.settings.now.rows c.args.picture.now c.args.reports.now (links_of c.args.clients.now),
+  left_first c.args.settings.now.offset c.args.settings.now.rows c.args.picture.now c.args.reports.now (clients_of c.args.clients.now),
   room_same (length c.args.reports.now) (length c.args.reports.now - 0) c.args.clients.now (omega arith) c.requires,
   omega arith,
 )
@@ -30,7 +30,7 @@ loop-report-preserved c =
     let more : drop c.loop-report.report-index c.args.reports.now ≡ c.report-item.result ∷ rest =
     drop_more c.args.reports.now c.loop-report.report-index c.report-item.result c.loop-report-test.true ∙ ap (λ (r : Report). r ∷ rest) (sym c.report-item.is) in
     let n = length c.args.reports.now - (c.loop-report.report-index + 1) in (
-      left_more _ _ _ _ _ _ c.report-item.result _ rest _ _ _ _ _ c.loop-report.invariant.0 more c.take_report-news.ensures.count c.take_report-news.ensures.picture c.take_report-news.ensures.links c.take_report-news.ensures.sendable,
+      left_more _ _ _ _ _ _ c.report-item.result _ rest _ _ _ _ _ c.loop-report.invariant.0 more c.take_report-news.ensures.count c.take_report-news.ensures.picture c.take_report-news.ensures.clients c.take_report-news.ensures.sendable,
       c.take_report-news.ensures.room n (room_same (length c.args.reports.now - c.loop-report.report-index) (n + 1) c.loop-report.clients (omega (arith, c.loop-report-test.true)) c.loop-report.invariant.1),
       omega (arith, c.loop-report.invariant.2, report_one c.args.settings.now.offset c.args.settings.now.rows c.loop-report.picture c.report-item.result, c.take_report-news.ensures.count),
     )
@@ -41,8 +41,8 @@ returns-clause-count c = (left_none _ _ _ _ _ _ _ _ _ (drop_all c.loop-report.re
 pub returns-clause-picture : goal.returns-clause-picture
 returns-clause-picture c = (left_none _ _ _ _ _ _ _ _ _ (drop_all c.loop-report.report-index c.args.reports.now c.loop-report-test.false) c.loop-report.invariant.0).1
 
-pub returns-clause-links : goal.returns-clause-links
-returns-clause-links c = (left_none _ _ _ _ _ _ _ _ _ (drop_all c.loop-report.report-index c.args.reports.now c.loop-report-test.false) c.loop-report.invariant.0).2
+pub returns-clause-clients : goal.returns-clause-clients
+returns-clause-clients c = (left_none _ _ _ _ _ _ _ _ _ (drop_all c.loop-report.report-index c.args.reports.now c.loop-report-test.false) c.loop-report.invariant.0).2
 
 pub returns-clause-sendable : goal.returns-clause-sendable
 returns-clause-sendable c = (left_none _ _ _ _ _ _ _ _ _ (drop_all c.loop-report.report-index c.args.reports.now c.loop-report-test.false) c.loop-report.invariant.0).3

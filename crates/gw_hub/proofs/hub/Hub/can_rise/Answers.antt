@@ -2,5 +2,5 @@ use Rattle.std.proofs.Common.{rules}
 use Rattle.gw_picture.proofs.Counts.{news_few}
 use Rattle.gw_hub.proofs.hub.Hub.can_rise.Goals as goal
 
-pub returns-in-Some : goal.returns-in-Some
-returns-in-Some c = search (rules, news_few c.args.self.now.setup.offset c.args.self.now.setup.rows c.args.self.now.state.picture c.args.reports.now)
+pub returns-then-can_rise : goal.returns-then-can_rise
+returns-then-can_rise c = search (rules, news_few c.args.self.now.setup.offset c.args.self.now.setup.rows c.args.self.now.state.picture c.args.reports.now)

@@ -1,21 +1,42 @@
-use Rattle.std.proofs.Common.{◌≡◌, List, get_or, ap, subst, ◌∙◌, arith}
+use Rattle.std.proofs.Common.{◌≡◌, List, [], get_or, ap, subst, ◌∙◌, arith}
 use Rattle.gw_model.specs.Rows.{Setup}
-use Rattle.gw_hub.specs.Sound.{IsSound}
-use Rattle.gw_hub.specs.Steps.{Allowed}
-use Rattle.gw_hub.proofs.Runs.{run_on}
+use Rattle.gw_steps.specs.Sound.{IsSound}
+use Rattle.gw_steps.specs.Steps.{Allowed}
+use Rattle.gw_steps.specs.Runs.{history}
+use Rattle.gw_steps.proofs.Running.{Ran, run_on, run_all}
+use Rattle.gw_news.proofs.EachPlace.{tells_news, confirms_taken, numbers_in_order}
 use Rattle.gw_hub.proofs.hub.Hub.run.Goals as goal
 
 pub loop-step-preserved : goal.loop-step-preserved
 loop-step-preserved c =
     let before = c.loop-step.hub.state in
+    let new = c.step.new.self.state in
     let same = c.loop-step.invariant.1 in
-    let allowed : Allowed c.args.settings before c.step-item.result c.step.result c.step.new.self.state =
-    subst (λ (setup : Setup). Allowed setup before c.step-item.result c.step.result c.step.new.self.state) same c.step.ensures.step in
-    let sound : IsSound c.args.settings.offset before = subst (λ (setup : Setup). IsSound setup.offset before) same c.step.ensures.sound in
+    let allowed : Allowed c.args.settings before c.step-item.result c.step.result new =
+    subst (λ (setup : Setup). Allowed setup before c.step-item.result c.step.result new) same c.step.ensures.step in
+    let sound : IsSound c.args.settings.offset new = subst (λ (setup : Setup). IsSound setup.offset new) (c.step.ensures.setup ∙ same) c.step.ensures.sound in
     let is : c.step-item.result ≡ get_or c.args.steps.items c.loop-step.step-index c.step-item.result =
     c.step-item.is ∙ ap (λ (steps : List _). get_or steps c.loop-step.step-index c.step-item.result) c.deref-step-items.ensures.value in (
       omega (arith, c.loop-step.invariant.0, c.in_ok-push.ensures.len),
       c.step.ensures.setup ∙ same,
-      run_on c.args.settings c.args.steps.items c.loop-step.replies.items c.push.new.self.items c.loop-step.step-index c.step-item.result c.step.result before c.step.new.self.state
-          c.new.ensures.settings.0 c.new.ensures.settings.1 sound allowed (omega (arith, c.loop-step-test.true)) is c.loop-step.invariant.0 c.in_ok-push.ensures.items c.loop-step.invariant.2,
+      run_on c.args.settings c.args.steps.items c.loop-step.replies.items c.push.new.self.items c.loop-step.step-index c.step-item.result c.step.result before new
+          allowed sound (omega (arith, c.loop-step-test.true)) is c.loop-step.invariant.0 c.in_ok-push.ensures.items c.loop-step.invariant.2,
     )
+
+pub returns-clause-news : goal.returns-clause-news
+returns-clause-news c =
+    let ran : Ran c.args.settings (history [] c.args.steps.items c.loop-step.replies.items) c.loop-step.hub.state =
+    run_all c.args.settings c.args.steps.items c.loop-step.replies.items c.loop-step.step-index c.loop-step.hub.state (omega (arith, c.loop-step.auto, c.loop-step-test.false)) c.loop-step.invariant.2 in
+    tells_news c.args.settings _ c.new.ensures.settings.0 c.new.ensures.settings.1 ran.run ran.sound
+
+pub returns-clause-confirms : goal.returns-clause-confirms
+returns-clause-confirms c =
+    let ran : Ran c.args.settings (history [] c.args.steps.items c.loop-step.replies.items) c.loop-step.hub.state =
+    run_all c.args.settings c.args.steps.items c.loop-step.replies.items c.loop-step.step-index c.loop-step.hub.state (omega (arith, c.loop-step.auto, c.loop-step-test.false)) c.loop-step.invariant.2 in
+    confirms_taken c.args.settings _ c.new.ensures.settings.0 c.new.ensures.settings.1 ran.run ran.sound
+
+pub returns-clause-numbers : goal.returns-clause-numbers
+returns-clause-numbers c =
+    let ran : Ran c.args.settings (history [] c.args.steps.items c.loop-step.replies.items) c.loop-step.hub.state =
+    run_all c.args.settings c.args.steps.items c.loop-step.replies.items c.loop-step.step-index c.loop-step.hub.state (omega (arith, c.loop-step.auto, c.loop-step-test.false)) c.loop-step.invariant.2 in
+    numbers_in_order c.args.settings _ c.new.ensures.settings.0 c.new.ensures.settings.1 ran.run ran.sound

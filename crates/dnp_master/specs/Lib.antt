@@ -1,0 +1,2 @@
+pub mod Master
+pub mod Example

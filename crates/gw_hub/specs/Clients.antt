@@ -1,0 +1,38 @@
+-- The stations of all clients.
+use Rattle.std.specs.Prelude.{ℕ, ℤ, List, map, length, Option, Some, None, Result, Ok, Err}
+use Rattle.iec_apci.specs.declared.apdu.Apdu.{Apdu}
+use Rattle.gw_station.specs.Client.{Client}
+use Rattle.gw_station.specs.Frames.{event_of}
+use Rattle.gw_station.specs.Pump.{given}
+use Rattle.gw_steps.specs.declared.step.Reply.{Reply}
+use Rattle.gw_steps.specs.Steps.{client_reply, reply_giving, reply_of_event}
+use Rattle.gw_station.specs.Seat.{Seat}
+use Rattle.gw_steps.specs.declared.step.StepFault.{StepFault}
+
+-- the client of a station
+abbrev pub client_of : Seat → Client
+client_of seat = seat.client
+
+abbrev pub clients_of : List Seat → List Client
+clients_of seats = map client_of seats
+
+-- the reply to an APDU, and to a pump of a station whose clocks are offset minutes ahead of UTC
+abbrev pub reply_to_apdu : Apdu → Option Client → Reply
+reply_to_apdu apdu = client_reply (λ k. reply_of_event (event_of apdu k))
+
+abbrev pub reply_to_pump : ℤ → ℕ → Option Client → Reply
+reply_to_pump offset common = client_reply (λ k. reply_giving (given offset common k))
+
+-- how many news wait at a place, and how many were dropped
+abbrev pub queued_at : Option Client → ℕ
+queued_at None = 0
+queued_at (Some k) = length k.queue
+
+abbrev pub dropped_at : Option Client → ℕ
+dropped_at None = 0
+dropped_at (Some k) = k.dropped
+
+-- why a step is not made, if there is a reason
+abbrev pub unless : Option StepFault → Result (Unit {0}) StepFault
+unless None = Ok tt
+unless (Some fault) = Err fault

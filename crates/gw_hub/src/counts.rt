@@ -1,0 +1,46 @@
+//! What is counted in 64 bits.
+ghost use Rattle.std.specs.Prelude.{◌≡◌, IsTrue};
+ghost use Rattle.gw_steps.specs.Steps.{can_rise, raised};
+ghost use Rattle.gw_hub.specs.Hub.{step_with};
+
+use std::marker::Model;
+
+/// The steps that were made without a fault, and the news.
+#[derive(Debug, Drop)]
+pub struct Counts {
+    steps: u64,
+    news: u64,
+}
+
+impl Model for Counts {
+    ghost use Rattle.gw_steps.specs.State.{Counts as Seen};
+
+    ghost Value = { Seen };
+
+    ghost view = { λ c. record { steps = c.steps; news = c.news } };
+}
+
+impl Counts {
+    /// Nothing is counted yet.
+    pub fn new() -> Counts
+        ensures { result ≡ record { steps = 0; news = 0 } }
+    {
+        Counts { steps: 0, news: 0 }
+    }
+
+    /// Whether the counts can rise by a step with so many news.
+    pub fn can_rise(&self, news: u64) -> bool
+        ensures { result ≡ can_rise self.now (step_with news) }
+    {
+        self.steps != u64::MAX && self.news.checked_add(news).is_some()
+    }
+
+    /// Counts a step with so many news.
+    pub fn raise(&mut self, news: u64)
+        requires { IsTrue (can_rise self.old (step_with news)) }
+        ensures { self.new ≡ raised self.old (step_with news) }
+    {
+        self.steps += 1;
+        self.news += news;
+    }
+}

@@ -1,0 +1,164 @@
+-- What holds at each place of every run.
+use Rattle.std.proofs.Common.{◌≡◌, ℕ, zero, suc, ◌<◌, Bool, true, false, List, [], ◌∷◌, Option, Some, None, Result, Ok, Err, refl, ap, subst, ◌∙◌}
+use Rattle.std.specs.Prelude.{slice_get, replicate, IfSome}
+use Rattle.gw_model.specs.Rows.{Setup, is_point_map}
+use Rattle.dnp_app.specs.Response.{Fragment, is_unsolicited}
+use Rattle.dnp_master.specs.Master.{Master, master_down, is_last, verdict_of}
+use Rattle.iec_apci.specs.Apdu.{Content}
+use Rattle.gw_station.specs.declared.event.Event.{Event}
+use Rattle.gw_station.specs.declared.event.Event.TheVariants as events
+use Rattle.gw_station.specs.Client.{Client, client_down, is_up}
+use Rattle.gw_station.specs.Frames.{event_of}
+use Rattle.gw_station.specs.Pump.{given}
+use Rattle.gw_steps.specs.declared.step.Step.{Step}
+use Rattle.gw_steps.specs.declared.step.Step.TheVariants as steps
+use Rattle.gw_steps.specs.declared.step.Reply.{Reply}
+use Rattle.gw_steps.specs.declared.step.StepFault.{StepFault}
+use Rattle.gw_steps.specs.declared.step.StepFault.TheVariants.{NoOutstation, NoClient}
+use Rattle.gw_steps.specs.State.{State, at_first}
+use Rattle.gw_steps.specs.Steps.{Allowed, outcome, needs, can_rise, reply_to, fault_of, reply_of_event, reply_giving}
+use Rattle.gw_steps.specs.Runs.{Entry, state_after, IsRun, AtEach}
+use Rattle.gw_steps.specs.Sound.{IsSound, LeavesSound}
+use Rattle.gw_steps.proofs.Inversion.{answered, who_is_up}
+use Rattle.gw_steps.proofs.Running.{entry}
+use Rattle.gw_news.specs.Accepted.{last_text, is_text}
+use Rattle.gw_news.specs.Confirms.{verdict_in, verdict_due, confirmation_in, confirmation_due, Confirms, ConfirmsLast}
+use Rattle.gw_news.specs.News.{client_at, in_session, TellsNews, QuietLast, Holds}
+use Rattle.gw_news.specs.Numbers.{NumbersLast}
+use Rattle.gw_news.specs.Sessions.{is_started}
+use Rattle.gw_news.proofs.Turns.{SlotTied, tells}
+use Rattle.gw_news.proofs.Steps.{MasterTied, Tied, Follows, tied_by, fault_follows, step_follows, text_is_last}
+
+-- ---- at first
+
+down_tied : (setup : Setup) (c n : ℕ) → SlotTied setup c [] (slice_get (replicate n client_down) c)
+down_tied setup c zero = refl
+down_tied setup zero (suc n) = record { started = refl; settled = []; all_settled = tt; told = refl; put_out = refl; dropped = refl; number = refl }
+down_tied setup (suc c) (suc n) = same (slice_get (replicate n client_down) c) (down_tied setup c n)
+  where
+    same : (x : Option Client) → SlotTied setup c [] x → SlotTied setup (suc c) [] x
+    same None tied = refl
+    same (Some k) tied = record { started = tied.started; settled = tied.settled; all_settled = tied.all_settled; told = tied.told; put_out = tied.put_out; dropped = tied.dropped; number = tied.number }
+
+outstation_tied : (o p n : ℕ) → MasterTied p [] (slice_get (replicate n master_down) o)
+outstation_tied o p zero = tt
+outstation_tied zero p (suc n) = refl
+outstation_tied (suc o) p (suc n) = outstation_tied o p n
+
+first_tied : (setup : Setup) → Tied setup [] (at_first setup)
+first_tied setup = record {
+  picture = refl;
+  outstations = λ o. outstation_tied o o setup.outstations;
+  clients = λ c. down_tied setup c setup.clients;
+}
+
+-- ---- confirmations
+
+verdict_is : (past : List Entry) (f : Fragment) (m : Master) (unsolicited last : Bool) → is_unsolicited f ≡ unsolicited → is_text (last_text f.outstation past) f.octets ≡ last
+    → m.last ≡ last_text f.outstation past → (verdict_of m f ≡ verdict_due past f) × (confirmation_in (Some (verdict_of m f)) ≡ confirmation_due past (steps.Fragment f 0))
+verdict_is past f m unsolicited last eu el same =
+    let known : is_last m.last f.octets ≡ last = text_is_last m.last f.octets ∙ (ap (λ (x : Option (List ℕ)). is_text x f.octets) same ∙ el) in
+    go unsolicited last eu el known
+  where
+    go : (unsolicited last : Bool) → is_unsolicited f ≡ unsolicited → is_text (last_text f.outstation past) f.octets ≡ last → is_last m.last f.octets ≡ last
+        → (verdict_of m f ≡ verdict_due past f) × (confirmation_in (Some (verdict_of m f)) ≡ confirmation_due past (steps.Fragment f 0))
+    go true true eu el known = (rw (eu, el, known) refl, rw (eu, el, known) refl)
+    go true false eu el known = (rw (eu, el, known) refl, rw (eu, el, known) refl)
+    go false last eu el known = (rw eu refl, rw eu refl)
+
+confirms : (setup : Setup) (past : List Entry) (step : Step) (r : Reply) (s : State) → outcome setup s step ≡ Ok r → Tied setup past s → Confirms past step r
+confirms setup past step r s e tied =
+    let told = answered (fault_of s step) (can_rise s.counts (needs setup s step).counts) (reply_to setup s step) r e in
+    subst (Confirms past step) told.2 (by step told.0)
+  where
+    of_event : (event : Event) → (verdict_in (reply_of_event event) ≡ None)
+    of_event events.Taken = refl
+    of_event (events.Closed why) = refl
+
+    of_given : (content : Option Content) → verdict_in (reply_giving content) ≡ None
+    of_given None = refl
+    of_given (Some content) = refl
+
+    by : (step : Step) → fault_of s step ≡ None → Confirms past step (reply_to setup s step)
+    by (steps.OutstationUp o m) e = record { verdict = refl; confirmation = refl }
+    by (steps.ClientUp c m) e = record { verdict = refl; confirmation = refl }
+    by (steps.Fragment f m) e =
+        let up = who_is_up (λ (x : Master). x.up) NoOutstation (slice_get s.outstations f.outstation) e in
+        let last : up.0.last ≡ last_text f.outstation past = subst (MasterTied f.outstation past) up.1 (tied.outstations f.outstation) in
+        let said = verdict_is past f up.0 (is_unsolicited f) (is_text (last_text f.outstation past) f.octets) refl refl last in
+        rw up.1 (record { verdict = ap (λ v. Some v) said.0; confirmation = said.1 })
+    by (steps.Frame c a m) e =
+        let up = who_is_up (λ (k : Client). is_up k.stage) NoClient (slice_get s.clients c) e in
+        let none = of_event (event_of a up.0) in
+        rw up.1 (record { verdict = none; confirmation = ap confirmation_in none })
+    by (steps.Pump c m) e =
+        let up = who_is_up (λ (k : Client). is_up k.stage) NoClient (slice_get s.clients c) e in
+        let none = of_given (given setup.offset setup.common_address up.0) in
+        rw up.1 (record { verdict = none; confirmation = ap confirmation_in none })
+
+-- ---- what holds where all is tied
+
+slot_started : (setup : Setup) (c : ℕ) (past : List Entry) (x : Option Client) → SlotTied setup c past x → is_started setup c past ≡ in_session x
+slot_started setup c past None tied = tied
+slot_started setup c past (Some k) tied = tied.started
+
+slot_tells : (setup : Setup) (c : ℕ) (past : List Entry) (x : Option Client) → SlotTied setup c past x → IfSome x (TellsNews setup c past)
+slot_tells setup c past None tied = tt
+slot_tells setup c past (Some k) tied = tells setup c past k tied
+
+holds : (setup : Setup) (past : List Entry) → Tied setup past (state_after setup past) → ((c : ℕ) → QuietLast setup c past) → Holds setup past
+holds setup past tied quiet = record {
+  picture = tied.picture;
+  sessions = λ c. slot_started setup c past (client_at setup c past) (tied.clients c);
+  news = λ c. slot_tells setup c past (client_at setup c past) (tied.clients c);
+  quiet = quiet;
+}
+
+-- ---- a run so far
+
+record Told (setup : Setup) (past : List Entry) : Type 0 where
+  tied : Tied setup past (state_after setup past)
+  news : AtEach (Holds setup) past
+  confirmed : AtEach ConfirmsLast past
+  numbered : AtEach (NumbersLast setup) past
+
+told_first : (setup : Setup) → Told setup []
+told_first setup = record { tied = first_tied setup; news = holds setup [] (first_tied setup) (λ c. tt); confirmed = tt; numbered = tt }
+
+told_more : (setup : Setup) (past : List Entry) (e : Entry) → Follows setup past e (state_after setup (e ∷ past)) → ConfirmsLast (e ∷ past) → Told setup past → Told setup (e ∷ past)
+told_more setup past e follows last told =
+    let tied = tied_by setup past e (state_after setup (e ∷ past)) follows in
+    record {
+      tied = tied;
+      news = (holds setup (e ∷ past) tied (λ c. (follows.clients c).quiet), told.news);
+      confirmed = (last, told.confirmed);
+      numbered = (λ c. (follows.clients c).numbered, told.numbered);
+    }
+
+told_by : (setup : Setup) (past : List Entry) (step : Step) (reply : Result Reply StepFault) → is_point_map setup.rows ≡ true → setup.common_address < 65536
+    → IsSound setup.offset (state_after setup past)
+    → Allowed setup (state_after setup past) step reply (state_after setup (entry step reply ∷ past)) → Told setup past → Told setup (entry step reply ∷ past)
+told_by setup past step (Ok r) map_is small sound allowed told =
+    told_more setup past (entry step (Ok r)) (step_follows setup past step r (state_after setup past) map_is small sound allowed.0 told.tied)
+    (confirms setup past step r (state_after setup past) allowed.0 told.tied) told
+told_by setup past step (Err f) map_is small sound allowed told =
+    told_more setup past (entry step (Err f)) (fault_follows setup past step f (state_after setup past) told.tied) tt told
+
+-- the state before the last entry is sound
+sound_last : (setup : Setup) (past : List Entry) → AtEach (LeavesSound setup) past → LeavesSound setup past
+sound_last setup [] sound = sound
+sound_last setup (e ∷ past) sound = sound.0
+
+run_told : (setup : Setup) (past : List Entry) → is_point_map setup.rows ≡ true → setup.common_address < 65536 → IsRun setup past → AtEach (LeavesSound setup) past → Told setup past
+run_told setup [] map_is small run sound = told_first setup
+run_told setup (e ∷ past) map_is small run sound =
+    told_by setup past e.step e.reply map_is small (sound_last setup past sound.1) run.0 (run_told setup past map_is small run.1 sound.1)
+
+pub tells_news : (setup : Setup) (past : List Entry) → is_point_map setup.rows ≡ true → setup.common_address < 65536 → IsRun setup past → AtEach (LeavesSound setup) past → AtEach (Holds setup) past
+tells_news setup past map_is small run sound = (run_told setup past map_is small run sound).news
+
+pub confirms_taken : (setup : Setup) (past : List Entry) → is_point_map setup.rows ≡ true → setup.common_address < 65536 → IsRun setup past → AtEach (LeavesSound setup) past → AtEach ConfirmsLast past
+confirms_taken setup past map_is small run sound = (run_told setup past map_is small run sound).confirmed
+
+pub numbers_in_order : (setup : Setup) (past : List Entry) → is_point_map setup.rows ≡ true → setup.common_address < 65536 → IsRun setup past → AtEach (LeavesSound setup) past → AtEach (NumbersLast setup) past
+numbers_in_order setup past map_is small run sound = (run_told setup past map_is small run sound).numbered

@@ -1,0 +1,5 @@
+pub mod Pictures
+pub mod Settled
+pub mod Turns
+pub mod Steps
+pub mod EachPlace

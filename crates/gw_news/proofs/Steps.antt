@@ -1,0 +1,355 @@
+-- Each step keeps what ties the state to the history.
+use Rattle.std.proofs.Common.{◌≡◌, ℕ, zero, suc, ℤ, ◌+◌, ◌-◌, ◌%◌, ◌<◌, Bool, true, false, ◌&&◌, not, cond, eqb, List, [], ◌∷◌, ◌++◌, Option, Some, None, Ok, Err, refl, sym, ap, subst, ◌∙◌, arith, inl, inr}
+use Rattle.std.specs.Prelude.{slice_get, option_map}
+use Rattle.std.specs.List.{AllByRecursion}
+use Rattle.std.proofs.lemmas.Bool.{and_parts, cases_Bool, cases_eq, ne_eqb, eq-eqb, true≢false}
+use Rattle.std.proofs.lemmas.List.{append-nil}
+use Rattle.std.proofs.lemmas.Slice.Eq.{bytes_eq-Decides}
+use Rattle.gw_model.specs.declared.observation.Observation.{Observation}
+use Rattle.gw_model.specs.Rows.{Setup, is_point_map}
+use Rattle.gw_model.specs.Places.{change}
+use Rattle.gw_picture.specs.Log.{picture_of}
+use Rattle.gw_picture.specs.Picture.{news_of, picture_after}
+use Rattle.gw_picture.proofs.Lists.{change-here, change-there, map-get, some_is}
+use Rattle.dnp_app.specs.Response.{Fragment, is_unsolicited}
+use Rattle.dnp_master.specs.Master.{Master, is_last, accepts, master_after_up, master_after_accepted}
+use Rattle.iec_apci.specs.declared.apdu.Apdu.{Apdu}
+use Rattle.iec_apci.specs.declared.apdu.Signal.TheVariants.{StartCon}
+use Rattle.iec_apci.specs.Apdu.{Content, Unnumbered}
+use Rattle.iec_apci.specs.Buffer.{buffer_of}
+use Rattle.gw_station.specs.declared.client.Stage.{Stage}
+use Rattle.gw_station.specs.declared.client.Stage.TheVariants.{Down, Stopped, Started}
+use Rattle.gw_station.specs.declared.event.Why.TheVariants.{Flooded}
+use Rattle.gw_station.specs.Client.{Client, is_up, is_started as is_in_session, client_after_up, client_after_close, client_with_news}
+use Rattle.gw_station.specs.Frames.{is_start, floods, event_of, client_with_confirmation, client_after_apdu}
+use Rattle.gw_station.specs.Pump.{news_content, news_offered, given, first_of, client_after_news, client_after_pump}
+use Rattle.gw_station.specs.Sound.{IsSendable, IsSoundClient}
+use Rattle.gw_steps.specs.declared.step.Step.{Step}
+use Rattle.gw_steps.specs.declared.step.Step.TheVariants as steps
+use Rattle.gw_steps.specs.declared.step.Reply.{Reply}
+use Rattle.gw_steps.specs.declared.step.Reply.TheVariants as replies
+use Rattle.gw_steps.specs.declared.step.StepFault.{StepFault}
+use Rattle.gw_steps.specs.declared.step.StepFault.TheVariants.{NoOutstation, NoClient}
+use Rattle.gw_steps.specs.State.{State}
+use Rattle.gw_steps.specs.Steps.{outcome, needs, can_rise, reply_to, fault_of, client_reply, reply_of_event, reply_giving, is_accepting, latest, after}
+use Rattle.gw_steps.specs.Runs.{Entry}
+use Rattle.gw_steps.specs.Said.{Said, Numbered, Function, said, news_asdu}
+use Rattle.gw_steps.specs.Sound.{IsSound}
+use Rattle.gw_steps.proofs.Inversion.{answered, who_is_up, who_is_down}
+use Rattle.gw_steps.proofs.Running.{entry}
+use Rattle.gw_steps.proofs.Saying.{said-content, said-news}
+use Rattle.gw_news.specs.Accepted.{last_after, last_text, is_text, is_accepted}
+use Rattle.gw_news.specs.Log.{log_of, news_after_log}
+use Rattle.gw_news.specs.Turns.{Idle, PutsOut, turn_of}
+use Rattle.gw_news.specs.Numbers.{sent_to}
+use Rattle.gw_news.proofs.Pictures.{news_same}
+use Rattle.gw_news.proofs.Turns.{ClientTied, SlotTied, Goes, brought, goes_idle, goes_alike, goes_nowhere, goes_connects, goes_ends, goes_begins, goes_begins_again, goes_puts_other, goes_puts_news}
+
+-- ---- the tie
+
+-- an outstation remembers the last accepted octets
+abbrev pub MasterTied : ℕ → List Entry → Option Master → Type 0
+MasterTied o past None = Unit {0}
+MasterTied o past (Some m) = m.last ≡ last_text o past
+
+pub record Tied (setup : Setup) (past : List Entry) (s : State) : Type 0 where
+  pub picture : s.picture ≡ picture_of setup.rows (log_of setup past)
+  pub outstations : (o : ℕ) → MasterTied o past (slice_get s.outstations o)
+  pub clients : (c : ℕ) → SlotTied setup c past (slice_get s.clients c)
+
+-- one entry more, which led to a state
+pub record Follows (setup : Setup) (past : List Entry) (e : Entry) (new : State) : Type 0 where
+  pub picture : new.picture ≡ picture_of setup.rows (log_of setup (e ∷ past))
+  pub outstations : (o : ℕ) → MasterTied o (e ∷ past) (slice_get new.outstations o)
+  pub clients : (c : ℕ) → Goes setup c past e (slice_get new.clients c)
+
+pub tied_by : (setup : Setup) (past : List Entry) (e : Entry) (new : State) → Follows setup past e new → Tied setup (e ∷ past) new
+tied_by setup past e new follows = record { picture = follows.picture; outstations = follows.outstations; clients = λ c. (follows.clients c).tied }
+
+-- ---- small pieces
+
+-- a log to which nothing came
+same_log : (setup : Setup) (past : List Entry) (e : Entry) (picture : List Observation) → brought setup past e ≡ []
+    → picture ≡ picture_of setup.rows (log_of setup past) → picture ≡ picture_of setup.rows (log_of setup (e ∷ past))
+same_log setup past e picture none tied =
+    let log = log_of setup past in
+    tied ∙ sym (ap (λ (xs : List Observation). picture_of setup.rows (log ++ xs)) none ∙ ap (picture_of setup.rows) (append-nil log))
+
+-- an outstation whose memory stays
+same_last : (o : ℕ) (past : List Entry) (e : Entry) (x : Option Master) → last_text o (e ∷ past) ≡ last_text o past → MasterTied o past x → MasterTied o (e ∷ past) x
+same_last o past e None same tied = tt
+same_last o past e (Some m) same tied = tied ∙ sym same
+
+-- ---- a fault
+
+pub fault_follows : (setup : Setup) (past : List Entry) (step : Step) (f : StepFault) (s : State) → Tied setup past s → Follows setup past (entry step (Err f)) s
+fault_follows setup past step f s tied = record {
+  picture = same_log setup past (entry step (Err f)) s.picture refl tied.picture;
+  outstations = λ o. same_last o past (entry step (Err f)) (slice_get s.outstations o) refl (tied.outstations o);
+  clients = λ c. goes_nowhere setup c past (entry step (Err f)) (slice_get s.clients c) refl refl (tied.clients c);
+}
+
+-- ---- a step of one client
+
+-- the other clients idle, and nothing else changes but what the client's own part is
+one_client : (setup : Setup) (past : List Entry) (step : Step) (r : Reply) (s new : State) (c : ℕ) (f : Client → Client) (k : Client)
+    → brought setup past (entry step (Ok r)) ≡ [] → ((o : ℕ) (last : Option (List ℕ)) → last_after o last step ≡ last)
+    → ((d : ℕ) → (c ≡ d → ⊥) → turn_of setup d (entry step (Ok r)) ≡ Idle)
+    → new.picture ≡ s.picture → new.outstations ≡ s.outstations → new.clients ≡ change c f s.clients
+    → slice_get s.clients c ≡ Some k → (ClientTied setup c past k → Goes setup c past (entry step (Ok r)) (Some (f k)))
+    → Tied setup past s → Follows setup past (entry step (Ok r)) new
+one_client setup past step r s new c f k none lasts idle same_picture same_outstations changed at own tied =
+    let e : Entry = entry step (Ok r) in
+    let mine : ClientTied setup c past k = subst (SlotTied setup c past) at (tied.clients c) in
+    record {
+      picture = same_picture ∙ same_log setup past e s.picture none tied.picture;
+      outstations = λ o. rw same_outstations (same_last o past e (slice_get s.outstations o) (lasts o (last_text o past)) (tied.outstations o));
+      clients = λ d. rw changed (elim (cases_eq c d) [
+        | inl same ↦ subst (λ (x : ℕ). Goes setup x past e (slice_get (change c f s.clients) x)) same
+            (rw (change-here c f s.clients, at) (own mine))
+        | inr ne ↦ rw (change-there c d f s.clients ne) (goes_nowhere setup d past e (slice_get s.clients d) (idle d ne) none (tied.clients d))
+      ]);
+    }
+
+-- ---- ClientUp
+
+not_in_session : (stage : Stage) → is_up stage ≡ false → is_in_session stage ≡ false
+not_in_session Down e = refl
+not_in_session Stopped e = absurd cc
+not_in_session Started e = absurd cc
+
+client_up : (setup : Setup) (past : List Entry) (c m : ℕ) (r : Reply) (s : State) → outcome setup s (steps.ClientUp c m) ≡ Ok r
+    → Tied setup past s → Follows setup past (entry (steps.ClientUp c m) (Ok r)) (after setup s (steps.ClientUp c m))
+client_up setup past c m r s e tied =
+    let step : Step = steps.ClientUp c m in
+    let told = answered (fault_of s step) (can_rise s.counts (needs setup s step).counts) (reply_to setup s step) r e in
+    let down = who_is_down (λ (k : Client). is_up k.stage) NoClient (slice_get s.clients c) told.0 in
+    subst (λ (x : Reply). Follows setup past (entry step (Ok x)) (after setup s step)) told.2
+    (one_client setup past step replies.Done s (after setup s step) c (client_after_up (latest s m)) down.0 refl (λ o last. refl)
+    (λ d ne. rw (ne_eqb c d ne) refl) refl refl refl down.1
+    (λ mine. goes_connects setup c past (entry step (Ok replies.Done)) (client_after_up (latest s m) down.0) (rw (eq-eqb c c refl) refl) refl refl refl refl)
+    tied)
+
+-- ---- Frame
+
+-- an APDU's turn for its client
+frame_own : (setup : Setup) (past : List Entry) (c m moment : ℕ) (a : Apdu) (k : Client) (full starts : Bool) → floods a k ≡ full → is_start a ≡ starts
+    → ClientTied setup c past k
+    → Goes setup c past (entry (steps.Frame c a m) (Ok (reply_of_event (event_of a k)))) (Some (client_after_apdu moment a k))
+frame_own setup past c m moment a k true starts ef es mine =
+    rw ef (goes_ends setup c past (entry (steps.Frame c a m) (Ok (replies.Closed Flooded))) k (client_after_close k) (rw (eq-eqb c c refl) refl) refl refl refl refl mine)
+frame_own setup past c m moment a k false false ef es mine =
+    rw (ef, es) (goes_alike setup c past (entry (steps.Frame c a m) (Ok replies.Taken)) k k (rw es refl) refl (record { stage = refl; queue = refl; dropped = refl; next_send = refl }) mine)
+frame_own setup past c m moment a k false true ef es mine =
+    rw (ef, es) (elim (cases_Bool (is_in_session k.stage)) [
+      | inl in_session ↦ rw in_session (goes_begins_again setup c past (entry (steps.Frame c a m) (Ok replies.Taken)) k (client_with_confirmation k) (rw (es, eq-eqb c c refl) refl) refl in_session
+          (record { stage = refl; queue = refl; dropped = refl; next_send = refl }) mine)
+      | inr out ↦ rw out (goes_begins setup c past (entry (steps.Frame c a m) (Ok replies.Taken)) k (client_with_confirmation (record k { stage = Started; queue = []; dropped = 0 }))
+          (rw (es, eq-eqb c c refl) refl) out refl refl refl refl mine)
+    ])
+
+frame_apart : (setup : Setup) (c d m : ℕ) (a : Apdu) (k : Client) (full starts : Bool) → floods a k ≡ full → is_start a ≡ starts → (c ≡ d → ⊥)
+    → turn_of setup d (entry (steps.Frame c a m) (Ok (reply_of_event (event_of a k)))) ≡ Idle
+frame_apart setup c d m a k true starts ef es ne = rw (ef, ne_eqb c d ne) refl
+frame_apart setup c d m a k false true ef es ne = rw (ef, es, ne_eqb c d ne) refl
+frame_apart setup c d m a k false false ef es ne = rw (ef, es) refl
+
+frame : (setup : Setup) (past : List Entry) (c m : ℕ) (a : Apdu) (r : Reply) (s : State) → outcome setup s (steps.Frame c a m) ≡ Ok r
+    → Tied setup past s → Follows setup past (entry (steps.Frame c a m) (Ok r)) (after setup s (steps.Frame c a m))
+frame setup past c m a r s e tied =
+    let step : Step = steps.Frame c a m in
+    let told = answered (fault_of s step) (can_rise s.counts (needs setup s step).counts) (reply_to setup s step) r e in
+    let up = who_is_up (λ (k : Client). is_up k.stage) NoClient (slice_get s.clients c) told.0 in
+    let reply : reply_of_event (event_of a up.0) ≡ r = sym (ap (client_reply (λ (k : Client). reply_of_event (event_of a k))) up.1) ∙ told.2 in
+    subst (λ (x : Reply). Follows setup past (entry step (Ok x)) (after setup s step)) reply
+    (one_client setup past step (reply_of_event (event_of a up.0)) s (after setup s step) c (client_after_apdu (latest s m) a) up.0 refl (λ o last. refl)
+    (λ d ne. frame_apart setup c d m a up.0 (floods a up.0) (is_start a) refl refl ne) refl refl refl up.1
+    (frame_own setup past c m (latest s m) a up.0 (floods a up.0) (is_start a) refl refl) tied)
+
+-- ---- Pump
+
+-- what is put out to a client is its own turn
+own_turn : (setup : Setup) (c m : ℕ) (content : Content) (says : Said) → said setup.offset (buffer_of content) ≡ Some says
+    → turn_of setup c (entry (steps.Pump c m) (Ok (replies.Apdu (buffer_of content)))) ≡ PutsOut says
+own_turn setup c m content says e = rw (eq-eqb c c refl, e) refl
+
+-- a started client's queue
+pump_queue : (setup : Setup) (past : List Entry) (c m : ℕ) (k : Client) (queue : List Observation) → setup.common_address < 65536
+    → is_in_session k.stage ≡ true → k.queue ≡ queue → AllByRecursion (IsSendable setup.offset) queue → ClientTied setup c past k
+    → Goes setup c past (entry (steps.Pump c m) (Ok (reply_giving (option_map (news_content setup.offset setup.common_address k.next_send) (slice_get queue 0))))) (Some (client_after_news queue k))
+pump_queue setup past c m k [] small in_session eq sound mine =
+    goes_alike setup c past (entry (steps.Pump c m) (Ok replies.Nothing)) k k refl refl (record { stage = refl; queue = refl; dropped = refl; next_send = refl }) mine
+pump_queue setup past c m k (x ∷ queue) small in_session eq sound mine =
+    let content : Content = news_content setup.offset setup.common_address k.next_send x in
+    let says : Said = Numbered (k.next_send % 32768) 0 (Some (news_asdu setup.offset setup.common_address x)) in
+    let number : k.next_send % 32768 ≡ sent_to setup c past % 32768 = omega (arith, mine.number) in
+    goes_puts_news setup c past (entry (steps.Pump c m) (Ok (replies.Apdu (buffer_of content)))) says x queue k (record k { next_send = (k.next_send + 1) % 32768; queue = queue })
+    (own_turn setup c m content says (said-news setup.offset setup.common_address k.next_send x small sound.0)) refl (rw (eq-eqb setup.common_address setup.common_address refl) refl)
+    number refl in_session eq refl refl refl refl mine
+
+-- a client for which no confirmation waits
+pump_news : (setup : Setup) (past : List Entry) (c m : ℕ) (k : Client) (in_session : Bool) → is_in_session k.stage ≡ in_session → setup.common_address < 65536
+    → IsSoundClient setup.offset k → ClientTied setup c past k
+    → Goes setup c past (entry (steps.Pump c m) (Ok (reply_giving (first_of (news_offered setup.offset setup.common_address k ∷ []))))) (Some (cond in_session (client_after_news k.queue k) k))
+pump_news setup past c m k true es small sound mine =
+    rw (es, first_is (option_map (news_content setup.offset setup.common_address k.next_send) (slice_get k.queue 0)))
+    (pump_queue setup past c m k k.queue small es refl sound mine)
+  where
+    first_is : (x : Option Content) → first_of (x ∷ []) ≡ x
+    first_is None = refl
+    first_is (Some x) = refl
+pump_news setup past c m k false es small sound mine =
+    rw es (goes_alike setup c past (entry (steps.Pump c m) (Ok replies.Nothing)) k k refl refl (record { stage = refl; queue = refl; dropped = refl; next_send = refl }) mine)
+
+pump_own : (setup : Setup) (past : List Entry) (c m moment : ℕ) (k : Client) (none : Bool) → eqb k.confirmations 0 ≡ none → setup.common_address < 65536
+    → IsSoundClient setup.offset k → ClientTied setup c past k
+    → Goes setup c past (entry (steps.Pump c m) (Ok (reply_giving (given setup.offset setup.common_address k)))) (Some (client_after_pump moment k))
+pump_own setup past c m moment k true en small sound mine =
+    rw en (pump_news setup past c m k (is_in_session k.stage) refl small sound mine)
+pump_own setup past c m moment k false en small sound mine =
+    rw en (goes_puts_other setup c past (entry (steps.Pump c m) (Ok (replies.Apdu (buffer_of (Unnumbered StartCon))))) (Function StartCon) k (record k { confirmations = k.confirmations - 1 })
+    (own_turn setup c m (Unnumbered StartCon) (Function StartCon) (said-content setup.offset (Unnumbered StartCon) tt)) refl refl refl tt refl
+    (record { stage = refl; queue = refl; dropped = refl; next_send = refl }) mine)
+
+pump_apart : (setup : Setup) (c d m : ℕ) (given : Option Content) → (c ≡ d → ⊥) → turn_of setup d (entry (steps.Pump c m) (Ok (reply_giving given))) ≡ Idle
+pump_apart setup c d m None ne = refl
+pump_apart setup c d m (Some content) ne = rw (ne_eqb c d ne) refl
+
+-- one of many
+sound_at : (offset : ℤ) (ks : List Client) (c : ℕ) (k : Client) → slice_get ks c ≡ Some k → AllByRecursion (IsSoundClient offset) ks → IsSoundClient offset k
+sound_at offset [] c k at all = absurd cc
+sound_at offset (x ∷ ks) zero k at all = subst (IsSoundClient offset) (some_is x k at) all.0
+sound_at offset (x ∷ ks) (suc c) k at all = sound_at offset ks c k at all.1
+
+pump : (setup : Setup) (past : List Entry) (c m : ℕ) (r : Reply) (s : State) → setup.common_address < 65536 → IsSound setup.offset s
+    → outcome setup s (steps.Pump c m) ≡ Ok r → Tied setup past s → Follows setup past (entry (steps.Pump c m) (Ok r)) (after setup s (steps.Pump c m))
+pump setup past c m r s small sound e tied =
+    let step : Step = steps.Pump c m in
+    let told = answered (fault_of s step) (can_rise s.counts (needs setup s step).counts) (reply_to setup s step) r e in
+    let up = who_is_up (λ (k : Client). is_up k.stage) NoClient (slice_get s.clients c) told.0 in
+    let content : Option Content = given setup.offset setup.common_address up.0 in
+    let reply : reply_giving content ≡ r = sym (ap (client_reply (λ (k : Client). reply_giving (given setup.offset setup.common_address k))) up.1) ∙ told.2 in
+    subst (λ (x : Reply). Follows setup past (entry step (Ok x)) (after setup s step)) reply
+    (one_client setup past step (reply_giving content) s (after setup s step) c (client_after_pump (latest s m)) up.0 refl (λ o last. refl)
+    (λ d ne. pump_apart setup c d m content ne) refl refl refl up.1
+    (pump_own setup past c m (latest s m) up.0 (eqb up.0.confirmations 0) refl small (sound_at setup.offset s.clients c up.0 up.1 sound)) tied)
+
+-- ---- OutstationUp
+
+outstation_up : (setup : Setup) (past : List Entry) (o m : ℕ) (r : Reply) (s : State) → outcome setup s (steps.OutstationUp o m) ≡ Ok r
+    → Tied setup past s → Follows setup past (entry (steps.OutstationUp o m) (Ok r)) (after setup s (steps.OutstationUp o m))
+outstation_up setup past o m r s e tied =
+    let step : Step = steps.OutstationUp o m in
+    let f : Master → Master = master_after_up (latest s m) in
+    let here : Entry = entry step (Ok r) in
+    record {
+      picture = same_log setup past here s.picture refl tied.picture;
+      outstations = λ p. elim (cases_eq o p) [
+        | inl same ↦ subst (λ (x : ℕ). MasterTied x (here ∷ past) (slice_get (change o f s.outstations) x)) same
+            (rw (change-here o f s.outstations) (fresh (slice_get s.outstations o)))
+        | inr ne ↦ rw (change-there o p f s.outstations ne) (same_last p past here (slice_get s.outstations p) (rw (ne_eqb o p ne) refl) (tied.outstations p))
+      ];
+      clients = λ c. goes_nowhere setup c past here (slice_get s.clients c) refl refl (tied.clients c);
+    }
+  where
+    fresh : (x : Option Master) → MasterTied o (entry (steps.OutstationUp o m) (Ok r) ∷ past) (option_map (master_after_up (latest s m)) x)
+    fresh None = tt
+    fresh (Some x) = rw (eq-eqb o o refl) refl
+
+-- ---- Fragment
+
+pub text_is_last : (last : Option (List ℕ)) (octets : List ℕ) → is_last last octets ≡ is_text last octets
+text_is_last None octets = refl
+text_is_last (Some l) octets = refl
+
+-- the octets of a fragment are known to its outstation as the history has them
+pub same_accepted : (past : List Entry) (f : Fragment) (m : Master) → m.last ≡ last_text f.outstation past → accepts m f ≡ is_accepted past f
+same_accepted past f m e =
+    ap (λ (b : Bool). is_unsolicited f && not b) (text_is_last m.last f.octets ∙ ap (λ (last : Option (List ℕ)). is_text last f.octets) e)
+
+is_last-true : (last : Option (List ℕ)) (octets : List ℕ) → is_last last octets ≡ true → last ≡ Some octets
+is_last-true None octets e = absurd cc
+is_last-true (Some l) octets e = ap (λ (x : List ℕ). Some x) ((bytes_eq-Decides l octets).0 e)
+
+-- an outstation that knows the octets of an unsolicited fragment which it doesn't accept
+known : (m : Master) (f : Fragment) (unsolicited last : Bool) → is_unsolicited f ≡ unsolicited → is_last m.last f.octets ≡ last
+    → unsolicited ≡ true → accepts m f ≡ false → m.last ≡ Some f.octets
+known m f true true eu el takes left = is_last-true m.last f.octets el
+known m f true false eu el takes left = absurd (true≢false (sym (rw (eu, el) refl) ∙ left))
+known m f false last eu el takes left = absurd cc
+
+own_last : (past : List Entry) (f : Fragment) (m : ℕ) (r : Reply) → is_unsolicited f ≡ true → last_text f.outstation (entry (steps.Fragment f m) (Ok r) ∷ past) ≡ Some f.octets
+own_last past f m r e = rw (eq-eqb f.outstation f.outstation refl, e) refl
+
+other_last : (past : List Entry) (f : Fragment) (p m : ℕ) (r : Reply) → (f.outstation ≡ p → ⊥) → last_text p (entry (steps.Fragment f m) (Ok r) ∷ past) ≡ last_text p past
+other_last past f p m r ne = rw (ne_eqb f.outstation p ne) refl
+
+fragment_taken : (setup : Setup) (past : List Entry) (f : Fragment) (m : ℕ) (r : Reply) (s : State) → is_point_map setup.rows ≡ true → is_accepted past f ≡ true
+    → is_accepting s f ≡ true → Tied setup past s → Follows setup past (entry (steps.Fragment f m) (Ok r)) (after setup s (steps.Fragment f m))
+fragment_taken setup past f m r s map_is takes accepting tied =
+    let e : Entry = entry (steps.Fragment f m) (Ok r) in
+    let log : List Observation = log_of setup past in
+    let xs : List Observation = news_after_log setup log f.reports in
+    let ys : List Observation = news_of setup.offset setup.rows s.picture f.reports in
+    let parts = and_parts (is_unsolicited f) (not (is_text (last_text f.outstation past) f.octets)) takes in
+    let came : brought setup past e ≡ xs = rw takes refl in
+    let same = news_same setup log f.reports map_is in
+    let told : ys ≡ xs = ap (λ (p : List Observation). news_of setup.offset setup.rows p f.reports) tied.picture ∙ same.0 in
+    let shown : picture_after setup.offset setup.rows s.picture f.reports ≡ picture_of setup.rows (log ++ xs) = ap (λ (p : List Observation). picture_after setup.offset setup.rows p f.reports) tied.picture ∙ same.1 in
+    let mark : Master → Master = master_after_accepted (latest s m) f.octets in
+    rw accepting (record {
+      picture = shown ∙ ap (λ (zs : List Observation). picture_of setup.rows (log ++ zs)) (sym came);
+      outstations = λ p. elim (cases_eq f.outstation p) [
+        | inl is ↦ subst (λ (x : ℕ). MasterTied x (e ∷ past) (slice_get (change f.outstation mark s.outstations) x)) is
+            (rw (change-here f.outstation mark s.outstations) (remembers (slice_get s.outstations f.outstation) (own_last past f m r parts.0)))
+        | inr ne ↦ rw (change-there f.outstation p mark s.outstations ne) (same_last p past e (slice_get s.outstations p) (other_last past f p m r ne) (tied.outstations p))
+      ];
+      clients = λ c. rw (map-get (client_with_news ys) s.clients c) (goes_idle setup c past e ys (slice_get s.clients c) refl (came ∙ sym told) (tied.clients c));
+    })
+  where
+    remembers : (x : Option Master) → last_text f.outstation (entry (steps.Fragment f m) (Ok r) ∷ past) ≡ Some f.octets
+        → MasterTied f.outstation (entry (steps.Fragment f m) (Ok r) ∷ past) (option_map (master_after_accepted (latest s m) f.octets) x)
+    remembers None told = tt
+    remembers (Some x) told = sym told
+
+fragment_left : (setup : Setup) (past : List Entry) (f : Fragment) (m : ℕ) (r : Reply) (s : State) (x : Master) → slice_get s.outstations f.outstation ≡ Some x
+    → x.last ≡ last_text f.outstation past → accepts x f ≡ false → Tied setup past s → Follows setup past (entry (steps.Fragment f m) (Ok r)) (after setup s (steps.Fragment f m))
+fragment_left setup past f m r s x at last left tied =
+    let e : Entry = entry (steps.Fragment f m) (Ok r) in
+    let none : brought setup past e ≡ [] = rw (sym (same_accepted past f x last) ∙ left) refl in
+    let own : x.last ≡ last_text f.outstation (e ∷ past) =
+    elim (cases_Bool (is_unsolicited f)) [
+      | inl takes ↦ known x f (is_unsolicited f) (is_last x.last f.octets) refl refl takes left ∙ sym (own_last past f m r takes)
+      | inr not_so ↦ last ∙ sym (rw (eq-eqb f.outstation f.outstation refl, not_so) refl)
+    ] in
+    let accepting : is_accepting s f ≡ false = rw at left in
+    rw accepting (record {
+      picture = same_log setup past e s.picture none tied.picture;
+      outstations = λ p. elim (cases_eq f.outstation p) [
+        | inl is ↦ subst (λ (y : ℕ). MasterTied y (e ∷ past) (slice_get s.outstations y)) is (rw at own)
+        | inr ne ↦ same_last p past e (slice_get s.outstations p) (other_last past f p m r ne) (tied.outstations p)
+      ];
+      clients = λ c. goes_nowhere setup c past e (slice_get s.clients c) refl none (tied.clients c);
+    })
+
+fragment : (setup : Setup) (past : List Entry) (f : Fragment) (m : ℕ) (r : Reply) (s : State) → is_point_map setup.rows ≡ true → outcome setup s (steps.Fragment f m) ≡ Ok r
+    → Tied setup past s → Follows setup past (entry (steps.Fragment f m) (Ok r)) (after setup s (steps.Fragment f m))
+fragment setup past f m r s map_is e tied =
+    let step : Step = steps.Fragment f m in
+    let told = answered (fault_of s step) (can_rise s.counts (needs setup s step).counts) (reply_to setup s step) r e in
+    let up = who_is_up (λ (x : Master). x.up) NoOutstation (slice_get s.outstations f.outstation) told.0 in
+    let last : up.0.last ≡ last_text f.outstation past = subst (MasterTied f.outstation past) up.1 (tied.outstations f.outstation) in
+    elim (cases_Bool (accepts up.0 f)) [
+      | inl takes ↦ fragment_taken setup past f m r s map_is (sym (same_accepted past f up.0 last) ∙ takes) (rw up.1 takes) tied
+      | inr left ↦ fragment_left setup past f m r s up.0 up.1 last left tied
+    ]
+
+-- ---- every step
+
+pub step_follows : (setup : Setup) (past : List Entry) (step : Step) (r : Reply) (s : State) → is_point_map setup.rows ≡ true → setup.common_address < 65536
+    → IsSound setup.offset s → outcome setup s step ≡ Ok r → Tied setup past s → Follows setup past (entry step (Ok r)) (after setup s step)
+step_follows setup past (steps.OutstationUp o m) r s map_is small sound e tied = outstation_up setup past o m r s e tied
+step_follows setup past (steps.Fragment f m) r s map_is small sound e tied = fragment setup past f m r s map_is e tied
+step_follows setup past (steps.ClientUp c m) r s map_is small sound e tied = client_up setup past c m r s e tied
+step_follows setup past (steps.Frame c apdu m) r s map_is small sound e tied = frame setup past c m apdu r s e tied
+step_follows setup past (steps.Pump c m) r s map_is small sound e tied = pump setup past c m r s small sound e tied

@@ -1,0 +1,288 @@
+-- What ties a client's part of the state to its history, and how each turn keeps it.
+use Rattle.std.proofs.Common.{◌≡◌, ℕ, ◌+◌, ◌%◌, true, false, List, [], ◌∷◌, ◌++◌, map, length, Option, Some, None, refl, sym, ap, ◌∙◌, arith, inl, inr}
+use Rattle.std.specs.Prelude.{option_map}
+use Rattle.std.proofs.lemmas.Bool.{cases_Bool, true≢false}
+use Rattle.std.proofs.lemmas.List.{append-nil}
+use Rattle.gw_model.specs.declared.observation.Observation.{Observation}
+use Rattle.gw_model.specs.Rows.{Setup}
+use Rattle.gw_station.specs.declared.client.Stage.{Stage}
+use Rattle.gw_station.specs.declared.client.Stage.TheVariants.{Down, Stopped, Started}
+use Rattle.gw_station.specs.Client.{Client, is_started as is_in_session, queue_with, client_with_news}
+use Rattle.gw_steps.specs.Runs.{Entry}
+use Rattle.gw_steps.specs.Said.{Said}
+use Rattle.gw_news.specs.Log.{log_of, news_of_entry}
+use Rattle.gw_news.specs.Turns.{Idle, Connects, Begins, Ends, PutsOut, turn_of}
+use Rattle.gw_news.specs.Sessions.{is_started, spontaneous_in, spontaneous_by, is_numbered, puts_numbered, Happening, Came, Gone, session_of, gone_of}
+use Rattle.gw_news.specs.Fates.{Element, is_put_out, is_dropped, fates, fates_from, items_of}
+use Rattle.gw_news.specs.News.{TellsNews}
+use Rattle.gw_news.specs.Numbers.{sent_with, sent_to, SaysNumber, HasNumber}
+use Rattle.gw_news.proofs.Settled.{put, AreSettled, before_queue, fates_from-append, queue_grows, queue_shrinks, settled_more, kept_in, queued_in, dropped_in, put_out_more, dropped_same, gone_of-append, none_gone}
+
+-- ---- the tie
+
+-- the fates of a session's news are settled ones, and then the queue
+pub record ClientTied (setup : Setup) (c : ℕ) (past : List Entry) (k : Client) : Type 0 where
+  pub started : is_started setup c past ≡ is_in_session k.stage
+  pub settled : List Element
+  pub all_settled : AreSettled settled
+  pub told : fates None (session_of setup c past) ≡ before_queue settled k.queue
+  pub put_out : gone_of (session_of setup c past) ≡ items_of is_put_out settled
+  pub dropped : k.dropped ≡ length (items_of is_dropped settled)
+  pub number : k.next_send ≡ sent_to setup c past % 32768
+
+-- where there is no such client, nothing started
+abbrev pub SlotTied : Setup → ℕ → List Entry → Option Client → Type 0
+SlotTied setup c past None = is_started setup c past ≡ false
+SlotTied setup c past (Some k) = ClientTied setup c past k
+
+-- one entry more: what is there then is tied, what was put out has its number, and no I format is put out where no
+-- session stands
+pub record Goes (setup : Setup) (c : ℕ) (past : List Entry) (e : Entry) (x : Option Client) : Type 0 where
+  pub tied : SlotTied setup c (e ∷ past) x
+  pub numbered : HasNumber (sent_to setup c past) (turn_of setup c e)
+  pub quiet : is_started setup c past ≡ false → puts_numbered (turn_of setup c e) ≡ false
+
+-- what an entry brings
+abbrev pub brought : Setup → List Entry → Entry → List Observation
+brought setup past e = news_of_entry setup (log_of setup past) past e
+
+-- what the history sees of a client is the same
+pub record Alike (k new : Client) : Type 0 where
+  pub stage : new.stage ≡ k.stage
+  pub queue : new.queue ≡ k.queue
+  pub dropped : new.dropped ≡ k.dropped
+  pub next_send : new.next_send ≡ k.next_send
+
+-- ---- sessions
+
+-- where no session stands, nothing happened in it
+pub none_happened : (setup : Setup) (c : ℕ) (past : List Entry) → is_started setup c past ≡ false → session_of setup c past ≡ []
+none_happened setup c [] stopped = refl
+none_happened setup c (e ∷ past) stopped = rw stopped refl
+
+goes_on : (setup : Setup) (c : ℕ) (past : List Entry) (e : Entry) (xs ys : List Observation)
+    → is_started setup c past ≡ true → is_started setup c (e ∷ past) ≡ true → brought setup past e ≡ xs
+    → spontaneous_by setup.common_address (turn_of setup c e) ≡ ys
+    → session_of setup c (e ∷ past) ≡ session_of setup c past ++ (map Came xs ++ map Gone ys)
+goes_on setup c past e xs ys was is eb ep = rw (is, was, eb, ep) refl
+
+-- a session that goes on, to which news come
+pub session_idle : (setup : Setup) (c : ℕ) (past : List Entry) (e : Entry) (xs : List Observation) (k new : Client)
+    → is_started setup c past ≡ true → is_started setup c (e ∷ past) ≡ true → is_in_session new.stage ≡ true
+    → brought setup past e ≡ xs → spontaneous_by setup.common_address (turn_of setup c e) ≡ []
+    → new.queue ≡ k.queue ++ xs → new.dropped ≡ k.dropped → new.next_send ≡ sent_to setup c (e ∷ past) % 32768
+    → ClientTied setup c past k → ClientTied setup c (e ∷ past) new
+session_idle setup c past e xs k new was is in_session eb ep queue dropped number tied =
+    let hs : List Happening = session_of setup c past in
+    let on = goes_on setup c past e xs [] was is eb ep in
+    let session : session_of setup c (e ∷ past) ≡ hs ++ map Came xs = on ∙ ap (λ (ys : List Happening). hs ++ ys) (append-nil (map Came xs)) in
+    let gone : gone_of (hs ++ map Came xs) ≡ gone_of hs =
+    gone_of-append hs (map Came xs) ∙ (ap (λ (ys : List Observation). gone_of hs ++ ys) (none_gone xs) ∙ append-nil (gone_of hs)) in
+    let told : fates None (hs ++ map Came xs) ≡ before_queue tied.settled (k.queue ++ xs) =
+    fates_from-append None [] hs (map Came xs) ∙ (ap (λ (es : List Element). fates_from None es (map Came xs)) tied.told ∙ queue_grows tied.settled k.queue xs) in
+    record {
+      started = is ∙ sym in_session;
+      settled = tied.settled;
+      all_settled = tied.all_settled;
+      told = ap (fates None) session ∙ (told ∙ ap (before_queue tied.settled) (sym queue));
+      put_out = ap gone_of session ∙ (gone ∙ tied.put_out);
+      dropped = dropped ∙ tied.dropped;
+      number = number;
+    }
+
+-- a client without a session, before and after
+pub stopped_still : (setup : Setup) (c : ℕ) (past : List Entry) (e : Entry) (new : Client)
+    → is_started setup c (e ∷ past) ≡ false → is_in_session new.stage ≡ false → new.queue ≡ [] → new.dropped ≡ 0
+    → new.next_send ≡ sent_to setup c (e ∷ past) % 32768 → ClientTied setup c (e ∷ past) new
+stopped_still setup c past e new stopped out queue dropped number =
+    let none = none_happened setup c (e ∷ past) stopped in
+    record {
+      started = stopped ∙ sym out;
+      settled = [];
+      all_settled = tt;
+      told = ap (fates None) none ∙ ap (before_queue []) (sym queue);
+      put_out = ap gone_of none;
+      dropped = dropped;
+      number = number;
+    }
+
+-- a client without a session has nothing queued, and nothing dropped
+pub nothing_queued : (setup : Setup) (c : ℕ) (past : List Entry) (k : Client) → is_started setup c past ≡ false
+    → ClientTied setup c past k → (k.queue ≡ []) × (k.dropped ≡ 0)
+nothing_queued setup c past k stopped tied =
+    let none : before_queue tied.settled k.queue ≡ [] = sym tied.told ∙ ap (fates None) (none_happened setup c past stopped) in
+    go tied.settled k.queue none tied.dropped
+  where
+    go : (settled : List Element) (queue : List Observation) → before_queue settled queue ≡ []
+        → k.dropped ≡ length (items_of is_dropped settled) → (queue ≡ []) × (k.dropped ≡ 0)
+    go [] [] e d = (refl, d)
+    go [] (x ∷ queue) e d = absurd cc
+    go (x ∷ settled) queue e d = absurd cc
+
+-- ---- turns
+
+-- nothing but news
+idle_queue : (setup : Setup) (c : ℕ) (past : List Entry) (e : Entry) (xs : List Observation) (k new : Client) (stage : Stage)
+    → turn_of setup c e ≡ Idle → brought setup past e ≡ xs → k.stage ≡ stage → new.stage ≡ stage
+    → new.queue ≡ queue_with xs stage k.queue → new.dropped ≡ k.dropped → new.next_send ≡ k.next_send
+    → ClientTied setup c past k → ClientTied setup c (e ∷ past) new
+idle_queue setup c past e xs k new Down turn eb stage same queue dropped next tied =
+    let stopped : is_started setup c past ≡ false = tied.started ∙ ap is_in_session stage in
+    let none = nothing_queued setup c past k stopped tied in
+    stopped_still setup c past e new (rw turn stopped) (ap is_in_session same) (queue ∙ none.0) (dropped ∙ none.1) (next ∙ (tied.number ∙ rw turn refl))
+idle_queue setup c past e xs k new Stopped turn eb stage same queue dropped next tied =
+    let stopped : is_started setup c past ≡ false = tied.started ∙ ap is_in_session stage in
+    let none = nothing_queued setup c past k stopped tied in
+    stopped_still setup c past e new (rw turn stopped) (ap is_in_session same) (queue ∙ none.0) (dropped ∙ none.1) (next ∙ (tied.number ∙ rw turn refl))
+idle_queue setup c past e xs k new Started turn eb stage same queue dropped next tied =
+    let was : is_started setup c past ≡ true = tied.started ∙ ap is_in_session stage in
+    session_idle setup c past e xs k new was (rw turn was) (ap is_in_session same) eb (rw turn refl) queue dropped (next ∙ (tied.number ∙ rw turn refl)) tied
+
+pub goes_idle : (setup : Setup) (c : ℕ) (past : List Entry) (e : Entry) (xs : List Observation) (x : Option Client)
+    → turn_of setup c e ≡ Idle → brought setup past e ≡ xs → SlotTied setup c past x → Goes setup c past e (option_map (client_with_news xs) x)
+goes_idle setup c past e xs None turn eb tied = record { tied = rw turn tied; numbered = rw turn tt; quiet = λ stopped. rw turn refl }
+goes_idle setup c past e xs (Some k) turn eb tied = record {
+  tied = idle_queue setup c past e xs k (client_with_news xs k) k.stage turn eb refl refl refl refl refl tied;
+  numbered = rw turn tt;
+  quiet = λ stopped. rw turn refl;
+}
+
+-- a queue to which nothing comes
+same_queue : (stage : Stage) (queue : List Observation) → queue ≡ queue_with [] stage queue
+same_queue Down queue = refl
+same_queue Stopped queue = refl
+same_queue Started queue = sym (append-nil queue)
+
+-- nothing at all
+pub goes_alike : (setup : Setup) (c : ℕ) (past : List Entry) (e : Entry) (k new : Client)
+    → turn_of setup c e ≡ Idle → brought setup past e ≡ [] → Alike k new → ClientTied setup c past k → Goes setup c past e (Some new)
+goes_alike setup c past e k new turn none alike tied = record {
+  tied = idle_queue setup c past e [] k new k.stage turn none refl alike.stage (alike.queue ∙ same_queue k.stage k.queue) alike.dropped alike.next_send tied;
+  numbered = rw turn tt;
+  quiet = λ stopped. rw turn refl;
+}
+
+pub goes_nowhere : (setup : Setup) (c : ℕ) (past : List Entry) (e : Entry) (x : Option Client)
+    → turn_of setup c e ≡ Idle → brought setup past e ≡ [] → SlotTied setup c past x → Goes setup c past e x
+goes_nowhere setup c past e None turn none tied = record { tied = rw turn tied; numbered = rw turn tt; quiet = λ stopped. rw turn refl }
+goes_nowhere setup c past e (Some k) turn none tied =
+    goes_alike setup c past e k k turn none (record { stage = refl; queue = refl; dropped = refl; next_send = refl }) tied
+
+-- its connection stands anew
+pub goes_connects : (setup : Setup) (c : ℕ) (past : List Entry) (e : Entry) (new : Client)
+    → turn_of setup c e ≡ Connects → is_in_session new.stage ≡ false → new.queue ≡ [] → new.dropped ≡ 0 → new.next_send ≡ 0
+    → Goes setup c past e (Some new)
+goes_connects setup c past e new turn out queue dropped next = record {
+  tied = stopped_still setup c past e new (rw turn refl) out queue dropped (next ∙ rw turn refl);
+  numbered = rw turn tt;
+  quiet = λ stopped. rw turn refl;
+}
+
+-- its connection is closed
+pub goes_ends : (setup : Setup) (c : ℕ) (past : List Entry) (e : Entry) (k new : Client)
+    → turn_of setup c e ≡ Ends → is_in_session new.stage ≡ false → new.queue ≡ [] → new.dropped ≡ 0 → new.next_send ≡ k.next_send
+    → ClientTied setup c past k → Goes setup c past e (Some new)
+goes_ends setup c past e k new turn out queue dropped next tied = record {
+  tied = stopped_still setup c past e new (rw turn refl) out queue dropped (next ∙ (tied.number ∙ rw turn refl));
+  numbered = rw turn tt;
+  quiet = λ stopped. rw turn refl;
+}
+
+-- its session begins
+pub goes_begins : (setup : Setup) (c : ℕ) (past : List Entry) (e : Entry) (k new : Client)
+    → turn_of setup c e ≡ Begins → is_in_session k.stage ≡ false → is_in_session new.stage ≡ true → new.queue ≡ [] → new.dropped ≡ 0 → new.next_send ≡ k.next_send
+    → ClientTied setup c past k → Goes setup c past e (Some new)
+goes_begins setup c past e k new turn out in_session queue dropped next tied =
+    let stopped : is_started setup c past ≡ false = tied.started ∙ out in
+    let none : session_of setup c (e ∷ past) ≡ [] = rw (turn, stopped) refl in
+    record {
+      tied = record {
+        started = rw turn (sym in_session);
+        settled = [];
+        all_settled = tt;
+        told = ap (fates None) none ∙ ap (before_queue []) (sym queue);
+        put_out = ap gone_of none;
+        dropped = dropped;
+        number = next ∙ (tied.number ∙ rw turn refl);
+      };
+      numbered = rw turn tt;
+      quiet = λ stopped. rw turn refl;
+    }
+
+-- its session stands already, and goes on
+pub goes_begins_again : (setup : Setup) (c : ℕ) (past : List Entry) (e : Entry) (k new : Client)
+    → turn_of setup c e ≡ Begins → brought setup past e ≡ [] → is_in_session k.stage ≡ true → Alike k new
+    → ClientTied setup c past k → Goes setup c past e (Some new)
+goes_begins_again setup c past e k new turn none in_session alike tied =
+    let was : is_started setup c past ≡ true = tied.started ∙ in_session in
+    record {
+      tied = session_idle setup c past e [] k new was (rw turn refl) (ap is_in_session alike.stage ∙ in_session) none (rw turn refl)
+          (alike.queue ∙ sym (append-nil k.queue)) alike.dropped (alike.next_send ∙ (tied.number ∙ rw turn refl)) tied;
+      numbered = rw turn tt;
+      quiet = λ stopped. rw turn refl;
+    }
+
+-- something without a number that isn't spontaneous is put out to it
+pub goes_puts_other : (setup : Setup) (c : ℕ) (past : List Entry) (e : Entry) (said : Said) (k new : Client)
+    → turn_of setup c e ≡ PutsOut said → brought setup past e ≡ [] → spontaneous_in setup.common_address said ≡ []
+    → is_numbered said ≡ false → SaysNumber (sent_to setup c past) said → sent_with said (sent_to setup c past) ≡ sent_to setup c past → Alike k new
+    → ClientTied setup c past k → Goes setup c past e (Some new)
+goes_puts_other setup c past e said k new turn none nothing unnumbered says same alike tied = record {
+  tied = elim (cases_Bool (is_in_session k.stage)) [
+    | inl in_session ↦
+        (let was : is_started setup c past ≡ true = tied.started ∙ in_session in
+        session_idle setup c past e [] k new was (rw turn was) (ap is_in_session alike.stage ∙ in_session) none (rw turn nothing)
+        (alike.queue ∙ sym (append-nil k.queue)) alike.dropped number tied)
+    | inr out ↦
+        (let stopped : is_started setup c past ≡ false = tied.started ∙ out in
+        let empty = nothing_queued setup c past k stopped tied in
+        stopped_still setup c past e new (rw turn stopped) (ap is_in_session alike.stage ∙ out) (alike.queue ∙ empty.0) (alike.dropped ∙ empty.1) number)
+  ];
+  numbered = rw turn says;
+  quiet = λ stopped. rw turn unnumbered;
+}
+  where
+    number : new.next_send ≡ sent_to setup c (e ∷ past) % 32768
+    number = alike.next_send ∙ (tied.number ∙ sym (rw turn (ap (λ (n : ℕ). n % 32768) same)))
+
+-- its oldest news are put out
+pub goes_puts_news : (setup : Setup) (c : ℕ) (past : List Entry) (e : Entry) (said : Said) (x : Observation) (queue : List Observation) (k new : Client)
+    → turn_of setup c e ≡ PutsOut said → brought setup past e ≡ [] → spontaneous_in setup.common_address said ≡ x ∷ []
+    → SaysNumber (sent_to setup c past) said → sent_with said (sent_to setup c past) ≡ sent_to setup c past + 1
+    → is_in_session k.stage ≡ true → k.queue ≡ x ∷ queue → new.stage ≡ k.stage → new.queue ≡ queue → new.dropped ≡ k.dropped
+    → new.next_send ≡ (k.next_send + 1) % 32768 → ClientTied setup c past k → Goes setup c past e (Some new)
+goes_puts_news setup c past e said x queue k new turn none puts says one_more in_session front stage rest dropped next tied =
+    let hs : List Happening = session_of setup c past in
+    let was : is_started setup c past ≡ true = tied.started ∙ in_session in
+    let by : spontaneous_by setup.common_address (turn_of setup c e) ≡ x ∷ [] = rw turn puts in
+    let session : session_of setup c (e ∷ past) ≡ hs ++ Gone x ∷ [] = goes_on setup c past e [] (x ∷ []) was (rw turn was) none by in
+    let gone : gone_of (hs ++ Gone x ∷ []) ≡ items_of is_put_out tied.settled ++ x ∷ [] =
+    gone_of-append hs (Gone x ∷ []) ∙ ap (λ (ys : List Observation). ys ++ x ∷ []) tied.put_out in
+    let told : fates None (hs ++ Gone x ∷ []) ≡ before_queue (tied.settled ++ put x ∷ []) queue =
+    fates_from-append None [] hs (Gone x ∷ [])
+    ∙ (ap (λ (es : List Element). fates_from None es (Gone x ∷ [])) (tied.told ∙ ap (before_queue tied.settled) front)
+    ∙ queue_shrinks tied.settled x queue tied.all_settled) in
+    let sent : sent_to setup c (e ∷ past) ≡ sent_to setup c past + 1 = rw turn one_more in
+    let number : new.next_send ≡ (sent_to setup c past + 1) % 32768 = omega (arith, next, tied.number) in
+    record {
+      tied = record {
+        started = rw turn (was ∙ sym (ap is_in_session stage ∙ in_session));
+        settled = tied.settled ++ put x ∷ [];
+        all_settled = settled_more tied.settled x tied.all_settled;
+        told = ap (fates None) session ∙ (told ∙ ap (before_queue (tied.settled ++ put x ∷ [])) (sym rest));
+        put_out = ap gone_of session ∙ (gone ∙ sym (put_out_more tied.settled x));
+        dropped = dropped ∙ (tied.dropped ∙ sym (ap length (dropped_same tied.settled x)));
+        number = number ∙ sym (ap (λ (n : ℕ). n % 32768) sent);
+      };
+      numbered = rw turn says;
+      quiet = λ stopped. absurd (true≢false (sym was ∙ stopped));
+    }
+
+-- ---- what a tie tells
+
+pub tells : (setup : Setup) (c : ℕ) (past : List Entry) (k : Client) → ClientTied setup c past k → TellsNews setup c past k
+tells setup c past k tied = record {
+  in_order = rw (tied.put_out, tied.told) (sym (kept_in tied.settled k.queue tied.all_settled));
+  queued = rw tied.told (sym (queued_in tied.settled k.queue tied.all_settled));
+  dropped = tied.dropped ∙ sym (ap length (rw tied.told (dropped_in tied.settled k.queue)));
+}

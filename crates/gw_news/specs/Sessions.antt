@@ -1,0 +1,72 @@
+-- A client's session: what came and what was put out since its STARTDT act.
+use Rattle.std.specs.Prelude.{ℕ, Bool, true, false, ◌&&◌, ◌==◌, List, [], ◌∷◌, ◌++◌, map, Option, Some, None, if◌then◌else◌}
+use Rattle.gw_model.specs.declared.observation.Observation.{Observation}
+use Rattle.gw_model.specs.Rows.{Setup}
+use Rattle.iec_asdu.specs.Asdu.{Asdu}
+use Rattle.gw_steps.specs.Runs.{Entry}
+use Rattle.gw_steps.specs.Said.{Said, Numbered, Receipt, Function}
+use Rattle.gw_news.specs.Log.{log_of, news_of_entry}
+use Rattle.gw_news.specs.Turns.{Turn, Idle, Connects, Begins, Ends, PutsOut, turn_of}
+
+abbrev pub started_after : Turn → Bool → Bool
+started_after Idle started = started
+started_after Connects started = false
+started_after Begins started = true
+started_after Ends started = false
+started_after (PutsOut said) started = started
+
+abbrev pub is_started : Setup → ℕ → List Entry → Bool
+is_started setup c [] = false
+is_started setup c (e ∷ past) = started_after (turn_of setup c e) (is_started setup c past)
+
+-- the observations of an ASDU of cause 3 (spontaneous) with the station's common address
+abbrev pub spontaneous_of : ℕ → Option Asdu → List Observation
+spontaneous_of common None = []
+spontaneous_of common (Some asdu) =
+    if (asdu.cause == 3) && (asdu.common_address == common) then asdu.observations else []
+
+abbrev pub spontaneous_in : ℕ → Said → List Observation
+spontaneous_in common (Numbered ns nr asdu) = spontaneous_of common asdu
+spontaneous_in common (Receipt nr) = []
+spontaneous_in common (Function signal) = []
+
+-- those that a turn puts out
+abbrev pub spontaneous_by : ℕ → Turn → List Observation
+spontaneous_by common Idle = []
+spontaneous_by common Connects = []
+spontaneous_by common Begins = []
+spontaneous_by common Ends = []
+spontaneous_by common (PutsOut said) = spontaneous_in common said
+
+-- whether an I format is put out
+abbrev pub is_numbered : Said → Bool
+is_numbered (Numbered ns nr asdu) = true
+is_numbered (Receipt nr) = false
+is_numbered (Function signal) = false
+
+abbrev pub puts_numbered : Turn → Bool
+puts_numbered Idle = false
+puts_numbered Connects = false
+puts_numbered Begins = false
+puts_numbered Ends = false
+puts_numbered (PutsOut said) = is_numbered said
+
+pub data Happening : Type 0 where
+  Came : Observation → Happening
+  Gone : Observation → Happening
+
+-- what happened in client c's session so far, oldest first
+abbrev pub session_of : Setup → ℕ → List Entry → List Happening
+session_of setup c [] = []
+session_of setup c (e ∷ past) =
+    if started_after (turn_of setup c e) (is_started setup c past) && is_started setup c past then
+    session_of setup c past
+    ++ (map Came (news_of_entry setup (log_of setup past) past e)
+    ++ map Gone (spontaneous_by setup.common_address (turn_of setup c e)))
+    else []
+
+-- the observations that were put out, in order
+abbrev pub gone_of : List Happening → List Observation
+gone_of [] = []
+gone_of (Came x ∷ hs) = gone_of hs
+gone_of (Gone x ∷ hs) = x ∷ gone_of hs

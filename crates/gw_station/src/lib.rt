@@ -1,0 +1,14 @@
+//! The controlled station's part of the core: what is known of one client of IEC 60870-5-104, and what is put out to it.
+#![tactic(auto)]
+
+mod apdu;
+mod client;
+mod event;
+mod examples;
+mod station;
+
+pub use apdu::{news_format, start_confirmation};
+pub use client::Stage;
+pub use event::{Event, Why};
+pub use examples::client_by_example;
+pub use station::{Face, Station};

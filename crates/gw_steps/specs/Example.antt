@@ -1,0 +1,93 @@
+-- The worked runs: one outstation, one client; binary input 5 is shown as single-point 4101 of station 1, analog
+-- input 0 as scaled value 4201, counter 0 as integrated total 4301.
+use Rattle.std.specs.Prelude.{ℕ, zero, suc, ◌-◌, ◌^◌, pos, true, List, [], ◌∷◌, ◌++◌}
+use Rattle.gw_model.specs.declared.point.Report.{Report}
+use Rattle.gw_model.specs.declared.point.Stamp.TheVariants.{At}
+use Rattle.gw_model.specs.Rows.{Setup}
+use Rattle.gw_translate.specs.Example.{timed_event}
+use Rattle.gw_picture.specs.Example.{rows, analog_value}
+use Rattle.dnp_points.specs.Objects.{binary_report}
+use Rattle.dnp_app.specs.Response.{Fragment}
+use Rattle.iec_apci.specs.declared.apdu.Apdu.TheVariants.{U}
+use Rattle.iec_apci.specs.declared.apdu.Signal.TheVariants.{StartAct}
+use Rattle.gw_steps.specs.declared.step.Step.{Step}
+use Rattle.gw_steps.specs.declared.step.Step.TheVariants as steps
+use Rattle.gw_steps.specs.State.{State, at_first}
+use Rattle.gw_steps.specs.Steps.{after}
+
+abbrev pub setup : Setup
+setup = record { common_address = 1; offset = pos 0; outstations = 1; clients = 1; rows = rows }
+
+-- clocks are an hour ahead of UTC
+abbrev pub ahead : Setup
+ahead = record setup { offset = pos 60 }
+
+abbrev pub response : List ℕ → List Report → Fragment
+response octets reports = record { outstation = 0; octets = octets; reports = reports }
+
+-- unsolicited, asks for a confirmation, input 5 is on
+abbrev pub event : Fragment
+event = response (0xF0 ∷ 0x82 ∷ 0 ∷ 0 ∷ 2 ∷ 1 ∷ 0x17 ∷ 1 ∷ 5 ∷ 0x81 ∷ []) (binary_report 0 5 0x81 ∷ [])
+
+-- the same at 22:13:20 UTC on 14 November 2023
+abbrev pub timed : Fragment
+timed =
+    response (0xF0 ∷ 0x82 ∷ 0 ∷ 0 ∷ 2 ∷ 2 ∷ 0x17 ∷ 1 ∷ 5 ∷ 0x81 ∷ 0 ∷ 0x68 ∷ 0xE5 ∷ 0xCF ∷ 0x8B ∷ 1 ∷ [])
+    (timed_event 0x81 true (At 1700000000000) ∷ [])
+
+-- unsolicited, asks for a confirmation, analog input 0 is 7; then the same with the next sequence number
+abbrev pub reading : Fragment
+reading =
+    response (0xF1 ∷ 0x82 ∷ 0 ∷ 0 ∷ 0x1E ∷ 2 ∷ 0x17 ∷ 1 ∷ 0 ∷ 1 ∷ 7 ∷ 0 ∷ []) (analog_value 0x01 (pos 7) ∷ [])
+
+abbrev pub next_reading : Fragment
+next_reading =
+    response (0xF2 ∷ 0x82 ∷ 0 ∷ 0 ∷ 0x1E ∷ 2 ∷ 0x17 ∷ 1 ∷ 0 ∷ 1 ∷ 7 ∷ 0 ∷ []) (analog_value 0x01 (pos 7) ∷ [])
+
+abbrev pub solicited : Fragment
+solicited = response (0xC0 ∷ 0x81 ∷ 0 ∷ 0 ∷ []) []
+
+-- the state after steps, the first one first, where none has a fault
+abbrev pub after_steps : Setup → State → List Step → State
+after_steps s state [] = state
+after_steps s state (step ∷ more) = after_steps s (after s state step) more
+
+abbrev pub reached : List Step → State
+reached ss = after_steps setup (at_first setup) ss
+
+-- steps at moment 0
+abbrev pub outstation_up : Step
+outstation_up = steps.OutstationUp 0 0
+
+abbrev pub fragment_of : Fragment → Step
+fragment_of f = steps.Fragment f 0
+
+abbrev pub connect : Step
+connect = steps.ClientUp 0 0
+
+abbrev pub start : Step
+start = steps.Frame 0 (U StartAct) 0
+
+abbrev pub pump : Step
+pump = steps.Pump 0 0
+
+-- the client connects and asks to start
+abbrev pub starting : List Step
+starting = connect ∷ start ∷ []
+
+-- it gets its confirmation, and the outstation comes up
+abbrev pub started : List Step
+started = starting ++ pump ∷ outstation_up ∷ []
+
+-- so many STARTDT acts
+abbrev pub starts : ℕ → List Step
+starts zero = []
+starts (suc n) = start ∷ starts n
+
+-- the state with other counts
+abbrev pub counting : ℕ → ℕ → State → State
+counting n news s = record s { counts = record { steps = n; news = news } }
+
+-- the last count of 64 bits
+abbrev pub last_count : ℕ
+last_count = 2 ^ 64 - 1

@@ -1,0 +1,6 @@
+pub mod State
+pub mod Steps
+pub mod Runs
+pub mod Sound
+pub mod Said
+pub mod Example

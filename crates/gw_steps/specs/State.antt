@@ -1,0 +1,31 @@
+-- The state of the core, as its contracts see it: a value for each part.
+use Rattle.std.specs.Prelude.{ℕ, List, map, replicate}
+use Rattle.gw_model.specs.declared.observation.Observation.{Observation}
+use Rattle.gw_model.specs.Rows.{Setup}
+use Rattle.gw_picture.specs.Opening.{opening}
+use Rattle.dnp_master.specs.Master.{Master, master_down}
+use Rattle.gw_station.specs.Client.{Client, client_down}
+
+-- what is counted in 64 bits: the steps without a fault, and the news
+pub record Counts : Type 0 where
+  pub steps : ℕ
+  pub news : ℕ
+
+pub record State : Type 0 where
+  pub outstations : List Master
+  -- for each row, its value and quality as last shown, Untimed
+  pub picture : List Observation
+  pub clients : List Client
+  pub counts : Counts
+  -- the largest moment that a step without a fault brought
+  pub moment : ℕ
+
+-- all outstations and clients are down
+abbrev pub at_first : Setup → State
+at_first setup = record {
+  outstations = replicate setup.outstations master_down;
+  picture = map opening setup.rows;
+  clients = replicate setup.clients client_down;
+  counts = record { steps = 0; news = 0 };
+  moment = 0;
+}

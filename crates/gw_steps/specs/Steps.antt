@@ -1,0 +1,177 @@
+-- The step relation: what a step answers where memory is never refused, and the state after it, by cases on the step.
+use Rattle.std.specs.Prelude.{◌≡◌, ℕ, ◌+◌, ◌^◌, Bool, true, false, ◌&&◌, nat_lt, List, [], length, map, slice_get, Option, Some, None, option_map, Result, Ok, Err, IsTrue, if◌then◌else◌}
+use Rattle.gw_model.specs.declared.observation.Observation.{Observation}
+use Rattle.gw_model.specs.Rows.{Setup}
+use Rattle.gw_model.specs.Places.{change}
+use Rattle.dnp_app.specs.Response.{Fragment}
+use Rattle.dnp_master.specs.Master.{Master, accepts, verdict_of, master_after_up, master_after_accepted}
+use Rattle.iec_apci.specs.Apdu.{Content}
+use Rattle.iec_apci.specs.Buffer.{buffer_of}
+use Rattle.gw_picture.specs.Picture.{news_of, picture_after}
+use Rattle.gw_station.specs.declared.event.Event.{Event}
+use Rattle.gw_station.specs.declared.event.Event.TheVariants as events
+use Rattle.gw_station.specs.Client.{Client, is_up, client_after_up, client_with_news}
+use Rattle.gw_station.specs.Frames.{event_of, client_after_apdu}
+use Rattle.gw_station.specs.Pump.{given, client_after_pump}
+use Rattle.gw_steps.specs.declared.step.Step.{Step}
+use Rattle.gw_steps.specs.declared.step.Step.TheVariants as steps
+use Rattle.gw_steps.specs.declared.step.Reply.{Reply}
+use Rattle.gw_steps.specs.declared.step.Reply.TheVariants as replies
+use Rattle.gw_steps.specs.declared.step.StepFault.{StepFault}
+use Rattle.gw_steps.specs.declared.step.StepFault.TheVariants.{NoOutstation, NoClient, NotUp, AlreadyUp, Memory, Spent}
+use Rattle.gw_steps.specs.State.{State, Counts}
+
+-- ---- faults
+
+-- whether an outstation, or a client, is up; none where there is no such
+abbrev pub outstation_up : State → ℕ → Option Bool
+outstation_up s o = option_map (λ m. m.up) (slice_get s.outstations o)
+
+abbrev pub client_up : State → ℕ → Option Bool
+client_up s c = option_map (λ k. is_up k.stage) (slice_get s.clients c)
+
+-- why a step of an actor that has to be up isn't made
+abbrev pub fault_unless_up : StepFault → Option Bool → Option StepFault
+fault_unless_up absent None = Some absent
+fault_unless_up absent (Some true) = None
+fault_unless_up absent (Some false) = Some NotUp
+
+-- of one that has to be down
+abbrev pub fault_unless_down : StepFault → Option Bool → Option StepFault
+fault_unless_down absent None = Some absent
+fault_unless_down absent (Some true) = Some AlreadyUp
+fault_unless_down absent (Some false) = None
+
+abbrev pub fault_of : State → Step → Option StepFault
+fault_of s (steps.OutstationUp o moment) = fault_unless_down NoOutstation (outstation_up s o)
+fault_of s (steps.Fragment f moment) = fault_unless_up NoOutstation (outstation_up s f.outstation)
+fault_of s (steps.ClientUp c moment) = fault_unless_down NoClient (client_up s c)
+fault_of s (steps.Frame c apdu moment) = fault_unless_up NoClient (client_up s c)
+fault_of s (steps.Pump c moment) = fault_unless_up NoClient (client_up s c)
+
+-- ---- what a step needs
+
+-- a fragment's outstation accepts it
+abbrev pub accepted_by : Fragment → Option Master → Bool
+accepted_by f None = false
+accepted_by f (Some m) = accepts m f
+
+abbrev pub is_accepting : State → Fragment → Bool
+is_accepting s f = accepted_by f (slice_get s.outstations f.outstation)
+
+-- the news that a fragment brings
+abbrev pub news_of_fragment : Setup → State → Fragment → List Observation
+news_of_fragment setup s f =
+    if is_accepting s f then news_of setup.offset setup.rows s.picture f.reports else []
+
+-- memory may be wanted, and by how much the counts rise
+pub record Needs : Type 0 where
+  pub memory : Bool
+  pub counts : Counts
+
+abbrev pub needs : Setup → State → Step → Needs
+needs setup s (steps.Fragment f moment) = record {
+  memory = is_accepting s f;
+  counts = record { steps = 1; news = length (news_of_fragment setup s f) };
+}
+needs setup s _ = record { memory = false; counts = record { steps = 1; news = 0 } }
+
+abbrev pub can_rise : Counts → Counts → Bool
+can_rise counts more = nat_lt (counts.steps + more.steps) (2 ^ 64) && nat_lt (counts.news + more.news) (2 ^ 64)
+
+abbrev pub raised : Counts → Counts → Counts
+raised counts more = record { steps = counts.steps + more.steps; news = counts.news + more.news }
+
+-- ---- the answer
+
+-- the reply for a client; Nothing where there is no such
+abbrev pub client_reply : (Client → Reply) → Option Client → Reply
+client_reply reply None = replies.Nothing
+client_reply reply (Some k) = reply k
+
+-- the reply for an outstation; Nothing where there is no such
+abbrev pub outstation_reply : (Master → Reply) → Option Master → Reply
+outstation_reply reply None = replies.Nothing
+outstation_reply reply (Some m) = reply m
+
+-- the reply to what became of an APDU
+abbrev pub reply_of_event : Event → Reply
+reply_of_event events.Taken = replies.Taken
+reply_of_event (events.Closed why) = replies.Closed why
+
+-- the reply to a pump that gives this
+abbrev pub reply_giving : Option Content → Reply
+reply_giving None = replies.Nothing
+reply_giving (Some content) = replies.Apdu (buffer_of content)
+
+abbrev pub reply_to : Setup → State → Step → Reply
+reply_to setup s (steps.OutstationUp o moment) = replies.Done
+reply_to setup s (steps.Fragment f moment) =
+    outstation_reply (λ m. replies.Verdict (verdict_of m f)) (slice_get s.outstations f.outstation)
+reply_to setup s (steps.ClientUp c moment) = replies.Done
+reply_to setup s (steps.Frame c apdu moment) =
+    client_reply (λ k. reply_of_event (event_of apdu k)) (slice_get s.clients c)
+reply_to setup s (steps.Pump c moment) =
+    client_reply (λ k. reply_giving (given setup.offset setup.common_address k)) (slice_get s.clients c)
+
+-- a fault, or the reply where the counts can rise
+abbrev pub answer : Option StepFault → Bool → Reply → Result Reply StepFault
+answer (Some fault) rises reply = Err fault
+answer None rises reply = if rises then Ok reply else Err Spent
+
+abbrev pub outcome : Setup → State → Step → Result Reply StepFault
+outcome setup s step = answer (fault_of s step) (can_rise s.counts (needs setup s step).counts) (reply_to setup s step)
+
+-- ---- the state after a step without a fault
+
+abbrev pub moment_of : Step → ℕ
+moment_of (steps.OutstationUp o moment) = moment
+moment_of (steps.Fragment f moment) = moment
+moment_of (steps.ClientUp c moment) = moment
+moment_of (steps.Frame c apdu moment) = moment
+moment_of (steps.Pump c moment) = moment
+
+-- a smaller moment counts as the largest so far
+abbrev pub latest : State → ℕ → ℕ
+latest s moment = if nat_lt s.moment moment then moment else s.moment
+
+-- what an accepted fragment changes
+abbrev pub parts_after_fragment : Setup → State → ℕ → Fragment → State
+parts_after_fragment setup s moment f = record s {
+  outstations = change f.outstation (master_after_accepted moment f.octets) s.outstations;
+  picture = picture_after setup.offset setup.rows s.picture f.reports;
+  clients = map (client_with_news (news_of setup.offset setup.rows s.picture f.reports)) s.clients;
+}
+
+-- what a step changes at a moment, but for the counts
+abbrev pub parts_after : Setup → State → ℕ → Step → State
+parts_after setup s moment (steps.OutstationUp o _) =
+    record s { outstations = change o (master_after_up moment) s.outstations }
+parts_after setup s moment (steps.Fragment f _) =
+    if is_accepting s f then parts_after_fragment setup s moment f else s
+parts_after setup s moment (steps.ClientUp c _) = record s { clients = change c (client_after_up moment) s.clients }
+parts_after setup s moment (steps.Frame c apdu _) =
+    record s { clients = change c (client_after_apdu moment apdu) s.clients }
+parts_after setup s moment (steps.Pump c _) = record s { clients = change c (client_after_pump moment) s.clients }
+
+abbrev pub after : Setup → State → Step → State
+after setup s step = record (parts_after setup s (latest s (moment_of step)) step) {
+  counts = raised s.counts (needs setup s step).counts;
+  moment = latest s (moment_of step);
+}
+
+-- ---- what is allowed
+
+-- memory runs out only in a step that would be made, and that may want some
+abbrev pub MayFault : Setup → State → Step → StepFault → Type 0
+MayFault setup s step Memory = (outcome setup s step ≡ Ok (reply_to setup s step)) × IsTrue (needs setup s step).memory
+MayFault setup s step NoOutstation = outcome setup s step ≡ Err NoOutstation
+MayFault setup s step NoClient = outcome setup s step ≡ Err NoClient
+MayFault setup s step NotUp = outcome setup s step ≡ Err NotUp
+MayFault setup s step AlreadyUp = outcome setup s step ≡ Err AlreadyUp
+MayFault setup s step Spent = outcome setup s step ≡ Err Spent
+
+-- a step may answer so and leave the state so
+abbrev pub Allowed : Setup → State → Step → Result Reply StepFault → State → Type 0
+Allowed setup s step (Ok reply) new = (outcome setup s step ≡ Ok reply) × (new ≡ after setup s step)
+Allowed setup s step (Err fault) new = MayFault setup s step fault × (new ≡ s)

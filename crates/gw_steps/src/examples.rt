@@ -1,0 +1,74 @@
+//! Worked runs, computed by the step relation itself.
+ghost use Rattle.std.specs.Prelude.{◌≡◌, ◌++◌, [], ◌∷◌, Some, Ok, Err};
+ghost use Rattle.gw_steps.specs.declared.step.Step.TheVariants as steps;
+ghost use Rattle.gw_steps.specs.declared.step.Reply.TheVariants as replies;
+ghost use Rattle.gw_steps.specs.declared.step.StepFault.TheVariants.{NoOutstation, NoClient, NotUp, AlreadyUp, Spent};
+ghost use Rattle.dnp_master.specs.declared.verdict.Verdict.TheVariants as verdicts;
+ghost use Rattle.dnp_master.specs.declared.verdict.Ignored.TheVariants.{NoRequest};
+ghost use Rattle.gw_station.specs.declared.event.Why.TheVariants.{Flooded};
+ghost use Rattle.iec_apci.specs.Buffer.{buffer};
+ghost use Rattle.gw_steps.specs.State.{at_first};
+ghost use Rattle.gw_steps.specs.Steps.{outcome};
+ghost use Rattle.gw_steps.specs.Example.{after_steps, ahead, connect, counting, event, fragment_of, last_count, next_reading, outstation_up, pump, reached, reading, setup, solicited, start, started, starting, starts, timed};
+
+/// Replies to single steps, with faults before them.
+pub fn replies_by_example()
+    // Before anything is up.
+    ensures no_outstation { outcome setup (at_first setup) (steps.OutstationUp 1 0) ≡ Err NoOutstation }
+    ensures no_client { outcome setup (at_first setup) (steps.Pump 1 0) ≡ Err NoClient }
+    ensures not_up { outcome setup (at_first setup) (fragment_of event) ≡ Err NotUp }
+    ensures client_down { outcome setup (at_first setup) pump ≡ Err NotUp }
+    // An outstation can't come up twice.
+    ensures twice { outcome setup (reached started) outstation_up ≡ Err AlreadyUp }
+    // A count of steps or of news that can't rise; a fault of the actor comes before it.
+    ensures last_step { outcome setup (counting last_count 0 (reached started)) pump ≡ Err Spent }
+    ensures last_news { outcome setup (counting 0 last_count (reached started)) (fragment_of event) ≡ Err Spent }
+    ensures no_news { outcome setup (counting 0 last_count (reached started)) (fragment_of solicited)
+        ≡ Ok (replies.Verdict (verdicts.Ignored NoRequest)) }
+    ensures fault_first { outcome setup (counting last_count 0 (reached started)) (steps.Pump 1 0) ≡ Err NoClient }
+    // 32 confirmations may wait; a further STARTDT act closes the connection, and the client may connect again.
+    ensures most { outcome setup (reached (connect ∷ starts 31)) start ≡ Ok replies.Taken }
+    ensures flooded { outcome setup (reached (connect ∷ starts 32)) start ≡ Ok (replies.Closed Flooded) }
+    ensures closed { outcome setup (reached (connect ∷ starts 33)) pump ≡ Err NotUp }
+    ensures again { outcome setup (reached (connect ∷ starts 33)) connect ≡ Ok replies.Done }
+{}
+
+/// What is put out in runs, and what becomes of their fragments.
+#[tactic(auto, unfolding(gw_time::specs::Spelling::tag_showing, gw_time::specs::Spelling::date_after))]
+pub fn runs_by_example()
+    // STARTDT con comes first; a second STARTDT act is confirmed too.
+    ensures confirmation { outcome setup (reached starting) pump
+        ≡ Ok (replies.Apdu (buffer (0x68 ∷ 4 ∷ 0x0B ∷ 0 ∷ 0 ∷ 0 ∷ []))) }
+    ensures second_start { outcome setup (reached (started ++ fragment_of event ∷ start ∷ [])) pump
+        ≡ Ok (replies.Apdu (buffer (0x68 ∷ 4 ∷ 0x0B ∷ 0 ∷ 0 ∷ 0 ∷ []))) }
+    // The event is accepted and confirmed, its repeat is confirmed again, a solicited response is ignored.
+    ensures accepted { outcome setup (reached started) (fragment_of event)
+        ≡ Ok (replies.Verdict (verdicts.Accepted (Some (0xD0 ∷ 0 ∷ [])))) }
+    ensures repeated { outcome setup (reached (started ++ fragment_of event ∷ [])) (fragment_of event)
+        ≡ Ok (replies.Verdict (verdicts.Repeated (Some (0xD0 ∷ 0 ∷ [])))) }
+    ensures ignored { outcome setup (reached started) (fragment_of solicited)
+        ≡ Ok (replies.Verdict (verdicts.Ignored NoRequest)) }
+    // Its one news is put out once, with N(S) 0, and then nothing.
+    ensures news { outcome setup (reached (started ++ fragment_of event ∷ fragment_of event ∷ [])) pump
+        ≡ Ok (replies.Apdu (buffer (0x68 ∷ 0x0E ∷ 0 ∷ 0 ∷ 0 ∷ 0
+        ∷ 1 ∷ 1 ∷ 3 ∷ 0 ∷ 1 ∷ 0 ∷ 0x05 ∷ 0x10 ∷ 0 ∷ 0x01 ∷ []))) }
+    ensures nothing { outcome setup (reached (started ++ fragment_of event ∷ fragment_of event ∷ pump ∷ [])) pump
+        ≡ Ok replies.Nothing }
+    // A static analog value that differs from what was shown is put out as a scaled value, with N(S) 1 behind other
+    // news; the same in the next fragment is no news.
+    ensures reading { outcome setup (reached (started ++ fragment_of event ∷ fragment_of reading ∷ pump ∷ [])) pump
+        ≡ Ok (replies.Apdu (buffer (0x68 ∷ 0x10 ∷ 2 ∷ 0 ∷ 0 ∷ 0
+        ∷ 0x0B ∷ 1 ∷ 3 ∷ 0 ∷ 1 ∷ 0 ∷ 0x69 ∷ 0x10 ∷ 0 ∷ 7 ∷ 0 ∷ 0 ∷ []))) }
+    ensures same_reading { outcome setup
+        (reached (started ++ fragment_of reading ∷ fragment_of next_reading ∷ pump ∷ [])) pump ≡ Ok replies.Nothing }
+    // A second STARTDT act keeps the queue; a connection that was closed doesn't.
+    ensures goes_on { outcome setup (reached (started ++ fragment_of event ∷ start ∷ pump ∷ [])) pump
+        ≡ Ok (replies.Apdu (buffer (0x68 ∷ 0x0E ∷ 0 ∷ 0 ∷ 0 ∷ 0
+        ∷ 1 ∷ 1 ∷ 3 ∷ 0 ∷ 1 ∷ 0 ∷ 0x05 ∷ 0x10 ∷ 0 ∷ 0x01 ∷ []))) }
+    ensures starts_anew { outcome setup
+        (reached (started ++ fragment_of event ∷ starts 33 ++ connect ∷ start ∷ pump ∷ [])) pump ≡ Ok replies.Nothing }
+    // An event's time, at a station whose clocks are an hour ahead of UTC: 23:13:20 on 14 November 2023.
+    ensures timed { outcome ahead (after_steps ahead (at_first ahead) (started ++ fragment_of timed ∷ [])) pump
+        ≡ Ok (replies.Apdu (buffer (0x68 ∷ 0x15 ∷ 0 ∷ 0 ∷ 0 ∷ 0
+        ∷ 0x1E ∷ 1 ∷ 3 ∷ 0 ∷ 1 ∷ 0 ∷ 0x05 ∷ 0x10 ∷ 0 ∷ 0x01 ∷ 0x20 ∷ 0x4E ∷ 0x0D ∷ 0x17 ∷ 0x0E ∷ 0x0B ∷ 0x17 ∷ []))) }
+{}
