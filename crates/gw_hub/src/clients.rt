@@ -50,14 +50,14 @@ impl Clients {
         presence_at(&self.stations, client)
     }
 
-    /// How many news wait for a client; 0 where it isn't started.
+    /// How many news wait for a client; 0 where there is no such client.
     pub fn queued(&self, client: u8) -> usize
         ensures { result ≡ queued_at (slice_get (clients_of self.now) client) }
     {
         queued_at(&self.stations, client)
     }
 
-    /// How many news were dropped for a client; 0 where it isn't started.
+    /// How many news were dropped for a client; 0 where there is no such client.
     pub fn dropped(&self, client: u8) -> usize
         ensures { result ≡ dropped_at (slice_get (clients_of self.now) client) }
     {

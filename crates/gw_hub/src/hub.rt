@@ -100,14 +100,14 @@ impl Hub {
         self.picture.rows()
     }
 
-    /// How many news wait for a client; 0 where no such client is started.
+    /// How many news wait for a client; 0 where there is no such client.
     pub fn queued(&self, client: u8) -> usize
         ensures { result ≡ queued_at (slice_get self.now.state.clients client) }
     {
         self.clients.queued(client)
     }
 
-    /// How many news of a client's session were dropped; 0 where no such client is started.
+    /// How many news of a client's session were dropped; 0 where there is no such client.
     pub fn dropped(&self, client: u8) -> usize
         ensures { result ≡ dropped_at (slice_get self.now.state.clients client) }
     {

@@ -23,7 +23,7 @@ use Rattle.gw_steps.proofs.Inversion.{answered, who_is_up}
 use Rattle.gw_steps.proofs.Running.{entry}
 use Rattle.gw_news.specs.Accepted.{last_text, is_text}
 use Rattle.gw_news.specs.Confirms.{verdict_in, verdict_due, confirmation_in, confirmation_due, Confirms, ConfirmsLast}
-use Rattle.gw_news.specs.News.{client_at, in_session, TellsNews, QuietLast, Holds}
+use Rattle.gw_news.specs.News.{client_at, in_session, TellsNews, QuietLast, SpeaksLast, Holds}
 use Rattle.gw_news.specs.Numbers.{NumbersLast}
 use Rattle.gw_news.specs.Sessions.{is_started}
 use Rattle.gw_news.proofs.Turns.{SlotTied, tells}
@@ -106,12 +106,13 @@ slot_tells : (setup : Setup) (c : ℕ) (past : List Entry) (x : Option Client) �
 slot_tells setup c past None tied = tt
 slot_tells setup c past (Some k) tied = tells setup c past k tied
 
-holds : (setup : Setup) (past : List Entry) → Tied setup past (state_after setup past) → ((c : ℕ) → QuietLast setup c past) → Holds setup past
-holds setup past tied quiet = record {
+holds : (setup : Setup) (past : List Entry) → Tied setup past (state_after setup past) → ((c : ℕ) → QuietLast setup c past) → ((c : ℕ) → SpeaksLast setup c past) → Holds setup past
+holds setup past tied quiet speaks = record {
   picture = tied.picture;
   sessions = λ c. slot_started setup c past (client_at setup c past) (tied.clients c);
   news = λ c. slot_tells setup c past (client_at setup c past) (tied.clients c);
   quiet = quiet;
+  speaks = speaks;
 }
 
 -- ---- a run so far
@@ -123,14 +124,14 @@ record Told (setup : Setup) (past : List Entry) : Type 0 where
   numbered : AtEach (NumbersLast setup) past
 
 told_first : (setup : Setup) → Told setup []
-told_first setup = record { tied = first_tied setup; news = holds setup [] (first_tied setup) (λ c. tt); confirmed = tt; numbered = tt }
+told_first setup = record { tied = first_tied setup; news = holds setup [] (first_tied setup) (λ c. tt) (λ c. tt); confirmed = tt; numbered = tt }
 
 told_more : (setup : Setup) (past : List Entry) (e : Entry) → Follows setup past e (state_after setup (e ∷ past)) → ConfirmsLast (e ∷ past) → Told setup past → Told setup (e ∷ past)
 told_more setup past e follows last told =
     let tied = tied_by setup past e (state_after setup (e ∷ past)) follows in
     record {
       tied = tied;
-      news = (holds setup (e ∷ past) tied (λ c. (follows.clients c).quiet), told.news);
+      news = (holds setup (e ∷ past) tied (λ c. (follows.clients c).quiet) (λ c. (follows.clients c).speaks), told.news);
       confirmed = (last, told.confirmed);
       numbered = (λ c. (follows.clients c).numbered, told.numbered);
     }

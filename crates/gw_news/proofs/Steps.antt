@@ -14,7 +14,8 @@ use Rattle.gw_picture.proofs.Lists.{change-here, change-there, map-get, some_is}
 use Rattle.dnp_app.specs.Response.{Fragment, is_unsolicited}
 use Rattle.dnp_master.specs.Master.{Master, is_last, accepts, master_after_up, master_after_accepted}
 use Rattle.iec_apci.specs.declared.apdu.Apdu.{Apdu}
-use Rattle.iec_apci.specs.declared.apdu.Signal.TheVariants.{StartCon}
+use Rattle.iec_apci.specs.declared.apdu.Apdu.TheVariants.{I, S, U}
+use Rattle.iec_apci.specs.declared.apdu.Signal.TheVariants.{StartAct, StartCon, StopAct, StopCon, TestAct, TestCon}
 use Rattle.iec_apci.specs.Apdu.{Content, Unnumbered}
 use Rattle.iec_apci.specs.Buffer.{buffer_of}
 use Rattle.gw_station.specs.declared.client.Stage.{Stage}
@@ -40,7 +41,7 @@ use Rattle.gw_steps.proofs.Running.{entry}
 use Rattle.gw_steps.proofs.Saying.{said-content, said-news}
 use Rattle.gw_news.specs.Accepted.{last_after, last_text, is_text, is_accepted}
 use Rattle.gw_news.specs.Log.{log_of, news_after_log}
-use Rattle.gw_news.specs.Turns.{Idle, PutsOut, turn_of}
+use Rattle.gw_news.specs.Turns.{is_start_act, Idle, PutsOut, turn_of}
 use Rattle.gw_news.specs.Numbers.{sent_to}
 use Rattle.gw_news.proofs.Pictures.{news_same}
 use Rattle.gw_news.proofs.Turns.{ClientTied, SlotTied, Goes, brought, goes_idle, goes_alike, goes_nowhere, goes_connects, goes_ends, goes_begins, goes_begins_again, goes_puts_other, goes_puts_news}
@@ -132,23 +133,34 @@ client_up setup past c m r s e tied =
 
 -- ---- Frame
 
+-- the part and the history tell STARTDT act alike
+same_start : (a : Apdu) → is_start a ≡ is_start_act a
+same_start (U StartAct) = refl
+same_start (U StartCon) = refl
+same_start (U StopAct) = refl
+same_start (U StopCon) = refl
+same_start (U TestAct) = refl
+same_start (U TestCon) = refl
+same_start (S nr) = refl
+same_start (I ns nr asdu) = refl
+
 -- an APDU's turn for its client
-frame_own : (setup : Setup) (past : List Entry) (c m moment : ℕ) (a : Apdu) (k : Client) (full starts : Bool) → floods a k ≡ full → is_start a ≡ starts
+frame_own : (setup : Setup) (past : List Entry) (c m moment : ℕ) (a : Apdu) (k : Client) (full starts : Bool) → floods a k ≡ full → is_start a ≡ starts → is_start_act a ≡ starts
     → ClientTied setup c past k
     → Goes setup c past (entry (steps.Frame c a m) (Ok (reply_of_event (event_of a k)))) (Some (client_after_apdu moment a k))
-frame_own setup past c m moment a k true starts ef es mine =
+frame_own setup past c m moment a k true starts ef es eh mine =
     rw ef (goes_ends setup c past (entry (steps.Frame c a m) (Ok (replies.Closed Flooded))) k (client_after_close k) (rw (eq-eqb c c refl) refl) refl refl refl refl mine)
-frame_own setup past c m moment a k false false ef es mine =
-    rw (ef, es) (goes_alike setup c past (entry (steps.Frame c a m) (Ok replies.Taken)) k k (rw es refl) refl (record { stage = refl; queue = refl; dropped = refl; next_send = refl }) mine)
-frame_own setup past c m moment a k false true ef es mine =
+frame_own setup past c m moment a k false false ef es eh mine =
+    rw (ef, es) (goes_alike setup c past (entry (steps.Frame c a m) (Ok replies.Taken)) k k (rw eh refl) refl (record { stage = refl; queue = refl; dropped = refl; next_send = refl }) mine)
+frame_own setup past c m moment a k false true ef es eh mine =
     rw (ef, es) (elim (cases_Bool (is_in_session k.stage)) [
-      | inl in_session ↦ rw in_session (goes_begins_again setup c past (entry (steps.Frame c a m) (Ok replies.Taken)) k (client_with_confirmation k) (rw (es, eq-eqb c c refl) refl) refl in_session
+      | inl in_session ↦ rw in_session (goes_begins_again setup c past (entry (steps.Frame c a m) (Ok replies.Taken)) k (client_with_confirmation k) (rw (eh, eq-eqb c c refl) refl) refl in_session
           (record { stage = refl; queue = refl; dropped = refl; next_send = refl }) mine)
       | inr out ↦ rw out (goes_begins setup c past (entry (steps.Frame c a m) (Ok replies.Taken)) k (client_with_confirmation (record k { stage = Started; queue = []; dropped = 0 }))
-          (rw (es, eq-eqb c c refl) refl) out refl refl refl refl mine)
+          (rw (eh, eq-eqb c c refl) refl) out refl refl refl refl mine)
     ])
 
-frame_apart : (setup : Setup) (c d m : ℕ) (a : Apdu) (k : Client) (full starts : Bool) → floods a k ≡ full → is_start a ≡ starts → (c ≡ d → ⊥)
+frame_apart : (setup : Setup) (c d m : ℕ) (a : Apdu) (k : Client) (full starts : Bool) → floods a k ≡ full → is_start_act a ≡ starts → (c ≡ d → ⊥)
     → turn_of setup d (entry (steps.Frame c a m) (Ok (reply_of_event (event_of a k)))) ≡ Idle
 frame_apart setup c d m a k true starts ef es ne = rw (ef, ne_eqb c d ne) refl
 frame_apart setup c d m a k false true ef es ne = rw (ef, es, ne_eqb c d ne) refl
@@ -163,8 +175,8 @@ frame setup past c m a r s e tied =
     let reply : reply_of_event (event_of a up.0) ≡ r = sym (ap (client_reply (λ (k : Client). reply_of_event (event_of a k))) up.1) ∙ told.2 in
     subst (λ (x : Reply). Follows setup past (entry step (Ok x)) (after setup s step)) reply
     (one_client setup past step (reply_of_event (event_of a up.0)) s (after setup s step) c (client_after_apdu (latest s m) a) up.0 refl (λ o last. refl)
-    (λ d ne. frame_apart setup c d m a up.0 (floods a up.0) (is_start a) refl refl ne) refl refl refl up.1
-    (frame_own setup past c m (latest s m) a up.0 (floods a up.0) (is_start a) refl refl) tied)
+    (λ d ne. frame_apart setup c d m a up.0 (floods a up.0) (is_start_act a) refl refl ne) refl refl refl up.1
+    (frame_own setup past c m (latest s m) a up.0 (floods a up.0) (is_start a) refl refl (sym (same_start a))) tied)
 
 -- ---- Pump
 
@@ -184,7 +196,7 @@ pump_queue setup past c m k (x ∷ queue) small in_session eq sound mine =
     let says : Said = Numbered (k.next_send % 32768) 0 (Some (news_asdu setup.offset setup.common_address x)) in
     let number : k.next_send % 32768 ≡ sent_to setup c past % 32768 = omega (arith, mine.number) in
     goes_puts_news setup c past (entry (steps.Pump c m) (Ok (replies.Apdu (buffer_of content)))) says x queue k (record k { next_send = (k.next_send + 1) % 32768; queue = queue })
-    (own_turn setup c m content says (said-news setup.offset setup.common_address k.next_send x small sound.0)) refl (rw (eq-eqb setup.common_address setup.common_address refl) refl)
+    (own_turn setup c m content says (said-news setup.offset setup.common_address k.next_send x small sound.0)) refl (rw (eq-eqb setup.common_address setup.common_address refl) refl) (refl, refl)
     number refl in_session eq refl refl refl refl mine
 
 -- a client for which no confirmation waits
@@ -208,7 +220,7 @@ pump_own setup past c m moment k true en small sound mine =
     rw en (pump_news setup past c m k (is_in_session k.stage) refl small sound mine)
 pump_own setup past c m moment k false en small sound mine =
     rw en (goes_puts_other setup c past (entry (steps.Pump c m) (Ok (replies.Apdu (buffer_of (Unnumbered StartCon))))) (Function StartCon) k (record k { confirmations = k.confirmations - 1 })
-    (own_turn setup c m (Unnumbered StartCon) (Function StartCon) (said-content setup.offset (Unnumbered StartCon) tt)) refl refl refl tt refl
+    (own_turn setup c m (Unnumbered StartCon) (Function StartCon) (said-content setup.offset (Unnumbered StartCon) tt)) refl refl refl tt tt refl
     (record { stage = refl; queue = refl; dropped = refl; next_send = refl }) mine)
 
 pump_apart : (setup : Setup) (c d m : ℕ) (given : Option Content) → (c ≡ d → ⊥) → turn_of setup d (entry (steps.Pump c m) (Ok (reply_giving given))) ≡ Idle

@@ -14,7 +14,7 @@ use Rattle.gw_news.specs.Log.{log_of, news_of_entry}
 use Rattle.gw_news.specs.Turns.{Idle, Connects, Begins, Ends, PutsOut, turn_of}
 use Rattle.gw_news.specs.Sessions.{is_started, spontaneous_in, spontaneous_by, is_numbered, puts_numbered, Happening, Came, Gone, session_of, gone_of}
 use Rattle.gw_news.specs.Fates.{Element, is_put_out, is_dropped, fates, fates_from, items_of}
-use Rattle.gw_news.specs.News.{TellsNews}
+use Rattle.gw_news.specs.News.{TellsNews, SaysOfStation, SpeaksBy}
 use Rattle.gw_news.specs.Numbers.{sent_with, sent_to, SaysNumber, HasNumber}
 use Rattle.gw_news.proofs.Settled.{put, AreSettled, before_queue, fates_from-append, queue_grows, queue_shrinks, settled_more, kept_in, queued_in, dropped_in, put_out_more, dropped_same, gone_of-append, none_gone}
 
@@ -41,6 +41,7 @@ pub record Goes (setup : Setup) (c : ℕ) (past : List Entry) (e : Entry) (x : O
   pub tied : SlotTied setup c (e ∷ past) x
   pub numbered : HasNumber (sent_to setup c past) (turn_of setup c e)
   pub quiet : is_started setup c past ≡ false → puts_numbered (turn_of setup c e) ≡ false
+  pub speaks : SpeaksBy setup.common_address (turn_of setup c e)
 
 -- what an entry brings
 abbrev pub brought : Setup → List Entry → Entry → List Observation
@@ -140,11 +141,12 @@ idle_queue setup c past e xs k new Started turn eb stage same queue dropped next
 
 pub goes_idle : (setup : Setup) (c : ℕ) (past : List Entry) (e : Entry) (xs : List Observation) (x : Option Client)
     → turn_of setup c e ≡ Idle → brought setup past e ≡ xs → SlotTied setup c past x → Goes setup c past e (option_map (client_with_news xs) x)
-goes_idle setup c past e xs None turn eb tied = record { tied = rw turn tied; numbered = rw turn tt; quiet = λ stopped. rw turn refl }
+goes_idle setup c past e xs None turn eb tied = record { tied = rw turn tied; numbered = rw turn tt; quiet = λ stopped. rw turn refl; speaks = rw turn tt }
 goes_idle setup c past e xs (Some k) turn eb tied = record {
   tied = idle_queue setup c past e xs k (client_with_news xs k) k.stage turn eb refl refl refl refl refl tied;
   numbered = rw turn tt;
   quiet = λ stopped. rw turn refl;
+  speaks = rw turn tt;
 }
 
 -- a queue to which nothing comes
@@ -160,11 +162,12 @@ goes_alike setup c past e k new turn none alike tied = record {
   tied = idle_queue setup c past e [] k new k.stage turn none refl alike.stage (alike.queue ∙ same_queue k.stage k.queue) alike.dropped alike.next_send tied;
   numbered = rw turn tt;
   quiet = λ stopped. rw turn refl;
+  speaks = rw turn tt;
 }
 
 pub goes_nowhere : (setup : Setup) (c : ℕ) (past : List Entry) (e : Entry) (x : Option Client)
     → turn_of setup c e ≡ Idle → brought setup past e ≡ [] → SlotTied setup c past x → Goes setup c past e x
-goes_nowhere setup c past e None turn none tied = record { tied = rw turn tied; numbered = rw turn tt; quiet = λ stopped. rw turn refl }
+goes_nowhere setup c past e None turn none tied = record { tied = rw turn tied; numbered = rw turn tt; quiet = λ stopped. rw turn refl; speaks = rw turn tt }
 goes_nowhere setup c past e (Some k) turn none tied =
     goes_alike setup c past e k k turn none (record { stage = refl; queue = refl; dropped = refl; next_send = refl }) tied
 
@@ -176,6 +179,7 @@ goes_connects setup c past e new turn out queue dropped next = record {
   tied = stopped_still setup c past e new (rw turn refl) out queue dropped (next ∙ rw turn refl);
   numbered = rw turn tt;
   quiet = λ stopped. rw turn refl;
+  speaks = rw turn tt;
 }
 
 -- its connection is closed
@@ -186,6 +190,7 @@ goes_ends setup c past e k new turn out queue dropped next tied = record {
   tied = stopped_still setup c past e new (rw turn refl) out queue dropped (next ∙ (tied.number ∙ rw turn refl));
   numbered = rw turn tt;
   quiet = λ stopped. rw turn refl;
+  speaks = rw turn tt;
 }
 
 -- its session begins
@@ -207,6 +212,7 @@ goes_begins setup c past e k new turn out in_session queue dropped next tied =
       };
       numbered = rw turn tt;
       quiet = λ stopped. rw turn refl;
+      speaks = rw turn tt;
     }
 
 -- its session stands already, and goes on
@@ -220,14 +226,15 @@ goes_begins_again setup c past e k new turn none in_session alike tied =
           (alike.queue ∙ sym (append-nil k.queue)) alike.dropped (alike.next_send ∙ (tied.number ∙ rw turn refl)) tied;
       numbered = rw turn tt;
       quiet = λ stopped. rw turn refl;
+      speaks = rw turn tt;
     }
 
 -- something without a number that isn't spontaneous is put out to it
 pub goes_puts_other : (setup : Setup) (c : ℕ) (past : List Entry) (e : Entry) (said : Said) (k new : Client)
     → turn_of setup c e ≡ PutsOut said → brought setup past e ≡ [] → spontaneous_in setup.common_address said ≡ []
-    → is_numbered said ≡ false → SaysNumber (sent_to setup c past) said → sent_with said (sent_to setup c past) ≡ sent_to setup c past → Alike k new
+    → is_numbered said ≡ false → SaysOfStation setup.common_address said → SaysNumber (sent_to setup c past) said → sent_with said (sent_to setup c past) ≡ sent_to setup c past → Alike k new
     → ClientTied setup c past k → Goes setup c past e (Some new)
-goes_puts_other setup c past e said k new turn none nothing unnumbered says same alike tied = record {
+goes_puts_other setup c past e said k new turn none nothing unnumbered ours says same alike tied = record {
   tied = elim (cases_Bool (is_in_session k.stage)) [
     | inl in_session ↦
         (let was : is_started setup c past ≡ true = tied.started ∙ in_session in
@@ -240,6 +247,7 @@ goes_puts_other setup c past e said k new turn none nothing unnumbered says same
   ];
   numbered = rw turn says;
   quiet = λ stopped. rw turn unnumbered;
+  speaks = rw turn ours;
 }
   where
     number : new.next_send ≡ sent_to setup c (e ∷ past) % 32768
@@ -248,10 +256,10 @@ goes_puts_other setup c past e said k new turn none nothing unnumbered says same
 -- its oldest news are put out
 pub goes_puts_news : (setup : Setup) (c : ℕ) (past : List Entry) (e : Entry) (said : Said) (x : Observation) (queue : List Observation) (k new : Client)
     → turn_of setup c e ≡ PutsOut said → brought setup past e ≡ [] → spontaneous_in setup.common_address said ≡ x ∷ []
-    → SaysNumber (sent_to setup c past) said → sent_with said (sent_to setup c past) ≡ sent_to setup c past + 1
+    → SaysOfStation setup.common_address said → SaysNumber (sent_to setup c past) said → sent_with said (sent_to setup c past) ≡ sent_to setup c past + 1
     → is_in_session k.stage ≡ true → k.queue ≡ x ∷ queue → new.stage ≡ k.stage → new.queue ≡ queue → new.dropped ≡ k.dropped
     → new.next_send ≡ (k.next_send + 1) % 32768 → ClientTied setup c past k → Goes setup c past e (Some new)
-goes_puts_news setup c past e said x queue k new turn none puts says one_more in_session front stage rest dropped next tied =
+goes_puts_news setup c past e said x queue k new turn none puts ours says one_more in_session front stage rest dropped next tied =
     let hs : List Happening = session_of setup c past in
     let was : is_started setup c past ≡ true = tied.started ∙ in_session in
     let by : spontaneous_by setup.common_address (turn_of setup c e) ≡ x ∷ [] = rw turn puts in
@@ -276,6 +284,7 @@ goes_puts_news setup c past e said x queue k new turn none puts says one_more in
       };
       numbered = rw turn says;
       quiet = λ stopped. absurd (true≢false (sym was ∙ stopped));
+      speaks = rw turn ours;
     }
 
 -- ---- what a tie tells

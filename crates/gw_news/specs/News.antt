@@ -7,7 +7,9 @@ use Rattle.gw_picture.specs.Log.{picture_of}
 use Rattle.gw_station.specs.Client.{Client, is_started as is_in_session}
 use Rattle.gw_steps.specs.Runs.{Entry, state_after}
 use Rattle.gw_news.specs.Log.{log_of}
-use Rattle.gw_news.specs.Turns.{turn_of}
+use Rattle.iec_asdu.specs.Asdu.{Asdu}
+use Rattle.gw_steps.specs.Said.{Said, Numbered, Receipt, Function}
+use Rattle.gw_news.specs.Turns.{Turn, Idle, Connects, Begins, Ends, PutsOut, Garbles, turn_of}
 use Rattle.gw_news.specs.Sessions.{is_started, session_of, gone_of, puts_numbered}
 use Rattle.gw_news.specs.Fates.{fates, items_of, is_queued, is_dropped, is_kept}
 
@@ -30,9 +32,33 @@ abbrev pub QuietLast : Setup → ℕ → List Entry → Type 0
 QuietLast setup c [] = Unit {0}
 QuietLast setup c (e ∷ past) = is_started setup c past ≡ false → puts_numbered (turn_of setup c e) ≡ false
 
+-- an I format carries an ASDU of the station, with cause 3 (spontaneous)
+abbrev pub IsOfStation : ℕ → Option Asdu → Type 0
+IsOfStation common None = ⊥
+IsOfStation common (Some asdu) = (asdu.cause ≡ 3) × (asdu.common_address ≡ common)
+
+abbrev pub SaysOfStation : ℕ → Said → Type 0
+SaysOfStation common (Numbered ns nr asdu) = IsOfStation common asdu
+SaysOfStation common (Receipt nr) = Unit {0}
+SaysOfStation common (Function signal) = Unit {0}
+
+abbrev pub SpeaksBy : ℕ → Turn → Type 0
+SpeaksBy common Idle = Unit {0}
+SpeaksBy common Connects = Unit {0}
+SpeaksBy common Begins = Unit {0}
+SpeaksBy common Ends = Unit {0}
+SpeaksBy common (PutsOut said) = SaysOfStation common said
+SpeaksBy common Garbles = ⊥
+
+-- no I format carries anything else to a client
+abbrev pub SpeaksLast : Setup → ℕ → List Entry → Type 0
+SpeaksLast setup c [] = Unit {0}
+SpeaksLast setup c (e ∷ past) = SpeaksBy setup.common_address (turn_of setup c e)
+
 -- what holds at a place of a run
 pub record Holds (setup : Setup) (past : List Entry) : Type 0 where
   pub picture : (state_after setup past).picture ≡ picture_of setup.rows (log_of setup past)
   pub sessions : (c : ℕ) → is_started setup c past ≡ in_session (client_at setup c past)
   pub news : (c : ℕ) → IfSome (client_at setup c past) (TellsNews setup c past)
   pub quiet : (c : ℕ) → QuietLast setup c past
+  pub speaks : (c : ℕ) → SpeaksLast setup c past

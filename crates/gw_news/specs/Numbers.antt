@@ -4,7 +4,7 @@ use Rattle.std.specs.Prelude.{◌≡◌, ℕ, ◌+◌, ◌%◌, List, [], ◌∷
 use Rattle.gw_model.specs.Rows.{Setup}
 use Rattle.gw_steps.specs.Runs.{Entry}
 use Rattle.gw_steps.specs.Said.{Said, Numbered, Receipt, Function}
-use Rattle.gw_news.specs.Turns.{Turn, Idle, Connects, Begins, Ends, PutsOut, turn_of}
+use Rattle.gw_news.specs.Turns.{Turn, Idle, Connects, Begins, Ends, PutsOut, Garbles, turn_of}
 
 -- one more, where it is an I format
 abbrev pub sent_with : Said → ℕ → ℕ
@@ -18,6 +18,7 @@ sent_after Connects n = 0
 sent_after Begins n = n
 sent_after Ends n = n
 sent_after (PutsOut said) n = sent_with said n
+sent_after Garbles n = n
 
 -- how many I formats were put out since the client came up
 abbrev pub sent_to : Setup → ℕ → List Entry → ℕ
@@ -29,13 +30,14 @@ SaysNumber n (Numbered ns nr asdu) = ns ≡ n % 32768
 SaysNumber n (Receipt nr) = Unit {0}
 SaysNumber n (Function signal) = Unit {0}
 
--- behind n I formats
+-- behind n I formats; and what is put out is an APDU
 abbrev pub HasNumber : ℕ → Turn → Type 0
 HasNumber n Idle = Unit {0}
 HasNumber n Connects = Unit {0}
 HasNumber n Begins = Unit {0}
 HasNumber n Ends = Unit {0}
 HasNumber n (PutsOut said) = SaysNumber n said
+HasNumber n Garbles = ⊥
 
 -- the last entry of a history puts out the number of its place to each client
 abbrev pub NumbersLast : Setup → List Entry → Type 0

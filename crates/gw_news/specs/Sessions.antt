@@ -6,7 +6,7 @@ use Rattle.iec_asdu.specs.Asdu.{Asdu}
 use Rattle.gw_steps.specs.Runs.{Entry}
 use Rattle.gw_steps.specs.Said.{Said, Numbered, Receipt, Function}
 use Rattle.gw_news.specs.Log.{log_of, news_of_entry}
-use Rattle.gw_news.specs.Turns.{Turn, Idle, Connects, Begins, Ends, PutsOut, turn_of}
+use Rattle.gw_news.specs.Turns.{Turn, Idle, Connects, Begins, Ends, PutsOut, Garbles, turn_of}
 
 abbrev pub started_after : Turn → Bool → Bool
 started_after Idle started = started
@@ -14,6 +14,7 @@ started_after Connects started = false
 started_after Begins started = true
 started_after Ends started = false
 started_after (PutsOut said) started = started
+started_after Garbles started = started
 
 abbrev pub is_started : Setup → ℕ → List Entry → Bool
 is_started setup c [] = false
@@ -37,6 +38,7 @@ spontaneous_by common Connects = []
 spontaneous_by common Begins = []
 spontaneous_by common Ends = []
 spontaneous_by common (PutsOut said) = spontaneous_in common said
+spontaneous_by common Garbles = []
 
 -- whether an I format is put out
 abbrev pub is_numbered : Said → Bool
@@ -50,6 +52,7 @@ puts_numbered Connects = false
 puts_numbered Begins = false
 puts_numbered Ends = false
 puts_numbered (PutsOut said) = is_numbered said
+puts_numbered Garbles = false
 
 pub data Happening : Type 0 where
   Came : Observation → Happening

@@ -1,7 +1,9 @@
 -- What a step is to a client, by the step and its reply alone.
-use Rattle.std.specs.Prelude.{ℕ, ◌&&◌, ◌==◌, Option, Some, None, if◌then◌else◌}
+use Rattle.std.specs.Prelude.{ℕ, Bool, true, false, ◌&&◌, ◌==◌, Option, Some, None, if◌then◌else◌}
 use Rattle.gw_model.specs.Rows.{Setup}
-use Rattle.gw_station.specs.Frames.{is_start}
+use Rattle.iec_apci.specs.declared.apdu.Apdu.{Apdu}
+use Rattle.iec_apci.specs.declared.apdu.Apdu.TheVariants.{U}
+use Rattle.iec_apci.specs.declared.apdu.Signal.TheVariants.{StartAct}
 use Rattle.gw_steps.specs.declared.step.Step.{Step}
 use Rattle.gw_steps.specs.declared.step.Step.TheVariants as steps
 use Rattle.gw_steps.specs.declared.step.Reply.{Reply}
@@ -20,15 +22,22 @@ pub data Turn : Type 0 where
   Ends : Turn
   -- this was put out to it
   PutsOut : Said → Turn
+  -- octets that aren't one APDU were put out to it
+  Garbles : Turn
 
 abbrev pub puts_out : Option Said → Turn
-puts_out None = Idle
+puts_out None = Garbles
 puts_out (Some said) = PutsOut said
+
+-- the APDU is STARTDT act
+abbrev pub is_start_act : Apdu → Bool
+is_start_act (U StartAct) = true
+is_start_act _ = false
 
 -- what a step with this reply is to client c
 abbrev pub turn_with : Setup → ℕ → Step → Reply → Turn
 turn_with setup c (steps.ClientUp d moment) replies.Done = if d == c then Connects else Idle
-turn_with setup c (steps.Frame d apdu moment) replies.Taken = if is_start apdu && (d == c) then Begins else Idle
+turn_with setup c (steps.Frame d apdu moment) replies.Taken = if is_start_act apdu && (d == c) then Begins else Idle
 turn_with setup c (steps.Frame d apdu moment) (replies.Closed why) = if d == c then Ends else Idle
 turn_with setup c (steps.Pump d moment) (replies.Apdu apdu) = if d == c then puts_out (said setup.offset apdu) else Idle
 turn_with setup c _ _ = Idle

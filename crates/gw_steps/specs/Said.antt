@@ -3,7 +3,7 @@ use Rattle.std.specs.Prelude.{ℕ, ℤ, List, [], ◌∷◌, take, Option, Some,
 use Rattle.iec_apci.specs.declared.apdu.Signal.{Signal}
 use Rattle.iec_apci.specs.declared.buffer.ApduBuf.{ApduBuf}
 use Rattle.iec_apci.specs.Apdu.{Content, Information, Supervisory, Unnumbered}
-use Rattle.iec_apci.specs.Stream.{reading}
+use Rattle.iec_apci.specs.Stream.{Ending, Open, reading}
 use Rattle.iec_asdu.specs.Asdu.{Asdu, asdu_meaning, monitor_types}
 use Rattle.iec_asdu.specs.Spelling.{type_of}
 use Rattle.gw_time.specs.Spelling.{tag_of}
@@ -22,15 +22,15 @@ said_by offset (Information ns nr asdu) = Numbered ns nr (asdu_meaning (monitor_
 said_by offset (Supervisory nr) = Receipt nr
 said_by offset (Unnumbered signal) = Function signal
 
--- the one that there is
-abbrev pub only_one : List Content → Option Content
-only_one [] = None
-only_one (c ∷ []) = Some c
-only_one (c ∷ d ∷ cs) = None
+-- the one APDU that is read, with nothing behind it
+abbrev pub only_one : List Content → Ending → Option Content
+only_one (c ∷ []) (Open []) = Some c
+only_one _ _ = None
 
 -- octets that are one APDU say what it carries
 abbrev pub said : ℤ → ApduBuf → Option Said
-said offset apdu = option_map (said_by offset) (only_one (reading (take apdu.len apdu.octets)).apdus)
+said offset apdu =
+    let read = reading (take apdu.len apdu.octets) in option_map (said_by offset) (only_one read.apdus read.ending)
 
 -- the ASDU of an observation as news: cause spontaneous
 abbrev pub news_asdu : ℤ → ℕ → Observation → Asdu
