@@ -3,6 +3,7 @@
 
 use gw_model::{Kind, Quality};
 use gw_translate::quality;
+use std::process::Abort;
 
 const GOOD: Quality = Quality::GOOD;
 
@@ -40,12 +41,30 @@ const QUALITIES: [(Kind, [Quality; 8]); 5] = [
     (Kind::Counter, [GOOD, IV, IV, GOOD, GOOD, CY, CA, GOOD]),
 ];
 
+fn check_quality(rt: &impl Abort, kind: Kind, flags: u8, wanted: Quality) {
+    assert_eq!(rt; quality(kind, flags), wanted, "{kind:?} {flags:02X}");
+}
+
+fn check_online(rt: &impl Abort, kind: Kind, qualities: &[Quality; 8]) {
+    for place in 0..8 {
+        check_quality(rt, kind, ONLINE[place], qualities[place]);
+    }
+}
+
 #[test]
 fn each_flag_beside_online(rt: HostRuntime) {
     for (kind, qualities) in QUALITIES {
-        for (flags, wanted) in ONLINE.iter().zip(qualities) {
-            assert_eq!(rt; quality(kind, *flags), wanted, "{kind:?} {flags:02X}");
-        }
+        check_online(&rt, kind, &qualities);
+    }
+}
+
+fn check_offline(rt: &impl Abort, kind: Kind, qualities: &[Quality; 8]) {
+    for place in 0..8 {
+        let wanted = Quality {
+            iv: true,
+            ..qualities[place]
+        };
+        check_quality(rt, kind, OFFLINE[place], wanted);
     }
 }
 
@@ -53,9 +72,6 @@ fn each_flag_beside_online(rt: HostRuntime) {
 #[test]
 fn each_flag_alone(rt: HostRuntime) {
     for (kind, qualities) in QUALITIES {
-        for (flags, online) in OFFLINE.iter().zip(qualities) {
-            let wanted = Quality { iv: true, ..online };
-            assert_eq!(rt; quality(kind, *flags), wanted, "{kind:?} {flags:02X}");
-        }
+        check_offline(&rt, kind, &qualities);
     }
 }

@@ -1,29 +1,12 @@
-ghost use Rattle.std.specs.Prelude.{◌≤◌, length};
+ghost use Rattle.std.specs.Prelude.{◌<◌, ◌≤◌, length};
 
 use dnp_app::read_response;
-use gw_hub::{Apdu, Hub, Ignored, Reply, Signal, Step, StepFault, Verdict};
+use gw_hub::{Apdu, ApduBuf, Hub, Ignored, Reply, Signal, Step, StepFault, Verdict};
 use gw_model::{Observation, Quality, Settings, Stamp, Value};
 use gw_station::{news_format, start_confirmation};
 use gw_time::Zone;
+use std::process::Abort;
 use std::test::Fail;
-
-/// What is shown of a row, without a time.
-fn shown(address: u32, value: Value, quality: Quality) -> Observation {
-    Observation {
-        address,
-        value,
-        quality,
-        stamp: Stamp::Untimed,
-    }
-}
-
-/// Input 5, shown as on.
-const ON: Observation = Observation {
-    address: 4101,
-    value: Value::Single(true),
-    quality: Quality::GOOD,
-    stamp: Stamp::Untimed,
-};
 
 /// A quality without any other bit than IV.
 const INVALID: Quality = Quality {
@@ -37,19 +20,48 @@ const UNKNOWN: Quality = Quality {
     ..INVALID
 };
 
-#[test]
-fn apdus(rt: HostRuntime) -> Result<(), Fail> {
-    let con = start_confirmation();
-    assert_eq!(rt; con.len, 6);
-    assert_eq!(rt; &con.octets[..6], [0x68, 4, 0x0B, 0, 0, 0].as_slice());
+/// Input 5, shown as on.
+const ON: Observation = Observation {
+    address: 4101,
+    value: Value::Single(true),
+    quality: Quality::GOOD,
+    stamp: Stamp::Untimed,
+};
+
+/// The picture where nothing else was reported.
+const PICTURE: &[Observation] = &[
+    ON,
+    Observation {
+        address: 4201,
+        value: Value::Scaled(0),
+        quality: UNKNOWN,
+        stamp: Stamp::Untimed,
+    },
+    Observation {
+        address: 4301,
+        value: Value::Total(0),
+        quality: INVALID,
+        stamp: Stamp::Untimed,
+    },
+];
+
+/// An I format that shows input 5 as on.
+fn news_of_on(ns: u16) -> ApduBuf
+    requires { ns < 32768 }
+{
     let settings = Settings::built_in();
-    let apdu = news_format(2, 1, &Zone::of(&settings), &ON);
-    assert_eq!(rt; apdu.len, 16);
-    let want = [
-        0x68, 0x0E, 0x04, 0, 0, 0, 1, 1, 3, 0, 1, 0, 0x05, 0x10, 0, 0x01,
-    ];
-    assert_eq!(rt; &apdu.octets[..16], want.as_slice());
-    Ok(())
+    news_format(ns, settings.common_address(), &Zone::of(&settings), &ON)
+}
+
+fn check_apdu(rt: &impl Abort, apdu: &ApduBuf, octets: &[u8]) {
+    assert_eq!(rt; apdu.as_slice(), octets);
+}
+
+#[test]
+fn apdus(rt: HostRuntime) {
+    check_apdu(&rt, &start_confirmation(), b"\x68\x04\x0B\x00\x00\x00");
+    let news = b"\x68\x0E\x04\x00\x00\x00\x01\x01\x03\x00\x01\x00\x05\x10\x00\x01";
+    check_apdu(&rt, &news_of_on(2), news);
 }
 
 /// An unsolicited response that asks for a confirmation: input 5 is on.
@@ -58,156 +70,157 @@ const EVENT: [u8; 10] = [0xF0, 0x82, 0, 0, 2, 1, 0x17, 1, 5, 0x81];
 /// An unsolicited response that asks for a confirmation: analog input 0 is 7, static.
 const READING: [u8; 12] = [0xF1, 0x82, 0, 0, 0x1E, 2, 0x17, 1, 0, 1, 7, 0];
 
-fn fragment(rt: &HostRuntime, octets: &[u8]) -> Result<Step, Fail>
+fn fragment(rt: &impl AllocGlobal, octets: &[u8]) -> Result<Step, Fail>
     requires { length octets.now ≤ 2048 }
 {
     let octets = Vec::from_slice(rt.alloc(), octets)?;
-    let response = read_response(rt.alloc(), 0, octets);
-    match response {
-        Ok(response) => Ok(Step::Fragment {
-            response,
-            moment: 0,
-        }),
-        Err(fault) => Err(Fail::new(fault)),
+    let response = read_response(rt.alloc(), 0, octets)?;
+    Ok(Step::Fragment {
+        response,
+        moment: 0,
+    })
+}
+
+fn client_up(client: u8) -> Step {
+    Step::ClientUp { client, moment: 0 }
+}
+
+fn frame(client: u8, apdu: Apdu) -> Step {
+    Step::Frame {
+        client,
+        apdu,
+        moment: 0,
+    }
+}
+
+fn pump(client: u8) -> Step {
+    Step::Pump { client, moment: 0 }
+}
+
+fn outstation_up(outstation: u8) -> Step {
+    Step::OutstationUp {
+        outstation,
+        moment: 0,
     }
 }
 
 /// The client and the outstation come up, the session begins.
-fn begun(rt: &HostRuntime) -> Result<Vec<Step>, Fail> {
-    let start = Step::Frame {
-        client: 0,
-        apdu: Apdu::U(Signal::StartAct),
-        moment: 0,
-    };
+fn begun(rt: &impl AllocGlobal) -> Result<Vec<Step>, Fail> {
     let mut steps = Vec::new(rt.alloc());
-    steps.push(Step::ClientUp {
-        client: 0,
-        moment: 0,
-    })?;
-    steps.push(start)?;
-    steps.push(Step::Pump {
-        client: 0,
-        moment: 0,
-    })?;
-    steps.push(Step::OutstationUp {
-        outstation: 0,
-        moment: 0,
-    })?;
+    steps.push(client_up(0))?;
+    steps.push(frame(0, Apdu::U(Signal::StartAct)))?;
+    steps.push(pump(0))?;
+    steps.push(outstation_up(0))?;
     Ok(steps)
+}
+
+/// A hub that made these steps.
+fn begun_hub(rt: &(impl Abort + AllocGlobal)) -> Result<Hub, Fail> {
+    let mut hub = Hub::new(rt.alloc(), Settings::built_in())?;
+    for step in &begun(rt)? {
+        assert!(rt; hub.step(step).is_ok());
+    }
+    Ok(hub)
+}
+
+/// The hub replies so to a step.
+fn check_step(rt: &impl Abort, hub: &mut Hub, step: &Step, reply: Reply) {
+    assert_eq!(rt; hub.step(step), Ok(reply));
+}
+
+/// The hub replies so to a fragment.
+fn check_fragment(
+    rt: &(impl Abort + AllocGlobal),
+    hub: &mut Hub,
+    octets: &[u8],
+    verdict: Verdict,
+) -> Result<(), Fail>
+    requires { length octets.now ≤ 2048 }
+{
+    let step = fragment(rt, octets)?;
+    check_step(rt, hub, &step, Reply::Verdict(verdict));
+    Ok(())
+}
+
+/// One news waits for the client, and none was dropped; the picture shows it.
+fn check_on(rt: &impl Abort, hub: &Hub) {
+    assert_eq!(rt; (hub.queued(0), hub.dropped(0)), (1, 0));
+    assert_eq!(rt; hub.picture(), PICTURE);
 }
 
 #[test]
 fn a_hub_takes_an_event_once(rt: HostRuntime) -> Result<(), Fail> {
-    let mut hub = Hub::new(rt.alloc(), Settings::built_in())?;
-    for step in &begun(&rt)? {
-        assert!(rt; hub.step(step).is_ok());
-    }
+    let mut hub = begun_hub(&rt)?;
     let confirm = Some([0xD0, 0]);
-    let event = fragment(&rt, &EVENT)?;
-    assert_eq!(rt;
-        hub.step(&event),
-        Ok(Reply::Verdict(Verdict::Accepted { confirm }))
-    );
-    assert_eq!(rt;
-        hub.step(&event),
-        Ok(Reply::Verdict(Verdict::Repeated { confirm }))
-    );
-    assert_eq!(rt; (hub.queued(0), hub.dropped(0)), (1, 0));
-    let picture = [
-        ON,
-        shown(4201, Value::Scaled(0), UNKNOWN),
-        shown(4301, Value::Total(0), INVALID),
-    ];
-    assert_eq!(rt; hub.picture(), picture.as_slice());
-    let solicited = fragment(&rt, &[0xC0, 0x81, 0, 0])?;
-    let ignored = Reply::Verdict(Verdict::Ignored(Ignored::NoRequest));
-    assert_eq!(rt; hub.step(&solicited), Ok(ignored));
-    Ok(())
+    check_fragment(&rt, &mut hub, &EVENT, Verdict::Accepted { confirm })?;
+    check_fragment(&rt, &mut hub, &EVENT, Verdict::Repeated { confirm })?;
+    check_on(&rt, &hub);
+    let ignored = Verdict::Ignored(Ignored::NoRequest);
+    check_fragment(&rt, &mut hub, &[0xC0, 0x81, 0, 0], ignored)
 }
 
 /// Only STARTDT act is acted on so far: any other APDU is taken and changes nothing.
 #[test]
 fn other_apdus_change_nothing(rt: HostRuntime) -> Result<(), Fail> {
     let mut hub = Hub::new(rt.alloc(), Settings::built_in())?;
-    let up = Step::ClientUp {
-        client: 0,
-        moment: 0,
-    };
-    assert_eq!(rt; hub.step(&up), Ok(Reply::Done));
+    check_step(&rt, &mut hub, &client_up(0), Reply::Done);
     for apdu in [Apdu::U(Signal::TestAct), Apdu::S { nr: 7 }] {
-        let frame = Step::Frame {
-            client: 0,
-            apdu,
-            moment: 0,
-        };
-        assert_eq!(rt; hub.step(&frame), Ok(Reply::Taken));
+        check_step(&rt, &mut hub, &frame(0, apdu), Reply::Taken);
     }
-    let pump = Step::Pump {
-        client: 0,
-        moment: 0,
-    };
-    assert_eq!(rt; hub.step(&pump), Ok(Reply::Nothing));
+    check_step(&rt, &mut hub, &pump(0), Reply::Nothing);
     Ok(())
 }
 
-#[test]
-fn a_run_replies_to_each_step(rt: HostRuntime) -> Result<(), Fail> {
-    let mut steps = begun(&rt)?;
-    steps.push(fragment(&rt, &EVENT)?)?;
-    steps.push(Step::Pump {
-        client: 0,
-        moment: 0,
-    })?;
-    steps.push(Step::Pump {
-        client: 0,
-        moment: 0,
-    })?;
-    steps.push(Step::Pump {
-        client: 1,
-        moment: 0,
-    })?;
-    let (hub, replies) = Hub::run(rt.alloc(), Settings::built_in(), steps)?;
-    let settings = Settings::built_in();
-    let news = news_format(0, settings.common_address(), &Zone::of(&settings), &ON);
-    let want = [
+/// The session begins, an event comes, and three APDUs are asked for, the last for a client that isn't there.
+fn steps_of_an_event(rt: &impl AllocGlobal) -> Result<Vec<Step>, Fail> {
+    let mut steps = begun(rt)?;
+    steps.push(fragment(rt, &EVENT)?)?;
+    for client in [0, 0, 1] {
+        steps.push(pump(client))?;
+    }
+    Ok(steps)
+}
+
+fn are_replies_to_an_event(replies: &[Result<Reply, StepFault>]) -> bool {
+    let confirm = Some([0xD0, 0]);
+    let wanted = [
         Ok(Reply::Done),
         Ok(Reply::Taken),
         Ok(Reply::Apdu(start_confirmation())),
         Ok(Reply::Done),
-        Ok(Reply::Verdict(Verdict::Accepted {
-            confirm: Some([0xD0, 0]),
-        })),
-        Ok(Reply::Apdu(news)),
+        Ok(Reply::Verdict(Verdict::Accepted { confirm })),
+        Ok(Reply::Apdu(news_of_on(0))),
         Ok(Reply::Nothing),
         Err(StepFault::NoClient),
     ];
-    assert_eq!(rt; replies.as_slice(), want.as_slice());
+    replies == wanted.as_slice()
+}
+
+#[test]
+fn a_run_replies_to_each_step(rt: HostRuntime) -> Result<(), Fail> {
+    let steps = steps_of_an_event(&rt)?;
+    let (hub, replies) = Hub::run(rt.alloc(), Settings::built_in(), steps)?;
+    assert!(rt; are_replies_to_an_event(&replies), "{replies:?}");
     assert_eq!(rt; (hub.queued(0), hub.queued(1)), (0, 0));
     Ok(())
 }
 
+/// The reply to a step is an APDU of these octets.
+fn check_apdu_out(rt: &impl Abort, hub: &mut Hub, step: &Step, octets: &[u8]) {
+    let reply = hub.step(step);
+    match &reply {
+        Ok(Reply::Apdu(apdu)) => check_apdu(rt, apdu, octets),
+        _ => assert!(rt; false, "{reply:?}"),
+    }
+}
+
 #[test]
 fn a_static_change_is_put_out(rt: HostRuntime) -> Result<(), Fail> {
-    let mut hub = Hub::new(rt.alloc(), Settings::built_in())?;
-    for step in &begun(&rt)? {
-        assert!(rt; hub.step(step).is_ok());
-    }
+    let mut hub = begun_hub(&rt)?;
     let confirm = Some([0xD1, 0]);
-    assert_eq!(rt;
-        hub.step(&fragment(&rt, &READING)?),
-        Ok(Reply::Verdict(Verdict::Accepted { confirm }))
-    );
-    let pump = Step::Pump {
-        client: 0,
-        moment: 0,
-    };
-    let want = [
-        0x68, 0x10, 0, 0, 0, 0, 0x0B, 1, 3, 0, 1, 0, 0x69, 0x10, 0, 7, 0, 0,
-    ];
-    match hub.step(&pump) {
-        Ok(Reply::Apdu(apdu)) => assert_eq!(rt; &apdu.octets[..18], want.as_slice()),
-        reply => assert_eq!(rt; reply, Ok(Reply::Done)),
-    }
-    assert_eq!(rt; hub.step(&pump), Ok(Reply::Nothing));
+    check_fragment(&rt, &mut hub, &READING, Verdict::Accepted { confirm })?;
+    let wanted = b"\x68\x10\x00\x00\x00\x00\x0B\x01\x03\x00\x01\x00\x69\x10\x00\x07\x00\x00";
+    check_apdu_out(&rt, &mut hub, &pump(0), wanted);
+    check_step(&rt, &mut hub, &pump(0), Reply::Nothing);
     Ok(())
 }

@@ -3,30 +3,51 @@
 use gw_model::{Kind, Memory, Observation, PointKey, Quality, Raw, Report, Settings, Stamp, Value};
 use gw_picture::Picture;
 use gw_time::Zone;
+use std::process::Abort;
 
-/// A report of binary input 5, online.
-fn input_5(on: bool, event: bool) -> Report {
-    Report {
-        key: PointKey {
-            outstation: 0,
-            kind: Kind::Binary,
-            index: 5,
-        },
-        raw: Raw::Bit(on),
-        flags: if on { 0x81 } else { 0x01 },
-        stamp: Stamp::Untimed,
-        event,
-    }
-}
+const INPUT_5: PointKey = PointKey {
+    outstation: 0,
+    kind: Kind::Binary,
+    index: 5,
+};
+
+const ANALOG_0: PointKey = PointKey {
+    outstation: 0,
+    kind: Kind::Analog,
+    index: 0,
+};
+
+/// A static report that binary input 5 is off, online.
+const OFF: Report = Report {
+    key: INPUT_5,
+    raw: Raw::Bit(false),
+    flags: 0x01,
+    stamp: Stamp::Untimed,
+    event: false,
+};
+
+/// A static report that it is on.
+const ON: Report = Report {
+    key: INPUT_5,
+    raw: Raw::Bit(true),
+    flags: 0x81,
+    stamp: Stamp::Untimed,
+    event: false,
+};
+
+/// An event: it is on.
+const ON_EVENT: Report = Report {
+    key: INPUT_5,
+    raw: Raw::Bit(true),
+    flags: 0x81,
+    stamp: Stamp::Untimed,
+    event: true,
+};
 
 /// An event of binary input 5: it is on since an instant.
-fn input_5_on_at(stamp: Stamp) -> Report {
+fn on_at(stamp: Stamp) -> Report {
     Report {
-        key: PointKey {
-            outstation: 0,
-            kind: Kind::Binary,
-            index: 5,
-        },
+        key: INPUT_5,
         raw: Raw::Bit(true),
         flags: 0x81,
         stamp,
@@ -34,30 +55,23 @@ fn input_5_on_at(stamp: Stamp) -> Report {
     }
 }
 
-/// A static report of analog input 0, online.
-fn analog_0(number: i32) -> Report {
-    Report {
-        key: PointKey {
-            outstation: 0,
-            kind: Kind::Analog,
-            index: 0,
-        },
-        raw: Raw::Number(number),
-        flags: 0x01,
-        stamp: Stamp::Untimed,
-        event: false,
-    }
-}
+/// A static report that analog input 0 is -2, online.
+const MINUS_TWO: Report = Report {
+    key: ANALOG_0,
+    raw: Raw::Number(-2),
+    flags: 0x01,
+    stamp: Stamp::Untimed,
+    event: false,
+};
 
-/// What is shown of a row, without a time.
-fn shown(address: u32, value: Value, quality: Quality) -> Observation {
-    Observation {
-        address,
-        value,
-        quality,
-        stamp: Stamp::Untimed,
-    }
-}
+/// The same of 7.
+const SEVEN: Report = Report {
+    key: ANALOG_0,
+    raw: Raw::Number(7),
+    flags: 0x01,
+    stamp: Stamp::Untimed,
+    event: false,
+};
 
 const INVALID: Quality = Quality {
     iv: true,
@@ -69,81 +83,105 @@ const UNKNOWN: Quality = Quality {
     ..INVALID
 };
 
+const SHOWN_ON: Observation = Observation {
+    address: 4101,
+    value: Value::Single(true),
+    quality: Quality::GOOD,
+    stamp: Stamp::Untimed,
+};
+
+const SHOWN_MINUS_TWO: Observation = Observation {
+    address: 4201,
+    value: Value::Scaled(-2),
+    quality: Quality::GOOD,
+    stamp: Stamp::Untimed,
+};
+
+/// What is shown of the counter, of which nothing is reported.
+const SHOWN_TOTAL: Observation = Observation {
+    address: 4301,
+    value: Value::Total(0),
+    quality: INVALID,
+    stamp: Stamp::Untimed,
+};
+
+/// What is shown before any report.
+const OPENING: &[Observation] = &[
+    Observation {
+        address: 4101,
+        value: Value::Single(false),
+        quality: UNKNOWN,
+        stamp: Stamp::Untimed,
+    },
+    Observation {
+        address: 4201,
+        value: Value::Scaled(0),
+        quality: UNKNOWN,
+        stamp: Stamp::Untimed,
+    },
+    SHOWN_TOTAL,
+];
+
+fn opened(rt: &impl AllocGlobal) -> Result<Picture, Memory> {
+    Picture::new(rt.alloc(), &Settings::built_in())
+}
+
+fn check_rows(rt: &impl Abort, picture: &Picture, rows: &[Observation]) {
+    assert_eq!(rt; picture.rows(), rows);
+}
+
+/// What a picture gives for a report.
+fn take(picture: &mut Picture, report: &Report) -> Option<Observation> {
+    picture.take(report, &Settings::built_in(), &Zone::UTC)
+}
+
+/// A picture gives this for a report.
+fn check_take(rt: &impl Abort, picture: &mut Picture, report: &Report, given: Observation) {
+    assert_eq!(rt; take(picture, report), Some(given));
+}
+
 #[test]
 fn a_picture_shows_what_came_last(rt: HostRuntime) -> Result<(), Memory> {
-    let settings = Settings::built_in();
-    let mut picture = Picture::new(rt.alloc(), &settings)?;
-    let total = shown(4301, Value::Total(0), INVALID);
-    let opening = [
-        shown(4101, Value::Single(false), UNKNOWN),
-        shown(4201, Value::Scaled(0), UNKNOWN),
-        total,
-    ];
-    assert_eq!(rt; picture.rows(), opening.as_slice());
-    let on = shown(4101, Value::Single(true), Quality::GOOD);
-    let analog_value = shown(4201, Value::Scaled(-2), Quality::GOOD);
-    assert_eq!(rt;
-        picture.take(&input_5(true, true), &settings, &Zone::UTC),
-        Some(on)
-    );
-    assert_eq!(rt;
-        picture.take(&analog_0(-2), &settings, &Zone::UTC),
-        Some(analog_value)
-    );
-    assert_eq!(rt; picture.rows(), [on, analog_value, total].as_slice());
+    let mut picture = opened(&rt)?;
+    check_rows(&rt, &picture, OPENING);
+    check_take(&rt, &mut picture, &ON_EVENT, SHOWN_ON);
+    check_take(&rt, &mut picture, &MINUS_TWO, SHOWN_MINUS_TWO);
+    check_rows(&rt, &picture, &[SHOWN_ON, SHOWN_MINUS_TWO, SHOWN_TOTAL]);
     Ok(())
 }
 
 #[test]
 fn a_picture_gives_a_time_and_shows_none(rt: HostRuntime) -> Result<(), Memory> {
-    let settings = Settings::built_in();
-    let mut picture = Picture::new(rt.alloc(), &settings)?;
+    let mut picture = opened(&rt)?;
     let stamp = Stamp::At(1_700_000_000_000);
-    let on = shown(4101, Value::Single(true), Quality::GOOD);
-    let event = input_5_on_at(stamp);
-    assert_eq!(rt;
-        picture.take(&event, &settings, &Zone::UTC),
-        Some(Observation { stamp, ..on })
-    );
-    assert_eq!(rt; picture.rows().first().copied(), Some(on));
+    let given = Observation { stamp, ..SHOWN_ON };
+    check_take(&rt, &mut picture, &on_at(stamp), given);
+    assert_eq!(rt; picture.rows().first(), Some(&SHOWN_ON));
     Ok(())
+}
+
+fn check_news(rt: &impl Abort, picture: &mut Picture, report: Report, news: bool) {
+    assert_eq!(rt; take(picture, &report).is_some(), news, "at {report:?}");
 }
 
 #[test]
 fn a_picture_tells_changes_and_events(rt: HostRuntime) -> Result<(), Memory> {
-    let settings = Settings::built_in();
-    let mut picture = Picture::new(rt.alloc(), &settings)?;
-    let rows = [
-        (input_5(false, false), true),
-        (input_5(false, false), false),
-        (input_5(true, false), true),
-        (input_5(true, true), true),
-        (input_5(true, false), false),
-        (analog_0(7), true),
-        (analog_0(7), false),
-    ];
-    for (report, news) in rows {
-        assert_eq!(rt;
-            picture.take(&report, &settings, &Zone::UTC).is_some(),
-            news,
-            "at {report:?}"
-        );
-    }
+    let mut picture = opened(&rt)?;
+    check_news(&rt, &mut picture, OFF, true);
+    check_news(&rt, &mut picture, OFF, false);
+    check_news(&rt, &mut picture, ON, true);
+    check_news(&rt, &mut picture, ON_EVENT, true);
+    check_news(&rt, &mut picture, ON, false);
+    check_news(&rt, &mut picture, SEVEN, true);
+    check_news(&rt, &mut picture, SEVEN, false);
     Ok(())
 }
 
 #[test]
 fn news_are_counted_as_they_would_be_taken(rt: HostRuntime) -> Result<(), Memory> {
+    let picture = opened(&rt)?;
+    let reports = [ON, SEVEN, ON, ON_EVENT, SEVEN, OFF];
     let settings = Settings::built_in();
-    let picture = Picture::new(rt.alloc(), &settings)?;
-    let reports = [
-        input_5(true, false),
-        analog_0(7),
-        input_5(true, false),
-        input_5(true, true),
-        analog_0(7),
-        input_5(false, false),
-    ];
     assert_eq!(rt; picture.news(&reports, &settings, &Zone::UTC), 4);
     Ok(())
 }

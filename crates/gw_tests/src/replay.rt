@@ -2,17 +2,25 @@
 use gw_hub::{Reply, Step, StepFault, Why};
 use gw_model::Settings;
 use gw_replay::{Instruction, push_reply, read_instruction, replay};
+use std::process::Abort;
 use std::test::Fail;
 
-/// What `replay` writes for an input, and its status.
-fn replayed(rt: &HostRuntime, input: &[u8]) -> Result<(Vec<u8>, u8), Fail> {
-    let mut output = Vec::new(rt.alloc());
-    let status = replay(rt.alloc(), Settings::built_in(), input, &mut output);
-    Ok((output, status))
+/// `replay` writes this for an input, and ends with this status.
+fn check_replay(
+    rt: &(impl Abort + AllocGlobal),
+    input: &[u8],
+    output: &[u8],
+    status: u8,
+) -> Result<(), Fail> {
+    let mut text = Vec::new(rt.alloc());
+    let code = replay(rt.alloc(), Settings::built_in(), input, &mut text);
+    assert_eq!(rt; text.as_slice(), output, "at {input:?}");
+    assert_eq!(rt; code, status, "at {input:?}");
+    Ok(())
 }
 
 /// Lines, what `replay` writes for them, and its status.
-const REPLAYS: [(&str, &str, u8); 9] = [
+const REPLAYS: &[(&str, &str, u8)] = &[
     // An unsolicited response is taken once, and confirmed each time.
     (
         "open 0 0\nframe 0 0 68 04 07 00 00 00\npump 0 0\nup 0 0\n\
@@ -75,101 +83,105 @@ const REPLAYS: [(&str, &str, u8); 9] = [
 #[test]
 fn replays(rt: HostRuntime) -> Result<(), Fail> {
     for (input, output, status) in REPLAYS {
-        let (text, code) = replayed(&rt, input.as_bytes())?;
-        assert_eq!(rt; text.as_slice(), output.as_bytes(), "at {input:?}");
-        assert_eq!(rt; code, status, "at {input:?}");
+        check_replay(&rt, input.as_bytes(), output.as_bytes(), *status)?;
     }
     Ok(())
 }
 
+/// Lines that are refused.
+const OTHER_LINES: &[&str] = &[
+    "down 0 0",
+    "up 0",
+    "up 0 ",
+    "up  0",
+    "up 256 0",
+    "up -1 0",
+    "up +1 0",
+    "up 0 0 ",
+    "up 0 0\r",
+    "frag 0 0",
+    "frag 0 0 ",
+    "frag 0 0 C0 8",
+    "frame 0 0",
+    "queue",
+    "queue 0 ",
+    "queue 256",
+    "Up 0 0",
+    "pump 0 0x1",
+    " up 0 0",
+];
+
 #[test]
 fn other_lines(rt: HostRuntime) -> Result<(), Fail> {
-    let rows = [
-        "down 0 0",
-        "up 0",
-        "up 0 ",
-        "up  0",
-        "up 256 0",
-        "up -1 0",
-        "up +1 0",
-        "up 0 0 ",
-        "up 0 0\r",
-        "frag 0 0",
-        "frag 0 0 ",
-        "frag 0 0 C0 8",
-        "frame 0 0",
-        "queue",
-        "queue 0 ",
-        "queue 256",
-        "Up 0 0",
-        "pump 0 0x1",
-        " up 0 0",
-    ];
-    for row in rows {
-        let (text, code) = replayed(&rt, row.as_bytes())?;
-        assert_eq!(rt;
-            text.as_slice(),
-            b"refused line 1\n".as_slice(),
-            "at {row:?}"
-        );
-        assert_eq!(rt; code, 1, "at {row:?}");
+    for line in OTHER_LINES {
+        check_replay(&rt, line.as_bytes(), b"refused line 1\n", 1)?;
     }
     Ok(())
 }
 
 /// `frag 0 0` with a response of so many octets, all behind the fourth of an object that isn't known.
-fn long_fragment(rt: &HostRuntime, octets: usize) -> Result<Vec<u8>, Fail> {
-    let mut line = Vec::new(rt.alloc());
-    line.extend_from_slice(b"frag 0 0 C0 81 00 00")?;
+fn long_fragment(rt: &impl AllocGlobal, octets: usize) -> Result<Vec<u8>, Fail> {
+    let mut line = Vec::from_slice(rt.alloc(), b"frag 0 0 C0 81 00 00")?;
     for _ in 4..octets {
         line.extend_from_slice(b" 63")?;
     }
     Ok(line)
 }
 
+/// `queue 0` with so many zeros.
+fn long_queue(rt: &impl AllocGlobal, zeros: usize) -> Result<Vec<u8>, Fail> {
+    let mut line = Vec::from_slice(rt.alloc(), b"queue ")?;
+    for _ in 0..zeros {
+        line.push(b'0')?;
+    }
+    Ok(line)
+}
+
 #[test]
 fn long_lines(rt: HostRuntime) -> Result<(), Fail> {
-    let rows: [(usize, &[u8]); 2] = [
-        (2048, b"refused 3 Object 1 UnknownObject at 0\n"),
-        (2049, b"refused line 1\n"),
-    ];
-    for (octets, output) in rows {
-        let line = long_fragment(&rt, octets)?;
-        let (text, code) = replayed(&rt, line.as_slice())?;
-        assert_eq!(rt; text.as_slice(), output, "at {octets}");
-        assert_eq!(rt; code, 1, "at {octets}");
-    }
-    let mut zeros = Vec::new(rt.alloc());
-    zeros.extend_from_slice(b"queue ")?;
-    for _ in 0..8186 {
-        zeros.push(b'0')?;
-    }
-    let (text, _) = replayed(&rt, zeros.as_slice())?;
-    assert_eq!(rt; text.as_slice(), b"refused line 1\n".as_slice());
-    zeros.truncate(8191);
-    let (text, _) = replayed(&rt, zeros.as_slice())?;
-    assert_eq!(rt; text.as_slice(), b"queued 0 dropped 0\n".as_slice());
+    let unknown = b"refused 3 Object 1 UnknownObject at 0\n";
+    check_replay(&rt, &long_fragment(&rt, 2048)?, unknown, 1)?;
+    check_replay(&rt, &long_fragment(&rt, 2049)?, b"refused line 1\n", 1)?;
+    check_replay(&rt, &long_queue(&rt, 8186)?, b"refused line 1\n", 1)?;
+    check_replay(&rt, &long_queue(&rt, 8185)?, b"queued 0 dropped 0\n", 0)
+}
+
+/// A line is read as a fragment that comes at this moment.
+fn check_fragment_read(rt: &(impl Abort + AllocGlobal), line: &[u8], at: u64) -> Result<(), Fail> {
+    let found = read_instruction(rt.alloc(), line)?;
+    assert!(rt; is_fragment_at(&found, at));
     Ok(())
+}
+
+fn is_fragment_at(found: &Option<Instruction>, at: u64) -> bool {
+    match found {
+        Some(Instruction::Make(Step::Fragment { moment, .. })) => *moment == at,
+        _ => false,
+    }
 }
 
 #[test]
 fn instructions_are_read_with_ample_memory(rt: HostRuntime) -> Result<(), Fail> {
-    let found = read_instruction(rt.alloc(), b"frag 3 4 C0 81 00 00")?;
-    assert!(rt;
-        matches!(
-            found,
-            Some(Instruction::Make(Step::Fragment { moment: 4, .. }))
-        )
-    );
-    Ok(())
+    check_fragment_read(&rt, b"frag 3 4 C0 81 00 00", 4)
+}
+
+/// The lines of replies.
+fn told(rt: &impl AllocGlobal, replies: &[Result<Reply, StepFault>]) -> Result<Vec<u8>, Fail> {
+    let mut text = Vec::new(rt.alloc());
+    for reply in replies {
+        push_reply(&mut text, *reply)?;
+    }
+    Ok(text)
 }
 
 #[test]
 fn replies_are_told_with_ample_memory(rt: HostRuntime) -> Result<(), Fail> {
-    let mut text = Vec::new(rt.alloc());
-    push_reply(&mut text, Ok(Reply::Closed(Why::Flooded)))?;
-    push_reply(&mut text, Err(StepFault::Memory))?;
-    push_reply(&mut text, Err(StepFault::Spent))?;
+    let replies = [
+        Ok(Reply::Closed(Why::Flooded)),
+        Err(StepFault::Memory),
+        Err(StepFault::Spent),
+    ];
+    let text = told(&rt, &replies)?;
     let want = b"closed Flooded\nfault 5 Memory\nfault 6 Spent\n";
     assert_eq!(rt; text.as_slice(), want.as_slice());
     Ok(())

@@ -3,6 +3,7 @@
 use gw_model::Stamp;
 use gw_time::laws::{read_again, written_again};
 use gw_time::{TagFault, Zone, from_tag, to_tag};
+use std::process::Abort;
 use std::test::Fail;
 
 const WEST: Zone = Zone {
@@ -78,19 +79,16 @@ const TAGS: [(u64, Zone, [u8; 7]); 17] = [
     (4_102_394_399_999, EAST, LAST),
 ];
 
+fn check_tag(rt: &impl Abort, instant: u64, zone: &Zone, tag: [u8; 7]) {
+    let stamp = Stamp::At(instant);
+    assert_eq!(rt; to_tag(stamp, zone), Some(tag), "at {instant}");
+    assert_eq!(rt; from_tag(&tag, zone), Ok(stamp), "back to {instant}");
+}
+
 #[test]
 fn instants_and_their_tags(rt: HostRuntime) {
     for (instant, zone, tag) in TAGS {
-        assert_eq!(rt;
-            to_tag(Stamp::At(instant), &zone),
-            Some(tag),
-            "at {instant}"
-        );
-        assert_eq!(rt;
-            from_tag(&tag, &zone),
-            Ok(Stamp::At(instant)),
-            "back to {instant}"
-        );
+        check_tag(&rt, instant, &zone, tag);
     }
 }
 
@@ -103,53 +101,65 @@ fn doubtful(rt: HostRuntime) {
     assert_eq!(rt; read_again(Stamp::Untimed, &EAST), None);
 }
 
+/// Instants outside the window.
+const OUTSIDE: [(u64, Zone); 13] = [
+    (0, Zone::UTC),
+    (946_735_199_999, WEST),
+    (946_684_799_999, Zone::UTC),
+    (946_681_199_999, CENTRAL_EUROPE),
+    (946_634_399_999, EAST),
+    (4_102_495_200_000, WEST),
+    (4_102_444_800_000, Zone::UTC),
+    (4_102_441_200_000, CENTRAL_EUROPE),
+    (4_102_394_400_000, EAST),
+    // 28 February 2100; the last instant that a report can have, 65,535 after the last of 48 bits;
+    // the last of 64 bits.
+    (4_107_456_000_000, Zone::UTC),
+    (281_474_976_776_190, Zone::UTC),
+    (u64::MAX, EAST),
+    (u64::MAX, WEST),
+];
+
+fn check_no_tag(rt: &impl Abort, instant: u64, zone: &Zone) {
+    assert_eq!(rt; to_tag(Stamp::At(instant), zone), None, "at {instant}");
+    assert_eq!(rt;
+        to_tag(Stamp::Doubtful(instant), zone),
+        None,
+        "at {instant}"
+    );
+}
+
 #[test]
 fn stamps_without_a_tag(rt: HostRuntime) {
     assert_eq!(rt; to_tag(Stamp::Untimed, &Zone::UTC), None);
-    let table = [
-        (0, Zone::UTC),
-        (946_735_199_999, WEST),
-        (946_684_799_999, Zone::UTC),
-        (946_681_199_999, CENTRAL_EUROPE),
-        (946_634_399_999, EAST),
-        (4_102_495_200_000, WEST),
-        (4_102_444_800_000, Zone::UTC),
-        (4_102_441_200_000, CENTRAL_EUROPE),
-        (4_102_394_400_000, EAST),
-        // 28 February 2100; the last instant that a report can have, 65,535 after the last of 48 bits;
-        // the last of 64 bits.
-        (4_107_456_000_000, Zone::UTC),
-        (281_474_976_776_190, Zone::UTC),
-        (u64::MAX, EAST),
-        (u64::MAX, WEST),
-    ];
-    for (instant, zone) in table {
-        assert_eq!(rt; to_tag(Stamp::At(instant), &zone), None, "at {instant}");
-        assert_eq!(rt;
-            to_tag(Stamp::Doubtful(instant), &zone),
-            None,
-            "at {instant}"
-        );
+    for (instant, zone) in OUTSIDE {
+        check_no_tag(&rt, instant, &zone);
     }
+}
+
+/// Octets that are no tag, and why.
+const NO_TAGS: &[([u8; 7], TagFault)] = &[
+    ([0x00, 0x00, 0x00, 0x00, 0x1E, 0x02, 0x17], TagFault::Date),
+    ([0x00, 0x00, 0x00, 0x00, 0x1D, 0x02, 0x63], TagFault::Date),
+    ([0x00, 0x00, 0x00, 0x00, 0x1F, 0x0B, 0x17], TagFault::Date),
+    ([0x00, 0x00, 0x00, 0x00, 0x00, 0x01, 0x17], TagFault::Date),
+    ([0x60, 0xEA, 0x00, 0x00, 0x01, 0x01, 0x17], TagFault::Field),
+    ([0x00, 0x00, 0x3C, 0x00, 0x01, 0x01, 0x17], TagFault::Field),
+    ([0x00, 0x00, 0x00, 0x18, 0x01, 0x01, 0x17], TagFault::Field),
+    ([0x00, 0x00, 0x00, 0x00, 0x01, 0x00, 0x17], TagFault::Field),
+    ([0x00, 0x00, 0x00, 0x00, 0x01, 0x0D, 0x17], TagFault::Field),
+    ([0x00, 0x00, 0x00, 0x00, 0x1C, 0x02, 0x64], TagFault::Field),
+    ([0x60, 0xEA, 0x00, 0x00, 0x1E, 0x02, 0x17], TagFault::Field),
+];
+
+fn check_no_stamp(rt: &impl Abort, tag: &[u8; 7], fault: TagFault) {
+    assert_eq!(rt; from_tag(tag, &Zone::UTC), Err(fault), "{tag:?}");
 }
 
 #[test]
 fn octets_that_are_no_tag(rt: HostRuntime) {
-    let table = [
-        ([0x00, 0x00, 0x00, 0x00, 0x1E, 0x02, 0x17], TagFault::Date),
-        ([0x00, 0x00, 0x00, 0x00, 0x1D, 0x02, 0x63], TagFault::Date),
-        ([0x00, 0x00, 0x00, 0x00, 0x1F, 0x0B, 0x17], TagFault::Date),
-        ([0x00, 0x00, 0x00, 0x00, 0x00, 0x01, 0x17], TagFault::Date),
-        ([0x60, 0xEA, 0x00, 0x00, 0x01, 0x01, 0x17], TagFault::Field),
-        ([0x00, 0x00, 0x3C, 0x00, 0x01, 0x01, 0x17], TagFault::Field),
-        ([0x00, 0x00, 0x00, 0x18, 0x01, 0x01, 0x17], TagFault::Field),
-        ([0x00, 0x00, 0x00, 0x00, 0x01, 0x00, 0x17], TagFault::Field),
-        ([0x00, 0x00, 0x00, 0x00, 0x01, 0x0D, 0x17], TagFault::Field),
-        ([0x00, 0x00, 0x00, 0x00, 0x1C, 0x02, 0x64], TagFault::Field),
-        ([0x60, 0xEA, 0x00, 0x00, 0x1E, 0x02, 0x17], TagFault::Field),
-    ];
-    for (tag, fault) in table {
-        assert_eq!(rt; from_tag(&tag, &Zone::UTC), Err(fault), "{tag:?}");
+    for (tag, fault) in NO_TAGS {
+        check_no_stamp(&rt, tag, *fault);
     }
 }
 
@@ -164,9 +174,13 @@ fn unused_bits(rt: HostRuntime) -> Result<(), Fail> {
     Ok(())
 }
 
+fn check_text(rt: &(impl Abort + AllocGlobal), fault: TagFault, wanted: &str) -> Result<(), Fail> {
+    assert_eq!(rt; fault.to_string(rt.alloc())?.as_str(), wanted);
+    Ok(())
+}
+
 #[test]
 fn texts(rt: HostRuntime) -> Result<(), Fail> {
-    assert_eq!(rt; TagFault::Field.to_string(rt.alloc())?.as_str(), "1 Field");
-    assert_eq!(rt; TagFault::Date.to_string(rt.alloc())?.as_str(), "2 Date");
-    Ok(())
+    check_text(&rt, TagFault::Field, "1 Field")?;
+    check_text(&rt, TagFault::Date, "2 Date")
 }

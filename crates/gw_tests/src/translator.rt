@@ -8,15 +8,22 @@ use std::io::{self, Read, Write};
 use std::process::Abort;
 use std::test::Fail;
 
-/// What `translate` writes for an input, and its status.
-fn translated(rt: &impl AllocGlobal, input: &[u8]) -> Result<(Vec<u8>, u8), Fail> {
+/// `translate` writes this for an input, and ends with this status.
+fn check_lines(
+    rt: &(impl Abort + AllocGlobal),
+    input: &[u8],
+    want: &[u8],
+    status: u8,
+) -> Result<(), Fail> {
     let mut output = Vec::new(rt.alloc());
-    let status = translate(rt.alloc(), Settings::built_in(), input, &mut output);
-    Ok((output, status))
+    let ended = translate(rt.alloc(), Settings::built_in(), input, &mut output);
+    assert_eq!(rt; output.as_slice(), want, "at {input:?}");
+    assert_eq!(rt; ended, status, "at {input:?}");
+    Ok(())
 }
 
 /// Lines, what `translate` writes for them, and its status.
-const LINES: [(&str, &str, u8); 14] = [
+const LINES: &[(&str, &str, u8)] = &[
     (
         "E3 81 00 00 02 01 17 01 05 81\n",
         "confirm C3 00\nasdu 01 01 03 00 01 00 05 10 00 01\n",
@@ -70,27 +77,16 @@ const LINES: [(&str, &str, u8); 14] = [
     ("", "", 0),
 ];
 
-/// `translate` writes so for lines.
-fn check_lines(
-    rt: &(impl Abort + AllocGlobal),
-    rows: &[(&'static str, &'static str, u8)],
-) -> Result<(), Fail> {
-    for row in rows {
-        let (input, want, status) = *row;
-        let (output, ended) = translated(rt, input.as_bytes())?;
-        assert_eq!(rt; output.as_slice(), want.as_bytes(), "at {input:?}");
-        assert_eq!(rt; ended, status, "at {input:?}");
+#[test]
+fn lines(rt: HostRuntime) -> Result<(), Fail> {
+    for (input, want, status) in LINES {
+        check_lines(&rt, input.as_bytes(), want.as_bytes(), *status)?;
     }
     Ok(())
 }
 
-#[test]
-fn lines(rt: HostRuntime) -> Result<(), Fail> {
-    check_lines(&rt, &LINES)
-}
-
 /// The same for objects of many kinds, of binary input 5, analog input 0 and counter 0.
-const OBJECTS: [(&str, &str, u8); 14] = [
+const OBJECTS: &[(&str, &str, u8)] = &[
     // An event at 22:13:20 on 14 November 2023.
     (
         "E3 81 02 00 02 02 17 01 05 81 00 68 E5 CF 8B 01",
@@ -177,38 +173,40 @@ const OBJECTS: [(&str, &str, u8); 14] = [
 
 #[test]
 fn objects(rt: HostRuntime) -> Result<(), Fail> {
-    check_lines(&rt, &OBJECTS)
+    for (input, want, status) in OBJECTS {
+        check_lines(&rt, input.as_bytes(), want.as_bytes(), *status)?;
+    }
+    Ok(())
 }
 
-/// A line of octets that says nothing: a response with empty headers, cut or filled to `count` octets.
-fn long_line(rt: &HostRuntime, count: usize) -> Result<Vec<u8>, Fail> {
-    let mut line = Vec::new(rt.alloc());
-    line.extend_from_slice(b"C0 81 00 00")?;
+/// Adds a line of octets that says nothing: a response with empty headers, filled to `count` octets.
+fn push_line(input: &mut Vec<u8>, count: usize) -> Result<(), Fail> {
+    input.extend_from_slice(b"C0 81 00 00")?;
     for _ in 4..count {
-        line.extend_from_slice(b" 00")?;
+        input.extend_from_slice(b" 00")?;
     }
-    Ok(line)
+    Ok(())
+}
+
+/// A line of one octet more than a fragment has, one of 40,000, one that is no text, and one that is too short.
+fn push_faulty_lines(input: &mut Vec<u8>) -> Result<(), Fail> {
+    push_line(input, 2049)?;
+    input.push(b'\n')?;
+    push_line(input, 40_000)?;
+    input.extend_from_slice(b"\n\xFF\xFE\nC0 81 00\n")?;
+    Ok(())
 }
 
 #[test]
 fn long_lines(rt: HostRuntime) -> Result<(), Fail> {
-    let longest = long_line(&rt, 2048)?;
-    let (output, _) = translated(&rt, longest.as_slice())?;
-    assert_eq!(rt;
-        output.as_slice(),
-        b"refused 3 Object 1 UnknownObject at 0\n".as_slice()
-    );
-    let mut input = long_line(&rt, 2049)?;
-    input.push(b'\n')?;
-    input.extend_from_slice(long_line(&rt, 40_000)?.as_slice())?;
-    input.extend_from_slice(b"\n\xFF\xFE\nC0 81 00\n")?;
-    let (output, status) = translated(&rt, input.as_slice())?;
-    assert_eq!(rt;
-        output.as_slice(),
-        b"refused 0 Hex\nrefused 0 Hex\nrefused 0 Hex\nrefused 1 Short\n".as_slice()
-    );
-    assert_eq!(rt; status, 1);
-    Ok(())
+    let mut longest = Vec::new(rt.alloc());
+    push_line(&mut longest, 2048)?;
+    let unknown = b"refused 3 Object 1 UnknownObject at 0\n";
+    check_lines(&rt, &longest, unknown, 1)?;
+    let mut faulty = Vec::new(rt.alloc());
+    push_faulty_lines(&mut faulty)?;
+    let want = b"refused 0 Hex\nrefused 0 Hex\nrefused 0 Hex\nrefused 1 Short\n";
+    check_lines(&rt, &faulty, want, 1)
 }
 
 /// A reader that gives an octet at a time and fails at last, and a writer that takes a few octets.
@@ -245,68 +243,74 @@ impl Write for Faulty<'_> {
     }
 }
 
+/// A response of which input 5 is news.
+const NEWS: &[u8] = b"E3 81 00 00 02 01 17 01 05 81\n";
+
+/// What is read before a reader fails is translated.
+fn check_faulty_reader(rt: &(impl Abort + AllocGlobal), input: &[u8]) -> Result<(), Fail> {
+    let mut output = Vec::new(rt.alloc());
+    let reader = io::BufReader::new(rt.alloc(), Faulty { rest: input })?;
+    let status = translate(rt.alloc(), Settings::built_in(), reader, &mut output);
+    let want = b"confirm C3 00\nasdu 01 01 03 00 01 00 05 10 00 01\n";
+    assert_eq!(rt; output.as_slice(), want.as_slice());
+    assert_eq!(rt; status, 1);
+    Ok(())
+}
+
 #[test]
 fn faults_of_reader_and_writer(rt: HostRuntime) -> Result<(), Fail> {
-    let line = b"E3 81 00 00 02 01 17 01 05 81\nC0 81";
-    let mut output = Vec::new(rt.alloc());
-    let reader = io::BufReader::new(rt.alloc(), Faulty { rest: line })?;
-    let status = translate(rt.alloc(), Settings::built_in(), reader, &mut output);
-    assert_eq!(rt;
-        output.as_slice(),
-        b"confirm C3 00\nasdu 01 01 03 00 01 00 05 10 00 01\n".as_slice()
-    );
-    assert_eq!(rt; status, 1);
+    let input = b"E3 81 00 00 02 01 17 01 05 81\nC0 81".as_slice();
+    check_faulty_reader(&rt, input)?;
     let writer = Faulty { rest: b"room" };
-    assert_eq!(rt;
-        translate(rt.alloc(), Settings::built_in(), line.as_slice(), writer),
-        1
-    );
+    let status = translate(rt.alloc(), Settings::built_in(), input, writer);
+    assert_eq!(rt; status, 1);
+    Ok(())
+}
+
+/// So `translate` ends where the news are written to a buffer before a writer with so much room.
+fn check_room(rt: &(impl Abort + AllocGlobal), room: usize, status: u8) -> Result<(), Fail> {
+    let taken = vec![in rt.alloc(); 0; room]?;
+    let rest = Faulty {
+        rest: taken.as_slice(),
+    };
+    let writer = io::BufWriter::new(rt.alloc(), rest)?;
+    let ended = translate(rt.alloc(), Settings::built_in(), NEWS, writer);
+    assert_eq!(rt; ended, status, "with room for {room} octets");
     Ok(())
 }
 
 /// What is written is not all taken until the writer was flushed, and a failure there is a failure to write.
 #[test]
 fn fault_of_the_last_write(rt: HostRuntime) -> Result<(), Fail> {
-    let line = b"E3 81 00 00 02 01 17 01 05 81\n";
-    for (room, status) in [(48, 1), (49, 0)] {
-        let taken = vec![in rt.alloc(); 0; room]?;
-        let rest = Faulty {
-            rest: taken.as_slice(),
-        };
-        let writer = io::BufWriter::new(rt.alloc(), rest)?;
-        let ended = translate(rt.alloc(), Settings::built_in(), line.as_slice(), writer);
-        assert_eq!(rt; ended, status, "with room for {room} octets");
-    }
-    Ok(())
+    check_room(&rt, 48, 1)?;
+    check_room(&rt, 49, 0)
+}
+
+/// This is decided of a line; gives how many news it has.
+fn check_decision(
+    rt: &(impl Abort + AllocGlobal),
+    picture: &mut Picture,
+    line: &[u8],
+    wanted: Decision,
+) -> Result<usize, Memory> {
+    let mut news = Vec::new(rt.alloc());
+    let decision = decide(rt.alloc(), &Settings::built_in(), line, picture, &mut news)?;
+    assert_eq!(rt; decision, wanted);
+    Ok(news.len())
 }
 
 #[test]
-fn with_ample_memory(rt: HostRuntime) -> Result<(), Fail> {
-    let settings = Settings::built_in();
-    let mut picture = Picture::new(rt.alloc(), &settings)?;
-    let mut news = Vec::new(rt.alloc());
-    let short = decide(rt.alloc(), &settings, b"C0 81 00", &mut picture, &mut news);
-    assert_eq!(rt; short, Ok(Decision::Refused(AppFault::Short)));
-    let fault = ObjectFault {
+fn with_ample_memory(rt: HostRuntime) -> Result<(), Memory> {
+    let mut picture = Picture::new(rt.alloc(), &Settings::built_in())?;
+    let short = Decision::Refused(AppFault::Short);
+    check_decision(&rt, &mut picture, b"C0 81 00", short)?;
+    let cut = Decision::Refused(AppFault::Object(ObjectFault {
         why: Why::ShortRange,
         place: 0,
-    };
-    let cut = decide(
-        rt.alloc(),
-        &settings,
-        b"C0 81 00 00 02",
-        &mut picture,
-        &mut news,
-    );
-    assert_eq!(rt; cut, Ok(Decision::Refused(AppFault::Object(fault))));
-    let taken: Result<Decision, Memory> = decide(
-        rt.alloc(),
-        &settings,
-        b"E0 81 00 00 02 01 17 01 05 81",
-        &mut picture,
-        &mut news,
-    );
-    assert_eq!(rt; taken, Ok(Decision::Accepted(Some([0xC0, 0]))));
-    assert_eq!(rt; news.len(), 1);
+    }));
+    check_decision(&rt, &mut picture, b"C0 81 00 00 02", cut)?;
+    let taken = Decision::Accepted(Some([0xC0, 0]));
+    let line = b"E0 81 00 00 02 01 17 01 05 81";
+    assert_eq!(rt; check_decision(&rt, &mut picture, line, taken)?, 1);
     Ok(())
 }
