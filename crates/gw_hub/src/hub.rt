@@ -1,5 +1,5 @@
 //! The core as one machine.
-ghost use Rattle.std.specs.Prelude.{◌≡◌, ◌<◌, ◌+◌, ℕ, [], length, map, true, false, nat_lt, if◌then◌else◌, IfOk, IfErr, IsTrue, OnOk, OnErr, slice_get};
+ghost use Rattle.std.specs.Prelude.{◌≡◌, ◌<◌, ◌+◌, ℕ, [], length, map, true, false, IfOk, IfErr, IsTrue, OnOk, OnErr, slice_get};
 ghost use Rattle.std.specs.List.{AllByRecursion};
 ghost use Rattle.gw_model.specs.Rows.{is_point_map};
 ghost use Rattle.gw_picture.specs.Picture.{picture_after, picture_after_report};
