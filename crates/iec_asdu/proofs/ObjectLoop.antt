@@ -1,5 +1,5 @@
 -- Reading objects one after the other, as a loop does.
-use Rattle.std.proofs.Common.{◌≡◌, ℕ, zero, suc, ◌+◌, ◌<◌, ◌≤◌, List, [], ◌∷◌, ◌++◌, length, take, drop, Option, Some, None, Result, Ok, Err, IsOk, is_ok, refl, sym, ap, ◌∙◌, append_assoc, arith}
+use Rattle.std.proofs.Common.{◌≡◌, ℕ, zero, suc, ◌+◌, ◌≤◌, Bool, true, false, ◌||◌, List, [], ◌∷◌, ◌++◌, length, take, drop, Option, Some, None, Result, Ok, Err, IsOk, refl, sym, ap, ◌∙◌, append_assoc, arith}
 use Rattle.std.specs.Prelude.{ok_or}
 use Rattle.std.proofs.lemmas.List.{append-nil, drop-drop}
 use Rattle.gw_model.specs.declared.observation.Observation.{Observation}
@@ -29,25 +29,40 @@ told_of ZeroObjects p = p
 told_of Reserved p = p
 told_of Tag p = p
 
--- ---- the first object
+-- ---- how far the loop is
 
--- behind so many objects: the one here is the first, or the first is right
-pub record StartsRight (behind : ℕ) (here first : Result Observation AsduFault) : Type 0 where
-  pub at_first : behind ≡ 0 → here ≡ first
-  pub behind_first : 0 < behind → IsOk first
+-- the observations read so far, with those still to be read, are those of the objects; they are stored, unless
+-- memory was refused
+pub record Progress (is_refused : Bool) (stored : List Observation) (rest whole : Result (List Observation) AsduFault)
+    : Type 0 where
+  pub front : List Observation
+  pub read : with_front front rest ≡ whole
+  pub kept : is_refused ≡ false → stored ≡ front
 
--- behind one more
-pub starts_behind_first : (behind : ℕ) (here first : Result Observation AsduFault) → IsOk first
-    → StartsRight (behind + 1) here first
-starts_behind_first behind here first right =
-    record { at_first = λ z. absurd (omega arith); behind_first = λ lt. right }
+-- one more was read, and stored unless memory was or is refused
+pub further : (is_refused is_now : Bool) (stored longer : List Observation) (x : Observation)
+    (rest after whole : Result (List Observation) AsduFault)
+    → ((front : List Observation) → with_front front rest ≡ whole → with_front (front ++ x ∷ []) after ≡ whole)
+    → (is_now ≡ false → (is_refused ≡ false) × (longer ≡ stored ++ x ∷ []))
+    → Progress is_refused stored rest whole → Progress is_now longer after whole
+further is_refused is_now stored longer x rest after whole goes_on stores p = record {
+  front = p.front ++ x ∷ [];
+  read = goes_on p.front p.read;
+  kept = λ none. (stores none).1 ∙ ap (λ (xs : List Observation). xs ++ x ∷ []) (p.kept (stores none).0);
+}
 
--- where the one here is right, the first is
-pub first_is_right : (behind : ℕ) (here first : Result Observation AsduFault) (x : Observation)
-    → StartsRight behind here first → here ≡ Ok x → IsOk first
-first_is_right zero here first x s right =
-    ap (λ (r : Result Observation AsduFault). is_ok r) (sym (s.at_first refl) ∙ right)
-first_is_right (suc n) here first x s right = s.behind_first (omega arith)
+-- all was read: it is right, and what is stored, where nothing was refused
+pub is_right : (whole : Result (List Observation) AsduFault) (front : List Observation) → whole ≡ Ok front → IsOk whole
+is_right whole front e = rw e refl
+
+pub all_stored : (whole : Result (List Observation) AsduFault) (front stored : List Observation)
+    → whole ≡ Ok front → stored ≡ front → whole ≡ Ok stored
+all_stored whole front stored e same = e ∙ ap (λ (xs : List Observation). Ok xs) (sym same)
+
+-- neither of two tests holds
+pub neither : (a b : Bool) → a || b ≡ false → (a ≡ false) × (b ≡ false)
+neither true b e = cc e
+neither false b e = (refl, e)
 
 -- the faults of two parts, one after the other
 parts_fault : {A B : Type 0} (s : Option A) (t : Option B) (make : A → B → Observation) (f : AsduFault)

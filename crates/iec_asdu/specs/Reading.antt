@@ -1,5 +1,5 @@
 -- An ASDU read from left to right: its meaning, or the first fault.
-use Rattle.std.specs.Prelude.{ℕ, zero, suc, ◌+◌, ◌*◌, ◌%◌, ◌<◌, ◌≤◌, Bool, List, [], ◌∷◌, length, take, drop, ok_or, Result, Ok, Err, ◌≡◌, ◌==◌, true, false, nat_lt, slice_index, IsSomeAnd, IsOk, if◌then◌else◌}
+use Rattle.std.specs.Prelude.{ℕ, zero, suc, ◌+◌, ◌*◌, ◌%◌, Bool, List, [], ◌∷◌, length, take, drop, ok_or, Result, Ok, Err, ◌==◌, true, false, nat_lt, slice_index, if◌then◌else◌}
 use Rattle.gw_model.specs.Outcome.{◌>>=◌}
 use Rattle.gw_model.specs.declared.observation.Observation.{Observation}
 use Rattle.iec_asdu.specs.declared.fault.AsduFault.{AsduFault}
@@ -65,18 +65,6 @@ asdu_read types octets =
       }))
 
 -- ---- what a call gives
-
--- there is an object, the octets are as many as so many objects have, and the first object is right
-pub record HasOneToStore (layout : Layout) (qualifier : ℕ) (objects : List ℕ) : Type 0 where
-  pub some : 0 < qualifier % 128
-  pub sized : length objects ≡ objects_length (size_of layout) (is_set 7 qualifier) (qualifier % 128)
-  pub right : IsOk (front_read layout objects)
-
--- the type is known, and there is an object to store: each is stored as soon as it is read, the first one first
-abbrev pub NeedsMemory : List Layout → List ℕ → Type 0
-NeedsMemory types octets = (6 ≤ length octets)
-    × IsSomeAnd (layout_of (slice_index octets 0) types)
-    (λ layout. HasOneToStore layout (slice_index octets 1) (drop 6 octets))
 
 -- memory ran out
 abbrev pub is_memory : AsduFault → Bool

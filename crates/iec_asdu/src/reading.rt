@@ -1,10 +1,10 @@
 //! Reading ASDUs with process information.
-ghost use Rattle.std.specs.Prelude.{◌≡◌, ◌+◌, ◌*◌, ◌%◌, ◌≤◌, length, take, Ok, IsOk, IfOk, IfErr};
+ghost use Rattle.std.specs.Prelude.{◌≡◌, ◌+◌, ◌*◌, ◌%◌, ◌≤◌, length, Ok, IsOk, IfOk, IfErr};
 ghost use Rattle.iec_asdu.specs.Asdu.{Asdu as Meaning, monitor_types, size_of, address_at};
 ghost use Rattle.iec_asdu.specs.Grammar.{IsAsdu};
 ghost use Rattle.iec_asdu.specs.Bits.{is_set};
 ghost use Rattle.gw_model.specs.Outcome.{Gives};
-ghost use Rattle.iec_asdu.specs.Reading.{is_memory, object_read, front_read, read_apart, read_in_sequence, objects_length, objects_read, HasOneToStore, NeedsMemory};
+ghost use Rattle.iec_asdu.specs.Reading.{is_memory, object_read, read_apart, read_in_sequence, objects_length, objects_read};
 ghost use Rattle.iec_asdu.specs.Types.{layout_at, type_length};
 ghost use Rattle.iec_asdu.specs.Contents.{contents_of, Spells, monitor_contents, contents_read};
 
@@ -78,9 +78,10 @@ fn read_objects_apart(
     ensures read { let layout = layout_at zone.now.offset_minutes kind in
         Gives is_memory (λ v. v.items) result (read_apart layout count objects.now) }
     ensures memory { let layout = layout_at zone.now.offset_minutes kind in
-        IfErr result (λ fault. fault ≡ AsduFault.Memory → IsOk (front_read layout objects.now)) }
+        IfErr result (λ fault. fault ≡ AsduFault.Memory → IsOk (read_apart layout count objects.now)) }
 {
     let mut found = Vec::new(alloc);
+    let mut is_refused = false;
     let mut rest = objects;
     for _ in 0..count {
         let (address, behind) = rest.split_at(ADDRESS_OCTETS);
@@ -89,10 +90,11 @@ fn read_objects_apart(
             Ok(observation) => observation,
             Err(fault) => return Err(fault),
         };
-        if found.push(observation).is_err() {
-            return Err(AsduFault::Memory);
-        }
+        is_refused |= found.push(observation).is_err();
         rest = after;
+    }
+    if is_refused {
+        return Err(AsduFault::Memory);
     }
     Ok(found)
 }
@@ -119,10 +121,10 @@ fn read_objects_in_sequence(
     ensures read { let layout = layout_at zone.now.offset_minutes kind in
         Gives is_memory (λ v. v.items) result (read_in_sequence layout count first objects.now) }
     ensures memory { let layout = layout_at zone.now.offset_minutes kind in
-        let information = take (size_of layout) objects.now in
-        IfErr result (λ fault. fault ≡ AsduFault.Memory → IsOk (object_read first layout information)) }
+        IfErr result (λ fault. fault ≡ AsduFault.Memory → IsOk (read_in_sequence layout count first objects.now)) }
 {
     let mut found = Vec::new(alloc);
+    let mut is_refused = false;
     let mut rest = objects;
     for place in 0..count {
         let (information, after) = rest.split_at(kind.octets());
@@ -130,10 +132,11 @@ fn read_objects_in_sequence(
             Ok(observation) => observation,
             Err(fault) => return Err(fault),
         };
-        if found.push(observation).is_err() {
-            return Err(AsduFault::Memory);
-        }
+        is_refused |= found.push(observation).is_err();
         rest = after;
+    }
+    if is_refused {
+        return Err(AsduFault::Memory);
     }
     Ok(found)
 }
@@ -162,7 +165,8 @@ fn read_objects(
         Gives is_memory (λ v. v.items) result
         (objects_read layout (is_set 7 qualifier) (qualifier % 128) objects.now) }
     ensures memory { let layout = layout_at zone.now.offset_minutes kind in
-        IfErr result (λ fault. fault ≡ AsduFault.Memory → HasOneToStore layout qualifier objects.now) }
+        IfErr result (λ fault. fault ≡ AsduFault.Memory
+        → IsOk (objects_read layout (is_set 7 qualifier) (qualifier % 128) objects.now)) }
 {
     let sequence = qualifier / 128 % 2 == 1;
     let count = qualifier % 128;
@@ -190,7 +194,7 @@ fn read_whole(alloc: Global, octets: &[u8], zone: &Zone) -> Result<Monitor, Asdu
     ensures exact { let types = monitor_types zone.now.offset_minutes in
         Gives is_memory monitor_contents result (contents_read types octets.now) }
     ensures memory { let types = monitor_types zone.now.offset_minutes in
-        IfErr result (λ fault. fault ≡ AsduFault.Memory → NeedsMemory types octets.now) }
+        IfErr result (λ fault. fault ≡ AsduFault.Memory → IsOk (contents_read types octets.now)) }
 {
     if octets.len() < HEADER_OCTETS {
         return Err(AsduFault::Short);
@@ -214,7 +218,7 @@ fn read_whole(alloc: Global, octets: &[u8], zone: &Zone) -> Result<Monitor, Asdu
 /// without.
 ///
 /// A fault is the first one: of the header, of the type, of the number of objects, of their length, and
-/// then, object by object, of element and time tag.
+/// then, object by object, of element and time tag. Want of memory is told only where there is no fault.
 pub fn read_monitor(alloc: Global, octets: &[u8], zone: &Zone) -> Result<Monitor, AsduFault>
     // What is read is spelled so.
     ensures found { let types = monitor_types zone.now.offset_minutes in
@@ -226,10 +230,9 @@ pub fn read_monitor(alloc: Global, octets: &[u8], zone: &Zone) -> Result<Monitor
     // Which fault it is.
     ensures exact { let types = monitor_types zone.now.offset_minutes in
         Gives is_memory monitor_contents result (contents_read types octets.now) }
-    // Memory runs out only where there is an object to store: the type is known, the objects have their
-    // octets, and the first one is right.
+    // Memory hides no fault: it runs out only where the octets spell an ASDU.
     ensures memory { let types = monitor_types zone.now.offset_minutes in
-        IfErr result (λ fault. fault ≡ AsduFault.Memory → NeedsMemory types octets.now) }
+        IfErr result (λ fault. fault ≡ AsduFault.Memory → IsOk (contents_read types octets.now)) }
 {
     read_whole(alloc, octets, zone)
 }
