@@ -7,3 +7,4 @@ pub mod Answering
 pub mod Written
 pub mod Round
 pub mod Only
+pub mod Padding

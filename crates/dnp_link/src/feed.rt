@@ -1,7 +1,7 @@
 //! A stream of octets that comes in pieces.
 ghost use Rattle.std.specs.Prelude.{◌≡◌, ◌<◌, [], ◌++◌, length, drop, IsOk, OnOk, OnErr, IfNone, IfSome};
 ghost use Rattle.dnp_link.specs.Stream.{event_at_front, octets_used_if_any, reading, reading_with_front};
-ghost use Rattle.dnp_link.specs.Content.{event_content_if};
+ghost use Rattle.dnp_link.specs.Content.{event_content_if, HasPaddedFrame};
 
 use crate::event::{LinkEvent, Why};
 use crate::reading::{Front, frame_at, frame_length_of, front_of};
@@ -50,6 +50,9 @@ impl LinkFeed {
     pub fn next(&mut self) -> Option<LinkEvent>
         ensures event { event_content_if result ≡ event_at_front self.old }
         ensures rest { self.new ≡ drop (octets_used_if_any (event_at_front self.old)) self.old }
+
+        // What stands behind a frame's user data is 0.
+        ensures padded { IfSome result HasPaddedFrame }
 
         // The reading of what was held back goes on by it.
         ensures reads { reading self.old ≡ reading_with_front (event_content_if result) self.new }

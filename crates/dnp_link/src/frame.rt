@@ -10,7 +10,7 @@ pub struct Frame {
     pub destination: u16,
     /// The address that it comes from.
     pub source: u16,
-    /// The user data, in the first `len` octets.
+    /// The user data, in the first `len` octets; zeros follow in what a feed gives.
     pub user: [u8; 250],
     /// How many octets of user data there are.
     pub len: u8,

@@ -1,8 +1,8 @@
 //! Reading the front of a stream.
-ghost use Rattle.std.specs.Prelude.{◌≡◌, ◌+◌, ◌-◌, ◌*◌, ◌≤◌, length, drop, IsTrue, option_map, if◌then◌else◌};
+ghost use Rattle.std.specs.Prelude.{◌≡◌, ◌+◌, ◌-◌, ◌*◌, ◌≤◌, length, drop, IsTrue, IfSome, option_map, if◌then◌else◌};
 ghost use Rattle.dnp_link.specs.Frame.{block_count, frame_length, is_sealed as is_sealed_lem, are_sealed, user_data_in_blocks};
 ghost use Rattle.dnp_link.specs.Stream.{event_at_front, content_at, user_length, is_bad_start as is_bad_start_lem};
-ghost use Rattle.dnp_link.specs.Content.{content};
+ghost use Rattle.dnp_link.specs.Content.{content, IsPadded};
 ghost use Rattle.dnp_link.specs.Front.{event_shown_by, Tells};
 
 use crate::checksum::crc;
@@ -68,8 +68,9 @@ pub fn frame_at(octets: &[u8], len: u8) -> Option<Frame>
     requires fits { len ≤ 250 }
     requires told { len ≡ user_length octets.now }
     requires whole { frame_length len ≤ length octets.now }
-    ensures { option_map content result
+    ensures carried { option_map content result
         ≡ (if are_sealed (block_count len) len (drop 10 octets.now) then Some (content_at octets.now) else None) }
+    ensures padded { IfSome result IsPadded }
 {
     let mut user = [0; 250];
     if !read_blocks(&octets[10..], &mut user[..usize::from(len)]) {
