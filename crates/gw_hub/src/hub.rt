@@ -1,7 +1,7 @@
 //! The core as one machine.
 ghost use Rattle.std.specs.Prelude.{◌≡◌, ◌<◌, ◌+◌, ℕ, [], length, map, true, false, IfOk, IfErr, IsTrue, OnOk, OnErr, slice_get};
 ghost use Rattle.std.specs.List.{AllByRecursion};
-ghost use Rattle.gw_model.specs.Rows.{is_point_map};
+ghost use Rattle.gw_model.specs.Rows.{is_point_map, IsStationAddress};
 ghost use Rattle.gw_picture.specs.Picture.{picture_after, picture_after_report};
 ghost use Rattle.gw_station.specs.Client.{client_with_news};
 ghost use Rattle.gw_station.specs.Seat.{HasRoom};
@@ -77,7 +77,7 @@ impl Hub {
     pub fn new(alloc: Global, settings: Settings) -> Result<Hub, Memory>
         ensures setup { IfOk result (λ hub. hub.setup ≡ settings) }
         ensures state { IfOk result (λ hub. hub.state ≡ at_first settings) }
-        ensures settings { IsTrue (is_point_map settings.rows) × (settings.common_address < 65536) }
+        ensures settings { IsTrue (is_point_map settings.rows) × IsStationAddress settings.common_address }
     {
         let outstations = Outstations::new(alloc, settings.outstations())?;
         let picture = Picture::new(alloc, &settings)?;

@@ -1,5 +1,5 @@
 -- The settings as the other parts see them, and the look-up of a row.
-use Rattle.std.specs.Prelude.{ℕ, ℤ, ◌+◌, Bool, true, not, ◌&&◌, ◌==◌, List, [], ◌∷◌, Option, Some, None, if◌then◌else◌}
+use Rattle.std.specs.Prelude.{ℕ, ℤ, ◌+◌, ◌≤◌, Bool, true, not, ◌&&◌, ◌==◌, List, [], ◌∷◌, Option, Some, None, if◌then◌else◌}
 use Rattle.gw_model.specs.declared.point.PointKey.{PointKey}
 use Rattle.gw_model.specs.declared.row.Row.{Row}
 use Rattle.gw_model.specs.Keys.{same_key}
@@ -13,6 +13,10 @@ pub record Setup : Type 0 where
   pub clients : ℕ
   -- the rows of the point map, in order
   pub rows : List Row
+
+-- a common address that one station may have: neither 0, which is not used, nor 65535, which is for all stations
+abbrev pub IsStationAddress : ℕ → Type 0
+IsStationAddress address = (1 ≤ address) × (address ≤ 65534)
 
 -- the first row for a key, with its position
 abbrev pub row_from : ℕ → PointKey → List Row → Option (ℕ × Row)

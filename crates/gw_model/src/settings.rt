@@ -1,7 +1,7 @@
 //! The settings that the gateway runs with.
 ghost use Rattle.std.specs.Prelude.{◌≡◌, ◌<◌, IsTrue, pos, negsuc, ◌≤ℤ◌, map, [], ◌∷◌};
 ghost use Rattle.std.specs.Option.{option_map};
-ghost use Rattle.gw_model.specs.Rows.{row_from, is_point_map};
+ghost use Rattle.gw_model.specs.Rows.{row_from, is_point_map, IsStationAddress};
 
 use crate::point::{Kind, PointKey};
 use crate::row::{Row, Show};
@@ -19,7 +19,7 @@ pub struct Settings {
 
 impl Model for Settings {
     ghost use Rattle.std.specs.Prelude.{◌<◌, IsTrue, pos, negsuc, ◌≤ℤ◌};
-    ghost use Rattle.gw_model.specs.Rows.{Setup, is_point_map};
+    ghost use Rattle.gw_model.specs.Rows.{Setup, is_point_map, IsStationAddress};
 
     ghost Value = { Setup };
 
@@ -31,7 +31,7 @@ impl Model for Settings {
       rows = s.rows;
     } };
 
-    ghost invariant = { λ s. IsTrue (is_point_map s.rows) × (s.common_address < 65536)
+    ghost invariant = { λ s. IsTrue (is_point_map s.rows) × IsStationAddress s.common_address
         × (negsuc 839 ≤ℤ s.offset_minutes) × (s.offset_minutes ≤ℤ pos 840) };
 }
 
@@ -79,7 +79,7 @@ impl Settings {
         }
     }
 
-    /// The common address of the station's ASDUs.
+    /// The common address of the station's ASDUs, from 1 to 65534.
     pub fn common_address(&self) -> u16
         ensures { result ≡ self.now.common_address }
     {
@@ -110,11 +110,11 @@ impl Settings {
     }
 
     /// The rows of the point map, in order. No two have one key or one address; and the common address
-    /// of the station has 16 bits.
+    /// of the station is one that a station may have.
     pub fn rows(&self) -> &[Row]
         ensures rows { result.now ≡ self.now.rows }
         ensures unique { IsTrue (is_point_map self.now.rows) }
-        ensures station { self.now.common_address < 65536 }
+        ensures station { IsStationAddress self.now.common_address }
     {
         &self.rows
     }

@@ -1,8 +1,8 @@
 //! What was shown of each row last.
-ghost use Rattle.std.specs.Prelude.{◌≡◌, ◌<◌, length, map, IfOk, IfSome, IsTrue};
+ghost use Rattle.std.specs.Prelude.{◌≡◌, length, map, IfOk, IfSome, IsTrue};
 ghost use Rattle.std.specs.Option.{option_to_list};
 ghost use Rattle.gw_model.specs.Fit.{IsFit};
-ghost use Rattle.gw_model.specs.Rows.{is_point_map};
+ghost use Rattle.gw_model.specs.Rows.{is_point_map, IsStationAddress};
 ghost use Rattle.gw_picture.specs.Picture.{news_of, news_of_report, picture_after_report};
 ghost use Rattle.gw_picture.specs.Opening.{opening};
 
@@ -33,7 +33,7 @@ impl Picture {
     /// The picture before anything was reported.
     pub fn new(alloc: Global, settings: &Settings) -> Result<Picture, Memory>
         ensures shown { IfOk result (λ picture. picture ≡ map opening settings.now.rows) }
-        ensures settings { IsTrue (is_point_map settings.now.rows) × (settings.now.common_address < 65536) }
+        ensures settings { IsTrue (is_point_map settings.now.rows) × IsStationAddress settings.now.common_address }
     {
         let shown = opening_of(alloc, settings.rows())?;
         Ok(Picture { shown })

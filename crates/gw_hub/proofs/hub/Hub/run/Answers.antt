@@ -27,16 +27,16 @@ pub returns-clause-news : goal.returns-clause-news
 returns-clause-news c =
     let ran : Ran c.args.settings (history [] c.args.steps.items c.loop-step.replies.items) c.loop-step.hub.state =
     run_all c.args.settings c.args.steps.items c.loop-step.replies.items c.loop-step.step-index c.loop-step.hub.state (omega (arith, c.loop-step.auto, c.loop-step-test.false)) c.loop-step.invariant.2 in
-    tells_news c.args.settings _ c.new.ensures.settings.0 c.new.ensures.settings.1 ran.run ran.sound
+    tells_news c.args.settings _ c.new.ensures.settings.0 (omega (arith, c.new.ensures.settings.1.1)) ran.run ran.sound
 
 pub returns-clause-confirms : goal.returns-clause-confirms
 returns-clause-confirms c =
     let ran : Ran c.args.settings (history [] c.args.steps.items c.loop-step.replies.items) c.loop-step.hub.state =
     run_all c.args.settings c.args.steps.items c.loop-step.replies.items c.loop-step.step-index c.loop-step.hub.state (omega (arith, c.loop-step.auto, c.loop-step-test.false)) c.loop-step.invariant.2 in
-    confirms_taken c.args.settings _ c.new.ensures.settings.0 c.new.ensures.settings.1 ran.run ran.sound
+    confirms_taken c.args.settings _ c.new.ensures.settings.0 (omega (arith, c.new.ensures.settings.1.1)) ran.run ran.sound
 
 pub returns-clause-numbers : goal.returns-clause-numbers
 returns-clause-numbers c =
     let ran : Ran c.args.settings (history [] c.args.steps.items c.loop-step.replies.items) c.loop-step.hub.state =
     run_all c.args.settings c.args.steps.items c.loop-step.replies.items c.loop-step.step-index c.loop-step.hub.state (omega (arith, c.loop-step.auto, c.loop-step-test.false)) c.loop-step.invariant.2 in
-    numbers_in_order c.args.settings _ c.new.ensures.settings.0 c.new.ensures.settings.1 ran.run ran.sound
+    numbers_in_order c.args.settings _ c.new.ensures.settings.0 (omega (arith, c.new.ensures.settings.1.1)) ran.run ran.sound
