@@ -1,6 +1,6 @@
 //! The status that a program ends with.
 ghost use Rattle.std.specs.Prelude.{◌≡◌, ◌≤◌, Ok, true};
-ghost use Rattle.gw_input.specs.Status.{status};
+ghost use Rattle.gw_input.specs.Status.{last_line, status};
 
 use crate::reading::Stop;
 use std::io::Write;
@@ -12,10 +12,18 @@ pub fn finish<W: Write + Drop>(outcome: Result<bool, Stop>, writer: W) -> u8
     ensures fine { result ≡ 0 → outcome ≡ Ok true }
 {
     let mut writer = writer;
-    if outcome == Err(Stop::Memory) {
-        let _ = writer.write_all(b"refused memory\n");
-    }
+    let _ = writer.write_all(last_line(outcome));
     status_of(outcome, writer.flush().is_ok())
+}
+
+/// The line that is written at last, if any.
+fn last_line(outcome: Result<bool, Stop>) -> &'static [u8]
+    ensures { result.now ≡ last_line outcome }
+{
+    match outcome {
+        Err(Stop::Memory) => b"refused memory\n",
+        _ => b"",
+    }
 }
 
 /// The status that a run ends with, where the writer took all of its output or not.
