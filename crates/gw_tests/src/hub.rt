@@ -1,7 +1,8 @@
+//! Tests of gw_hub, and of the APDUs that a station puts out.
 ghost use Rattle.std.specs.Prelude.{◌<◌, ◌≤◌, length};
 
 use dnp_app::read_response;
-use gw_hub::{Apdu, ApduBuf, Hub, Ignored, Reply, Signal, Step, StepFault, Verdict};
+use gw_hub::{Apdu, ApduBuf, Hub, Reply, Signal, Step, StepFault, Verdict};
 use gw_model::{Observation, Quality, Settings, Stamp, Value};
 use gw_station::{news_format, start_confirmation};
 use gw_time::Zone;
@@ -67,9 +68,6 @@ fn apdus(rt: HostRuntime) {
 /// An unsolicited response that asks for a confirmation: input 5 is on.
 const EVENT: [u8; 10] = [0xF0, 0x82, 0, 0, 2, 1, 0x17, 1, 5, 0x81];
 
-/// An unsolicited response that asks for a confirmation: analog input 0 is 7, static.
-const READING: [u8; 12] = [0xF1, 0x82, 0, 0, 0x1E, 2, 0x17, 1, 0, 1, 7, 0];
-
 fn fragment(rt: &impl AllocGlobal, octets: &[u8]) -> Result<Step, Fail>
     requires { length octets.now ≤ 2048 }
 {
@@ -114,49 +112,9 @@ fn begun(rt: &impl AllocGlobal) -> Result<Vec<Step>, Fail> {
     Ok(steps)
 }
 
-/// A hub that made these steps.
-fn begun_hub(rt: &(impl Abort + AllocGlobal)) -> Result<Hub, Fail> {
-    let mut hub = Hub::new(rt.alloc(), Settings::built_in())?;
-    for step in &begun(rt)? {
-        assert!(rt; hub.step(step).is_ok());
-    }
-    Ok(hub)
-}
-
 /// The hub replies so to a step.
 fn check_step(rt: &impl Abort, hub: &mut Hub, step: &Step, reply: Reply) {
     assert_eq!(rt; hub.step(step), Ok(reply));
-}
-
-/// The hub replies so to a fragment.
-fn check_fragment(
-    rt: &(impl Abort + AllocGlobal),
-    hub: &mut Hub,
-    octets: &[u8],
-    verdict: Verdict,
-) -> Result<(), Fail>
-    requires { length octets.now ≤ 2048 }
-{
-    let step = fragment(rt, octets)?;
-    check_step(rt, hub, &step, Reply::Verdict(verdict));
-    Ok(())
-}
-
-/// One news waits for the client, and none was dropped; the picture shows it.
-fn check_on(rt: &impl Abort, hub: &Hub) {
-    assert_eq!(rt; (hub.queued(0), hub.dropped(0)), (1, 0));
-    assert_eq!(rt; hub.picture(), PICTURE);
-}
-
-#[test]
-fn a_hub_takes_an_event_once(rt: HostRuntime) -> Result<(), Fail> {
-    let mut hub = begun_hub(&rt)?;
-    let confirm = Some([0xD0, 0]);
-    check_fragment(&rt, &mut hub, &EVENT, Verdict::Accepted { confirm })?;
-    check_fragment(&rt, &mut hub, &EVENT, Verdict::Repeated { confirm })?;
-    check_on(&rt, &hub);
-    let ignored = Verdict::Ignored(Ignored::NoRequest);
-    check_fragment(&rt, &mut hub, &[0xC0, 0x81, 0, 0], ignored)
 }
 
 /// Only STARTDT act is acted on so far: any other APDU is taken and changes nothing.
@@ -201,26 +159,7 @@ fn a_run_replies_to_each_step(rt: HostRuntime) -> Result<(), Fail> {
     let steps = steps_of_an_event(&rt)?;
     let (hub, replies) = Hub::run(rt.alloc(), Settings::built_in(), steps)?;
     assert!(rt; are_replies_to_an_event(&replies), "{replies:?}");
-    assert_eq!(rt; (hub.queued(0), hub.queued(1)), (0, 0));
-    Ok(())
-}
-
-/// The reply to a step is an APDU of these octets.
-fn check_apdu_out(rt: &impl Abort, hub: &mut Hub, step: &Step, octets: &[u8]) {
-    let reply = hub.step(step);
-    match &reply {
-        Ok(Reply::Apdu(apdu)) => check_apdu(rt, apdu, octets),
-        _ => assert!(rt; false, "{reply:?}"),
-    }
-}
-
-#[test]
-fn a_static_change_is_put_out(rt: HostRuntime) -> Result<(), Fail> {
-    let mut hub = begun_hub(&rt)?;
-    let confirm = Some([0xD1, 0]);
-    check_fragment(&rt, &mut hub, &READING, Verdict::Accepted { confirm })?;
-    let wanted = b"\x68\x10\x00\x00\x00\x00\x0B\x01\x03\x00\x01\x00\x69\x10\x00\x07\x00\x00";
-    check_apdu_out(&rt, &mut hub, &pump(0), wanted);
-    check_step(&rt, &mut hub, &pump(0), Reply::Nothing);
+    assert_eq!(rt; (hub.queued(0), hub.dropped(0), hub.queued(1)), (0, 0, 0));
+    assert_eq!(rt; hub.picture(), PICTURE);
     Ok(())
 }

@@ -1,4 +1,4 @@
-//! Tests of the gateway's own layers through their public calls.
+//! Tests of times, images, the picture and the core through their public calls.
 #![tactic(auto)]
 
 #[cfg(test)]
@@ -8,10 +8,4 @@ mod hub;
 #[cfg(test)]
 mod picture;
 #[cfg(test)]
-mod replay;
-#[cfg(test)]
-mod text;
-#[cfg(test)]
 mod time;
-#[cfg(test)]
-mod translator;

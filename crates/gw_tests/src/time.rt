@@ -174,13 +174,19 @@ fn unused_bits(rt: HostRuntime) -> Result<(), Fail> {
     Ok(())
 }
 
-fn check_text(rt: &(impl Abort + AllocGlobal), fault: TagFault, wanted: &str) -> Result<(), Fail> {
+fn check_text(
+    rt: &(impl Abort + AllocGlobal),
+    fault: TagFault,
+    number: u8,
+    wanted: &str,
+) -> Result<(), Fail> {
+    assert_eq!(rt; fault as u8, number);
     assert_eq!(rt; fault.to_string(rt.alloc())?.as_str(), wanted);
     Ok(())
 }
 
 #[test]
 fn texts(rt: HostRuntime) -> Result<(), Fail> {
-    check_text(&rt, TagFault::Field, "1 Field")?;
-    check_text(&rt, TagFault::Date, "2 Date")
+    check_text(&rt, TagFault::Field, 1, "1 Field")?;
+    check_text(&rt, TagFault::Date, 2, "2 Date")
 }

@@ -6,7 +6,7 @@ use std::process::Abort;
 use std::test::Fail;
 
 /// `replay` writes this for an input, and ends with this status.
-fn check_replay(
+pub fn check_replay(
     rt: &(impl Abort + AllocGlobal),
     input: &[u8],
     output: &[u8],
@@ -47,6 +47,14 @@ const REPLAYS: &[(&str, &str, u8)] = &[
          frag 0 0 F0 82 00 00 02 02 17 01 05 81 00 68 E5 CF 8B 01\npump 0 0\n",
         "ok\ntaken\napdu 68 04 0B 00 00 00\nok\naccepted confirm D0 00\n\
          apdu 68 15 00 00 00 00 1E 01 03 00 01 00 05 10 00 01 20 4E 0D 16 0E 0B 17\n",
+        0,
+    ),
+    // A static value that changed: analog input 0 is 7.
+    (
+        "open 0 0\nframe 0 0 68 04 07 00 00 00\npump 0 0\nup 0 0\n\
+         frag 0 0 F1 82 00 00 1E 02 17 01 00 01 07 00\npump 0 0\npump 0 0\n",
+        "ok\ntaken\napdu 68 04 0B 00 00 00\nok\naccepted confirm D1 00\n\
+         apdu 68 10 00 00 00 00 0B 01 03 00 01 00 69 10 00 07 00 00\nnothing\n",
         0,
     ),
     // Each fault, in its order; a fault is no refusal.
@@ -185,4 +193,20 @@ fn replies_are_told_with_ample_memory(rt: HostRuntime) -> Result<(), Fail> {
     let want = b"closed Flooded\nfault 5 Memory\nfault 6 Spent\n";
     assert_eq!(rt; text.as_slice(), want.as_slice());
     Ok(())
+}
+
+/// Each fault of a step has the number that its line tells.
+#[test]
+fn numbers_of_faults(rt: HostRuntime) {
+    let rows = [
+        (StepFault::NoOutstation, 1),
+        (StepFault::NoClient, 2),
+        (StepFault::NotUp, 3),
+        (StepFault::AlreadyUp, 4),
+        (StepFault::Memory, 5),
+        (StepFault::Spent, 6),
+    ];
+    for (fault, number) in rows {
+        assert_eq!(rt; fault as u8, number);
+    }
 }

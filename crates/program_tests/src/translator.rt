@@ -4,12 +4,11 @@ use dnp_objects::{ObjectFault, Why};
 use gw_model::{Memory, Settings};
 use gw_picture::Picture;
 use gw_translator::{Decision, decide, translate};
-use std::io::{self, Read, Write};
 use std::process::Abort;
 use std::test::Fail;
 
 /// `translate` writes this for an input, and ends with this status.
-fn check_lines(
+pub fn check_lines(
     rt: &(impl Abort + AllocGlobal),
     input: &[u8],
     want: &[u8],
@@ -207,83 +206,6 @@ fn long_lines(rt: HostRuntime) -> Result<(), Fail> {
     push_faulty_lines(&mut faulty)?;
     let want = b"refused 0 Hex\nrefused 0 Hex\nrefused 0 Hex\nrefused 1 Short\n";
     check_lines(&rt, &faulty, want, 1)
-}
-
-/// A reader that gives an octet at a time and fails at last, and a writer that takes a few octets.
-#[derive(Drop)]
-struct Faulty<'a> {
-    rest: &'a [u8],
-}
-
-impl Read for Faulty<'_> {
-    fn read(&mut self, buf: &mut [u8]) -> io::Result<usize> {
-        match self.rest.split_first() {
-            Some((octet, rest)) if !buf.is_empty() => {
-                buf[0] = *octet;
-                self.rest = rest;
-                Ok(1)
-            }
-            _ => Err(io::Error::from(io::ErrorKind::Other)),
-        }
-    }
-}
-
-impl Write for Faulty<'_> {
-    fn write(&mut self, buf: &[u8]) -> io::Result<usize> {
-        let count = buf.len().min(self.rest.len());
-        if count == 0 && !buf.is_empty() {
-            return Err(io::Error::from(io::ErrorKind::Other));
-        }
-        self.rest = &self.rest[count..];
-        Ok(count)
-    }
-
-    fn flush(&mut self) -> io::Result<()> {
-        Ok(())
-    }
-}
-
-/// A response of which input 5 is news.
-const NEWS: &[u8] = b"E3 81 00 00 02 01 17 01 05 81\n";
-
-/// What is read before a reader fails is translated.
-fn check_faulty_reader(rt: &(impl Abort + AllocGlobal), input: &[u8]) -> Result<(), Fail> {
-    let mut output = Vec::new(rt.alloc());
-    let reader = io::BufReader::new(rt.alloc(), Faulty { rest: input })?;
-    let status = translate(rt.alloc(), Settings::built_in(), reader, &mut output);
-    let want = b"confirm C3 00\nasdu 01 01 03 00 01 00 05 10 00 01\n";
-    assert_eq!(rt; output.as_slice(), want.as_slice());
-    assert_eq!(rt; status, 1);
-    Ok(())
-}
-
-#[test]
-fn faults_of_reader_and_writer(rt: HostRuntime) -> Result<(), Fail> {
-    let input = b"E3 81 00 00 02 01 17 01 05 81\nC0 81".as_slice();
-    check_faulty_reader(&rt, input)?;
-    let writer = Faulty { rest: b"room" };
-    let status = translate(rt.alloc(), Settings::built_in(), input, writer);
-    assert_eq!(rt; status, 1);
-    Ok(())
-}
-
-/// So `translate` ends where the news are written to a buffer before a writer with so much room.
-fn check_room(rt: &(impl Abort + AllocGlobal), room: usize, status: u8) -> Result<(), Fail> {
-    let taken = vec![in rt.alloc(); 0; room]?;
-    let rest = Faulty {
-        rest: taken.as_slice(),
-    };
-    let writer = io::BufWriter::new(rt.alloc(), rest)?;
-    let ended = translate(rt.alloc(), Settings::built_in(), NEWS, writer);
-    assert_eq!(rt; ended, status, "with room for {room} octets");
-    Ok(())
-}
-
-/// What is written is not all taken until the writer was flushed, and a failure there is a failure to write.
-#[test]
-fn fault_of_the_last_write(rt: HostRuntime) -> Result<(), Fail> {
-    check_room(&rt, 48, 1)?;
-    check_room(&rt, 49, 0)
 }
 
 /// This is decided of a line; gives how many news it has.

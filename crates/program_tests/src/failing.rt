@@ -1,0 +1,227 @@
+//! Tests of readers and writers that fail, in the middle of both programs.
+use gw_input::{Stop, finish};
+use gw_model::Settings;
+use gw_replay::replay;
+use gw_translator::translate;
+use std::alloc::{AllocError, Global};
+use std::io::{self, BufRead, BufReader, BufWriter, ErrorKind, Read, Write};
+use std::process::Abort;
+use std::test::Fail;
+
+/// A program, with lines of input, and what it writes for them.
+#[derive(Clone, Copy)]
+struct Program {
+    is_replay: bool,
+    input: &'static [u8],
+    output: &'static [u8],
+}
+
+const PROGRAMS: &[Program] = &[
+    Program {
+        is_replay: false,
+        input: b"E3 81 00 00 02 01 17 01 05 81\n",
+        output: b"confirm C3 00\nasdu 01 01 03 00 01 00 05 10 00 01\n",
+    },
+    Program {
+        is_replay: true,
+        input: b"up 0 0\nqueue 0\npump 0 0\n",
+        output: b"ok\nqueued 0 dropped 0\nfault 3 NotUp\n",
+    },
+];
+
+/// Runs a program; gives its status.
+fn run<R: BufRead + Drop, W: Write + Drop>(
+    alloc: Global,
+    is_replay: bool,
+    reader: R,
+    writer: W,
+) -> u8 {
+    if is_replay {
+        replay(alloc, Settings::built_in(), reader, writer)
+    } else {
+        translate(alloc, Settings::built_in(), reader, writer)
+    }
+}
+
+/// A reader that gives an octet at a time, is interrupted before each, and ends or fails at last.
+#[derive(Drop)]
+struct Interrupted<'a> {
+    rest: &'a [u8],
+    is_next: bool,
+    fails: bool,
+}
+
+impl Read for Interrupted<'_> {
+    fn read(&mut self, buf: &mut [u8]) -> io::Result<usize> {
+        self.is_next = !self.is_next;
+        if self.is_next {
+            return Err(io::Error::from(ErrorKind::Interrupted));
+        }
+        match self.rest.split_first() {
+            Some((octet, rest)) if !buf.is_empty() => {
+                buf[0] = *octet;
+                self.rest = rest;
+                Ok(1)
+            }
+            _ if self.fails => Err(io::Error::from(ErrorKind::Other)),
+            _ => Ok(0),
+        }
+    }
+}
+
+/// A program reads from such a reader, and writes this with this status.
+fn check_read(
+    rt: &(impl Abort + AllocGlobal),
+    program: &Program,
+    input: &[u8],
+    fails: bool,
+) -> Result<(), Fail> {
+    let reader = Interrupted {
+        rest: input,
+        is_next: false,
+        fails,
+    };
+    let reader = BufReader::new(rt.alloc(), reader)?;
+    let mut output = Vec::new(rt.alloc());
+    let status = run(rt.alloc(), program.is_replay, reader, &mut output);
+    assert_eq!(rt; output.as_slice(), program.output);
+    assert_eq!(rt; status, u8::from(fails));
+    Ok(())
+}
+
+/// An interrupted read is tried again.
+#[test]
+fn interrupted_reads(rt: HostRuntime) -> Result<(), Fail> {
+    for program in PROGRAMS {
+        check_read(&rt, program, program.input, false)?;
+    }
+    Ok(())
+}
+
+/// Another failure ends the program: each whole line before it is answered, and nothing of the line that it cuts.
+#[test]
+fn failing_reads(rt: HostRuntime) -> Result<(), Fail> {
+    for program in PROGRAMS {
+        let mut input = Vec::from_slice(rt.alloc(), program.input)?;
+        input.extend_from_slice(b"C0 81")?;
+        check_read(&rt, program, input.as_slice(), true)?;
+    }
+    Ok(())
+}
+
+/// A hundred thousand lines are answered that come an octet at a time.
+#[test]
+fn many_reads(rt: HostRuntime) -> Result<(), Fail> {
+    let mut input = vec![in rt.alloc(); b'\n'; 100_000]?;
+    for program in PROGRAMS {
+        input.truncate(100_000);
+        input.extend_from_slice(program.input)?;
+        check_read(&rt, program, input.as_slice(), false)?;
+    }
+    Ok(())
+}
+
+/// A writer with room for so many octets, which keeps what it took; flushing it fails or not.
+#[derive(Drop)]
+struct Small<'a> {
+    taken: &'a mut Vec<u8>,
+    room: usize,
+    flushes: bool,
+}
+
+impl Write for Small<'_> {
+    fn write(&mut self, buf: &[u8]) -> io::Result<usize> {
+        let count = buf.len().min(self.room);
+        if count == 0 && !buf.is_empty() {
+            return Err(io::Error::from(ErrorKind::Other));
+        }
+        match self.taken.extend_from_slice(&buf[..count]) {
+            Ok(()) => self.room -= count,
+            Err(AllocError) => return Err(io::Error::from(ErrorKind::OutOfMemory)),
+        }
+        Ok(count)
+    }
+
+    fn flush(&mut self) -> io::Result<()> {
+        if self.flushes {
+            Ok(())
+        } else {
+            Err(io::Error::from(ErrorKind::Other))
+        }
+    }
+}
+
+/// A program writes to a writer with so much room: it takes the front of the output, and the status is 0 where it
+/// took all.
+fn check_room(rt: &(impl Abort + AllocGlobal), program: &Program, room: usize) -> Result<(), Fail> {
+    let mut taken = Vec::new(rt.alloc());
+    let writer = Small {
+        taken: &mut taken,
+        room,
+        flushes: true,
+    };
+    let status = run(rt.alloc(), program.is_replay, program.input, writer);
+    assert!(rt;
+        program.output.starts_with(taken.as_slice()),
+        "with room for {room} octets"
+    );
+    assert_eq!(rt; taken.len(), room);
+    assert_eq!(rt;
+        status == 0,
+        room == program.output.len(),
+        "with room for {room} octets"
+    );
+    Ok(())
+}
+
+/// Wherever writing fails, what was written is the front of the output, and the status is 1.
+#[test]
+fn failing_writes(rt: HostRuntime) -> Result<(), Fail> {
+    for program in PROGRAMS {
+        for room in 0..=program.output.len() {
+            check_room(&rt, program, room)?;
+        }
+    }
+    Ok(())
+}
+
+/// The status that a program ends with where flushing the buffer before its writer fails or not.
+fn status_flushed(rt: &impl AllocGlobal, program: &Program, flushes: bool) -> Result<u8, Fail> {
+    let mut taken = Vec::new(rt.alloc());
+    let small = Small {
+        taken: &mut taken,
+        room: 1000,
+        flushes,
+    };
+    let writer = BufWriter::new(rt.alloc(), small)?;
+    Ok(run(rt.alloc(), program.is_replay, program.input, writer))
+}
+
+/// What is written is not all taken until the writer was flushed, and a failure there is a failure to write.
+#[test]
+fn failing_flushes(rt: HostRuntime) -> Result<(), Fail> {
+    for program in PROGRAMS {
+        assert_eq!(rt; status_flushed(&rt, program, true)?, 0);
+        assert_eq!(rt; status_flushed(&rt, program, false)?, 1);
+    }
+    Ok(())
+}
+
+/// How a program may end, what it writes at its end, and its status.
+const ENDS: &[(Result<bool, Stop>, &str, u8)] = &[
+    (Ok(true), "", 0),
+    (Ok(false), "", 1),
+    (Err(Stop::Fault), "", 1),
+    (Err(Stop::Memory), "refused memory\n", 1),
+    (Err(Stop::TooManyReads), "", 1),
+];
+
+#[test]
+fn ends(rt: HostRuntime) -> Result<(), Fail> {
+    for (outcome, text, status) in ENDS {
+        let mut output = Vec::new(rt.alloc());
+        assert_eq!(rt; finish(*outcome, &mut output), *status);
+        assert_eq!(rt; output.as_slice(), text.as_bytes());
+    }
+    Ok(())
+}

@@ -1,0 +1,14 @@
+//! Tests of the programs through their public calls: the lines that they read and write, and readers and writers that
+//! fail.
+#![tactic(auto)]
+
+#[cfg(test)]
+mod failing;
+#[cfg(test)]
+mod largest;
+#[cfg(test)]
+mod replay;
+#[cfg(test)]
+mod text;
+#[cfg(test)]
+mod translator;
