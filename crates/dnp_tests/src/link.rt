@@ -26,6 +26,20 @@ fn check_value(rt: HostRuntime) {
     assert_eq!(rt; crc(b"123456789"), 0xEA82);
 }
 
+/// Each reason to skip an octet has its number.
+#[test]
+fn numbers_of_reasons(rt: HostRuntime) {
+    let rows = [
+        (Why::BadStart, 1),
+        (Why::BadLength, 2),
+        (Why::BadHeaderCrc, 3),
+        (Why::BadBlockCrc, 4),
+    ];
+    for (why, number) in rows {
+        assert_eq!(rt; why as u8, number);
+    }
+}
+
 /// The feed tells of so many octets, one by one, that they were skipped for a reason.
 fn skips(rt: &impl Abort, feed: &mut LinkFeed, why: Why, count: u8) {
     for _ in 0..count {

@@ -128,11 +128,12 @@ fn longest_apdu(rt: HostRuntime) -> Result<(), Fail> {
 #[test]
 fn texts_of_faults(rt: HostRuntime) -> Result<(), Fail> {
     let rows = [
-        (ApciFault::Start, "1 Start"),
-        (ApciFault::Length, "2 Length"),
-        (ApciFault::Control, "3 Control"),
+        (ApciFault::Start, 1, "1 Start"),
+        (ApciFault::Length, 2, "2 Length"),
+        (ApciFault::Control, 3, "3 Control"),
     ];
-    for (fault, text) in rows {
+    for (fault, number, text) in rows {
+        assert_eq!(rt; fault as u8, number);
         let shown = format!(in rt.alloc(); "{fault}")?;
         assert_eq!(rt; shown.as_str(), text);
     }

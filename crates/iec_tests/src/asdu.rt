@@ -1,25 +1,10 @@
 //! ASDUs with process information, with octets from outside.
+use crate::checks::{Told, check_head, check_one, check_refused, check_written, observed, read};
 use gw_model::{Element, Observation, Quality, Stamp, Value};
 use gw_time::Zone;
-use iec_asdu::{
-    AsduFault, BitString, CounterReading, DoublePoint, ScaledValue, SinglePoint, read_monitor,
-    write_monitor,
-};
-use std::alloc::Global;
+use iec_asdu::{AsduFault, BitString, CounterReading, DoublePoint, ScaledValue, SinglePoint};
 use std::process::Abort;
 use std::test::Fail;
-
-/// The address, value, quality and stamp of an observation.
-type Told = (u32, Value, Quality, Stamp);
-
-fn observed((address, value, quality, stamp): Told) -> Observation {
-    Observation {
-        address,
-        value,
-        quality,
-        stamp,
-    }
-}
 
 const INVALID: Quality = Quality {
     iv: true,
@@ -59,81 +44,66 @@ const CENTRAL_EUROPE: Zone = Zone { offset_minutes: 60 };
 /// 14 November 2023, 22:13:20 UTC.
 const EVENT: Stamp = Stamp::At(1_700_000_000_000);
 
-/// An observation, and the common address, the cause, the offset and the octets of its ASDU.
-type Row = (Told, u16, u8, Zone, &'static [u8]);
+/// An observation, and the common address, the cause and the octets of its ASDU.
+type Row = (Told, u16, u8, &'static [u8]);
 
-/// Writes the observation and reads it again.
-fn check(
-    (told, common, cause, zone, octets): Row,
-    rt: &impl Abort,
-    alloc: Global,
-) -> Result<(), Fail> {
-    let observation = observed(told);
-    let mut out = [0xAA; 249];
-    let written = write_monitor(&[observation], common, cause, &zone, &mut out);
-    assert_eq!(rt; written.taken, 1);
-    assert_eq!(rt; out[..written.octets], *octets);
-    let read = read_monitor(alloc, octets, &zone)?;
-    assert_eq!(rt; (read.common, read.cause), (common, cause));
-    assert_eq!(rt; read.observations.as_slice(), [observation].as_slice());
+/// Writes the observation and reads it again, at a station with these clocks.
+fn check(rt: &(impl Abort + AllocGlobal), row: &Row, zone: &Zone) -> Result<(), Fail> {
+    let (told, common, cause, octets) = row;
+    check_written(rt, observed(told), *common, *cause, zone, octets);
+    let read = read(rt.alloc(), octets, zone)?;
+    check_head(rt, &read, *common, *cause);
+    check_one(rt, &read, observed(told), octets);
     Ok(())
 }
 
-const UNTIMED: [Row; 8] = [
+const UNTIMED: &[Row] = &[
     (
         (4101, Value::Single(true), Quality::GOOD, Stamp::Untimed),
         1,
         3,
-        Zone::UTC,
         b"\x01\x01\x03\x00\x01\x00\x05\x10\x00\x01",
     ),
     (
         (4101, Value::Single(false), INVALID, Stamp::Untimed),
         1,
         3,
-        Zone::UTC,
         b"\x01\x01\x03\x00\x01\x00\x05\x10\x00\x80",
     ),
     (
         (4101, Value::Single(true), ALL_FLAGS, Stamp::Untimed),
         1,
         20,
-        Zone::UTC,
         b"\x01\x01\x14\x00\x01\x00\x05\x10\x00\xF1",
     ),
     (
         (197121, Value::Double(2), Quality::GOOD, Stamp::Untimed),
         258,
         5,
-        Zone::UTC,
         b"\x03\x01\x05\x00\x02\x01\x01\x02\x03\x02",
     ),
     (
         (4201, Value::Word(4294967295), Quality::GOOD, Stamp::Untimed),
         1,
         3,
-        Zone::UTC,
         b"\x07\x01\x03\x00\x01\x00\x69\x10\x00\xFF\xFF\xFF\xFF\x00",
     ),
     (
         (4201, Value::Scaled(32767), OVERFLOW, Stamp::Untimed),
         1,
         3,
-        Zone::UTC,
         b"\x0B\x01\x03\x00\x01\x00\x69\x10\x00\xFF\x7F\x01",
     ),
     (
         (4201, Value::Scaled(-2), Quality::GOOD, Stamp::Untimed),
         1,
         3,
-        Zone::UTC,
         b"\x0B\x01\x03\x00\x01\x00\x69\x10\x00\xFE\xFF\x00",
     ),
     (
         (4301, Value::Total(4294967295), CARRIED, Stamp::Untimed),
         1,
         37,
-        Zone::UTC,
         b"\x0F\x01\x25\x00\x01\x00\xCD\x10\x00\xFF\xFF\xFF\xFF\x20",
     ),
 ];
@@ -141,7 +111,7 @@ const UNTIMED: [Row; 8] = [
 #[test]
 fn each_type_without_time(rt: HostRuntime) -> Result<(), Fail> {
     for row in UNTIMED {
-        check(row, &rt, rt.alloc())?;
+        check(&rt, row, &Zone::UTC)?;
     }
     Ok(())
 }
@@ -208,13 +178,12 @@ fn numbers_again(rt: HostRuntime) {
 }
 
 /// The event of a single point, in UTC, and with a common time of a clock that wasn't synchronized; then the other
-/// types, and both ends of the window.
-const TIMED: [Row; 7] = [
+/// types, and the last millisecond that a tag can show.
+const TIMED: &[Row] = &[
     (
         (4101, Value::Single(true), Quality::GOOD, EVENT),
         1,
         3,
-        Zone::UTC,
         b"\x1E\x01\x03\x00\x01\x00\x05\x10\x00\x01\x20\x4E\x0D\x16\x0E\x0B\x17",
     ),
     (
@@ -226,15 +195,7 @@ const TIMED: [Row; 7] = [
         ),
         1,
         3,
-        Zone::UTC,
         b"\x1E\x01\x03\x00\x01\x00\x05\x10\x00\x01\xBF\x63\x8E\x16\x0E\x0B\x17",
-    ),
-    (
-        (4101, Value::Double(2), INVALID, EVENT),
-        1,
-        3,
-        CENTRAL_EUROPE,
-        b"\x1F\x01\x03\x00\x01\x00\x05\x10\x00\x82\x20\x4E\x0D\x17\x0E\x0B\x17",
     ),
     // 29 February of 2000, and of 2024.
     (
@@ -246,7 +207,6 @@ const TIMED: [Row; 7] = [
         ),
         1,
         3,
-        Zone::UTC,
         b"\x21\x01\x03\x00\x01\x00\x69\x10\x00\xFF\xFF\xFF\xFF\x00\x00\x00\x00\x00\x1D\x02\x00",
     ),
     (
@@ -258,10 +218,9 @@ const TIMED: [Row; 7] = [
         ),
         258,
         20,
-        Zone::UTC,
         b"\x23\x01\x14\x00\x02\x01\x01\x02\x03\xFE\xFF\x01\xD5\xDD\x22\x0C\x1D\x02\x18",
     ),
-    // The last and the first millisecond that a tag can show.
+    // The last millisecond that a tag can show.
     (
         (
             4301,
@@ -271,8 +230,17 @@ const TIMED: [Row; 7] = [
         ),
         1,
         37,
-        Zone::UTC,
         b"\x25\x01\x25\x00\x01\x00\xCD\x10\x00\x78\x56\x34\x12\x20\x5F\xEA\x3B\x17\x1F\x0C\x63",
+    ),
+];
+
+/// At a station whose clocks are 60 minutes ahead of UTC; then the first millisecond that a tag can show there.
+const TIMED_EAST: &[Row] = &[
+    (
+        (4101, Value::Double(2), INVALID, EVENT),
+        1,
+        3,
+        b"\x1F\x01\x03\x00\x01\x00\x05\x10\x00\x82\x20\x4E\x0D\x17\x0E\x0B\x17",
     ),
     (
         (
@@ -283,7 +251,6 @@ const TIMED: [Row; 7] = [
         ),
         65535,
         5,
-        CENTRAL_EUROPE,
         b"\x1E\x01\x05\x00\xFF\xFF\xFF\xFF\xFF\x00\x00\x00\x80\x00\x01\x01\x00",
     ),
 ];
@@ -291,28 +258,35 @@ const TIMED: [Row; 7] = [
 #[test]
 fn each_type_with_time(rt: HostRuntime) -> Result<(), Fail> {
     for row in TIMED {
-        check(row, &rt, rt.alloc())?;
+        check(&rt, row, &Zone::UTC)?;
+    }
+    for row in TIMED_EAST {
+        check(&rt, row, &CENTRAL_EUROPE)?;
     }
     Ok(())
 }
 
+/// Milliseconds since 1970 that no tag shows.
+const BEYOND: &[u64] = &[946_684_799_999, 4_102_444_800_000, 281_474_976_776_190];
+
 #[test]
 fn beyond_the_window(rt: HostRuntime) {
-    for t in [946_684_799_999, 4_102_444_800_000, 281_474_976_776_190] {
-        for stamp in [Stamp::At(t), Stamp::Doubtful(t)] {
-            let observation = observed((4101, Value::Single(true), Quality::GOOD, stamp));
-            let mut out = [0xAA; 249];
-            let written = write_monitor(&[observation], 1, 3, &Zone::UTC, &mut out);
-            assert_eq!(rt;
-                &out[..written.octets],
-                b"\x01\x01\x03\x00\x01\x00\x05\x10\x00\x01".as_slice()
-            );
-        }
+    let untimed = b"\x01\x01\x03\x00\x01\x00\x05\x10\x00\x01";
+    for t in BEYOND {
+        let at = (4101, Value::Single(true), Quality::GOOD, Stamp::At(*t));
+        check_written(&rt, observed(&at), 1, 3, &Zone::UTC, untimed);
+        let doubtful = (
+            4101,
+            Value::Single(true),
+            Quality::GOOD,
+            Stamp::Doubtful(*t),
+        );
+        check_written(&rt, observed(&doubtful), 1, 3, &Zone::UTC, untimed);
     }
 }
 
 /// ASDUs, their common address and cause, and their observations.
-const SEVERAL: [(&[u8], u16, u8, &[Told]); 6] = [
+const SEVERAL: &[(&[u8], u16, u8, &[Told])] = &[
     (
         b"\x01\x83\x14\x00\x01\x00\x05\x10\x00\x01\x00\xC0",
         1,
@@ -386,21 +360,25 @@ const SEVERAL: [(&[u8], u16, u8, &[Told]); 6] = [
     ),
 ];
 
+fn check_observations(rt: &impl Abort, found: &[Observation], wanted: &[Told]) {
+    assert_eq!(rt; found.len(), wanted.len());
+    for (found, told) in found.iter().zip(wanted) {
+        assert_eq!(rt; *found, observed(told));
+    }
+}
+
 #[test]
 fn several_objects(rt: HostRuntime) -> Result<(), Fail> {
     for (octets, common, cause, wanted) in SEVERAL {
-        let read = read_monitor(rt.alloc(), octets, &Zone::UTC)?;
-        assert_eq!(rt; (read.common, read.cause), (common, cause));
-        assert_eq!(rt; read.observations.len(), wanted.len());
-        for (found, told) in read.observations.iter().zip(wanted) {
-            assert_eq!(rt; *found, observed(*told));
-        }
+        let read = read(rt.alloc(), octets, &Zone::UTC)?;
+        check_head(&rt, &read, *common, *cause);
+        check_observations(&rt, read.observations.as_slice(), wanted);
     }
     Ok(())
 }
 
 /// Octets, and the first fault of each.
-const FAULTS: [(&[u8], AsduFault); 20] = [
+const FAULTS: &[(&[u8], AsduFault)] = &[
     (b"", AsduFault::Short),
     (b"\x01\x01\x03", AsduFault::Short),
     (b"\x2D\x00\x03\x00\x01", AsduFault::Short),
@@ -460,26 +438,26 @@ const FAULTS: [(&[u8], AsduFault); 20] = [
 #[test]
 fn first_faults(rt: HostRuntime) {
     for (octets, wanted) in FAULTS {
-        match read_monitor(rt.alloc(), octets, &Zone::UTC) {
-            Ok(_) => assert!(rt; false),
-            Err(fault) => assert_eq!(rt; fault, wanted, "{octets:?}"),
-        }
+        check_refused(&rt, rt.alloc(), octets, *wanted);
     }
 }
 
+/// Faults, their numbers and texts.
+const TEXTS: &[(AsduFault, u8, &str)] = &[
+    (AsduFault::Short, 1, "1 Short"),
+    (AsduFault::Long, 2, "2 Long"),
+    (AsduFault::UnknownType, 3, "3 UnknownType"),
+    (AsduFault::ZeroObjects, 4, "4 ZeroObjects"),
+    (AsduFault::Reserved, 5, "5 Reserved"),
+    (AsduFault::Tag, 6, "6 Tag"),
+    (AsduFault::Memory, 7, "7 Memory"),
+];
+
 #[test]
 fn texts(rt: HostRuntime) -> Result<(), Fail> {
-    let table = [
-        (AsduFault::Short, "1 Short"),
-        (AsduFault::Long, "2 Long"),
-        (AsduFault::UnknownType, "3 UnknownType"),
-        (AsduFault::ZeroObjects, "4 ZeroObjects"),
-        (AsduFault::Reserved, "5 Reserved"),
-        (AsduFault::Tag, "6 Tag"),
-        (AsduFault::Memory, "7 Memory"),
-    ];
-    for (fault, text) in table {
-        assert_eq!(rt; fault.to_string(rt.alloc())?.as_str(), text);
+    for (fault, number, text) in TEXTS {
+        assert_eq!(rt; *fault as u8, *number);
+        assert_eq!(rt; fault.to_string(rt.alloc())?.as_str(), *text);
     }
     Ok(())
 }

@@ -1,8 +1,9 @@
 //! iec_asdu: each bit of the information elements alone, as IEC 60870-5-101, 7.2.6, numbers them.
 
+use crate::checks::{check_one, check_refused, check_written, observed, read};
 use gw_model::{Observation, Quality, Stamp, Value};
 use gw_time::Zone;
-use iec_asdu::{AsduFault, read_monitor, write_monitor};
+use iec_asdu::AsduFault;
 use std::alloc::Global;
 use std::process::Abort;
 use std::test::Fail;
@@ -46,7 +47,7 @@ const DESCRIPTOR_BITS: &[(u8, Quality)] = &[
 const COUNTER_BITS: &[(u8, Quality)] = &[(0x00, GOOD), (0x20, CY), (0x40, CA), (0x80, IV)];
 
 /// A type identification, a value, its octets before the last, its bits in the last, and the bits of the quality there.
-const ELEMENTS: [(u8, Value, &[u8], u8, &[(u8, Quality)]); 9] = [
+const ELEMENTS: &[(u8, Value, &[u8], u8, &[(u8, Quality)])] = &[
     (1, Value::Single(false), b"", 0x00, STATE_BITS),
     (1, Value::Single(true), b"", 0x01, STATE_BITS),
     (3, Value::Double(0), b"", 0x00, STATE_BITS),
@@ -79,42 +80,49 @@ fn asdu_of(alloc: Global, identification: u8, front: &[u8], last: u8) -> Result<
     Ok(octets)
 }
 
-fn observed(value: Value, quality: Quality) -> Observation {
-    Observation {
-        address: 4101,
-        value,
-        quality,
-        stamp: Stamp::Untimed,
-    }
+fn observation_of(value: Value, quality: Quality) -> Observation {
+    observed(&(4101, value, quality, Stamp::Untimed))
 }
 
 /// The observation is written as this ASDU.
-fn check_written(rt: &impl Abort, observation: Observation, asdu: &[u8]) {
-    let mut out = [0xAA; 249];
-    let written = write_monitor(&[observation], 1, 3, &Zone::UTC, &mut out);
-    assert_eq!(rt; out[..written.octets], *asdu);
+fn check_out(rt: &impl Abort, observation: Observation, asdu: &[u8]) {
+    check_written(rt, observation, 1, 3, &Zone::UTC, asdu);
+}
+
+/// The ASDU is read as this observation alone.
+fn check_in(
+    rt: &(impl Abort + AllocGlobal),
+    asdu: &[u8],
+    observation: Observation,
+) -> Result<(), Fail> {
+    let read = read(rt.alloc(), asdu, &Zone::UTC)?;
+    check_one(rt, &read, observation, asdu);
+    Ok(())
+}
+
+/// The observation and its ASDU are written and read as one another.
+fn check_both(
+    rt: &(impl Abort + AllocGlobal),
+    asdu: &[u8],
+    observation: Observation,
+) -> Result<(), Fail> {
+    check_out(rt, observation, asdu);
+    check_in(rt, asdu, observation)
 }
 
 #[test]
 fn each_bit_of_quality(rt: HostRuntime) -> Result<(), Fail> {
     for (identification, value, front, last, bits) in ELEMENTS {
-        for (bit, quality) in bits {
-            let asdu = asdu_of(rt.alloc(), identification, front, last | *bit)?;
-            let observation = observed(value, *quality);
-            check_written(&rt, observation, &asdu);
-            let read = read_monitor(rt.alloc(), &asdu, &Zone::UTC)?;
-            assert_eq!(rt;
-                read.observations.as_slice(),
-                [observation].as_slice(),
-                "{asdu:?}"
-            );
+        for (bit, quality) in *bits {
+            let asdu = asdu_of(rt.alloc(), *identification, front, *last | *bit)?;
+            check_both(&rt, &asdu, observation_of(*value, *quality))?;
         }
     }
     Ok(())
 }
 
 /// Values, and the qualities that their elements have no bit for.
-const WITHOUT_BIT: [(u8, Value, &[u8], &[Quality]); 5] = [
+const WITHOUT_BIT: &[(u8, Value, &[u8], &[Quality])] = &[
     (1, Value::Single(false), b"", &[OV, CY, CA]),
     (3, Value::Double(0), b"", &[OV, CY, CA]),
     (7, Value::Word(0), b"\x00\x00\x00\x00", &[CY, CA]),
@@ -125,41 +133,41 @@ const WITHOUT_BIT: [(u8, Value, &[u8], &[Quality]); 5] = [
 #[test]
 fn quality_without_a_bit(rt: HostRuntime) -> Result<(), Fail> {
     for (identification, value, front, qualities) in WITHOUT_BIT {
-        let asdu = asdu_of(rt.alloc(), identification, front, 0x00)?;
-        for quality in qualities {
-            check_written(&rt, observed(value, *quality), &asdu);
+        let asdu = asdu_of(rt.alloc(), *identification, front, 0x00)?;
+        for quality in *qualities {
+            check_out(&rt, observation_of(*value, *quality), &asdu);
         }
     }
     Ok(())
 }
 
 /// Types, the octets of an element before the last, and the reserved bits of the last.
-const RESERVED: [(u8, &[u8], &[u8]); 4] = [
+const RESERVED: &[(u8, &[u8], &[u8])] = &[
     (1, b"", &[0x02, 0x04, 0x08]),
     (3, b"", &[0x04, 0x08]),
     (7, b"\x00\x00\x00\x00", &[0x02, 0x04, 0x08]),
     (11, b"\x00\x00", &[0x02, 0x04, 0x08]),
 ];
 
-/// Each reserved bit is refused, and each bit of a counter's sequence number is passed over.
 #[test]
-fn bits_beside_quality(rt: HostRuntime) -> Result<(), Fail> {
+fn each_reserved_bit_is_refused(rt: HostRuntime) -> Result<(), Fail> {
     for (identification, front, bits) in RESERVED {
-        for bit in bits {
-            let asdu = asdu_of(rt.alloc(), identification, front, *bit)?;
-            let fault = read_monitor(rt.alloc(), &asdu, &Zone::UTC).err();
-            assert_eq!(rt; fault, Some(AsduFault::Reserved), "{asdu:?}");
+        for bit in *bits {
+            let asdu = asdu_of(rt.alloc(), *identification, front, *bit)?;
+            check_refused(&rt, rt.alloc(), &asdu, AsduFault::Reserved);
         }
     }
-    for bit in [0x01, 0x02, 0x04, 0x08, 0x10] {
-        let asdu = asdu_of(rt.alloc(), 15, b"\x07\x00\x00\x00", bit)?;
-        let read = read_monitor(rt.alloc(), &asdu, &Zone::UTC)?;
-        let wanted = observed(Value::Total(7), GOOD);
-        assert_eq!(rt;
-            read.observations.as_slice(),
-            [wanted].as_slice(),
-            "{asdu:?}"
-        );
+    Ok(())
+}
+
+/// The bits of a counter's sequence number.
+const SEQUENCE_BITS: &[u8] = &[0x01, 0x02, 0x04, 0x08, 0x10];
+
+#[test]
+fn each_bit_of_a_sequence_number_is_passed_over(rt: HostRuntime) -> Result<(), Fail> {
+    for bit in SEQUENCE_BITS {
+        let asdu = asdu_of(rt.alloc(), 15, b"\x07\x00\x00\x00", *bit)?;
+        check_in(&rt, &asdu, observation_of(Value::Total(7), GOOD))?;
     }
     Ok(())
 }

@@ -1,11 +1,11 @@
 //! Calls that take memory, at their largest sizes: no contract tells memory that ran out from a limit of the code.
 ghost use Rattle.std.specs.Prelude.{◌<◌};
 
+use crate::checks::{observed, read};
 use gw_model::{Observation, Quality, Stamp, Value};
 use gw_time::Zone;
 use iec_apci::laws::apdus_of;
 use iec_apci::{Apdu, ApduFeed};
-use iec_asdu::read_monitor;
 use iec_window::Window;
 use std::alloc::Global;
 use std::process::Abort;
@@ -21,7 +21,7 @@ const TOTAL_OCTETS: &[u8] = b"\x21\x43\x65\x87\x00\x20\x4E\x0D\x16\x0E\x0B\x17";
 
 /// A type identification, SQ, how many objects there are, the octets of each, how many the ASDU has, and what each
 /// object tells. 60 single-points are the most under SQ 0 that an APDU holds; the reader itself has no such limit.
-const ASDUS: [(u8, bool, u8, &[u8], usize, (Value, Stamp)); 5] = [
+const ASDUS: &[(u8, bool, u8, &[u8], usize, (Value, Stamp))] = &[
     (1, false, 60, b"\x01", 246, SINGLE),
     (1, false, 127, b"\x01", 514, SINGLE),
     (1, true, 127, b"\x01", 136, SINGLE),
@@ -48,22 +48,22 @@ fn asdu_of(
     Ok(octets)
 }
 
+/// So many observations of this value and stamp, from address 4096 on.
+fn check_all(rt: &impl Abort, found: &[Observation], count: u8, value: Value, stamp: Stamp) {
+    assert_eq!(rt; found.len(), usize::from(count));
+    for (found, place) in found.iter().zip(0..count) {
+        let address = 4096 + u32::from(place);
+        assert_eq!(rt; *found, observed(&(address, value, Quality::GOOD, stamp)));
+    }
+}
+
 #[test]
 fn most_objects(rt: HostRuntime) -> Result<(), Fail> {
     for (identification, sequence, count, object, octets, (value, stamp)) in ASDUS {
-        let asdu = asdu_of(rt.alloc(), identification, sequence, count, object)?;
-        assert_eq!(rt; asdu.len(), octets);
-        let read = read_monitor(rt.alloc(), &asdu, &Zone::UTC)?;
-        assert_eq!(rt; read.observations.len(), usize::from(count));
-        for (found, place) in read.observations.iter().zip(0..count) {
-            let wanted = Observation {
-                address: 4096 + u32::from(place),
-                value,
-                quality: Quality::GOOD,
-                stamp,
-            };
-            assert_eq!(rt; *found, wanted);
-        }
+        let asdu = asdu_of(rt.alloc(), *identification, *sequence, *count, object)?;
+        assert_eq!(rt; asdu.len(), *octets);
+        let read = read(rt.alloc(), &asdu, &Zone::UTC)?;
+        check_all(&rt, read.observations.as_slice(), *count, *value, *stamp);
     }
     Ok(())
 }
@@ -79,22 +79,41 @@ fn long_stream(alloc: Global) -> Result<Vec<u8>, Fail> {
     Ok(stream)
 }
 
+/// A feed that was given nothing, these octets in one piece, and nothing.
+fn fed(alloc: Global, stream: &[u8]) -> Result<ApduFeed, Fail> {
+    let mut feed = ApduFeed::new(alloc);
+    feed.feed(&[])?;
+    feed.feed(stream)?;
+    feed.feed(&[])?;
+    Ok(feed)
+}
+
+/// The next APDU is the longest one.
+fn check_longest(rt: &impl Abort, feed: &mut ApduFeed) {
+    match feed.next() {
+        Some(Ok(Apdu::I { ns, nr, asdu })) => {
+            assert_eq!(rt; (ns, nr), (1, 2));
+            assert_eq!(rt; asdu.as_slice(), [0x11; 249].as_slice());
+        }
+        _ => assert!(rt; false),
+    }
+}
+
 #[test]
 fn many_octets_in_one_piece(rt: HostRuntime) -> Result<(), Fail> {
     let stream = long_stream(rt.alloc())?;
     assert_eq!(rt; stream.len(), 65_536);
-    let mut feed = ApduFeed::new(rt.alloc());
-    feed.feed(&[])?;
-    feed.feed(&stream)?;
-    feed.feed(&[])?;
+    let mut feed = fed(rt.alloc(), &stream)?;
     for _ in 0..257u16 {
-        let Some(Ok(Apdu::I { ns, nr, asdu })) = feed.next() else {
-            return Err(Fail::from("no I format"));
-        };
-        assert_eq!(rt; (ns, nr), (1, 2));
-        assert_eq!(rt; asdu.as_slice(), [0x11; 249].as_slice());
+        check_longest(&rt, &mut feed);
     }
     assert_eq!(rt; feed.next(), None);
+    Ok(())
+}
+
+#[test]
+fn many_apdus_in_one_call(rt: HostRuntime) -> Result<(), Fail> {
+    let stream = long_stream(rt.alloc())?;
     let (apdus, fault) = apdus_of(rt.alloc(), &[&stream])?;
     assert_eq!(rt; apdus.len(), 257);
     assert_eq!(rt; fault, None);

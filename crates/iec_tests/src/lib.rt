@@ -8,6 +8,8 @@ mod asdu;
 #[cfg(test)]
 mod bits;
 #[cfg(test)]
+mod checks;
+#[cfg(test)]
 mod largest;
 #[cfg(test)]
 mod window;

@@ -147,3 +147,16 @@ fn largest_window(rt: HostRuntime) -> Result<(), Fail> {
     }
     Ok(())
 }
+
+#[test]
+fn texts_of_faults(rt: HostRuntime) -> Result<(), Fail> {
+    let rows = [
+        (WindowFault::WrongSend, "1 WrongSend"),
+        (WindowFault::WrongReceive, "2 WrongReceive"),
+    ];
+    for (fault, text) in rows {
+        let shown = format!(in rt.alloc(); "{fault}")?;
+        assert_eq!(rt; shown.as_str(), text);
+    }
+    Ok(())
+}
