@@ -4,7 +4,7 @@ ghost use Rattle.dnp_objects.specs.Headers.{number};
 ghost use Rattle.dnp_objects.specs.declared.fault.Why.TheVariants.{UnknownObject, ShortData};
 ghost use Rattle.dnp_points.specs.Objects.{binary_report};
 ghost use Rattle.dnp_app.specs.declared.fault.AppFault.TheVariants.{Short, NotResponse, Object};
-ghost use Rattle.dnp_app.specs.Control.{control_of, confirmation_of};
+ghost use Rattle.dnp_app.specs.Control.{control_of, confirmation_of, confirm_of};
 ghost use Rattle.dnp_app.specs.Echo.{echo_of};
 ghost use Rattle.dnp_app.specs.Response.{response_of, fragment_of};
 ghost use Rattle.dnp_app.specs.SteppedOver.{stepped_over_count_of};
@@ -50,6 +50,12 @@ pub fn controls_by_example()
     ensures first { control_of 0x8F ≡ record { fir = true; fin = false; con = false; uns = false; sequence = 15 } }
     ensures confirmed { confirmation_of 3 false ≡ 0xC3 ∷ 0x00 ∷ [] }
     ensures confirmed_unsolicited { confirmation_of 5 true ≡ 0xD5 ∷ 0x00 ∷ [] }
+    // Where CON is set and not elsewhere, with the fragment's own UNS bit, whatever its function.
+    ensures asked { confirm_of (0xE3 ∷ 0x81 ∷ 0x00 ∷ 0x00 ∷ []) ≡ Some (0xC3 ∷ 0x00 ∷ []) }
+    ensures asked_unsolicited { confirm_of (0xF3 ∷ 0x82 ∷ 0x00 ∷ 0x00 ∷ []) ≡ Some (0xD3 ∷ 0x00 ∷ []) }
+    ensures uns_of_a_response { confirm_of (0xF3 ∷ 0x81 ∷ 0x00 ∷ 0x00 ∷ []) ≡ Some (0xD3 ∷ 0x00 ∷ []) }
+    ensures unsolicited_without_uns { confirm_of (0xE3 ∷ 0x82 ∷ 0x00 ∷ 0x00 ∷ []) ≡ Some (0xC3 ∷ 0x00 ∷ []) }
+    ensures not_asked { confirm_of (0xD3 ∷ 0x82 ∷ 0x00 ∷ 0x00 ∷ []) ≡ None }
 {}
 
 /// Which command some fragments echo.
@@ -101,6 +107,9 @@ pub fn echoes_by_example()
           body = 0x18 ∷ 0xFC ∷ 0 ∷ 0 ∷ 0 ∷ 0 ∷ 0 ∷ 0 ∷ 0 ∷ 0 ∷ 0 ∷ [];
           status = 1;
         }) }
+    // An event of an analog output tells what was commanded, and is no echo.
+    ensures output_event { echo_of (0xC0 ∷ 0x81 ∷ 0x00 ∷ 0x00 ∷ 0x2A ∷ 0x02 ∷ 0x17 ∷ 0x01 ∷ 0x04 ∷ 0x01 ∷ 0x07
+        ∷ 0x00 ∷ []) ≡ None }
     ensures reports_alone { echo_of (0xC0 ∷ 0x81 ∷ 0x00 ∷ 0x00 ∷ 0x02 ∷ 0x01 ∷ 0x17 ∷ 0x01 ∷ 0x05 ∷ 0x81 ∷ []) ≡ None }
 {}
 
@@ -115,6 +124,16 @@ pub fn stepped_over_by_example()
     ensures four { stepped_over_count_of (0xC0 ∷ 0x81 ∷ 0x00 ∷ 0x00
         ∷ 0x15 ∷ 0x0A ∷ 0x00 ∷ 0x00 ∷ 0x02 ∷ 0x01 ∷ 0x00 ∷ 0x02 ∷ 0x00 ∷ 0x03 ∷ 0x00
         ∷ 0x6E ∷ 0x02 ∷ 0x17 ∷ 0x01 ∷ 0x00 ∷ 0x48 ∷ 0x69 ∷ []) ≡ 4 }
+    // Events of commands, frozen counters, floating point, analog outputs and octet strings.
+    ensures events { stepped_over_count_of (0xC0 ∷ 0x81 ∷ 0x00 ∷ 0x00
+        ∷ 0x0D ∷ 0x01 ∷ 0x17 ∷ 0x01 ∷ 0x00 ∷ 0x80
+        ∷ 0x17 ∷ 0x02 ∷ 0x17 ∷ 0x01 ∷ 0x00 ∷ 0x01 ∷ 0x00 ∷ 0x00
+        ∷ 0x20 ∷ 0x05 ∷ 0x17 ∷ 0x01 ∷ 0x00 ∷ 0x01 ∷ 0x00 ∷ 0x00 ∷ 0x80 ∷ 0x3F
+        ∷ 0x2A ∷ 0x02 ∷ 0x17 ∷ 0x01 ∷ 0x00 ∷ 0x01 ∷ 0x07 ∷ 0x00
+        ∷ 0x6F ∷ 0x01 ∷ 0x17 ∷ 0x01 ∷ 0x00 ∷ 0x48 ∷ []) ≡ 5 }
+    // An analog output's status.
+    ensures status { stepped_over_count_of (0xC0 ∷ 0x81 ∷ 0x00 ∷ 0x00
+        ∷ 0x28 ∷ 0x02 ∷ 0x00 ∷ 0x00 ∷ 0x00 ∷ 0x01 ∷ 0x07 ∷ 0x00 ∷ []) ≡ 1 }
     // A common time, a command and an event are not stepped over.
     ensures none { stepped_over_count_of (0xC0 ∷ 0x81 ∷ 0x00 ∷ 0x00
         ∷ 0x33 ∷ 0x01 ∷ 0x07 ∷ 0x01 ∷ 0x00 ∷ 0x68 ∷ 0xE5 ∷ 0xCF ∷ 0x8B ∷ 0x01

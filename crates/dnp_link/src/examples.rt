@@ -42,8 +42,21 @@ pub fn streams()
 /// What a secondary station that was not reset decides on these CONTROL octets, one after another: whether
 /// user data is delivered, and the CONTROL octet of the reply.
 pub fn decisions()
-    ensures { replies_to None (0x72 ∷ 0x40 ∷ 0x72 ∷ 0x73 ∷ 0x53 ∷ 0x53 ∷ 0x44 ∷ 0x49 ∷ 0x41 ∷ 0xC4 ∷ 0x00 ∷ []) ≡
+    ensures in_turn { replies_to None (0x72 ∷ 0x40 ∷ 0x72 ∷ 0x73 ∷ 0x53 ∷ 0x53 ∷ 0x44 ∷ 0x49 ∷ 0x41 ∷ 0xC4 ∷ 0x00 ∷ []) ≡
         (false, Some 0x81) ∷ (false, Some 0x80) ∷ (false, Some 0x80) ∷ (false, Some 0x80) ∷ (true, Some 0x80)
         ∷ (false, Some 0x80)
         ∷ (true, None) ∷ (false, Some 0x8B) ∷ (false, Some 0x8F) ∷ (false, None) ∷ (false, None) ∷ [] }
+    // REQUEST_LINK_STATUS needs no reset.
+    ensures status { replies_to None (0x49 ∷ []) ≡ (false, Some 0x8B) ∷ [] }
+    // TEST_LINK_STATES with the other frame count bit gets ACK as well.
+    ensures test_again { replies_to None (0x40 ∷ 0x72 ∷ 0x72 ∷ []) ≡ replicate 3 (false, Some 0x80) }
+    // Each reset makes 1 the bit that is expected.
+    ensures reset_again { replies_to None (0x40 ∷ 0x73 ∷ 0x40 ∷ 0x73 ∷ [])
+        ≡ (false, Some 0x80) ∷ (true, Some 0x80) ∷ (false, Some 0x80) ∷ (true, Some 0x80) ∷ [] }
+    // The bit counts where FCV is 0, too.
+    ensures not_valid { replies_to None (0x40 ∷ 0x63 ∷ 0x63 ∷ [])
+        ≡ (false, Some 0x80) ∷ (true, Some 0x80) ∷ (false, Some 0x80) ∷ [] }
+    // Every other function is not supported.
+    ensures other_functions { replies_to None (0x41 ∷ 0x45 ∷ 0x46 ∷ 0x47 ∷ 0x48 ∷ 0x4A ∷ 0x4B ∷ 0x4C ∷ 0x4D ∷ 0x4E
+        ∷ 0x4F ∷ []) ≡ replicate 11 (false, Some 0x8F) }
 {}

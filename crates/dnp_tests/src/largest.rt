@@ -68,6 +68,22 @@ fn many_octets_in_one_piece(rt: HostRuntime) -> Result<(), Fail> {
     Ok(())
 }
 
+/// In many pieces, before the first event is asked for.
+#[test]
+fn many_octets_in_many_pieces(rt: HostRuntime) -> Result<(), Fail> {
+    let stream = long_stream(&rt)?;
+    let mut feed = LinkFeed::new(rt.alloc());
+    let mut pieces = Vec::new(rt.alloc());
+    for piece in stream.chunks(100) {
+        feed.feed(piece)?;
+        pieces.push(piece)?;
+    }
+    check_events(&rt, &mut feed);
+    let events = events_of(rt.alloc(), &pieces)?;
+    assert_eq!(rt; events.len(), 224 + 128);
+    Ok(())
+}
+
 /// 511 headers in 2,048 octets, the last with two events.
 fn check_most_headers(rt: &(impl Abort + AllocGlobal)) -> Result<(), Fail> {
     let mut part = repeated(rt.alloc(), b"", b"\x33\x02\x07\x00", 510)?;
@@ -257,8 +273,21 @@ fn longest_fragment(rt: HostRuntime) -> Result<(), Fail> {
     check_whole(&rt, &mut assembler, &fragment)
 }
 
+/// A fragment may begin with any number.
+#[test]
+fn fragment_of_any_number(rt: HostRuntime) -> Result<(), Fail> {
+    let mut assembler = Assembler::new(rt.alloc());
+    for number in 0..64u8 {
+        let whole = ended(&mut assembler, &[0xC0 + number, 1])?;
+        assert_eq!(rt; whole.as_deref(), Some([1].as_slice()));
+        let begun = ended(&mut assembler, &[0x40 + number, 1])?;
+        assert!(rt; begun.is_none());
+    }
+    Ok(())
+}
+
 /// The frames of a fragment.
-fn frames_of(alloc: Global, fragment: &[u8]) -> Result<Vec<u8>, Fail>
+pub fn frames_of(alloc: Global, fragment: &[u8]) -> Result<Vec<u8>, Fail>
     requires { length fragment.now ≤ 2048 }
 {
     let mut stream = Vec::new(alloc);
@@ -300,5 +329,18 @@ fn many_largest_responses(rt: HostRuntime) -> Result<(), Fail> {
     assert_eq!(rt; responses.len(), 27);
     let fragment = largest_fragment(rt.alloc())?;
     assert!(rt; are_largest(&responses, &fragment));
+    Ok(())
+}
+
+/// In pieces of ten octets.
+#[test]
+fn many_pieces(rt: HostRuntime) -> Result<(), Fail> {
+    let stream = stream_of(&rt, 6)?;
+    let mut pieces = Vec::new(rt.alloc());
+    for piece in stream.chunks(10) {
+        pieces.push(piece)?;
+    }
+    let fragments = fragments_of(rt.alloc(), &pieces, 1024, 1)?;
+    assert_eq!(rt; fragments.len(), 6);
     Ok(())
 }

@@ -15,7 +15,8 @@ fn is_reset(event: &Option<LinkEvent>) -> bool {
             frame.control == 0xC0
                 && frame.destination == 1
                 && frame.source == 1024
-                && frame.user().is_empty()
+                && frame.len == 0
+                && frame.user == [0; 250]
         }
         _ => false,
     }
@@ -77,6 +78,21 @@ fn fed(alloc: Global, pieces: &[&[u8]]) -> Result<LinkFeed, Fail> {
         feed.feed(piece)?;
     }
     Ok(feed)
+}
+
+/// What was used up, and what waits, takes no room from what comes.
+#[test]
+fn frames_in_turn(rt: HostRuntime) -> Result<(), Fail> {
+    let mut feed = fed(rt.alloc(), &[&[0x00], &RESET[..9]])?;
+    skips(&rt, &mut feed, Why::BadStart, 1);
+    feed.feed(&[0x21, 0x05])?;
+    feed.feed(&RESET[1..])?;
+    feed.feed(&RESET)?;
+    for _ in 0..3u8 {
+        gives_reset(&rt, &mut feed);
+    }
+    ends(&rt, &mut feed);
+    Ok(())
 }
 
 #[test]
@@ -161,12 +177,23 @@ fn is_longest(event: &Option<LinkEvent>) -> bool {
     }
 }
 
+/// Feeds a frame octet by octet; before the last one it gives nothing.
+fn feed_singly(rt: &impl Abort, feed: &mut LinkFeed, frame: &[u8; 292]) -> Result<(), Fail> {
+    for octet in frame {
+        ends(rt, feed);
+        feed.feed(&[*octet])?;
+    }
+    Ok(())
+}
+
 #[test]
 fn longest_frame(rt: HostRuntime) -> Result<(), Fail> {
     let mut frame = longest(&rt);
     let mut feed = fed(rt.alloc(), &[&frame])?;
     assert!(rt; is_longest(&feed.next()));
     ends(&rt, &mut feed);
+    feed_singly(&rt, &mut feed, &frame)?;
+    assert!(rt; is_longest(&feed.next()));
     frame[291] ^= 1;
     feed.feed(&frame)?;
     skips(&rt, &mut feed, Why::BadBlockCrc, 1);

@@ -369,6 +369,17 @@ fn faults_are_told(rt: HostRuntime) -> Result<(), Fail> {
     Ok(())
 }
 
+#[test]
+fn want_of_memory_is_told(rt: HostRuntime) -> Result<(), Fail> {
+    let fault = ObjectFault {
+        why: Why::Memory,
+        place: 4,
+    };
+    let text = format!(in rt.alloc(); "{fault}")?;
+    assert_eq!(rt; text.as_str(), "7 Memory at 4");
+    Ok(())
+}
+
 /// So many headers of a common time, without an object, and then these octets.
 fn empty_headers(alloc: Global, count: u32, rest: &[u8]) -> Result<Vec<u8>, AllocError> {
     let mut part = Vec::new(alloc);

@@ -182,6 +182,15 @@ fn an_index_of_two_octets_is_read(rt: HostRuntime) -> Result<(), Fail> {
     Ok(())
 }
 
+/// Two headers with three events each.
+#[test]
+fn each_object_of_each_header_is_read(rt: HostRuntime) -> Result<(), Fail> {
+    let part = b"\x02\x01\x17\x03\x05\x81\x06\x81\x07\x81\x02\x01\x17\x03\x05\x01\x06\x01\x07\x01";
+    let found = read(&rt, part)?;
+    assert_eq!(rt; found.len(), 6);
+    Ok(())
+}
+
 #[test]
 fn a_header_without_objects_reports_nothing(rt: HostRuntime) -> Result<(), Fail> {
     let found = read(&rt, b"\x02\x01\x17\x00")?;

@@ -1,5 +1,6 @@
 //! Worked examples through the layers, with values from outside.
 
+use crate::largest::frames_of;
 use dnp_app::Response;
 use dnp_receive::{fragments_of, responses_of};
 use gw_model::{Kind, PointKey, Raw, Report, Stamp};
@@ -139,6 +140,27 @@ fn other_fragments_are_left_out(rt: HostRuntime) -> Result<(), Fail> {
     let pieces = [THREE.as_slice(), EVENT_FRAME.as_slice(), FIVE.as_slice()];
     let responses = responses_of(rt.alloc(), 0, &pieces, OWN, PEER)?;
     assert!(rt; are_event(&responses, 0));
+    Ok(())
+}
+
+/// A fragment that is no response, and one whose object part is cut.
+#[test]
+fn refused_fragments_are_left_out(rt: HostRuntime) -> Result<(), Fail> {
+    let request = frames_of(rt.alloc(), &[0xC0, 0x02, 0x00, 0x00])?;
+    let cut = frames_of(rt.alloc(), &[0xC0, 0x81, 0x00, 0x00, 0x02])?;
+    let pieces = [request.as_slice(), cut.as_slice(), EVENT_FRAME.as_slice()];
+    let responses = responses_of(rt.alloc(), 0, &pieces, OWN, PEER)?;
+    assert!(rt; are_event(&responses, 0));
+    Ok(())
+}
+
+/// For each outstation.
+#[test]
+fn responses_of_each_outstation(rt: HostRuntime) -> Result<(), Fail> {
+    for outstation in 0..=255u8 {
+        let responses = responses_of(rt.alloc(), outstation, &[&EVENT_FRAME], OWN, PEER)?;
+        assert!(rt; are_event(&responses, outstation));
+    }
     Ok(())
 }
 

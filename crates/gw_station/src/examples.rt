@@ -20,6 +20,9 @@ pub fn client_by_example()
         ≡ Some (Information 0 0 (1 ∷ 1 ∷ 3 ∷ 0 ∷ 1 ∷ 0 ∷ 0x05 ∷ 0x10 ∷ 0 ∷ 1 ∷ [])) }
     ensures more_news { given (pos 0) 1 (client_with_news (switched_on ∷ []) (client_after_pump 0 waiting))
         ≡ Some (Information 1 0 (1 ∷ 1 ∷ 3 ∷ 0 ∷ 1 ∷ 0 ∷ 0x05 ∷ 0x10 ∷ 0 ∷ 1 ∷ [])) }
+    // N(S) counts modulo 32,768.
+    ensures last_number { (client_after_pump 0 (record waiting { next_send = 32766 })).next_send ≡ 32767 }
+    ensures wraps { (client_after_pump 0 (record waiting { next_send = 32767 })).next_send ≡ 0 }
     // A second STARTDT act is confirmed before the news, and the session goes on.
     ensures twice { given (pos 0) 1 (client_after_apdu 0 start waiting) ≡ Some (Unnumbered StartCon) }
     ensures goes_on { (client_after_apdu 0 start waiting).queue ≡ switched_on ∷ [] }

@@ -1,5 +1,5 @@
 //! Worked runs, computed by the step relation itself.
-ghost use Rattle.std.specs.Prelude.{◌≡◌, ◌++◌, [], ◌∷◌, Some, Ok, Err};
+ghost use Rattle.std.specs.Prelude.{◌≡◌, ◌-◌, ◌++◌, [], ◌∷◌, Some, Ok, Err};
 ghost use Rattle.gw_steps.specs.declared.step.Step.TheVariants as steps;
 ghost use Rattle.gw_steps.specs.declared.step.Reply.TheVariants as replies;
 ghost use Rattle.gw_steps.specs.declared.step.StepFault.TheVariants.{NoOutstation, NoClient, NotUp, AlreadyUp, Spent};
@@ -7,6 +7,8 @@ ghost use Rattle.dnp_master.specs.declared.verdict.Verdict.TheVariants as verdic
 ghost use Rattle.dnp_master.specs.declared.verdict.Ignored.TheVariants.{NoRequest};
 ghost use Rattle.gw_station.specs.declared.event.Why.TheVariants.{Flooded};
 ghost use Rattle.iec_apci.specs.Buffer.{buffer};
+ghost use Rattle.iec_apci.specs.declared.apdu.Apdu.TheVariants.{U};
+ghost use Rattle.iec_apci.specs.declared.apdu.Signal.TheVariants.{StartAct};
 ghost use Rattle.gw_steps.specs.State.{at_first};
 ghost use Rattle.gw_steps.specs.Steps.{outcome};
 ghost use Rattle.gw_steps.specs.Example.{after_steps, ahead, connect, counting, event, fragment_of, last_count, next_reading, outstation_up, pump, reached, reading, setup, solicited, start, started, starting, starts, timed};
@@ -22,7 +24,10 @@ pub fn replies_by_example()
     ensures twice { outcome setup (reached started) outstation_up ≡ Err AlreadyUp }
     // A count of steps or of news that can't rise; a fault of the actor comes before it.
     ensures last_step { outcome setup (counting last_count 0 (reached started)) pump ≡ Err Spent }
+    ensures step_left { outcome setup (counting (last_count - 1) 0 (reached started)) pump ≡ Ok replies.Nothing }
     ensures last_news { outcome setup (counting 0 last_count (reached started)) (fragment_of event) ≡ Err Spent }
+    ensures news_left { outcome setup (counting 0 (last_count - 1) (reached started)) (fragment_of event)
+        ≡ Ok (replies.Verdict (verdicts.Accepted (Some (0xD0 ∷ 0 ∷ [])))) }
     ensures no_news { outcome setup (counting 0 last_count (reached started)) (fragment_of solicited)
         ≡ Ok (replies.Verdict (verdicts.Ignored NoRequest)) }
     ensures fault_first { outcome setup (counting last_count 0 (reached started)) (steps.Pump 1 0) ≡ Err NoClient }
@@ -31,6 +36,9 @@ pub fn replies_by_example()
     ensures flooded { outcome setup (reached (connect ∷ starts 32)) start ≡ Ok (replies.Closed Flooded) }
     ensures closed { outcome setup (reached (connect ∷ starts 33)) pump ≡ Err NotUp }
     ensures again { outcome setup (reached (connect ∷ starts 33)) connect ≡ Ok replies.Done }
+    // A moment before an earlier one counts as that one.
+    ensures moment { (reached (steps.ClientUp 0 9 ∷ steps.Frame 0 (U StartAct) 5 ∷ [])).moment ≡ 9 }
+    ensures later_moment { (reached (steps.ClientUp 0 9 ∷ steps.Frame 0 (U StartAct) 12 ∷ [])).moment ≡ 12 }
 {}
 
 /// What is put out in runs, and what becomes of their fragments.

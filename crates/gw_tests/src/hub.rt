@@ -163,3 +163,16 @@ fn a_run_replies_to_each_step(rt: HostRuntime) -> Result<(), Fail> {
     assert_eq!(rt; hub.picture(), PICTURE);
     Ok(())
 }
+
+/// Many steps in one run.
+#[test]
+fn a_long_run(rt: HostRuntime) -> Result<(), Fail> {
+    let mut steps = begun(&rt)?;
+    for _ in 0..10_000u16 {
+        steps.push(pump(0))?;
+    }
+    let (hub, replies) = Hub::run(rt.alloc(), Settings::built_in(), steps)?;
+    assert_eq!(rt; (hub.queued(0), replies.len()), (0, 10_004));
+    assert_eq!(rt; replies.last(), Some(&Ok(Reply::Nothing)));
+    Ok(())
+}

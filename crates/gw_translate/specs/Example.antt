@@ -1,5 +1,5 @@
 -- Short words for the worked examples: reports of outstation 0, rows that show them, and observations without time.
-use Rattle.std.specs.Prelude.{ℕ, ℤ, Bool, true, false, IsTrue, refl}
+use Rattle.std.specs.Prelude.{ℕ, ℤ, Bool, true, false, IsTrue, List, [], ◌∷◌, refl}
 use Rattle.std.proofs.Common.{lit≤}
 use Rattle.gw_model.specs.declared.point.Kind.{Kind}
 use Rattle.gw_model.specs.declared.point.Kind.TheVariants as kinds
@@ -17,6 +17,10 @@ use Rattle.gw_model.specs.declared.observation.Quality.{Quality}
 use Rattle.gw_model.specs.declared.observation.Observation.{Observation}
 use Rattle.gw_model.specs.Point.{is_of_kind, is_stamped}
 use Rattle.gw_model.specs.Show.{is_shown_by}
+
+-- the types by which points may be shown
+abbrev pub types : List Show
+types = shows.Single ∷ shows.Double ∷ shows.Scaled ∷ shows.Word ∷ shows.Total ∷ []
 
 -- point 5 of a kind
 abbrev pub point : Kind → PointKey

@@ -1,12 +1,14 @@
 //! Worked examples of the definitions, computed by the definitions themselves.
-ghost use Rattle.std.specs.Prelude.{◌≡◌, pos, negsuc, [], ◌∷◌, Some, None, true, false};
+ghost use Rattle.std.specs.Prelude.{◌≡◌, pos, negsuc, [], ◌∷◌, map, Some, None, true, false};
 ghost use Rattle.gw_model.specs.declared.point.Kind.TheVariants as kinds;
 ghost use Rattle.gw_model.specs.declared.point.Stamp.TheVariants.{At, Doubtful};
 ghost use Rattle.gw_model.specs.declared.observation.Value.TheVariants.{Single, Double, Scaled, Word, Total};
+ghost use Rattle.gw_model.specs.Point.{is_stamped};
+ghost use Rattle.gw_model.specs.Show.{is_shown_by};
 ghost use Rattle.gw_translate.specs.Quality.{quality_of};
 ghost use Rattle.gw_translate.specs.Image.{image_of, image_in};
 ghost use Rattle.gw_translate.specs.Image.{is_news_of};
-ghost use Rattle.gw_translate.specs.Example.{binary, output, counter, analog, intermediate_input, timed_event, static_value, binary_row, output_row, double_row, scaled_row, word_row, counter_row, observation, good, invalid, overflow};
+ghost use Rattle.gw_translate.specs.Example.{binary, output, counter, analog, intermediate_input, timed_event, static_value, binary_row, output_row, double_row, scaled_row, word_row, counter_row, types, observation, good, invalid, overflow};
 
 /// Which quality some flags give.
 pub fn qualities_by_example()
@@ -27,6 +29,14 @@ pub fn qualities_by_example()
     ensures reference_error { quality_of kinds.Analog 0x41 ≡ invalid }
     ensures rollover { quality_of kinds.Counter 0x21 ≡ record good { cy = true } }
     ensures discontinuity { quality_of kinds.Counter 0x41 ≡ record good { ca = true } }
+    // Two flags together, and all of them, of the other kinds.
+    ensures forced_and_lost { quality_of kinds.Analog 0x0D ≡ record good { nt = true; sb = true } }
+    ensures every_of_double { quality_of kinds.Double 0xFF
+        ≡ record good { iv = true; nt = true; sb = true; bl = true } }
+    ensures every_of_output { quality_of kinds.Output 0xFF ≡ record good { iv = true; nt = true; sb = true } }
+    ensures every_of_analog { quality_of kinds.Analog 0xFF
+        ≡ record good { iv = true; nt = true; sb = true; ov = true } }
+    ensures every_of_counter { quality_of kinds.Counter 0xFF ≡ record good { iv = true; cy = true; ca = true } }
     // A counter that isn't online, that restarted, or whose source is lost is invalid, and is never not topical or
     // substituted.
     ensures counter_offline { quality_of kinds.Counter 0x00 ≡ invalid }
@@ -63,6 +73,7 @@ pub fn images_by_example()
     ensures least_word { image_of (pos 0) word_row (analog 0x01 (negsuc 2147483647))
         ≡ observation (Word 0x80000000) good }
     ensures large_word { image_of (pos 0) word_row (analog 0x01 (pos 40000)) ≡ observation (Word 40000) good }
+    ensures word_over_range { image_of (pos 0) word_row (analog 0x21 (pos 7)) ≡ observation (Word 7) overflow }
     // A counter that rolled over, and one whose source is lost.
     ensures rollover { image_of (pos 0) counter_row (counter 0x21 0xFFFFFFFF)
         ≡ observation (Total 0xFFFFFFFF) (record good { cy = true }) }
@@ -85,9 +96,23 @@ pub fn images_by_example()
     ensures unmapped { image_in (pos 0) (binary_row ∷ []) (output 0x81 true) ≡ None }
 {}
 
+/// By which types each kind of point may be shown: single, double, scaled, word, total; and an event alone may have a
+/// time.
+pub fn shows_by_example()
+    ensures binary { map (is_shown_by kinds.Binary) types ≡ true ∷ false ∷ false ∷ false ∷ false ∷ [] }
+    ensures output { map (is_shown_by kinds.Output) types ≡ true ∷ false ∷ false ∷ false ∷ false ∷ [] }
+    ensures double { map (is_shown_by kinds.Double) types ≡ false ∷ true ∷ false ∷ false ∷ false ∷ [] }
+    ensures analog { map (is_shown_by kinds.Analog) types ≡ false ∷ false ∷ true ∷ true ∷ false ∷ [] }
+    ensures counter { map (is_shown_by kinds.Counter) types ≡ false ∷ false ∷ false ∷ false ∷ true ∷ [] }
+    ensures timed { is_stamped true (At 1) ≡ true }
+    ensures static_value { is_stamped false (At 1) ≡ false }
+    ensures doubtful { is_stamped false (Doubtful 1) ≡ false }
+{}
+
 /// An event is news always, a static value where value or quality differs.
 pub fn news_by_example()
     ensures event { let on = observation (Single true) good in is_news_of (binary 0x81 true) on on ≡ true }
+    ensures invalid_event { let off = observation (Single false) invalid in is_news_of (binary 0x00 false) off off ≡ true }
     ensures same { let on = observation (Single true) good in is_news_of (static_value 0x81 true) on on ≡ false }
     ensures value { let off = observation (Single false) good in
         is_news_of (static_value 0x81 true) off (observation (Single true) good) ≡ true }

@@ -41,6 +41,10 @@ const CARRIED: Quality = Quality {
 
 const CENTRAL_EUROPE: Zone = Zone { offset_minutes: 60 };
 
+const NEW_YORK: Zone = Zone {
+    offset_minutes: -300,
+};
+
 /// 14 November 2023, 22:13:20 UTC.
 const EVENT: Stamp = Stamp::At(1_700_000_000_000);
 
@@ -255,6 +259,14 @@ const TIMED_EAST: &[Row] = &[
     ),
 ];
 
+/// At a station whose clocks are five hours behind UTC.
+const TIMED_WEST: &[Row] = &[(
+    (4101, Value::Double(2), INVALID, EVENT),
+    1,
+    3,
+    b"\x1F\x01\x03\x00\x01\x00\x05\x10\x00\x82\x20\x4E\x0D\x11\x0E\x0B\x17",
+)];
+
 #[test]
 fn each_type_with_time(rt: HostRuntime) -> Result<(), Fail> {
     for row in TIMED {
@@ -262,6 +274,9 @@ fn each_type_with_time(rt: HostRuntime) -> Result<(), Fail> {
     }
     for row in TIMED_EAST {
         check(&rt, row, &CENTRAL_EUROPE)?;
+    }
+    for row in TIMED_WEST {
+        check(&rt, row, &NEW_YORK)?;
     }
     Ok(())
 }
@@ -439,6 +454,23 @@ const FAULTS: &[(&[u8], AsduFault)] = &[
 fn first_faults(rt: HostRuntime) {
     for (octets, wanted) in FAULTS {
         check_refused(&rt, rt.alloc(), octets, *wanted);
+    }
+}
+
+/// The types with process information that are read.
+const TYPES: &[u8] = &[1, 3, 7, 11, 15, 30, 31, 33, 35, 37];
+
+/// Each type is known or not: with one object announced, and none there.
+#[test]
+fn each_type_is_known_or_not(rt: HostRuntime) {
+    for identification in 0..=255u8 {
+        let wanted = if TYPES.contains(&identification) {
+            AsduFault::Short
+        } else {
+            AsduFault::UnknownType
+        };
+        let octets = [identification, 1, 3, 0, 1, 0];
+        check_refused(&rt, rt.alloc(), &octets, wanted);
     }
 }
 

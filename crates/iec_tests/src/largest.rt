@@ -11,23 +11,62 @@ use std::alloc::Global;
 use std::process::Abort;
 use std::test::Fail;
 
-const SINGLE: (Value, Stamp) = (Value::Single(true), Stamp::Untimed);
-
 /// On 14 November 2023 at 22:13:20 UTC.
-const TOTAL: (Value, Stamp) = (Value::Total(0x8765_4321), Stamp::At(1_700_000_000_000));
+const AT: Stamp = Stamp::At(1_700_000_000_000);
 
-/// The same as octets: binary counter reading and time tag.
-const TOTAL_OCTETS: &[u8] = b"\x21\x43\x65\x87\x00\x20\x4E\x0D\x16\x0E\x0B\x17";
+const UNTIMED: Stamp = Stamp::Untimed;
 
-/// A type identification, SQ, how many objects there are, the octets of each, how many the ASDU has, and what each
-/// object tells. 60 single-points are the most under SQ 0 that an APDU holds; the reader itself has no such limit.
-const ASDUS: &[(u8, bool, u8, &[u8], usize, (Value, Stamp))] = &[
-    (1, false, 60, b"\x01", 246, SINGLE),
-    (1, false, 127, b"\x01", 514, SINGLE),
-    (1, true, 127, b"\x01", 136, SINGLE),
-    (37, false, 127, TOTAL_OCTETS, 1911, TOTAL),
-    (37, true, 127, TOTAL_OCTETS, 1533, TOTAL),
+/// A type identification, the octets of an object, and what it tells: value and stamp.
+const OBJECTS: &[(u8, &[u8], Value, Stamp)] = &[
+    (1, b"\x01", Value::Single(true), UNTIMED),
+    (3, b"\x02", Value::Double(2), UNTIMED),
+    (
+        7,
+        b"\x21\x43\x65\x87\x00",
+        Value::Word(0x8765_4321),
+        UNTIMED,
+    ),
+    (11, b"\xFE\xFF\x00", Value::Scaled(-2), UNTIMED),
+    (
+        15,
+        b"\x21\x43\x65\x87\x00",
+        Value::Total(0x8765_4321),
+        UNTIMED,
+    ),
+    (
+        30,
+        b"\x01\x20\x4E\x0D\x16\x0E\x0B\x17",
+        Value::Single(true),
+        AT,
+    ),
+    (
+        31,
+        b"\x02\x20\x4E\x0D\x16\x0E\x0B\x17",
+        Value::Double(2),
+        AT,
+    ),
+    (
+        33,
+        b"\x21\x43\x65\x87\x00\x20\x4E\x0D\x16\x0E\x0B\x17",
+        Value::Word(0x8765_4321),
+        AT,
+    ),
+    (
+        35,
+        b"\xFE\xFF\x00\x20\x4E\x0D\x16\x0E\x0B\x17",
+        Value::Scaled(-2),
+        AT,
+    ),
+    (
+        37,
+        b"\x21\x43\x65\x87\x00\x20\x4E\x0D\x16\x0E\x0B\x17",
+        Value::Total(0x8765_4321),
+        AT,
+    ),
 ];
+
+/// The most objects of an ASDU. The reader itself knows no limit of octets.
+const MOST: u8 = 127;
 
 /// An ASDU with so many of these objects, from address 4096 on.
 fn asdu_of(
@@ -57,13 +96,15 @@ fn check_all(rt: &impl Abort, found: &[Observation], count: u8, value: Value, st
     }
 }
 
+/// With its own address each, and at consecutive addresses.
 #[test]
 fn most_objects(rt: HostRuntime) -> Result<(), Fail> {
-    for (identification, sequence, count, object, octets, (value, stamp)) in ASDUS {
-        let asdu = asdu_of(rt.alloc(), *identification, *sequence, *count, object)?;
-        assert_eq!(rt; asdu.len(), *octets);
-        let read = read(rt.alloc(), &asdu, &Zone::UTC)?;
-        check_all(&rt, read.observations.as_slice(), *count, *value, *stamp);
+    for (identification, object, value, stamp) in OBJECTS {
+        for sequence in [false, true] {
+            let asdu = asdu_of(rt.alloc(), *identification, sequence, MOST, object)?;
+            let read = read(rt.alloc(), &asdu, &Zone::UTC)?;
+            check_all(&rt, read.observations.as_slice(), MOST, *value, *stamp);
+        }
     }
     Ok(())
 }
@@ -111,12 +152,40 @@ fn many_octets_in_one_piece(rt: HostRuntime) -> Result<(), Fail> {
     Ok(())
 }
 
+/// What waits takes no room from what comes.
+#[test]
+fn many_octets_wait(rt: HostRuntime) -> Result<(), Fail> {
+    let stream = long_stream(rt.alloc())?;
+    assert_eq!(rt; stream.len(), 65_536);
+    let mut feed = fed(rt.alloc(), &stream[..65_535])?;
+    feed.feed(&stream[..65_535])?;
+    for _ in 0..514u16 {
+        check_longest(&rt, &mut feed);
+    }
+    assert_eq!(rt; feed.next(), None);
+    Ok(())
+}
+
 #[test]
 fn many_apdus_in_one_call(rt: HostRuntime) -> Result<(), Fail> {
     let stream = long_stream(rt.alloc())?;
-    let (apdus, fault) = apdus_of(rt.alloc(), &[&stream])?;
+    let mut pieces = Vec::new(rt.alloc());
+    for piece in stream.chunks(100) {
+        pieces.push(piece)?;
+    }
+    let (apdus, fault) = apdus_of(rt.alloc(), &pieces)?;
     assert_eq!(rt; apdus.len(), 257);
     assert_eq!(rt; fault, None);
+    Ok(())
+}
+
+/// Parameters that no connection would have make a window, too.
+#[test]
+fn windows_of_any_parameters(rt: HostRuntime) -> Result<(), Fail> {
+    let narrow = Window::new(rt.alloc(), 1, 8, 50, 100, 10)?;
+    assert!(rt; narrow.may_send());
+    let none = Window::new(rt.alloc(), 0, 0, 0, 0, 0)?;
+    assert!(rt; !none.may_send());
     Ok(())
 }
 

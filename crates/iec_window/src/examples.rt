@@ -39,10 +39,15 @@ pub fn timers()
         (15499 ∷ 15500 ∷ []) ≡ false ∷ true ∷ [] }
     ensures t2 { map (λ moment. owes_ack moment (receiver_counts 3 1 10)) (9 ∷ 10009 ∷ 10010 ∷ [])
         ≡ false ∷ false ∷ true ∷ [] }
+    // The oldest of those that aren't acknowledged counts.
+    ensures t2_of_the_oldest { map (λ moment. owes_ack moment (counts_after_i 1 0 9000 (counts_after_i 0 0 10 (counts_at_start usual 0))))
+        (10009 ∷ 10010 ∷ []) ≡ false ∷ true ∷ [] }
     ensures w { map (λ owed. owes_ack 10 (receiver_counts 30 owed 10)) (7 ∷ 8 ∷ 9 ∷ []) ≡ false ∷ true ∷ true ∷ [] }
     ensures sent { owes_ack 99999 (counts_after_sending_i 20 (receiver_counts 30 8 10)) ≡ false }
     ensures t3 { map (λ moment. due_at moment (counts_at_start usual 100)) (20099 ∷ 20100 ∷ [])
         ≡ due.None ∷ due.Test ∷ [] }
+    // Also while I formats wait whose t1 hasn't passed.
+    ensures t3_while_waiting { due_at 20100 (record (sender_counts 0 (20000 ∷ [])) { last_heard = 100 }) ≡ due.Test }
     ensures ends { map (λ moment. due_at moment (counts_after_sending_test 20100 (counts_at_start usual 100)))
         (20100 ∷ 35099 ∷ 35100 ∷ []) ≡ due.None ∷ due.None ∷ due.Close ∷ [] }
 {}

@@ -48,7 +48,7 @@ fn run<R: BufRead + Drop, W: Write + Drop>(
 struct Interrupted<'a> {
     rest: &'a [u8],
     is_next: bool,
-    fails: bool,
+    last: Option<ErrorKind>,
 }
 
 impl Read for Interrupted<'_> {
@@ -63,8 +63,10 @@ impl Read for Interrupted<'_> {
                 self.rest = rest;
                 Ok(1)
             }
-            _ if self.fails => Err(io::Error::from(ErrorKind::Other)),
-            _ => Ok(0),
+            _ => match self.last {
+                Some(kind) => Err(io::Error::from(kind)),
+                None => Ok(0),
+            },
         }
     }
 }
@@ -74,18 +76,18 @@ fn check_read(
     rt: &(impl Abort + AllocGlobal),
     program: &Program,
     input: &[u8],
-    fails: bool,
+    last: Option<ErrorKind>,
 ) -> Result<(), Fail> {
     let reader = Interrupted {
         rest: input,
         is_next: false,
-        fails,
+        last,
     };
     let reader = BufReader::new(rt.alloc(), reader)?;
     let mut output = Vec::new(rt.alloc());
     let status = run(rt.alloc(), program.is_replay, reader, &mut output);
     assert_eq!(rt; output.as_slice(), program.output);
-    assert_eq!(rt; status, u8::from(fails));
+    assert_eq!(rt; status, u8::from(last.is_some()));
     Ok(())
 }
 
@@ -93,30 +95,47 @@ fn check_read(
 #[test]
 fn interrupted_reads(rt: HostRuntime) -> Result<(), Fail> {
     for program in PROGRAMS {
-        check_read(&rt, program, program.input, false)?;
+        check_read(&rt, program, program.input, None)?;
     }
     Ok(())
 }
 
-/// Another failure ends the program: each whole line before it is answered, and nothing of the line that it cuts.
+/// Failures of a reader, other than an interruption.
+const FAILURES: &[ErrorKind] = &[
+    ErrorKind::Other,
+    ErrorKind::WouldBlock,
+    ErrorKind::TimedOut,
+    ErrorKind::UnexpectedEof,
+    ErrorKind::BrokenPipe,
+    ErrorKind::OutOfMemory,
+];
+
+/// A program ends with each failure: each whole line before it is answered, and nothing of the line that it cuts.
+fn check_failures(rt: &(impl Abort + AllocGlobal), program: &Program) -> Result<(), Fail> {
+    let mut input = Vec::from_slice(rt.alloc(), program.input)?;
+    input.extend_from_slice(b"C0 81")?;
+    for kind in FAILURES {
+        check_read(rt, program, input.as_slice(), Some(*kind))?;
+    }
+    Ok(())
+}
+
 #[test]
 fn failing_reads(rt: HostRuntime) -> Result<(), Fail> {
     for program in PROGRAMS {
-        let mut input = Vec::from_slice(rt.alloc(), program.input)?;
-        input.extend_from_slice(b"C0 81")?;
-        check_read(&rt, program, input.as_slice(), true)?;
+        check_failures(&rt, program)?;
     }
     Ok(())
 }
 
-/// A hundred thousand lines are answered that come an octet at a time.
+/// A million lines are answered that come an octet at a time.
 #[test]
 fn many_reads(rt: HostRuntime) -> Result<(), Fail> {
-    let mut input = vec![in rt.alloc(); b'\n'; 100_000]?;
+    let mut input = vec![in rt.alloc(); b'\n'; 1_000_000]?;
     for program in PROGRAMS {
-        input.truncate(100_000);
+        input.truncate(1_000_000);
         input.extend_from_slice(program.input)?;
-        check_read(&rt, program, input.as_slice(), false)?;
+        check_read(&rt, program, input.as_slice(), None)?;
     }
     Ok(())
 }

@@ -44,3 +44,24 @@ fn most_news_wait(rt: HostRuntime) -> Result<(), Fail> {
     input.extend_from_slice(AFTER)?;
     check_replay(&rt, input.as_slice(), TOLD, 0)
 }
+
+/// Two hundred such fragments, each unlike the one before it.
+#[test]
+fn many_news_wait(rt: HostRuntime) -> Result<(), Fail> {
+    let mut input = Vec::from_slice(rt.alloc(), BEGIN)?;
+    let mut wanted = Vec::from_slice(rt.alloc(), b"ok\ntaken\napdu 68 04 0B 00 00 00\nok\n")?;
+    for _ in 0..100u8 {
+        input.extend_from_slice(events_behind(rt.alloc(), FIRST)?.as_slice())?;
+        input.extend_from_slice(events_behind(rt.alloc(), SECOND)?.as_slice())?;
+        wanted.extend_from_slice(b"accepted confirm D0 00\naccepted confirm D1 00\n")?;
+    }
+    input.extend_from_slice(b"\nqueue 0\n")?;
+    wanted.extend_from_slice(b"queued 135800 dropped 0\n")?;
+    check_replay(&rt, input.as_slice(), wanted.as_slice(), 0)
+}
+
+const BEGIN: &[u8] = b"open 0 0\nframe 0 0 68 04 07 00 00 00\npump 0 0\nup 0 0";
+
+const FIRST: &[u8] = b"\nfrag 0 0 F0 82 00 00 02 01 28 A7 02";
+
+const SECOND: &[u8] = b"\nfrag 0 0 F1 82 00 00 02 01 28 A7 02";

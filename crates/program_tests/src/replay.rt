@@ -65,6 +65,12 @@ const REPLAYS: &[(&str, &str, u8)] = &[
          ok\nfault 4 AlreadyUp\nfault 2 NoClient\nqueued 0 dropped 0\n",
         0,
     ),
+    // A fragment is that of its own outstation.
+    (
+        "up 0 0\nfrag 1 0 C0 81 00 00\nfrag 0 0 C0 81 00 00\n",
+        "ok\nfault 1 NoOutstation\nignored NoRequest\n",
+        0,
+    ),
     // A refused fragment is told before any fault, and makes no step.
     (
         "frag 9 0 C0 81 00\nfrag 0 0 C0 02 00 00\nup 0 0\n",
@@ -154,7 +160,7 @@ fn long_lines(rt: HostRuntime) -> Result<(), Fail> {
     check_replay(&rt, &long_queue(&rt, 8185)?, b"queued 0 dropped 0\n", 0)
 }
 
-/// A line is read as a fragment that comes at this moment.
+/// A line is read as a fragment of outstation 3 that comes at this moment.
 fn check_fragment_read(rt: &(impl Abort + AllocGlobal), line: &[u8], at: u64) -> Result<(), Fail> {
     let found = read_instruction(rt.alloc(), line)?;
     assert!(rt; is_fragment_at(&found, at));
@@ -163,7 +169,9 @@ fn check_fragment_read(rt: &(impl Abort + AllocGlobal), line: &[u8], at: u64) ->
 
 fn is_fragment_at(found: &Option<Instruction>, at: u64) -> bool {
     match found {
-        Some(Instruction::Make(Step::Fragment { moment, .. })) => *moment == at,
+        Some(Instruction::Make(Step::Fragment { response, moment })) => {
+            response.outstation() == 3 && *moment == at
+        }
         _ => false,
     }
 }

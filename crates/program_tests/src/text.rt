@@ -1,7 +1,7 @@
 //! Tests of gw_text.
 use dnp_app::AppFault;
 use dnp_objects::{ObjectFault, Why};
-use gw_model::{Observation, Quality, Settings, Stamp, Value};
+use gw_model::{Memory, Observation, Quality, Settings, Stamp, Value};
 use gw_text::{line_octets, push_accepted, write_refusal};
 use std::process::Abort;
 use std::test::Fail;
@@ -24,6 +24,12 @@ fn check_refusal(rt: &(impl Abort + AllocGlobal), fault: AppFault) -> Result<(),
     write_refusal(&mut output, fault)?;
     let shown = format!(in rt.alloc(); "refused {fault}\n")?;
     assert_eq!(rt; output.as_slice(), shown.as_str().as_bytes());
+    Ok(())
+}
+
+#[test]
+fn want_of_memory(rt: HostRuntime) -> Result<(), Fail> {
+    assert_eq!(rt; Memory.to_string(rt.alloc())?.as_str(), "Memory");
     Ok(())
 }
 
