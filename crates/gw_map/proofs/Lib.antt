@@ -1,0 +1,10 @@
+pub mod First
+pub mod Parts
+pub mod Entries
+pub mod Told
+pub mod Mismatches
+pub mod Sections
+pub mod Loops
+pub mod Repeats
+pub mod Whole
+pub mod Finding

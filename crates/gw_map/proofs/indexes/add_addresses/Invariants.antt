@@ -1,0 +1,11 @@
+-- No address so far stood before, and each is kept.
+use Rattle.std.proofs.Common.{◌≡◌, ◌++◌, drop, take, map}
+use Rattle.gw_map.specs.Complaints.{repeated, same_number}
+use Rattle.gw_map.proofs.indexes.add_addresses.Given as goal
+
+abbrev pub invariant-loop-position : goal.invariant-loop-position
+invariant-loop-position l = record {
+  none : repeated same_number 0 l.initial.addresses.keys (map (λ row. row.address) l.rows)
+      ≡ repeated same_number l.position (l.initial.addresses.keys ++ map (λ row. row.address) (take l.position l.rows)) (map (λ row. row.address) (drop l.position l.rows));
+  kept : l.addresses.keys ≡ l.initial.addresses.keys ++ map (λ row. row.address) (take l.position l.rows);
+}

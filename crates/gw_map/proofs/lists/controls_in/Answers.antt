@@ -1,0 +1,18 @@
+use Rattle.std.proofs.Common.{◌≡◌, ◌-◌, rules}
+use Rattle.std.proofs.lemmas.Result.{err_from_is_err_and}
+use Rattle.gw_map.specs.Complaints.{section_complaints}
+use Rattle.gw_map.proofs.Told.{told_front}
+use Rattle.gw_map.proofs.lists.controls_in.Goals as goal
+
+pub returns-in_err-tables : goal.returns-in_err-tables
+unfolding section_complaints
+returns-in_err-tables c =
+    let same : c.saturating_sub.result ≡ 20000 - c.args.points = search (rules, c.saturating_sub.ensures) in
+    let p = err_from_is_err_and c.from_residual.result c.from_residual.ensures.1 in
+    rw (p.1, p.2, ← same) (told_front _ _ _ c.in_err-tables.ensures.read)
+
+pub returns : goal.returns
+unfolding section_complaints
+returns c =
+    let same : c.saturating_sub.result ≡ 20000 - c.args.points = search (rules, c.saturating_sub.ensures) in
+    rw (← same, c.in_ok-tables.ensures.read.0, ← c.in_ok-tables.ensures.read.1, ← c.deref.ensures.value) c.controls_of.ensures

@@ -1,0 +1,16 @@
+pub mod Texts
+pub mod Shown
+pub mod Tables
+pub mod Known
+pub mod Setup
+pub mod Values
+pub mod Complaints
+pub mod Meaning
+pub mod Faults
+pub mod Ranges
+pub mod Seen
+pub mod Fields
+pub mod Settings
+pub mod Answers
+pub mod Parts
+pub mod Example

@@ -1,0 +1,112 @@
+//! Worked examples of the definitions, computed by the definitions themselves.
+#![tactic(auto, unfolding(crate::specs::Values::value_or, crate::specs::Values::kind_in, crate::specs::Values::show_in, crate::specs::Values::control_show_in, crate::specs::Values::mode_in, crate::specs::Values::rest_in, crate::specs::Values::station_of, crate::specs::Values::outstation_of, crate::specs::Values::row_of, crate::specs::Values::control_of, crate::specs::Complaints::integer_faults, crate::specs::Complaints::word_faults, crate::specs::Complaints::text_faults, crate::specs::Complaints::flag_faults, crate::specs::Complaints::wrongs_at, crate::specs::Complaints::rules_wrongs, crate::specs::Complaints::unknown_keys, crate::specs::Complaints::point_mismatches, crate::specs::Complaints::control_mismatches, crate::specs::Complaints::entry_wrongs, crate::specs::Complaints::table_wrongs, crate::specs::Complaints::each_from, crate::specs::Complaints::section_complaints, crate::specs::Complaints::station_complaints, crate::specs::Complaints::repeated))]
+
+ghost use Rattle.std.specs.Prelude.{◌≡◌, pos, true, false, [], ◌∷◌, Ok, Err, Some, codes};
+ghost use Rattle.toml.specs.Data.{boolean, no_members};
+ghost use Rattle.gw_model.specs.declared.point.Kind.TheVariants as kind;
+ghost use Rattle.gw_model.specs.declared.row.Show.TheVariants as show;
+ghost use Rattle.gw_map.specs.Complaints.{complaint, complaints_of, list_complaints};
+ghost use Rattle.gw_map.specs.Example.{is, whole, text, station, outstation, point, binary, analog, counter, switch, setpoint, settings, usual};
+ghost use Rattle.gw_map.specs.Meaning.{setup_of, reading_of, refused};
+ghost use Rattle.gw_map.specs.Setup.{single, setpoint as by_setpoint};
+ghost use Rattle.gw_map.specs.Values.{row_of};
+ghost use Rattle.gw_map.specs.declared.control.Mode.TheVariants.{Direct, Sbo};
+ghost use Rattle.gw_map.specs.declared.control.Rest.TheVariants.{Latch};
+ghost use Rattle.gw_map.specs.declared.fault.Fault.TheVariants.{Missing, WrongType, OutOfRange, UnknownKey, DoubleSource, DoubleAddress, KindMismatch};
+ghost use Rattle.gw_map.specs.declared.fault.Section.TheVariants.{Top, Station, Outstation, Point, Control};
+
+/// What the usual settings mean.
+pub fn settings_by_example()
+    ensures fine { complaints_of usual ≡ [] }
+    ensures station { (setup_of usual).station ≡ record {
+      common_address = 1;
+      master_address = 1024;
+      offset_minutes = pos 0;
+      k = 12;
+      w = 8;
+      t1_ms = 15000;
+      t2_ms = 10000;
+      t3_ms = 20000;
+      queue = 1000;
+      select_ms = 10000;
+      recorder = 1024;
+      listen = codes "127.0.0.1:2404";
+    } }
+    ensures outstations { (setup_of usual).outstations ≡ record {
+      address = 1;
+      connect = codes "127.0.0.1:20000";
+      poll = record { poll_ms = 2000; integrity_ms = 3600000; response_ms = 5000; unsolicited = false; lan_time = false };
+    } ∷ [] }
+    ensures rows { (setup_of usual).rows
+        ≡ record { key = record { outstation = 0; kind = kind.Binary; index = 5 }; address = 4101; show = show.Single; num = 1; den = 1 }
+        ∷ record { key = record { outstation = 0; kind = kind.Analog; index = 0 }; address = 4201; show = show.Scaled; num = 1; den = 1 }
+        ∷ record { key = record { outstation = 0; kind = kind.Counter; index = 0 }; address = 4301; show = show.Total; num = 1; den = 1 }
+        ∷ [] }
+    ensures controls { (setup_of usual).controls
+        ≡ record { outstation = 0; index = 3; address = 5001; select = true; mode = Direct; operates = single Latch 500 2000 }
+        ∷ record { outstation = 0; index = 4; address = 5002; select = false; mode = Sbo; operates = by_setpoint 1 1 }
+        ∷ [] }
+{}
+
+/// How each kind is shown where nothing else is said.
+pub fn usual_types_by_example()
+    ensures binary { (row_of (point 1 0 "binary")).show ≡ show.Single }
+    ensures output { (row_of (point 1 0 "output")).show ≡ show.Single }
+    ensures double { (row_of (point 1 0 "double")).show ≡ show.Double }
+    ensures counter { (row_of (point 1 0 "counter")).show ≡ show.Total }
+    ensures analog { (row_of (point 1 0 "analog")).show ≡ show.Scaled }
+{}
+
+/// Complaints of stations. No number may be above or below what another one or its default allows.
+pub fn stations_by_example()
+    ensures none { complaints_of no_members ≡ complaint Top 0 (Missing, codes "station") ∷ [] }
+    ensures no_table { complaints_of (is "station" (whole 1) no_members) ≡ complaint Top 0 (WrongType, codes "station") ∷ [] }
+    ensures zero { complaints_of (settings (is "common_address" (whole 0) no_members) (binary ∷ analog ∷ counter ∷ []))
+        ≡ complaint Station 0 (OutOfRange, codes "common_address") ∷ [] }
+    ensures a_text { complaints_of (settings (is "common_address" (text "1") no_members) (binary ∷ analog ∷ counter ∷ []))
+        ≡ complaint Station 0 (WrongType, codes "common_address") ∷ [] }
+    ensures w_above_k { complaints_of (settings (is "common_address" (whole 1) (is "w" (whole 13) no_members)) [])
+        ≡ complaint Station 0 (OutOfRange, codes "w") ∷ [] }
+    ensures k_below_w { complaints_of (settings (is "common_address" (whole 1) (is "k" (whole 5) no_members)) [])
+        ≡ complaint Station 0 (OutOfRange, codes "w") ∷ [] }
+    ensures t1_below_t2 { complaints_of (settings (is "common_address" (whole 1) (is "t1_ms" (whole 9000) no_members)) [])
+        ≡ complaint Station 0 (OutOfRange, codes "t2_ms") ∷ [] }
+    ensures unknown { complaints_of (settings (is "common_address" (whole 1) (is "floats" (boolean true) no_members)) [])
+        ≡ complaint Station 0 (UnknownKey, codes "floats") ∷ [] }
+{}
+
+/// Complaints of points.
+pub fn points_by_example()
+    ensures same_source { complaints_of (settings station (binary ∷ analog ∷ counter ∷ point 4401 5 "binary" ∷ []))
+        ≡ complaint Point 3 (DoubleSource, codes "index") ∷ [] }
+    ensures same_address { complaints_of (settings station (binary ∷ point 4101 0 "analog" ∷ counter ∷ []))
+        ≡ complaint Point 1 (DoubleAddress, codes "address") ∷ [] }
+    ensures scaled_counter { complaints_of (settings station (binary ∷ analog ∷ is "den" (whole 2) counter ∷ []))
+        ≡ complaint Point 2 (KindMismatch, codes "den") ∷ [] }
+    ensures scaled_by_one { complaints_of (settings station (binary ∷ analog ∷ is "num" (whole 1) counter ∷ []))
+        ≡ complaint Point 2 (KindMismatch, codes "num") ∷ [] }
+    ensures no_outstation { complaints_of (settings station (is "address" (whole 4101) (is "index" (whole 5) (is "kind" (text "binary")
+        (is "outstation" (whole 1) no_members))) ∷ []))
+        ≡ complaint Point 0 (OutOfRange, codes "outstation") ∷ [] }
+    ensures no_kind { complaints_of (settings station (point 4101 5 "bit" ∷ []))
+        ≡ complaint Point 0 (OutOfRange, codes "kind") ∷ [] }
+    ensures double_counter { complaints_of (settings station (is "show" (text "double") counter ∷ []))
+        ≡ complaint Point 0 (KindMismatch, codes "show") ∷ [] }
+{}
+
+/// Complaints of lists and of controls.
+pub fn lists_by_example()
+    ensures too_many { list_complaints Outstation (codes "outstation") 1 (Some (outstation ∷ outstation ∷ []))
+        ≡ complaint Outstation 0 (OutOfRange, codes "count") ∷ [] }
+    ensures enough { list_complaints Outstation (codes "outstation") 2 (Some (outstation ∷ outstation ∷ [])) ≡ [] }
+    ensures no_list { complaints_of (is "point" (whole 1) (is "station" (boolean true) no_members))
+        ≡ complaint Top 0 (WrongType, codes "station") ∷ complaint Top 0 (WrongType, codes "point") ∷ [] }
+    ensures address_of_a_control { complaints_of (settings station (point 5002 5 "binary" ∷ []))
+        ≡ complaint Control 1 (DoubleAddress, codes "address") ∷ [] }
+{}
+
+/// Texts. Of two unknown keys the one with the least octets is told.
+pub fn texts_by_example()
+    ensures empty { reading_of [] ≡ Err (refused (complaint Top 0 (Missing, codes "station"))) }
+    ensures least { reading_of (codes "b = 1\na = 2\n") ≡ Err (refused (complaint Top 0 (UnknownKey, codes "a"))) }
+{}

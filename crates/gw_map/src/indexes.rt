@@ -1,0 +1,90 @@
+//! The indexes of the settings: points by their source, and points and controls by their address.
+ghost use Rattle.std.specs.Prelude.{◌≡◌, length, map, codes};
+ghost use Rattle.gw_map.specs.Answers.{Tells, Adds};
+ghost use Rattle.gw_map.specs.Complaints.{complaint, double_sources, double_addresses};
+ghost use Rattle.gw_map.specs.Faults.{refusal_of};
+ghost use Rattle.gw_map.specs.Meaning.{refused};
+ghost use Rattle.gw_map.specs.Settings.{addresses_of};
+ghost use Rattle.gw_map.specs.declared.fault.Fault.TheVariants.{DoubleAddress};
+ghost use Rattle.gw_map.specs.declared.fault.Section.TheVariants as of;
+
+use crate::control::Control;
+use crate::fault::{Fault, KeyFault, Section, SettingsFault};
+use crate::row::Row;
+use gw_model::PointKey;
+use indexmap::{IndexMap, IndexSet};
+use std::alloc::Global;
+
+/// The rows by their points, in order. The first row whose point has a row before is refused.
+pub(crate) fn point_map(
+    alloc: Global,
+    rows: &[Row],
+) -> Result<IndexMap<PointKey, Row>, SettingsFault>
+    ensures { Tells (λ points. points.entries) result (double_sources (map (λ row. row.key) rows.now))
+        (map (λ row. (row.key, row)) rows.now) }
+{
+    let mut points = IndexMap::with_capacity(alloc, rows.len())?;
+    for (position, row) in rows.iter().enumerate() {
+        if points.insert(row.key, *row)?.is_some() {
+            let fault = KeyFault {
+                fault: Fault::DoubleSource,
+                key: "index",
+            };
+            return Err(fault.at(Section::Point, position));
+        }
+    }
+    Ok(points)
+}
+
+/// The address is in use before.
+fn double_address(section: Section, position: usize) -> SettingsFault
+    ensures { refusal_of result ≡ refused (complaint section position (DoubleAddress, codes "address")) }
+{
+    let fault = KeyFault {
+        fault: Fault::DoubleAddress,
+        key: "address",
+    };
+    fault.at(section, position)
+}
+
+/// Adds addresses, after which so many are in use; the first that stood before is refused.
+fn add_addresses(addresses: &mut IndexSet<u32>, rows: &[Row]) -> Result<(), SettingsFault>
+    ensures { Adds result addresses.old.keys addresses.new.keys (map (λ row. row.address) rows.now) of.Point }
+{
+    for (position, row) in rows.iter().enumerate() {
+        if !addresses.insert(row.address)? {
+            return Err(double_address(Section::Point, position));
+        }
+    }
+    Ok(())
+}
+
+fn add_control_addresses(
+    addresses: &mut IndexSet<u32>,
+    controls: &[Control],
+) -> Result<(), SettingsFault>
+    ensures { Adds result addresses.old.keys addresses.new.keys (map (λ control. control.address) controls.now) of.Control }
+{
+    for (position, control) in controls.iter().enumerate() {
+        if !addresses.insert(control.address)? {
+            return Err(double_address(Section::Control, position));
+        }
+    }
+    Ok(())
+}
+
+/// The addresses of the points, then of the controls. The first that stood before is refused.
+pub(crate) fn address_index(
+    alloc: Global,
+    rows: &[Row],
+    controls: &[Control],
+) -> Result<IndexSet<u32>, SettingsFault>
+    ensures { Tells (λ addresses. addresses.keys) result
+        (double_addresses (map (λ row. row.address) rows.now) (map (λ control. control.address) controls.now))
+        (addresses_of rows.now controls.now) }
+{
+    let mut addresses = IndexSet::with_capacity(alloc, rows.len())?;
+    add_addresses(&mut addresses, rows)?;
+    add_control_addresses(&mut addresses, controls)?;
+    Ok(addresses)
+}

@@ -1,0 +1,37 @@
+//! Rows of the point map.
+ghost use Rattle.std.specs.Prelude.{IsTrue, ◌≤◌, ◌||◌, ◌&&◌, ◌==◌};
+ghost use Rattle.gw_model.specs.Show.{is_shown_by};
+ghost use Rattle.gw_map.specs.Shown.{is_scaled};
+
+use crate::entry::{has_key, number, text};
+use crate::fault::{Fault, KeyFault};
+use gw_model::{Kind, PointKey, Show};
+use toml::Table;
+
+/// What a scaled value is multiplied by.
+#[derive(Clone, Copy, Debug, PartialEq, Eq)]
+pub struct Scale {
+    /// The numerator, from 1 to 32767.
+    pub num: u16,
+    /// The denominator, from 1 to 32767.
+    pub den: u16,
+    pub ghost num_from: { 1 ≤ num },
+    pub ghost num_to: { num ≤ 32767 },
+    pub ghost den_from: { 1 ≤ den },
+    pub ghost den_to: { den ≤ 32767 },
+}
+
+/// A point, and the information object address and type by which clients see it.
+#[derive(Clone, Copy, Debug, PartialEq, Eq)]
+pub struct Row {
+    pub key: PointKey,
+    /// The information object address, from 1 to 16777215.
+    pub address: u32,
+    pub show: Show,
+    /// What a scaled value is multiplied by; 1 for every other type.
+    pub scale: Scale,
+    pub ghost from: { 1 ≤ address },
+    pub ghost to: { address ≤ 16777215 },
+    pub ghost shown: { IsTrue (is_shown_by key.kind show) },
+    pub ghost scaled: { IsTrue (is_scaled show || (scale.num == 1 && scale.den == 1)) },
+}

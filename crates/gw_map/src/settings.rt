@@ -1,0 +1,144 @@
+//! The settings as a whole.
+ghost use Rattle.std.specs.Prelude.{◌≡◌, option_map};
+ghost use Rattle.std.specs.Result.{result_map_both};
+ghost use Rattle.toml.specs.View.{table_view};
+ghost use Rattle.gw_model.specs.Outcome.{Gives};
+ghost use Rattle.gw_map.specs.Answers.{Tells};
+ghost use Rattle.gw_map.specs.Complaints.{complaints_of};
+ghost use Rattle.gw_map.specs.Faults.{refusal_of, is_no_memory};
+ghost use Rattle.gw_map.specs.Meaning.{setup_of, reading_of};
+ghost use Rattle.gw_map.specs.Ranges.{IsStation};
+ghost use Rattle.gw_map.specs.Settings.{setup_fields, row_from, row_at_from, control_at_from, HasSingleSources, HasSingleAddresses};
+
+use crate::control::Control;
+use crate::fault::{Section, SettingsFault};
+use crate::indexes::{address_index, point_map};
+use crate::lists::{check_keys, controls_in, outstations_in, rows_in, station_in};
+use crate::outstation::Outstation;
+use crate::row::Row;
+use crate::station::Station;
+use gw_model::PointKey;
+use indexmap::{IndexMap, IndexSet};
+use std::alloc::Global;
+use std::marker::Model;
+use toml::Table;
+
+/// The station, its outstations, the point map and the controls. No two points have one source, and no two points
+/// or controls one address.
+#[derive(Debug, Drop)]
+pub struct Settings {
+    station: Station,
+    outstations: Vec<Outstation>,
+    points: IndexMap<PointKey, Row>,
+    controls: Vec<Control>,
+    addresses: IndexSet<u32>,
+}
+
+impl Model for Settings {
+    ghost use Rattle.std.specs.Map.{values_of};
+    ghost use Rattle.gw_map.specs.Settings.{Setup, IsKept};
+
+    ghost Value = { Setup };
+
+    ghost view = { λ s. record {
+      station = s.station;
+      outstations = s.outstations.items;
+      rows = values_of s.points.entries;
+      controls = s.controls.items;
+    } };
+
+    ghost invariant = { λ s. IsKept s.points.entries s.controls.items s.addresses.keys };
+}
+
+impl Settings {
+    /// The settings of a TOML text.
+    pub fn read(alloc: Global, text: &str) -> Result<Settings, SettingsFault>
+        ensures { Gives is_no_memory (λ setup. setup) (result_map_both setup_fields refusal_of result) (reading_of text.now) }
+    {
+        match toml::table_from_str(alloc, text) {
+            Ok(table) => Settings::from_table(alloc, &table),
+            Err(error) if error.is_memory() => Err(SettingsFault::Memory),
+            Err(error) => Err(SettingsFault::Toml(error)),
+        }
+    }
+
+    fn from_table(alloc: Global, top: &Table) -> Result<Settings, SettingsFault>
+        ensures { Tells setup_fields result (complaints_of (table_view top.now)) (setup_of (table_view top.now)) }
+    {
+        check_keys(alloc, top, Section::Top, 0)?;
+        let station = station_in(alloc, top)?;
+        let outstations = outstations_in(alloc, top)?;
+        let count = outstations.len() as u8;
+        let rows = rows_in(alloc, top, count)?;
+        let controls = controls_in(alloc, top, count, rows.len())?;
+        let points = point_map(alloc, &rows)?;
+        let addresses = address_index(alloc, &rows, &controls)?;
+        Ok(Settings {
+            station,
+            outstations,
+            points,
+            controls,
+            addresses,
+        })
+    }
+
+    /// The station.
+    pub fn station(&self) -> &Station
+        ensures station { result.now ≡ self.now.station }
+        ensures within { IsStation self.now.station }
+    {
+        let station = &self.station;
+        let _known = station.common_address;
+        station
+    }
+
+    /// The outstations, in the order of the file.
+    pub fn outstations(&self) -> &[Outstation]
+        ensures { result.now ≡ self.now.outstations }
+    {
+        self.outstations.as_slice()
+    }
+
+    /// The rows of the point map, in the order of the file.
+    pub fn rows(&self) -> &[Row]
+        ensures rows { result.now ≡ self.now.rows }
+        ensures sources { HasSingleSources self.now.rows }
+        ensures addresses { HasSingleAddresses self.now.rows self.now.controls }
+    {
+        let _known = &self.addresses;
+        self.points.values().as_slice()
+    }
+
+    /// The controls, in the order of the file.
+    pub fn controls(&self) -> &[Control]
+        ensures { result.now ≡ self.now.controls }
+    {
+        self.controls.as_slice()
+    }
+
+    /// The row for a point, with its position in `rows`.
+    pub fn row_of(&self, key: &PointKey) -> Option<(usize, &Row)>
+        ensures { option_map (λ found. (found.0, found.1.now)) result ≡ row_from 0 key.now self.now.rows }
+    {
+        let (position, _, row) = self.points.get_full(key)?;
+        Some((position, row))
+    }
+
+    /// The row with an address, with its position in `rows`.
+    pub fn row_at(&self, address: u32) -> Option<(usize, &Row)>
+        ensures { option_map (λ found. (found.0, found.1.now)) result ≡ row_at_from 0 address self.now.rows }
+    {
+        let position = self.addresses.get_index_of(&address)?;
+        let (_, row) = self.points.get_index(position)?;
+        Some((position, row))
+    }
+
+    /// The control with an address, with its position in `controls`.
+    pub fn control_at(&self, address: u32) -> Option<(usize, &Control)>
+        ensures { option_map (λ found. (found.0, found.1.now)) result ≡ control_at_from 0 address self.now.controls }
+    {
+        let place = self.addresses.get_index_of(&address)?;
+        let position = place.checked_sub(self.points.len())?;
+        Some((position, self.controls.get(position)?))
+    }
+}

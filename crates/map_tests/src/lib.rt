@@ -1,0 +1,5 @@
+//! Tests of settings through their public calls.
+#![tactic(auto)]
+
+#[cfg(test)]
+mod settings;
