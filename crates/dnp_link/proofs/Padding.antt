@@ -2,10 +2,6 @@
 use Rattle.std.proofs.Common.{◌≡◌, ℕ, ◌-◌, List, ◌++◌, length, drop, refl, sym, ◌∙◌}
 use Rattle.std.specs.Prelude.{replicate}
 use Rattle.std.proofs.lemmas.List.{drop_at, drop-replicate}
-use Rattle.std.proofs.lemmas.Slice.{overwrites}
-
--- the lemmas on parts of a slice that was written in part
-pub ruleset written = (overwrites)
 
 -- what is behind the octets that were written over zeros
 pub zeros_behind : (new zeros : List ℕ) (n len : ℕ) → length new ≡ len → n ≡ len → zeros ≡ replicate 250 0
