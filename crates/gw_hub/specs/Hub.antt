@@ -1,7 +1,7 @@
 -- The hub, as its contracts see it: the settings that it runs with, and its state.
 use Rattle.std.specs.Prelude.{◌≡◌, ℕ, Bool, true, false, List, length, Result}
 use Rattle.gw_model.specs.declared.point.Report.{Report}
-use Rattle.gw_model.specs.Rows.{Setup}
+use Rattle.gw_map.specs.Settings.{Setup}
 use Rattle.gw_model.specs.declared.observation.Observation.{Observation}
 use Rattle.gw_picture.specs.Picture.{news_of, news_of_report}
 use Rattle.dnp_app.specs.Response.{Fragment}
@@ -26,10 +26,10 @@ step_with news = record { steps = 1; news = news }
 
 -- the news that a report is after a picture: none or one; and those that reports taken in turn are
 abbrev pub news_of_one : Setup → List Observation → Report → List Observation
-news_of_one setup picture report = news_of_report setup.offset setup.rows picture report
+news_of_one setup picture report = news_of_report setup.station.offset_minutes setup.rows picture report
 
 abbrev pub news_of_all : Setup → List Observation → List Report → List Observation
-news_of_all setup picture reports = news_of setup.offset setup.rows picture reports
+news_of_all setup picture reports = news_of setup.station.offset_minutes setup.rows picture reports
 
 -- how many news these reports are
 abbrev pub news_among : Hub → List Report → ℕ

@@ -1,7 +1,8 @@
 //! The core as one machine.
-ghost use Rattle.std.specs.Prelude.{◌≡◌, ◌<◌, ◌+◌, ℕ, [], length, map, true, false, IfOk, IfErr, IsTrue, OnOk, OnErr, slice_get};
+ghost use Rattle.std.specs.Prelude.{◌≡◌, ◌<◌, ◌+◌, ℕ, [], length, map, true, false, IfOk, IfErr, OnOk, OnErr, slice_get};
 ghost use Rattle.std.specs.List.{AllByRecursion};
-ghost use Rattle.gw_model.specs.Rows.{is_point_map, IsStationAddress};
+ghost use Rattle.gw_entries.specs.Ranges.{IsStation};
+ghost use Rattle.gw_map.specs.Settings.{HasSingleAddresses};
 ghost use Rattle.gw_picture.specs.Picture.{picture_after, picture_after_report};
 ghost use Rattle.gw_station.specs.Client.{client_with_news};
 ghost use Rattle.gw_station.specs.Seat.{HasRoom};
@@ -22,14 +23,17 @@ use crate::clients::Clients;
 use crate::counts::Counts;
 use crate::outstations::Outstations;
 use dnp_app::Response;
-use gw_model::{Memory, Observation, Report, Settings};
+use gw_map::Settings;
+use gw_model::{Memory, Observation, Report};
 use gw_picture::Picture;
 use gw_station::Face;
 use gw_steps::{Reply, Step, StepFault};
-use gw_time::Zone;
 use iec_apci::Apdu;
 use std::alloc::Global;
 use std::marker::Model;
+
+/// How many clients there can be.
+const CLIENTS: u8 = 1;
 
 /// Outstations and clients, and what goes from one to the other. It makes one step at a time, and
 /// waits for nobody.
@@ -63,7 +67,7 @@ impl Model for Hub {
       };
     } };
 
-    ghost invariant = { λ h. IsSound h.settings.offset (record {
+    ghost invariant = { λ h. IsSound h.settings.station.offset_minutes (record {
       outstations = h.outstations;
       picture = h.picture;
       clients = clients_of h.clients;
@@ -77,11 +81,14 @@ impl Hub {
     pub fn new(alloc: Global, settings: Settings) -> Result<Hub, Memory>
         ensures setup { IfOk result (λ hub. hub.setup ≡ settings) }
         ensures state { IfOk result (λ hub. hub.state ≡ at_first settings) }
-        ensures settings { IsTrue (is_point_map settings.rows) × IsStationAddress settings.common_address }
+        ensures settings { HasSingleAddresses settings.rows settings.controls × IsStation settings.station }
     {
-        let outstations = Outstations::new(alloc, settings.outstations())?;
+        // The contracts of these two tell what all settings keep.
+        let _rows = settings.rows();
+        let _station = settings.station();
+        let outstations = Outstations::new(alloc, settings.outstations().len())?;
         let picture = Picture::new(alloc, &settings)?;
-        let clients = Clients::new(alloc, settings.clients())?;
+        let clients = Clients::new(alloc, CLIENTS)?;
         Ok(Hub {
             alloc,
             settings,
@@ -148,7 +155,7 @@ impl Hub {
         ensures step { Allowed self.old.setup self.old.state step.now result self.new.state }
         ensures setup { self.new.setup ≡ self.old.setup }
         // Each observation that is queued can be sent.
-        ensures sound { IsSound self.new.setup.offset self.new.state }
+        ensures sound { IsSound self.new.setup.station.offset_minutes self.new.state }
     {
         let reply = match step {
             Step::OutstationUp { outstation, moment } => self.outstation_up(*outstation, *moment),
@@ -200,7 +207,7 @@ impl Hub {
         if self.counts.can_rise(reports.len() as u64) {
             return true;
         }
-        let zone = Zone::of(&self.settings);
+        let zone = self.settings.zone();
         let news = self.picture.news(reports, &self.settings, &zone);
         self.counts.can_rise(news)
     }
@@ -315,8 +322,8 @@ impl Hub {
         self.connected(client)?;
         self.count(moment)?;
         let face = Face {
-            common_address: self.settings.common_address(),
-            zone: Zone::of(&self.settings),
+            common_address: self.settings.station().common_address,
+            zone: self.settings.zone(),
         };
         Ok(self.clients.pump(client, &face, self.moment))
     }
@@ -331,14 +338,14 @@ fn take_report(
 ) -> u64
     requires { AllByRecursion (HasRoom 1) clients.old }
     ensures count { result ≡ length (news_of_one settings.now picture.old report.now) }
-    ensures picture { picture.new ≡ picture_after_report settings.now.offset settings.now.rows picture.old report.now }
+    ensures picture { picture.new ≡ picture_after_report settings.now.station.offset_minutes settings.now.rows picture.old report.now }
     ensures clients { clients_of clients.new
         ≡ map (client_with_news (news_of_one settings.now picture.old report.now)) (clients_of clients.old) }
     ensures room { (n : ℕ) → AllByRecursion (HasRoom (n + 1)) clients.old → AllByRecursion (HasRoom n) clients.new }
-    ensures sendable { AllByRecursion (IsSendable settings.now.offset)
+    ensures sendable { AllByRecursion (IsSendable settings.now.station.offset_minutes)
         (news_of_one settings.now picture.old report.now) }
 {
-    match picture.take(report, settings, &Zone::of(settings)) {
+    match picture.take(report, settings, &settings.zone()) {
         None => 0,
         Some(image) => {
             clients.put(image);
@@ -356,10 +363,10 @@ fn take_reports(
 ) -> u64
     requires { AllByRecursion (HasRoom (length reports.now)) clients.old }
     ensures count { result ≡ length (news_of_all settings.now picture.old reports.now) }
-    ensures picture { picture.new ≡ picture_after settings.now.offset settings.now.rows picture.old reports.now }
+    ensures picture { picture.new ≡ picture_after settings.now.station.offset_minutes settings.now.rows picture.old reports.now }
     ensures clients { clients_of clients.new
         ≡ map (client_with_news (news_of_all settings.now picture.old reports.now)) (clients_of clients.old) }
-    ensures sendable { AllByRecursion (IsSendable settings.now.offset)
+    ensures sendable { AllByRecursion (IsSendable settings.now.station.offset_minutes)
         (news_of_all settings.now picture.old reports.now) }
 {
     let mut news = 0;

@@ -25,10 +25,10 @@ impl Model for Outstations {
 
 impl Outstations {
     /// So many outstations, all down.
-    pub fn new(alloc: Global, count: u8) -> Result<Outstations, Memory>
+    pub fn new(alloc: Global, count: usize) -> Result<Outstations, Memory>
         ensures { IfOk result (λ outstations. outstations ≡ replicate count master_down) }
     {
-        let mut masters = Vec::with_capacity(alloc, usize::from(count))?;
+        let mut masters = Vec::with_capacity(alloc, count)?;
         for _ in 0..count {
             masters.push(Master::new())?;
         }

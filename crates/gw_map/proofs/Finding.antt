@@ -5,7 +5,7 @@ use Rattle.std.specs.Map.{keys_of}
 use Rattle.std.proofs.lemmas.Bool.{cases_Bool, true≢false, eqb-true}
 use Rattle.std.proofs.lemmas.Iterator.Adapters.{position_from-zero}
 use Rattle.std.proofs.lemmas.Option.{same_Some}
-use Rattle.gw_map.specs.Complaints.{repeated, same_number}
+use Rattle.gw_map.specs.Sections.{repeated, same_number}
 use Rattle.gw_map.specs.Settings.{first_from}
 use Rattle.std.proofs.lemmas.List.{append-nil}
 use Rattle.std.proofs.lemmas.Bool.Decides.{nat_tests}
@@ -14,7 +14,7 @@ use Rattle.gw_model.specs.declared.point.Kind.TheVariants.{Binary, Output, Doubl
 use Rattle.gw_model.specs.declared.point.PointKey.{PointKey}
 use Rattle.gw_model.specs.contracts.point.PointKeyPartialEq.TheImpl.{eq-value}
 use Rattle.gw_model.specs.Keys.{same_key}
-use Rattle.gw_map.specs.declared.row.Row.{Row}
+use Rattle.gw_entries.specs.declared.row.Row.{Row}
 use Rattle.gw_map.proofs.Repeats.{repeated-append, key_of, key_eq}
 
 no_some : {A : Type 0} (x : A) → Some x ≡ None → ⊥

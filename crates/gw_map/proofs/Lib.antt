@@ -1,8 +1,3 @@
-pub mod First
-pub mod Parts
-pub mod Entries
-pub mod Told
-pub mod Mismatches
 pub mod Sections
 pub mod Loops
 pub mod Repeats

@@ -4,12 +4,13 @@ use Rattle.std.proofs.lemmas.List.{drop_all, drop_more, take_more, map-append}
 use Rattle.std.proofs.lemmas.Bool.Decides.{nat_tests}
 use Rattle.std.proofs.lemmas.Option.{same_Some}
 use Rattle.toml.specs.Data.{Data, string, integer, float, boolean, datetime, array, table, Items, Members, as_array}
-use Rattle.gw_map.specs.declared.fault.Fault.TheVariants.{OutOfRange}
-use Rattle.gw_map.specs.declared.fault.Section.{Section}
-use Rattle.gw_map.specs.declared.fault.SettingsFault.{SettingsFault}
-use Rattle.gw_map.specs.Answers.{first, IsTold}
-use Rattle.gw_map.specs.Complaints.{Complaint, complaint, placed, count_wrongs, tables_of, listed, each_from}
-use Rattle.gw_map.proofs.Told.{told_front}
+use Rattle.gw_entries.specs.declared.fault.Fault.TheVariants.{OutOfRange}
+use Rattle.gw_entries.specs.declared.fault.Section.{Section}
+use Rattle.gw_entries.specs.declared.fault.SettingsFault.{SettingsFault}
+use Rattle.gw_entries.specs.Answers.{first, IsTold}
+use Rattle.gw_entries.specs.Complaints.{Complaint, complaint, placed}
+use Rattle.gw_map.specs.Sections.{count_wrongs, tables_of, listed, each_from}
+use Rattle.gw_entries.proofs.Told.{told_front}
 
 module _ {X : Type 0} (F : ℕ → Members → List Complaint) (g : X → Members) where
   each_from-step : (all : List X) (i : ℕ) (d : X) → i < length all

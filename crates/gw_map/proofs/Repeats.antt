@@ -9,11 +9,12 @@ use Rattle.gw_model.specs.declared.point.Kind.TheVariants.{Binary, Output, Doubl
 use Rattle.gw_model.specs.declared.point.PointKey.{PointKey}
 use Rattle.gw_model.specs.contracts.point.PointKeyPartialEq.TheImpl.{eq-value}
 use Rattle.gw_model.specs.Keys.{same_key}
-use Rattle.gw_map.specs.declared.row.Row.{Row}
-use Rattle.gw_map.specs.Answers.{first}
-use Rattle.gw_map.specs.declared.fault.Fault.TheVariants.{DoubleAddress}
-use Rattle.gw_map.specs.declared.fault.Section.TheVariants as of
-use Rattle.gw_map.specs.Complaints.{repeated, same_number, complaint, double_address, double_addresses}
+use Rattle.gw_entries.specs.declared.row.Row.{Row}
+use Rattle.gw_entries.specs.Answers.{first}
+use Rattle.gw_entries.specs.declared.fault.Fault.TheVariants.{DoubleAddress}
+use Rattle.gw_entries.specs.declared.fault.Section.TheVariants as of
+use Rattle.gw_map.specs.Sections.{repeated, same_number, double_address, double_addresses}
+use Rattle.gw_entries.specs.Complaints.{complaint}
 use Rattle.std.proofs.lemmas.Bool.Decides.{nat_tests}
 use Rattle.gw_map.proofs.Loops.{take_all}
 

@@ -1,60 +1,17 @@
 -- The sections, entry by entry.
-use Rattle.std.proofs.Common.{◌≡◌, ℕ, ◌+◌, ◌<◌, List, [], ◌∷◌, ◌++◌, length, map, drop, get_or, find, not, Option, Some, None, option_map, String, Global, string_bytes, refl, ap, sym, ◌∙◌, inl, inr, codes, append_assoc}
-use Rattle.std.specs.Prelude.{bytes_eq}
-use Rattle.std.specs.List.{list_any}
-use Rattle.std.specs.Map.{keys_of}
-use Rattle.std.proofs.lemmas.Bool.{cases_Bool}
-use Rattle.std.proofs.lemmas.List.{drop_more, map-append}
+use Rattle.std.proofs.Common.{◌≡◌, ℕ, ◌+◌, ◌<◌, List, [], ◌∷◌, ◌++◌, length, drop, get_or, Option, Some, None, option_map, refl, ap, sym, ◌∙◌, codes, append_assoc}
+use Rattle.std.proofs.lemmas.List.{drop_more}
 use Rattle.std.proofs.lemmas.Option.{same_Some}
 use Rattle.toml.specs.Data.{Data, string, integer, float, boolean, datetime, array, table, Items, item, Members, as_table}
-use Rattle.toml.specs.View.{view, items_view, members_view}
+use Rattle.toml.specs.View.{view, items_view}
 use Rattle.toml.specs.declared.value.Value.{Value}
-use Rattle.toml.proofs.Views.{Entry}
-use Rattle.gw_map.specs.declared.fault.Fault.TheVariants.{Missing, WrongType, UnknownKey}
-use Rattle.gw_map.specs.declared.fault.Section.{Section}
-use Rattle.gw_map.specs.declared.fault.Section.TheVariants as of
-use Rattle.gw_map.specs.Answers.{first}
-use Rattle.gw_map.specs.Complaints.{Wrong, complaint, placed, wrong_at, unknown_keys, entry_wrongs, table_wrongs, no_mismatches, station_complaints, tables_of}
+use Rattle.gw_entries.specs.declared.fault.Fault.TheVariants.{Missing, WrongType}
+use Rattle.gw_entries.specs.declared.fault.Section.TheVariants as of
+use Rattle.gw_entries.specs.Answers.{first}
+use Rattle.gw_entries.specs.Complaints.{complaint, placed, table_wrongs, no_mismatches}
+use Rattle.gw_map.specs.Sections.{station_complaints, tables_of}
 use Rattle.gw_map.specs.Meaning.{table_at}
-use Rattle.gw_map.specs.Tables.{KeyRule, station_keys}
-use Rattle.gw_map.proofs.First.{told, first-None}
-
--- ---- unknown keys
-
-unknown_found : (known : List (List ℕ)) (es : List Entry)
-    → option_map string_bytes (find (λ key. not (list_any (bytes_eq (string_bytes key)) known)) (keys_of es)) ≡ first (unknown_keys known (members_view es))
-unfolding unknown_keys first
-unknown_found known [] = refl
-unknown_found known (e ∷ es) = elim (cases_Bool (list_any (bytes_eq (string_bytes e.0)) known)) [
-  | inl there ↦ rw there (unknown_found known es)
-  | inr missing ↦ rw missing
-]
-
-pub no_unknown : (known : List (List ℕ)) (es : List Entry) (section : Section) (position : ℕ)
-    → None ≡ find (λ key. not (list_any (bytes_eq (string_bytes key)) known)) (keys_of es)
-    → placed section position (wrong_at UnknownKey (unknown_keys known (members_view es))) ≡ []
-no_unknown known es section position none =
-    rw (first-None (unknown_keys known (members_view es)) (sym (unknown_found known es) ∙ ap (option_map string_bytes) (sym none)))
-
-pub unknown_told : (known : List (List ℕ)) (es : List Entry) (section : Section) (position : ℕ) (key : String Global)
-    → Some key ≡ find (λ key. not (list_any (bytes_eq (string_bytes key)) known)) (keys_of es)
-    → first (placed section position (wrong_at UnknownKey (unknown_keys known (members_view es)))) ≡ Some (complaint section position (UnknownKey, string_bytes key))
-unknown_told known es section position key some =
-    told (complaint section position) (wrong_at UnknownKey (unknown_keys known (members_view es))) (UnknownKey, string_bytes key)
-    (told (λ key. (UnknownKey, key)) (unknown_keys known (members_view es)) (string_bytes key)
-    (sym (unknown_found known es) ∙ ap (option_map string_bytes) (sym some)))
-
--- ---- one table
-
-pub table_parts : (section : Section) (position outstations : ℕ) (rules : List KeyRule) (mismatches : Members → List (List ℕ)) (ms : Members)
-    → placed section position (table_wrongs outstations rules mismatches ms)
-    ≡ placed section position (wrong_at UnknownKey (unknown_keys (map (λ rule. rule.key) rules) ms))
-    ++ placed section position (entry_wrongs outstations rules mismatches ms)
-unfolding table_wrongs
-table_parts section position outstations rules mismatches ms = map-append (complaint section position) _ _
-
-pub nothing_placed : (section : Section) (position : ℕ) (ws : List Wrong) → ws ≡ [] → placed section position ws ≡ []
-nothing_placed section position ws e = rw e
+use Rattle.gw_entries.specs.Tables.{station_keys}
 
 -- ---- the station
 

@@ -7,17 +7,18 @@ use Rattle.std.proofs.lemmas.Option.{same_Some}
 use Rattle.toml.specs.Data.{Members}
 use Rattle.gw_model.specs.Outcome.{Gives}
 use Rattle.gw_model.specs.declared.point.PointKey.{PointKey}
-use Rattle.gw_map.specs.declared.control.Control.{Control}
-use Rattle.gw_map.specs.declared.fault.SettingsFault.{SettingsFault}
-use Rattle.gw_map.specs.declared.fault.SettingsFault.TheVariants.{Toml, Refused, Memory}
-use Rattle.gw_map.specs.declared.row.Row.{Row}
-use Rattle.gw_map.specs.Answers.{first, Tells}
-use Rattle.gw_map.specs.Complaints.{Complaint}
-use Rattle.gw_map.specs.Faults.{refusal_of, is_no_memory}
-use Rattle.gw_map.specs.Fields.{row_fields, control_fields}
-use Rattle.gw_map.specs.Meaning.{refused, answer_to}
-use Rattle.gw_map.specs.Tables.{point_keys, control_keys}
-use Rattle.gw_map.specs.Values.{source_of, number_in, row_of, control_of}
+use Rattle.gw_entries.specs.declared.control.Control.{Control}
+use Rattle.gw_entries.specs.declared.fault.SettingsFault.{SettingsFault}
+use Rattle.gw_entries.specs.declared.fault.SettingsFault.TheVariants.{Toml, Refused, Memory}
+use Rattle.gw_entries.specs.declared.row.Row.{Row}
+use Rattle.gw_entries.specs.Answers.{first, Tells}
+use Rattle.gw_entries.specs.Complaints.{Complaint}
+use Rattle.gw_entries.specs.Faults.{refusal_of, is_no_memory}
+use Rattle.gw_entries.specs.Fields.{row_fields, control_fields}
+use Rattle.gw_entries.specs.Faults.{refused}
+use Rattle.gw_map.specs.Meaning.{answer_to}
+use Rattle.gw_entries.specs.Tables.{point_keys, control_keys}
+use Rattle.gw_entries.specs.Values.{source_of, number_in, row_of, control_of}
 
 pub same_length : {X Y Z : Type 0} (n : ℕ) (g : X → Z) (f : Y → Z) (items : List X) (ts : List Y) → n ≡ length items → map g items ≡ map f ts → n ≡ length ts
 same_length n g f items ts e same = e ∙ sym (length-map items g) ∙ ap length same ∙ length-map ts f

@@ -2,9 +2,11 @@
 use Rattle.std.specs.Prelude.{ℕ, List, [], ◌∷◌, map, codes, Option, Some, None, Result, Ok, Err}
 use Rattle.toml.specs.Data.{Data, table, Members, no_members, get_member}
 use Rattle.toml.specs.Parse.{parse_document}
-use Rattle.gw_map.specs.Setup.{SetupFields}
-use Rattle.gw_map.specs.Values.{station_of, outstation_of, row_of, control_of}
-use Rattle.gw_map.specs.Complaints.{Complaint, complaints_of, entries}
+use Rattle.gw_map.specs.Settings.{SetupFields}
+use Rattle.gw_entries.specs.Values.{station_of, outstation_of, row_of, control_of}
+use Rattle.gw_entries.specs.Complaints.{Complaint}
+use Rattle.gw_entries.specs.Faults.{Refusal, no_document, refused}
+use Rattle.gw_map.specs.Sections.{complaints_of, entries}
 
 abbrev pub table_at : Option Data → Members
 table_at (Some (table ms)) = ms
@@ -17,12 +19,6 @@ setup_of ms = record {
   rows = map row_of (entries (codes "point") ms);
   controls = map control_of (entries (codes "control") ms);
 }
-
--- why settings are refused, as it is told
-pub data Refusal : Type 0 where
-  no_document : Refusal
-  refused : Complaint → Refusal
-  no_memory : Refusal
 
 abbrev pub answer_to : {A : Type 0} → List Complaint → A → Result A Refusal
 answer_to [] value = Ok value

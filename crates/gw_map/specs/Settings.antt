@@ -3,11 +3,18 @@ use Rattle.std.specs.Prelude.{◌≡◌, ℕ, ◌+◌, Bool, ◌==◌, List, [],
 use Rattle.std.specs.Map.{values_of}
 use Rattle.gw_model.specs.declared.point.PointKey.{PointKey}
 use Rattle.gw_model.specs.Keys.{same_key}
-use Rattle.gw_map.specs.declared.row.Row.{Row}
-use Rattle.gw_map.specs.declared.control.Control.{Control}
-use Rattle.gw_map.specs.Complaints.{repeated, same_number}
-use Rattle.gw_map.specs.Setup.{StationSetup, OutstationSetup, SetupFields}
-use Rattle.gw_map.specs.Fields.{row_fields, control_fields}
+use Rattle.gw_entries.specs.declared.row.Row.{Row}
+use Rattle.gw_entries.specs.declared.control.Control.{Control}
+use Rattle.gw_map.specs.Sections.{repeated, same_number}
+use Rattle.gw_entries.specs.Setup.{StationSetup, OutstationSetup, RowFields, ControlFields}
+use Rattle.gw_entries.specs.Fields.{row_fields, control_fields}
+
+-- as plain values, without the facts that the types of rows and controls keep
+pub record SetupFields : Type 0 where
+  pub station : StationSetup
+  pub outstations : List OutstationSetup
+  pub rows : List RowFields
+  pub controls : List ControlFields
 
 pub record Setup : Type 0 where
   pub station : StationSetup

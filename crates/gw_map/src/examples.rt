@@ -1,42 +1,28 @@
 //! Worked examples of the definitions, computed by the definitions themselves.
-#![tactic(auto, unfolding(crate::specs::Values::value_or, crate::specs::Values::kind_in, crate::specs::Values::show_in, crate::specs::Values::control_show_in, crate::specs::Values::mode_in, crate::specs::Values::rest_in, crate::specs::Values::station_of, crate::specs::Values::outstation_of, crate::specs::Values::row_of, crate::specs::Values::control_of, crate::specs::Complaints::integer_faults, crate::specs::Complaints::word_faults, crate::specs::Complaints::text_faults, crate::specs::Complaints::flag_faults, crate::specs::Complaints::wrongs_at, crate::specs::Complaints::rules_wrongs, crate::specs::Complaints::unknown_keys, crate::specs::Complaints::point_mismatches, crate::specs::Complaints::control_mismatches, crate::specs::Complaints::entry_wrongs, crate::specs::Complaints::table_wrongs, crate::specs::Complaints::each_from, crate::specs::Complaints::section_complaints, crate::specs::Complaints::station_complaints, crate::specs::Complaints::repeated))]
+#![tactic(auto, unfolding(gw_entries::specs::Values::value_or, gw_entries::specs::Values::kind_in, gw_entries::specs::Values::show_in, gw_entries::specs::Values::control_show_in, gw_entries::specs::Values::mode_in, gw_entries::specs::Values::rest_in, gw_entries::specs::Values::station_of, gw_entries::specs::Values::outstation_of, gw_entries::specs::Values::row_of, gw_entries::specs::Values::control_of, gw_entries::specs::Complaints::integer_faults, gw_entries::specs::Complaints::word_faults, gw_entries::specs::Complaints::text_faults, gw_entries::specs::Complaints::flag_faults, gw_entries::specs::Complaints::wrongs_at, gw_entries::specs::Complaints::rules_wrongs, gw_entries::specs::Complaints::unknown_keys, gw_entries::specs::Complaints::point_mismatches, gw_entries::specs::Complaints::control_mismatches, gw_entries::specs::Complaints::entry_wrongs, gw_entries::specs::Complaints::table_wrongs, crate::specs::Sections::each_from, crate::specs::Sections::section_complaints, crate::specs::Sections::station_complaints, crate::specs::Sections::repeated))]
 
 ghost use Rattle.std.specs.Prelude.{◌≡◌, pos, true, false, [], ◌∷◌, Ok, Err, Some, codes};
 ghost use Rattle.toml.specs.Data.{boolean, no_members};
 ghost use Rattle.gw_model.specs.declared.point.Kind.TheVariants as kind;
-ghost use Rattle.gw_model.specs.declared.row.Show.TheVariants as show;
-ghost use Rattle.gw_map.specs.Complaints.{complaint, complaints_of, list_complaints};
+ghost use Rattle.gw_entries.specs.declared.row.Show.TheVariants as show;
+ghost use Rattle.gw_entries.specs.Complaints.{complaint};
+ghost use Rattle.gw_map.specs.Sections.{complaints_of, list_complaints};
+ghost use Rattle.gw_entries.specs.Example.{station as usual_station, outstation as usual_outstation};
 ghost use Rattle.gw_map.specs.Example.{is, whole, text, station, outstation, point, binary, analog, counter, switch, setpoint, settings, usual};
-ghost use Rattle.gw_map.specs.Meaning.{setup_of, reading_of, refused};
-ghost use Rattle.gw_map.specs.Setup.{single, setpoint as by_setpoint};
-ghost use Rattle.gw_map.specs.Values.{row_of};
-ghost use Rattle.gw_map.specs.declared.control.Mode.TheVariants.{Direct, Sbo};
-ghost use Rattle.gw_map.specs.declared.control.Rest.TheVariants.{Latch};
-ghost use Rattle.gw_map.specs.declared.fault.Fault.TheVariants.{Missing, WrongType, OutOfRange, UnknownKey, DoubleSource, DoubleAddress, KindMismatch};
-ghost use Rattle.gw_map.specs.declared.fault.Section.TheVariants.{Top, Station, Outstation, Point, Control};
+ghost use Rattle.gw_map.specs.Meaning.{setup_of, reading_of};
+ghost use Rattle.gw_entries.specs.Faults.{refused};
+ghost use Rattle.gw_entries.specs.Setup.{single, setpoint as by_setpoint};
+ghost use Rattle.gw_entries.specs.Values.{row_of};
+ghost use Rattle.gw_entries.specs.declared.control.Mode.TheVariants.{Direct, Sbo};
+ghost use Rattle.gw_entries.specs.declared.control.Rest.TheVariants.{Latch};
+ghost use Rattle.gw_entries.specs.declared.fault.Fault.TheVariants.{Missing, WrongType, OutOfRange, UnknownKey, DoubleSource, DoubleAddress, KindMismatch};
+ghost use Rattle.gw_entries.specs.declared.fault.Section.TheVariants.{Top, Station, Outstation, Point, Control};
 
 /// What the usual settings mean.
 pub fn settings_by_example()
     ensures fine { complaints_of usual ≡ [] }
-    ensures station { (setup_of usual).station ≡ record {
-      common_address = 1;
-      master_address = 1024;
-      offset_minutes = pos 0;
-      k = 12;
-      w = 8;
-      t1_ms = 15000;
-      t2_ms = 10000;
-      t3_ms = 20000;
-      queue = 1000;
-      select_ms = 10000;
-      recorder = 1024;
-      listen = codes "127.0.0.1:2404";
-    } }
-    ensures outstations { (setup_of usual).outstations ≡ record {
-      address = 1;
-      connect = codes "127.0.0.1:20000";
-      poll = record { poll_ms = 2000; integrity_ms = 3600000; response_ms = 5000; unsolicited = false; lan_time = false };
-    } ∷ [] }
+    ensures station { (setup_of usual).station ≡ usual_station }
+    ensures outstations { (setup_of usual).outstations ≡ usual_outstation ∷ [] }
     ensures rows { (setup_of usual).rows
         ≡ record { key = record { outstation = 0; kind = kind.Binary; index = 5 }; address = 4101; show = show.Single; num = 1; den = 1 }
         ∷ record { key = record { outstation = 0; kind = kind.Analog; index = 0 }; address = 4201; show = show.Scaled; num = 1; den = 1 }

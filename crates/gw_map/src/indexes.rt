@@ -1,16 +1,16 @@
 //! The indexes of the settings: points by their source, and points and controls by their address.
 ghost use Rattle.std.specs.Prelude.{◌≡◌, length, map, codes};
-ghost use Rattle.gw_map.specs.Answers.{Tells, Adds};
-ghost use Rattle.gw_map.specs.Complaints.{complaint, double_sources, double_addresses};
-ghost use Rattle.gw_map.specs.Faults.{refusal_of};
-ghost use Rattle.gw_map.specs.Meaning.{refused};
+ghost use Rattle.gw_entries.specs.Answers.{Tells};
+ghost use Rattle.gw_map.specs.Answers.{Adds};
+ghost use Rattle.gw_entries.specs.Complaints.{complaint};
+ghost use Rattle.gw_map.specs.Sections.{double_sources, double_addresses};
+ghost use Rattle.gw_entries.specs.Faults.{refusal_of};
+ghost use Rattle.gw_entries.specs.Faults.{refused};
 ghost use Rattle.gw_map.specs.Settings.{addresses_of};
-ghost use Rattle.gw_map.specs.declared.fault.Fault.TheVariants.{DoubleAddress};
-ghost use Rattle.gw_map.specs.declared.fault.Section.TheVariants as of;
+ghost use Rattle.gw_entries.specs.declared.fault.Fault.TheVariants.{DoubleAddress};
+ghost use Rattle.gw_entries.specs.declared.fault.Section.TheVariants as of;
 
-use crate::control::Control;
-use crate::fault::{Fault, KeyFault, Section, SettingsFault};
-use crate::row::Row;
+use gw_entries::{Control, Fault, KeyFault, Row, Section, SettingsFault};
 use gw_model::PointKey;
 use indexmap::{IndexMap, IndexSet};
 use std::alloc::Global;

@@ -1,23 +1,15 @@
 //! The settings of the gateway, read from a TOML text: the station, the outstations, the point map and the controls.
 #![tactic(auto)]
 
-mod control;
-mod controls;
-mod entry;
+mod defaults;
 pub mod examples;
-mod fault;
 mod indexes;
-mod keys;
 mod lists;
-mod outstation;
-mod points;
-mod row;
 mod settings;
-mod station;
 
-pub use control::{Control, Mode, Operates, Pulses, Rest};
-pub use fault::{Fault, KeyName, Place, Section, SettingsFault};
-pub use outstation::Outstation;
-pub use row::{Row, Scale};
+pub use defaults::DEFAULT_SETTINGS;
+pub use gw_entries::{
+    Control, Fault, KeyFault, KeyName, Mode, Operates, Outstation, Place, Pulses, Rest, Row, Scale,
+    Section, SettingsFault, Show, Station,
+};
 pub use settings::Settings;
-pub use station::Station;

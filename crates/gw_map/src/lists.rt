@@ -1,69 +1,27 @@
 //! The sections of the settings, entry by entry.
-ghost use Rattle.std.specs.Prelude.{◌≡◌, ◌≤◌, not, IfOk, length, map, find, codes, bytes_eq, string_bytes, option_map, option_copied, vec_len};
-ghost use Rattle.std.specs.BTreeMap.{keys};
-ghost use Rattle.std.specs.List.{list_any};
+ghost use Rattle.std.specs.Prelude.{◌≡◌, ◌≤◌, IfOk, length, map, codes, option_map, vec_len};
 ghost use Rattle.toml.specs.Data.{get_member};
 ghost use Rattle.toml.specs.View.{table_view, items_view};
-ghost use Rattle.gw_map.specs.Answers.{Tells, Passes, seen};
-ghost use Rattle.gw_map.specs.Complaints.{complaint, placed, wrong_at, unknown_keys, table_wrongs, no_mismatches, point_mismatches, control_mismatches, tables_of, listed, entries, each_from, list_complaints, station_complaints, outstation_complaints, point_complaints, control_complaints};
-ghost use Rattle.gw_map.specs.Faults.{refusal_of, section_name};
-ghost use Rattle.gw_map.specs.Fields.{row_fields, control_fields};
-ghost use Rattle.gw_map.specs.Known.{known_keys};
-ghost use Rattle.gw_map.specs.Meaning.{refused, table_at};
-ghost use Rattle.gw_map.specs.Tables.{outstation_keys, point_keys, control_keys};
-ghost use Rattle.gw_map.specs.Values.{station_of, outstation_of, row_of, control_of};
-ghost use Rattle.gw_map.specs.declared.fault.Fault.TheVariants.{UnknownKey};
-ghost use Rattle.gw_map.specs.declared.fault.Section.TheVariants as of;
+ghost use Rattle.gw_entries.specs.Answers.{Tells};
+ghost use Rattle.gw_map.specs.Answers.{seen};
+ghost use Rattle.gw_entries.specs.Complaints.{complaint, placed, table_wrongs, no_mismatches, point_mismatches, control_mismatches};
+ghost use Rattle.gw_map.specs.Sections.{tables_of, listed, entries, each_from, list_complaints, station_complaints, outstation_complaints, point_complaints, control_complaints};
+ghost use Rattle.gw_entries.specs.Faults.{refusal_of, refused, section_name};
+ghost use Rattle.gw_entries.specs.Fields.{row_fields, control_fields};
+ghost use Rattle.gw_map.specs.Meaning.{table_at};
+ghost use Rattle.gw_entries.specs.Tables.{outstation_keys, point_keys, control_keys};
+ghost use Rattle.gw_entries.specs.Values.{station_of, outstation_of, row_of, control_of};
+ghost use Rattle.gw_entries.specs.declared.fault.Section.TheVariants as of;
 
-use crate::control::Control;
-use crate::controls::control;
-use crate::entry::value_at;
-use crate::fault::{Fault, KeyFault, KeyName, Place, Section, SettingsFault};
-use crate::keys::is_known;
-use crate::outstation::Outstation;
-use crate::points::row;
-use crate::row::Row;
-use crate::station::Station;
+use gw_entries::{
+    Control, Fault, KeyFault, Outstation, Row, Section, SettingsFault, Station, value_at,
+};
 use std::alloc::{AllocError, Global};
 use toml::{Table, Value};
 
 const OUTSTATIONS: usize = 32;
 
 const ROWS: usize = 20_000;
-
-/// The first key of a table that its section doesn't know.
-fn unknown_key(table: &Table, section: Section) -> Option<&String>
-    ensures { option_copied result
-        ≡ find (λ key. not (list_any (bytes_eq (string_bytes key)) (known_keys section))) (keys table.now) }
-{
-    table.keys().find(|key| !is_known(section, key.as_str()))
-}
-
-/// Refuses the first key of a table that its section doesn't know.
-pub(crate) fn check_keys(
-    alloc: Global,
-    table: &Table,
-    section: Section,
-    position: usize,
-) -> Result<(), SettingsFault>
-    ensures { Passes result
-        (placed section position (wrong_at UnknownKey (unknown_keys (known_keys section) (table_view table.now)))) }
-{
-    match unknown_key(table, section) {
-        None => Ok(()),
-        Some(key) => {
-            let key = KeyName::Unknown(String::from_str(alloc, key.as_str())?);
-            Err(SettingsFault::Refused(
-                Fault::UnknownKey,
-                Place {
-                    section,
-                    position,
-                    key,
-                },
-            ))
-        }
-    }
-}
 
 /// What is wrong at the top with the key of a section.
 fn at_top(fault: Fault, section: Section) -> SettingsFault
@@ -131,51 +89,7 @@ pub(crate) fn station_in(alloc: Global, top: &Table) -> Result<Station, Settings
     let Some(table) = value.as_table() else {
         return Err(at_top(Fault::WrongType, Section::Station));
     };
-    check_keys(alloc, table, Section::Station, 0)?;
     Station::read(alloc, table)
-}
-
-fn outstation_at(alloc: Global, table: &Table, position: usize) -> Result<Outstation, SettingsFault>
-    ensures { Tells (λ outstation. outstation) result
-        (placed of.Outstation position (table_wrongs 0 outstation_keys no_mismatches (table_view table.now)))
-        (outstation_of (table_view table.now)) }
-{
-    check_keys(alloc, table, Section::Outstation, position)?;
-    Outstation::read(alloc, table, position)
-}
-
-fn row_at(
-    alloc: Global,
-    table: &Table,
-    outstations: u8,
-    position: usize,
-) -> Result<Row, SettingsFault>
-    ensures { Tells row_fields result
-        (placed of.Point position (table_wrongs outstations point_keys point_mismatches (table_view table.now)))
-        (row_of (table_view table.now)) }
-{
-    check_keys(alloc, table, Section::Point, position)?;
-    match row(table, outstations) {
-        Ok(row) => Ok(row),
-        Err(fault) => Err(fault.at(Section::Point, position)),
-    }
-}
-
-fn control_at(
-    alloc: Global,
-    table: &Table,
-    outstations: u8,
-    position: usize,
-) -> Result<Control, SettingsFault>
-    ensures { Tells control_fields result
-        (placed of.Control position (table_wrongs outstations control_keys control_mismatches (table_view table.now)))
-        (control_of (table_view table.now)) }
-{
-    check_keys(alloc, table, Section::Control, position)?;
-    match control(table, outstations) {
-        Ok(control) => Ok(control),
-        Err(fault) => Err(fault.at(Section::Control, position)),
-    }
 }
 
 /// The outstations of some tables.
@@ -187,7 +101,7 @@ fn outstations_of(alloc: Global, tables: &[&Table]) -> Result<Vec<Outstation>, S
 {
     let mut outstations = Vec::with_capacity(alloc, tables.len())?;
     for (position, table) in tables.iter().enumerate() {
-        outstations.push(outstation_at(alloc, table, position)?)?;
+        outstations.push(Outstation::read(alloc, table, position)?)?;
     }
     Ok(outstations)
 }
@@ -200,7 +114,7 @@ fn rows_of(alloc: Global, tables: &[&Table], outstations: u8) -> Result<Vec<Row>
 {
     let mut rows = Vec::with_capacity(alloc, tables.len())?;
     for (position, table) in tables.iter().enumerate() {
-        rows.push(row_at(alloc, table, outstations, position)?)?;
+        rows.push(Row::read(alloc, table, position, outstations)?)?;
     }
     Ok(rows)
 }
@@ -217,7 +131,7 @@ fn controls_of(
 {
     let mut controls = Vec::with_capacity(alloc, tables.len())?;
     for (position, table) in tables.iter().enumerate() {
-        controls.push(control_at(alloc, table, outstations, position)?)?;
+        controls.push(Control::read(alloc, table, position, outstations)?)?;
     }
     Ok(controls)
 }

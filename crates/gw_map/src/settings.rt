@@ -3,21 +3,18 @@ ghost use Rattle.std.specs.Prelude.{◌≡◌, option_map};
 ghost use Rattle.std.specs.Result.{result_map_both};
 ghost use Rattle.toml.specs.View.{table_view};
 ghost use Rattle.gw_model.specs.Outcome.{Gives};
-ghost use Rattle.gw_map.specs.Answers.{Tells};
-ghost use Rattle.gw_map.specs.Complaints.{complaints_of};
-ghost use Rattle.gw_map.specs.Faults.{refusal_of, is_no_memory};
+ghost use Rattle.gw_entries.specs.Answers.{Tells};
+ghost use Rattle.gw_map.specs.Sections.{complaints_of};
+ghost use Rattle.gw_entries.specs.Faults.{refusal_of, is_no_memory};
 ghost use Rattle.gw_map.specs.Meaning.{setup_of, reading_of};
-ghost use Rattle.gw_map.specs.Ranges.{IsStation};
+ghost use Rattle.gw_entries.specs.Ranges.{IsStation};
 ghost use Rattle.gw_map.specs.Settings.{setup_fields, row_from, row_at_from, control_at_from, HasSingleSources, HasSingleAddresses};
 
-use crate::control::Control;
-use crate::fault::{Section, SettingsFault};
 use crate::indexes::{address_index, point_map};
-use crate::lists::{check_keys, controls_in, outstations_in, rows_in, station_in};
-use crate::outstation::Outstation;
-use crate::row::Row;
-use crate::station::Station;
+use crate::lists::{controls_in, outstations_in, rows_in, station_in};
+use gw_entries::{Control, Outstation, Row, Section, SettingsFault, Station, check_keys};
 use gw_model::PointKey;
+use gw_time::Zone;
 use indexmap::{IndexMap, IndexSet};
 use std::alloc::Global;
 use std::marker::Model;
@@ -90,6 +87,15 @@ impl Settings {
         let station = &self.station;
         let _known = station.common_address;
         station
+    }
+
+    /// The clocks of the station.
+    pub fn zone(&self) -> Zone
+        ensures { result.offset_minutes ≡ self.now.station.offset_minutes }
+    {
+        Zone {
+            offset_minutes: self.station.offset_minutes,
+        }
     }
 
     /// The outstations, in the order of the file.

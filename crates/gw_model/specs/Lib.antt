@@ -1,8 +1,6 @@
 pub mod Point
 pub mod Keys
 pub mod Fit
-pub mod Show
-pub mod Rows
 pub mod Outcome
 pub mod Optional
 pub mod Places

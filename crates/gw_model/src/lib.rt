@@ -1,5 +1,5 @@
 //! What every part of the gateway speaks of: points and reports of DNP3 outstations, observations
-//! for IEC 60870-5-104 clients, controls, settings, and the one error of a call that needs memory.
+//! for IEC 60870-5-104 clients, controls, and the one error of a call that needs memory.
 #![tactic(auto)]
 
 mod control;
@@ -8,8 +8,6 @@ mod memory;
 mod observation;
 mod point;
 mod poll;
-mod row;
-mod settings;
 
 pub use control::{Act, Ended, Intent, Order, Shape};
 pub use element::Element;
@@ -17,5 +15,3 @@ pub use memory::Memory;
 pub use observation::{Observation, Quality, Value};
 pub use point::{Kind, PointKey, Raw, Report, Stamp};
 pub use poll::Poll;
-pub use row::{Row, Show};
-pub use settings::Settings;

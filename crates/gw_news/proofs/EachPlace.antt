@@ -1,7 +1,7 @@
 -- What holds at each place of every run.
-use Rattle.std.proofs.Common.{◌≡◌, ℕ, zero, suc, ◌<◌, Bool, true, false, List, [], ◌∷◌, Option, Some, None, Result, Ok, Err, refl, ap, subst, ◌∙◌}
+use Rattle.std.proofs.Common.{length, ◌≡◌, ℕ, zero, suc, ◌<◌, Bool, true, false, List, [], ◌∷◌, Option, Some, None, Result, Ok, Err, refl, ap, subst, ◌∙◌}
 use Rattle.std.specs.Prelude.{slice_get, replicate, IfSome}
-use Rattle.gw_model.specs.Rows.{Setup, is_point_map}
+use Rattle.gw_map.specs.Settings.{Setup, HasSingleAddresses}
 use Rattle.dnp_app.specs.Response.{Fragment, is_unsolicited}
 use Rattle.dnp_master.specs.Master.{Master, master_down, is_last, verdict_of}
 use Rattle.iec_apci.specs.Apdu.{Content}
@@ -15,7 +15,7 @@ use Rattle.gw_steps.specs.declared.step.Step.TheVariants as steps
 use Rattle.gw_steps.specs.declared.step.Reply.{Reply}
 use Rattle.gw_steps.specs.declared.step.StepFault.{StepFault}
 use Rattle.gw_steps.specs.declared.step.StepFault.TheVariants.{NoOutstation, NoClient}
-use Rattle.gw_steps.specs.State.{State, at_first}
+use Rattle.gw_steps.specs.State.{State, at_first, client_limit}
 use Rattle.gw_steps.specs.Steps.{Allowed, outcome, needs, can_rise, reply_to, fault_of, reply_of_event, reply_giving}
 use Rattle.gw_steps.specs.Runs.{Entry, state_after, IsRun, AtEach}
 use Rattle.gw_steps.specs.Sound.{IsSound, LeavesSound}
@@ -48,8 +48,8 @@ outstation_tied (suc o) p (suc n) = outstation_tied o p n
 first_tied : (setup : Setup) → Tied setup [] (at_first setup)
 first_tied setup = record {
   picture = refl;
-  outstations = λ o. outstation_tied o o setup.outstations;
-  clients = λ c. down_tied setup c setup.clients;
+  outstations = λ o. outstation_tied o o (length setup.outstations);
+  clients = λ c. down_tied setup c client_limit;
 }
 
 -- ---- confirmations
@@ -93,7 +93,7 @@ confirms setup past step r s e tied =
         rw up.1 (record { verdict = none; confirmation = ap confirmation_in none })
     by (steps.Pump c m) e =
         let up = who_is_up (λ (k : Client). is_up k.stage) NoClient (slice_get s.clients c) e in
-        let none = of_given (given setup.offset setup.common_address up.0) in
+        let none = of_given (given setup.station.offset_minutes setup.station.common_address up.0) in
         rw up.1 (record { verdict = none; confirmation = ap confirmation_in none })
 
 -- ---- what holds where all is tied
@@ -136,13 +136,13 @@ told_more setup past e follows last told =
       numbered = (λ c. (follows.clients c).numbered, told.numbered);
     }
 
-told_by : (setup : Setup) (past : List Entry) (step : Step) (reply : Result Reply StepFault) → is_point_map setup.rows ≡ true → setup.common_address < 65536
-    → IsSound setup.offset (state_after setup past)
+told_by : (setup : Setup) (past : List Entry) (step : Step) (reply : Result Reply StepFault) → HasSingleAddresses setup.rows setup.controls → setup.station.common_address < 65536
+    → IsSound setup.station.offset_minutes (state_after setup past)
     → Allowed setup (state_after setup past) step reply (state_after setup (entry step reply ∷ past)) → Told setup past → Told setup (entry step reply ∷ past)
-told_by setup past step (Ok r) map_is small sound allowed told =
-    told_more setup past (entry step (Ok r)) (step_follows setup past step r (state_after setup past) map_is small sound allowed.0 told.tied)
+told_by setup past step (Ok r) single small sound allowed told =
+    told_more setup past (entry step (Ok r)) (step_follows setup past step r (state_after setup past) single small sound allowed.0 told.tied)
     (confirms setup past step r (state_after setup past) allowed.0 told.tied) told
-told_by setup past step (Err f) map_is small sound allowed told =
+told_by setup past step (Err f) single small sound allowed told =
     told_more setup past (entry step (Err f)) (fault_follows setup past step f (state_after setup past) told.tied) tt told
 
 -- the state before the last entry is sound
@@ -150,16 +150,16 @@ sound_last : (setup : Setup) (past : List Entry) → AtEach (LeavesSound setup) 
 sound_last setup [] sound = sound
 sound_last setup (e ∷ past) sound = sound.0
 
-run_told : (setup : Setup) (past : List Entry) → is_point_map setup.rows ≡ true → setup.common_address < 65536 → IsRun setup past → AtEach (LeavesSound setup) past → Told setup past
-run_told setup [] map_is small run sound = told_first setup
-run_told setup (e ∷ past) map_is small run sound =
-    told_by setup past e.step e.reply map_is small (sound_last setup past sound.1) run.0 (run_told setup past map_is small run.1 sound.1)
+run_told : (setup : Setup) (past : List Entry) → HasSingleAddresses setup.rows setup.controls → setup.station.common_address < 65536 → IsRun setup past → AtEach (LeavesSound setup) past → Told setup past
+run_told setup [] single small run sound = told_first setup
+run_told setup (e ∷ past) single small run sound =
+    told_by setup past e.step e.reply single small (sound_last setup past sound.1) run.0 (run_told setup past single small run.1 sound.1)
 
-pub tells_news : (setup : Setup) (past : List Entry) → is_point_map setup.rows ≡ true → setup.common_address < 65536 → IsRun setup past → AtEach (LeavesSound setup) past → AtEach (Holds setup) past
-tells_news setup past map_is small run sound = (run_told setup past map_is small run sound).news
+pub tells_news : (setup : Setup) (past : List Entry) → HasSingleAddresses setup.rows setup.controls → setup.station.common_address < 65536 → IsRun setup past → AtEach (LeavesSound setup) past → AtEach (Holds setup) past
+tells_news setup past single small run sound = (run_told setup past single small run sound).news
 
-pub confirms_taken : (setup : Setup) (past : List Entry) → is_point_map setup.rows ≡ true → setup.common_address < 65536 → IsRun setup past → AtEach (LeavesSound setup) past → AtEach ConfirmsLast past
-confirms_taken setup past map_is small run sound = (run_told setup past map_is small run sound).confirmed
+pub confirms_taken : (setup : Setup) (past : List Entry) → HasSingleAddresses setup.rows setup.controls → setup.station.common_address < 65536 → IsRun setup past → AtEach (LeavesSound setup) past → AtEach ConfirmsLast past
+confirms_taken setup past single small run sound = (run_told setup past single small run sound).confirmed
 
-pub numbers_in_order : (setup : Setup) (past : List Entry) → is_point_map setup.rows ≡ true → setup.common_address < 65536 → IsRun setup past → AtEach (LeavesSound setup) past → AtEach (NumbersLast setup) past
-numbers_in_order setup past map_is small run sound = (run_told setup past map_is small run sound).numbered
+pub numbers_in_order : (setup : Setup) (past : List Entry) → HasSingleAddresses setup.rows setup.controls → setup.station.common_address < 65536 → IsRun setup past → AtEach (LeavesSound setup) past → AtEach (NumbersLast setup) past
+numbers_in_order setup past single small run sound = (run_told setup past single small run sound).numbered

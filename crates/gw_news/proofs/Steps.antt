@@ -6,7 +6,7 @@ use Rattle.std.proofs.lemmas.Bool.{and_parts, cases_Bool, cases_eq, ne_eqb, eq-e
 use Rattle.std.proofs.lemmas.List.{append-nil}
 use Rattle.std.proofs.lemmas.Slice.Eq.{bytes_eq-Decides}
 use Rattle.gw_model.specs.declared.observation.Observation.{Observation}
-use Rattle.gw_model.specs.Rows.{Setup, is_point_map}
+use Rattle.gw_map.specs.Settings.{Setup, HasSingleAddresses}
 use Rattle.gw_model.specs.Places.{change}
 use Rattle.gw_picture.specs.Log.{picture_of}
 use Rattle.gw_picture.specs.Picture.{news_of, picture_after}
@@ -181,30 +181,30 @@ frame setup past c m a r s e tied =
 -- ---- Pump
 
 -- what is put out to a client is its own turn
-own_turn : (setup : Setup) (c m : ℕ) (content : Content) (says : Said) → said setup.offset (buffer_of content) ≡ Some says
+own_turn : (setup : Setup) (c m : ℕ) (content : Content) (says : Said) → said setup.station.offset_minutes (buffer_of content) ≡ Some says
     → turn_of setup c (entry (steps.Pump c m) (Ok (replies.Apdu (buffer_of content)))) ≡ PutsOut says
 own_turn setup c m content says e = rw (eq-eqb c c refl, e) refl
 
 -- a started client's queue
-pump_queue : (setup : Setup) (past : List Entry) (c m : ℕ) (k : Client) (queue : List Observation) → setup.common_address < 65536
-    → is_in_session k.stage ≡ true → k.queue ≡ queue → AllByRecursion (IsSendable setup.offset) queue → ClientTied setup c past k
-    → Goes setup c past (entry (steps.Pump c m) (Ok (reply_giving (option_map (news_content setup.offset setup.common_address k.next_send) (slice_get queue 0))))) (Some (client_after_news queue k))
+pump_queue : (setup : Setup) (past : List Entry) (c m : ℕ) (k : Client) (queue : List Observation) → setup.station.common_address < 65536
+    → is_in_session k.stage ≡ true → k.queue ≡ queue → AllByRecursion (IsSendable setup.station.offset_minutes) queue → ClientTied setup c past k
+    → Goes setup c past (entry (steps.Pump c m) (Ok (reply_giving (option_map (news_content setup.station.offset_minutes setup.station.common_address k.next_send) (slice_get queue 0))))) (Some (client_after_news queue k))
 pump_queue setup past c m k [] small in_session eq sound mine =
     goes_alike setup c past (entry (steps.Pump c m) (Ok replies.Nothing)) k k refl refl (record { stage = refl; queue = refl; dropped = refl; next_send = refl }) mine
 pump_queue setup past c m k (x ∷ queue) small in_session eq sound mine =
-    let content : Content = news_content setup.offset setup.common_address k.next_send x in
-    let says : Said = Numbered (k.next_send % 32768) 0 (Some (news_asdu setup.offset setup.common_address x)) in
+    let content : Content = news_content setup.station.offset_minutes setup.station.common_address k.next_send x in
+    let says : Said = Numbered (k.next_send % 32768) 0 (Some (news_asdu setup.station.offset_minutes setup.station.common_address x)) in
     let number : k.next_send % 32768 ≡ sent_to setup c past % 32768 = omega (arith, mine.number) in
     goes_puts_news setup c past (entry (steps.Pump c m) (Ok (replies.Apdu (buffer_of content)))) says x queue k (record k { next_send = (k.next_send + 1) % 32768; queue = queue })
-    (own_turn setup c m content says (said-news setup.offset setup.common_address k.next_send x small sound.0)) refl (rw (eq-eqb setup.common_address setup.common_address refl) refl) (refl, refl)
+    (own_turn setup c m content says (said-news setup.station.offset_minutes setup.station.common_address k.next_send x small sound.0)) refl (rw (eq-eqb setup.station.common_address setup.station.common_address refl) refl) (refl, refl)
     number refl in_session eq refl refl refl refl mine
 
 -- a client for which no confirmation waits
-pump_news : (setup : Setup) (past : List Entry) (c m : ℕ) (k : Client) (in_session : Bool) → is_in_session k.stage ≡ in_session → setup.common_address < 65536
-    → IsSoundClient setup.offset k → ClientTied setup c past k
-    → Goes setup c past (entry (steps.Pump c m) (Ok (reply_giving (first_of (news_offered setup.offset setup.common_address k ∷ []))))) (Some (cond in_session (client_after_news k.queue k) k))
+pump_news : (setup : Setup) (past : List Entry) (c m : ℕ) (k : Client) (in_session : Bool) → is_in_session k.stage ≡ in_session → setup.station.common_address < 65536
+    → IsSoundClient setup.station.offset_minutes k → ClientTied setup c past k
+    → Goes setup c past (entry (steps.Pump c m) (Ok (reply_giving (first_of (news_offered setup.station.offset_minutes setup.station.common_address k ∷ []))))) (Some (cond in_session (client_after_news k.queue k) k))
 pump_news setup past c m k true es small sound mine =
-    rw (es, first_is (option_map (news_content setup.offset setup.common_address k.next_send) (slice_get k.queue 0)))
+    rw (es, first_is (option_map (news_content setup.station.offset_minutes setup.station.common_address k.next_send) (slice_get k.queue 0)))
     (pump_queue setup past c m k k.queue small es refl sound mine)
   where
     first_is : (x : Option Content) → first_of (x ∷ []) ≡ x
@@ -213,14 +213,14 @@ pump_news setup past c m k true es small sound mine =
 pump_news setup past c m k false es small sound mine =
     rw es (goes_alike setup c past (entry (steps.Pump c m) (Ok replies.Nothing)) k k refl refl (record { stage = refl; queue = refl; dropped = refl; next_send = refl }) mine)
 
-pump_own : (setup : Setup) (past : List Entry) (c m moment : ℕ) (k : Client) (none : Bool) → eqb k.confirmations 0 ≡ none → setup.common_address < 65536
-    → IsSoundClient setup.offset k → ClientTied setup c past k
-    → Goes setup c past (entry (steps.Pump c m) (Ok (reply_giving (given setup.offset setup.common_address k)))) (Some (client_after_pump moment k))
+pump_own : (setup : Setup) (past : List Entry) (c m moment : ℕ) (k : Client) (none : Bool) → eqb k.confirmations 0 ≡ none → setup.station.common_address < 65536
+    → IsSoundClient setup.station.offset_minutes k → ClientTied setup c past k
+    → Goes setup c past (entry (steps.Pump c m) (Ok (reply_giving (given setup.station.offset_minutes setup.station.common_address k)))) (Some (client_after_pump moment k))
 pump_own setup past c m moment k true en small sound mine =
     rw en (pump_news setup past c m k (is_in_session k.stage) refl small sound mine)
 pump_own setup past c m moment k false en small sound mine =
     rw en (goes_puts_other setup c past (entry (steps.Pump c m) (Ok (replies.Apdu (buffer_of (Unnumbered StartCon))))) (Function StartCon) k (record k { confirmations = k.confirmations - 1 })
-    (own_turn setup c m (Unnumbered StartCon) (Function StartCon) (said-content setup.offset (Unnumbered StartCon) tt)) refl refl refl tt tt refl
+    (own_turn setup c m (Unnumbered StartCon) (Function StartCon) (said-content setup.station.offset_minutes (Unnumbered StartCon) tt)) refl refl refl tt tt refl
     (record { stage = refl; queue = refl; dropped = refl; next_send = refl }) mine)
 
 pump_apart : (setup : Setup) (c d m : ℕ) (given : Option Content) → (c ≡ d → ⊥) → turn_of setup d (entry (steps.Pump c m) (Ok (reply_giving given))) ≡ Idle
@@ -233,18 +233,18 @@ sound_at offset [] c k at all = absurd cc
 sound_at offset (x ∷ ks) zero k at all = subst (IsSoundClient offset) (some_is x k at) all.0
 sound_at offset (x ∷ ks) (suc c) k at all = sound_at offset ks c k at all.1
 
-pump : (setup : Setup) (past : List Entry) (c m : ℕ) (r : Reply) (s : State) → setup.common_address < 65536 → IsSound setup.offset s
+pump : (setup : Setup) (past : List Entry) (c m : ℕ) (r : Reply) (s : State) → setup.station.common_address < 65536 → IsSound setup.station.offset_minutes s
     → outcome setup s (steps.Pump c m) ≡ Ok r → Tied setup past s → Follows setup past (entry (steps.Pump c m) (Ok r)) (after setup s (steps.Pump c m))
 pump setup past c m r s small sound e tied =
     let step : Step = steps.Pump c m in
     let told = answered (fault_of s step) (can_rise s.counts (needs setup s step).counts) (reply_to setup s step) r e in
     let up = who_is_up (λ (k : Client). is_up k.stage) NoClient (slice_get s.clients c) told.0 in
-    let content : Option Content = given setup.offset setup.common_address up.0 in
-    let reply : reply_giving content ≡ r = sym (ap (client_reply (λ (k : Client). reply_giving (given setup.offset setup.common_address k))) up.1) ∙ told.2 in
+    let content : Option Content = given setup.station.offset_minutes setup.station.common_address up.0 in
+    let reply : reply_giving content ≡ r = sym (ap (client_reply (λ (k : Client). reply_giving (given setup.station.offset_minutes setup.station.common_address k))) up.1) ∙ told.2 in
     subst (λ (x : Reply). Follows setup past (entry step (Ok x)) (after setup s step)) reply
     (one_client setup past step (reply_giving content) s (after setup s step) c (client_after_pump (latest s m)) up.0 refl (λ o last. refl)
     (λ d ne. pump_apart setup c d m content ne) refl refl refl up.1
-    (pump_own setup past c m (latest s m) up.0 (eqb up.0.confirmations 0) refl small (sound_at setup.offset s.clients c up.0 up.1 sound)) tied)
+    (pump_own setup past c m (latest s m) up.0 (eqb up.0.confirmations 0) refl small (sound_at setup.station.offset_minutes s.clients c up.0 up.1 sound)) tied)
 
 -- ---- OutstationUp
 
@@ -296,18 +296,18 @@ own_last past f m r e = rw (eq-eqb f.outstation f.outstation refl, e) refl
 other_last : (past : List Entry) (f : Fragment) (p m : ℕ) (r : Reply) → (f.outstation ≡ p → ⊥) → last_text p (entry (steps.Fragment f m) (Ok r) ∷ past) ≡ last_text p past
 other_last past f p m r ne = rw (ne_eqb f.outstation p ne) refl
 
-fragment_taken : (setup : Setup) (past : List Entry) (f : Fragment) (m : ℕ) (r : Reply) (s : State) → is_point_map setup.rows ≡ true → is_accepted past f ≡ true
+fragment_taken : (setup : Setup) (past : List Entry) (f : Fragment) (m : ℕ) (r : Reply) (s : State) → HasSingleAddresses setup.rows setup.controls → is_accepted past f ≡ true
     → is_accepting s f ≡ true → Tied setup past s → Follows setup past (entry (steps.Fragment f m) (Ok r)) (after setup s (steps.Fragment f m))
-fragment_taken setup past f m r s map_is takes accepting tied =
+fragment_taken setup past f m r s single takes accepting tied =
     let e : Entry = entry (steps.Fragment f m) (Ok r) in
     let log : List Observation = log_of setup past in
     let xs : List Observation = news_after_log setup log f.reports in
-    let ys : List Observation = news_of setup.offset setup.rows s.picture f.reports in
+    let ys : List Observation = news_of setup.station.offset_minutes setup.rows s.picture f.reports in
     let parts = and_parts (is_unsolicited f) (not (is_text (last_text f.outstation past) f.octets)) takes in
     let came : brought setup past e ≡ xs = rw takes refl in
-    let same = news_same setup log f.reports map_is in
-    let told : ys ≡ xs = ap (λ (p : List Observation). news_of setup.offset setup.rows p f.reports) tied.picture ∙ same.0 in
-    let shown : picture_after setup.offset setup.rows s.picture f.reports ≡ picture_of setup.rows (log ++ xs) = ap (λ (p : List Observation). picture_after setup.offset setup.rows p f.reports) tied.picture ∙ same.1 in
+    let same = news_same setup log f.reports single in
+    let told : ys ≡ xs = ap (λ (p : List Observation). news_of setup.station.offset_minutes setup.rows p f.reports) tied.picture ∙ same.0 in
+    let shown : picture_after setup.station.offset_minutes setup.rows s.picture f.reports ≡ picture_of setup.rows (log ++ xs) = ap (λ (p : List Observation). picture_after setup.station.offset_minutes setup.rows p f.reports) tied.picture ∙ same.1 in
     let mark : Master → Master = master_after_accepted (latest s m) f.octets in
     rw accepting (record {
       picture = shown ∙ ap (λ (zs : List Observation). picture_of setup.rows (log ++ zs)) (sym came);
@@ -344,24 +344,24 @@ fragment_left setup past f m r s x at last left tied =
       clients = λ c. goes_nowhere setup c past e (slice_get s.clients c) refl none (tied.clients c);
     })
 
-fragment : (setup : Setup) (past : List Entry) (f : Fragment) (m : ℕ) (r : Reply) (s : State) → is_point_map setup.rows ≡ true → outcome setup s (steps.Fragment f m) ≡ Ok r
+fragment : (setup : Setup) (past : List Entry) (f : Fragment) (m : ℕ) (r : Reply) (s : State) → HasSingleAddresses setup.rows setup.controls → outcome setup s (steps.Fragment f m) ≡ Ok r
     → Tied setup past s → Follows setup past (entry (steps.Fragment f m) (Ok r)) (after setup s (steps.Fragment f m))
-fragment setup past f m r s map_is e tied =
+fragment setup past f m r s single e tied =
     let step : Step = steps.Fragment f m in
     let told = answered (fault_of s step) (can_rise s.counts (needs setup s step).counts) (reply_to setup s step) r e in
     let up = who_is_up (λ (x : Master). x.up) NoOutstation (slice_get s.outstations f.outstation) told.0 in
     let last : up.0.last ≡ last_text f.outstation past = subst (MasterTied f.outstation past) up.1 (tied.outstations f.outstation) in
     elim (cases_Bool (accepts up.0 f)) [
-      | inl takes ↦ fragment_taken setup past f m r s map_is (sym (same_accepted past f up.0 last) ∙ takes) (rw up.1 takes) tied
+      | inl takes ↦ fragment_taken setup past f m r s single (sym (same_accepted past f up.0 last) ∙ takes) (rw up.1 takes) tied
       | inr left ↦ fragment_left setup past f m r s up.0 up.1 last left tied
     ]
 
 -- ---- every step
 
-pub step_follows : (setup : Setup) (past : List Entry) (step : Step) (r : Reply) (s : State) → is_point_map setup.rows ≡ true → setup.common_address < 65536
-    → IsSound setup.offset s → outcome setup s step ≡ Ok r → Tied setup past s → Follows setup past (entry step (Ok r)) (after setup s step)
-step_follows setup past (steps.OutstationUp o m) r s map_is small sound e tied = outstation_up setup past o m r s e tied
-step_follows setup past (steps.Fragment f m) r s map_is small sound e tied = fragment setup past f m r s map_is e tied
-step_follows setup past (steps.ClientUp c m) r s map_is small sound e tied = client_up setup past c m r s e tied
-step_follows setup past (steps.Frame c apdu m) r s map_is small sound e tied = frame setup past c m apdu r s e tied
-step_follows setup past (steps.Pump c m) r s map_is small sound e tied = pump setup past c m r s small sound e tied
+pub step_follows : (setup : Setup) (past : List Entry) (step : Step) (r : Reply) (s : State) → HasSingleAddresses setup.rows setup.controls → setup.station.common_address < 65536
+    → IsSound setup.station.offset_minutes s → outcome setup s step ≡ Ok r → Tied setup past s → Follows setup past (entry step (Ok r)) (after setup s step)
+step_follows setup past (steps.OutstationUp o m) r s single small sound e tied = outstation_up setup past o m r s e tied
+step_follows setup past (steps.Fragment f m) r s single small sound e tied = fragment setup past f m r s single e tied
+step_follows setup past (steps.ClientUp c m) r s single small sound e tied = client_up setup past c m r s e tied
+step_follows setup past (steps.Frame c apdu m) r s single small sound e tied = frame setup past c m apdu r s e tied
+step_follows setup past (steps.Pump c m) r s single small sound e tied = pump setup past c m r s small sound e tied

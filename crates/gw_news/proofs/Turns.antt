@@ -4,7 +4,7 @@ use Rattle.std.specs.Prelude.{option_map}
 use Rattle.std.proofs.lemmas.Bool.{cases_Bool, true≢false}
 use Rattle.std.proofs.lemmas.List.{append-nil}
 use Rattle.gw_model.specs.declared.observation.Observation.{Observation}
-use Rattle.gw_model.specs.Rows.{Setup}
+use Rattle.gw_map.specs.Settings.{Setup}
 use Rattle.gw_station.specs.declared.client.Stage.{Stage}
 use Rattle.gw_station.specs.declared.client.Stage.TheVariants.{Down, Stopped, Started}
 use Rattle.gw_station.specs.Client.{Client, is_started as is_in_session, queue_with, client_with_news}
@@ -41,7 +41,7 @@ pub record Goes (setup : Setup) (c : ℕ) (past : List Entry) (e : Entry) (x : O
   pub tied : SlotTied setup c (e ∷ past) x
   pub numbered : HasNumber (sent_to setup c past) (turn_of setup c e)
   pub quiet : is_started setup c past ≡ false → puts_numbered (turn_of setup c e) ≡ false
-  pub speaks : SpeaksBy setup.common_address (turn_of setup c e)
+  pub speaks : SpeaksBy setup.station.common_address (turn_of setup c e)
 
 -- what an entry brings
 abbrev pub brought : Setup → List Entry → Entry → List Observation
@@ -63,14 +63,14 @@ none_happened setup c (e ∷ past) stopped = rw stopped refl
 
 goes_on : (setup : Setup) (c : ℕ) (past : List Entry) (e : Entry) (xs ys : List Observation)
     → is_started setup c past ≡ true → is_started setup c (e ∷ past) ≡ true → brought setup past e ≡ xs
-    → spontaneous_by setup.common_address (turn_of setup c e) ≡ ys
+    → spontaneous_by setup.station.common_address (turn_of setup c e) ≡ ys
     → session_of setup c (e ∷ past) ≡ session_of setup c past ++ (map Came xs ++ map Gone ys)
 goes_on setup c past e xs ys was is eb ep = rw (is, was, eb, ep) refl
 
 -- a session that goes on, to which news come
 pub session_idle : (setup : Setup) (c : ℕ) (past : List Entry) (e : Entry) (xs : List Observation) (k new : Client)
     → is_started setup c past ≡ true → is_started setup c (e ∷ past) ≡ true → is_in_session new.stage ≡ true
-    → brought setup past e ≡ xs → spontaneous_by setup.common_address (turn_of setup c e) ≡ []
+    → brought setup past e ≡ xs → spontaneous_by setup.station.common_address (turn_of setup c e) ≡ []
     → new.queue ≡ k.queue ++ xs → new.dropped ≡ k.dropped → new.next_send ≡ sent_to setup c (e ∷ past) % 32768
     → ClientTied setup c past k → ClientTied setup c (e ∷ past) new
 session_idle setup c past e xs k new was is in_session eb ep queue dropped number tied =
@@ -231,8 +231,8 @@ goes_begins_again setup c past e k new turn none in_session alike tied =
 
 -- something without a number that isn't spontaneous is put out to it
 pub goes_puts_other : (setup : Setup) (c : ℕ) (past : List Entry) (e : Entry) (said : Said) (k new : Client)
-    → turn_of setup c e ≡ PutsOut said → brought setup past e ≡ [] → spontaneous_in setup.common_address said ≡ []
-    → is_numbered said ≡ false → SaysOfStation setup.common_address said → SaysNumber (sent_to setup c past) said → sent_with said (sent_to setup c past) ≡ sent_to setup c past → Alike k new
+    → turn_of setup c e ≡ PutsOut said → brought setup past e ≡ [] → spontaneous_in setup.station.common_address said ≡ []
+    → is_numbered said ≡ false → SaysOfStation setup.station.common_address said → SaysNumber (sent_to setup c past) said → sent_with said (sent_to setup c past) ≡ sent_to setup c past → Alike k new
     → ClientTied setup c past k → Goes setup c past e (Some new)
 goes_puts_other setup c past e said k new turn none nothing unnumbered ours says same alike tied = record {
   tied = elim (cases_Bool (is_in_session k.stage)) [
@@ -255,14 +255,14 @@ goes_puts_other setup c past e said k new turn none nothing unnumbered ours says
 
 -- its oldest news are put out
 pub goes_puts_news : (setup : Setup) (c : ℕ) (past : List Entry) (e : Entry) (said : Said) (x : Observation) (queue : List Observation) (k new : Client)
-    → turn_of setup c e ≡ PutsOut said → brought setup past e ≡ [] → spontaneous_in setup.common_address said ≡ x ∷ []
-    → SaysOfStation setup.common_address said → SaysNumber (sent_to setup c past) said → sent_with said (sent_to setup c past) ≡ sent_to setup c past + 1
+    → turn_of setup c e ≡ PutsOut said → brought setup past e ≡ [] → spontaneous_in setup.station.common_address said ≡ x ∷ []
+    → SaysOfStation setup.station.common_address said → SaysNumber (sent_to setup c past) said → sent_with said (sent_to setup c past) ≡ sent_to setup c past + 1
     → is_in_session k.stage ≡ true → k.queue ≡ x ∷ queue → new.stage ≡ k.stage → new.queue ≡ queue → new.dropped ≡ k.dropped
     → new.next_send ≡ (k.next_send + 1) % 32768 → ClientTied setup c past k → Goes setup c past e (Some new)
 goes_puts_news setup c past e said x queue k new turn none puts ours says one_more in_session front stage rest dropped next tied =
     let hs : List Happening = session_of setup c past in
     let was : is_started setup c past ≡ true = tied.started ∙ in_session in
-    let by : spontaneous_by setup.common_address (turn_of setup c e) ≡ x ∷ [] = rw turn puts in
+    let by : spontaneous_by setup.station.common_address (turn_of setup c e) ≡ x ∷ [] = rw turn puts in
     let session : session_of setup c (e ∷ past) ≡ hs ++ Gone x ∷ [] = goes_on setup c past e [] (x ∷ []) was (rw turn was) none by in
     let gone : gone_of (hs ++ Gone x ∷ []) ≡ items_of is_put_out tied.settled ++ x ∷ [] =
     gone_of-append hs (Gone x ∷ []) ∙ ap (λ (ys : List Observation). ys ++ x ∷ []) tied.put_out in

@@ -2,7 +2,7 @@
 -- client's session the observations put out, followed by those queued, are the news since its STARTDT, in
 -- order, less those dropped.
 use Rattle.std.specs.Prelude.{◌≡◌, ℕ, Bool, false, List, [], ◌∷◌, ◌++◌, length, slice_get, Option, Some, None, IfSome}
-use Rattle.gw_model.specs.Rows.{Setup}
+use Rattle.gw_map.specs.Settings.{Setup}
 use Rattle.gw_picture.specs.Log.{picture_of}
 use Rattle.gw_station.specs.Client.{Client, is_started as is_in_session}
 use Rattle.gw_steps.specs.Runs.{Entry, state_after}
@@ -53,7 +53,7 @@ SpeaksBy common Garbles = ⊥
 -- no I format carries anything else to a client
 abbrev pub SpeaksLast : Setup → ℕ → List Entry → Type 0
 SpeaksLast setup c [] = Unit {0}
-SpeaksLast setup c (e ∷ past) = SpeaksBy setup.common_address (turn_of setup c e)
+SpeaksLast setup c (e ∷ past) = SpeaksBy setup.station.common_address (turn_of setup c e)
 
 -- what holds at a place of a run
 pub record Holds (setup : Setup) (past : List Entry) : Type 0 where

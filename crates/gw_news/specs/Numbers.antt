@@ -1,7 +1,7 @@
 -- I formats are numbered in order (IEC 60870-5-104, 5.1): the nth that was put out since a client came up, counted
 -- from 0, has N(S) n modulo 32,768.
 use Rattle.std.specs.Prelude.{◌≡◌, ℕ, ◌+◌, ◌%◌, List, [], ◌∷◌}
-use Rattle.gw_model.specs.Rows.{Setup}
+use Rattle.gw_map.specs.Settings.{Setup}
 use Rattle.gw_steps.specs.Runs.{Entry}
 use Rattle.gw_steps.specs.Said.{Said, Numbered, Receipt, Function}
 use Rattle.gw_news.specs.Turns.{Turn, Idle, Connects, Begins, Ends, PutsOut, Garbles, turn_of}

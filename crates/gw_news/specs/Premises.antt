@@ -1,13 +1,13 @@
 -- What the laws suppose of a run.
-use Rattle.std.specs.Prelude.{◌≡◌, ◌<◌, true, List}
-use Rattle.gw_model.specs.Rows.{Setup, is_point_map}
+use Rattle.std.specs.Prelude.{◌≡◌, ◌<◌, List}
+use Rattle.gw_map.specs.Settings.{Setup, HasSingleAddresses}
 use Rattle.gw_steps.specs.Runs.{Entry, IsRun, AtEach}
 use Rattle.gw_steps.specs.Sound.{LeavesSound}
 
 pub record IsSoundRun (setup : Setup) (past : List Entry) : Type 0 where
-  -- no two rows have one key or one address, and the common address has 16 bits
-  pub rows : is_point_map setup.rows ≡ true
-  pub station : setup.common_address < 65536
+  -- no two rows have one address, and the common address has 16 bits
+  pub addresses : HasSingleAddresses setup.rows setup.controls
+  pub station : setup.station.common_address < 65536
   pub run : IsRun setup past
   -- what is queued can be sent, at each place
   pub sound : AtEach (LeavesSound setup) past

@@ -1,7 +1,7 @@
 -- A client's session: what came and what was put out since its STARTDT act.
 use Rattle.std.specs.Prelude.{ℕ, Bool, true, false, ◌&&◌, ◌==◌, List, [], ◌∷◌, ◌++◌, map, Option, Some, None, if◌then◌else◌}
 use Rattle.gw_model.specs.declared.observation.Observation.{Observation}
-use Rattle.gw_model.specs.Rows.{Setup}
+use Rattle.gw_map.specs.Settings.{Setup}
 use Rattle.iec_asdu.specs.Asdu.{Asdu}
 use Rattle.gw_steps.specs.Runs.{Entry}
 use Rattle.gw_steps.specs.Said.{Said, Numbered, Receipt, Function}
@@ -65,7 +65,7 @@ session_of setup c (e ∷ past) =
     if started_after (turn_of setup c e) (is_started setup c past) && is_started setup c past then
     session_of setup c past
     ++ (map Came (news_of_entry setup (log_of setup past) past e)
-    ++ map Gone (spontaneous_by setup.common_address (turn_of setup c e)))
+    ++ map Gone (spontaneous_by setup.station.common_address (turn_of setup c e)))
     else []
 
 -- the observations that were put out, in order

@@ -1,6 +1,6 @@
 -- What a step is to a client, by the step and its reply alone.
 use Rattle.std.specs.Prelude.{ℕ, Bool, true, false, ◌&&◌, ◌==◌, Option, Some, None, if◌then◌else◌}
-use Rattle.gw_model.specs.Rows.{Setup}
+use Rattle.gw_map.specs.Settings.{Setup}
 use Rattle.iec_apci.specs.declared.apdu.Apdu.{Apdu}
 use Rattle.iec_apci.specs.declared.apdu.Apdu.TheVariants.{U}
 use Rattle.iec_apci.specs.declared.apdu.Signal.TheVariants.{StartAct}
@@ -39,7 +39,7 @@ abbrev pub turn_with : Setup → ℕ → Step → Reply → Turn
 turn_with setup c (steps.ClientUp d moment) replies.Done = if d == c then Connects else Idle
 turn_with setup c (steps.Frame d apdu moment) replies.Taken = if is_start_act apdu && (d == c) then Begins else Idle
 turn_with setup c (steps.Frame d apdu moment) (replies.Closed why) = if d == c then Ends else Idle
-turn_with setup c (steps.Pump d moment) (replies.Apdu apdu) = if d == c then puts_out (said setup.offset apdu) else Idle
+turn_with setup c (steps.Pump d moment) (replies.Apdu apdu) = if d == c then puts_out (said setup.station.offset_minutes apdu) else Idle
 turn_with setup c _ _ = Idle
 
 -- a step with a fault is nothing to anybody

@@ -2,7 +2,7 @@
 //! address, the common address has 16 bits, and each state of the run is sound, which is that what is queued can be sent.
 //! A hub keeps them by its type.
 ghost use Rattle.std.specs.Prelude.{List};
-ghost use Rattle.gw_model.specs.Rows.{Setup};
+ghost use Rattle.gw_map.specs.Settings.{Setup};
 ghost use Rattle.gw_steps.specs.Runs.{AtEach, Entry};
 ghost use Rattle.gw_news.specs.Confirms.{ConfirmsLast};
 ghost use Rattle.gw_news.specs.Premises.{IsSoundRun};

@@ -3,10 +3,10 @@ use Rattle.std.proofs.Common.{◌≡◌, ℕ, ℤ, ◌+◌, ◌≤◌, get_or, B
 use Rattle.std.specs.Prelude.{slice_get, option_map}
 use Rattle.std.proofs.lemmas.Bool.{cases_eq, ne_eqb, eq-eqb, ltb-false, ltb-true}
 use Rattle.std.proofs.lemmas.List.{append-nil, length-append}
-use Rattle.gw_model.specs.declared.row.Row.{Row}
+use Rattle.gw_entries.specs.declared.row.Row.{Row}
 use Rattle.gw_model.specs.declared.point.Report.{Report}
 use Rattle.gw_model.specs.declared.observation.Observation.{Observation}
-use Rattle.gw_model.specs.Rows.{row_from}
+use Rattle.gw_map.specs.Settings.{row_from}
 use Rattle.gw_translate.specs.Image.{image_of}
 use Rattle.gw_translate.specs.Image.{is_news_of}
 use Rattle.gw_picture.specs.Picture.{without_time, news_after, news_by_row, news_of_report, news_of, picture_by_row, picture_after_report, picture_after, observation_after_report, observation_after}

@@ -7,9 +7,10 @@ use Rattle.gw_model.specs.declared.point.Raw.TheVariants.{Bit, Two, Count, Numbe
 use Rattle.gw_model.specs.declared.point.Report.{Report}
 use Rattle.gw_model.specs.declared.point.Stamp.{Stamp}
 use Rattle.gw_model.specs.declared.point.Stamp.TheVariants.{Untimed}
-use Rattle.gw_model.specs.declared.row.Row.{Row}
-use Rattle.gw_model.specs.declared.row.Show.{Show}
-use Rattle.gw_model.specs.declared.row.Show.TheVariants as shows
+use Rattle.gw_entries.specs.declared.row.Row.{Row}
+use Rattle.gw_entries.specs.declared.row.Scale.{Scale}
+use Rattle.gw_entries.specs.declared.row.Show.{Show}
+use Rattle.gw_entries.specs.declared.row.Show.TheVariants as shows
 use Rattle.gw_model.specs.declared.observation.Value.{Value}
 use Rattle.gw_model.specs.declared.observation.Quality.{Quality}
 use Rattle.gw_model.specs.declared.observation.Observation.{Observation}
@@ -22,18 +23,18 @@ use Rattle.gw_picture.specs.Picture.{news_after, without_time}
 use Rattle.gw_picture.proofs.Lists.{get_some}
 
 -- an image has its row's address
-raw_address : (show : Show) (raw : Raw) (q : Quality) (address : ℕ) (stamp : Stamp) → (raw_image show raw q address stamp).address ≡ address
-raw_address show (Bit on) q address stamp = refl
-raw_address show (Two state) q address stamp = refl
-raw_address show (Count n) q address stamp = refl
-raw_address shows.Single (Number z) q address stamp = refl
-raw_address shows.Double (Number z) q address stamp = refl
-raw_address shows.Scaled (Number z) q address stamp = refl
-raw_address shows.Word (Number z) q address stamp = refl
-raw_address shows.Total (Number z) q address stamp = refl
+raw_address : (show : Show) (scale : Scale) (raw : Raw) (q : Quality) (address : ℕ) (stamp : Stamp) → (raw_image show scale raw q address stamp).address ≡ address
+raw_address show scale (Bit on) q address stamp = refl
+raw_address show scale (Two state) q address stamp = refl
+raw_address show scale (Count n) q address stamp = refl
+raw_address shows.Single scale (Number z) q address stamp = refl
+raw_address shows.Double scale (Number z) q address stamp = refl
+raw_address shows.Scaled scale (Number z) q address stamp = refl
+raw_address shows.Word scale (Number z) q address stamp = refl
+raw_address shows.Total scale (Number z) q address stamp = refl
 
 pub image_address : (offset : ℤ) (row : Row) (r : Report) → (image_of offset row r).address ≡ row.address
-image_address offset row r = raw_address row.show r.raw (quality_of r.key.kind r.flags) row.address (stamp_image offset r.stamp)
+image_address offset row r = raw_address row.show row.scale r.raw (quality_of r.key.kind r.flags) row.address (stamp_image offset r.stamp)
 
 abbrev observation : ℕ → Value → Quality → Stamp → Observation
 observation address value quality stamp = record { address = address; value = value; quality = quality; stamp = stamp }

@@ -1,5 +1,6 @@
 pub mod Lists
 pub mod Images
 pub mod Counts
+pub mod Addresses
 pub mod Logs
 pub mod Rows

@@ -6,16 +6,18 @@ use Rattle.std.proofs.lemmas.List.{append-nil}
 use Rattle.gw_model.specs.declared.point.PointKey.{PointKey}
 use Rattle.gw_model.specs.declared.point.Report.{Report}
 use Rattle.gw_model.specs.declared.point.Stamp.TheVariants.{Untimed}
-use Rattle.gw_model.specs.declared.row.Row.{Row}
+use Rattle.gw_entries.specs.declared.row.Row.{Row}
 use Rattle.gw_model.specs.declared.observation.Observation.{Observation}
 use Rattle.gw_model.specs.Keys.{same_key}
-use Rattle.gw_model.specs.Rows.{row_from, is_fresh, is_point_map}
+use Rattle.gw_entries.specs.declared.control.Control.{Control}
+use Rattle.gw_map.specs.Settings.{row_from, HasSingleAddresses}
 use Rattle.gw_translate.specs.Image.{image_of}
 use Rattle.gw_translate.specs.Image.{is_news_of}
 use Rattle.gw_model.specs.Places.{change}
 use Rattle.gw_picture.specs.Opening.{opening}
 use Rattle.gw_picture.specs.Picture.{without_time, news_by_row, news_of_report, picture_by_row, picture_after_report, news_of, picture_after}
 use Rattle.gw_picture.specs.Log.{last_observation, picture_of}
+use Rattle.gw_picture.proofs.Addresses.{is_fresh, is_single, is_single-true}
 use Rattle.gw_picture.proofs.Lists.{some_is, change-same}
 use Rattle.gw_picture.proofs.Images.{image_address, no_news}
 
@@ -42,12 +44,12 @@ row_from-le k n key (r ∷ rows) row e =
     ]
 
 -- a row that is found has another address than one that is fresh
-fresh_address : (k n : ℕ) (key : PointKey) (first : Row) (rows : List Row) (row : Row) → is_fresh first rows ≡ true → row_from k key rows ≡ Some (n, row)
+fresh_address : (k n : ℕ) (key : PointKey) (first : Row) (rows : List Row) (row : Row) → is_fresh first.address rows ≡ true → row_from k key rows ≡ Some (n, row)
     → eqb first.address row.address ≡ false
 fresh_address k n key first [] row fresh e = absurd cc
 fresh_address k n key first (r ∷ rows) row fresh e =
-    let parts = and_parts (not (same_key first.key r.key) && not (eqb first.address r.address)) (is_fresh first rows) fresh in
-    let other : eqb first.address r.address ≡ false = not-true (eqb first.address r.address) (and_parts (not (same_key first.key r.key)) (not (eqb first.address r.address)) parts.0).1 in
+    let parts = and_parts (not (eqb first.address r.address)) (is_fresh first.address rows) fresh in
+    let other : eqb first.address r.address ≡ false = not-true (eqb first.address r.address) parts.0 in
     elim (cases_Bool (same_key r.key key)) [
       | inl here ↦ (let found : pair k r ≡ pair n row = rw here at e in subst (λ (x : Row). eqb first.address x.address ≡ false) (pair_is k n r row found).1 other)
       | inr there ↦ (let found : row_from (k + 1) key rows ≡ Some (n, row) = rw there at e in fresh_address (k + 1) n key first rows row parts.1 found)
@@ -89,12 +91,12 @@ shown_here : (log : List Observation) (x : Observation) (row : Row) → x.addres
 shown_here log x row e = last_observation-push row.address (opening row) log x ∙ rw (eq-eqb x.address row.address e) refl
 
 -- rows that a fresh row stands before keep what they show when an observation at its address comes
-fresh_same : (log : List Observation) (x : Observation) (first : Row) (rows : List Row) → is_fresh first rows ≡ true → x.address ≡ first.address
+fresh_same : (log : List Observation) (x : Observation) (first : Row) (rows : List Row) → is_fresh first.address rows ≡ true → x.address ≡ first.address
     → picture_of rows (log ++ x ∷ []) ≡ picture_of rows log
 fresh_same log x first [] fresh e = refl
 fresh_same log x first (r ∷ rows) fresh e =
-    let parts = and_parts (not (same_key first.key r.key) && not (eqb first.address r.address)) (is_fresh first rows) fresh in
-    let other : eqb first.address r.address ≡ false = not-true (eqb first.address r.address) (and_parts (not (same_key first.key r.key)) (not (eqb first.address r.address)) parts.0).1 in
+    let parts = and_parts (not (eqb first.address r.address)) (is_fresh first.address rows) fresh in
+    let other : eqb first.address r.address ≡ false = not-true (eqb first.address r.address) parts.0 in
     let there : eqb x.address r.address ≡ false = ap (λ (a : ℕ). eqb a r.address) e ∙ other in
     ap (λ (y : Observation). y ∷ picture_of rows (log ++ x ∷ [])) (same_elsewhere log x r there) ∙ ap (λ (ys : List Observation). shown_by log r ∷ ys) (fresh_same log x first rows parts.1 e)
 
@@ -102,11 +104,11 @@ swap : (a b : ℕ) → eqb a b ≡ false → eqb b a ≡ false
 swap a b e = ne_eqb b a (λ same. eqb-false a b e (sym same))
 
 -- the picture with the observation at its row is the picture of the log with it
-picture_of-push : (k n : ℕ) (key : PointKey) (rows : List Row) (row : Row) (log : List Observation) (x : Observation) → is_point_map rows ≡ true → row_from k key rows ≡ Some (n, row)
+picture_of-push : (k n : ℕ) (key : PointKey) (rows : List Row) (row : Row) (log : List Observation) (x : Observation) → is_single rows ≡ true → row_from k key rows ≡ Some (n, row)
     → x.address ≡ row.address → change (n - k) (λ _. without_time x) (picture_of rows log) ≡ picture_of rows (log ++ x ∷ [])
 picture_of-push k n key [] row log x map_is found e = absurd cc
 picture_of-push k n key (r ∷ rows) row log x map_is found e =
-    let parts = and_parts (is_fresh r rows) (is_point_map rows) map_is in
+    let parts = and_parts (is_fresh r.address rows) (is_single rows) map_is in
     elim (cases_Bool (same_key r.key key)) [
       | inl here ↦
           (let at : pair k r ≡ pair n row = rw here at found in
@@ -140,7 +142,7 @@ picture_of-get k n key (r ∷ rows) row log found =
 
 -- ---- reports
 
-one_report : (offset : ℤ) (rows : List Row) (log : List Observation) (r : Report) (found : Option (ℕ × Row)) → is_point_map rows ≡ true → row_from 0 r.key rows ≡ found
+one_report : (offset : ℤ) (rows : List Row) (log : List Observation) (r : Report) (found : Option (ℕ × Row)) → is_single rows ≡ true → row_from 0 r.key rows ≡ found
     → picture_by_row offset (picture_of rows log) r found ≡ picture_of rows (log ++ news_by_row offset (picture_of rows log) r found)
 one_report offset rows log r None map_is e = ap (picture_of rows) (sym (append-nil log))
 one_report offset rows log r (Some p) map_is e =
@@ -160,18 +162,18 @@ one_report offset rows log r (Some p) map_is e =
           ∙ (ap (picture_of rows) (sym (append-nil log)) ∙ ap (λ (xs : List Observation). picture_of rows (log ++ xs)) (sym observation)))
     ]
 
-pub report_in_log : (offset : ℤ) (rows : List Row) (log : List Observation) (r : Report) → is_point_map rows ≡ true
+pub report_in_log : (offset : ℤ) (rows : List Row) (controls : List Control) (log : List Observation) (r : Report) → HasSingleAddresses rows controls
     → picture_after_report offset rows (picture_of rows log) r ≡ picture_of rows (log ++ news_of_report offset rows (picture_of rows log) r)
-report_in_log offset rows log r map_is = one_report offset rows log r (row_from 0 r.key rows) map_is refl
+report_in_log offset rows controls log r single = one_report offset rows log r (row_from 0 r.key rows) (is_single-true rows controls single) refl
 
 -- of reports taken in turn
-pub reports_in_log : (offset : ℤ) (rows : List Row) (log : List Observation) (rs : List Report) → is_point_map rows ≡ true
+pub reports_in_log : (offset : ℤ) (rows : List Row) (controls : List Control) (log : List Observation) (rs : List Report) → HasSingleAddresses rows controls
     → picture_after offset rows (picture_of rows log) rs ≡ picture_of rows (log ++ news_of offset rows (picture_of rows log) rs)
-reports_in_log offset rows log [] map_is = ap (picture_of rows) (sym (append-nil log))
-reports_in_log offset rows log (r ∷ rs) map_is =
+reports_in_log offset rows controls log [] single = ap (picture_of rows) (sym (append-nil log))
+reports_in_log offset rows controls log (r ∷ rs) single =
     let xs : List Observation = news_of_report offset rows (picture_of rows log) r in
-    let one : picture_after_report offset rows (picture_of rows log) r ≡ picture_of rows (log ++ xs) = report_in_log offset rows log r map_is in
-    let others : picture_after offset rows (picture_of rows (log ++ xs)) rs ≡ picture_of rows ((log ++ xs) ++ news_of offset rows (picture_of rows (log ++ xs)) rs) = reports_in_log offset rows (log ++ xs) rs map_is in
+    let one : picture_after_report offset rows (picture_of rows log) r ≡ picture_of rows (log ++ xs) = report_in_log offset rows controls log r single in
+    let others : picture_after offset rows (picture_of rows (log ++ xs)) rs ≡ picture_of rows ((log ++ xs) ++ news_of offset rows (picture_of rows (log ++ xs)) rs) = reports_in_log offset rows controls (log ++ xs) rs single in
     ap (λ (p : List Observation). picture_after offset rows p rs) one
     ∙ (others
     ∙ (ap (picture_of rows) (append_assoc log xs (news_of offset rows (picture_of rows (log ++ xs)) rs))

@@ -6,10 +6,10 @@ use Rattle.std.proofs.lemmas.Bool.{cases_Bool}
 use Rattle.gw_model.specs.declared.point.PointKey.{PointKey}
 use Rattle.gw_model.specs.declared.point.Report.{Report}
 use Rattle.gw_model.specs.declared.point.Stamp.TheVariants.{Untimed}
-use Rattle.gw_model.specs.declared.row.Row.{Row}
+use Rattle.gw_entries.specs.declared.row.Row.{Row}
 use Rattle.gw_model.specs.declared.observation.Observation.{Observation}
 use Rattle.gw_model.specs.Keys.{same_key}
-use Rattle.gw_model.specs.Rows.{row_from}
+use Rattle.gw_map.specs.Settings.{row_from}
 use Rattle.gw_translate.specs.Image.{image_of}
 use Rattle.gw_translate.specs.Image.{is_news_of}
 use Rattle.gw_model.specs.Places.{change}

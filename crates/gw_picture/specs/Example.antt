@@ -7,13 +7,13 @@ use Rattle.gw_model.specs.declared.point.PointKey.{PointKey}
 use Rattle.gw_model.specs.declared.point.Raw.TheVariants.{Number}
 use Rattle.gw_model.specs.declared.point.Stamp.TheVariants.{Untimed}
 use Rattle.gw_model.specs.declared.point.Report.{Report}
-use Rattle.gw_model.specs.declared.row.Row.{Row}
-use Rattle.gw_model.specs.declared.row.Show.TheVariants as shows
+use Rattle.gw_entries.specs.declared.row.Row.{Row}
+use Rattle.gw_entries.specs.declared.row.Show.TheVariants as shows
 use Rattle.gw_model.specs.declared.observation.Value.{Value}
 use Rattle.gw_model.specs.declared.observation.Value.TheVariants.{Total}
 use Rattle.gw_model.specs.declared.observation.Quality.{Quality}
 use Rattle.gw_model.specs.declared.observation.Observation.{Observation}
-use Rattle.gw_translate.specs.Example.{binary_row, invalid}
+use Rattle.gw_translate.specs.Example.{row, binary_row, invalid}
 
 abbrev pub analog_0 : PointKey
 analog_0 = record { outstation = 0; kind = kinds.Analog; index = 0 }
@@ -25,8 +25,8 @@ counter_0 = record { outstation = 0; kind = kinds.Counter; index = 0 }
 abbrev pub rows : List Row
 rows =
     binary_row
-    ∷ record { key = analog_0; address = 4201; show = shows.Scaled; from = lit≤ tt; to = lit≤ tt; shown = refl }
-    ∷ record { key = counter_0; address = 4301; show = shows.Total; from = lit≤ tt; to = lit≤ tt; shown = refl }
+    ∷ record (row kinds.Analog shows.Scaled refl refl) { key = analog_0; address = 4201; from = lit≤ tt; to = lit≤ tt; shown = refl }
+    ∷ record (row kinds.Counter shows.Total refl refl) { key = counter_0; address = 4301; from = lit≤ tt; to = lit≤ tt; shown = refl }
     ∷ []
 
 -- a static value of analog input 0

@@ -1,7 +1,7 @@
 -- The picture of a log of observations, apart from any picture that is kept: of each row what the log shows last,
 -- without its time.
 use Rattle.std.specs.Prelude.{ℕ, List, [], ◌∷◌, map, ◌==◌, if◌then◌else◌}
-use Rattle.gw_model.specs.declared.row.Row.{Row}
+use Rattle.gw_entries.specs.declared.row.Row.{Row}
 use Rattle.gw_model.specs.declared.observation.Observation.{Observation}
 use Rattle.gw_picture.specs.Opening.{opening}
 use Rattle.gw_picture.specs.Picture.{without_time}

@@ -2,9 +2,9 @@
 -- NT (IEC 60870-5-101, 7.2.6.9), so a total is invalid alone.
 use Rattle.std.specs.Prelude.{pos, true, false}
 use Rattle.gw_model.specs.declared.point.Stamp.TheVariants.{Untimed}
-use Rattle.gw_model.specs.declared.row.Row.{Row}
-use Rattle.gw_model.specs.declared.row.Show.{Show}
-use Rattle.gw_model.specs.declared.row.Show.TheVariants as shows
+use Rattle.gw_entries.specs.declared.row.Row.{Row}
+use Rattle.gw_entries.specs.declared.row.Show.{Show}
+use Rattle.gw_entries.specs.declared.row.Show.TheVariants as shows
 use Rattle.gw_model.specs.declared.observation.Value.{Value}
 use Rattle.gw_model.specs.declared.observation.Value.TheVariants.{Single, Double, Scaled, Word, Total}
 use Rattle.gw_model.specs.declared.observation.Quality.{Quality}

@@ -1,10 +1,11 @@
 //! How many of a list of reports would be news.
 ghost use Rattle.std.specs.Prelude.{◌≡◌, length, slice_get};
-ghost use Rattle.gw_model.specs.Rows.{row_from};
+ghost use Rattle.gw_map.specs.Settings.{row_from};
 ghost use Rattle.gw_picture.specs.Picture.{news_of, news_of_report, observation_after_report, picture_after};
 
 use crate::taking::without_time;
-use gw_model::{Observation, Report, Settings};
+use gw_map::Settings;
+use gw_model::{Observation, Report};
 use gw_time::Zone;
 use gw_translate::{image, is_news};
 

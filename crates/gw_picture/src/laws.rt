@@ -1,9 +1,10 @@
 //! What holds of every picture.
-ghost use Rattle.std.specs.Prelude.{◌≡◌, ◌≤◌, ◌++◌, ℤ, List, [], ◌∷◌, length, map, true};
+ghost use Rattle.std.specs.Prelude.{◌≡◌, ◌≤◌, ◌++◌, ℤ, List, [], ◌∷◌, length, map};
 ghost use Rattle.gw_model.specs.declared.observation.Observation.{Observation};
 ghost use Rattle.gw_model.specs.declared.point.Report.{Report};
-ghost use Rattle.gw_model.specs.declared.row.Row.{Row};
-ghost use Rattle.gw_model.specs.Rows.{is_point_map};
+ghost use Rattle.gw_entries.specs.declared.row.Row.{Row};
+ghost use Rattle.gw_entries.specs.declared.control.Control.{Control};
+ghost use Rattle.gw_map.specs.Settings.{HasSingleAddresses};
 ghost use Rattle.gw_picture.specs.Log.{picture_of};
 ghost use Rattle.gw_picture.specs.Picture.{news_of, news_of_report, picture_after, picture_after_report};
 ghost use Rattle.gw_picture.specs.Opening.{opening};
@@ -34,7 +35,7 @@ pub fn report_changes_its_row_alone()
 
 /// The picture that is kept is that of the log of all news, whatever the log began with.
 pub fn picture_of_the_log()
-    ensures { (offset : ℤ) (rows : List Row) (log : List Observation) (rs : List Report) → is_point_map rows ≡ true
-        → picture_after offset rows (picture_of rows log) rs
+    ensures { (offset : ℤ) (rows : List Row) (controls : List Control) (log : List Observation) (rs : List Report)
+        → HasSingleAddresses rows controls → picture_after offset rows (picture_of rows log) rs
         ≡ picture_of rows (log ++ news_of offset rows (picture_of rows log) rs) }
 {}

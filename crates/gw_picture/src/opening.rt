@@ -2,7 +2,8 @@
 ghost use Rattle.std.specs.Prelude.{◌≡◌, map, IfOk};
 ghost use Rattle.gw_picture.specs.Opening.{opening};
 
-use gw_model::{Memory, Observation, Quality, Row, Show, Stamp, Value};
+use gw_map::{Row, Show};
+use gw_model::{Memory, Observation, Quality, Stamp, Value};
 use std::alloc::Global;
 
 /// What is shown of a row before anything was reported.

@@ -1,15 +1,15 @@
 //! What was shown of each row last.
-ghost use Rattle.std.specs.Prelude.{◌≡◌, length, map, IfOk, IfSome, IsTrue};
+ghost use Rattle.std.specs.Prelude.{◌≡◌, length, map, IfOk, IfSome};
 ghost use Rattle.std.specs.Option.{option_to_list};
 ghost use Rattle.gw_model.specs.Fit.{IsFit};
-ghost use Rattle.gw_model.specs.Rows.{is_point_map, IsStationAddress};
 ghost use Rattle.gw_picture.specs.Picture.{news_of, news_of_report, picture_after_report};
 ghost use Rattle.gw_picture.specs.Opening.{opening};
 
 use crate::counting::count_news;
 use crate::opening::opening_of;
 use crate::taking::take_report;
-use gw_model::{Memory, Observation, Report, Settings};
+use gw_map::Settings;
+use gw_model::{Memory, Observation, Report};
 use gw_time::Zone;
 use std::alloc::Global;
 use std::marker::Model;
@@ -33,7 +33,6 @@ impl Picture {
     /// The picture before anything was reported.
     pub fn new(alloc: Global, settings: &Settings) -> Result<Picture, Memory>
         ensures shown { IfOk result (λ picture. picture ≡ map opening settings.now.rows) }
-        ensures settings { IsTrue (is_point_map settings.now.rows) × IsStationAddress settings.now.common_address }
     {
         let shown = opening_of(alloc, settings.rows())?;
         Ok(Picture { shown })

@@ -5,7 +5,8 @@ ghost use Rattle.gw_model.specs.Fit.{IsFit};
 ghost use Rattle.gw_model.specs.Places.{change};
 ghost use Rattle.gw_picture.specs.Picture.{news_after, news_of_report, picture_after_report, without_time};
 
-use gw_model::{Observation, Report, Settings, Stamp};
+use gw_map::Settings;
+use gw_model::{Observation, Report, Stamp};
 use gw_time::Zone;
 use gw_translate::{image, is_news};
 

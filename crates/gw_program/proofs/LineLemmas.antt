@@ -12,6 +12,9 @@ use Rattle.clap.specs.Values.{kind_of}
 use Rattle.clap.specs.declared.error.Error.{Error}
 use Rattle.clap.specs.declared.error.ErrorKind.{ErrorKind}
 use Rattle.clap.specs.declared.error.ErrorKind.TheVariants.{DisplayHelp, InvalidSubcommand, MissingSubcommand, OutOfMemory}
+use Rattle.clap.specs.Words.{first_of, first_value, rows_of}
+use Rattle.clap.specs.declared.parser.matches.Found.{Found}
+use Rattle.clap.proofs.WalkLemmas.{first_value-rows}
 use Rattle.gw_program.specs.CommandLine.{IsRefusal, as_fault, asked_of, fault_as, gateway, spelled}
 
 -- ---- a line that is not refused does not stop at `help`, for which help is the answer
@@ -111,19 +114,21 @@ walk_avoids s names w (word ∷ rest) enabled avoids none =
 
 -- ---- a line that is not refused asks for something
 
--- the subcommands are `translate`, `replay` and `help`
+-- the subcommands are `check`, `translate`, `replay` and `help`
 stop_asks : (stop : Option (Text × List Text)) → is_help stop ≡ false → is_some (entered (built gateway) stop) ≡ true → is_some (asked_of (entered (built gateway) stop)) ≡ true
 stop_asks None avoids has = has
-stop_asks (Some stop) avoids has = go (bytes_eq (codes "translate") stop.0) (bytes_eq (codes "replay") stop.0) (bytes_eq (codes "help") stop.0) refl refl refl
+stop_asks (Some stop) avoids has =
+    go (bytes_eq (codes "check") stop.0) (bytes_eq (codes "translate") stop.0) (bytes_eq (codes "replay") stop.0) (bytes_eq (codes "help") stop.0) refl refl refl refl
   where
-    go : (b d h : Bool) → bytes_eq (codes "translate") stop.0 ≡ b → bytes_eq (codes "replay") stop.0 ≡ d → bytes_eq (codes "help") stop.0 ≡ h
+    go : (k b d h : Bool) → bytes_eq (codes "check") stop.0 ≡ k → bytes_eq (codes "translate") stop.0 ≡ b → bytes_eq (codes "replay") stop.0 ≡ d → bytes_eq (codes "help") stop.0 ≡ h
         → is_some (asked_of (entered (built gateway) (Some stop))) ≡ true
-    go true d h is_translate is_replay is_other = rw is_translate refl
-    go false true h is_translate is_replay is_other = rw (is_translate, is_replay) refl
-    go false false true is_translate is_replay is_other =
+    go true b d h is_check is_translate is_replay is_other = rw is_check refl
+    go false true d h is_check is_translate is_replay is_other = rw (is_check, is_translate) refl
+    go false false true h is_check is_translate is_replay is_other = rw (is_check, is_translate, is_replay) refl
+    go false false false true is_check is_translate is_replay is_other =
         let same : codes "help" ≡ stop.0 = (bytes_eq-Decides _ _).0 is_other in
         absurd (true≢false (rw (← same) at avoids))
-    go false false false is_translate is_replay is_other = absurd (true≢false (sym (rw (is_translate, is_replay, is_other) at has)))
+    go false false false false is_check is_translate is_replay is_other = absurd (true≢false (sym (rw (is_check, is_translate, is_replay, is_other) at has)))
 
 -- the last check wants a subcommand
 has_named : (rows : List Row) (has : Bool) → check_fault (built gateway).top rows has ≡ [] → has ≡ true
@@ -168,3 +173,8 @@ refusal_of e kinds has = go (kind_of e) refl has
     go OutOfMemory is h = tt
     go k is (inl memory) = cc
     go k is (inr among) = subst (λ x. IsAmong x kinds) (sym is) among
+
+-- ---- what was found for an argument
+
+pub value_in_rows : (f : Found) (id : Text) → first_value f id ≡ first_of id (rows_of f)
+value_in_rows = first_value-rows

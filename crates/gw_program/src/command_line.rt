@@ -3,27 +3,29 @@
 //! `clap` reads the words. Its rules for them stand in `specs/CommandLine.antt`: the program and
 //! its subcommands as values, and what each subcommand asks for.
 
-ghost use Rattle.std.specs.Prelude.{◌≡◌, [], IfErr, IfOk, Some, false};
-ghost use Rattle.clap.specs.Words.{app_of, fault_of, subcommand_rows_of};
+ghost use Rattle.std.specs.Prelude.{◌≡◌, [], IfErr, IfOk, Some, codes, false, option_map, unwrap_or};
+ghost use Rattle.clap.specs.Words.{app_of, fault_of, first_of, found_of, rows_of, rule_of, subcommand_rows_of};
 ghost use Rattle.clap.specs.Walk.{texts};
 ghost use Rattle.clap.specs.declared.builder.command.Command.TheViews.{out-Command as fields_of};
-ghost use Rattle.gw_program.specs.CommandLine.{IsRefusal, as_fault, asked_of, gateway, replay, spelled, translate};
+ghost use Rattle.gw_program.specs.CommandLine.{IsRefusal, alone, as_fault, asked_of, check, file_rule, gateway, replay, request_of, settings_rule, spelled, translate};
 ghost use Rattle.gw_program.specs.declared.command_line.LineFault.TheVariants.{Memory};
 
 use clap::error::ErrorKind;
-use clap::{ArgMatches, Command, Error};
+use clap::{Arg, ArgAction, ArgMatches, Command, Error};
 use std::alloc::{AllocError, Global};
 
 pub mod examples;
 
 /// What a command line asks for.
-#[derive(Clone, Copy, Debug, PartialEq, Eq)]
-pub enum Asked {
-    /// `gateway translate`: reads DNP3 fragments in hexadecimal, one a line, and writes what they
-    /// bring as ASDUs.
-    Translate,
-    /// `gateway replay`: makes the steps that lines ask for, and writes the replies.
-    Replay,
+#[derive(Clone, Copy, Debug)]
+pub enum Asked<'a> {
+    /// `gateway check FILE`: tells what a settings file means, or what is wrong with it.
+    Check { file: &'a str },
+    /// `gateway translate [--settings FILE]`: reads DNP3 fragments in hexadecimal, one a line, and
+    /// writes what they bring as ASDUs.
+    Translate { settings: Option<&'a str> },
+    /// `gateway replay FILE`: makes the steps that lines ask for, and writes the replies.
+    Replay { file: &'a str },
 }
 
 /// Why a command line asks for nothing.
@@ -61,8 +63,8 @@ impl From<Error> for LineFault {
 ///
 /// `Clap` where `clap` refuses the words or answers them with help, and `Memory` where memory runs
 /// out.
-pub fn command_line(alloc: Global, words: &[&str]) -> Result<Asked, LineFault>
-    ensures spelled { IfOk result (λ asked. spelled (texts words.now) ≡ Some asked) }
+pub fn command_line<'a>(alloc: Global, words: &'a [&'a str]) -> Result<Asked<'a>, LineFault>
+    ensures spelled { IfOk result (λ asked. spelled (texts words.now) ≡ Some (request_of asked)) }
     ensures taken { IfOk result (λ _. fault_of gateway (texts words.now) ≡ []) }
     ensures refused { IfErr result (IsRefusal (fault_of gateway (texts words.now))) }
 {
@@ -70,42 +72,113 @@ pub fn command_line(alloc: Global, words: &[&str]) -> Result<Asked, LineFault>
     Ok(asked_by(&matches).unwrap())
 }
 
-/// The program, of which a subcommand has to be named.
-fn gateway_command<'a>(alloc: Global) -> Result<Command<'a>, AllocError>
-    ensures { IfOk result (λ command. app_of command ≡ gateway) }
+/// The program without its subcommands, of which one has to be named.
+fn gateway_alone<'a>(alloc: Global) -> Command<'a>
+    ensures { app_of result ≡ alone }
 {
     Command::new(alloc, "gateway")
         .about("Carries points of DNP3 outstations to IEC 60870-5-104 clients")
         .subcommand_required(true)
-        .subcommand(translate_command(alloc))?
-        .subcommand(replay_command(alloc))
+}
+
+/// The program.
+fn gateway_command<'a>(alloc: Global) -> Result<Command<'a>, AllocError>
+    ensures { IfOk result (λ command. app_of command ≡ gateway) }
+{
+    gateway_alone(alloc)
+        .subcommand(check_command(alloc)?)?
+        .subcommand(translate_command(alloc)?)?
+        .subcommand(replay_command(alloc)?)
+}
+
+/// The settings file that has to be named.
+fn file_argument<'a>(alloc: Global) -> Arg<'a>
+    ensures rule { rule_of result ≡ file_rule }
+    ensures local { result.global ≡ false }
+{
+    Arg::new(alloc, "file")
+        .help("The settings file")
+        .value_name("FILE")
+        .required(true)
+        .action(ArgAction::Set)
+}
+
+/// The settings file that may be named.
+fn settings_argument<'a>(alloc: Global) -> Arg<'a>
+    ensures rule { rule_of result ≡ settings_rule }
+    ensures local { result.global ≡ false }
+{
+    Arg::new(alloc, "settings")
+        .help("The settings file")
+        .long("settings")
+        .value_name("FILE")
+        .action(ArgAction::Set)
+}
+
+/// `gateway check`.
+fn check_command<'a>(alloc: Global) -> Result<Command<'a>, AllocError>
+    ensures app { IfOk result (λ command. app_of command ≡ check) }
+    ensures local { IfOk result (λ command. (fields_of command).has_globals ≡ false) }
+{
+    Command::new(alloc, "check")
+        .about("Tells what a settings file means, or what is wrong with it")
+        .arg(file_argument(alloc))
 }
 
 /// `gateway translate`.
-fn translate_command<'a>(alloc: Global) -> Command<'a>
-    ensures app { app_of result ≡ translate }
-    ensures local { (fields_of result).has_globals ≡ false }
+fn translate_command<'a>(alloc: Global) -> Result<Command<'a>, AllocError>
+    ensures app { IfOk result (λ command. app_of command ≡ translate) }
+    ensures local { IfOk result (λ command. (fields_of command).has_globals ≡ false) }
 {
-    Command::new(alloc, "translate").about(
-        "Reads DNP3 fragments in hexadecimal, and writes what they bring as ASDUs",
-    )
+    Command::new(alloc, "translate")
+        .about("Reads DNP3 fragments in hexadecimal, and writes what they bring as ASDUs")
+        .arg(settings_argument(alloc))
 }
 
 /// `gateway replay`.
-fn replay_command<'a>(alloc: Global) -> Command<'a>
-    ensures app { app_of result ≡ replay }
-    ensures local { (fields_of result).has_globals ≡ false }
+fn replay_command<'a>(alloc: Global) -> Result<Command<'a>, AllocError>
+    ensures app { IfOk result (λ command. app_of command ≡ replay) }
+    ensures local { IfOk result (λ command. (fields_of command).has_globals ≡ false) }
 {
-    Command::new(alloc, "replay").about("Makes steps of the core, and writes its replies")
+    Command::new(alloc, "replay")
+        .about("Makes steps of the core, and writes its replies")
+        .arg(file_argument(alloc))
+}
+
+/// The file that was named; `clap` sees to it that there is one.
+#[tactic(auto, using(crate::proofs::LineLemmas::value_in_rows))]
+fn file_named<'a>(matches: &ArgMatches<'a>) -> &'a str
+    ensures { result.now ≡ unwrap_or (first_of (codes "file") (rows_of (found_of matches.now))) [] }
+{
+    match matches.get_str("file") {
+        Some(file) => file,
+        None => "",
+    }
+}
+
+/// The settings file that was named, if any.
+#[tactic(auto, using(crate::proofs::LineLemmas::value_in_rows))]
+fn settings_named<'a>(matches: &ArgMatches<'a>) -> Option<&'a str>
+    ensures { option_map (λ file. file.now) result ≡ first_of (codes "settings") (rows_of (found_of matches.now)) }
+{
+    matches.get_str("settings")
 }
 
 /// What the matches ask for, if they met a subcommand.
-fn asked_by(matches: &ArgMatches<'_>) -> Option<Asked>
-    ensures { result ≡ asked_of (subcommand_rows_of matches.now) }
+fn asked_by<'a>(matches: &ArgMatches<'a>) -> Option<Asked<'a>>
+    ensures { option_map request_of result ≡ asked_of (subcommand_rows_of matches.now) }
 {
-    match matches.subcommand()? {
-        ("translate", _) => Some(Asked::Translate),
-        ("replay", _) => Some(Asked::Replay),
+    let (name, found) = matches.subcommand()?;
+    match name {
+        "check" => Some(Asked::Check {
+            file: file_named(found),
+        }),
+        "translate" => Some(Asked::Translate {
+            settings: settings_named(found),
+        }),
+        "replay" => Some(Asked::Replay {
+            file: file_named(found),
+        }),
         _ => None,
     }
 }

@@ -4,12 +4,16 @@
 mod command_line;
 
 use command_line::{Asked, LineFault, command_line as read_words};
-use gw_model::Settings;
+use gw_checker::{Unusable, check_settings, explain, read_file, read_settings};
+use gw_map::{DEFAULT_SETTINGS, Settings};
 use gw_replay::replay;
 use gw_translator::translate;
 use std::env;
-use std::io::{self, BufReader, BufWriter};
+use std::io::{self, BufReader, BufWriter, Write};
 use std::process::ExitCode;
+
+/// The status of a program that was refused something.
+const REFUSED: u8 = 1;
 
 /// The status of a command line that asks for nothing.
 const USAGE: u8 = 2;
@@ -20,24 +24,65 @@ fn main(rt: HostRuntime) -> io::Result<ExitCode> {
     for argument in &arguments {
         words.push(argument.as_str())?;
     }
-    match read_words(rt.alloc(), words.as_slice()) {
-        Ok(asked) => {
-            let reader = BufReader::new(rt.alloc(), rt.reader())?;
-            let writer = BufWriter::new(rt.alloc(), io::writer(&rt))?;
-            let settings = Settings::built_in();
-            let status = match asked {
-                Asked::Translate => translate(rt.alloc(), settings, reader, writer),
-                Asked::Replay => replay(rt.alloc(), settings, reader, writer),
-            };
-            Ok(ExitCode::from(status))
-        }
+    let status = match read_words(rt.alloc(), words.as_slice()) {
+        Ok(Asked::Check { file }) => check(&rt, file)?,
+        Ok(Asked::Translate { settings }) => match settings_given(&rt, settings) {
+            Ok(settings) => {
+                let reader = BufReader::new(rt.alloc(), rt.reader())?;
+                let writer = BufWriter::new(rt.alloc(), io::writer(&rt))?;
+                translate(rt.alloc(), settings, reader, writer)
+            }
+            Err(why) => refuse(&rt, &why)?,
+        },
+        Ok(Asked::Replay { file }) => match settings_given(&rt, Some(file)) {
+            Ok(settings) => {
+                let reader = BufReader::new(rt.alloc(), rt.reader())?;
+                let writer = BufWriter::new(rt.alloc(), io::writer(&rt))?;
+                replay(rt.alloc(), settings, reader, writer)
+            }
+            Err(why) => refuse(&rt, &why)?,
+        },
         Err(LineFault::Clap(error)) => {
             eprint!(rt; "{error}")?;
-            Ok(ExitCode::from(USAGE))
+            USAGE
         }
         Err(LineFault::Memory) => {
             println!(rt; "refused memory")?;
-            Ok(ExitCode::from(1))
+            REFUSED
         }
+    };
+    Ok(ExitCode::from(status))
+}
+
+/// The settings of a file, or those that are used where none is named.
+fn settings_given(rt: &HostRuntime, file: Option<&str>) -> Result<Settings, Unusable> {
+    match file {
+        Some(path) => {
+            let octets = read_file(rt.alloc(), rt, path)?;
+            read_settings(rt.alloc(), octets.as_slice())
+        }
+        None => read_settings(rt.alloc(), DEFAULT_SETTINGS.as_bytes()),
     }
+}
+
+/// Writes why a settings file can't be used; gives the status.
+fn refuse(rt: &HostRuntime, why: &Unusable) -> io::Result<u8> {
+    println!(rt; "refused {why}")?;
+    Ok(REFUSED)
+}
+
+/// `gateway check`: what a settings file means, or what is wrong with it; gives the status.
+fn check(rt: &HostRuntime, path: &str) -> io::Result<u8> {
+    let octets = match read_file(rt.alloc(), rt, path) {
+        Ok(octets) => octets,
+        Err(why) => return refuse(rt, &why),
+    };
+    let writer = BufWriter::new(rt.alloc(), io::writer(rt))?;
+    let status = check_settings(rt.alloc(), octets.as_slice(), writer);
+    if status != 0 {
+        let mut sentence = Vec::new(rt.alloc());
+        explain(rt.alloc(), octets.as_slice(), &mut sentence)?;
+        rt.stderr().write_all(sentence.as_slice())?;
+    }
+    Ok(status)
 }

@@ -1,7 +1,7 @@
 use crate::read_copy;
 use dnp_app::AppFault;
 use gw_hub::{Apdu, Hub, Reply, Signal, Step, StepFault, Verdict};
-use gw_model::Settings;
+use gw_map::{DEFAULT_SETTINGS, Settings};
 use std::test::Fail;
 
 /// An unsolicited response that asks for a confirmation: input 5 is on.
@@ -12,13 +12,22 @@ const ACCEPTED: Result<Reply, StepFault> = Ok(Reply::Verdict(Verdict::Accepted {
     confirm: Some([0xD0, 0]),
 }));
 
+/// The settings, at the second try where memory was refused.
+fn settings(rt: &HostRuntime) -> Result<Settings, Fail> {
+    if let Ok(settings) = Settings::read(rt.alloc(), DEFAULT_SETTINGS) {
+        return Ok(settings);
+    }
+    println!(rt; "refused settings")?;
+    Ok(Settings::read(rt.alloc(), DEFAULT_SETTINGS)?)
+}
+
 /// A hub, at the second try where memory was refused.
 fn new_hub(rt: &HostRuntime) -> Result<Hub, Fail> {
-    if let Ok(hub) = Hub::new(rt.alloc(), Settings::built_in()) {
+    if let Ok(hub) = Hub::new(rt.alloc(), settings(rt)?) {
         return Ok(hub);
     }
     println!(rt; "refused")?;
-    Ok(Hub::new(rt.alloc(), Settings::built_in())?)
+    Ok(Hub::new(rt.alloc(), settings(rt)?)?)
 }
 
 /// The event, at the second try where memory was refused.

@@ -1,7 +1,7 @@
 -- The lines of a replay, one after the other.
 use Rattle.std.proofs.Common.{◌≡◌, ℕ, ◌+◌, Bool, true, false, not, List, [], ◌∷◌, Option, Some, None, Result, Ok, Err, IfOk, IfSome, refl, sym, ap, ◌∙◌}
 use Rattle.std.proofs.lemmas.Bool.{false≢true, true≢false}
-use Rattle.gw_model.specs.Rows.{Setup}
+use Rattle.gw_map.specs.Settings.{Setup}
 use Rattle.gw_input.specs.declared.reading.Stop.{Stop}
 use Rattle.gw_input.specs.Lines.{AreAnswered, Further, IsAnswered, lines_of}
 use Rattle.gw_replay.specs.declared.instruction.Instruction.{Instruction}

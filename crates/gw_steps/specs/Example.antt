@@ -3,7 +3,8 @@
 use Rattle.std.specs.Prelude.{ℕ, zero, suc, ◌-◌, ◌^◌, pos, true, List, [], ◌∷◌, ◌++◌}
 use Rattle.gw_model.specs.declared.point.Report.{Report}
 use Rattle.gw_model.specs.declared.point.Stamp.TheVariants.{At}
-use Rattle.gw_model.specs.Rows.{Setup}
+use Rattle.gw_entries.specs.Example.{station, outstation}
+use Rattle.gw_map.specs.Settings.{Setup}
 use Rattle.gw_translate.specs.Example.{timed_event}
 use Rattle.gw_picture.specs.Example.{rows, analog_value}
 use Rattle.dnp_points.specs.Objects.{binary_report}
@@ -16,11 +17,11 @@ use Rattle.gw_steps.specs.State.{State, at_first}
 use Rattle.gw_steps.specs.Steps.{after}
 
 abbrev pub setup : Setup
-setup = record { common_address = 1; offset = pos 0; outstations = 1; clients = 1; rows = rows }
+setup = record { station = station; outstations = outstation ∷ []; rows = rows; controls = [] }
 
 -- clocks are an hour ahead of UTC
 abbrev pub ahead : Setup
-ahead = record setup { offset = pos 60 }
+ahead = record setup { station = record station { offset_minutes = pos 60 } }
 
 abbrev pub response : List ℕ → List Report → Fragment
 response octets reports = record { outstation = 0; octets = octets; reports = reports }

@@ -1,7 +1,7 @@
 -- What every state keeps: each observation that is queued can be sent.
 use Rattle.std.specs.Prelude.{ℤ, List}
 use Rattle.std.specs.List.{AllByRecursion}
-use Rattle.gw_model.specs.Rows.{Setup}
+use Rattle.gw_map.specs.Settings.{Setup}
 use Rattle.gw_station.specs.Sound.{IsSoundClient}
 use Rattle.gw_steps.specs.State.{State}
 use Rattle.gw_steps.specs.Runs.{Entry, state_after}
@@ -11,4 +11,4 @@ IsSound offset s = AllByRecursion (IsSoundClient offset) s.clients
 
 -- the state after a history is sound
 abbrev pub LeavesSound : Setup → List Entry → Type 0
-LeavesSound setup past = IsSound setup.offset (state_after setup past)
+LeavesSound setup past = IsSound setup.station.offset_minutes (state_after setup past)

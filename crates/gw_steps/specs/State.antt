@@ -1,7 +1,7 @@
 -- The state of the core, as its contracts see it: a value for each part.
-use Rattle.std.specs.Prelude.{ℕ, List, map, replicate}
+use Rattle.std.specs.Prelude.{ℕ, List, length, map, replicate}
 use Rattle.gw_model.specs.declared.observation.Observation.{Observation}
-use Rattle.gw_model.specs.Rows.{Setup}
+use Rattle.gw_map.specs.Settings.{Setup}
 use Rattle.gw_picture.specs.Opening.{opening}
 use Rattle.dnp_master.specs.Master.{Master, master_down}
 use Rattle.gw_station.specs.Client.{Client, client_down}
@@ -20,12 +20,16 @@ pub record State : Type 0 where
   -- the largest moment that a step without a fault brought
   pub moment : ℕ
 
+-- how many clients there can be
+abbrev pub client_limit : ℕ
+client_limit = 1
+
 -- all outstations and clients are down
 abbrev pub at_first : Setup → State
 at_first setup = record {
-  outstations = replicate setup.outstations master_down;
+  outstations = replicate (length setup.outstations) master_down;
   picture = map opening setup.rows;
-  clients = replicate setup.clients client_down;
+  clients = replicate client_limit client_down;
   counts = record { steps = 0; news = 0 };
   moment = 0;
 }

@@ -1,7 +1,7 @@
 -- The step relation: what a step answers where memory is never refused, and the state after it, by cases on the step.
 use Rattle.std.specs.Prelude.{◌≡◌, ℕ, ◌+◌, ◌^◌, Bool, true, false, ◌&&◌, nat_lt, List, [], length, map, slice_get, Option, Some, None, option_map, Result, Ok, Err, IsTrue, if◌then◌else◌}
 use Rattle.gw_model.specs.declared.observation.Observation.{Observation}
-use Rattle.gw_model.specs.Rows.{Setup}
+use Rattle.gw_map.specs.Settings.{Setup}
 use Rattle.gw_model.specs.Places.{change}
 use Rattle.dnp_app.specs.Response.{Fragment}
 use Rattle.dnp_master.specs.Master.{Master, accepts, verdict_of, master_after_up, master_after_accepted}
@@ -62,7 +62,7 @@ is_accepting s f = accepted_by f (slice_get s.outstations f.outstation)
 -- the news that a fragment brings
 abbrev pub news_of_fragment : Setup → State → Fragment → List Observation
 news_of_fragment setup s f =
-    if is_accepting s f then news_of setup.offset setup.rows s.picture f.reports else []
+    if is_accepting s f then news_of setup.station.offset_minutes setup.rows s.picture f.reports else []
 
 -- memory may be wanted, and by how much the counts rise
 pub record Needs : Type 0 where
@@ -112,7 +112,7 @@ reply_to setup s (steps.ClientUp c moment) = replies.Done
 reply_to setup s (steps.Frame c apdu moment) =
     client_reply (λ k. reply_of_event (event_of apdu k)) (slice_get s.clients c)
 reply_to setup s (steps.Pump c moment) =
-    client_reply (λ k. reply_giving (given setup.offset setup.common_address k)) (slice_get s.clients c)
+    client_reply (λ k. reply_giving (given setup.station.offset_minutes setup.station.common_address k)) (slice_get s.clients c)
 
 -- a fault, or the reply where the counts can rise
 abbrev pub answer : Option StepFault → Bool → Reply → Result Reply StepFault
@@ -139,8 +139,8 @@ latest s moment = if nat_lt s.moment moment then moment else s.moment
 abbrev pub parts_after_fragment : Setup → State → ℕ → Fragment → State
 parts_after_fragment setup s moment f = record s {
   outstations = change f.outstation (master_after_accepted moment f.octets) s.outstations;
-  picture = picture_after setup.offset setup.rows s.picture f.reports;
-  clients = map (client_with_news (news_of setup.offset setup.rows s.picture f.reports)) s.clients;
+  picture = picture_after setup.station.offset_minutes setup.rows s.picture f.reports;
+  clients = map (client_with_news (news_of setup.station.offset_minutes setup.rows s.picture f.reports)) s.clients;
 }
 
 -- what a step changes at a moment, but for the counts

@@ -3,7 +3,8 @@ ghost use Rattle.std.specs.Prelude.{◌<◌, ◌≤◌, length};
 
 use dnp_app::read_response;
 use gw_hub::{Apdu, ApduBuf, Hub, Reply, Signal, Step, StepFault, Verdict};
-use gw_model::{Observation, Quality, Settings, Stamp, Value};
+use gw_map::{DEFAULT_SETTINGS, Settings};
+use gw_model::{Observation, Quality, Stamp, Value};
 use gw_station::{news_format, start_confirmation};
 use gw_time::Zone;
 use std::process::Abort;
@@ -50,8 +51,7 @@ const PICTURE: &[Observation] = &[
 fn news_of_on(ns: u16) -> ApduBuf
     requires { ns < 32768 }
 {
-    let settings = Settings::built_in();
-    news_format(ns, settings.common_address(), &Zone::of(&settings), &ON)
+    news_format(ns, 1, &Zone::UTC, &ON)
 }
 
 fn check_apdu(rt: &impl Abort, apdu: &ApduBuf, octets: &[u8]) {
@@ -120,7 +120,8 @@ fn check_step(rt: &impl Abort, hub: &mut Hub, step: &Step, reply: Reply) {
 /// Only STARTDT act is acted on so far: any other APDU is taken and changes nothing.
 #[test]
 fn other_apdus_change_nothing(rt: HostRuntime) -> Result<(), Fail> {
-    let mut hub = Hub::new(rt.alloc(), Settings::built_in())?;
+    let settings = Settings::read(rt.alloc(), DEFAULT_SETTINGS)?;
+    let mut hub = Hub::new(rt.alloc(), settings)?;
     check_step(&rt, &mut hub, &client_up(0), Reply::Done);
     for apdu in [Apdu::U(Signal::TestAct), Apdu::S { nr: 7 }] {
         check_step(&rt, &mut hub, &frame(0, apdu), Reply::Taken);
@@ -157,7 +158,8 @@ fn are_replies_to_an_event(replies: &[Result<Reply, StepFault>]) -> bool {
 #[test]
 fn a_run_replies_to_each_step(rt: HostRuntime) -> Result<(), Fail> {
     let steps = steps_of_an_event(&rt)?;
-    let (hub, replies) = Hub::run(rt.alloc(), Settings::built_in(), steps)?;
+    let settings = Settings::read(rt.alloc(), DEFAULT_SETTINGS)?;
+    let (hub, replies) = Hub::run(rt.alloc(), settings, steps)?;
     assert!(rt; are_replies_to_an_event(&replies), "{replies:?}");
     assert_eq!(rt; (hub.queued(0), hub.dropped(0), hub.queued(1)), (0, 0, 0));
     assert_eq!(rt; hub.picture(), PICTURE);
@@ -171,7 +173,8 @@ fn a_long_run(rt: HostRuntime) -> Result<(), Fail> {
     for _ in 0..10_000u16 {
         steps.push(pump(0))?;
     }
-    let (hub, replies) = Hub::run(rt.alloc(), Settings::built_in(), steps)?;
+    let settings = Settings::read(rt.alloc(), DEFAULT_SETTINGS)?;
+    let (hub, replies) = Hub::run(rt.alloc(), settings, steps)?;
     assert_eq!(rt; (hub.queued(0), replies.len()), (0, 10_004));
     assert_eq!(rt; replies.last(), Some(&Ok(Reply::Nothing)));
     Ok(())

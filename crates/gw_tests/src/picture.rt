@@ -1,9 +1,11 @@
 //! gw_picture: what a picture shows, and which reports are news.
 
-use gw_model::{Kind, Memory, Observation, PointKey, Quality, Raw, Report, Settings, Stamp, Value};
+use gw_map::{DEFAULT_SETTINGS, Settings};
+use gw_model::{Kind, Observation, PointKey, Quality, Raw, Report, Stamp, Value};
 use gw_picture::Picture;
 use gw_time::Zone;
 use std::process::Abort;
+use std::test::Fail;
 
 const INPUT_5: PointKey = PointKey {
     outstation: 0,
@@ -122,8 +124,17 @@ const OPENING: &[Observation] = &[
     SHOWN_TOTAL,
 ];
 
-fn opened(rt: &impl AllocGlobal) -> Result<Picture, Memory> {
-    Picture::new(rt.alloc(), &Settings::built_in())
+/// Settings, and the picture of their rows.
+#[derive(Drop)]
+struct Kept {
+    settings: Settings,
+    picture: Picture,
+}
+
+fn opened(rt: &impl AllocGlobal) -> Result<Kept, Fail> {
+    let settings = Settings::read(rt.alloc(), DEFAULT_SETTINGS)?;
+    let picture = Picture::new(rt.alloc(), &settings)?;
+    Ok(Kept { settings, picture })
 }
 
 fn check_rows(rt: &impl Abort, picture: &Picture, rows: &[Observation]) {
@@ -131,57 +142,60 @@ fn check_rows(rt: &impl Abort, picture: &Picture, rows: &[Observation]) {
 }
 
 /// What a picture gives for a report.
-fn take(picture: &mut Picture, report: &Report) -> Option<Observation> {
-    picture.take(report, &Settings::built_in(), &Zone::UTC)
+fn take(kept: &mut Kept, report: &Report) -> Option<Observation> {
+    kept.picture.take(report, &kept.settings, &Zone::UTC)
 }
 
 /// A picture gives this for a report.
-fn check_take(rt: &impl Abort, picture: &mut Picture, report: &Report, given: Observation) {
-    assert_eq!(rt; take(picture, report), Some(given));
+fn check_take(rt: &impl Abort, kept: &mut Kept, report: &Report, given: Observation) {
+    assert_eq!(rt; take(kept, report), Some(given));
 }
 
 #[test]
-fn a_picture_shows_what_came_last(rt: HostRuntime) -> Result<(), Memory> {
-    let mut picture = opened(&rt)?;
-    check_rows(&rt, &picture, OPENING);
-    check_take(&rt, &mut picture, &ON_EVENT, SHOWN_ON);
-    check_take(&rt, &mut picture, &MINUS_TWO, SHOWN_MINUS_TWO);
-    check_rows(&rt, &picture, &[SHOWN_ON, SHOWN_MINUS_TWO, SHOWN_TOTAL]);
+fn a_picture_shows_what_came_last(rt: HostRuntime) -> Result<(), Fail> {
+    let mut kept = opened(&rt)?;
+    check_rows(&rt, &kept.picture, OPENING);
+    check_take(&rt, &mut kept, &ON_EVENT, SHOWN_ON);
+    check_take(&rt, &mut kept, &MINUS_TWO, SHOWN_MINUS_TWO);
+    check_rows(
+        &rt,
+        &kept.picture,
+        &[SHOWN_ON, SHOWN_MINUS_TWO, SHOWN_TOTAL],
+    );
     Ok(())
 }
 
 #[test]
-fn a_picture_gives_a_time_and_shows_none(rt: HostRuntime) -> Result<(), Memory> {
-    let mut picture = opened(&rt)?;
+fn a_picture_gives_a_time_and_shows_none(rt: HostRuntime) -> Result<(), Fail> {
+    let mut kept = opened(&rt)?;
     let stamp = Stamp::At(1_700_000_000_000);
     let given = Observation { stamp, ..SHOWN_ON };
-    check_take(&rt, &mut picture, &on_at(stamp), given);
-    assert_eq!(rt; picture.rows().first(), Some(&SHOWN_ON));
+    check_take(&rt, &mut kept, &on_at(stamp), given);
+    assert_eq!(rt; kept.picture.rows().first(), Some(&SHOWN_ON));
     Ok(())
 }
 
-fn check_news(rt: &impl Abort, picture: &mut Picture, report: Report, news: bool) {
-    assert_eq!(rt; take(picture, &report).is_some(), news, "at {report:?}");
+fn check_news(rt: &impl Abort, kept: &mut Kept, report: Report, news: bool) {
+    assert_eq!(rt; take(kept, &report).is_some(), news, "at {report:?}");
 }
 
 #[test]
-fn a_picture_tells_changes_and_events(rt: HostRuntime) -> Result<(), Memory> {
-    let mut picture = opened(&rt)?;
-    check_news(&rt, &mut picture, OFF, true);
-    check_news(&rt, &mut picture, OFF, false);
-    check_news(&rt, &mut picture, ON, true);
-    check_news(&rt, &mut picture, ON_EVENT, true);
-    check_news(&rt, &mut picture, ON, false);
-    check_news(&rt, &mut picture, SEVEN, true);
-    check_news(&rt, &mut picture, SEVEN, false);
+fn a_picture_tells_changes_and_events(rt: HostRuntime) -> Result<(), Fail> {
+    let mut kept = opened(&rt)?;
+    check_news(&rt, &mut kept, OFF, true);
+    check_news(&rt, &mut kept, OFF, false);
+    check_news(&rt, &mut kept, ON, true);
+    check_news(&rt, &mut kept, ON_EVENT, true);
+    check_news(&rt, &mut kept, ON, false);
+    check_news(&rt, &mut kept, SEVEN, true);
+    check_news(&rt, &mut kept, SEVEN, false);
     Ok(())
 }
 
 #[test]
-fn news_are_counted_as_they_would_be_taken(rt: HostRuntime) -> Result<(), Memory> {
-    let picture = opened(&rt)?;
+fn news_are_counted_as_they_would_be_taken(rt: HostRuntime) -> Result<(), Fail> {
+    let kept = opened(&rt)?;
     let reports = [ON, SEVEN, ON, ON_EVENT, SEVEN, OFF];
-    let settings = Settings::built_in();
-    assert_eq!(rt; picture.news(&reports, &settings, &Zone::UTC), 4);
+    assert_eq!(rt; kept.picture.news(&reports, &kept.settings, &Zone::UTC), 4);
     Ok(())
 }

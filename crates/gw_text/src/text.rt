@@ -6,8 +6,8 @@ ghost use Rattle.gw_text.specs.Text.{accepted_text, asdu_line, asdu_lines, line_
 use crate::hex::push_spaced;
 use dnp_app::AppFault;
 use dnp_objects::Why;
-use gw_model::{Memory, Observation, Settings};
-use gw_time::Zone;
+use gw_map::Settings;
+use gw_model::{Memory, Observation};
 use iec_asdu::{SPONTANEOUS, write_monitor};
 use std::io::{self, Write};
 
@@ -30,8 +30,8 @@ fn push_asdu(
 ) -> Result<(), Memory>
     ensures { OnOk result (text.new.items ≡ text.old.items ++ asdu_line settings.now image.now) }
 {
-    let common = settings.common_address();
-    let written = write_monitor(&[*image], common, SPONTANEOUS, &Zone::of(settings), buffer);
+    let common = settings.station().common_address;
+    let written = write_monitor(&[*image], common, SPONTANEOUS, &settings.zone(), buffer);
     push_line(text, b"asdu", &buffer[..written.octets])
 }
 

@@ -3,7 +3,6 @@ ghost use Rattle.std.specs.Prelude.{◌≡◌, ◌↔◌, ◌≤◌, ◌*◌, �
 ghost use Rattle.jiff_core.specs.DateTime.{civil_nanos};
 ghost use Rattle.gw_time.specs.Window.{shown_at, IsFrom2000To2099};
 
-use gw_model::Settings;
 use jiff::Timestamp;
 use jiff::civil::DateTime;
 use jiff::tz::Offset;
@@ -22,15 +21,6 @@ pub struct Zone {
 impl Zone {
     /// Coordinated universal time.
     pub const UTC: Zone = Zone { offset_minutes: 0 };
-
-    /// The clocks of the station with these settings.
-    pub fn of(settings: &Settings) -> Zone
-        ensures { result.offset_minutes ≡ settings.now.offset }
-    {
-        Zone {
-            offset_minutes: settings.offset_minutes(),
-        }
-    }
 
     /// How far the clocks are ahead of UTC.
     fn offset(&self) -> Offset

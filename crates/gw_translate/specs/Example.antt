@@ -1,5 +1,5 @@
 -- Short words for the worked examples: reports of outstation 0, rows that show them, and observations without time.
-use Rattle.std.specs.Prelude.{ℕ, ℤ, Bool, true, false, IsTrue, List, [], ◌∷◌, refl}
+use Rattle.std.specs.Prelude.{ℕ, ℤ, Bool, true, false, ◌||◌, ◌&&◌, ◌==◌, IsTrue, List, [], ◌∷◌, refl}
 use Rattle.std.proofs.Common.{lit≤}
 use Rattle.gw_model.specs.declared.point.Kind.{Kind}
 use Rattle.gw_model.specs.declared.point.Kind.TheVariants as kinds
@@ -9,14 +9,15 @@ use Rattle.gw_model.specs.declared.point.Raw.TheVariants.{Bit, Two, Count, Numbe
 use Rattle.gw_model.specs.declared.point.Stamp.{Stamp}
 use Rattle.gw_model.specs.declared.point.Stamp.TheVariants.{Untimed}
 use Rattle.gw_model.specs.declared.point.Report.{Report}
-use Rattle.gw_model.specs.declared.row.Row.{Row}
-use Rattle.gw_model.specs.declared.row.Show.{Show}
-use Rattle.gw_model.specs.declared.row.Show.TheVariants as shows
+use Rattle.gw_entries.specs.declared.row.Row.{Row}
+use Rattle.gw_entries.specs.declared.row.Scale.{Scale}
+use Rattle.gw_entries.specs.declared.row.Show.{Show}
+use Rattle.gw_entries.specs.declared.row.Show.TheVariants as shows
 use Rattle.gw_model.specs.declared.observation.Value.{Value}
 use Rattle.gw_model.specs.declared.observation.Quality.{Quality}
 use Rattle.gw_model.specs.declared.observation.Observation.{Observation}
 use Rattle.gw_model.specs.Point.{is_of_kind, is_stamped}
-use Rattle.gw_model.specs.Show.{is_shown_by}
+use Rattle.gw_entries.specs.Shown.{is_shown_by, is_scaled}
 
 -- the types by which points may be shown
 abbrev pub types : List Show
@@ -63,28 +64,58 @@ timed_event flags on stamp = report kinds.Binary (Bit on) flags stamp true refl 
 abbrev pub static_value : ℕ → Bool → Report
 static_value flags on = report kinds.Binary (Bit on) flags Untimed false refl refl
 
+-- a value is shown as it is
+abbrev pub one_to_one : Scale
+one_to_one = record { num = 1; den = 1; num_from = lit≤ tt; num_to = lit≤ tt; den_from = lit≤ tt; den_to = lit≤ tt }
+
+-- half of a value, and as many times a value as there may be
+abbrev pub halved : Scale
+halved = record { num = 1; den = 2; num_from = lit≤ tt; num_to = lit≤ tt; den_from = lit≤ tt; den_to = lit≤ tt }
+
+abbrev pub most : Scale
+most = record { num = 32767; den = 1; num_from = lit≤ tt; num_to = lit≤ tt; den_from = lit≤ tt; den_to = lit≤ tt }
+
 -- the row that shows point 5 of a kind at address 4101
-abbrev pub row : (kind : Kind) (show : Show) → IsTrue (is_shown_by kind show) → Row
-row kind show shown =
-    record { key = point kind; address = 4101; show = show; from = lit≤ tt; to = lit≤ tt; shown = shown }
+abbrev pub row_with : (scale : Scale) (kind : Kind) (show : Show) → IsTrue (is_shown_by kind show)
+    → IsTrue (is_scaled show || (scale.num == 1 && scale.den == 1)) → Row
+row_with scale kind show shown scaled = record {
+  key = point kind;
+  address = 4101;
+  show = show;
+  scale = scale;
+  from = lit≤ tt;
+  to = lit≤ tt;
+  shown = shown;
+  scaled = scaled;
+}
+
+abbrev pub row : (kind : Kind) (show : Show) → IsTrue (is_shown_by kind show) → IsTrue (is_scaled show || true) → Row
+row kind show = row_with one_to_one kind show
 
 abbrev pub binary_row : Row
-binary_row = row kinds.Binary shows.Single refl
+binary_row = row kinds.Binary shows.Single refl refl
 
 abbrev pub output_row : Row
-output_row = row kinds.Output shows.Single refl
+output_row = row kinds.Output shows.Single refl refl
 
 abbrev pub double_row : Row
-double_row = row kinds.Double shows.Double refl
+double_row = row kinds.Double shows.Double refl refl
 
 abbrev pub scaled_row : Row
-scaled_row = row kinds.Analog shows.Scaled refl
+scaled_row = row kinds.Analog shows.Scaled refl refl
+
+-- half of the value, and 32767 times the value
+abbrev pub halved_row : Row
+halved_row = row_with halved kinds.Analog shows.Scaled refl refl
+
+abbrev pub enlarged_row : Row
+enlarged_row = row_with most kinds.Analog shows.Scaled refl refl
 
 abbrev pub word_row : Row
-word_row = row kinds.Analog shows.Word refl
+word_row = row kinds.Analog shows.Word refl refl
 
 abbrev pub counter_row : Row
-counter_row = row kinds.Counter shows.Total refl
+counter_row = row kinds.Counter shows.Total refl refl
 
 -- what is shown at address 4101
 abbrev pub observation : Value → Quality → Observation

@@ -1,5 +1,5 @@
 -- The image of a report: what clients are shown of it; and whether it is news.
-use Rattle.std.specs.Prelude.{ℕ, ℤ, pos, negsuc, Bool, ◌||◌, not, List, Option, is_some, if◌then◌else◌}
+use Rattle.std.specs.Prelude.{ℕ, ℤ, pos, negsuc, ◌*ℤ◌, int_div, Bool, ◌||◌, not, List, Option, is_some, if◌then◌else◌}
 use Rattle.std.specs.Option.{option_map}
 use Rattle.std.specs.Int.{w32, int_min, int_max, cast_unsigned}
 use Rattle.std.specs.Ordering.{int_eq}
@@ -8,16 +8,21 @@ use Rattle.gw_model.specs.declared.point.Raw.TheVariants.{Bit, Two, Count, Numbe
 use Rattle.gw_model.specs.declared.point.Stamp.{Stamp}
 use Rattle.gw_model.specs.declared.point.Stamp.TheVariants.{Untimed}
 use Rattle.gw_model.specs.declared.point.Report.{Report}
-use Rattle.gw_model.specs.declared.row.Row.{Row}
-use Rattle.gw_model.specs.declared.row.Show.{Show}
-use Rattle.gw_model.specs.declared.row.Show.TheVariants as shows
+use Rattle.gw_entries.specs.declared.row.Row.{Row}
+use Rattle.gw_entries.specs.declared.row.Scale.{Scale}
+use Rattle.gw_entries.specs.declared.row.Show.{Show}
+use Rattle.gw_entries.specs.declared.row.Show.TheVariants as shows
 use Rattle.gw_model.specs.declared.observation.Value.TheVariants.{Single, Double, Scaled, Word, Total}
 use Rattle.gw_model.specs.declared.observation.Quality.{Quality}
 use Rattle.gw_model.specs.declared.observation.Observation.{Observation}
 use Rattle.gw_model.specs.Keys.{same_shown}
-use Rattle.gw_model.specs.Rows.{row_from}
+use Rattle.gw_map.specs.Settings.{row_from}
 use Rattle.gw_time.specs.Spelling.{tag_of}
 use Rattle.gw_translate.specs.Quality.{quality_of}
+
+-- a value multiplied by a scale, truncated toward zero
+abbrev pub scaled_by : Scale → ℤ → ℤ
+scaled_by scale z = int_div (z *ℤ pos scale.num) (pos scale.den)
 
 -- the nearest value of 16 bits
 abbrev pub nearest_scaled_value : ℤ → ℤ
@@ -27,27 +32,30 @@ nearest_scaled_value z = int_min (int_max z (negsuc 32767)) (pos 32767)
 abbrev pub quality_with_overflow : Bool → Quality → Quality
 quality_with_overflow ov q = record q { ov = q.ov || ov }
 
--- an analog value shown by a type: the 32 bits of its two's complement, or the nearest scaled value, with OV where it
--- isn't the value itself
-abbrev pub analog_image : Show → ℤ → Quality → (address : ℕ) → Stamp → Observation
-analog_image shows.Word z q address stamp =
-    record { address = address; value = Word (cast_unsigned w32 z); quality = q; stamp = stamp }
-analog_image _ z q address stamp = record {
+-- a value as the scaled one that is nearest, with OV where that isn't the value itself
+abbrev pub scaled_image : ℤ → Quality → (address : ℕ) → Stamp → Observation
+scaled_image z q address stamp = record {
   address = address;
   value = Scaled (nearest_scaled_value z);
   quality = quality_with_overflow (not (int_eq (nearest_scaled_value z) z)) q;
   stamp = stamp;
 }
 
+-- an analog value shown by a type: the 32 bits of its two's complement, or a scaled value
+abbrev pub analog_image : Show → Scale → ℤ → Quality → (address : ℕ) → Stamp → Observation
+analog_image shows.Word scale z q address stamp =
+    record { address = address; value = Word (cast_unsigned w32 z); quality = q; stamp = stamp }
+analog_image _ scale z q address stamp = scaled_image (scaled_by scale z) q address stamp
+
 -- a raw value shown by a type
-abbrev pub raw_image : Show → Raw → Quality → (address : ℕ) → Stamp → Observation
-raw_image show (Bit on) q address stamp =
+abbrev pub raw_image : Show → Scale → Raw → Quality → (address : ℕ) → Stamp → Observation
+raw_image show scale (Bit on) q address stamp =
     record { address = address; value = Single on; quality = q; stamp = stamp }
-raw_image show (Two state) q address stamp =
+raw_image show scale (Two state) q address stamp =
     record { address = address; value = Double state; quality = q; stamp = stamp }
-raw_image show (Count n) q address stamp =
+raw_image show scale (Count n) q address stamp =
     record { address = address; value = Total n; quality = q; stamp = stamp }
-raw_image show (Number z) q address stamp = analog_image show z q address stamp
+raw_image show scale (Number z) q address stamp = analog_image show scale z q address stamp
 
 -- the time that is shown: none where clocks that are offset minutes ahead of UTC don't show one of the years 2000 to
 -- 2099
@@ -58,7 +66,7 @@ stamp_image offset stamp = if is_some (tag_of offset stamp) then stamp else Unti
 abbrev pub image_of : ℤ → Row → Report → Observation
 image_of offset row report =
     let quality : Quality = quality_of report.key.kind report.flags in
-    raw_image row.show report.raw quality row.address (stamp_image offset report.stamp)
+    raw_image row.show row.scale report.raw quality row.address (stamp_image offset report.stamp)
 
 -- the image of a report by the rows of a point map: none for a point without a row
 abbrev pub image_in : ℤ → List Row → Report → Option Observation

@@ -4,11 +4,11 @@ ghost use Rattle.gw_model.specs.declared.point.Kind.TheVariants as kinds;
 ghost use Rattle.gw_model.specs.declared.point.Stamp.TheVariants.{At, Doubtful};
 ghost use Rattle.gw_model.specs.declared.observation.Value.TheVariants.{Single, Double, Scaled, Word, Total};
 ghost use Rattle.gw_model.specs.Point.{is_stamped};
-ghost use Rattle.gw_model.specs.Show.{is_shown_by};
+ghost use Rattle.gw_entries.specs.Shown.{is_shown_by};
 ghost use Rattle.gw_translate.specs.Quality.{quality_of};
 ghost use Rattle.gw_translate.specs.Image.{image_of, image_in};
 ghost use Rattle.gw_translate.specs.Image.{is_news_of};
-ghost use Rattle.gw_translate.specs.Example.{binary, output, counter, analog, intermediate_input, timed_event, static_value, binary_row, output_row, double_row, scaled_row, word_row, counter_row, types, observation, good, invalid, overflow};
+ghost use Rattle.gw_translate.specs.Example.{binary, output, counter, analog, intermediate_input, timed_event, static_value, binary_row, output_row, double_row, scaled_row, halved_row, enlarged_row, word_row, counter_row, types, observation, good, invalid, overflow};
 
 /// Which quality some flags give.
 pub fn qualities_by_example()
@@ -65,6 +65,16 @@ pub fn images_by_example()
     ensures far_above { image_of (pos 0) scaled_row (analog 0x01 (pos 40000))
         ≡ observation (Scaled (pos 32767)) overflow }
     ensures far_below { image_of (pos 0) scaled_row (analog 0x01 (negsuc 39999))
+        ≡ observation (Scaled (negsuc 32767)) overflow }
+    // Halved: truncated toward zero on both sides, and clamped only then. Enlarged as far as it goes.
+    ensures halved { image_of (pos 0) halved_row (analog 0x01 (pos 7)) ≡ observation (Scaled (pos 3)) good }
+    ensures halved_below { image_of (pos 0) halved_row (analog 0x01 (negsuc 6)) ≡ observation (Scaled (negsuc 2)) good }
+    ensures halved_to_zero { image_of (pos 0) halved_row (analog 0x01 (negsuc 0)) ≡ observation (Scaled (pos 0)) good }
+    ensures halved_first { image_of (pos 0) halved_row (analog 0x01 (pos 65535)) ≡ observation (Scaled (pos 32767)) good }
+    ensures halved_above { image_of (pos 0) halved_row (analog 0x01 (pos 65536))
+        ≡ observation (Scaled (pos 32767)) overflow }
+    ensures enlarged { image_of (pos 0) enlarged_row (analog 0x01 (negsuc 0)) ≡ observation (Scaled (negsuc 32766)) good }
+    ensures enlarged_lowest { image_of (pos 0) enlarged_row (analog 0x01 (negsuc 2147483647))
         ≡ observation (Scaled (negsuc 32767)) overflow }
     // Over range by the outstation's own word.
     ensures over_range { image_of (pos 0) scaled_row (analog 0x21 (pos 7)) ≡ observation (Scaled (pos 7)) overflow }

@@ -1,10 +1,12 @@
 //! The image of a report: the observation that clients are shown.
-ghost use Rattle.std.specs.Prelude.{◌≡◌};
+ghost use Rattle.std.specs.Prelude.{◌≡◌, not};
+ghost use Rattle.std.specs.Ordering.{int_eq};
 ghost use Rattle.gw_model.specs.Fit.{IsFit, IsInWindow};
 ghost use Rattle.gw_translate.specs.Quality.{quality_of};
-ghost use Rattle.gw_translate.specs.Image.{nearest_scaled_value, image_of, stamp_image};
+ghost use Rattle.gw_translate.specs.Image.{nearest_scaled_value, scaled_by, image_of, stamp_image};
 
-use gw_model::{Kind, Observation, Quality, Raw, Report, Row, Show, Stamp, Value};
+use gw_entries::{Row, Scale, Show};
+use gw_model::{Kind, Observation, Quality, Raw, Report, Stamp, Value};
 use gw_time::{Zone, has_tag};
 
 /// The quality of a point of a kind, from the flags of its object.
@@ -43,11 +45,29 @@ pub fn quality(kind: Kind, flags: u8) -> Quality
     }
 }
 
+/// A value multiplied by a scale, truncated toward zero.
+fn scaled(number: i32, scale: Scale) -> i64
+    ensures { result ≡ scaled_by scale number }
+{
+    i64::from(number) * i64::from(scale.num) / i64::from(scale.den)
+}
+
 /// The nearest value of 16 bits.
-fn clamp(number: i32) -> i16
+fn clamp(number: i64) -> i16
     ensures { result ≡ nearest_scaled_value number }
 {
     number.max(-32768).min(32767) as i16
+}
+
+/// The scaled value that is nearest to a value by a scale, and whether it isn't the value itself.
+fn nearest(number: i32, scale: Scale) -> (i16, bool)
+    ensures nearest { result.0 ≡ nearest_scaled_value (scaled_by scale number) }
+    ensures overflow { result.1
+        ≡ not (int_eq (nearest_scaled_value (scaled_by scale number)) (scaled_by scale number)) }
+{
+    let scaled = scaled(number, scale);
+    let nearest = clamp(scaled);
+    (nearest, i64::from(nearest) != scaled)
 }
 
 /// The time that clients are shown: none where a time tag can't show it.
@@ -75,8 +95,8 @@ pub fn image(report: &Report, row: &Row, zone: &Zone) -> Observation
         (Raw::Count(count), _) => (Value::Total(count), quality),
         (Raw::Number(number), Show::Word) => (Value::Word(number.cast_unsigned()), quality),
         (Raw::Number(number), _) => {
-            let nearest = clamp(number);
-            let ov = quality.ov || i32::from(nearest) != number;
+            let (nearest, overflow) = nearest(number, row.scale);
+            let ov = quality.ov || overflow;
             (Value::Scaled(nearest), Quality { ov, ..quality })
         }
     };

@@ -2,7 +2,7 @@
 use Rattle.std.proofs.Common.{◌≡◌, ◌≢◌, ℕ, ◌+◌, Bool, true, false, ◌&&◌, List, [], ◌∷◌, ◌++◌, Option, Some, None, IfSome, OnSome, refl, ap, ◌∙◌, subst}
 use Rattle.std.specs.List.{list_all}
 use Rattle.std.specs.Io.KnownBytes.{Appends}
-use Rattle.gw_model.specs.Rows.{Setup}
+use Rattle.gw_map.specs.Settings.{Setup}
 use Rattle.gw_input.specs.Lines.{AreAnswered, Further, IsAnswered, lines_of}
 use Rattle.gw_translator.specs.Answers.{AnswersInput, AnswersLine, IsAnswer, beginning, finding_after_line, finding_after_lines, finding_of, is_accepted, line_text, standing_after, text_from, text_of}
 use Rattle.gw_translator.specs.Standing.{Standing}

@@ -4,7 +4,7 @@ use Rattle.std.specs.Prelude.{◌≡◌, ℕ, Bool, true, false, List, [], ◌�
 use Rattle.std.specs.List.{list_all}
 use Rattle.gw_model.specs.declared.point.Report.{Report}
 use Rattle.gw_model.specs.declared.observation.Observation.{Observation}
-use Rattle.gw_model.specs.Rows.{Setup}
+use Rattle.gw_map.specs.Settings.{Setup}
 use Rattle.dnp_app.specs.declared.fault.AppFault.{AppFault}
 use Rattle.dnp_app.specs.declared.fault.AppFault.TheVariants.{Memory}
 use Rattle.dnp_app.specs.Response.{Fragment, StoresHeader, response_of}

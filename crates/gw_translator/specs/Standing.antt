@@ -1,7 +1,7 @@
 -- What stands between two lines of `translate`.
 use Rattle.std.specs.Prelude.{List}
 use Rattle.gw_model.specs.declared.observation.Observation.{Observation}
-use Rattle.gw_model.specs.Rows.{Setup}
+use Rattle.gw_map.specs.Settings.{Setup}
 use Rattle.gw_translator.specs.declared.translator.Finding.{Finding}
 
 -- the settings, what became of the lines so far, and what was shown of each row last

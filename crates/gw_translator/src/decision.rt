@@ -3,10 +3,10 @@ ghost use Rattle.std.specs.Prelude.{◌≡◌, ◌++◌, [], IfOk, OnOk};
 ghost use Rattle.gw_translator.specs.Translation.{Decides, news_in, picture_after_reports};
 
 use dnp_app::{AppFault, read_response};
-use gw_model::{Memory, Observation, Report, Settings};
+use gw_map::Settings;
+use gw_model::{Memory, Observation, Report};
 use gw_picture::Picture;
 use gw_text::line_octets;
-use gw_time::Zone;
 use std::alloc::Global;
 
 /// What becomes of a line.
@@ -32,7 +32,7 @@ fn push_news(
     ensures news { OnOk result (news.new.items ≡ news.old.items ++ news_in settings.now picture.old reports.now) }
     ensures picture { OnOk result (picture.new ≡ picture_after_reports settings.now picture.old reports.now) }
 {
-    let zone = Zone::of(settings);
+    let zone = settings.zone();
     for report in reports {
         if let Some(image) = picture.take(report, settings, &zone) {
             news.push(image)?;

@@ -1,7 +1,7 @@
 //! What some inputs come to by the definitions alone: whether each line is accepted, and what is written.
 
 ghost use Rattle.std.specs.Prelude.{◌≡◌, ◌++◌, [], ◌∷◌, codes, true, false};
-ghost use Rattle.gw_model.specs.Rows.{Setup};
+ghost use Rattle.gw_map.specs.Settings.{Setup};
 ghost use Rattle.gw_translator.specs.Answers.{all_accepted, text_of};
 
 /// A response without objects is accepted and answered with nothing, and so is an empty line.

@@ -1,5 +1,5 @@
 //! Settings: what is told of texts, good and bad.
-use gw_map::{Settings, SettingsFault};
+use gw_map::{DEFAULT_SETTINGS, Settings, SettingsFault};
 use gw_model::{Kind, PointKey};
 use std::alloc::Global;
 use std::process::Abort;
@@ -288,6 +288,48 @@ fn place_of_an_error(rt: HostRuntime) -> Result<(), Fail> {
             assert!(rt; text.as_str().contains("line 2, column 18"));
         }
         _ => assert!(rt; false),
+    }
+    Ok(())
+}
+
+#[test]
+fn default_settings(rt: HostRuntime) -> Result<(), Fail> {
+    check(&rt, DEFAULT_SETTINGS, "ok")
+}
+
+/// A station, an outstation, so many points and so many controls.
+fn large(alloc: Global, points: u32, controls: u32) -> Result<String, Fail> {
+    let mut text = String::from_str(alloc, STATION)?;
+    text.push_str("[[outstation]]\naddress = 1\n")?;
+    for n in 0..points {
+        let point = format!(in alloc;
+            "[[point]]\noutstation = 0\nkind = \"binary\"\nindex = {n}\naddress = {}\n",
+            n.saturating_add(1)
+        )?;
+        text.push_str(point.as_str())?;
+    }
+    for n in 0..controls {
+        let control = format!(in alloc;
+            "[[control]]\noutstation = 0\nshow = \"single\"\nindex = {n}\naddress = {}\n",
+            n.saturating_add(50_000)
+        )?;
+        text.push_str(control.as_str())?;
+    }
+    Ok(text)
+}
+
+/// Numbers of points and controls, and what is told of settings with so many.
+const LARGE: &[(u32, u32, &str)] = &[
+    (19_000, 1_000, "ok"),
+    (20_001, 0, "4 OutOfRange point 0 count"),
+    (20_000, 1, "4 OutOfRange control 0 count"),
+];
+
+#[test]
+fn most_rows(rt: HostRuntime) -> Result<(), Fail> {
+    for (points, controls, wanted) in LARGE {
+        let text = large(rt.alloc(), *points, *controls)?;
+        check(&rt, text.as_str(), wanted)?;
     }
     Ok(())
 }

@@ -1,6 +1,6 @@
 //! Tests of readers and writers that fail, in the middle of both programs.
 use gw_input::{Stop, finish};
-use gw_model::Settings;
+use gw_map::{DEFAULT_SETTINGS, Settings};
 use gw_replay::replay;
 use gw_translator::translate;
 use std::alloc::{AllocError, Global};
@@ -29,6 +29,9 @@ const PROGRAMS: &[Program] = &[
     },
 ];
 
+/// No status of a program.
+const NO_SETTINGS: u8 = 9;
+
 /// Runs a program; gives its status.
 fn run<R: BufRead + Drop, W: Write + Drop>(
     alloc: Global,
@@ -36,10 +39,10 @@ fn run<R: BufRead + Drop, W: Write + Drop>(
     reader: R,
     writer: W,
 ) -> u8 {
-    if is_replay {
-        replay(alloc, Settings::built_in(), reader, writer)
-    } else {
-        translate(alloc, Settings::built_in(), reader, writer)
+    match Settings::read(alloc, DEFAULT_SETTINGS) {
+        Ok(settings) if is_replay => replay(alloc, settings, reader, writer),
+        Ok(settings) => translate(alloc, settings, reader, writer),
+        Err(_) => NO_SETTINGS,
     }
 }
 

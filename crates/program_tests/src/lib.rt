@@ -3,6 +3,8 @@
 #![tactic(auto)]
 
 #[cfg(test)]
+mod checker;
+#[cfg(test)]
 mod failing;
 #[cfg(test)]
 mod largest;

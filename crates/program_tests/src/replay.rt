@@ -1,6 +1,6 @@
 //! Tests of gw_replay.
 use gw_hub::{Reply, Step, StepFault, Why};
-use gw_model::Settings;
+use gw_map::{DEFAULT_SETTINGS, Settings};
 use gw_replay::{Instruction, push_reply, read_instruction, replay};
 use std::process::Abort;
 use std::test::Fail;
@@ -13,7 +13,8 @@ pub fn check_replay(
     status: u8,
 ) -> Result<(), Fail> {
     let mut text = Vec::new(rt.alloc());
-    let code = replay(rt.alloc(), Settings::built_in(), input, &mut text);
+    let settings = Settings::read(rt.alloc(), DEFAULT_SETTINGS)?;
+    let code = replay(rt.alloc(), settings, input, &mut text);
     assert_eq!(rt; text.as_slice(), output, "at {input:?}");
     assert_eq!(rt; code, status, "at {input:?}");
     Ok(())

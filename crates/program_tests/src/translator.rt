@@ -1,7 +1,8 @@
 //! Tests of gw_translator.
 use dnp_app::AppFault;
 use dnp_objects::{ObjectFault, Why};
-use gw_model::{Memory, Settings};
+use gw_map::{DEFAULT_SETTINGS, Settings};
+use gw_model::Memory;
 use gw_picture::Picture;
 use gw_translator::{Decision, decide, translate};
 use std::process::Abort;
@@ -15,7 +16,8 @@ pub fn check_lines(
     status: u8,
 ) -> Result<(), Fail> {
     let mut output = Vec::new(rt.alloc());
-    let ended = translate(rt.alloc(), Settings::built_in(), input, &mut output);
+    let settings = Settings::read(rt.alloc(), DEFAULT_SETTINGS)?;
+    let ended = translate(rt.alloc(), settings, input, &mut output);
     assert_eq!(rt; output.as_slice(), want, "at {input:?}");
     assert_eq!(rt; ended, status, "at {input:?}");
     Ok(())
@@ -211,28 +213,89 @@ fn long_lines(rt: HostRuntime) -> Result<(), Fail> {
 /// This is decided of a line; gives how many news it has.
 fn check_decision(
     rt: &(impl Abort + AllocGlobal),
+    settings: &Settings,
     picture: &mut Picture,
     line: &[u8],
     wanted: Decision,
 ) -> Result<usize, Memory> {
     let mut news = Vec::new(rt.alloc());
-    let decision = decide(rt.alloc(), &Settings::built_in(), line, picture, &mut news)?;
+    let decision = decide(rt.alloc(), settings, line, picture, &mut news)?;
     assert_eq!(rt; decision, wanted);
     Ok(news.len())
 }
 
 #[test]
-fn with_ample_memory(rt: HostRuntime) -> Result<(), Memory> {
-    let mut picture = Picture::new(rt.alloc(), &Settings::built_in())?;
+fn with_ample_memory(rt: HostRuntime) -> Result<(), Fail> {
+    let settings = Settings::read(rt.alloc(), DEFAULT_SETTINGS)?;
+    let mut picture = Picture::new(rt.alloc(), &settings)?;
     let short = Decision::Refused(AppFault::Short);
-    check_decision(&rt, &mut picture, b"C0 81 00", short)?;
+    check_decision(&rt, &settings, &mut picture, b"C0 81 00", short)?;
     let cut = Decision::Refused(AppFault::Object(ObjectFault {
         why: Why::ShortRange,
         place: 0,
     }));
-    check_decision(&rt, &mut picture, b"C0 81 00 00 02", cut)?;
+    check_decision(&rt, &settings, &mut picture, b"C0 81 00 00 02", cut)?;
     let taken = Decision::Accepted(Some([0xC0, 0]));
     let line = b"E0 81 00 00 02 01 17 01 05 81";
-    assert_eq!(rt; check_decision(&rt, &mut picture, line, taken)?, 1);
+    assert_eq!(rt;
+        check_decision(&rt, &settings, &mut picture, line, taken)?,
+        1
+    );
+    Ok(())
+}
+
+/// Settings with one point, analog input 0, behind which a line more may stand.
+const ANALOG: &str = "[station]\ncommon_address = 1\n[[outstation]]\naddress = 1\n\
+    [[point]]\noutstation = 0\nkind = \"analog\"\nindex = 0\naddress = 4201\n";
+
+/// A line of the point, a fragment with a value of it, and what is written.
+const ANALOGS: &[(&str, &str, &str)] = &[
+    // Clamped, with OV.
+    (
+        "",
+        "C0 81 00 00 20 01 17 01 00 01 40 9C 00 00",
+        "asdu 0B 01 03 00 01 00 69 10 00 FF 7F 01\n",
+    ),
+    // A word is the 32 bits as they are.
+    (
+        "show = \"word\"",
+        "C0 81 00 00 20 01 17 01 00 01 FF FF FF FF",
+        "asdu 07 01 03 00 01 00 69 10 00 FF FF FF FF 00\n",
+    ),
+    // Half of -7 is -3.
+    (
+        "den = 2",
+        "C0 81 00 00 20 01 17 01 00 01 F9 FF FF FF",
+        "asdu 0B 01 03 00 01 00 69 10 00 FD FF 00\n",
+    ),
+    (
+        "num = 32767",
+        "C0 81 00 00 20 01 17 01 00 01 00 00 00 80",
+        "asdu 0B 01 03 00 01 00 69 10 00 00 80 01\n",
+    ),
+];
+
+/// `translate` writes this for a fragment, where the point has this line.
+fn check_analog(
+    rt: &(impl Abort + AllocGlobal),
+    line: &str,
+    input: &str,
+    want: &str,
+) -> Result<(), Fail> {
+    let mut text = String::from_str(rt.alloc(), ANALOG)?;
+    text.push_str(line)?;
+    let settings = Settings::read(rt.alloc(), text.as_str())?;
+    let mut output = Vec::new(rt.alloc());
+    let status = translate(rt.alloc(), settings, input.as_bytes(), &mut output);
+    assert_eq!(rt; output.as_slice(), want.as_bytes());
+    assert_eq!(rt; status, 0);
+    Ok(())
+}
+
+#[test]
+fn analog_values_by_their_rows(rt: HostRuntime) -> Result<(), Fail> {
+    for (line, input, want) in ANALOGS {
+        check_analog(&rt, line, input, want)?;
+    }
     Ok(())
 }

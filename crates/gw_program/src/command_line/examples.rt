@@ -1,20 +1,26 @@
 //! What some lines come to by the definitions alone: `clap`'s rules for the program, as a function
 //! of the words.
 
-ghost use Rattle.std.specs.Prelude.{◌≡◌, [], ◌∷◌, codes, Some};
+ghost use Rattle.std.specs.Prelude.{◌≡◌, [], ◌∷◌, codes, None, Some};
 ghost use Rattle.clap.specs.Words.{fault_of};
-ghost use Rattle.clap.specs.declared.error.ErrorKind.TheVariants.{DisplayHelp, InvalidSubcommand, MissingSubcommand, UnknownArgument};
-ghost use Rattle.gw_program.specs.CommandLine.{gateway, spelled};
-ghost use Rattle.gw_program.specs.declared.command_line.Asked.TheVariants.{Replay, Translate};
+ghost use Rattle.clap.specs.declared.error.ErrorKind.TheVariants.{DisplayHelp, InvalidSubcommand, MissingRequiredArgument, MissingSubcommand, UnknownArgument};
+ghost use Rattle.gw_program.specs.CommandLine.{gateway, spelled, to_check, to_replay, to_translate};
 
-/// Two lines that ask for something, and four that are refused, with the kinds of error that may
+/// Four lines that ask for something, and five that are refused, with the kinds of error that may
 /// say so. A word that is no subcommand may be called an unknown argument too.
 #[tactic(auto, unfolding(clap::proofs::OnLiterals::clap_on_literals))]
 pub fn lines()
     ensures taken { fault_of gateway (codes "gateway" ∷ codes "translate" ∷ []) ≡ [] }
-    ensures spelled { spelled (codes "gateway" ∷ codes "translate" ∷ []) ≡ Some Translate }
-    ensures replay_taken { fault_of gateway (codes "gateway" ∷ codes "replay" ∷ []) ≡ [] }
-    ensures replay_spelled { spelled (codes "gateway" ∷ codes "replay" ∷ []) ≡ Some Replay }
+    ensures spelled { spelled (codes "gateway" ∷ codes "translate" ∷ []) ≡ Some (to_translate None) }
+    ensures settings_taken { fault_of gateway (codes "gateway" ∷ codes "translate" ∷ codes "--settings" ∷ codes "a" ∷ [])
+        ≡ [] }
+    ensures settings_spelled { spelled (codes "gateway" ∷ codes "translate" ∷ codes "--settings" ∷ codes "a" ∷ [])
+        ≡ Some (to_translate (Some (codes "a"))) }
+    ensures replay_taken { fault_of gateway (codes "gateway" ∷ codes "replay" ∷ codes "a" ∷ []) ≡ [] }
+    ensures replay_spelled { spelled (codes "gateway" ∷ codes "replay" ∷ codes "a" ∷ []) ≡ Some (to_replay (codes "a")) }
+    ensures check_taken { fault_of gateway (codes "gateway" ∷ codes "check" ∷ codes "a" ∷ []) ≡ [] }
+    ensures check_spelled { spelled (codes "gateway" ∷ codes "check" ∷ codes "a" ∷ []) ≡ Some (to_check (codes "a")) }
+    ensures no_file { fault_of gateway (codes "gateway" ∷ codes "check" ∷ []) ≡ MissingRequiredArgument ∷ [] }
     ensures alone { fault_of gateway (codes "gateway" ∷ []) ≡ MissingSubcommand ∷ [] }
     ensures unknown { fault_of gateway (codes "gateway" ∷ codes "nonsense" ∷ [])
         ≡ UnknownArgument ∷ InvalidSubcommand ∷ [] }

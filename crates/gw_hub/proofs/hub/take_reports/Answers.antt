@@ -8,7 +8,7 @@ use Rattle.gw_hub.proofs.hub.take_reports.Goals as goal
 
 pub loop-report-init : goal.loop-report-init
 loop-report-init c = (
-  left_first c.args.settings.now.offset c.args.settings.now.rows c.args.picture.now c.args.reports.now (clients_of c.args.clients.now),
+  left_first c.args.settings.now.station.offset_minutes c.args.settings.now.rows c.args.picture.now c.args.reports.now (clients_of c.args.clients.now),
   room_same (length c.args.reports.now) (length c.args.reports.now - 0) c.args.clients.now (omega arith) c.requires,
   omega arith,
 )
@@ -20,7 +20,7 @@ take_report-news-requires c =
 
 pub overflow_add-news : goal.overflow_add-news
 overflow_add-news c =
-    let one = report_one c.args.settings.now.offset c.args.settings.now.rows c.loop-report.picture c.report-item.result in
+    let one = report_one c.args.settings.now.station.offset_minutes c.args.settings.now.rows c.loop-report.picture c.report-item.result in
     let few : c.loop-report.news ≤ c.loop-report.report-index = c.loop-report.invariant.2 in
     search (rules, one, few)
 
@@ -32,7 +32,7 @@ loop-report-preserved c =
     let n = length c.args.reports.now - (c.loop-report.report-index + 1) in (
       left_more _ _ _ _ _ _ c.report-item.result _ rest _ _ _ _ _ c.loop-report.invariant.0 more c.take_report-news.ensures.count c.take_report-news.ensures.picture c.take_report-news.ensures.clients c.take_report-news.ensures.sendable,
       c.take_report-news.ensures.room n (room_same (length c.args.reports.now - c.loop-report.report-index) (n + 1) c.loop-report.clients (omega (arith, c.loop-report-test.true)) c.loop-report.invariant.1),
-      omega (arith, c.loop-report.invariant.2, report_one c.args.settings.now.offset c.args.settings.now.rows c.loop-report.picture c.report-item.result, c.take_report-news.ensures.count),
+      omega (arith, c.loop-report.invariant.2, report_one c.args.settings.now.station.offset_minutes c.args.settings.now.rows c.loop-report.picture c.report-item.result, c.take_report-news.ensures.count),
     )
 
 pub returns-clause-count : goal.returns-clause-count

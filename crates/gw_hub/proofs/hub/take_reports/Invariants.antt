@@ -10,7 +10,7 @@ use Rattle.gw_hub.proofs.hub.take_reports.Given as goal
 
 abbrev pub invariant-loop-report : goal.invariant-loop-report
 invariant-loop-report l =
-    Left l.settings.offset l.settings.rows l.news l.picture (drop l.report-index l.reports) (clients_of l.clients)
-    (news_of l.settings.offset l.settings.rows l.fn.picture l.reports) (picture_after l.settings.offset l.settings.rows l.fn.picture l.reports) (map (client_with_news (news_of l.settings.offset l.settings.rows l.fn.picture l.reports)) (clients_of l.fn.clients))
+    Left l.settings.station.offset_minutes l.settings.rows l.news l.picture (drop l.report-index l.reports) (clients_of l.clients)
+    (news_of l.settings.station.offset_minutes l.settings.rows l.fn.picture l.reports) (picture_after l.settings.station.offset_minutes l.settings.rows l.fn.picture l.reports) (map (client_with_news (news_of l.settings.station.offset_minutes l.settings.rows l.fn.picture l.reports)) (clients_of l.fn.clients))
     × AllByRecursion (HasRoom (length l.reports - l.report-index)) l.clients
     × (l.news ≤ l.report-index)

@@ -1,9 +1,9 @@
 use Rattle.std.proofs.Common.{◌≡◌, true, false, sym, ap, ◌∙◌, arith}
 use Rattle.std.specs.List.{list_any}
-use Rattle.gw_map.specs.Complaints.{same_number}
-use Rattle.gw_map.proofs.First.{told}
+use Rattle.gw_map.specs.Sections.{same_number}
+use Rattle.gw_entries.proofs.First.{told}
 use Rattle.gw_map.proofs.Repeats.{rep-more, rep-found, rep-end, not-true, not-false, kept_more, kept_end}
-use Rattle.gw_map.proofs.Told.{tells_first}
+use Rattle.gw_entries.proofs.Told.{tells_first}
 use Rattle.gw_map.proofs.indexes.add_addresses.Goals as goal
 
 pub returns-then-not-branch : goal.returns-then-not-branch

@@ -1,6 +1,6 @@
 -- No address so far stood before, and each is kept.
 use Rattle.std.proofs.Common.{◌≡◌, ◌++◌, drop, take, map}
-use Rattle.gw_map.specs.Complaints.{repeated, same_number}
+use Rattle.gw_map.specs.Sections.{repeated, same_number}
 use Rattle.gw_map.proofs.indexes.add_addresses.Given as goal
 
 abbrev pub invariant-loop-position : goal.invariant-loop-position

@@ -1,7 +1,7 @@
 use Rattle.std.proofs.Common.{map}
 use Rattle.std.proofs.lemmas.Result.{err_from_is_err_and}
 use Rattle.gw_map.proofs.Repeats.{double_split}
-use Rattle.gw_map.proofs.Told.{told_front}
+use Rattle.gw_entries.proofs.Told.{told_front}
 use Rattle.gw_map.proofs.indexes.address_index.Goals as goal
 
 pub returns-in_err-add_addresses : goal.returns-in_err-add_addresses

@@ -3,11 +3,11 @@ use Rattle.std.specs.List.{list_any}
 use Rattle.indexmap.proofs.CallerLemmas.{insert_entry-new}
 use Rattle.gw_model.specs.contracts.point.PointKeyPartialEq.TheImpl.{eq-value}
 use Rattle.gw_model.specs.Keys.{same_key}
-use Rattle.gw_map.proofs.Entries.{is_some-false}
-use Rattle.gw_map.proofs.First.{told}
+use Rattle.gw_entries.proofs.Entries.{is_some-false}
+use Rattle.gw_entries.proofs.First.{told}
 use Rattle.gw_map.proofs.Loops.{map_take-more, take_end}
 use Rattle.gw_map.proofs.Repeats.{found_before, rep-more, rep-found, rep-end}
-use Rattle.gw_map.proofs.Told.{tells_first}
+use Rattle.gw_entries.proofs.Told.{tells_first}
 use Rattle.gw_map.proofs.indexes.point_map.Goals as goal
 
 pub returns-then-is_some : goal.returns-then-is_some

@@ -1,7 +1,7 @@
 -- No point so far stood before, and each is kept.
 use Rattle.std.proofs.Common.{◌≡◌, [], drop, take, map}
 use Rattle.gw_model.specs.Keys.{same_key}
-use Rattle.gw_map.specs.Complaints.{repeated}
+use Rattle.gw_map.specs.Sections.{repeated}
 use Rattle.gw_map.proofs.indexes.point_map.Given as goal
 
 abbrev pub invariant-loop-position : goal.invariant-loop-position

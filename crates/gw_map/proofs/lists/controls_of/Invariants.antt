@@ -1,12 +1,13 @@
 -- No entry so far has a complaint, and their values are kept.
 use Rattle.std.proofs.Common.{◌≡◌, drop, take, map}
 use Rattle.toml.specs.View.{table_view}
-use Rattle.gw_map.specs.declared.fault.Section.TheVariants as of
+use Rattle.gw_entries.specs.declared.fault.Section.TheVariants as of
 use Rattle.gw_map.specs.Answers.{seen}
-use Rattle.gw_map.specs.Complaints.{placed, table_wrongs, each_from, control_mismatches}
-use Rattle.gw_map.specs.Fields.{control_fields}
-use Rattle.gw_map.specs.Tables.{control_keys}
-use Rattle.gw_map.specs.Values.{control_of}
+use Rattle.gw_entries.specs.Complaints.{placed, table_wrongs, control_mismatches}
+use Rattle.gw_map.specs.Sections.{each_from}
+use Rattle.gw_entries.specs.Fields.{control_fields}
+use Rattle.gw_entries.specs.Tables.{control_keys}
+use Rattle.gw_entries.specs.Values.{control_of}
 use Rattle.gw_map.proofs.lists.controls_of.Given as goal
 
 abbrev pub invariant-loop-position : goal.invariant-loop-position

@@ -1,6 +1,6 @@
 use Rattle.std.proofs.lemmas.Result.{err_from_is_err_and}
-use Rattle.gw_map.specs.Complaints.{section_complaints}
-use Rattle.gw_map.proofs.Told.{told_front}
+use Rattle.gw_map.specs.Sections.{section_complaints}
+use Rattle.gw_entries.proofs.Told.{told_front}
 use Rattle.gw_map.proofs.lists.outstations_in.Goals as goal
 
 pub returns-in_err-tables-clause-read : goal.returns-in_err-tables-clause-read

@@ -1,22 +1,22 @@
 use Rattle.std.proofs.Common.{arith, ◌∙◌}
 use Rattle.std.proofs.lemmas.Result.{err_from_is_err_and}
 use Rattle.toml.specs.View.{table_view}
-use Rattle.gw_map.specs.declared.fault.Section.TheVariants as of
-use Rattle.gw_map.specs.Complaints.{placed, table_wrongs, no_mismatches}
-use Rattle.gw_map.specs.Tables.{outstation_keys}
-use Rattle.gw_map.specs.Values.{outstation_of}
+use Rattle.gw_entries.specs.declared.fault.Section.TheVariants as of
+use Rattle.gw_entries.specs.Complaints.{placed, table_wrongs, no_mismatches}
+use Rattle.gw_entries.specs.Tables.{outstation_keys}
+use Rattle.gw_entries.specs.Values.{outstation_of}
 use Rattle.gw_map.proofs.Loops.{each_from-more, told_entry, map_take-more, each_from-end, map_take-end}
 use Rattle.gw_map.proofs.lists.outstations_of.Goals as goal
 
-pub returns-in_err-outstation_at-clause-read : goal.returns-in_err-outstation_at-clause-read
-returns-in_err-outstation_at-clause-read c =
-    let p = err_from_is_err_and c.from_residual-in_err-outstation_at.result c.from_residual-in_err-outstation_at.ensures.1 in
-    rw (p.1, p.2) (told_entry (λ position ms. placed of.Outstation position (table_wrongs 0 outstation_keys no_mismatches ms)) (λ table. table_view table.now) _ c.args.tables.now c.loop-position.position c.index-tables-position.result (omega arith) c.loop-position.invariant.none (rw (← c.index-tables-position.is) c.in_err-outstation_at.ensures))
+pub returns-in_err-read-clause-read : goal.returns-in_err-read-clause-read
+returns-in_err-read-clause-read c =
+    let p = err_from_is_err_and c.from_residual-in_err-read.result c.from_residual-in_err-read.ensures.1 in
+    rw (p.1, p.2) (told_entry (λ position ms. placed of.Outstation position (table_wrongs 0 outstation_keys no_mismatches ms)) (λ table. table_view table.now) _ c.args.tables.now c.loop-position.position c.index-tables-position.result (omega arith) c.loop-position.invariant.none (rw (← c.index-tables-position.is) c.in_err-read.ensures))
 
 pub loop-position-preserved : goal.loop-position-preserved
 loop-position-preserved c = record {
-  none = each_from-more (λ position ms. placed of.Outstation position (table_wrongs 0 outstation_keys no_mismatches ms)) (λ table. table_view table.now) c.args.tables.now c.loop-position.position c.index-tables-position.result (omega arith) c.loop-position.invariant.none (rw (← c.index-tables-position.is) c.in_ok-outstation_at.ensures.0);
-  kept = c.in_ok-push.ensures.items ∙ map_take-more (λ table. outstation_of (table_view table.now)) c.args.tables.now c.loop-position.position c.index-tables-position.result c.loop-position.outstations.items c.in_ok-outstation_at.field-0 (omega arith) c.loop-position.invariant.kept (rw (← c.index-tables-position.is) c.in_ok-outstation_at.ensures.1);
+  none = each_from-more (λ position ms. placed of.Outstation position (table_wrongs 0 outstation_keys no_mismatches ms)) (λ table. table_view table.now) c.args.tables.now c.loop-position.position c.index-tables-position.result (omega arith) c.loop-position.invariant.none (rw (← c.index-tables-position.is) c.in_ok-read.ensures.0);
+  kept = c.in_ok-push.ensures.items ∙ map_take-more (λ table. outstation_of (table_view table.now)) c.args.tables.now c.loop-position.position c.index-tables-position.result c.loop-position.outstations.items c.in_ok-read.field-0 (omega arith) c.loop-position.invariant.kept (rw (← c.index-tables-position.is) c.in_ok-read.ensures.1);
 }
 
 pub returns-clause-read : goal.returns-clause-read

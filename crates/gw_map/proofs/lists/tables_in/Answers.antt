@@ -1,10 +1,11 @@
 use Rattle.std.proofs.Common.{◌≡◌, None, Some, sym, ◌<◌, length, arith}
 use Rattle.std.proofs.lemmas.List.{length-map}
 use Rattle.toml.specs.View.{items_view}
-use Rattle.gw_map.specs.Answers.{first, seen}
-use Rattle.gw_map.specs.Complaints.{tables_of}
+use Rattle.gw_entries.specs.Answers.{first}
+use Rattle.gw_map.specs.Answers.{seen}
+use Rattle.gw_map.specs.Sections.{tables_of}
 use Rattle.gw_map.proofs.Loops.{listed_no_array, listed_array, count_told}
-use Rattle.gw_map.proofs.Told.{tells_first}
+use Rattle.gw_entries.proofs.Told.{tells_first}
 use Rattle.gw_map.proofs.lists.tables_in.Goals as goal
 
 pub returns-in_default-as_array-clause-read : goal.returns-in_default-as_array-clause-read

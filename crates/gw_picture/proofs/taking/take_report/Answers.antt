@@ -1,7 +1,7 @@
 use Rattle.std.proofs.Common.{rules, ◌≡◌, ℕ, Option, Some, ap, ◌∙◌}
-use Rattle.gw_model.specs.declared.row.Row.{Row}
+use Rattle.gw_entries.specs.declared.row.Row.{Row}
 use Rattle.gw_model.specs.declared.observation.Observation.{Observation}
-use Rattle.gw_model.specs.Rows.{row_from}
+use Rattle.gw_map.specs.Settings.{row_from}
 use Rattle.gw_model.specs.Places.{change}
 use Rattle.gw_picture.specs.Picture.{picture_by_row, without_time}
 use Rattle.gw_picture.proofs.taking.take_report.Goals as goal

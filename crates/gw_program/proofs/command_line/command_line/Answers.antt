@@ -1,9 +1,10 @@
-use Rattle.std.proofs.Common.{◌≡◌, ◌∙◌, [], ap, is_some, refl}
+use Rattle.std.proofs.Common.{◌≡◌, ◌∙◌, [], ap, refl}
 use Rattle.std.proofs.lemmas.Result.{err_from_is_err_and}
 use Rattle.clap.specs.Words.{App, HasMatchesOf, fault_of}
 use Rattle.clap.specs.Kinds.{HasKind}
 use Rattle.clap.specs.Walk.{texts}
-use Rattle.gw_program.specs.CommandLine.{asked_of}
+use Rattle.clap.proofs.CallerLemmas.{some_of_text}
+use Rattle.gw_program.specs.CommandLine.{asked_of, request_of, spelled}
 use Rattle.gw_program.proofs.LineLemmas.{as_gateway, line_asks, refusal_of}
 use Rattle.gw_program.proofs.command_line.command_line.Goals as goal
 
@@ -20,7 +21,7 @@ unwrap-requires c =
     let words = texts c.args.words.now in
     let none = as_gateway (λ (a : App). fault_of a words ≡ []) _ c.in_ok-gateway_command.ensures c.in_ok-matches.ensures.kinds in
     let met = as_gateway (λ (a : App). HasMatchesOf a words c.in_ok-matches.matches) _ c.in_ok-gateway_command.ensures (λ _. c.in_ok-matches.ensures.matches) in
-    ap is_some (c.asked_by.ensures ∙ ap asked_of (met refl).1) ∙ line_asks words none
+    some_of_text request_of c.asked_by.result (spelled words) (c.asked_by.ensures ∙ ap asked_of (met refl).1) (line_asks words none)
 
 pub returns-clause-taken : goal.returns-clause-taken
 returns-clause-taken c =

@@ -1,5 +1,6 @@
 -- The octets that are written are the ASDU's.
 use Rattle.std.proofs.Common.{◌≡◌, ◌++◌, ◌∙◌, OnOk, List, ℕ, ℤ, take, subst, codes, ap}
+use Rattle.gw_entries.specs.Setup.{StationSetup}
 use Rattle.iec_asdu.specs.Spelling.{spelling}
 use Rattle.gw_text.specs.Text.{asdu_line, line_of}
 use Rattle.gw_text.proofs.text.push_asdu.Goals as goal
@@ -10,8 +11,8 @@ returns c =
     let written = c.write_monitor-written in
     let image = c.args.image.now in
     let settings = c.args.settings.now in
-    let octets : take written.result.octets written.new.out ≡ spelling settings.offset settings.common_address 3 image =
+    let octets : take written.result.octets written.new.out ≡ spelling settings.station.offset_minutes settings.station.common_address 3 image =
     written.ensures.spelled
-    ∙ ap (λ (offset : ℤ). spelling offset c.common_address-common.result 3 image) c.of.ensures
-    ∙ ap (λ (n : ℕ). spelling settings.offset n 3 image) c.common_address-common.ensures in
+    ∙ ap (λ (offset : ℤ). spelling offset c.behind-settings.inside.common_address 3 image) c.zone.ensures
+    ∙ ap (λ (station : StationSetup). spelling settings.station.offset_minutes station.common_address 3 image) (c.behind-settings.view_is ∙ c.station.ensures.station) in
     subst (λ (o : List ℕ). OnOk c.push_line.result (c.push_line.new.text.items ≡ c.args.text.now.items ++ line_of (codes "asdu") o)) octets c.push_line.ensures

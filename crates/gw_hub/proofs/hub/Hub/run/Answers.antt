@@ -1,5 +1,5 @@
 use Rattle.std.proofs.Common.{◌≡◌, List, [], get_or, ap, subst, ◌∙◌, arith}
-use Rattle.gw_model.specs.Rows.{Setup}
+use Rattle.gw_map.specs.Settings.{Setup}
 use Rattle.gw_steps.specs.Sound.{IsSound}
 use Rattle.gw_steps.specs.Steps.{Allowed}
 use Rattle.gw_steps.specs.Runs.{history}
@@ -14,7 +14,7 @@ loop-step-preserved c =
     let same = c.loop-step.invariant.1 in
     let allowed : Allowed c.args.settings before c.step-item.result c.step.result new =
     subst (λ (setup : Setup). Allowed setup before c.step-item.result c.step.result new) same c.step.ensures.step in
-    let sound : IsSound c.args.settings.offset new = subst (λ (setup : Setup). IsSound setup.offset new) (c.step.ensures.setup ∙ same) c.step.ensures.sound in
+    let sound : IsSound c.args.settings.station.offset_minutes new = subst (λ (setup : Setup). IsSound setup.station.offset_minutes new) (c.step.ensures.setup ∙ same) c.step.ensures.sound in
     let is : c.step-item.result ≡ get_or c.args.steps.items c.loop-step.step-index c.step-item.result =
     c.step-item.is ∙ ap (λ (steps : List _). get_or steps c.loop-step.step-index c.step-item.result) c.deref-step-items.ensures.value in (
       omega (arith, c.loop-step.invariant.0, c.in_ok-push.ensures.len),
@@ -27,16 +27,16 @@ pub returns-clause-news : goal.returns-clause-news
 returns-clause-news c =
     let ran : Ran c.args.settings (history [] c.args.steps.items c.loop-step.replies.items) c.loop-step.hub.state =
     run_all c.args.settings c.args.steps.items c.loop-step.replies.items c.loop-step.step-index c.loop-step.hub.state (omega (arith, c.loop-step.auto, c.loop-step-test.false)) c.loop-step.invariant.2 in
-    tells_news c.args.settings _ c.new.ensures.settings.0 (omega (arith, c.new.ensures.settings.1.1)) ran.run ran.sound
+    tells_news c.args.settings _ c.new.ensures.settings.0 (omega (arith, c.new.ensures.settings.1.common_address.1)) ran.run ran.sound
 
 pub returns-clause-confirms : goal.returns-clause-confirms
 returns-clause-confirms c =
     let ran : Ran c.args.settings (history [] c.args.steps.items c.loop-step.replies.items) c.loop-step.hub.state =
     run_all c.args.settings c.args.steps.items c.loop-step.replies.items c.loop-step.step-index c.loop-step.hub.state (omega (arith, c.loop-step.auto, c.loop-step-test.false)) c.loop-step.invariant.2 in
-    confirms_taken c.args.settings _ c.new.ensures.settings.0 (omega (arith, c.new.ensures.settings.1.1)) ran.run ran.sound
+    confirms_taken c.args.settings _ c.new.ensures.settings.0 (omega (arith, c.new.ensures.settings.1.common_address.1)) ran.run ran.sound
 
 pub returns-clause-numbers : goal.returns-clause-numbers
 returns-clause-numbers c =
     let ran : Ran c.args.settings (history [] c.args.steps.items c.loop-step.replies.items) c.loop-step.hub.state =
     run_all c.args.settings c.args.steps.items c.loop-step.replies.items c.loop-step.step-index c.loop-step.hub.state (omega (arith, c.loop-step.auto, c.loop-step-test.false)) c.loop-step.invariant.2 in
-    numbers_in_order c.args.settings _ c.new.ensures.settings.0 (omega (arith, c.new.ensures.settings.1.1)) ran.run ran.sound
+    numbers_in_order c.args.settings _ c.new.ensures.settings.0 (omega (arith, c.new.ensures.settings.1.common_address.1)) ran.run ran.sound

@@ -1,7 +1,7 @@
 use Rattle.std.proofs.Common.{◌≡◌, ◌==◌, ◌<◌, length, map, Some, None, refl, sym, ◌∙◌, arith}
 use Rattle.std.specs.Map.{values_of}
 use Rattle.std.proofs.lemmas.List.{length-map}
-use Rattle.gw_map.specs.Complaints.{same_number}
+use Rattle.gw_map.specs.Sections.{same_number}
 use Rattle.gw_map.proofs.Finding.{none_at_all, only_in_front, some_behind, position-from, slice_get-from_get_or}
 use Rattle.gw_map.proofs.settings.Settings.control_at.Goals as goal
 

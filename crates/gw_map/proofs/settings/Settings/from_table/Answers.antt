@@ -2,12 +2,12 @@ use Rattle.std.proofs.Common.{◌≡◌, length, map, codes, sym, ap, ◌∙◌}
 use Rattle.std.specs.Map.{values_of}
 use Rattle.std.proofs.lemmas.Result.{err_from_is_err_and}
 use Rattle.toml.specs.View.{table_view}
-use Rattle.gw_map.specs.Complaints.{entries}
-use Rattle.gw_map.specs.Fields.{row_fields}
+use Rattle.gw_map.specs.Sections.{entries}
+use Rattle.gw_entries.specs.Fields.{row_fields}
 use Rattle.gw_map.specs.Settings.{addresses_of}
-use Rattle.gw_map.specs.Values.{outstation_of, row_of}
+use Rattle.gw_entries.specs.Values.{outstation_of, row_of}
 use Rattle.gw_map.proofs.Repeats.{map-nothing}
-use Rattle.gw_map.proofs.Told.{told_front}
+use Rattle.gw_entries.proofs.Told.{told_front}
 use Rattle.gw_map.proofs.Whole.{same_length, same_length_of, same_keys, same_addresses, same_control_addresses, kept_values}
 use Rattle.gw_map.proofs.settings.Settings.from_table.Goals as goal
 

@@ -1,5 +1,5 @@
 use Rattle.toml.specs.View.{table_view}
-use Rattle.gw_map.specs.Complaints.{complaints_of}
+use Rattle.gw_map.specs.Sections.{complaints_of}
 use Rattle.gw_map.specs.Meaning.{setup_of}
 use Rattle.gw_map.specs.Settings.{setup_fields}
 use Rattle.gw_map.proofs.Whole.{gives}

@@ -1,6 +1,6 @@
 use Rattle.std.proofs.Common.{◌==◌, map, option_map, Some, None, refl, sym, ap, ◌∙◌, arith}
 use Rattle.std.specs.Map.{values_of}
-use Rattle.gw_map.specs.Complaints.{same_number}
+use Rattle.gw_map.specs.Sections.{same_number}
 use Rattle.gw_map.proofs.Finding.{none_front, past_front, some_front-zero, position-from, slice_get-map}
 use Rattle.gw_map.proofs.settings.Settings.row_at.Goals as goal
 

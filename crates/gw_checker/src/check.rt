@@ -1,0 +1,33 @@
+//! `gateway check`.
+ghost use Rattle.std.specs.Prelude.{◌≤◌};
+
+use crate::listing::write_listing;
+use crate::reading::read_settings;
+use std::alloc::Global;
+use std::io::{self, Write};
+
+/// Writes what the octets of a settings file mean: a line for each point and each control, and how many there are; or
+/// `refused` with what is wrong. The status is 0, or 1 where they are refused or writing failed.
+pub fn check_settings<W: Write + Drop>(alloc: Global, octets: &[u8], writer: W) -> u8
+    ensures few { result ≤ 1 }
+{
+    let mut writer = writer;
+    match write_check(alloc, octets, &mut writer) {
+        Ok(true) if writer.flush().is_ok() => 0,
+        _ => 1,
+    }
+}
+
+/// Writes what the octets mean or what is wrong; whether they are settings.
+fn write_check<W: Write>(alloc: Global, octets: &[u8], writer: &mut W) -> io::Result<bool> {
+    match read_settings(alloc, octets) {
+        Ok(settings) => {
+            write_listing(&settings, writer)?;
+            Ok(true)
+        }
+        Err(why) => {
+            writeln!(writer, "refused {why}")?;
+            Ok(false)
+        }
+    }
+}

@@ -1,0 +1,58 @@
+//! Reading settings files.
+
+use gw_map::{Settings, SettingsFault};
+use std::alloc::{AllocError, Global};
+use std::fs::File;
+use std::io::{self, ErrorKind, Read};
+use std::rt::Files;
+use std::str;
+use thiserror::Error;
+
+/// How many octets a settings file may have. One with 20,000 controls, each with all of its keys, has some four million.
+pub const LONGEST_FILE: u64 = 16_777_216;
+
+/// Why a settings file can't be used.
+#[derive(Debug, Drop, Error)]
+pub enum Unusable {
+    /// It can't be read, or is too long.
+    #[error("file")]
+    File,
+    /// Memory ran out while it was read.
+    #[error("memory")]
+    Memory,
+    /// It is no text in UTF-8.
+    #[error("1 Toml")]
+    NotText,
+    /// The text is refused.
+    #[error("{0}")]
+    Refused(SettingsFault),
+}
+
+impl From<io::Error> for Unusable {
+    fn from(error: io::Error) -> Unusable {
+        match error.kind() {
+            ErrorKind::OutOfMemory => Unusable::Memory,
+            _ => Unusable::File,
+        }
+    }
+}
+
+/// The octets of a settings file.
+pub fn read_file<R: Files>(alloc: Global, rt: &R, path: &str) -> Result<Vec<u8>, Unusable> {
+    let mut octets = Vec::new(alloc);
+    let file = File::open(rt, path)?;
+    let mut front = file.take(LONGEST_FILE + 1);
+    front.read_to_end(&mut octets)?;
+    if octets.len() as u64 > LONGEST_FILE {
+        return Err(Unusable::File);
+    }
+    Ok(octets)
+}
+
+/// The settings that the octets of a file spell.
+pub fn read_settings(alloc: Global, octets: &[u8]) -> Result<Settings, Unusable> {
+    match str::from_utf8(octets) {
+        Ok(text) => Settings::read(alloc, text).map_err(Unusable::Refused),
+        Err(_) => Err(Unusable::NotText),
+    }
+}

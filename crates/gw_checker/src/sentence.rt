@@ -1,0 +1,132 @@
+//! What is wrong with a settings file, in a sentence for a person.
+
+use crate::allowed::allowed;
+use crate::reading::{Unusable, read_settings};
+use gw_map::{Fault, Place, Section, SettingsFault};
+use std::alloc::Global;
+use std::io::{self, Write};
+use std::str;
+use toml::{Table, Value};
+
+/// Writes a sentence on what is wrong with the octets of a settings file: which entry, what was found there, and what
+/// is allowed; for a text that is no TOML document the line and column where reading stopped. Writes nothing where
+/// they are settings.
+pub fn explain<W: Write>(alloc: Global, octets: &[u8], writer: &mut W) -> io::Result<()> {
+    match read_settings(alloc, octets) {
+        Ok(_settings) => Ok(()),
+        Err(Unusable::File) => writeln!(writer, "The file can't be read."),
+        Err(Unusable::Memory) => writeln!(writer, "There is not enough memory to read the file."),
+        Err(Unusable::NotText) => writeln!(writer, "The file is no text in UTF-8."),
+        Err(Unusable::Refused(SettingsFault::Toml(error))) => {
+            writeln!(writer, "The file is no TOML document: {error}")
+        }
+        Err(Unusable::Refused(SettingsFault::Memory)) => {
+            writeln!(writer, "There is not enough memory to read the file.")
+        }
+        Err(Unusable::Refused(SettingsFault::Refused(fault, place))) => {
+            explain_place(alloc, octets, fault, &place, writer)
+        }
+    }
+}
+
+/// Writes a sentence on what is wrong at a place of a document.
+fn explain_place<W: Write>(
+    alloc: Global,
+    octets: &[u8],
+    fault: Fault,
+    place: &Place,
+    writer: &mut W,
+) -> io::Result<()> {
+    let Ok(text) = str::from_utf8(octets) else {
+        return Ok(());
+    };
+    let Ok(top) = toml::table_from_str(alloc, text) else {
+        return Ok(());
+    };
+    let entry = entry_at(&top, place);
+    write_entry(place, entry, writer)?;
+    write_found(fault, place, &top, entry, writer)?;
+    let allowed = allowed(place.section, place.key.as_str());
+    writeln!(writer, "; allowed: {allowed}.")
+}
+
+/// The entries of a section that is a list.
+fn entries<'a>(top: &'a Table, section: Section) -> &'a [Value] {
+    let found = top.get(section.name()).and_then(|value| value.as_array());
+    match found {
+        Some(values) => values.as_slice(),
+        None => &[],
+    }
+}
+
+/// The table of a place, if it has one.
+fn entry_at<'a>(top: &'a Table, place: &Place) -> Option<&'a Table> {
+    match place.section {
+        Section::Top => Some(top),
+        Section::Station => top.get("station")?.as_table(),
+        section => entries(top, section).get(place.position)?.as_table(),
+    }
+}
+
+/// The whole number at a key of a table, if there is one.
+fn number_at(table: Option<&Table>, key: &str) -> Option<i64> {
+    table?.get(key)?.as_integer()
+}
+
+/// Writes which entry it is: its section, its position, and its address and outstation where it has them.
+fn write_entry<W: Write>(place: &Place, entry: Option<&Table>, writer: &mut W) -> io::Result<()> {
+    let section = place.section.name();
+    match place.section {
+        Section::Top | Section::Station => return write!(writer, "{section}: "),
+        Section::Outstation | Section::Point | Section::Control => {}
+    }
+    write!(writer, "{section} {}", place.position)?;
+    if let Some(outstation) = number_at(entry, "outstation") {
+        write!(writer, " of outstation {outstation}")?;
+    }
+    if let Some(address) = number_at(entry, "address") {
+        write!(writer, " with address {address}")?;
+    }
+    write!(writer, ": ")
+}
+
+/// Writes what was found.
+fn write_found<W: Write>(
+    fault: Fault,
+    place: &Place,
+    top: &Table,
+    entry: Option<&Table>,
+    writer: &mut W,
+) -> io::Result<()> {
+    let key = place.key.as_str();
+    match fault {
+        Fault::UnknownKey => write!(writer, "there is no key {key}"),
+        Fault::Missing => write!(writer, "{key} is missing"),
+        Fault::OutOfRange if key == "count" => {
+            let count = entries(top, place.section).len();
+            write!(writer, "there are {count}")
+        }
+        _ => {
+            write!(writer, "{key} is ")?;
+            write_value(entry.and_then(|table| table.get(key)), writer)
+        }
+    }
+}
+
+/// Writes a value, or of which type it is.
+fn write_value<W: Write>(value: Option<&Value>, writer: &mut W) -> io::Result<()> {
+    let Some(value) = value else {
+        return write!(writer, "left out, so its default stands");
+    };
+    if let Some(number) = value.as_integer() {
+        return write!(writer, "{number}");
+    }
+    if let Some(text) = value.as_str() {
+        return write!(writer, "\"{text}\"");
+    }
+    if let Some(flag) = value.as_bool() {
+        return write!(writer, "{flag}");
+    }
+    let kind = value.type_str();
+    write!(writer, "of type {kind}")
+}

@@ -1,0 +1,14 @@
+pub mod Texts
+pub mod Shown
+pub mod Tables
+pub mod Known
+pub mod Setup
+pub mod Values
+pub mod Complaints
+pub mod Faults
+pub mod Ranges
+pub mod Seen
+pub mod Fields
+pub mod Answers
+pub mod Parts
+pub mod Example

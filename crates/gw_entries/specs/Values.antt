@@ -1,0 +1,143 @@
+-- What the tables of a settings file mean that break no rule.
+use Prim.Native.String.{String as Name}
+use Rattle.std.specs.Prelude.{ℕ, ℤ, pos, nat_abs, Bool, false, List, [], ◌∷◌, codes, Option, Some, None, unwrap_or, bytes_eq, if◌then◌else◌}
+use Rattle.std.specs.Option.{option_or}
+use Rattle.toml.specs.Data.{Data, string, integer, boolean, Members, get_member}
+use Rattle.gw_model.specs.declared.point.Kind.{Kind}
+use Rattle.gw_model.specs.declared.point.Kind.TheVariants as kind
+use Rattle.gw_model.specs.declared.point.PointKey.{PointKey}
+use Rattle.gw_model.specs.declared.poll.Poll.{Poll}
+use Rattle.gw_entries.specs.declared.row.Show.{Show}
+use Rattle.gw_entries.specs.declared.control.ControlShow.{ControlShow}
+use Rattle.gw_entries.specs.declared.control.ControlShow.TheVariants as control
+use Rattle.gw_entries.specs.declared.control.Mode.{Mode}
+use Rattle.gw_entries.specs.declared.control.Mode.TheVariants.{Direct}
+use Rattle.gw_entries.specs.declared.control.Rest.{Rest}
+use Rattle.gw_entries.specs.declared.control.Rest.TheVariants.{Latch}
+use Rattle.gw_entries.specs.Texts.{among}
+use Rattle.gw_entries.specs.Shown.{usual_show}
+use Rattle.gw_entries.specs.Tables.{KeyRule, Absence, default, required, usual_type, station_keys, outstation_keys, point_keys, control_keys, kinds, shows, control_shows, modes, rests}
+use Rattle.gw_entries.specs.Setup.{StationSetup, OutstationSetup, RowFields, Operation, single, double, setpoint, ControlFields}
+
+-- ---- what stands at a key
+
+abbrev pub default_of : Absence → Option Data
+default_of required = None
+default_of (default d) = Some d
+default_of usual_type = None
+
+-- the value at a key of a table, or what is meant where it's left out
+unfoldable pub value_or : Absence → List ℕ → Members → Option Data
+value_or absence key table = option_or (get_member key table) (default_of absence)
+
+-- the same by the rules of the table
+abbrev pub value_at : List KeyRule → List ℕ → Members → Option Data
+value_at [] key table = None
+value_at (rule ∷ rules) key table =
+    if bytes_eq rule.key key then value_or rule.absence rule.key table else value_at rules key table
+
+abbrev pub as_number : Option Data → ℕ
+as_number (Some (integer z)) = nat_abs z
+as_number _ = 0
+
+abbrev pub as_signed : Option Data → ℤ
+as_signed (Some (integer z)) = z
+as_signed _ = pos 0
+
+abbrev pub as_text : Option Data → List ℕ
+as_text (Some (string text)) = text
+as_text _ = []
+
+abbrev pub as_flag : Option Data → Bool
+as_flag (Some (boolean b)) = b
+as_flag _ = false
+
+abbrev pub as_word : {A : Type 0} → List (List ℕ × A) → Option Data → Option A
+as_word pairs (Some (string text)) = among pairs text
+as_word pairs _ = None
+
+abbrev pub number_in : List KeyRule → Name → Members → ℕ
+number_in rules name table = as_number (value_at rules (codes name) table)
+
+-- ---- the tables
+
+unfoldable pub station_of : Members → StationSetup
+station_of table = record {
+  common_address = number_in station_keys "common_address" table;
+  master_address = number_in station_keys "master_address" table;
+  offset_minutes = as_signed (value_at station_keys (codes "offset_minutes") table);
+  k = number_in station_keys "k" table;
+  w = number_in station_keys "w" table;
+  t1_ms = number_in station_keys "t1_ms" table;
+  t2_ms = number_in station_keys "t2_ms" table;
+  t3_ms = number_in station_keys "t3_ms" table;
+  queue = number_in station_keys "queue" table;
+  select_ms = number_in station_keys "select_ms" table;
+  recorder = number_in station_keys "recorder" table;
+  listen = as_text (value_at station_keys (codes "listen") table);
+}
+
+abbrev pub poll_of : Members → Poll
+poll_of table = record {
+  poll_ms = number_in outstation_keys "poll_ms" table;
+  integrity_ms = number_in outstation_keys "integrity_ms" table;
+  response_ms = number_in outstation_keys "response_ms" table;
+  unsolicited = as_flag (value_at outstation_keys (codes "unsolicited") table);
+  lan_time = as_flag (value_at outstation_keys (codes "lan_time") table);
+}
+
+unfoldable pub outstation_of : Members → OutstationSetup
+outstation_of table = record {
+  address = number_in outstation_keys "address" table;
+  connect = as_text (value_at outstation_keys (codes "connect") table);
+  poll = poll_of table;
+}
+
+unfoldable pub kind_in : Members → Kind
+kind_in table = unwrap_or (as_word kinds (value_at point_keys (codes "kind") table)) kind.Binary
+
+unfoldable pub show_in : Members → Show
+show_in table = unwrap_or (as_word shows (value_at point_keys (codes "show") table)) (usual_show (kind_in table))
+
+-- the point that a row is for
+abbrev pub source_of : Members → PointKey
+source_of table = record {
+  outstation = number_in point_keys "outstation" table;
+  kind = kind_in table;
+  index = number_in point_keys "index" table;
+}
+
+unfoldable pub row_of : Members → RowFields
+row_of table = record {
+  key = source_of table;
+  address = number_in point_keys "address" table;
+  show = show_in table;
+  num = number_in point_keys "num" table;
+  den = number_in point_keys "den" table;
+}
+
+unfoldable pub control_show_in : Members → ControlShow
+control_show_in table = unwrap_or (as_word control_shows (value_at control_keys (codes "show") table)) control.Single
+
+unfoldable pub mode_in : Members → Mode
+mode_in table = unwrap_or (as_word modes (value_at control_keys (codes "mode") table)) Direct
+
+unfoldable pub rest_in : Members → Rest
+rest_in table = unwrap_or (as_word rests (value_at control_keys (codes "rest") table)) Latch
+
+abbrev pub operation : ControlShow → Members → Operation
+operation control.Single table =
+    single (rest_in table) (number_in control_keys "short_ms" table) (number_in control_keys "long_ms" table)
+operation control.Double table =
+    double (rest_in table) (number_in control_keys "short_ms" table) (number_in control_keys "long_ms" table)
+operation control.Setpoint table = setpoint (number_in control_keys "num" table) (number_in control_keys "den" table)
+
+unfoldable pub control_of : Members → ControlFields
+control_of table = record {
+  outstation = number_in control_keys "outstation" table;
+  index = number_in control_keys "index" table;
+  address = number_in control_keys "address" table;
+  select = as_flag (value_at control_keys (codes "select") table);
+  mode = mode_in table;
+  operates = operation (control_show_in table) table;
+}

@@ -1,0 +1,21 @@
+//! One table of a settings file: the station, an outstation, a point's row of the point map, or a control; and what is
+//! wrong with it.
+#![tactic(auto)]
+
+mod control;
+mod controls;
+mod entry;
+mod fault;
+mod keys;
+mod outstation;
+mod points;
+mod row;
+mod station;
+
+pub use control::{Control, Mode, Operates, Pulses, Rest};
+pub use entry::value_at;
+pub use fault::{Fault, KeyFault, KeyName, Place, Section, SettingsFault};
+pub use keys::check_keys;
+pub use outstation::Outstation;
+pub use row::{Row, Scale, Show};
+pub use station::Station;
