@@ -3,3 +3,4 @@ pub mod Rows
 pub mod Within
 pub mod Echoes
 pub mod EchoLaws
+pub mod Written

@@ -2,3 +2,5 @@ pub mod Control
 pub mod Response
 pub mod Echo
 pub mod SteppedOver
+pub mod Requests
+pub mod Asking

@@ -8,6 +8,8 @@ ghost use Rattle.dnp_app.specs.Control.{control_of, confirmation_of, confirm_of}
 ghost use Rattle.dnp_app.specs.Echo.{echo_of};
 ghost use Rattle.dnp_app.specs.Response.{response_of, fragment_of};
 ghost use Rattle.dnp_app.specs.SteppedOver.{stepped_over_count_of};
+ghost use Rattle.dnp_app.specs.Requests.{clear_restart_octets, disable_octets, enable_octets, read_octets, record_time_octets, write_time_octets};
+ghost use Rattle.dnp_app.specs.Asking.{asking_of, asks_for, Read, WriteIndication};
 
 /// What some fragments are, read for an outstation, and which fault others have.
 #[tactic(auto, unfolding(dnp_objects::specs::Headers::headers_from, dnp_objects::specs::Library::object_of, dnp_points::specs::Objects::point_report))]
@@ -140,4 +142,33 @@ pub fn stepped_over_by_example()
         ∷ 0x29 ∷ 0x02 ∷ 0x17 ∷ 0x01 ∷ 0x04 ∷ 0xE8 ∷ 0x03 ∷ 0x00
         ∷ 0x02 ∷ 0x03 ∷ 0x17 ∷ 0x01 ∷ 0x05 ∷ 0x81 ∷ 0xFF ∷ 0xFF ∷ []) ≡ 0 }
     ensures empty { stepped_over_count_of (0xC0 ∷ 0x81 ∷ 0x00 ∷ 0x00 ∷ []) ≡ 0 }
+{}
+
+/// The octets of requests, and what octets ask for that this master doesn't write.
+pub fn requests_by_example()
+    ensures integrity { read_octets true 0
+        ≡ 0xC0 ∷ 0x01 ∷ 0x3C ∷ 0x02 ∷ 0x06 ∷ 0x3C ∷ 0x03 ∷ 0x06 ∷ 0x3C ∷ 0x04 ∷ 0x06 ∷ 0x3C ∷ 0x01 ∷ 0x06 ∷ [] }
+    ensures events { read_octets false 2
+        ≡ 0xC2 ∷ 0x01 ∷ 0x3C ∷ 0x02 ∷ 0x06 ∷ 0x3C ∷ 0x03 ∷ 0x06 ∷ 0x3C ∷ 0x04 ∷ 0x06 ∷ [] }
+    ensures disable { disable_octets 0
+        ≡ 0xC0 ∷ 0x15 ∷ 0x3C ∷ 0x02 ∷ 0x06 ∷ 0x3C ∷ 0x03 ∷ 0x06 ∷ 0x3C ∷ 0x04 ∷ 0x06 ∷ [] }
+    ensures enable { enable_octets 15
+        ≡ 0xCF ∷ 0x14 ∷ 0x3C ∷ 0x02 ∷ 0x06 ∷ 0x3C ∷ 0x03 ∷ 0x06 ∷ 0x3C ∷ 0x04 ∷ 0x06 ∷ [] }
+    ensures clear_restart { clear_restart_octets 1 ≡ 0xC1 ∷ 0x02 ∷ 0x50 ∷ 0x01 ∷ 0x00 ∷ 0x07 ∷ 0x07 ∷ 0x00 ∷ [] }
+    ensures record_time { record_time_octets 1 ≡ 0xC1 ∷ 0x18 ∷ [] }
+    // 22:13:20 on 14 November 2023; and a time of more than 48 bits, of which the low ones are written.
+    ensures write_time { write_time_octets 1700000000000 2
+        ≡ 0xC2 ∷ 0x02 ∷ 0x32 ∷ 0x03 ∷ 0x07 ∷ 0x01 ∷ 0x00 ∷ 0x68 ∷ 0xE5 ∷ 0xCF ∷ 0x8B ∷ 0x01 ∷ [] }
+    ensures write_late { write_time_octets 18446744073709551615 2
+        ≡ 0xC2 ∷ 0x02 ∷ 0x32 ∷ 0x03 ∷ 0x07 ∷ 0x01 ∷ 0xFF ∷ 0xFF ∷ 0xFF ∷ 0xFF ∷ 0xFF ∷ 0xFF ∷ [] }
+    // Class 0 alone; a variation that is no class; a count in place of all objects; a header cut short; an indication
+    // that is set; two indications; an octet behind RECORD_CURRENT_TIME; no function.
+    ensures static_alone { asking_of (0xC3 ∷ 1 ∷ 0x3C ∷ 1 ∷ 6 ∷ []) ≡ asks_for 3 (Read (0 ∷ [])) }
+    ensures no_class { asking_of (0xC0 ∷ 1 ∷ 0x3C ∷ 5 ∷ 6 ∷ []) ≡ None }
+    ensures counted { asking_of (0xC0 ∷ 1 ∷ 0x3C ∷ 2 ∷ 7 ∷ []) ≡ None }
+    ensures cut { asking_of (0xC0 ∷ 1 ∷ 0x3C ∷ 2 ∷ []) ≡ None }
+    ensures sets { asking_of (0xC0 ∷ 2 ∷ 0x50 ∷ 1 ∷ 0 ∷ 4 ∷ 4 ∷ 1 ∷ []) ≡ asks_for 0 (WriteIndication 4 true) }
+    ensures two { asking_of (0xC0 ∷ 2 ∷ 0x50 ∷ 1 ∷ 0 ∷ 4 ∷ 7 ∷ 0 ∷ []) ≡ None }
+    ensures recorded_more { asking_of (0xC0 ∷ 24 ∷ 0 ∷ []) ≡ None }
+    ensures no_function { asking_of (0xC0 ∷ []) ≡ None }
 {}

@@ -1,5 +1,5 @@
-//! Fragments of the DNP3 application layer (IEEE Std 1815, clause 4): reading a response, and the
-//! confirmation of one.
+//! Fragments of the DNP3 application layer (IEEE Std 1815, clause 4): reading a response, the
+//! confirmation of one, and writing requests.
 #![tactic(auto)]
 
 mod confirmation;
@@ -7,14 +7,17 @@ mod echoed;
 mod examples;
 mod fault;
 mod law;
+mod request;
 mod response;
 mod skipped;
 
 pub use confirmation::confirm;
 pub use echoed::Echo;
 pub use examples::{
-    controls_by_example, echoes_by_example, fragments_by_example, stepped_over_by_example,
+    controls_by_example, echoes_by_example, fragments_by_example, requests_by_example,
+    stepped_over_by_example,
 };
 pub use fault::AppFault;
 pub use law::one_echo;
+pub use request::{Request, clear_restart, disable, enable, read_poll, record_time, write_time};
 pub use response::{Control, Response, read_response};
