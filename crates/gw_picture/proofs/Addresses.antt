@@ -5,7 +5,7 @@ use Rattle.std.proofs.lemmas.Bool.{cases_Bool, true≢false, eqb-true, eq-eqb}
 use Rattle.gw_entries.specs.declared.control.Control.{Control}
 use Rattle.gw_entries.specs.declared.row.Row.{Row}
 use Rattle.gw_map.specs.Sections.{repeated, same_number}
-use Rattle.gw_map.specs.Settings.{addresses_of, HasSingleAddresses}
+use Rattle.gw_map.specs.Settings.{HasSingleAddresses}
 
 -- no row has this address
 abbrev pub is_fresh : ℕ → List Row → Bool

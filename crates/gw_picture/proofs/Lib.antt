@@ -4,3 +4,5 @@ pub mod Counts
 pub mod Addresses
 pub mod Logs
 pub mod Rows
+pub mod Losses
+pub mod Shows

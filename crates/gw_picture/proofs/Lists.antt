@@ -1,5 +1,5 @@
 -- A change at one place of a list, and a change everywhere.
-use Rattle.std.proofs.Common.{◌≡◌, ℕ, zero, suc, ◌<◌, ◌≤◌, List, [], ◌∷◌, map, length, get_or, Some, None, refl, sym, ap, arith}
+use Rattle.std.proofs.Common.{◌≡◌, ℕ, zero, suc, ◌<◌, ◌≤◌, List, [], ◌∷◌, map, length, drop, get_or, Some, None, refl, sym, ap, arith}
 use Rattle.std.specs.Prelude.{slice_get, option_map}
 use Rattle.std.proofs.Math.ListN.{set}
 use Rattle.gw_model.specs.Places.{change}
@@ -34,6 +34,29 @@ pub change-same : {A : Type 0} (n : ℕ) (y : A) (xs : List A) → slice_get xs 
 change-same n y [] e = refl
 change-same zero y (x ∷ xs) e = ap (λ (z : _). z ∷ xs) (sym (some_is x y e))
 change-same (suc n) y (x ∷ xs) e = ap (λ (zs : List _). x ∷ zs) (change-same n y xs e)
+
+-- nor does one that leaves what is there as it is
+pub change-still : {A : Type 0} (n : ℕ) (f : A → A) (xs : List A) → ((x : A) → slice_get xs n ≡ Some x → f x ≡ x) → change n f xs ≡ xs
+change-still n f [] same = refl
+change-still zero f (x ∷ xs) same = ap (λ (z : _). z ∷ xs) (same x refl)
+change-still (suc n) f (x ∷ xs) same = ap (λ (zs : List _). x ∷ zs) (change-still n f xs same)
+
+-- a change by f, where it is known what f makes of what is there
+pub change-by : {A : Type 0} (n : ℕ) (f : A → A) (y : A) (xs : List A) → ((x : A) → slice_get xs n ≡ Some x → f x ≡ y) → change n f xs ≡ change n (λ _. y) xs
+change-by n f y [] makes = refl
+change-by zero f y (x ∷ xs) makes = ap (λ (z : _). z ∷ xs) (makes x refl)
+change-by (suc n) f y (x ∷ xs) makes = ap (λ (zs : List _). x ∷ zs) (change-by n f y xs makes)
+
+pub change-length : {A : Type 0} (n : ℕ) (f : A → A) (xs : List A) → length (change n f xs) ≡ length xs
+change-length n f [] = refl
+change-length zero f (x ∷ xs) = refl
+change-length (suc n) f (x ∷ xs) = ap suc (change-length n f xs)
+
+-- what stands behind the place stays
+pub change-behind : {A : Type 0} (n : ℕ) (f : A → A) (xs : List A) → drop (suc n) (change n f xs) ≡ drop (suc n) xs
+change-behind n f [] = refl
+change-behind zero f (x ∷ xs) = refl
+change-behind (suc n) f (x ∷ xs) = change-behind n f xs
 
 -- a change that keeps what f tells of the element keeps what it tells of all
 pub change-maps : {A B : Type 0} (f : A → B) (n : ℕ) (x : A) (xs : List A) → ((y : A) → slice_get xs n ≡ Some y → f x ≡ f y) → map f (change n (λ _. x) xs) ≡ map f xs

@@ -1,5 +1,5 @@
 -- The picture that is kept is the picture of the log.
-use Rattle.std.proofs.Common.{◌≡◌, ℕ, ℤ, suc, ◌+◌, ◌-◌, ◌≤◌, Bool, true, false, not, ◌&&◌, cond, eqb, List, [], ◌∷◌, ◌++◌, Option, Some, None, refl, sym, ap, subst, ◌∙◌, append_assoc, arith, inl, inr}
+use Rattle.std.proofs.Common.{◌≡◌, ℕ, ℤ, suc, ◌+◌, ◌-◌, ◌≤◌, Bool, true, false, not, cond, eqb, List, [], ◌∷◌, ◌++◌, Option, Some, None, refl, sym, ap, subst, ◌∙◌, append_assoc, arith, inl, inr}
 use Rattle.std.specs.Prelude.{slice_get}
 use Rattle.std.proofs.lemmas.Bool.{and_parts, cases_Bool, not-true, eqb-true, ne_eqb, eqb-false, eq-eqb}
 use Rattle.std.proofs.lemmas.List.{append-nil}
@@ -65,7 +65,7 @@ pick_address : (b : Bool) (y shown : Observation) (address : ℕ) → (b ≡ tru
 pick_address true y shown address here e = here refl
 pick_address false y shown address here e = e
 
-last_observation-address : (address : ℕ) (shown : Observation) (log : List Observation) → shown.address ≡ address → (last_observation address shown log).address ≡ address
+pub last_observation-address : (address : ℕ) (shown : Observation) (log : List Observation) → shown.address ≡ address → (last_observation address shown log).address ≡ address
 last_observation-address address shown [] e = e
 last_observation-address address shown (y ∷ log) e =
     last_observation-address address (cond (eqb y.address address) (without_time y) shown) log (pick_address (eqb y.address address) y shown address (eqb-true y.address address) e)
@@ -81,7 +81,7 @@ last_observation-stamp address shown (y ∷ log) e = last_observation-stamp addr
 -- ---- one more observation in the log
 
 -- what a row shows by a log
-abbrev shown_by : List Observation → Row → Observation
+abbrev pub shown_by : List Observation → Row → Observation
 shown_by log row = last_observation row.address (opening row) log
 
 same_elsewhere : (log : List Observation) (x : Observation) (row : Row) → eqb x.address row.address ≡ false → shown_by (log ++ x ∷ []) row ≡ shown_by log row
@@ -100,7 +100,7 @@ fresh_same log x first (r ∷ rows) fresh e =
     let there : eqb x.address r.address ≡ false = ap (λ (a : ℕ). eqb a r.address) e ∙ other in
     ap (λ (y : Observation). y ∷ picture_of rows (log ++ x ∷ [])) (same_elsewhere log x r there) ∙ ap (λ (ys : List Observation). shown_by log r ∷ ys) (fresh_same log x first rows parts.1 e)
 
-swap : (a b : ℕ) → eqb a b ≡ false → eqb b a ≡ false
+pub swap : (a b : ℕ) → eqb a b ≡ false → eqb b a ≡ false
 swap a b e = ne_eqb b a (λ same. eqb-false a b e (sym same))
 
 -- the picture with the observation at its row is the picture of the log with it

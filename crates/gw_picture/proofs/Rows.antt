@@ -20,13 +20,13 @@ use Rattle.gw_picture.proofs.Lists.{some_is, change-here, change-there, change-s
 use Rattle.gw_picture.proofs.Images.{image_address, no_news}
 use Rattle.gw_picture.proofs.Logs.{row_from-le, pair, pair_is}
 
-abbrev address_of : Observation → ℕ
+abbrev pub address_of : Observation → ℕ
 address_of x = x.address
 
 abbrev row_address : Row → ℕ
 row_address row = row.address
 
-abbrev IsUntimed : Observation → Type 0
+abbrev pub IsUntimed : Observation → Type 0
 IsUntimed x = x.stamp ≡ Untimed
 
 -- ---- at first
@@ -61,12 +61,12 @@ row_from-get k n key (r ∷ rows) row found =
 row_at : (key : PointKey) (rows : List Row) (n : ℕ) (row : Row) → row_from 0 key rows ≡ Some (n, row) → slice_get rows n ≡ Some row
 row_at key rows n row found = let zero_off : n - 0 ≡ n = omega arith in rw zero_off at (row_from-get 0 n key rows row found)
 
-all_get : (P : Observation → Type 0) (xs : List Observation) (n : ℕ) (y : Observation) → AllByRecursion P xs → slice_get xs n ≡ Some y → P y
+pub all_get : (P : Observation → Type 0) (xs : List Observation) (n : ℕ) (y : Observation) → AllByRecursion P xs → slice_get xs n ≡ Some y → P y
 all_get P [] n y all e = absurd cc
 all_get P (x ∷ xs) zero y all e = subst P (some_is x y e) all.0
 all_get P (x ∷ xs) (suc n) y all e = all_get P xs n y all.1 e
 
-all_change : (P : Observation → Type 0) (n : ℕ) (x : Observation) (xs : List Observation) → P x → AllByRecursion P xs → AllByRecursion P (change n (λ _. x) xs)
+pub all_change : (P : Observation → Type 0) (n : ℕ) (x : Observation) (xs : List Observation) → P x → AllByRecursion P xs → AllByRecursion P (change n (λ _. x) xs)
 all_change P n x [] p all = tt
 all_change P zero x (y ∷ xs) p all = (p, all.1)
 all_change P (suc n) x (y ∷ xs) p all = (all.0, all_change P n x xs p all.1)

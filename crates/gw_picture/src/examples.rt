@@ -3,8 +3,9 @@ ghost use Rattle.std.specs.Prelude.{◌≡◌, pos, [], ◌∷◌, map, true, fa
 ghost use Rattle.gw_model.specs.declared.point.Stamp.TheVariants.{At};
 ghost use Rattle.gw_model.specs.declared.observation.Value.TheVariants.{Single, Double, Scaled, Word, Total};
 ghost use Rattle.gw_translate.specs.Example.{binary, output, static_value, timed_event, double_row, word_row, counter_row, observation, good, invalid, overflow};
-ghost use Rattle.gw_picture.specs.Example.{analog_value, observation_at, picture_with, rows, unknown};
+ghost use Rattle.gw_picture.specs.Example.{analog_value, forced_and_over, not_topical, not_valid, observation_at, picture_with, rolled_over, rows, rows_of_two, substituted, unknown};
 ghost use Rattle.gw_picture.specs.Log.{picture_of};
+ghost use Rattle.gw_picture.specs.Loss.{losses_of, losses_of_row, picture_after_loss};
 ghost use Rattle.gw_picture.specs.Picture.{news_of, picture_after};
 ghost use Rattle.gw_picture.specs.Opening.{opening};
 
@@ -51,4 +52,44 @@ pub fn pictures_by_example()
         (observation (Single true) good ∷ observation_at 4201 (Scaled (pos 7)) good
         ∷ observation (Single false) good ∷ [])
         ≡ picture_with (observation (Single false) good) (observation_at 4201 (Scaled (pos 7)) good) }
+{}
+
+/// The loss of an outstation by the picture of three rows of outstation 0, and of a row of each of two.
+#[tactic(auto, unfolding(gw_time::specs::Spelling::tag_showing, gw_time::specs::Spelling::date_after))]
+pub fn losses_by_example()
+    // Single-point information and a scaled value get NT, a total IV; SB, OV and CY stay. They come in the order of
+    // the rows.
+    ensures lost { losses_of 0 rows (picture_after (pos 0) rows (map opening rows) forced_and_over)
+        ≡ observation (Single true) (not_topical substituted)
+        ∷ observation_at 4201 (Scaled (pos 32767)) (not_topical overflow)
+        ∷ observation_at 4301 (Total 12) (not_valid rolled_over) ∷ [] }
+    ensures shown { picture_after_loss 0 rows (picture_after (pos 0) rows (map opening rows) forced_and_over)
+        ≡ observation (Single true) (not_topical substituted)
+        ∷ observation_at 4201 (Scaled (pos 32767)) (not_topical overflow)
+        ∷ observation_at 4301 (Total 12) (not_valid rolled_over) ∷ [] }
+    // So do double-point information and a bit string.
+    ensures double { losses_of_row 0 double_row (observation (Double 2) good)
+        ≡ observation (Double 2) (not_topical good) ∷ [] }
+    ensures word { losses_of_row 0 word_row (observation (Word 7) invalid)
+        ≡ observation (Word 7) (not_topical invalid) ∷ [] }
+    // To lose it a second time is no news, and changes nothing.
+    ensures again { losses_of 0 rows (picture_after_loss 0 rows
+        (picture_after (pos 0) rows (map opening rows) forced_and_over)) ≡ [] }
+    // Nor is it news where nothing was reported: what is shown then is not topical, and of a total invalid.
+    ensures opening { losses_of 0 rows (map opening rows) ≡ [] }
+    ensures opening_shown { picture_after_loss 0 rows (map opening rows) ≡ map opening rows }
+    // What was not topical already isn't told again beside what was.
+    ensures beside { losses_of 0 rows
+        (picture_with (observation (Single true) good) (observation_at 4201 (Scaled (pos 7)) (not_topical good)))
+        ≡ observation (Single true) (not_topical good) ∷ [] }
+    // The rows of another outstation are left as they are.
+    ensures first { losses_of 0 rows_of_two
+        (observation (Single true) good ∷ observation_at 4202 (Scaled (pos 7)) good ∷ [])
+        ≡ observation (Single true) (not_topical good) ∷ [] }
+    ensures first_shown { picture_after_loss 0 rows_of_two
+        (observation (Single true) good ∷ observation_at 4202 (Scaled (pos 7)) good ∷ [])
+        ≡ observation (Single true) (not_topical good) ∷ observation_at 4202 (Scaled (pos 7)) good ∷ [] }
+    ensures second { losses_of 1 rows_of_two
+        (observation (Single true) good ∷ observation_at 4202 (Scaled (pos 7)) good ∷ [])
+        ≡ observation_at 4202 (Scaled (pos 7)) (not_topical good) ∷ [] }
 {}

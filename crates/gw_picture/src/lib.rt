@@ -4,10 +4,14 @@
 mod counting;
 mod examples;
 mod laws;
+mod losing;
 mod opening;
 mod picture;
 mod taking;
 
-pub use examples::pictures_by_example;
-pub use laws::{picture_keeps_rows, picture_of_the_log, report_changes_its_row_alone};
+pub use examples::{losses_by_example, pictures_by_example};
+pub use laws::{
+    loss_in_log, loss_is_told_once, picture_keeps_rows, picture_of_the_log,
+    report_changes_its_row_alone,
+};
 pub use picture::Picture;

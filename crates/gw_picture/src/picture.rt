@@ -1,11 +1,13 @@
 //! What was shown of each row last.
-ghost use Rattle.std.specs.Prelude.{◌≡◌, length, map, IfOk, IfSome};
+ghost use Rattle.std.specs.Prelude.{◌≡◌, ℤ, length, map, IfOk, IfSome};
 ghost use Rattle.std.specs.Option.{option_to_list};
 ghost use Rattle.gw_model.specs.Fit.{IsFit};
+ghost use Rattle.gw_picture.specs.Loss.{losses_at, losses_of, picture_losing_at};
 ghost use Rattle.gw_picture.specs.Picture.{news_of, news_of_report, picture_after_report};
 ghost use Rattle.gw_picture.specs.Opening.{opening};
 
 use crate::counting::count_news;
+use crate::losing::{count_losses, lose_at};
 use crate::opening::opening_of;
 use crate::taking::take_report;
 use gw_map::Settings;
@@ -22,11 +24,15 @@ pub struct Picture {
 
 impl Model for Picture {
     ghost use Rattle.std.specs.Prelude.{List};
+    ghost use Rattle.std.specs.List.{AllByRecursion};
     ghost use Rattle.gw_model.specs.declared.observation.Observation.{Observation as Shown};
+    ghost use Rattle.gw_picture.specs.Shown.{IsShown};
 
     ghost Value = { List Shown };
 
     ghost view = { λ p. p.shown.items };
+
+    ghost invariant = { λ p. AllByRecursion IsShown p.shown.items };
 }
 
 impl Picture {
@@ -61,5 +67,28 @@ impl Picture {
         ensures fit { IfSome result (IsFit zone.now.offset_minutes) }
     {
         take_report(&mut self.shown, report, settings, zone)
+    }
+
+    /// How many observations the loss of an outstation is. It needs no memory.
+    pub fn losses(&self, outstation: u8, settings: &Settings) -> usize
+        ensures { result ≡ length (losses_of outstation settings.now.rows self.now) }
+    {
+        count_losses(self.shown.as_slice(), outstation, settings.rows())
+    }
+
+    /// What the loss of an outstation is for the row at a position: shows the row as not topical, or a
+    /// total as invalid, and gives that, where the row is the outstation's and wasn't shown so. At every
+    /// position in turn it is the loss of the outstation.
+    pub fn lose(
+        &mut self,
+        position: usize,
+        outstation: u8,
+        settings: &Settings,
+    ) -> Option<Observation>
+        ensures news { option_to_list result ≡ losses_at outstation settings.now.rows self.old position }
+        ensures shown { self.new ≡ picture_losing_at outstation settings.now.rows self.old position }
+        ensures fit { (offset : ℤ) → IfSome result (IsFit offset) }
+    {
+        lose_at(&mut self.shown, position, outstation, settings.rows())
     }
 }

@@ -1,9 +1,11 @@
 //! What a report changes of what is shown.
 ghost use Rattle.std.specs.Prelude.{◌≡◌, IfSome, slice_get};
+ghost use Rattle.std.specs.List.{AllByRecursion};
 ghost use Rattle.std.specs.Option.{option_to_list};
 ghost use Rattle.gw_model.specs.Fit.{IsFit};
 ghost use Rattle.gw_model.specs.Places.{change};
 ghost use Rattle.gw_picture.specs.Picture.{news_after, news_of_report, picture_after_report, without_time};
+ghost use Rattle.gw_picture.specs.Shown.{IsShown};
 
 use gw_map::Settings;
 use gw_model::{Observation, Report, Stamp};
@@ -55,6 +57,7 @@ pub fn take_report(
     ensures shown { shown.new.items
         ≡ picture_after_report zone.now.offset_minutes settings.now.rows shown.old.items report.now }
     ensures fit { IfSome result (IsFit zone.now.offset_minutes) }
+    ensures keeps { AllByRecursion IsShown shown.old.items → AllByRecursion IsShown shown.new.items }
 {
     match settings.row_of(&report.key) {
         None => None,

@@ -1,3 +1,4 @@
+use Rattle.gw_picture.proofs.Losses.{loss_keeps_picture}
 use Rattle.gw_picture.proofs.Rows.{opening_is_picture, keeps_picture, reports_keep_picture}
 use Rattle.gw_picture.proofs.laws.picture_keeps_rows.Goals as goal
 
@@ -9,3 +10,6 @@ returns-clause-report c = keeps_picture
 
 pub returns-clause-reports : goal.returns-clause-reports
 returns-clause-reports c = reports_keep_picture
+
+pub returns-clause-loss : goal.returns-clause-loss
+returns-clause-loss c = loss_keeps_picture

@@ -1,9 +1,12 @@
-use Rattle.std.proofs.Common.{rules, ◌≡◌, ℕ, Option, Some, ap, ◌∙◌}
+use Rattle.std.proofs.Common.{rules, ◌≡◌, ℕ, Option, Some, sym, ap, subst, ◌∙◌}
+use Rattle.std.specs.List.{AllByRecursion}
 use Rattle.gw_entries.specs.declared.row.Row.{Row}
 use Rattle.gw_model.specs.declared.observation.Observation.{Observation}
 use Rattle.gw_map.specs.Settings.{row_from}
 use Rattle.gw_model.specs.Places.{change}
 use Rattle.gw_picture.specs.Picture.{picture_by_row, without_time}
+use Rattle.gw_picture.specs.Shown.{IsShown}
+use Rattle.gw_picture.proofs.Shows.{image_shown}
 use Rattle.gw_picture.proofs.taking.take_report.Goals as goal
 
 pub returns-in-Some-clause-shown : goal.returns-in-Some-clause-shown
@@ -13,3 +16,7 @@ returns-in-Some-clause-shown c =
     c.show_at.ensures.shown
     ∙ (ap (λ (x : Observation). change c.in-Some.position (λ _. without_time x) picture) c.image-image.ensures.image
     ∙ ap (λ (row : Option (ℕ × Row)). picture_by_row c.args.zone.now.offset_minutes picture c.args.report.now row) found)
+
+pub returns-in-Some-clause-keeps : goal.returns-in-Some-clause-keeps
+returns-in-Some-clause-keeps c =
+    λ all. subst (AllByRecursion IsShown) (sym c.show_at.ensures.shown) (image_shown _ _ _ _ c.image-image.ensures.fit all)
