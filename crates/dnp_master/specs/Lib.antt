@@ -1,2 +1,3 @@
 pub mod Master
+pub mod Fragments
 pub mod Example

@@ -1,47 +1,178 @@
--- The master's part for one outstation, as its contracts see it.
-use Rattle.std.specs.Prelude.{ℕ, Bool, true, false, ◌&&◌, not, List, Option, Some, None, if◌then◌else◌}
-use Rattle.std.specs.Str.{bytes_eq}
-use Rattle.dnp_app.specs.Control.{confirm_of}
-use Rattle.dnp_app.specs.Response.{Fragment, is_unsolicited}
-use Rattle.dnp_master.specs.declared.verdict.Verdict.{Verdict}
-use Rattle.dnp_master.specs.declared.verdict.Verdict.TheVariants.{Accepted, Repeated, Ignored}
-use Rattle.dnp_master.specs.declared.verdict.Ignored.TheVariants.{NoRequest}
+-- The master's part for one outstation, as an engineer draws it: what is due, the request that awaits its answer, and
+-- what is known of the fragments that were accepted (IEEE Std 1815, clause 4).
+use Rattle.std.specs.Prelude.{ℕ, ◌+◌, ◌-◌, ◌%◌, ◌==◌, nat_le, Bool, true, false, ◌&&◌, ◌||◌, not, List, [], ◌∷◌, ◌++◌, slice_get, Option, Some, None, option_map, if◌then◌else◌}
+use Rattle.gw_model.specs.declared.poll.Poll.{Poll}
+use Rattle.dnp_app.specs.declared.request.Request.{Request}
+use Rattle.dnp_app.specs.Requests.{request, read_octets, enable_octets, disable_octets, clear_restart_octets, record_time_octets, write_time_octets}
+use Rattle.dnp_master.specs.declared.task.Task.{Task}
+use Rattle.dnp_master.specs.declared.task.Task.TheVariants.{ClearRestart, WriteTime, RecordTime, Disable, Integrity, Enable, EventPoll}
+use Rattle.dnp_master.specs.declared.due.Due.{Due}
+use Rattle.dnp_master.specs.declared.exchange.Exchange.{Exchange}
+use Rattle.dnp_master.specs.declared.exchange.Exchange.TheVariants.{Idle, Waiting}
+use Rattle.dnp_master.specs.declared.indications.Indications.{Indications}
 
 pub record Master : Type 0 where
+  -- the times and habits that the settings give
+  pub poll : Poll
   -- the connection to the outstation stands
   pub up : Bool
   -- the octets of the last unsolicited response that was accepted since it came up
   pub last : Option (List ℕ)
+  -- the internal indications of the accepted response before; none are set before the first one
+  pub before : Indications
+  -- the sequence number of the next request
+  pub sequence : ℕ
+  -- nothing, or the request that awaits its answer
+  pub exchange : Exchange
+  pub due : Due
 
--- as at first
-abbrev pub master_down : Master
-master_down = record { up = false; last = None }
+abbrev pub no_indications : Indications
+no_indications = record { events = false; need_time = false; restart = false; overflow = false }
 
--- ---- fragments
+abbrev pub nothing_due : Due
+nothing_due = record {
+  clear_restart = false;
+  write_time = None;
+  record_time = false;
+  disable = false;
+  integrity = false;
+  integrity_since = 0;
+  enable = false;
+  events = false;
+  events_since = 0;
+}
 
--- the octets are those of the last accepted response
-abbrev pub is_last : Option (List ℕ) → List ℕ → Bool
-is_last None octets = false
-is_last (Some last) octets = bytes_eq last octets
+-- as at first, and after a loss
+abbrev pub master_down : Poll → Master
+master_down poll = record {
+  poll = poll;
+  up = false;
+  last = None;
+  before = no_indications;
+  sequence = 0;
+  exchange = Idle;
+  due = nothing_due;
+}
 
--- an unsolicited response is accepted unless its octets are those of the last accepted one; no request awaits a
--- solicited one
-abbrev pub accepts : Master → Fragment → Bool
-accepts m f = is_unsolicited f && not (is_last m.last f.octets)
-
--- what becomes of a fragment
-abbrev pub verdict_of : Master → Fragment → Verdict
-verdict_of m f =
-    if is_unsolicited f then
-    (if is_last m.last f.octets then Repeated (confirm_of f.octets) else Accepted (confirm_of f.octets))
-    else Ignored NoRequest
-
--- ---- what changes
-
--- the outstation came up at a moment
+-- the outstation came up at a moment: an integrity poll is due, and where unsolicited responses are used these are
+-- disabled before it and enabled after it
 abbrev pub master_after_up : ℕ → Master → Master
-master_after_up moment m = record m { up = true; last = None }
+master_after_up moment m = record (master_down m.poll) {
+  up = true;
+  due = record nothing_due {
+    disable = m.poll.unsolicited;
+    integrity = true;
+    integrity_since = moment;
+    enable = m.poll.unsolicited;
+    events_since = moment;
+  };
+}
 
--- these octets were accepted at a moment
-abbrev pub master_after_accepted : ℕ → List ℕ → Master → Master
-master_after_accepted moment octets m = record m { last = Some octets }
+-- ---- what is due
+
+-- an integrity poll: by itself, or by its period
+abbrev pub is_integrity_due : ℕ → Poll → Due → Bool
+is_integrity_due moment poll due =
+    due.integrity || (not (poll.integrity_ms == 0) && nat_le poll.integrity_ms (moment - due.integrity_since))
+
+abbrev pub is_event_poll_due : ℕ → Poll → Due → Bool
+is_event_poll_due moment poll due = due.events || nat_le poll.poll_ms (moment - due.events_since)
+
+abbrev pub if_due : Bool → Task → List Task
+if_due due task = if due then task ∷ [] else []
+
+abbrev pub time_due : Option ℕ → List Task
+time_due None = []
+time_due (Some time) = WriteTime time ∷ []
+
+-- the tasks that are due at a moment, in their order of rank; a time that is recorded now is this wall time
+abbrev pub tasks_due : ℕ → ℕ → Poll → Due → List Task
+tasks_due moment wall poll due =
+    if_due due.clear_restart ClearRestart
+    ++ (time_due due.write_time
+    ++ (if_due due.record_time (RecordTime wall)
+    ++ (if_due due.disable Disable
+    ++ (if_due (is_integrity_due moment poll due) Integrity
+    ++ (if_due due.enable Enable
+    ++ if_due (is_event_poll_due moment poll due) EventPoll)))))
+
+-- ---- requests
+
+abbrev pub is_idle : Exchange → Bool
+is_idle Idle = true
+is_idle (Waiting awaited) = false
+
+-- a request can be given: no other awaits its answer
+abbrev pub is_ready : Master → Bool
+is_ready m = m.up && is_idle m.exchange
+
+abbrev pub task_octets : Task → ℕ → List ℕ
+task_octets ClearRestart sequence = clear_restart_octets sequence
+task_octets (WriteTime time) sequence = write_time_octets time sequence
+task_octets (RecordTime wall) sequence = record_time_octets sequence
+task_octets Disable sequence = disable_octets sequence
+task_octets Integrity sequence = read_octets true sequence
+task_octets Enable sequence = enable_octets sequence
+task_octets EventPoll sequence = read_octets false sequence
+
+-- the task that is given at a moment, the first one due
+abbrev pub task_given : ℕ → ℕ → Master → Option Task
+task_given moment wall m = if is_ready m then slice_get (tasks_due moment wall m.poll m.due) 0 else None
+
+-- and its request
+abbrev pub request_given : ℕ → ℕ → Master → Option Request
+request_given moment wall m = option_map (λ task. request (task_octets task m.sequence)) (task_given moment wall m)
+
+-- the number that follows, of four bits
+abbrev pub following : ℕ → ℕ
+following sequence = (sequence + 1) % 16
+
+-- what is due once a task was given at a moment
+abbrev pub due_without : ℕ → Task → Due → Due
+due_without moment ClearRestart due = record due { clear_restart = false }
+due_without moment (WriteTime time) due = record due { write_time = None }
+due_without moment (RecordTime wall) due = record due { record_time = false }
+due_without moment Disable due = record due { disable = false }
+due_without moment Integrity due = record due { integrity = false; integrity_since = moment }
+due_without moment Enable due = record due { enable = false }
+due_without moment EventPoll due = record due { events = false; events_since = moment }
+
+abbrev pub master_asking : ℕ → Task → Master → Master
+master_asking moment task m = record m {
+  sequence = following m.sequence;
+  exchange = Waiting (record { task = task; expected = m.sequence; begun = false; since = moment });
+  due = due_without moment task m.due;
+}
+
+abbrev pub master_after_given : ℕ → Option Task → Master → Master
+master_after_given moment None m = m
+master_after_given moment (Some task) m = master_asking moment task m
+
+-- after the poll of a moment
+abbrev pub master_after_next : ℕ → ℕ → Master → Master
+master_after_next moment wall m = master_after_given moment (task_given moment wall m) m
+
+-- ---- a request without an answer
+
+-- an integrity poll is due again, and with the recording of the time its writing is given up; any other task is given
+-- up until it becomes due again
+abbrev pub due_unanswered : Task → Due → Due
+due_unanswered ClearRestart due = due
+due_unanswered (WriteTime time) due = due
+due_unanswered (RecordTime wall) due = record due { record_time = false; write_time = None }
+due_unanswered Disable due = due
+due_unanswered Integrity due = record due { integrity = true }
+due_unanswered Enable due = due
+due_unanswered EventPoll due = due
+
+-- the time for an answer passed since the request was given, or since the last fragment of its answer
+abbrev pub is_late : ℕ → Poll → ℕ → Bool
+is_late moment poll since = nat_le poll.response_ms (moment - since)
+
+abbrev pub master_with_exchange_after : ℕ → Exchange → Master → Master
+master_with_exchange_after moment Idle m = m
+master_with_exchange_after moment (Waiting w) m =
+    if is_late moment m.poll w.since then record m { exchange = Idle; due = due_unanswered w.task m.due } else m
+
+abbrev pub master_after_tick : ℕ → Master → Master
+master_after_tick moment m = master_with_exchange_after moment m.exchange m

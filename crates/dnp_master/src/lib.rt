@@ -1,10 +1,16 @@
-//! The DNP3 master's part of the core: what is known of one outstation, and what becomes of its fragments.
+//! The DNP3 master's part of the core, for one outstation: what is due, the request that awaits its answer, and what
+//! becomes of fragments.
 #![tactic(auto)]
 
+mod due;
 mod examples;
+mod exchange;
+mod indications;
+mod kept;
 mod master;
+mod task;
 mod verdict;
 
-pub use examples::verdicts_by_example;
+pub use examples::{requests_by_example, tasks_by_example, verdicts_by_example};
 pub use master::Master;
 pub use verdict::{Ignored, Verdict};

@@ -1,36 +1,81 @@
-//! What is known of one outstation.
+//! The master towards one outstation.
 ghost use Rattle.std.specs.Prelude.{◌≡◌};
-ghost use Rattle.dnp_master.specs.Master.{accepts, is_last, master_after_accepted, master_after_up, master_down, verdict_of};
+ghost use Rattle.dnp_master.specs.Master.{
+  is_ready,
+  master_after_next,
+  master_after_tick,
+  master_after_up,
+  master_down,
+  request_given,
+};
+ghost use Rattle.dnp_master.specs.Fragments.{
+  accepts,
+  indications_in,
+  is_acceptance,
+  is_last,
+  master_after_accepted,
+  master_after_answer,
+  master_after_fragment,
+  master_after_unsolicited,
+  verdict_of,
+  verdict_of_answer,
+  verdict_of_unsolicited,
+};
 
+use crate::due::Due;
+use crate::exchange::{Awaited, Exchange, following};
+use crate::indications::Indications;
+use crate::kept::KeptOctets;
 use crate::verdict::{Ignored, Verdict};
-use dnp_app::Response;
+use dnp_app::{Request, Response};
+use gw_model::Poll;
 use std::marker::Model;
 
-/// What the master knows of one outstation: whether its connection stands, and the last unsolicited response that
-/// was accepted since it came up.
+/// The master towards one outstation (IEEE Std 1815, clause 4). It takes no memory. Moments are in milliseconds; an
+/// interval that would begin after it ended counts as 0.
 #[derive(Debug, Drop)]
 pub struct Master {
+    poll: Poll,
     up: bool,
-    last: Option<Vec<u8>>,
+    last: Option<KeptOctets>,
+    before: Indications,
+    sequence: u8,
+    exchange: Exchange,
+    due: Due,
 }
 
 impl Model for Master {
-    ghost use Rattle.std.specs.Prelude.{option_map};
+    ghost use Rattle.std.specs.Prelude.{◌<◌};
     ghost use Rattle.dnp_master.specs.Master.{Master as Seen};
 
     ghost Value = { Seen };
 
-    ghost view = { λ m. record { up = m.up; last = option_map (λ v. v.items) m.last } };
+    ghost view = { λ m. record {
+      poll = m.poll;
+      up = m.up;
+      last = m.last;
+      before = m.before;
+      sequence = m.sequence;
+      exchange = m.exchange;
+      due = m.due;
+    } };
+
+    ghost invariant = { λ m. m.sequence < 16 };
 }
 
 impl Master {
-    /// An outstation that is down.
-    pub fn new() -> Master
-        ensures { result ≡ master_down }
+    /// Towards an outstation that is down.
+    pub fn new(poll: &Poll) -> Master
+        ensures { result ≡ master_down poll.now }
     {
         Master {
+            poll: *poll,
             up: false,
             last: None,
+            before: Indications::none(),
+            sequence: 0,
+            exchange: Exchange::Idle,
+            due: Due::nothing(),
         }
     }
 
@@ -41,16 +86,60 @@ impl Master {
         self.up
     }
 
-    /// The outstation comes up at a moment, in milliseconds.
-    pub fn up(&mut self, _moment: u64)
-        ensures { self.new ≡ master_after_up _moment self.old }
+    /// The outstation comes up at a moment.
+    pub fn up(&mut self, moment: u64)
+        ensures { self.new ≡ master_after_up moment self.old }
     {
-        let Master { up, last } = self;
-        *up = true;
-        *last = None;
+        self.down();
+        self.up = true;
+        self.due = Due {
+            disable: self.poll.unsolicited,
+            integrity: true,
+            integrity_since: moment,
+            enable: self.poll.unsolicited,
+            events_since: moment,
+            ..Due::nothing()
+        };
     }
 
-    /// Whether these are the octets of the last accepted response.
+    /// The outstation is lost: all is as at first.
+    pub fn down(&mut self)
+        ensures { self.new ≡ master_down self.old.poll }
+    {
+        let poll = self.poll;
+        *self = Master::new(&poll);
+    }
+
+    /// Whether a request can be given: the outstation is up, and no other awaits its answer.
+    pub fn ready(&self) -> bool
+        ensures { result ≡ is_ready self.now }
+    {
+        self.up && matches!(self.exchange, Exchange::Idle)
+    }
+
+    /// Gives the request of the first task that is due, at a moment and a wall time in milliseconds since 1970 in UTC.
+    /// Nothing where a request awaits its answer or none is due.
+    pub fn next(&mut self, moment: u64, wall: u64) -> Option<Request>
+        ensures request { result ≡ request_given moment wall self.old }
+        ensures after { self.new ≡ master_after_next moment wall self.old }
+    {
+        if !self.ready() {
+            return None;
+        }
+        let task = self.due.first(moment, wall, &self.poll)?;
+        let request = task.request(self.sequence);
+        self.due = self.due.without(moment, task);
+        self.exchange = Exchange::Waiting(Awaited {
+            task,
+            expected: self.sequence,
+            begun: false,
+            since: moment,
+        });
+        self.sequence = following(self.sequence);
+        Some(request)
+    }
+
+    /// Whether these are the octets of the last accepted unsolicited response.
     fn is_last(&self, octets: &[u8]) -> bool
         ensures { result ≡ is_last self.now.last octets.now }
     {
@@ -60,32 +149,127 @@ impl Master {
         }
     }
 
-    /// Whether a response is taken: it is unsolicited, and not the last one again.
-    pub fn accepts(&self, response: &Response) -> bool
-        ensures { result ≡ accepts self.now response.now }
+    /// What becomes of an unsolicited response.
+    fn judge_unsolicited(&self, response: &Response) -> Verdict
+        ensures { result ≡ verdict_of_unsolicited self.now.last response.now.octets }
     {
-        response.is_unsolicited() && !self.is_last(response.octets())
-    }
-
-    /// What becomes of a response.
-    pub fn judge(&self, response: &Response) -> Verdict
-        ensures { result ≡ verdict_of self.now response.now }
-    {
-        if !response.is_unsolicited() {
-            return Verdict::Ignored(Ignored::NoRequest);
-        }
         let confirm = response.confirmation();
         if self.is_last(response.octets()) {
             Verdict::Repeated { confirm }
         } else {
-            Verdict::Accepted { confirm }
+            Verdict::Accepted {
+                confirm,
+                end: false,
+            }
         }
     }
 
-    /// A response with these octets was accepted at a moment.
-    pub fn accepted(&mut self, octets: Vec<u8>, _moment: u64)
-        ensures { self.new ≡ master_after_accepted _moment octets.items self.old }
+    /// What becomes of a solicited response.
+    fn judge_answer(&self, response: &Response) -> Verdict
+        ensures { result ≡ verdict_of_answer self.now.exchange response.now }
     {
-        self.last = Some(octets);
+        let Exchange::Waiting(awaited) = self.exchange else {
+            return Verdict::Ignored(Ignored::NoRequest);
+        };
+        let control = response.control();
+        if control.sequence != awaited.expected {
+            return Verdict::Ignored(Ignored::WrongSequence);
+        }
+        if control.fir == awaited.begun {
+            return Verdict::Ignored(Ignored::WrongFirst);
+        }
+        Verdict::Accepted {
+            confirm: response.confirmation(),
+            end: control.fin,
+        }
+    }
+
+    /// What becomes of a response, which `take` tells too.
+    pub fn judge(&self, response: &Response) -> Verdict
+        ensures { result ≡ verdict_of self.now response.now }
+    {
+        if response.is_unsolicited() {
+            self.judge_unsolicited(response)
+        } else {
+            self.judge_answer(response)
+        }
+    }
+
+    /// Whether `take` would accept a response.
+    pub fn accepts(&self, response: &Response) -> bool
+        ensures { result ≡ accepts self.now response.now }
+    {
+        matches!(self.judge(response), Verdict::Accepted { .. })
+    }
+
+    /// Takes a response at a moment. Where it isn't accepted nothing changes.
+    pub fn take(&mut self, response: &Response, moment: u64) -> Verdict
+        ensures verdict { result ≡ verdict_of self.old response.now }
+        ensures after { self.new ≡ master_after_fragment moment response.now self.old }
+    {
+        let verdict = self.judge(response);
+        if let Verdict::Accepted { .. } = verdict {
+            self.accept(response, moment);
+        }
+        verdict
+    }
+
+    /// A response was accepted at a moment.
+    fn accept(&mut self, response: &Response, moment: u64)
+        ensures { self.new ≡ master_after_accepted moment response.now self.old }
+    {
+        if response.is_unsolicited() {
+            self.accept_unsolicited(response);
+        } else {
+            self.accept_answer(response, moment);
+        }
+    }
+
+    fn accept_unsolicited(&mut self, response: &Response)
+        ensures { self.new ≡ master_after_unsolicited response.now self.old }
+    {
+        let now = Indications::of(response.internal_indications());
+        self.last = Some(KeptOctets::of(response.octets()));
+        self.due = self.due.with(&self.poll, None, self.before, now);
+        self.before = now;
+    }
+
+    fn accept_answer(&mut self, response: &Response, moment: u64)
+        ensures { self.new ≡ master_after_answer moment response.now self.old.exchange self.old }
+    {
+        let Exchange::Waiting(awaited) = self.exchange else {
+            return;
+        };
+        let now = Indications::of(response.internal_indications());
+        let number = following(awaited.expected);
+        let due = self
+            .due
+            .with(&self.poll, Some(awaited.task), self.before, now);
+        self.before = now;
+        self.sequence = number;
+        if response.control().fin {
+            self.exchange = Exchange::Idle;
+            self.due = due.once_answered(awaited.task);
+        } else {
+            self.exchange = Exchange::Waiting(Awaited {
+                expected: number,
+                begun: true,
+                since: moment,
+                ..awaited
+            });
+            self.due = due;
+        }
+    }
+
+    /// A request ends without an answer where its time has passed at a moment.
+    pub fn tick(&mut self, moment: u64)
+        ensures { self.new ≡ master_after_tick moment self.old }
+    {
+        if let Exchange::Waiting(awaited) = self.exchange {
+            if awaited.is_late(moment, &self.poll) {
+                self.exchange = Exchange::Idle;
+                self.due = self.due.unanswered(awaited.task);
+            }
+        }
     }
 }

@@ -1,3 +1,4 @@
 pub mod Places
 pub mod Seats
 pub mod Taking
+pub mod Losing

@@ -24,7 +24,7 @@ queue-nil Started queue = sym (append-nil queue)
 came-nil : (c : Client) → c ≡ client_with_news [] c
 came-nil c = ap (λ (q : List Observation). record c { queue = q }) (queue-nil c.stage c.queue)
 
-map_came-nil : (cs : List Client) → cs ≡ map (client_with_news []) cs
+pub map_came-nil : (cs : List Client) → cs ≡ map (client_with_news []) cs
 map_came-nil [] = refl
 map_came-nil (c ∷ cs) = let one = came-nil c in let rest = map_came-nil cs in cc
 
@@ -40,7 +40,7 @@ queue-twice xs ys Started queue = append_assoc queue xs ys
 came-twice : (xs ys : List Observation) (c : Client) → client_with_news ys (client_with_news xs c) ≡ client_with_news (xs ++ ys) c
 came-twice xs ys c = ap (λ (q : List Observation). record c { queue = q }) (queue-twice xs ys c.stage c.queue)
 
-map_came-twice : (xs ys : List Observation) (cs : List Client) → map (client_with_news ys) (map (client_with_news xs) cs) ≡ map (client_with_news (xs ++ ys)) cs
+pub map_came-twice : (xs ys : List Observation) (cs : List Client) → map (client_with_news ys) (map (client_with_news xs) cs) ≡ map (client_with_news (xs ++ ys)) cs
 map_came-twice xs ys [] = refl
 map_came-twice xs ys (c ∷ cs) = let one = came-twice xs ys c in let rest = map_came-twice xs ys cs in cc
 

@@ -1,5 +1,5 @@
 //! All clients, by their position.
-ghost use Rattle.std.specs.Prelude.{◌≡◌, ◌+◌, ℕ, [], ◌∷◌, map, option_map, replicate, slice_get, IfOk, OnOk};
+ghost use Rattle.std.specs.Prelude.{◌≡◌, ◌+◌, ◌<◌, ℕ, [], ◌∷◌, map, option_map, replicate, slice_get, IfOk, OnErr, OnOk};
 ghost use Rattle.std.specs.List.{AllByRecursion};
 ghost use Rattle.gw_model.specs.Places.{change};
 ghost use Rattle.gw_station.specs.Client.{client_after_up, client_down, client_with_news, is_up};
@@ -88,11 +88,15 @@ impl Clients {
         pump_at(&mut self.stations, client, face, moment)
     }
 
-    /// Makes room for more news at every client.
+    /// Makes room for more news at every client; where there are none it needs no memory.
     pub fn reserve(&mut self, news: usize) -> Result<(), Memory>
         ensures clients { clients_of self.new ≡ clients_of self.old }
         ensures room { OnOk result (AllByRecursion (HasRoom news) self.new) }
+        ensures some { OnErr result (0 < news) }
     {
+        if news == 0 {
+            return Ok(());
+        }
         reserve_all(&mut self.stations, news)
     }
 

@@ -3,14 +3,15 @@ ghost use Rattle.std.specs.Prelude.{◌≡◌, ◌<◌, ◌+◌, ℕ, [], length
 ghost use Rattle.std.specs.List.{AllByRecursion};
 ghost use Rattle.gw_entries.specs.Ranges.{IsStation};
 ghost use Rattle.gw_map.specs.Settings.{HasSingleAddresses};
+ghost use Rattle.gw_picture.specs.Loss.{losses_at, losses_of, picture_after_loss, picture_losing_at};
 ghost use Rattle.gw_picture.specs.Picture.{picture_after, picture_after_report};
 ghost use Rattle.gw_station.specs.Client.{client_with_news};
 ghost use Rattle.gw_station.specs.Seat.{HasRoom};
 ghost use Rattle.gw_station.specs.Sound.{IsSendable};
 ghost use Rattle.gw_steps.specs.declared.step.Step.TheVariants as steps;
-ghost use Rattle.gw_steps.specs.declared.step.StepFault.TheVariants.{NoClient, Spent};
+ghost use Rattle.gw_steps.specs.declared.step.StepFault.TheVariants.{NoClient, NoOutstation, Spent};
 ghost use Rattle.gw_steps.specs.State.{at_first};
-ghost use Rattle.gw_steps.specs.Steps.{client_up, fault_unless_up, latest, Allowed};
+ghost use Rattle.gw_steps.specs.Steps.{client_up, fault_unless_up, latest, outstation_up, Allowed};
 ghost use Rattle.gw_steps.specs.Runs.{history, state_after, AtEach, IsRun};
 ghost use Rattle.gw_steps.specs.Sound.{IsSound};
 ghost use Rattle.gw_news.specs.Confirms.{ConfirmsLast};
@@ -86,7 +87,7 @@ impl Hub {
         // The contracts of these two tell what all settings keep.
         let _rows = settings.rows();
         let _station = settings.station();
-        let outstations = Outstations::new(alloc, settings.outstations().len())?;
+        let outstations = Outstations::new(alloc, settings.outstations())?;
         let picture = Picture::new(alloc, &settings)?;
         let clients = Clients::new(alloc, CLIENTS)?;
         Ok(Hub {
@@ -139,7 +140,7 @@ impl Hub {
         ensures state { IfOk result (λ run.
             run.0.state ≡ state_after settings (history [] steps.items run.1.items)) }
         ensures news { IfOk result (λ run. AtEach (Holds settings) (history [] steps.items run.1.items)) }
-        ensures confirms { IfOk result (λ run. AtEach ConfirmsLast (history [] steps.items run.1.items)) }
+        ensures confirms { IfOk result (λ run. AtEach (ConfirmsLast settings) (history [] steps.items run.1.items)) }
         ensures numbers { IfOk result (λ run. AtEach (NumbersLast settings) (history [] steps.items run.1.items)) }
     {
         let mut hub = Hub::new(alloc, settings)?;
@@ -159,7 +160,15 @@ impl Hub {
     {
         let reply = match step {
             Step::OutstationUp { outstation, moment } => self.outstation_up(*outstation, *moment),
+            Step::OutstationDown { outstation, moment } => {
+                self.outstation_down(*outstation, *moment)
+            }
             Step::Fragment { response, moment } => self.fragment(response, *moment),
+            Step::Poll {
+                outstation,
+                moment,
+                wall,
+            } => self.poll(*outstation, *moment, *wall),
             Step::ClientUp { client, moment } => self.client_up(*client, *moment),
             Step::Frame {
                 client,
@@ -167,6 +176,7 @@ impl Hub {
                 moment,
             } => self.frame(*client, apdu, *moment),
             Step::Pump { client, moment } => self.pump(*client, *moment),
+            Step::Tick { moment } => self.tick(*moment),
         };
         // A function that reads a field may use in its proof what the type keeps.
         let _ = &self.clients;
@@ -229,6 +239,48 @@ impl Hub {
         Ok(Reply::Done)
     }
 
+    /// Whether an outstation is up, or why it isn't.
+    fn reached(&self, outstation: u8) -> Result<(), StepFault>
+        ensures { result ≡ unless (fault_unless_up NoOutstation (outstation_up self.now.state outstation)) }
+    {
+        match self.outstations.get(outstation) {
+            None => Err(StepFault::NoOutstation),
+            Some(master) => {
+                if master.is_up() {
+                    Ok(())
+                } else {
+                    Err(StepFault::NotUp)
+                }
+            }
+        }
+    }
+
+    /// An outstation is lost. All room is made before anything changes.
+    fn outstation_down(&mut self, outstation: u8, moment: u64) -> Result<Reply, StepFault>
+        ensures step { Answers self.old (steps.OutstationDown outstation moment) result self.new }
+        ensures setup { self.new.setup ≡ self.old.setup }
+    {
+        self.reached(outstation)?;
+        let news = self.picture.losses(outstation, &self.settings);
+        if !self.counts.can_rise(news as u64) {
+            return Err(StepFault::Spent);
+        }
+        let moment = self.latest(moment);
+        if self.clients.reserve(news).is_err() {
+            return Err(StepFault::Memory);
+        }
+        lose_rows(
+            &mut self.picture,
+            &mut self.clients,
+            &self.settings,
+            outstation,
+        );
+        self.outstations.go_down(outstation);
+        self.counts.raise(news as u64);
+        self.moment = moment;
+        Ok(Reply::Done)
+    }
+
     fn fragment(&mut self, response: &Response, moment: u64) -> Result<Reply, StepFault>
         ensures step { Answers self.old (steps.Fragment response.now moment) result self.new }
         ensures setup { self.new.setup ≡ self.old.setup }
@@ -261,10 +313,6 @@ impl Hub {
             return Err(StepFault::Spent);
         }
         let moment = self.latest(moment);
-        let octets = match Vec::from_slice(self.alloc, response.octets()) {
-            Ok(octets) => octets,
-            Err(_) => return Err(StepFault::Memory),
-        };
         if self.clients.reserve(reports.len()).is_err() {
             return Err(StepFault::Memory);
         }
@@ -274,11 +322,28 @@ impl Hub {
             &self.settings,
             reports,
         );
-        self.outstations
-            .accepted(response.outstation(), octets, moment);
+        self.outstations.take(response, moment);
         self.counts.raise(news);
         self.moment = moment;
         Ok(())
+    }
+
+    fn poll(&mut self, outstation: u8, moment: u64, wall: u64) -> Result<Reply, StepFault>
+        ensures step { Answers self.old (steps.Poll outstation moment wall) result self.new }
+        ensures setup { self.new.setup ≡ self.old.setup }
+    {
+        self.reached(outstation)?;
+        self.count(moment)?;
+        Ok(self.outstations.next(outstation, self.moment, wall))
+    }
+
+    fn tick(&mut self, moment: u64) -> Result<Reply, StepFault>
+        ensures step { Answers self.old (steps.Tick moment) result self.new }
+        ensures setup { self.new.setup ≡ self.old.setup }
+    {
+        self.count(moment)?;
+        self.outstations.tick(self.moment);
+        Ok(Reply::Ticked { closed: 0 })
     }
 
     fn client_up(&mut self, client: u8, moment: u64) -> Result<Reply, StepFault>
@@ -374,4 +439,42 @@ fn take_reports(
         news += take_report(picture, clients, settings, report);
     }
     news
+}
+
+/// Shows the loss of the row at a position, and puts it into the queues, for which room was made.
+fn lose_row(
+    picture: &mut Picture,
+    clients: &mut Clients,
+    settings: &Settings,
+    position: usize,
+    outstation: u8,
+)
+    requires { AllByRecursion (HasRoom (length (losses_at outstation settings.now.rows picture.old position)))
+        clients.old }
+    ensures picture { picture.new ≡ picture_losing_at outstation settings.now.rows picture.old position }
+    ensures clients { clients_of clients.new
+        ≡ map (client_with_news (losses_at outstation settings.now.rows picture.old position)) (clients_of clients.old) }
+    ensures room { (n : ℕ)
+        → AllByRecursion (HasRoom (n + length (losses_at outstation settings.now.rows picture.old position))) clients.old
+        → AllByRecursion (HasRoom n) clients.new }
+    ensures sendable { AllByRecursion (IsSendable settings.now.station.offset_minutes)
+        (losses_at outstation settings.now.rows picture.old position) }
+{
+    if let Some(news) = picture.lose(position, outstation, settings) {
+        clients.put(news);
+    }
+}
+
+/// Shows the loss of an outstation, row by row, and puts it into the queues, for which room was made.
+fn lose_rows(picture: &mut Picture, clients: &mut Clients, settings: &Settings, outstation: u8)
+    requires { AllByRecursion (HasRoom (length (losses_of outstation settings.now.rows picture.old))) clients.old }
+    ensures picture { picture.new ≡ picture_after_loss outstation settings.now.rows picture.old }
+    ensures clients { clients_of clients.new
+        ≡ map (client_with_news (losses_of outstation settings.now.rows picture.old)) (clients_of clients.old) }
+    ensures sendable { AllByRecursion (IsSendable settings.now.station.offset_minutes)
+        (losses_of outstation settings.now.rows picture.old) }
+{
+    for position in 0..picture.rows().len() {
+        lose_row(picture, clients, settings, position, outstation);
+    }
 }

@@ -1,9 +1,14 @@
 -- What holds at each place of every run.
-use Rattle.std.proofs.Common.{length, ◌≡◌, ℕ, zero, suc, ◌<◌, Bool, true, false, List, [], ◌∷◌, Option, Some, None, Result, Ok, Err, refl, ap, subst, ◌∙◌}
-use Rattle.std.specs.Prelude.{slice_get, replicate, IfSome}
+use Rattle.std.proofs.Common.{◌≡◌, ℕ, zero, suc, ◌<◌, Bool, true, false, cond, List, [], ◌∷◌, Option, Some, None, Result, Ok, Err, refl, ap, subst, ◌∙◌, arith}
+use Rattle.std.specs.Prelude.{slice_get, option_map, ◌||◌, replicate, IfSome}
 use Rattle.gw_map.specs.Settings.{Setup, HasSingleAddresses}
 use Rattle.dnp_app.specs.Response.{Fragment, is_unsolicited}
-use Rattle.dnp_master.specs.Master.{Master, master_down, is_last, verdict_of}
+use Rattle.dnp_app.specs.Control.{confirm_of}
+use Rattle.dnp_app.specs.declared.request.Request.{Request}
+use Rattle.dnp_master.specs.Master.{Master, master_down, request_given}
+use Rattle.dnp_master.specs.Fragments.{verdict_of}
+use Rattle.gw_entries.specs.Setup.{OutstationSetup}
+use Rattle.gw_picture.proofs.Lists.{map-get}
 use Rattle.iec_apci.specs.Apdu.{Content}
 use Rattle.gw_station.specs.declared.event.Event.{Event}
 use Rattle.gw_station.specs.declared.event.Event.TheVariants as events
@@ -16,18 +21,20 @@ use Rattle.gw_steps.specs.declared.step.Reply.{Reply}
 use Rattle.gw_steps.specs.declared.step.StepFault.{StepFault}
 use Rattle.gw_steps.specs.declared.step.StepFault.TheVariants.{NoOutstation, NoClient}
 use Rattle.gw_steps.specs.State.{State, at_first, client_limit}
-use Rattle.gw_steps.specs.Steps.{Allowed, outcome, needs, can_rise, reply_to, fault_of, reply_of_event, reply_giving}
+use Rattle.gw_steps.specs.Steps.{Allowed, outcome, needs, can_rise, reply_to, fault_of, reply_of_event, reply_asking, reply_giving, latest}
 use Rattle.gw_steps.specs.Runs.{Entry, state_after, IsRun, AtEach}
 use Rattle.gw_steps.specs.Sound.{IsSound, LeavesSound}
 use Rattle.gw_steps.proofs.Inversion.{answered, who_is_up}
 use Rattle.gw_steps.proofs.Running.{entry}
-use Rattle.gw_news.specs.Accepted.{last_text, is_text}
-use Rattle.gw_news.specs.Confirms.{verdict_in, verdict_due, confirmation_in, confirmation_due, Confirms, ConfirmsLast}
+use Rattle.gw_news.specs.Accepted.{last_text, is_text, Asked, is_in_sequence, is_in_place, is_answer, asked_of}
+use Rattle.gw_news.specs.Confirms.{verdict_in, verdict_due_to_answer, verdict_due, confirmation_in, confirmation_due, Confirms, ConfirmsLast}
 use Rattle.gw_news.specs.News.{client_at, in_session, TellsNews, QuietLast, SpeaksLast, Holds}
 use Rattle.gw_news.specs.Numbers.{NumbersLast}
 use Rattle.gw_news.specs.Sessions.{is_started}
 use Rattle.gw_news.proofs.Turns.{SlotTied, tells}
-use Rattle.gw_news.proofs.Steps.{MasterTied, Tied, Follows, tied_by, fault_follows, step_follows, text_is_last}
+use Rattle.gw_news.proofs.Masters.{MasterIs, MasterTied, verdict_is}
+use Rattle.gw_news.proofs.Tied.{Tied, Follows, tied_by, fault_follows}
+use Rattle.gw_news.proofs.Steps.{step_follows}
 
 -- ---- at first
 
@@ -40,53 +47,77 @@ down_tied setup (suc c) (suc n) = same (slice_get (replicate n client_down) c) (
     same None tied = refl
     same (Some k) tied = record { started = tied.started; settled = tied.settled; all_settled = tied.all_settled; told = tied.told; put_out = tied.put_out; dropped = tied.dropped; number = tied.number }
 
-outstation_tied : (o p n : ℕ) → MasterTied p [] (slice_get (replicate n master_down) o)
-outstation_tied o p zero = tt
-outstation_tied zero p (suc n) = refl
-outstation_tied (suc o) p (suc n) = outstation_tied o p n
+outstation_tied : (setup : Setup) (o : ℕ) (x : Option OutstationSetup) → slice_get setup.outstations o ≡ x
+    → MasterTied setup o [] (option_map (λ (outstation : OutstationSetup). master_down outstation.poll) x)
+outstation_tied setup o None e = tt
+outstation_tied setup o (Some x) e = record { poll = ap (option_map (λ (outstation : OutstationSetup). outstation.poll)) e; last = refl; number = omega arith; awaits = tt }
 
 first_tied : (setup : Setup) → Tied setup [] (at_first setup)
 first_tied setup = record {
   picture = refl;
-  outstations = λ o. outstation_tied o o (length setup.outstations);
+  outstations = λ o. rw (map-get (λ (outstation : OutstationSetup). master_down outstation.poll) setup.outstations o)
+      (outstation_tied setup o (slice_get setup.outstations o) refl);
   clients = λ c. down_tied setup c client_limit;
+  moment = refl;
 }
 
 -- ---- confirmations
 
-verdict_is : (past : List Entry) (f : Fragment) (m : Master) (unsolicited last : Bool) → is_unsolicited f ≡ unsolicited → is_text (last_text f.outstation past) f.octets ≡ last
-    → m.last ≡ last_text f.outstation past → (verdict_of m f ≡ verdict_due past f) × (confirmation_in (Some (verdict_of m f)) ≡ confirmation_due past (steps.Fragment f 0))
-verdict_is past f m unsolicited last eu el same =
-    let known : is_last m.last f.octets ≡ last = text_is_last m.last f.octets ∙ (ap (λ (x : Option (List ℕ)). is_text x f.octets) same ∙ el) in
-    go unsolicited last eu el known
+answer_confirms : (asked : Option Asked) (f : Fragment) → confirmation_in (Some (verdict_due_to_answer asked f)) ≡ cond (is_answer asked f) (confirm_of f.octets) None
+answer_confirms None f = refl
+answer_confirms (Some a) f = go (is_in_sequence a f) (is_in_place a f) refl refl
   where
-    go : (unsolicited last : Bool) → is_unsolicited f ≡ unsolicited → is_text (last_text f.outstation past) f.octets ≡ last → is_last m.last f.octets ≡ last
-        → (verdict_of m f ≡ verdict_due past f) × (confirmation_in (Some (verdict_of m f)) ≡ confirmation_due past (steps.Fragment f 0))
-    go true true eu el known = (rw (eu, el, known) refl, rw (eu, el, known) refl)
-    go true false eu el known = (rw (eu, el, known) refl, rw (eu, el, known) refl)
-    go false last eu el known = (rw eu refl, rw eu refl)
+    go : (s p : Bool) → is_in_sequence a f ≡ s → is_in_place a f ≡ p → confirmation_in (Some (verdict_due_to_answer (Some a) f)) ≡ cond (is_answer (Some a) f) (confirm_of f.octets) None
+    go true true es ep = rw (es, ep) refl
+    go true false es ep = rw (es, ep) refl
+    go false p es ep = rw es refl
 
-confirms : (setup : Setup) (past : List Entry) (step : Step) (r : Reply) (s : State) → outcome setup s step ≡ Ok r → Tied setup past s → Confirms past step r
+or_false : (b : Bool) → b || false ≡ b
+or_false true = refl
+or_false false = refl
+
+-- the confirmation in what is to be said of a fragment is the one that is due
+due_confirms : (setup : Setup) (past : List Entry) (f : Fragment) (m : ℕ) → confirmation_in (Some (verdict_due setup past f)) ≡ confirmation_due setup past (steps.Fragment f m)
+due_confirms setup past f m = go (is_unsolicited f) (is_text (last_text f.outstation past) f.octets) refl refl
+  where
+    go : (b text : Bool) → is_unsolicited f ≡ b → is_text (last_text f.outstation past) f.octets ≡ text
+        → confirmation_in (Some (verdict_due setup past f)) ≡ confirmation_due setup past (steps.Fragment f m)
+    go true true e et = rw (e, et) refl
+    go true false e et = rw (e, et) refl
+    go false text e et =
+        rw (e, or_false (is_answer (asked_of setup f.outstation past) f)) (answer_confirms (asked_of setup f.outstation past) f)
+
+confirms : (setup : Setup) (past : List Entry) (step : Step) (r : Reply) (s : State) → outcome setup s step ≡ Ok r → Tied setup past s → Confirms setup past step r
 confirms setup past step r s e tied =
     let told = answered (fault_of s step) (can_rise s.counts (needs setup s step).counts) (reply_to setup s step) r e in
-    subst (Confirms past step) told.2 (by step told.0)
+    subst (Confirms setup past step) told.2 (by step told.0)
   where
     of_event : (event : Event) → (verdict_in (reply_of_event event) ≡ None)
     of_event events.Taken = refl
     of_event (events.Closed why) = refl
 
+    of_asking : (request : Option Request) → verdict_in (reply_asking request) ≡ None
+    of_asking None = refl
+    of_asking (Some request) = refl
+
     of_given : (content : Option Content) → verdict_in (reply_giving content) ≡ None
     of_given None = refl
     of_given (Some content) = refl
 
-    by : (step : Step) → fault_of s step ≡ None → Confirms past step (reply_to setup s step)
+    by : (step : Step) → fault_of s step ≡ None → Confirms setup past step (reply_to setup s step)
     by (steps.OutstationUp o m) e = record { verdict = refl; confirmation = refl }
     by (steps.ClientUp c m) e = record { verdict = refl; confirmation = refl }
+    by (steps.OutstationDown o m) e = record { verdict = refl; confirmation = refl }
+    by (steps.Tick m) e = record { verdict = refl; confirmation = refl }
     by (steps.Fragment f m) e =
         let up = who_is_up (λ (x : Master). x.up) NoOutstation (slice_get s.outstations f.outstation) e in
-        let last : up.0.last ≡ last_text f.outstation past = subst (MasterTied f.outstation past) up.1 (tied.outstations f.outstation) in
-        let said = verdict_is past f up.0 (is_unsolicited f) (is_text (last_text f.outstation past) f.octets) refl refl last in
-        rw up.1 (record { verdict = ap (λ v. Some v) said.0; confirmation = said.1 })
+        let is : MasterIs setup f.outstation past up.0 = subst (MasterTied setup f.outstation past) up.1 (tied.outstations f.outstation) in
+        let said : verdict_of up.0 f ≡ verdict_due setup past f = verdict_is setup past f up.0 is in
+        rw up.1 (record { verdict = ap (λ v. Some v) said; confirmation = ap (λ v. confirmation_in (Some v)) said ∙ due_confirms setup past f m })
+    by (steps.Poll o m wall) e =
+        let up = who_is_up (λ (x : Master). x.up) NoOutstation (slice_get s.outstations o) e in
+        let none = of_asking (request_given (latest s m) wall up.0) in
+        rw up.1 (record { verdict = none; confirmation = ap confirmation_in none })
     by (steps.Frame c a m) e =
         let up = who_is_up (λ (k : Client). is_up k.stage) NoClient (slice_get s.clients c) e in
         let none = of_event (event_of a up.0) in
@@ -120,13 +151,13 @@ holds setup past tied quiet speaks = record {
 record Told (setup : Setup) (past : List Entry) : Type 0 where
   tied : Tied setup past (state_after setup past)
   news : AtEach (Holds setup) past
-  confirmed : AtEach ConfirmsLast past
+  confirmed : AtEach (ConfirmsLast setup) past
   numbered : AtEach (NumbersLast setup) past
 
 told_first : (setup : Setup) → Told setup []
 told_first setup = record { tied = first_tied setup; news = holds setup [] (first_tied setup) (λ c. tt) (λ c. tt); confirmed = tt; numbered = tt }
 
-told_more : (setup : Setup) (past : List Entry) (e : Entry) → Follows setup past e (state_after setup (e ∷ past)) → ConfirmsLast (e ∷ past) → Told setup past → Told setup (e ∷ past)
+told_more : (setup : Setup) (past : List Entry) (e : Entry) → Follows setup past e (state_after setup (e ∷ past)) → ConfirmsLast setup (e ∷ past) → Told setup past → Told setup (e ∷ past)
 told_more setup past e follows last told =
     let tied = tied_by setup past e (state_after setup (e ∷ past)) follows in
     record {
@@ -158,7 +189,7 @@ run_told setup (e ∷ past) single small run sound =
 pub tells_news : (setup : Setup) (past : List Entry) → HasSingleAddresses setup.rows setup.controls → setup.station.common_address < 65536 → IsRun setup past → AtEach (LeavesSound setup) past → AtEach (Holds setup) past
 tells_news setup past single small run sound = (run_told setup past single small run sound).news
 
-pub confirms_taken : (setup : Setup) (past : List Entry) → HasSingleAddresses setup.rows setup.controls → setup.station.common_address < 65536 → IsRun setup past → AtEach (LeavesSound setup) past → AtEach ConfirmsLast past
+pub confirms_taken : (setup : Setup) (past : List Entry) → HasSingleAddresses setup.rows setup.controls → setup.station.common_address < 65536 → IsRun setup past → AtEach (LeavesSound setup) past → AtEach (ConfirmsLast setup) past
 confirms_taken setup past single small run sound = (run_told setup past single small run sound).confirmed
 
 pub numbers_in_order : (setup : Setup) (past : List Entry) → HasSingleAddresses setup.rows setup.controls → setup.station.common_address < 65536 → IsRun setup past → AtEach (LeavesSound setup) past → AtEach (NumbersLast setup) past

@@ -1,5 +1,9 @@
 pub mod Pictures
 pub mod Settled
 pub mod Turns
+pub mod Masters
+pub mod Tied
+pub mod ClientSteps
+pub mod OutstationSteps
 pub mod Steps
 pub mod EachPlace

@@ -19,7 +19,7 @@ pub fn runs_tell_news()
 /// A reply says of each fragment what is to be said by the steps before, and a confirmation is given only with the news
 /// put into the log, or for a repeated fragment.
 pub fn runs_confirm_what_was_taken()
-    ensures { (setup : Setup) (past : List Entry) → IsSoundRun setup past → AtEach ConfirmsLast past }
+    ensures { (setup : Setup) (past : List Entry) → IsSoundRun setup past → AtEach (ConfirmsLast setup) past }
 {}
 
 /// The nth I format put out to a client since it came up, counted from 0, has N(S) n modulo 32,768.

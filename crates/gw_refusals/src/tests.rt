@@ -10,6 +10,7 @@ const EVENT: [u8; 10] = [0xF0, 0x82, 0, 0, 2, 1, 0x17, 1, 5, 0x81];
 /// The reply to it.
 const ACCEPTED: Result<Reply, StepFault> = Ok(Reply::Verdict(Verdict::Accepted {
     confirm: Some([0xD0, 0]),
+    end: false,
 }));
 
 /// The settings, at the second try where memory was refused.
@@ -82,5 +83,24 @@ fn a_fragment_is_taken_or_changes_nothing(rt: HostRuntime) -> Result<(), Fail> {
     }
     assert_eq!(rt; reply, ACCEPTED);
     assert_eq!(rt; hub.queued(0), 1);
+    check_loss(&rt, &mut hub)
+}
+
+/// The loss of the outstation is told of the one row that was good, or changes nothing.
+fn check_loss(rt: &HostRuntime, hub: &mut Hub) -> Result<(), Fail> {
+    let down = Step::OutstationDown {
+        outstation: 0,
+        moment: 0,
+    };
+    let before = hub.picture().first().copied();
+    let mut reply = hub.step(&down);
+    if reply == Err(StepFault::Memory) {
+        println!(rt; "refused")?;
+        assert_eq!(rt; hub.picture().first().copied(), before);
+        assert_eq!(rt; hub.queued(0), 1);
+        reply = hub.step(&down);
+    }
+    assert_eq!(rt; reply, Ok(Reply::Done));
+    assert_eq!(rt; hub.queued(0), 2);
     Ok(())
 }

@@ -7,6 +7,7 @@ use Rattle.dnp_app.specs.Response.{Fragment, StoresHeader, response_of}
 use Rattle.iec_apci.specs.Apdu.{Unnumbered, apdu as spelling}
 use Rattle.iec_apci.specs.declared.apdu.Apdu.TheVariants.{U}
 use Rattle.iec_apci.specs.declared.apdu.Signal.TheVariants.{StartAct}
+use Rattle.gw_steps.specs.declared.step.Step.{Step}
 use Rattle.gw_steps.specs.declared.step.Step.TheVariants as steps
 use Rattle.gw_text.specs.Decimal.{number}
 use Rattle.gw_text.specs.Hex.{line_octets}
@@ -43,6 +44,17 @@ joined _ _ = None
 abbrev pub two_numbers : List ℕ → Option (ℕ × ℕ)
 two_numbers text = joined (number (2 ^ 8) (first_word text)) (option_and_then (number (2 ^ 64)) (rest_of text))
 
+-- `O M W`
+abbrev pub all_three : Option ℕ → Option ℕ → Option ℕ → Option (ℕ × ℕ × ℕ)
+all_three (Some a) (Some b) (Some c) = Some (a, b, c)
+all_three _ _ _ = None
+
+abbrev pub three_numbers : List ℕ → Option (ℕ × ℕ × ℕ)
+three_numbers text =
+    all_three (number (2 ^ 8) (first_word text))
+    (option_and_then (λ t. number (2 ^ 64) (first_word t)) (rest_of text))
+    (option_and_then (number (2 ^ 64)) (option_and_then rest_of (rest_of text)))
+
 -- `O M HEX` or `C M HEX`: the two numbers, and the octets
 abbrev pub with_octets : Option ℕ → Option ℕ → Option (List ℕ) → Option (ℕ × ℕ × List ℕ)
 with_octets (Some a) (Some b) (Some octets) = Some (a, b, octets)
@@ -76,14 +88,30 @@ start_with (c, m, octets) = if bytes_eq octets start_spelling then Some (Make (s
 abbrev pub frame_in : List ℕ → Option Instruction
 frame_in text = option_and_then start_with (numbers_and_octets text)
 
+-- the step of a verb with the number of an outstation or client, and a moment
+abbrev pub step_at : List ℕ → ℕ → ℕ → Option Step
+step_at verb n m =
+    if bytes_eq verb (codes "up") then Some (steps.OutstationUp n m)
+    else if bytes_eq verb (codes "down") then Some (steps.OutstationDown n m)
+    else if bytes_eq verb (codes "open") then Some (steps.ClientUp n m)
+    else if bytes_eq verb (codes "pump") then Some (steps.Pump n m)
+    else None
+
+-- the step of a verb without octets, with the text after it
+abbrev pub paired_with : List ℕ → List ℕ → Option Step
+paired_with verb text = option_and_then (λ p. step_at verb p.0 p.1) (two_numbers text)
+
+abbrev pub step_with : List ℕ → List ℕ → Option Step
+step_with verb text =
+    if bytes_eq verb (codes "tick") then option_map (λ m. steps.Tick m) (number (2 ^ 64) text)
+    else if bytes_eq verb (codes "poll") then option_map (λ p. steps.Poll p.0 p.1 p.2) (three_numbers text)
+    else paired_with verb text
+
 -- what the verbs without octets ask for, with the text after them
 abbrev pub short_with : List ℕ → List ℕ → Option Instruction
 short_with verb text =
     if bytes_eq verb (codes "queue") then option_map Queue (number (2 ^ 8) text)
-    else if bytes_eq verb (codes "up") then option_map (λ p. Make (steps.OutstationUp p.0 p.1)) (two_numbers text)
-    else if bytes_eq verb (codes "open") then option_map (λ p. Make (steps.ClientUp p.0 p.1)) (two_numbers text)
-    else if bytes_eq verb (codes "pump") then option_map (λ p. Make (steps.Pump p.0 p.1)) (two_numbers text)
-    else None
+    else option_map Make (step_with verb text)
 
 -- what a verb asks for, with the text after it
 abbrev pub asked_with : List ℕ → List ℕ → Option Instruction

@@ -2,7 +2,7 @@
 ghost use Rattle.std.specs.Prelude.{◌≡◌, ◌≤◌, ◌⊎◌, IfOk, IfSome, Some, length, option_map};
 ghost use Rattle.std.specs.Str.{bytes_eq};
 ghost use Rattle.dnp_app.specs.declared.fault.AppFault.TheVariants.{Memory as NoMemory};
-ghost use Rattle.gw_replay.specs.Instructions.{IsRead, IsReadWith, NeedsMemory, asked_with, first_word, fragment_in, frame_in, numbers_and_octets, rest_of, short_with, space_in, start_spelling, two_numbers};
+ghost use Rattle.gw_replay.specs.Instructions.{IsRead, IsReadWith, NeedsMemory, asked_with, first_word, fragment_in, frame_in, numbers_and_octets, rest_of, short_with, space_in, paired_with, start_spelling, step_at, step_with, three_numbers, two_numbers};
 ghost use Rattle.gw_replay.specs.declared.instruction.Instruction.TheVariants.{Refused};
 
 use dnp_app::{AppFault, read_response};
@@ -16,8 +16,9 @@ use std::alloc::Global;
 /// milliseconds.
 #[derive(Debug, Drop)]
 pub enum Instruction {
-    /// `up O M`: an outstation comes up. `open C M`: a client comes up. `pump C M`: a client's writer asks for the
-    /// next APDU. `frag O M HEX`, with the octets of a response: a fragment of an outstation. `frame C M HEX`, with
+    /// `up O M`: an outstation comes up. `down O M`: it is lost. `poll O M W`: its writer asks for the next request at
+    /// a wall time. `open C M`: a client comes up. `pump C M`: a client's writer asks for the next APDU. `tick M`:
+    /// time has passed. `frag O M HEX`, with the octets of a response: a fragment of an outstation. `frame C M HEX`, with
     /// the octets of STARTDT act: a client sends it.
     Make(Step),
     /// `frag O M HEX`, with other octets: they are refused.
@@ -54,6 +55,15 @@ fn two_numbers(text: &[u8]) -> Option<(u8, u64)>
 {
     let (place, rest) = split_word(text);
     Some((number_8(place)?, number_64(rest?)?))
+}
+
+/// `O M W`.
+fn three_numbers(text: &[u8]) -> Option<(u8, u64, u64)>
+    ensures { result ≡ three_numbers text.now }
+{
+    let (place, rest) = split_word(text);
+    let (moment, wall) = split_word(rest?);
+    Some((number_8(place)?, number_64(moment)?, number_64(wall?)?))
 }
 
 /// `O M HEX` or `C M HEX`.
@@ -146,21 +156,57 @@ fn short_instruction(verb: &[u8], text: &[u8]) -> Option<Instruction>
     if verb == b"queue".as_slice() {
         return Some(Instruction::Queue(number_8(text)?));
     }
+    Some(Instruction::Make(short_step(verb, text)?))
+}
+
+/// The step of a verb without octets.
+fn short_step(verb: &[u8], text: &[u8]) -> Option<Step>
+    ensures { result ≡ step_with verb.now text.now }
+{
+    if verb == b"tick".as_slice() {
+        let moment = number_64(text)?;
+        return Some(Step::Tick { moment });
+    }
+    if verb == b"poll".as_slice() {
+        let (outstation, moment, wall) = three_numbers(text)?;
+        return Some(Step::Poll {
+            outstation,
+            moment,
+            wall,
+        });
+    }
+    paired_step(verb, text)
+}
+
+/// The step of a verb with the number of an outstation or client, and a moment.
+fn paired_step(verb: &[u8], text: &[u8]) -> Option<Step>
+    ensures { result ≡ paired_with verb.now text.now }
+{
     let (place, moment) = two_numbers(text)?;
-    let step = match verb {
-        b"up" => Step::OutstationUp {
+    step_at(verb, place, moment)
+}
+
+/// The step of a verb for an outstation or a client at a moment.
+fn step_at(verb: &[u8], place: u8, moment: u64) -> Option<Step>
+    ensures { result ≡ step_at verb.now place moment }
+{
+    match verb {
+        b"up" => Some(Step::OutstationUp {
             outstation: place,
             moment,
-        },
-        b"open" => Step::ClientUp {
+        }),
+        b"down" => Some(Step::OutstationDown {
+            outstation: place,
+            moment,
+        }),
+        b"open" => Some(Step::ClientUp {
             client: place,
             moment,
-        },
-        b"pump" => Step::Pump {
+        }),
+        b"pump" => Some(Step::Pump {
             client: place,
             moment,
-        },
-        _ => return None,
-    };
-    Some(Instruction::Make(step))
+        }),
+        _ => None,
+    }
 }

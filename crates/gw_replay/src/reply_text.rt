@@ -1,6 +1,6 @@
 //! The texts of replies.
-ghost use Rattle.std.specs.Prelude.{◌≡◌, ◌++◌, OnOk};
-ghost use Rattle.gw_replay.specs.Replies.{fault_name, ignored_name, reply_line, reply_words, verdict_words, why_name, with_confirm};
+ghost use Rattle.std.specs.Prelude.{◌≡◌, ◌<◌, ◌++◌, OnOk};
+ghost use Rattle.gw_replay.specs.Replies.{client_word, closed_words, fault_name, ignored_name, reply_line, reply_words, verdict_words, why_name, with_confirm};
 
 use gw_hub::{Ignored, Reply, StepFault, Verdict, Why};
 use gw_model::Memory;
@@ -37,6 +37,37 @@ fn push_reply_words(text: &mut Vec<u8>, reply: &Reply) -> Result<(), Memory>
             text.extend_from_slice(why_name(*why))?;
         }
         Reply::Nothing => text.extend_from_slice(b"nothing")?,
+        Reply::Request(request) => {
+            text.extend_from_slice(b"request")?;
+            push_spaced(text, request.as_slice())?;
+        }
+        Reply::Ticked { closed } => {
+            text.extend_from_slice(b"ticked")?;
+            push_closed(text, *closed)?;
+        }
+    }
+    Ok(())
+}
+
+/// Adds the number of a client, below 10, where it was closed.
+fn push_client(text: &mut Vec<u8>, client: u8, is_closed: bool) -> Result<(), Memory>
+    requires { client < 10 }
+    ensures { OnOk result (text.new.items ≡ text.old.items ++ client_word client is_closed) }
+{
+    if is_closed {
+        text.extend_from_slice(&[b' ', b'0' + client])?;
+    }
+    Ok(())
+}
+
+/// Adds the numbers of the clients whose bit is set.
+fn push_closed(text: &mut Vec<u8>, closed: u8) -> Result<(), Memory>
+    ensures { OnOk result (text.new.items ≡ text.old.items ++ closed_words 0 8 closed) }
+{
+    let mut rest = closed;
+    for client in 0..8 {
+        push_client(text, client, rest % 2 == 1)?;
+        rest /= 2;
     }
     Ok(())
 }
@@ -45,7 +76,11 @@ fn push_verdict(text: &mut Vec<u8>, verdict: &Verdict) -> Result<(), Memory>
     ensures { OnOk result (text.new.items ≡ text.old.items ++ verdict_words verdict.now) }
 {
     match verdict {
-        Verdict::Accepted { confirm } => push_confirmed(text, b"accepted", *confirm),
+        Verdict::Accepted { confirm, end } => {
+            push_confirmed(text, b"accepted", *confirm)?;
+            text.extend_from_slice(if *end { b" end" } else { b"" })?;
+            Ok(())
+        }
         Verdict::Repeated { confirm } => push_confirmed(text, b"repeated", *confirm),
         Verdict::Ignored(why) => {
             text.extend_from_slice(b"ignored ")?;
@@ -77,6 +112,8 @@ fn ignored_name(why: Ignored) -> &'static [u8]
 {
     match why {
         Ignored::NoRequest => b"NoRequest",
+        Ignored::WrongSequence => b"WrongSequence",
+        Ignored::WrongFirst => b"WrongFirst",
     }
 }
 

@@ -5,7 +5,7 @@ use Rattle.gw_model.specs.declared.point.Report.{Report}
 use Rattle.gw_model.specs.declared.point.Stamp.TheVariants.{At}
 use Rattle.gw_entries.specs.Example.{station, outstation}
 use Rattle.gw_map.specs.Settings.{Setup}
-use Rattle.gw_translate.specs.Example.{timed_event}
+use Rattle.gw_translate.specs.Example.{static_value, timed_event}
 use Rattle.gw_picture.specs.Example.{rows, analog_value}
 use Rattle.dnp_points.specs.Objects.{binary_report}
 use Rattle.dnp_app.specs.Response.{Fragment}
@@ -48,6 +48,11 @@ next_reading =
 abbrev pub solicited : Fragment
 solicited = response (0xC0 ∷ 0x81 ∷ 0 ∷ 0 ∷ []) []
 
+-- the answer to the first poll: input 5 is on, as a static value
+abbrev pub integrity_answer : Fragment
+integrity_answer =
+    response (0xC0 ∷ 0x81 ∷ 0 ∷ 0 ∷ 1 ∷ 2 ∷ 0 ∷ 5 ∷ 5 ∷ 0x81 ∷ []) (static_value 0x81 true ∷ [])
+
 -- the state after steps, the first one first, where none has a fault
 abbrev pub after_steps : Setup → State → List Step → State
 after_steps s state [] = state
@@ -59,6 +64,12 @@ reached ss = after_steps setup (at_first setup) ss
 -- steps at moment 0
 abbrev pub outstation_up : Step
 outstation_up = steps.OutstationUp 0 0
+
+abbrev pub outstation_down : Step
+outstation_down = steps.OutstationDown 0 0
+
+abbrev pub poll : Step
+poll = steps.Poll 0 0 0
 
 abbrev pub fragment_of : Fragment → Step
 fragment_of f = steps.Fragment f 0
@@ -79,6 +90,10 @@ starting = connect ∷ start ∷ []
 -- it gets its confirmation, and the outstation comes up
 abbrev pub started : List Step
 started = starting ++ pump ∷ outstation_up ∷ []
+
+-- the event came and was put out, the outstation was lost, that was put out, and it came up again
+abbrev pub returned : List Step
+returned = started ++ fragment_of event ∷ pump ∷ outstation_down ∷ pump ∷ outstation_up ∷ []
 
 -- so many STARTDT acts
 abbrev pub starts : ℕ → List Step

@@ -1,5 +1,5 @@
 -- The state of the core, as its contracts see it: a value for each part.
-use Rattle.std.specs.Prelude.{ℕ, List, length, map, replicate}
+use Rattle.std.specs.Prelude.{ℕ, List, map, nat_lt, replicate, if◌then◌else◌}
 use Rattle.gw_model.specs.declared.observation.Observation.{Observation}
 use Rattle.gw_map.specs.Settings.{Setup}
 use Rattle.gw_picture.specs.Opening.{opening}
@@ -24,10 +24,14 @@ pub record State : Type 0 where
 abbrev pub client_limit : ℕ
 client_limit = 1
 
+-- a smaller moment counts as the largest so far
+abbrev pub later : ℕ → ℕ → ℕ
+later so_far moment = if nat_lt so_far moment then moment else so_far
+
 -- all outstations and clients are down
 abbrev pub at_first : Setup → State
 at_first setup = record {
-  outstations = replicate (length setup.outstations) master_down;
+  outstations = map (λ outstation. master_down outstation.poll) setup.outstations;
   picture = map opening setup.rows;
   clients = replicate client_limit client_down;
   counts = record { steps = 0; news = 0 };

@@ -4,10 +4,13 @@ use Rattle.gw_model.specs.declared.observation.Observation.{Observation}
 use Rattle.gw_map.specs.Settings.{Setup}
 use Rattle.gw_model.specs.Places.{change}
 use Rattle.dnp_app.specs.Response.{Fragment}
-use Rattle.dnp_master.specs.Master.{Master, accepts, verdict_of, master_after_up, master_after_accepted}
+use Rattle.dnp_app.specs.declared.request.Request.{Request}
+use Rattle.dnp_master.specs.Master.{Master, master_down, master_after_up, master_after_next, master_after_tick, request_given}
+use Rattle.dnp_master.specs.Fragments.{accepts, verdict_of, master_after_fragment}
 use Rattle.iec_apci.specs.Apdu.{Content}
 use Rattle.iec_apci.specs.Buffer.{buffer_of}
 use Rattle.gw_picture.specs.Picture.{news_of, picture_after}
+use Rattle.gw_picture.specs.Loss.{losses_of, picture_after_loss}
 use Rattle.gw_station.specs.declared.event.Event.{Event}
 use Rattle.gw_station.specs.declared.event.Event.TheVariants as events
 use Rattle.gw_station.specs.Client.{Client, is_up, client_after_up, client_with_news}
@@ -19,7 +22,7 @@ use Rattle.gw_steps.specs.declared.step.Reply.{Reply}
 use Rattle.gw_steps.specs.declared.step.Reply.TheVariants as replies
 use Rattle.gw_steps.specs.declared.step.StepFault.{StepFault}
 use Rattle.gw_steps.specs.declared.step.StepFault.TheVariants.{NoOutstation, NoClient, NotUp, AlreadyUp, Memory, Spent}
-use Rattle.gw_steps.specs.State.{State, Counts}
+use Rattle.gw_steps.specs.State.{State, Counts, later}
 
 -- ---- faults
 
@@ -44,10 +47,13 @@ fault_unless_down absent (Some false) = None
 
 abbrev pub fault_of : State → Step → Option StepFault
 fault_of s (steps.OutstationUp o moment) = fault_unless_down NoOutstation (outstation_up s o)
+fault_of s (steps.OutstationDown o moment) = fault_unless_up NoOutstation (outstation_up s o)
 fault_of s (steps.Fragment f moment) = fault_unless_up NoOutstation (outstation_up s f.outstation)
+fault_of s (steps.Poll o moment wall) = fault_unless_up NoOutstation (outstation_up s o)
 fault_of s (steps.ClientUp c moment) = fault_unless_down NoClient (client_up s c)
 fault_of s (steps.Frame c apdu moment) = fault_unless_up NoClient (client_up s c)
 fault_of s (steps.Pump c moment) = fault_unless_up NoClient (client_up s c)
+fault_of s (steps.Tick moment) = None
 
 -- ---- what a step needs
 
@@ -64,6 +70,10 @@ abbrev pub news_of_fragment : Setup → State → Fragment → List Observation
 news_of_fragment setup s f =
     if is_accepting s f then news_of setup.station.offset_minutes setup.rows s.picture f.reports else []
 
+-- the observations of the loss of an outstation
+abbrev pub losses : Setup → State → ℕ → List Observation
+losses setup s o = losses_of o setup.rows s.picture
+
 -- memory may be wanted, and by how much the counts rise
 pub record Needs : Type 0 where
   pub memory : Bool
@@ -73,6 +83,10 @@ abbrev pub needs : Setup → State → Step → Needs
 needs setup s (steps.Fragment f moment) = record {
   memory = is_accepting s f;
   counts = record { steps = 1; news = length (news_of_fragment setup s f) };
+}
+needs setup s (steps.OutstationDown o moment) = record {
+  memory = nat_lt 0 (length (losses setup s o));
+  counts = record { steps = 1; news = length (losses setup s o) };
 }
 needs setup s _ = record { memory = false; counts = record { steps = 1; news = 0 } }
 
@@ -84,6 +98,10 @@ raised counts more = record { steps = counts.steps + more.steps; news = counts.n
 
 -- ---- the answer
 
+-- the moment of a step
+abbrev pub latest : State → ℕ → ℕ
+latest s moment = later s.moment moment
+
 -- the reply for a client; Nothing where there is no such
 abbrev pub client_reply : (Client → Reply) → Option Client → Reply
 client_reply reply None = replies.Nothing
@@ -93,6 +111,11 @@ client_reply reply (Some k) = reply k
 abbrev pub outstation_reply : (Master → Reply) → Option Master → Reply
 outstation_reply reply None = replies.Nothing
 outstation_reply reply (Some m) = reply m
+
+-- the reply to a poll that gives this
+abbrev pub reply_asking : Option Request → Reply
+reply_asking None = replies.Nothing
+reply_asking (Some request) = replies.Request request
 
 -- the reply to what became of an APDU
 abbrev pub reply_of_event : Event → Reply
@@ -106,6 +129,10 @@ reply_giving (Some content) = replies.Apdu (buffer_of content)
 
 abbrev pub reply_to : Setup → State → Step → Reply
 reply_to setup s (steps.OutstationUp o moment) = replies.Done
+reply_to setup s (steps.OutstationDown o moment) = replies.Done
+reply_to setup s (steps.Poll o moment wall) =
+    outstation_reply (λ m. reply_asking (request_given (latest s moment) wall m)) (slice_get s.outstations o)
+reply_to setup s (steps.Tick moment) = replies.Ticked 0
 reply_to setup s (steps.Fragment f moment) =
     outstation_reply (λ m. replies.Verdict (verdict_of m f)) (slice_get s.outstations f.outstation)
 reply_to setup s (steps.ClientUp c moment) = replies.Done
@@ -126,19 +153,26 @@ outcome setup s step = answer (fault_of s step) (can_rise s.counts (needs setup 
 
 abbrev pub moment_of : Step → ℕ
 moment_of (steps.OutstationUp o moment) = moment
+moment_of (steps.OutstationDown o moment) = moment
 moment_of (steps.Fragment f moment) = moment
+moment_of (steps.Poll o moment wall) = moment
 moment_of (steps.ClientUp c moment) = moment
 moment_of (steps.Frame c apdu moment) = moment
 moment_of (steps.Pump c moment) = moment
+moment_of (steps.Tick moment) = moment
 
--- a smaller moment counts as the largest so far
-abbrev pub latest : State → ℕ → ℕ
-latest s moment = if nat_lt s.moment moment then moment else s.moment
+-- the loss of an outstation
+abbrev pub parts_after_loss : Setup → State → ℕ → State
+parts_after_loss setup s o = record s {
+  outstations = change o (λ m. master_down m.poll) s.outstations;
+  picture = picture_after_loss o setup.rows s.picture;
+  clients = map (client_with_news (losses setup s o)) s.clients;
+}
 
 -- what an accepted fragment changes
 abbrev pub parts_after_fragment : Setup → State → ℕ → Fragment → State
 parts_after_fragment setup s moment f = record s {
-  outstations = change f.outstation (master_after_accepted moment f.octets) s.outstations;
+  outstations = change f.outstation (master_after_fragment moment f) s.outstations;
   picture = picture_after setup.station.offset_minutes setup.rows s.picture f.reports;
   clients = map (client_with_news (news_of setup.station.offset_minutes setup.rows s.picture f.reports)) s.clients;
 }
@@ -147,6 +181,10 @@ parts_after_fragment setup s moment f = record s {
 abbrev pub parts_after : Setup → State → ℕ → Step → State
 parts_after setup s moment (steps.OutstationUp o _) =
     record s { outstations = change o (master_after_up moment) s.outstations }
+parts_after setup s moment (steps.OutstationDown o _) = parts_after_loss setup s o
+parts_after setup s moment (steps.Poll o _ wall) =
+    record s { outstations = change o (master_after_next moment wall) s.outstations }
+parts_after setup s moment (steps.Tick _) = record s { outstations = map (master_after_tick moment) s.outstations }
 parts_after setup s moment (steps.Fragment f _) =
     if is_accepting s f then parts_after_fragment setup s moment f else s
 parts_after setup s moment (steps.ClientUp c _) = record s { clients = change c (client_after_up moment) s.clients }

@@ -1,17 +1,18 @@
 //! Worked runs, computed by the step relation itself.
-ghost use Rattle.std.specs.Prelude.{◌≡◌, ◌-◌, ◌++◌, [], ◌∷◌, Some, Ok, Err};
+ghost use Rattle.std.specs.Prelude.{◌≡◌, ◌-◌, ◌++◌, [], ◌∷◌, Some, None, true, false, Ok, Err};
 ghost use Rattle.gw_steps.specs.declared.step.Step.TheVariants as steps;
 ghost use Rattle.gw_steps.specs.declared.step.Reply.TheVariants as replies;
 ghost use Rattle.gw_steps.specs.declared.step.StepFault.TheVariants.{NoOutstation, NoClient, NotUp, AlreadyUp, Spent};
 ghost use Rattle.dnp_master.specs.declared.verdict.Verdict.TheVariants as verdicts;
 ghost use Rattle.dnp_master.specs.declared.verdict.Ignored.TheVariants.{NoRequest};
 ghost use Rattle.gw_station.specs.declared.event.Why.TheVariants.{Flooded};
+ghost use Rattle.dnp_app.specs.Requests.{read_octets, request};
 ghost use Rattle.iec_apci.specs.Buffer.{buffer};
 ghost use Rattle.iec_apci.specs.declared.apdu.Apdu.TheVariants.{U};
 ghost use Rattle.iec_apci.specs.declared.apdu.Signal.TheVariants.{StartAct};
 ghost use Rattle.gw_steps.specs.State.{at_first};
 ghost use Rattle.gw_steps.specs.Steps.{outcome};
-ghost use Rattle.gw_steps.specs.Example.{after_steps, ahead, connect, counting, event, fragment_of, last_count, next_reading, outstation_up, pump, reached, reading, setup, solicited, start, started, starting, starts, timed};
+ghost use Rattle.gw_steps.specs.Example.{after_steps, ahead, connect, counting, event, fragment_of, integrity_answer, last_count, next_reading, outstation_down, outstation_up, poll, pump, reached, reading, returned, setup, solicited, start, started, starting, starts, timed};
 
 /// Replies to single steps, with faults before them.
 pub fn replies_by_example()
@@ -20,6 +21,11 @@ pub fn replies_by_example()
     ensures no_client { outcome setup (at_first setup) (steps.Pump 1 0) ≡ Err NoClient }
     ensures not_up { outcome setup (at_first setup) (fragment_of event) ≡ Err NotUp }
     ensures client_down { outcome setup (at_first setup) pump ≡ Err NotUp }
+    ensures poll_down { outcome setup (at_first setup) poll ≡ Err NotUp }
+    ensures down_already { outcome setup (at_first setup) outstation_down ≡ Err NotUp }
+    ensures no_poll { outcome setup (at_first setup) (steps.Poll 1 0 0) ≡ Err NoOutstation }
+    ensures no_loss { outcome setup (at_first setup) (steps.OutstationDown 1 0) ≡ Err NoOutstation }
+    ensures time_passes { outcome setup (at_first setup) (steps.Tick 0) ≡ Ok (replies.Ticked 0) }
     // An outstation can't come up twice.
     ensures twice { outcome setup (reached started) outstation_up ≡ Err AlreadyUp }
     // A count of steps or of news that can't rise; a fault of the actor comes before it.
@@ -27,9 +33,13 @@ pub fn replies_by_example()
     ensures step_left { outcome setup (counting (last_count - 1) 0 (reached started)) pump ≡ Ok replies.Nothing }
     ensures last_news { outcome setup (counting 0 last_count (reached started)) (fragment_of event) ≡ Err Spent }
     ensures news_left { outcome setup (counting 0 (last_count - 1) (reached started)) (fragment_of event)
-        ≡ Ok (replies.Verdict (verdicts.Accepted (Some (0xD0 ∷ 0 ∷ [])))) }
+        ≡ Ok (replies.Verdict (verdicts.Accepted (Some (0xD0 ∷ 0 ∷ [])) false)) }
     ensures no_news { outcome setup (counting 0 last_count (reached started)) (fragment_of solicited)
         ≡ Ok (replies.Verdict (verdicts.Ignored NoRequest)) }
+    ensures last_loss { outcome setup (counting 0 last_count (reached (started ++ fragment_of event ∷ [])))
+        outstation_down ≡ Err Spent }
+    ensures nothing_lost { outcome setup (counting 0 last_count (reached started)) outstation_down ≡ Ok replies.Done }
+    ensures last_tick { outcome setup (counting last_count 0 (reached started)) (steps.Tick 0) ≡ Err Spent }
     ensures fault_first { outcome setup (counting last_count 0 (reached started)) (steps.Pump 1 0) ≡ Err NoClient }
     // 32 confirmations may wait; a further STARTDT act closes the connection, and the client may connect again.
     ensures most { outcome setup (reached (connect ∷ starts 31)) start ≡ Ok replies.Taken }
@@ -51,7 +61,7 @@ pub fn runs_by_example()
         ≡ Ok (replies.Apdu (buffer (0x68 ∷ 4 ∷ 0x0B ∷ 0 ∷ 0 ∷ 0 ∷ []))) }
     // The event is accepted and confirmed, its repeat is confirmed again, a solicited response is ignored.
     ensures accepted { outcome setup (reached started) (fragment_of event)
-        ≡ Ok (replies.Verdict (verdicts.Accepted (Some (0xD0 ∷ 0 ∷ [])))) }
+        ≡ Ok (replies.Verdict (verdicts.Accepted (Some (0xD0 ∷ 0 ∷ [])) false)) }
     ensures repeated { outcome setup (reached (started ++ fragment_of event ∷ [])) (fragment_of event)
         ≡ Ok (replies.Verdict (verdicts.Repeated (Some (0xD0 ∷ 0 ∷ [])))) }
     ensures ignored { outcome setup (reached started) (fragment_of solicited)
@@ -75,6 +85,24 @@ pub fn runs_by_example()
         ∷ 1 ∷ 1 ∷ 3 ∷ 0 ∷ 1 ∷ 0 ∷ 0x05 ∷ 0x10 ∷ 0 ∷ 0x01 ∷ []))) }
     ensures starts_anew { outcome setup
         (reached (started ++ fragment_of event ∷ starts 33 ++ connect ∷ start ∷ pump ∷ [])) pump ≡ Ok replies.Nothing }
+    // A loss is told of what was shown good, once; then the outstation comes up and is polled, and what it answers is
+    // told.
+    ensures lost { outcome setup (reached (started ++ fragment_of event ∷ pump ∷ outstation_down ∷ [])) pump
+        ≡ Ok (replies.Apdu (buffer (0x68 ∷ 0x0E ∷ 2 ∷ 0 ∷ 0 ∷ 0
+        ∷ 1 ∷ 1 ∷ 3 ∷ 0 ∷ 1 ∷ 0 ∷ 0x05 ∷ 0x10 ∷ 0 ∷ 0x41 ∷ []))) }
+    ensures lost_once { outcome setup (reached returned) pump ≡ Ok replies.Nothing }
+    ensures polled { outcome setup (reached returned) poll ≡ Ok (replies.Request (request (read_octets true 0))) }
+    ensures polled_once { outcome setup (reached (returned ++ poll ∷ [])) poll ≡ Ok replies.Nothing }
+    ensures answered { outcome setup (reached (returned ++ poll ∷ [])) (fragment_of integrity_answer)
+        ≡ Ok (replies.Verdict (verdicts.Accepted None true)) }
+    ensures back { outcome setup (reached (returned ++ poll ∷ fragment_of integrity_answer ∷ [])) pump
+        ≡ Ok (replies.Apdu (buffer (0x68 ∷ 0x0E ∷ 4 ∷ 0 ∷ 0 ∷ 0
+        ∷ 1 ∷ 1 ∷ 3 ∷ 0 ∷ 1 ∷ 0 ∷ 0x05 ∷ 0x10 ∷ 0 ∷ 0x01 ∷ []))) }
+    // A moment that goes back counts as the largest so far: 5 seconds after 9 the request is late, not before.
+    ensures late { outcome setup (reached (outstation_up ∷ steps.Tick 9 ∷ poll ∷ steps.Tick 5008 ∷ []))
+        (fragment_of integrity_answer) ≡ Ok (replies.Verdict (verdicts.Accepted None true)) }
+    ensures too_late { outcome setup (reached (outstation_up ∷ steps.Tick 9 ∷ poll ∷ steps.Tick 5009 ∷ []))
+        (fragment_of integrity_answer) ≡ Ok (replies.Verdict (verdicts.Ignored NoRequest)) }
     // An event's time, at a station whose clocks are an hour ahead of UTC: 23:13:20 on 14 November 2023.
     ensures timed { outcome ahead (after_steps ahead (at_first ahead) (started ++ fragment_of timed ∷ [])) pump
         ≡ Ok (replies.Apdu (buffer (0x68 ∷ 0x15 ∷ 0 ∷ 0 ∷ 0 ∷ 0

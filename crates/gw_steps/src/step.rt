@@ -1,6 +1,6 @@
 //! The steps of the core, and what it replies.
 
-use dnp_app::Response;
+use dnp_app::{Request, Response};
 use dnp_master::Verdict;
 use gw_station::Why;
 use iec_apci::{Apdu, ApduBuf};
@@ -10,32 +10,67 @@ use iec_apci::{Apdu, ApduBuf};
 #[derive(Debug, Drop)]
 pub enum Step {
     /// The connection to an outstation stands.
-    OutstationUp { outstation: u8, moment: u64 },
+    OutstationUp {
+        outstation: u8,
+        moment: u64,
+    },
+    /// The connection to an outstation is lost.
+    OutstationDown {
+        outstation: u8,
+        moment: u64,
+    },
     /// A fragment of the outstation that the response was read for.
-    Fragment { response: Response, moment: u64 },
+    Fragment {
+        response: Response,
+        moment: u64,
+    },
+    /// An outstation's writer asks for the next request, at a wall time in milliseconds since 1970 in UTC.
+    Poll {
+        outstation: u8,
+        moment: u64,
+        wall: u64,
+    },
     /// A client connected.
-    ClientUp { client: u8, moment: u64 },
+    ClientUp {
+        client: u8,
+        moment: u64,
+    },
     /// A client sent an APDU. Only STARTDT act is acted on so far.
-    Frame { client: u8, apdu: Apdu, moment: u64 },
+    Frame {
+        client: u8,
+        apdu: Apdu,
+        moment: u64,
+    },
     /// A client's writer asks for the next APDU.
-    Pump { client: u8, moment: u64 },
+    Pump {
+        client: u8,
+        moment: u64,
+    },
+    /// Time has passed.
+    Tick {
+        moment: u64,
+    },
 }
 
 /// The reply to a step.
 #[derive(Clone, Copy, Debug, PartialEq, Eq)]
 pub enum Reply {
-    /// The outstation or client is up now.
+    /// The outstation or client is up now, or the outstation is down.
     Done,
     /// What became of a fragment.
     Verdict(Verdict),
+    /// The request that goes to the outstation next.
+    Request(Request),
     /// The APDU that goes to the client next.
     Apdu(ApduBuf),
     /// The client's APDU was taken.
     Taken,
     /// The client's connection is closed.
     Closed(Why),
-    /// No APDU waits for the client.
+    /// No APDU waits for the client; or a request of the outstation awaits its answer, or none is due.
     Nothing,
+    /// Time has passed; bit c of `closed` is set where the connection of client c was closed by that.
+    Ticked { closed: u8 },
 }
 
 /// Why a step was not made; nothing changed. The first of these in this order, but `Memory` last.

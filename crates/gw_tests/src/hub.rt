@@ -147,7 +147,10 @@ fn are_replies_to_an_event(replies: &[Result<Reply, StepFault>]) -> bool {
         Ok(Reply::Taken),
         Ok(Reply::Apdu(start_confirmation())),
         Ok(Reply::Done),
-        Ok(Reply::Verdict(Verdict::Accepted { confirm })),
+        Ok(Reply::Verdict(Verdict::Accepted {
+            confirm,
+            end: false,
+        })),
         Ok(Reply::Apdu(news_of_on(0))),
         Ok(Reply::Nothing),
         Err(StepFault::NoClient),

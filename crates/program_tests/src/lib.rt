@@ -9,6 +9,8 @@ mod failing;
 #[cfg(test)]
 mod largest;
 #[cfg(test)]
+mod polls;
+#[cfg(test)]
 mod replay;
 #[cfg(test)]
 mod text;

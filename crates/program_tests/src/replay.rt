@@ -105,7 +105,16 @@ fn replays(rt: HostRuntime) -> Result<(), Fail> {
 
 /// Lines that are refused.
 const OTHER_LINES: &[&str] = &[
-    "down 0 0",
+    "close 0 0",
+    "down 0",
+    "poll 0 0",
+    "poll 0 0 0 0",
+    "poll 0 0 ",
+    "poll 256 0 0",
+    "poll 0 0 18446744073709551616",
+    "tick",
+    "tick 0 0",
+    "tick -1",
     "up 0",
     "up 0 ",
     "up  0",
@@ -195,11 +204,12 @@ fn told(rt: &impl AllocGlobal, replies: &[Result<Reply, StepFault>]) -> Result<V
 fn replies_are_told_with_ample_memory(rt: HostRuntime) -> Result<(), Fail> {
     let replies = [
         Ok(Reply::Closed(Why::Flooded)),
+        Ok(Reply::Ticked { closed: 0x91 }),
         Err(StepFault::Memory),
         Err(StepFault::Spent),
     ];
     let text = told(&rt, &replies)?;
-    let want = b"closed Flooded\nfault 5 Memory\nfault 6 Spent\n";
+    let want = b"closed Flooded\nticked 0 4 7\nfault 5 Memory\nfault 6 Spent\n";
     assert_eq!(rt; text.as_slice(), want.as_slice());
     Ok(())
 }

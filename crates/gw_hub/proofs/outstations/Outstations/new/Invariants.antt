@@ -1,8 +1,8 @@
--- So many are down already.
-use Rattle.std.proofs.Common.{◌≡◌}
-use Rattle.std.specs.Prelude.{map, replicate}
-use Rattle.dnp_master.specs.Master.{Master, master_down}
+-- Those of the outstations before this one are down already.
+use Rattle.std.proofs.Common.{◌≡◌, ◌++◌, map, drop}
+use Rattle.dnp_master.specs.Master.{master_down}
 use Rattle.gw_hub.proofs.outstations.Outstations.new.Given as goal
 
-abbrev pub invariant-loop : goal.invariant-loop
-invariant-loop l = map (λ (m : Master). m) l.masters.items ≡ replicate l.counter master_down
+abbrev pub invariant-loop-outstation : goal.invariant-loop-outstation
+invariant-loop-outstation l =
+    l.masters.items ++ map (λ outstation. master_down outstation.poll) (drop l.outstation-index l.outstations) ≡ map (λ outstation. master_down outstation.poll) l.outstations
