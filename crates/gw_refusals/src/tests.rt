@@ -2,6 +2,7 @@ use crate::read_copy;
 use dnp_app::AppFault;
 use gw_hub::{Apdu, Hub, Reply, Signal, Step, StepFault, Verdict};
 use gw_map::{DEFAULT_SETTINGS, Settings};
+use std::process::Abort;
 use std::test::Fail;
 
 /// An unsolicited response that asks for a confirmation: input 5 is on.
@@ -83,24 +84,29 @@ fn a_fragment_is_taken_or_changes_nothing(rt: HostRuntime) -> Result<(), Fail> {
     }
     assert_eq!(rt; reply, ACCEPTED);
     assert_eq!(rt; hub.queued(0), 1);
-    check_loss(&rt, &mut hub)
+    if loss_meets_refusal(&rt, &mut hub) {
+        println!(rt; "refused")?;
+    }
+    Ok(())
 }
 
-/// The loss of the outstation is told of the one row that was good, or changes nothing.
-fn check_loss(rt: &HostRuntime, hub: &mut Hub) -> Result<(), Fail> {
+/// The loss of the outstation is told of the one row that was good, or changes nothing where memory is refused;
+/// whether it was.
+fn loss_meets_refusal(rt: &impl Abort, hub: &mut Hub) -> bool {
     let down = Step::OutstationDown {
         outstation: 0,
         moment: 0,
     };
     let before = hub.picture().first().copied();
-    let mut reply = hub.step(&down);
-    if reply == Err(StepFault::Memory) {
-        println!(rt; "refused")?;
+    let first = hub.step(&down);
+    let is_refused = first == Err(StepFault::Memory);
+    let mut last = first;
+    if is_refused {
         assert_eq!(rt; hub.picture().first().copied(), before);
         assert_eq!(rt; hub.queued(0), 1);
-        reply = hub.step(&down);
+        last = hub.step(&down);
     }
-    assert_eq!(rt; reply, Ok(Reply::Done));
+    assert_eq!(rt; last, Ok(Reply::Done));
     assert_eq!(rt; hub.queued(0), 2);
-    Ok(())
+    is_refused
 }
