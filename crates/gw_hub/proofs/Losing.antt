@@ -5,7 +5,7 @@ use Rattle.std.proofs.lemmas.List.{length-append}
 use Rattle.gw_model.specs.declared.observation.Observation.{Observation}
 use Rattle.gw_entries.specs.declared.row.Row.{Row}
 use Rattle.gw_picture.specs.Loss.{losses_at, losses_of, picture_after_loss, picture_losing_at}
-use Rattle.gw_picture.proofs.Losses.{loss_next, shown_next, losing_length, losses_end, shown_end}
+use Rattle.gw_picture.proofs.Losses.{loss_next, shown_next, losses_end, shown_end}
 use Rattle.gw_station.specs.declared.client.Stage.{Stage}
 use Rattle.gw_station.specs.declared.client.Stage.TheVariants.{Down, Stopped, Started}
 use Rattle.gw_station.specs.Client.{Client, client_with_news}

@@ -1,13 +1,12 @@
 -- Each step of a client keeps what ties the state to the history.
-use Rattle.std.proofs.Common.{◌≡◌, ℕ, zero, suc, ℤ, ◌+◌, ◌-◌, ◌%◌, ◌<◌, Bool, true, false, ◌&&◌, not, cond, eqb, List, [], ◌∷◌, ◌++◌, Option, Some, None, Ok, Err, refl, sym, ap, subst, ◌∙◌, arith, inl, inr}
+use Rattle.std.proofs.Common.{◌≡◌, ℕ, zero, suc, ℤ, ◌+◌, ◌-◌, ◌%◌, ◌<◌, Bool, true, false, cond, eqb, List, [], ◌∷◌, Option, Some, None, Ok, refl, sym, ap, subst, ◌∙◌, arith, inl, inr}
 use Rattle.std.specs.Prelude.{slice_get, option_map}
 use Rattle.std.specs.List.{AllByRecursion}
-use Rattle.std.proofs.lemmas.Bool.{and_parts, cases_Bool, cases_eq, ne_eqb, eq-eqb, true≢false}
-use Rattle.std.proofs.lemmas.List.{append-nil}
+use Rattle.std.proofs.lemmas.Bool.{cases_Bool, cases_eq, ne_eqb, eq-eqb}
 use Rattle.gw_model.specs.declared.observation.Observation.{Observation}
-use Rattle.gw_map.specs.Settings.{Setup, HasSingleAddresses}
+use Rattle.gw_map.specs.Settings.{Setup}
 use Rattle.gw_model.specs.Places.{change}
-use Rattle.gw_picture.proofs.Lists.{change-here, change-there, map-get, some_is}
+use Rattle.gw_picture.proofs.Lists.{change-here, change-there, some_is}
 use Rattle.iec_apci.specs.declared.apdu.Apdu.{Apdu}
 use Rattle.iec_apci.specs.declared.apdu.Apdu.TheVariants.{I, S, U}
 use Rattle.iec_apci.specs.declared.apdu.Signal.TheVariants.{StartAct, StartCon, StopAct, StopCon, TestAct, TestCon}
@@ -16,7 +15,7 @@ use Rattle.iec_apci.specs.Buffer.{buffer_of}
 use Rattle.gw_station.specs.declared.client.Stage.{Stage}
 use Rattle.gw_station.specs.declared.client.Stage.TheVariants.{Down, Stopped, Started}
 use Rattle.gw_station.specs.declared.event.Why.TheVariants.{Flooded}
-use Rattle.gw_station.specs.Client.{Client, is_up, is_started as is_in_session, client_after_up, client_after_close, client_with_news}
+use Rattle.gw_station.specs.Client.{Client, is_up, is_started as is_in_session, client_after_up, client_after_close}
 use Rattle.gw_station.specs.Frames.{is_start, floods, event_of, client_with_confirmation, client_after_apdu}
 use Rattle.gw_station.specs.Pump.{news_content, news_offered, given, first_of, client_after_news, client_after_pump}
 use Rattle.gw_station.specs.Sound.{IsSendable, IsSoundClient}
@@ -24,8 +23,7 @@ use Rattle.gw_steps.specs.declared.step.Step.{Step}
 use Rattle.gw_steps.specs.declared.step.Step.TheVariants as steps
 use Rattle.gw_steps.specs.declared.step.Reply.{Reply}
 use Rattle.gw_steps.specs.declared.step.Reply.TheVariants as replies
-use Rattle.gw_steps.specs.declared.step.StepFault.{StepFault}
-use Rattle.gw_steps.specs.declared.step.StepFault.TheVariants.{NoOutstation, NoClient}
+use Rattle.gw_steps.specs.declared.step.StepFault.TheVariants.{NoClient}
 use Rattle.gw_steps.specs.State.{State, later}
 use Rattle.gw_steps.specs.Steps.{outcome, needs, can_rise, reply_to, fault_of, client_reply, reply_of_event, reply_giving, latest, moment_of, after}
 use Rattle.gw_steps.specs.Runs.{Entry}
@@ -37,7 +35,7 @@ use Rattle.gw_steps.proofs.Saying.{said-content, said-news}
 use Rattle.gw_news.specs.Accepted.{last_after, last_text, asked_of}
 use Rattle.gw_news.specs.Turns.{is_start_act, Idle, PutsOut, turn_of}
 use Rattle.gw_news.specs.Numbers.{sent_to}
-use Rattle.gw_news.proofs.Turns.{ClientTied, SlotTied, Goes, brought, goes_idle, goes_alike, goes_nowhere, goes_connects, goes_ends, goes_begins, goes_begins_again, goes_puts_other, goes_puts_news}
+use Rattle.gw_news.proofs.Turns.{ClientTied, SlotTied, Goes, brought, goes_alike, goes_nowhere, goes_connects, goes_ends, goes_begins, goes_begins_again, goes_puts_other, goes_puts_news}
 use Rattle.gw_news.proofs.Masters.{same_master}
 use Rattle.gw_news.proofs.Tied.{Tied, Follows, same_log}
 

@@ -1,22 +1,20 @@
 -- What ties an outstation's part of the state to its history, and how each step keeps it.
-use Rattle.std.proofs.Common.{◌≡◌, ℕ, ◌+◌, ◌%◌, ◌<◌, Bool, true, false, ◌&&◌, not, cond, eqb, List, [], ◌∷◌, Option, Some, None, Ok, refl, sym, ap, subst, ◌∙◌, arith, inl, inr}
+use Rattle.std.proofs.Common.{◌≡◌, ℕ, ◌+◌, ◌%◌, ◌<◌, Bool, true, false, not, cond, eqb, List, ◌∷◌, Option, Some, None, Ok, refl, sym, ap, subst, ◌∙◌, arith, inl, inr}
 use Rattle.std.specs.Prelude.{slice_index, option_map}
-use Rattle.std.proofs.lemmas.Bool.{and_parts, cases_Bool, ne_eqb, eq-eqb, true≢false}
+use Rattle.std.proofs.lemmas.Bool.{cases_Bool, ne_eqb, eq-eqb, true≢false}
 use Rattle.std.proofs.lemmas.Slice.Eq.{bytes_eq-Decides}
 use Rattle.gw_model.specs.declared.poll.Poll.{Poll}
 use Rattle.gw_map.specs.Settings.{Setup}
 use Rattle.dnp_app.specs.Requests.{request}
 use Rattle.dnp_app.specs.declared.request.Request.{Request}
 use Rattle.dnp_app.specs.Response.{Fragment, is_unsolicited}
-use Rattle.dnp_master.specs.declared.verdict.Verdict.{Verdict}
 use Rattle.dnp_master.specs.declared.exchange.Awaited.{Awaited}
 use Rattle.dnp_master.specs.declared.exchange.Exchange.{Exchange}
 use Rattle.dnp_master.specs.declared.exchange.Exchange.TheVariants.{Idle, Waiting}
 use Rattle.dnp_master.specs.declared.task.Task.{Task}
 use Rattle.dnp_master.specs.declared.task.Task.TheVariants.{ClearRestart, WriteTime, RecordTime, Disable, Integrity, Enable, EventPoll}
-use Rattle.dnp_master.specs.Master.{Master, master_down, master_after_up, master_after_given, master_after_next, master_after_tick, master_with_exchange_after, task_given, task_octets, request_given, is_late, following}
-use Rattle.dnp_master.specs.Fragments.{is_last, is_begun_rightly, verdict_of_unsolicited, verdict_of_answer, verdict_of, is_acceptance, accepts, exchange_after, master_after_answer, master_after_unsolicited, master_after_accepted, master_after_fragment}
-use Rattle.gw_steps.specs.declared.step.Step.{Step}
+use Rattle.dnp_master.specs.Master.{Master, master_down, master_after_up, master_after_next, master_after_tick, master_with_exchange_after, task_given, task_octets, request_given, is_late, following}
+use Rattle.dnp_master.specs.Fragments.{is_last, is_begun_rightly, verdict_of_answer, verdict_of, is_acceptance, accepts, exchange_after, master_after_answer, master_after_accepted, master_after_fragment}
 use Rattle.gw_steps.specs.declared.step.Step.TheVariants as steps
 use Rattle.gw_steps.specs.declared.step.Reply.{Reply}
 use Rattle.gw_steps.specs.declared.step.Reply.TheVariants as replies

@@ -1,7 +1,7 @@
 -- Each step of an outstation, and a tick, keeps what ties the state to the history.
-use Rattle.std.proofs.Common.{◌≡◌, ℕ, ◌+◌, Bool, true, false, List, [], ◌∷◌, ◌++◌, map, Option, Some, None, Ok, refl, sym, ap, subst, ◌∙◌, inl, inr}
+use Rattle.std.proofs.Common.{◌≡◌, ℕ, true, false, List, [], ◌∷◌, ◌++◌, Option, Some, None, Ok, refl, sym, ap, subst, ◌∙◌, inl, inr}
 use Rattle.std.specs.Prelude.{slice_get, option_map}
-use Rattle.std.proofs.lemmas.Bool.{cases_Bool, cases_eq, ne_eqb, eq-eqb}
+use Rattle.std.proofs.lemmas.Bool.{cases_Bool, cases_eq, ne_eqb}
 use Rattle.gw_model.specs.declared.observation.Observation.{Observation}
 use Rattle.gw_map.specs.Settings.{Setup, HasSingleAddresses}
 use Rattle.gw_model.specs.Places.{change}
@@ -12,17 +12,15 @@ use Rattle.gw_picture.proofs.Lists.{change-here, change-there, map-get}
 use Rattle.gw_picture.proofs.Losses.{loss_in_log}
 use Rattle.dnp_app.specs.declared.request.Request.{Request}
 use Rattle.dnp_app.specs.Response.{Fragment}
-use Rattle.dnp_master.specs.declared.task.Task.{Task}
 use Rattle.dnp_master.specs.Master.{Master, master_down, master_after_up, master_after_next, master_after_tick, task_given, request_given}
 use Rattle.dnp_master.specs.Fragments.{accepts, master_after_fragment}
 use Rattle.gw_station.specs.Client.{client_with_news}
 use Rattle.gw_steps.specs.declared.step.Step.{Step}
 use Rattle.gw_steps.specs.declared.step.Step.TheVariants as steps
 use Rattle.gw_steps.specs.declared.step.Reply.{Reply}
-use Rattle.gw_steps.specs.declared.step.Reply.TheVariants as replies
 use Rattle.gw_steps.specs.declared.step.StepFault.TheVariants.{NoOutstation}
 use Rattle.gw_steps.specs.State.{State, later}
-use Rattle.gw_steps.specs.Steps.{outcome, needs, can_rise, reply_to, fault_of, outstation_reply, reply_asking, is_accepting, losses, latest, moment_of, after}
+use Rattle.gw_steps.specs.Steps.{outcome, needs, can_rise, reply_to, fault_of, outstation_reply, reply_asking, is_accepting, losses, latest, after}
 use Rattle.gw_steps.specs.Runs.{Entry}
 use Rattle.gw_steps.proofs.Inversion.{answered, who_is_up}
 use Rattle.gw_steps.proofs.Running.{entry}

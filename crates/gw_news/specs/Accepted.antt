@@ -1,5 +1,5 @@
 -- Which fragments were accepted, by steps and replies alone (IEEE Std 1815, 4.2.2 and clause 5).
-use Rattle.std.specs.Prelude.{ℕ, ◌+◌, ◌-◌, ◌%◌, nat_le, Bool, true, false, ◌&&◌, not, ◌==◌, List, [], ◌∷◌, Option, Some, None, option_map, slice_get, slice_index, if◌then◌else◌}
+use Rattle.std.specs.Prelude.{ℕ, ◌+◌, ◌-◌, ◌%◌, nat_le, Bool, false, ◌&&◌, not, ◌==◌, List, [], ◌∷◌, Option, Some, None, option_map, slice_get, slice_index, if◌then◌else◌}
 use Rattle.std.specs.Str.{bytes_eq}
 use Rattle.gw_model.specs.declared.poll.Poll.{Poll}
 use Rattle.gw_map.specs.Settings.{Setup}

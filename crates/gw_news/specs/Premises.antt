@@ -1,5 +1,5 @@
 -- What the laws suppose of a run.
-use Rattle.std.specs.Prelude.{◌≡◌, ◌<◌, List}
+use Rattle.std.specs.Prelude.{◌<◌, List}
 use Rattle.gw_map.specs.Settings.{Setup, HasSingleAddresses}
 use Rattle.gw_steps.specs.Runs.{Entry, IsRun, AtEach}
 use Rattle.gw_steps.specs.Sound.{LeavesSound}

@@ -1,8 +1,5 @@
-use Rattle.std.proofs.Common.{rules, ◌≡◌, ◌+◌, ◌∷◌, [], ℕ, List, length, sym, ap, subst, ◌∙◌, arith}
+use Rattle.std.proofs.Common.{rules, ◌+◌, length, ap, subst, arith}
 use Rattle.std.specs.List.{AllByRecursion}
-use Rattle.gw_model.specs.declared.observation.Observation.{Observation}
-use Rattle.gw_picture.specs.Loss.{losses_at}
-use Rattle.gw_station.specs.Seat.{HasRoom}
 use Rattle.iec_asdu.specs.Spelling.{HasWidth}
 use Rattle.gw_station.specs.Sound.{IsSendable}
 use Rattle.gw_hub.specs.Clients.{clients_of}

@@ -1,7 +1,7 @@
-use Rattle.std.proofs.Common.{◌≡◌, ◌<◌, ◌+◌, length, List, refl, ap, subst, sym, ◌∙◌, arith}
+use Rattle.std.proofs.Common.{◌<◌, ◌+◌, length, List, refl, ap, subst, sym, ◌∙◌, arith}
 use Rattle.std.specs.List.{AllByRecursion}
 use Rattle.gw_model.specs.declared.observation.Observation.{Observation}
-use Rattle.gw_picture.specs.Loss.{losses_at, picture_losing_at}
+use Rattle.gw_picture.specs.Loss.{picture_losing_at}
 use Rattle.gw_picture.proofs.Losses.{losing_length}
 use Rattle.gw_station.specs.Seat.{HasRoom}
 use Rattle.gw_hub.specs.Clients.{clients_of}
