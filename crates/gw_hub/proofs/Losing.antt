@@ -1,15 +1,13 @@
 -- The rows of a lost outstation, one after the other: what comes to the clients, and what is shown.
-use Rattle.std.proofs.Common.{◌≡◌, ℕ, ℤ, ◌+◌, ◌<◌, ◌≤◌, List, [], ◌∷◌, ◌++◌, map, length, take, drop, refl, sym, ap, subst, ◌∙◌, arith}
+use Rattle.std.proofs.Common.{◌≡◌, ℕ, ℤ, ◌+◌, ◌<◌, ◌≤◌, List, [], ◌++◌, map, length, take, drop, refl, sym, ap, subst, ◌∙◌, arith}
 use Rattle.std.specs.List.{AllByRecursion}
 use Rattle.std.proofs.lemmas.List.{length-append}
 use Rattle.gw_model.specs.declared.observation.Observation.{Observation}
 use Rattle.gw_entries.specs.declared.row.Row.{Row}
 use Rattle.gw_picture.specs.Loss.{losses_at, losses_of, picture_after_loss, picture_losing_at}
 use Rattle.gw_picture.proofs.Losses.{loss_next, shown_next, losses_end, shown_end}
-use Rattle.gw_station.specs.declared.client.Stage.{Stage}
-use Rattle.gw_station.specs.declared.client.Stage.TheVariants.{Down, Stopped, Started}
 use Rattle.gw_station.specs.Client.{Client, client_with_news}
-use Rattle.gw_station.specs.Seat.{Seat, Holds, HasRoom}
+use Rattle.gw_station.specs.Seat.{Seat, HasRoom}
 use Rattle.gw_station.specs.Sound.{IsSendable}
 use Rattle.gw_station.proofs.Sounds.{sendable-append}
 use Rattle.gw_hub.proofs.Taking.{map_came-twice, map_came-nil, room_same, room_at_least}
@@ -55,16 +53,6 @@ left_at_last offset o rows n picture cs all last final past left =
     )
 
 -- ---- room
-
-no_room : (stage : Stage) (spare : ℕ) → Holds 0 stage spare
-no_room Down spare = tt
-no_room Stopped spare = tt
-no_room Started spare = omega arith
-
--- room for nothing is everywhere
-pub room_for_none : (seats : List Seat) → AllByRecursion (HasRoom 0) seats
-room_for_none [] = tt
-room_for_none (seat ∷ seats) = (no_room seat.client.stage seat.spare, room_for_none seats)
 
 -- room for the rest is room for the losses of this row, and for those behind it
 rest_length : (o : ℕ) (rows : List Row) (n : ℕ) (picture : List Observation) → n < length picture

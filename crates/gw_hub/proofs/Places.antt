@@ -35,7 +35,3 @@ one_more f n m x y ys more next push is so_far =
     let e : m ≡ suc n = omega (arith, next) in
     ap (map f) push ∙ (map-end f ys y ∙ (ap (λ (zs : List _). zs ++ f y ∷ []) so_far
     ∙ (ap (λ (z : _). replicate n x ++ z ∷ []) is ∙ sym (ap (λ (k : ℕ). replicate k x) e ∙ replicate_suc n x))))
-
-pub map-same : {A : Type 0} (xs : List A) → map (λ (x : A). x) xs ≡ xs
-map-same [] = refl
-map-same (x ∷ xs) = ap (λ (zs : List _). x ∷ zs) (map-same xs)
