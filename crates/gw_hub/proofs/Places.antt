@@ -24,7 +24,7 @@ replicate_suc : {A : Type 0} (n : ℕ) (x : A) → replicate (suc n) x ≡ repli
 replicate_suc zero x = refl
 replicate_suc (suc n) x = ap (λ (zs : List _). x ∷ zs) (replicate_suc n x)
 
-map-end : {A B : Type 0} (f : A → B) (xs : List A) (y : A) → map f (xs ++ y ∷ []) ≡ map f xs ++ f y ∷ []
+pub map-end : {A B : Type 0} (f : A → B) (xs : List A) (y : A) → map f (xs ++ y ∷ []) ≡ map f xs ++ f y ∷ []
 map-end f [] y = refl
 map-end f (x ∷ xs) y = ap (λ (zs : List _). f x ∷ zs) (map-end f xs y)
 

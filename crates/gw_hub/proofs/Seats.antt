@@ -1,5 +1,5 @@
 -- A write to one place of the clients, and a walk over all of them.
-use Rattle.std.proofs.Common.{◌≡◌, ℕ, zero, suc, ◌+◌, ◌<◌, ◌≤◌, List, [], ◌∷◌, ◌++◌, map, take, drop, length, get_or, None, refl, sym, ap, subst, ◌∙◌, arith}
+use Rattle.std.proofs.Common.{◌≡◌, ℕ, zero, suc, ◌+◌, ◌<◌, ◌≤◌, List, [], ◌∷◌, ◌++◌, map, take, drop, length, get_or, Some, None, refl, sym, ap, subst, ◌∙◌, arith}
 use Rattle.std.specs.Prelude.{slice_get}
 use Rattle.std.specs.List.{AllByRecursion}
 use Rattle.std.proofs.Math.ListN.{set}
@@ -19,7 +19,7 @@ clients-set n y [] = refl
 clients-set zero y (x ∷ ys) = refl
 clients-set (suc n) y (x ∷ ys) = ap (λ (zs : List Client). client_of x ∷ zs) (clients-set n y ys)
 
-clients-get : (n : ℕ) (ys : List Seat) (d : Seat) (l : Client) → n < length ys → client_of (get_or ys n d) ≡ get_or (clients_of ys) n l
+pub clients-get : (n : ℕ) (ys : List Seat) (d : Seat) (l : Client) → n < length ys → client_of (get_or ys n d) ≡ get_or (clients_of ys) n l
 clients-get n [] d l lt = absurd (omega arith)
 clients-get zero (y ∷ ys) d l lt = refl
 clients-get (suc n) (y ∷ ys) d l lt = clients-get n ys d l (omega arith)
@@ -87,3 +87,17 @@ pub same_clients : (n : ℕ) (ys : List Seat) (d y : Seat) → client_of y ≡ c
 same_clients n [] d y e = refl
 same_clients zero (x ∷ ys) d y e = ap (λ (z : Client). z ∷ clients_of ys) e
 same_clients (suc n) (x ∷ ys) d y e = ap (λ (zs : List Client). client_of x ∷ zs) (same_clients n ys d y e)
+
+-- one of the clients
+pub one_of : (P : Client → Type 0) (n : ℕ) (ys : List Seat) (d : Seat) → n < length ys → AllByRecursion P (clients_of ys) → P (client_of (get_or ys n d))
+one_of P n [] d lt all = absurd (omega arith)
+one_of P zero (y ∷ ys) d lt all = all.0
+one_of P (suc n) (y ∷ ys) d lt all = one_of P n ys d (omega arith) all.1
+
+pub one_found : (n p : ℕ) (ys : List Seat) (d : Seat) → p ≡ n → p < length ys → slice_get (clients_of ys) n ≡ Some (client_of (get_or ys p d))
+one_found n p ys d same lt = subst (λ (m : ℕ). slice_get (clients_of ys) m ≡ Some (client_of (get_or ys p d))) same (found p ys d lt)
+  where
+    found : (p : ℕ) (ys : List Seat) (d : Seat) → p < length ys → slice_get (clients_of ys) p ≡ Some (client_of (get_or ys p d))
+    found p [] d lt = absurd (omega arith)
+    found zero (y ∷ ys) d lt = refl
+    found (suc p) (y ∷ ys) d lt = found p ys d (omega arith)

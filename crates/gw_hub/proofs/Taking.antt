@@ -1,5 +1,10 @@
 -- Reports taken in turn: what comes to the clients, and what is kept.
-use Rattle.std.proofs.Common.{◌≡◌, ℕ, ℤ, zero, suc, ◌+◌, List, [], ◌∷◌, ◌++◌, map, length, refl, sym, ap, subst, ◌∙◌, append_assoc, arith}
+use Rattle.std.specs.Prelude.{◌&&◌}
+use Rattle.std.proofs.lemmas.Bool.{ltb-true}
+use Rattle.gw_steps.specs.State.{Counts}
+use Rattle.gw_steps.specs.Steps.{can_rise}
+use Rattle.gw_hub.specs.Hub.{step_with}
+use Rattle.std.proofs.Common.{◌≡◌, Bool, true, false, ltb, ℕ, ℤ, zero, suc, ◌+◌, ◌^◌, ◌<◌, ◌≤◌, List, [], ◌∷◌, ◌++◌, map, length, refl, sym, ap, subst, ◌∙◌, append_assoc, arith}
 use Rattle.std.specs.List.{AllByRecursion}
 use Rattle.std.proofs.lemmas.List.{append-nil, length-append}
 use Rattle.gw_model.specs.declared.observation.Observation.{Observation}
@@ -10,9 +15,10 @@ use Rattle.gw_picture.specs.Picture.{news_of, news_of_report, picture_after_repo
 use Rattle.gw_station.specs.declared.client.Stage.{Stage}
 use Rattle.gw_station.specs.declared.client.Stage.TheVariants.{Down, Stopped, Started}
 use Rattle.gw_station.specs.Client.{Client, queue_with, client_with_news}
-use Rattle.gw_station.specs.Seat.{Seat, Holds, HasRoom}
+use Rattle.gw_station.specs.Seat.{Seat, IsSpare, HasRoom}
 use Rattle.gw_station.specs.Sound.{IsSendable, IsSoundClient}
-use Rattle.gw_station.proofs.Sounds.{sendable-append, sound_with_news}
+use Rattle.gw_station.proofs.Sounds.{sendable-append, sound_later, sound_with_news}
+use Rattle.gw_hub.specs.Clients.{CanCount}
 
 -- ---- news that come one after the other
 
@@ -46,7 +52,7 @@ map_came-twice xs ys (c ∷ cs) = let one = came-twice xs ys c in let rest = map
 
 -- ---- room
 
-less_room : (n : ℕ) (stage : Stage) (spare : ℕ) → Holds (n + 1) stage spare → Holds n stage spare
+less_room : (n : ℕ) (stage : Stage) (spare : ℕ) → IsSpare (n + 1) stage spare → IsSpare n stage spare
 less_room n Down spare room = tt
 less_room n Stopped spare room = tt
 less_room n Started spare room = omega (arith, room)
@@ -62,27 +68,61 @@ pub room_at_least : (n m : ℕ) (seats : List Seat) → AllByRecursion (HasRoom 
 room_at_least zero m seats all = room_same (0 + m) m seats (omega arith) all
 room_at_least (suc n) m seats all = room_at_least n m seats (room_less (n + m) seats (room_same (suc n + m) (n + m + 1) seats (omega arith) all))
 
--- ---- what is queued can be sent
+-- ---- what every client keeps
 
-change_sound : (offset : ℤ) (n : ℕ) (f : Client → Client) (cs : List Client) → ((c : Client) → IsSoundClient offset c → IsSoundClient offset (f c))
-    → AllByRecursion (IsSoundClient offset) cs → AllByRecursion (IsSoundClient offset) (change n f cs)
-change_sound offset n f [] keeps all = tt
-change_sound offset zero f (c ∷ cs) keeps all = (keeps c all.0, all.1)
-change_sound offset (suc n) f (c ∷ cs) keeps all = (all.0, change_sound offset n f cs keeps all.1)
+-- more steps were made
+pub sound_more : (offset : ℤ) (n m : ℕ) (cs : List Client) → n ≤ m → AllByRecursion (IsSoundClient offset n) cs → AllByRecursion (IsSoundClient offset m) cs
+sound_more offset n m [] le all = tt
+sound_more offset n m (c ∷ cs) le all = (sound_later offset n m c le all.0, sound_more offset n m cs le all.1)
 
-pub sound_change : (offset : ℤ) (n : ℕ) (f : Client → Client) (cs changed : List Client) → changed ≡ change n f cs
-    → ((c : Client) → IsSoundClient offset c → IsSoundClient offset (f c)) → AllByRecursion (IsSoundClient offset) cs → AllByRecursion (IsSoundClient offset) changed
-sound_change offset n f cs changed e keeps all = subst (AllByRecursion (IsSoundClient offset)) (sym e) (change_sound offset n f cs keeps all)
+change_sound : (offset : ℤ) (n m i : ℕ) (f : Client → Client) (cs : List Client) → n ≤ m → ((c : Client) → IsSoundClient offset n c → IsSoundClient offset m (f c))
+    → AllByRecursion (IsSoundClient offset n) cs → AllByRecursion (IsSoundClient offset m) (change i f cs)
+change_sound offset n m i f [] le keeps all = tt
+change_sound offset n m zero f (c ∷ cs) le keeps all = (keeps c all.0, sound_more offset n m cs le all.1)
+change_sound offset n m (suc i) f (c ∷ cs) le keeps all = (sound_later offset n m c le all.0, change_sound offset n m i f cs le keeps all.1)
 
-came_sound : (offset : ℤ) (xs : List Observation) (cs : List Client) → AllByRecursion (IsSendable offset) xs → AllByRecursion (IsSoundClient offset) cs
-    → AllByRecursion (IsSoundClient offset) (map (client_with_news xs) cs)
-came_sound offset xs [] sends all = tt
-came_sound offset xs (c ∷ cs) sends all = (sound_with_news offset xs c sends all.0, came_sound offset xs cs sends all.1)
+-- one client changed
+pub sound_change_here : (offset : ℤ) (n i : ℕ) (f : Client → Client) (cs changed : List Client) → changed ≡ change i f cs
+    → ((c : Client) → IsSoundClient offset n c → IsSoundClient offset n (f c)) → AllByRecursion (IsSoundClient offset n) cs → AllByRecursion (IsSoundClient offset n) changed
+sound_change_here offset n i f cs changed e keeps all = subst (AllByRecursion (IsSoundClient offset n)) (sym e) (change_sound offset n n i f cs (omega arith) keeps all)
+
+-- one client changed in a step
+pub sound_change : (offset : ℤ) (n m i : ℕ) (f : Client → Client) (cs changed : List Client) → changed ≡ change i f cs → m ≡ n + 1
+    → ((c : Client) → IsSoundClient offset n c → IsSoundClient offset (n + 1) (f c)) → AllByRecursion (IsSoundClient offset n) cs → AllByRecursion (IsSoundClient offset m) changed
+sound_change offset n m i f cs changed e one keeps all =
+    subst (λ (k : ℕ). AllByRecursion (IsSoundClient offset k) changed) (sym one)
+    (subst (AllByRecursion (IsSoundClient offset (n + 1))) (sym e) (change_sound offset n (n + 1) i f cs (omega arith) keeps all))
+
+map_sound : (offset : ℤ) (n : ℕ) (f : Client → Client) (cs : List Client) → ((c : Client) → IsSoundClient offset n c → IsSoundClient offset n (f c))
+    → AllByRecursion (IsSoundClient offset n) cs → AllByRecursion (IsSoundClient offset n) (map f cs)
+map_sound offset n f [] keeps all = tt
+map_sound offset n f (c ∷ cs) keeps all = (keeps c all.0, map_sound offset n f cs keeps all.1)
+
+-- every client changed
+pub sound_changed : (offset : ℤ) (n : ℕ) (f : Client → Client) (cs changed : List Client) → changed ≡ map f cs
+    → ((c : Client) → IsSoundClient offset n c → IsSoundClient offset n (f c)) → AllByRecursion (IsSoundClient offset n) cs → AllByRecursion (IsSoundClient offset n) changed
+sound_changed offset n f cs changed e keeps all = subst (AllByRecursion (IsSoundClient offset n)) (sym e) (map_sound offset n f cs keeps all)
 
 -- news came to every client
-pub sound_came : (offset : ℤ) (xs : List Observation) (cs changed : List Client) → changed ≡ map (client_with_news xs) cs → AllByRecursion (IsSendable offset) xs
-    → AllByRecursion (IsSoundClient offset) cs → AllByRecursion (IsSoundClient offset) changed
-sound_came offset xs cs changed e sends all = subst (AllByRecursion (IsSoundClient offset)) (sym e) (came_sound offset xs cs sends all)
+pub sound_came : (offset : ℤ) (n : ℕ) (xs : List Observation) (cs changed : List Client) → changed ≡ map (client_with_news xs) cs → AllByRecursion (IsSendable offset) xs
+    → AllByRecursion (IsSoundClient offset n) cs → AllByRecursion (IsSoundClient offset n) changed
+sound_came offset n xs cs changed e sends all = sound_changed offset n (client_with_news xs) cs changed e (λ c sound. sound_with_news offset n xs c sends sound) all
+
+-- counts that can rise can rise by a step
+pub can_rise_step : (counts : Counts) (news sessions : ℕ) → can_rise counts (step_with news sessions) ≡ true → counts.steps + 1 < 2 ^ 64
+can_rise_step counts news sessions e =
+    ltb-true (counts.steps + 1) (2 ^ 64)
+    (first (ltb (counts.steps + 1) (2 ^ 64)) (ltb (counts.news + news) (2 ^ 64))
+    (first (ltb (counts.steps + 1) (2 ^ 64) && ltb (counts.news + news) (2 ^ 64)) (ltb (counts.sessions + sessions) (2 ^ 64)) e))
+  where
+    first : (a b : Bool) → a && b ≡ true → a ≡ true
+    first true b e = refl
+    first false b e = absurd cc
+
+-- where one step more can be counted, each client's I formats can
+pub counts_can : (offset : ℤ) (n : ℕ) (cs : List Client) → n + 1 < 2 ^ 64 → AllByRecursion (IsSoundClient offset n) cs → AllByRecursion CanCount cs
+counts_can offset n [] lt all = tt
+counts_can offset n (c ∷ cs) lt all = (record { received = omega (arith, lt, all.0.received); sent = omega (arith, lt, all.0.sent) }, counts_can offset n cs lt all.1)
 
 -- ---- what is left to take
 

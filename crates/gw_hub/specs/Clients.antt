@@ -1,6 +1,7 @@
 -- The stations of all clients.
-use Rattle.std.specs.Prelude.{ℕ, ℤ, List, map, length, Option, Some, None, Result, Ok, Err}
+use Rattle.std.specs.Prelude.{ℕ, ℤ, ◌+◌, ◌^◌, ◌<◌, List, map, length, Option, Some, None, Result, Ok, Err}
 use Rattle.iec_apci.specs.declared.apdu.Apdu.{Apdu}
+use Rattle.iec_window.specs.Counts.{sent_in_all}
 use Rattle.gw_station.specs.Client.{Client}
 use Rattle.gw_station.specs.Frames.{event_of}
 use Rattle.gw_station.specs.Pump.{given}
@@ -20,8 +21,13 @@ clients_of seats = map client_of seats
 abbrev pub reply_to_apdu : Apdu → Option Client → Reply
 reply_to_apdu apdu = client_reply (λ k. reply_of_event (event_of apdu k))
 
-abbrev pub reply_to_pump : ℤ → ℕ → Option Client → Reply
-reply_to_pump offset common = client_reply (λ k. reply_giving (given offset common k))
+abbrev pub reply_to_pump : ℤ → ℕ → ℕ → Option Client → Reply
+reply_to_pump offset common moment = client_reply (λ k. reply_giving (given offset common moment k))
+
+-- one more I format can be counted in 64 bits, received or sent
+pub record CanCount (k : Client) : Type 0 where
+  pub received : k.window.received + 1 < 2 ^ 64
+  pub sent : sent_in_all k.window + 1 < 2 ^ 64
 
 -- how many news wait at a place, and how many were dropped
 abbrev pub queued_at : Option Client → ℕ

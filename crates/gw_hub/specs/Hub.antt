@@ -1,10 +1,12 @@
 -- The hub, as its contracts see it: the settings that it runs with, and its state.
-use Rattle.std.specs.Prelude.{◌≡◌, ℕ, Bool, true, false, List, length, Result}
+use Rattle.std.specs.Prelude.{◌≡◌, ℕ, ◌+◌, ◌^◌, ◌<◌, Bool, true, false, List, length, Result}
+use Rattle.std.specs.List.{AllByRecursion}
 use Rattle.gw_model.specs.declared.point.Report.{Report}
 use Rattle.gw_map.specs.Settings.{Setup}
 use Rattle.gw_model.specs.declared.observation.Observation.{Observation}
 use Rattle.gw_picture.specs.Picture.{news_of, news_of_report}
 use Rattle.dnp_app.specs.Response.{Fragment}
+use Rattle.gw_station.specs.Sound.{IsSoundClient}
 use Rattle.gw_steps.specs.declared.step.Step.{Step}
 use Rattle.gw_steps.specs.declared.step.Reply.{Reply}
 use Rattle.gw_steps.specs.declared.step.StepFault.{StepFault}
@@ -20,9 +22,9 @@ pub record Hub : Type 0 where
 abbrev pub Answers : Hub → Step → Result Reply StepFault → Hub → Type 0
 Answers old step reply new = Allowed old.setup old.state step reply new.state
 
--- a step with so many news
-abbrev pub step_with : ℕ → Counts
-step_with news = record { steps = 1; news = news }
+-- a step with so many news and sessions that begin
+abbrev pub step_with : ℕ → ℕ → Counts
+step_with news sessions = record { steps = 1; news = news; sessions = sessions }
 
 -- the news that a report is after a picture: none or one; and those that reports taken in turn are
 abbrev pub news_of_one : Setup → List Observation → Report → List Observation
@@ -37,18 +39,29 @@ news_among hub reports = length (news_of_all hub.setup hub.state.picture reports
 
 -- the counts of a hub can rise by a step and by the news that these reports are
 abbrev pub can_take : Hub → List Report → Bool
-can_take hub reports = can_rise hub.state.counts (step_with (news_among hub reports))
+can_take hub reports = can_rise hub.state.counts (step_with (news_among hub reports) 0)
 
--- a step with so many news was counted at a moment
+-- they can rise by a step without news, with so many sessions that begin
+abbrev pub can_count : ℕ → Hub → Bool
+can_count sessions hub = can_rise hub.state.counts (step_with 0 sessions)
+
+-- a step with so many sessions that begin was counted at a moment
 abbrev pub state_counting : ℕ → ℕ → State → State
-state_counting news moment s =
-    record s { counts = raised s.counts (step_with news); moment = latest s moment }
+state_counting sessions moment s =
+    record s { counts = raised s.counts (step_with 0 sessions); moment = latest s moment }
+
+-- a step was counted; no client had more I formats than there were steps before
+pub record IsCounted (hub : Hub) : Type 0 where
+  pub before : ℕ
+  pub counted : hub.state.counts.steps ≡ before + 1
+  pub few : before + 1 < 2 ^ 64
+  pub sound : AllByRecursion (IsSoundClient hub.setup.station.offset_minutes before) hub.state.clients
 
 -- the state of a hub that took a response at a moment
 abbrev pub state_with_response : Hub → ℕ → Fragment → State
 state_with_response hub moment response =
     record (parts_after_fragment hub.setup hub.state (latest hub.state moment) response) {
-      counts = raised hub.state.counts (step_with (news_among hub response.reports));
+      counts = raised hub.state.counts (step_with (news_among hub response.reports) 0);
       moment = latest hub.state moment;
     }
 

@@ -5,11 +5,12 @@ ghost use Rattle.gw_hub.specs.Hub.{step_with};
 
 use std::marker::Model;
 
-/// The steps that were made without a fault, and the news.
+/// The steps that were made without a fault, the news, and the sessions of all clients.
 #[derive(Debug, Drop)]
 pub struct Counts {
     steps: u64,
     news: u64,
+    sessions: u64,
 }
 
 impl Model for Counts {
@@ -17,30 +18,37 @@ impl Model for Counts {
 
     ghost Value = { Seen };
 
-    ghost view = { λ c. record { steps = c.steps; news = c.news } };
+    ghost view = { λ c. record { steps = c.steps; news = c.news; sessions = c.sessions } };
 }
 
 impl Counts {
     /// Nothing is counted yet.
     pub fn new() -> Counts
-        ensures { result ≡ record { steps = 0; news = 0 } }
+        ensures { result ≡ record { steps = 0; news = 0; sessions = 0 } }
     {
-        Counts { steps: 0, news: 0 }
+        Counts {
+            steps: 0,
+            news: 0,
+            sessions: 0,
+        }
     }
 
-    /// Whether the counts can rise by a step with so many news.
-    pub fn can_rise(&self, news: u64) -> bool
-        ensures { result ≡ can_rise self.now (step_with news) }
+    /// Whether the counts can rise by a step with so many news and sessions that begin.
+    pub fn can_rise(&self, news: u64, sessions: u64) -> bool
+        ensures { result ≡ can_rise self.now (step_with news sessions) }
     {
-        self.steps != u64::MAX && self.news.checked_add(news).is_some()
+        self.steps != u64::MAX
+            && self.news.checked_add(news).is_some()
+            && self.sessions.checked_add(sessions).is_some()
     }
 
-    /// Counts a step with so many news.
-    pub fn raise(&mut self, news: u64)
-        requires { IsTrue (can_rise self.old (step_with news)) }
-        ensures { self.new ≡ raised self.old (step_with news) }
+    /// Counts a step with so many news and sessions that begin.
+    pub fn raise(&mut self, news: u64, sessions: u64)
+        requires { IsTrue (can_rise self.old (step_with news sessions)) }
+        ensures { self.new ≡ raised self.old (step_with news sessions) }
     {
         self.steps += 1;
         self.news += news;
+        self.sessions += sessions;
     }
 }

@@ -10,31 +10,32 @@ ghost use Rattle.gw_station.specs.Seat.{HasRoom};
 ghost use Rattle.gw_station.specs.Sound.{IsSendable};
 ghost use Rattle.gw_steps.specs.declared.step.Step.TheVariants as steps;
 ghost use Rattle.gw_steps.specs.declared.step.StepFault.TheVariants.{NoClient, NoOutstation, Spent};
-ghost use Rattle.gw_steps.specs.State.{at_first};
-ghost use Rattle.gw_steps.specs.Steps.{client_up, fault_unless_up, latest, outstation_up, Allowed};
+ghost use Rattle.gw_steps.specs.State.{at_first, limits_of};
+ghost use Rattle.gw_steps.specs.Steps.{client_up, fault_unless_up, latest, one_if, outstation_up, Allowed};
 ghost use Rattle.gw_steps.specs.Runs.{history, state_after, AtEach, IsRun};
 ghost use Rattle.gw_steps.specs.Sound.{IsSound};
 ghost use Rattle.gw_news.specs.Confirms.{ConfirmsLast};
 ghost use Rattle.gw_news.specs.News.{Holds};
-ghost use Rattle.gw_news.specs.Numbers.{NumbersLast};
+ghost use Rattle.gw_news.specs.Numbers.{HasRightNumbers};
 ghost use Rattle.gw_hub.specs.Clients.{clients_of, dropped_at, queued_at, unless};
-ghost use Rattle.gw_hub.specs.Hub.{can_take, news_of_all, news_of_one, state_counting, state_with_response, Answers, IsTakingFault};
+ghost use Rattle.gw_hub.specs.Hub.{can_count, can_take, news_of_all, news_of_one, state_counting, state_with_response, Answers, IsCounted, IsTakingFault};
 
 use crate::clients::Clients;
 use crate::counts::Counts;
 use crate::outstations::Outstations;
 use dnp_app::Response;
-use gw_map::Settings;
+use gw_map::{Settings, Station};
 use gw_model::{Memory, Observation, Report};
 use gw_picture::Picture;
 use gw_station::Face;
 use gw_steps::{Reply, Step, StepFault};
 use iec_apci::Apdu;
+use iec_window::Limits;
 use std::alloc::Global;
 use std::marker::Model;
 
 /// How many clients there can be.
-const CLIENTS: u8 = 1;
+const CLIENTS: u8 = 8;
 
 /// Outstations and clients, and what goes from one to the other. It makes one step at a time, and
 /// waits for nobody.
@@ -89,7 +90,7 @@ impl Hub {
         let _station = settings.station();
         let outstations = Outstations::new(alloc, settings.outstations())?;
         let picture = Picture::new(alloc, &settings)?;
-        let clients = Clients::new(alloc, CLIENTS)?;
+        let clients = Clients::new(alloc, CLIENTS, &limits_of(settings.station()))?;
         Ok(Hub {
             alloc,
             settings,
@@ -127,8 +128,10 @@ impl Hub {
     /// These are a run of the step relation. At each place of the list the picture is that of the log, and for each
     /// client's session the observations meant by the spontaneous ASDUs put out since its STARTDT, followed by those
     /// queued, are the news since then, in order, less those dropped (`news`); a confirmation was given only with
-    /// the news put into the log, or for a repeated fragment (`confirms`); and the nth I format put out since a client
-    /// came up, counted from 0, has N(S) n modulo 32,768 (`numbers`).
+    /// the news put into the log, or for a repeated fragment (`confirms`); and the numbers of each client's connection
+    /// are right (`numbers`): the nth I format put out since it came up, counted from 0, has N(S) n modulo 32,768, each
+    /// N(R) is the number of I formats taken, at most k lie beyond the client's last N(R), and an I or S format closes
+    /// where it has to.
     pub fn run(
         alloc: Global,
         settings: Settings,
@@ -141,7 +144,7 @@ impl Hub {
             run.0.state ≡ state_after settings (history [] steps.items run.1.items)) }
         ensures news { IfOk result (λ run. AtEach (Holds settings) (history [] steps.items run.1.items)) }
         ensures confirms { IfOk result (λ run. AtEach (ConfirmsLast settings) (history [] steps.items run.1.items)) }
-        ensures numbers { IfOk result (λ run. AtEach (NumbersLast settings) (history [] steps.items run.1.items)) }
+        ensures numbers { IfOk result (λ run. AtEach (HasRightNumbers settings) (history [] steps.items run.1.items)) }
     {
         let mut hub = Hub::new(alloc, settings)?;
         let mut replies = Vec::with_capacity(alloc, steps.len())?;
@@ -170,6 +173,7 @@ impl Hub {
                 wall,
             } => self.poll(*outstation, *moment, *wall),
             Step::ClientUp { client, moment } => self.client_up(*client, *moment),
+            Step::ClientDown { client, moment } => self.client_down(*client, *moment),
             Step::Frame {
                 client,
                 apdu,
@@ -194,18 +198,19 @@ impl Hub {
         }
     }
 
-    /// Counts a step that brings no news.
-    fn count(&mut self, moment: u64) -> Result<(), StepFault>
-        ensures ok { OnOk result ((can_take self.old [] ≡ true)
-            × (self.new.state ≡ state_counting 0 moment self.old.state)) }
+    /// Counts a step that brings no news, with so many sessions that begin.
+    fn count(&mut self, sessions: u64, moment: u64) -> Result<(), StepFault>
+        ensures ok { OnOk result ((can_count sessions self.old ≡ true)
+            × (self.new.state ≡ state_counting sessions moment self.old.state)) }
+        ensures counted { OnOk result (IsCounted self.new) }
         ensures err { IfErr result (λ fault. fault ≡ Spent) }
-        ensures spent { OnErr result ((can_take self.old [] ≡ false) × (self.new.state ≡ self.old.state)) }
+        ensures spent { OnErr result ((can_count sessions self.old ≡ false) × (self.new.state ≡ self.old.state)) }
         ensures setup { self.new.setup ≡ self.old.setup }
     {
-        if !self.counts.can_rise(0) {
+        if !self.counts.can_rise(0, sessions) {
             return Err(StepFault::Spent);
         }
-        self.counts.raise(0);
+        self.counts.raise(0, sessions);
         self.moment = self.latest(moment);
         Ok(())
     }
@@ -214,12 +219,12 @@ impl Hub {
     fn can_rise(&self, reports: &[Report]) -> bool
         ensures { result ≡ can_take self.now reports.now }
     {
-        if self.counts.can_rise(reports.len() as u64) {
+        if self.counts.can_rise(reports.len() as u64, 0) {
             return true;
         }
         let zone = self.settings.zone();
         let news = self.picture.news(reports, &self.settings, &zone);
-        self.counts.can_rise(news)
+        self.counts.can_rise(news, 0)
     }
 
     fn outstation_up(&mut self, outstation: u8, moment: u64) -> Result<Reply, StepFault>
@@ -234,7 +239,7 @@ impl Hub {
                 }
             }
         }
-        self.count(moment)?;
+        self.count(0, moment)?;
         self.outstations.come_up(outstation, self.moment);
         Ok(Reply::Done)
     }
@@ -262,7 +267,7 @@ impl Hub {
     {
         self.reached(outstation)?;
         let news = self.picture.losses(outstation, &self.settings);
-        if !self.counts.can_rise(news as u64) {
+        if !self.counts.can_rise(news as u64, 0) {
             return Err(StepFault::Spent);
         }
         let moment = self.latest(moment);
@@ -276,7 +281,7 @@ impl Hub {
             outstation,
         );
         self.outstations.go_down(outstation);
-        self.counts.raise(news as u64);
+        self.counts.raise(news as u64, 0);
         self.moment = moment;
         Ok(Reply::Done)
     }
@@ -295,7 +300,7 @@ impl Hub {
         if master.accepts(response) {
             self.accept(response, moment)?;
         } else {
-            self.count(moment)?;
+            self.count(0, moment)?;
         }
         Ok(Reply::Verdict(verdict))
     }
@@ -323,7 +328,7 @@ impl Hub {
             reports,
         );
         self.outstations.take(response, moment);
-        self.counts.raise(news);
+        self.counts.raise(news, 0);
         self.moment = moment;
         Ok(())
     }
@@ -333,7 +338,7 @@ impl Hub {
         ensures setup { self.new.setup ≡ self.old.setup }
     {
         self.reached(outstation)?;
-        self.count(moment)?;
+        self.count(0, moment)?;
         Ok(self.outstations.next(outstation, self.moment, wall))
     }
 
@@ -341,9 +346,10 @@ impl Hub {
         ensures step { Answers self.old (steps.Tick moment) result self.new }
         ensures setup { self.new.setup ≡ self.old.setup }
     {
-        self.count(moment)?;
+        self.count(0, moment)?;
         self.outstations.tick(self.moment);
-        Ok(Reply::Ticked { closed: 0 })
+        let closed = self.clients.tick(self.moment);
+        Ok(Reply::Ticked { closed })
     }
 
     fn client_up(&mut self, client: u8, moment: u64) -> Result<Reply, StepFault>
@@ -355,8 +361,18 @@ impl Hub {
             Some(true) => return Err(StepFault::AlreadyUp),
             Some(false) => {}
         }
-        self.count(moment)?;
+        self.count(0, moment)?;
         self.clients.come_up(client, self.moment);
+        Ok(Reply::Done)
+    }
+
+    fn client_down(&mut self, client: u8, moment: u64) -> Result<Reply, StepFault>
+        ensures step { Answers self.old (steps.ClientDown client moment) result self.new }
+        ensures setup { self.new.setup ≡ self.old.setup }
+    {
+        self.connected(client)?;
+        self.count(0, moment)?;
+        self.clients.go_down(client);
         Ok(Reply::Done)
     }
 
@@ -376,8 +392,20 @@ impl Hub {
         ensures setup { self.new.setup ≡ self.old.setup }
     {
         self.connected(client)?;
-        self.count(moment)?;
+        let sessions = u64::from(self.clients.begins(client, apdu));
+        self.count(sessions, moment)?;
         Ok(self.clients.frame(client, apdu, self.moment))
+    }
+
+    /// What the station shows to every client.
+    fn face(&self) -> Face
+        ensures common { result.common_address ≡ self.now.setup.station.common_address }
+        ensures offset { result.zone.offset_minutes ≡ self.now.setup.station.offset_minutes }
+    {
+        Face {
+            common_address: self.settings.station().common_address,
+            zone: self.settings.zone(),
+        }
     }
 
     fn pump(&mut self, client: u8, moment: u64) -> Result<Reply, StepFault>
@@ -385,12 +413,22 @@ impl Hub {
         ensures setup { self.new.setup ≡ self.old.setup }
     {
         self.connected(client)?;
-        self.count(moment)?;
-        let face = Face {
-            common_address: self.settings.station().common_address,
-            zone: self.settings.zone(),
-        };
+        self.count(0, moment)?;
+        let face = self.face();
         Ok(self.clients.pump(client, &face, self.moment))
+    }
+}
+
+/// The parameters of the clients' connections.
+fn limits_of(station: &Station) -> Limits
+    ensures { result ≡ limits_of station.now }
+{
+    Limits {
+        k: station.k,
+        w: station.w,
+        t1: u64::from(station.t1_ms),
+        t2: u64::from(station.t2_ms),
+        t3: u64::from(station.t3_ms),
     }
 }
 

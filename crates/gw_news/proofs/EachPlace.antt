@@ -1,7 +1,7 @@
 -- What holds at each place of every run.
 use Rattle.std.proofs.Common.{◌≡◌, ℕ, zero, suc, ◌<◌, Bool, true, false, cond, List, [], ◌∷◌, Option, Some, None, Result, Ok, Err, refl, ap, subst, ◌∙◌, arith}
 use Rattle.std.specs.Prelude.{slice_get, option_map, ◌||◌, replicate, IfSome}
-use Rattle.gw_map.specs.Settings.{Setup, HasSingleAddresses}
+use Rattle.gw_map.specs.Settings.{Setup}
 use Rattle.dnp_app.specs.Response.{Fragment, is_unsolicited}
 use Rattle.dnp_app.specs.Control.{confirm_of}
 use Rattle.dnp_app.specs.declared.request.Request.{Request}
@@ -20,7 +20,7 @@ use Rattle.gw_steps.specs.declared.step.Step.TheVariants as steps
 use Rattle.gw_steps.specs.declared.step.Reply.{Reply}
 use Rattle.gw_steps.specs.declared.step.StepFault.{StepFault}
 use Rattle.gw_steps.specs.declared.step.StepFault.TheVariants.{NoOutstation, NoClient}
-use Rattle.gw_steps.specs.State.{State, at_first, client_limit}
+use Rattle.gw_steps.specs.State.{State, at_first, client_limit, limits_of}
 use Rattle.gw_steps.specs.Steps.{Allowed, outcome, needs, can_rise, reply_to, fault_of, reply_of_event, reply_asking, reply_giving, latest}
 use Rattle.gw_steps.specs.Runs.{Entry, state_after, IsRun, AtEach}
 use Rattle.gw_steps.specs.Sound.{IsSound, LeavesSound}
@@ -29,23 +29,34 @@ use Rattle.gw_steps.proofs.Running.{entry}
 use Rattle.gw_news.specs.Accepted.{last_text, is_text, Asked, is_in_sequence, is_in_place, is_answer, asked_of}
 use Rattle.gw_news.specs.Confirms.{verdict_in, verdict_due_to_answer, verdict_due, confirmation_in, confirmation_due, Confirms, ConfirmsLast}
 use Rattle.gw_news.specs.News.{client_at, in_session, TellsNews, QuietLast, SpeaksLast, Holds}
-use Rattle.gw_news.specs.Numbers.{NumbersLast}
+use Rattle.gw_news.specs.Numbers.{KeepsWindow, JudgesBy, NumbersLast, HasRightNumbers}
+use Rattle.gw_news.specs.Premises.{IsSoundSetup, IsSoundRun}
 use Rattle.gw_news.specs.Sessions.{is_started}
-use Rattle.gw_news.proofs.Turns.{SlotTied, tells}
+use Rattle.gw_news.proofs.Turns.{ClientTied, SlotTied, tells}
+use Rattle.gw_news.proofs.Windows.{window_kept}
+use Rattle.gw_news.proofs.Judged.{judges}
 use Rattle.gw_news.proofs.Masters.{MasterIs, MasterTied, verdict_is}
 use Rattle.gw_news.proofs.Tied.{Tied, Follows, tied_by, fault_follows}
 use Rattle.gw_news.proofs.Steps.{step_follows}
 
 -- ---- at first
 
-down_tied : (setup : Setup) (c n : ℕ) → SlotTied setup c [] (slice_get (replicate n client_down) c)
-down_tied setup c zero = refl
-down_tied setup zero (suc n) = record { started = refl; settled = []; all_settled = tt; told = refl; put_out = refl; dropped = refl; number = refl }
-down_tied setup (suc c) (suc n) = same (slice_get (replicate n client_down) c) (down_tied setup c n)
-  where
-    same : (x : Option Client) → SlotTied setup c [] x → SlotTied setup (suc c) [] x
-    same None tied = refl
-    same (Some k) tied = record { started = tied.started; settled = tied.settled; all_settled = tied.all_settled; told = tied.told; put_out = tied.put_out; dropped = tied.dropped; number = tied.number }
+-- a client that never was up
+client_tied : (setup : Setup) (c : ℕ) → ClientTied setup c [] (client_down (limits_of setup.station))
+client_tied setup c = record {
+  started = refl;
+  settled = [];
+  all_settled = tt;
+  told = refl;
+  put_out = refl;
+  dropped = refl;
+  window = record { limits = refl; sent = refl; received = refl; acknowledged = refl; few = omega arith };
+}
+
+down_tied : (setup : Setup) (c d n : ℕ) → SlotTied setup c [] (slice_get (replicate n (client_down (limits_of setup.station))) d)
+down_tied setup c d zero = refl
+down_tied setup c zero (suc n) = client_tied setup c
+down_tied setup c (suc d) (suc n) = down_tied setup c d n
 
 outstation_tied : (setup : Setup) (o : ℕ) (x : Option OutstationSetup) → slice_get setup.outstations o ≡ x
     → MasterTied setup o [] (option_map (λ (outstation : OutstationSetup). master_down outstation.poll) x)
@@ -57,7 +68,7 @@ first_tied setup = record {
   picture = refl;
   outstations = λ o. rw (map-get (λ (outstation : OutstationSetup). master_down outstation.poll) setup.outstations o)
       (outstation_tied setup o (slice_get setup.outstations o) refl);
-  clients = λ c. down_tied setup c client_limit;
+  clients = λ c. down_tied setup c c client_limit;
   moment = refl;
 }
 
@@ -107,6 +118,7 @@ confirms setup past step r s e tied =
     by : (step : Step) → fault_of s step ≡ None → Confirms setup past step (reply_to setup s step)
     by (steps.OutstationUp o m) e = record { verdict = refl; confirmation = refl }
     by (steps.ClientUp c m) e = record { verdict = refl; confirmation = refl }
+    by (steps.ClientDown c m) e = record { verdict = refl; confirmation = refl }
     by (steps.OutstationDown o m) e = record { verdict = refl; confirmation = refl }
     by (steps.Tick m) e = record { verdict = refl; confirmation = refl }
     by (steps.Fragment f m) e =
@@ -124,7 +136,7 @@ confirms setup past step r s e tied =
         rw up.1 (record { verdict = none; confirmation = ap confirmation_in none })
     by (steps.Pump c m) e =
         let up = who_is_up (λ (k : Client). is_up k.stage) NoClient (slice_get s.clients c) e in
-        let none = of_given (given setup.station.offset_minutes setup.station.common_address up.0) in
+        let none = of_given (given setup.station.offset_minutes setup.station.common_address (latest s m) up.0) in
         rw up.1 (record { verdict = none; confirmation = ap confirmation_in none })
 
 -- ---- what holds where all is tied
@@ -146,51 +158,75 @@ holds setup past tied quiet speaks = record {
   speaks = speaks;
 }
 
+-- the numbers, where the last entry's are right
+slot_keeps : (setup : Setup) (c : ℕ) (past : List Entry) (x : Option Client) → setup.station.k < 32768 → SlotTied setup c past x → IfSome x (λ client. KeepsWindow setup c past)
+slot_keeps setup c past None small tied = tt
+slot_keeps setup c past (Some k) small tied = window_kept setup c past k.window small tied.window
+
+numbers : (setup : Setup) (past : List Entry) → setup.station.k < 32768 → Tied setup past (state_after setup past) → NumbersLast setup past → HasRightNumbers setup past
+numbers setup past small tied last = record { last = last; window = λ c. slot_keeps setup c past (client_at setup c past) small (tied.clients c) }
+
 -- ---- a run so far
 
 record Told (setup : Setup) (past : List Entry) : Type 0 where
   tied : Tied setup past (state_after setup past)
   news : AtEach (Holds setup) past
   confirmed : AtEach (ConfirmsLast setup) past
-  numbered : AtEach (NumbersLast setup) past
+  numbered : AtEach (HasRightNumbers setup) past
 
-told_first : (setup : Setup) → Told setup []
-told_first setup = record { tied = first_tied setup; news = holds setup [] (first_tied setup) (λ c. tt) (λ c. tt); confirmed = tt; numbered = tt }
+told_first : (setup : Setup) → IsSoundSetup setup → Told setup []
+told_first setup fit = record {
+  tied = first_tied setup;
+  news = holds setup [] (first_tied setup) (λ c. tt) (λ c. tt);
+  confirmed = tt;
+  numbered = numbers setup [] fit.window (first_tied setup) tt;
+}
 
-told_more : (setup : Setup) (past : List Entry) (e : Entry) → Follows setup past e (state_after setup (e ∷ past)) → ConfirmsLast setup (e ∷ past) → Told setup past → Told setup (e ∷ past)
-told_more setup past e follows last told =
+told_more : (setup : Setup) (past : List Entry) (e : Entry) → IsSoundSetup setup → Follows setup past e (state_after setup (e ∷ past)) → ConfirmsLast setup (e ∷ past)
+    → JudgesBy setup past e.step e.reply → Told setup past → Told setup (e ∷ past)
+told_more setup past e fit follows last judged told =
     let tied = tied_by setup past e (state_after setup (e ∷ past)) follows in
     record {
       tied = tied;
       news = (holds setup (e ∷ past) tied (λ c. (follows.clients c).quiet) (λ c. (follows.clients c).speaks), told.news);
       confirmed = (last, told.confirmed);
-      numbered = (λ c. (follows.clients c).numbered, told.numbered);
+      numbered = (numbers setup (e ∷ past) fit.window tied (record { puts_out = λ c. (follows.clients c).numbered; judges = judged }), told.numbered);
     }
 
-told_by : (setup : Setup) (past : List Entry) (step : Step) (reply : Result Reply StepFault) → HasSingleAddresses setup.rows setup.controls → setup.station.common_address < 65536
-    → IsSound setup.station.offset_minutes (state_after setup past)
+told_by : (setup : Setup) (past : List Entry) (step : Step) (reply : Result Reply StepFault) → IsSoundSetup setup → IsSound setup.station.offset_minutes (state_after setup past)
     → Allowed setup (state_after setup past) step reply (state_after setup (entry step reply ∷ past)) → Told setup past → Told setup (entry step reply ∷ past)
-told_by setup past step (Ok r) single small sound allowed told =
-    told_more setup past (entry step (Ok r)) (step_follows setup past step r (state_after setup past) single small sound allowed.0 told.tied)
-    (confirms setup past step r (state_after setup past) allowed.0 told.tied) told
-told_by setup past step (Err f) single small sound allowed told =
-    told_more setup past (entry step (Err f)) (fault_follows setup past step f (state_after setup past) told.tied) tt told
+told_by setup past step (Ok r) fit sound allowed told =
+    told_more setup past (entry step (Ok r)) fit (step_follows setup past step r (state_after setup past) fit.addresses fit.station sound allowed.0 told.tied)
+    (confirms setup past step r (state_after setup past) allowed.0 told.tied) (judges setup past step r (state_after setup past) fit.window allowed.0 told.tied) told
+told_by setup past step (Err f) fit sound allowed told =
+    told_more setup past (entry step (Err f)) fit (fault_follows setup past step f (state_after setup past) told.tied) tt (unjudged step) told
+  where
+    unjudged : (step : Step) → JudgesBy setup past step (Err f)
+    unjudged (steps.Frame c a m) = tt
+    unjudged (steps.OutstationUp o m) = tt
+    unjudged (steps.OutstationDown o m) = tt
+    unjudged (steps.Fragment f m) = tt
+    unjudged (steps.Poll o m wall) = tt
+    unjudged (steps.ClientUp c m) = tt
+    unjudged (steps.ClientDown c m) = tt
+    unjudged (steps.Pump c m) = tt
+    unjudged (steps.Tick m) = tt
 
 -- the state before the last entry is sound
 sound_last : (setup : Setup) (past : List Entry) → AtEach (LeavesSound setup) past → LeavesSound setup past
 sound_last setup [] sound = sound
 sound_last setup (e ∷ past) sound = sound.0
 
-run_told : (setup : Setup) (past : List Entry) → HasSingleAddresses setup.rows setup.controls → setup.station.common_address < 65536 → IsRun setup past → AtEach (LeavesSound setup) past → Told setup past
-run_told setup [] single small run sound = told_first setup
-run_told setup (e ∷ past) single small run sound =
-    told_by setup past e.step e.reply single small (sound_last setup past sound.1) run.0 (run_told setup past single small run.1 sound.1)
+run_told : (setup : Setup) (past : List Entry) → IsSoundSetup setup → IsRun setup past → AtEach (LeavesSound setup) past → Told setup past
+run_told setup [] fit run sound = told_first setup fit
+run_told setup (e ∷ past) fit run sound =
+    told_by setup past e.step e.reply fit (sound_last setup past sound.1) run.0 (run_told setup past fit run.1 sound.1)
 
-pub tells_news : (setup : Setup) (past : List Entry) → HasSingleAddresses setup.rows setup.controls → setup.station.common_address < 65536 → IsRun setup past → AtEach (LeavesSound setup) past → AtEach (Holds setup) past
-tells_news setup past single small run sound = (run_told setup past single small run sound).news
+pub tells_news : (setup : Setup) (past : List Entry) → IsSoundRun setup past → AtEach (Holds setup) past
+tells_news setup past given = (run_told setup past given.settings given.run given.sound).news
 
-pub confirms_taken : (setup : Setup) (past : List Entry) → HasSingleAddresses setup.rows setup.controls → setup.station.common_address < 65536 → IsRun setup past → AtEach (LeavesSound setup) past → AtEach (ConfirmsLast setup) past
-confirms_taken setup past single small run sound = (run_told setup past single small run sound).confirmed
+pub confirms_taken : (setup : Setup) (past : List Entry) → IsSoundRun setup past → AtEach (ConfirmsLast setup) past
+confirms_taken setup past given = (run_told setup past given.settings given.run given.sound).confirmed
 
-pub numbers_in_order : (setup : Setup) (past : List Entry) → HasSingleAddresses setup.rows setup.controls → setup.station.common_address < 65536 → IsRun setup past → AtEach (LeavesSound setup) past → AtEach (NumbersLast setup) past
-numbers_in_order setup past single small run sound = (run_told setup past single small run sound).numbered
+pub right_numbers : (setup : Setup) (past : List Entry) → IsSoundRun setup past → AtEach (HasRightNumbers setup) past
+right_numbers setup past given = (run_told setup past given.settings given.run given.sound).numbered

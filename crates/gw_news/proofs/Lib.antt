@@ -1,9 +1,11 @@
 pub mod Pictures
 pub mod Settled
+pub mod Windows
 pub mod Turns
 pub mod Masters
 pub mod Tied
 pub mod ClientSteps
 pub mod OutstationSteps
 pub mod Steps
+pub mod Judged
 pub mod EachPlace

@@ -1,7 +1,7 @@
 -- Each step of an outstation, and a tick, keeps what ties the state to the history.
-use Rattle.std.proofs.Common.{◌≡◌, ℕ, true, false, List, [], ◌∷◌, ◌++◌, Option, Some, None, Ok, refl, sym, ap, subst, ◌∙◌, inl, inr}
+use Rattle.std.proofs.Common.{◌≡◌, ℕ, zero, suc, ◌+◌, ◌*◌, ◌/◌, ◌%◌, Bool, true, false, map, List, [], ◌∷◌, ◌++◌, Option, Some, None, Ok, refl, sym, ap, subst, ◌∙◌, arith, inl, inr}
 use Rattle.std.specs.Prelude.{slice_get, option_map}
-use Rattle.std.proofs.lemmas.Bool.{cases_Bool, cases_eq, ne_eqb}
+use Rattle.std.proofs.lemmas.Bool.{cases_Bool, cases_eq, eq-eqb, ne_eqb}
 use Rattle.gw_model.specs.declared.observation.Observation.{Observation}
 use Rattle.gw_map.specs.Settings.{Setup, HasSingleAddresses}
 use Rattle.gw_model.specs.Places.{change}
@@ -14,23 +14,25 @@ use Rattle.dnp_app.specs.declared.request.Request.{Request}
 use Rattle.dnp_app.specs.Response.{Fragment}
 use Rattle.dnp_master.specs.Master.{Master, master_down, master_after_up, master_after_next, master_after_tick, task_given, request_given}
 use Rattle.dnp_master.specs.Fragments.{accepts, master_after_fragment}
-use Rattle.gw_station.specs.Client.{client_with_news}
+use Rattle.gw_station.specs.Client.{Client, is_timed_out, client_after_close, client_after_tick, client_with_news}
 use Rattle.gw_steps.specs.declared.step.Step.{Step}
 use Rattle.gw_steps.specs.declared.step.Step.TheVariants as steps
 use Rattle.gw_steps.specs.declared.step.Reply.{Reply}
+use Rattle.gw_steps.specs.declared.step.Reply.TheVariants as replies
 use Rattle.gw_steps.specs.declared.step.StepFault.TheVariants.{NoOutstation}
 use Rattle.gw_steps.specs.State.{State, later}
-use Rattle.gw_steps.specs.Steps.{outcome, needs, can_rise, reply_to, fault_of, outstation_reply, reply_asking, is_accepting, losses, latest, after}
+use Rattle.gw_steps.specs.Steps.{outcome, needs, can_rise, reply_to, fault_of, outstation_reply, reply_asking, is_accepting, losses, one_if, bits_of, latest, after}
 use Rattle.gw_steps.specs.Runs.{Entry}
 use Rattle.gw_steps.proofs.Inversion.{answered, who_is_up}
 use Rattle.gw_steps.proofs.Running.{entry}
 use Rattle.gw_news.specs.Accepted.{moment_after, last_text, asked_of, is_accepted}
 use Rattle.gw_news.specs.Log.{log_of, news_after_log}
-use Rattle.gw_news.specs.Turns.{Idle, turn_of}
+use Rattle.gw_news.specs.Turns.{Idle, has_bit, turn_of}
 use Rattle.gw_news.proofs.Masters.{MasterIs, MasterTied, same_master, same_accepted, master_up, master_lost, master_polled, master_ticked, master_accepted, master_left, other_last, other_asked}
 use Rattle.gw_news.proofs.Pictures.{news_same}
 use Rattle.gw_news.proofs.Tied.{Tied, Follows, same_log}
-use Rattle.gw_news.proofs.Turns.{brought, goes_idle, goes_nowhere}
+use Rattle.gw_news.proofs.Turns.{SlotTied, Goes, brought, goes_idle, goes_nowhere, goes_ends}
+use Rattle.gw_news.proofs.Windows.{same_counts}
 
 -- ---- one outstation
 
@@ -116,13 +118,53 @@ poll setup past o m wall r s e tied =
 
 -- ---- Tick
 
-pub tick : (setup : Setup) (past : List Entry) (m : ℕ) (r : Reply) (s : State) → Tied setup past s
+-- the bit of a client tells whether its time ran out
+bit_zero : (c : ℕ) → has_bit c 0 ≡ false
+bit_zero zero = refl
+bit_zero (suc c) = bit_zero c
+
+abbrev late_at : ℕ → Option Client → Bool
+late_at moment None = false
+late_at moment (Some k) = is_timed_out moment k
+
+bit_told : (moment : ℕ) (ks : List Client) (c : ℕ) → has_bit c (bits_of (map (is_timed_out moment) ks)) ≡ late_at moment (slice_get ks c)
+bit_told moment [] c = bit_zero c
+bit_told moment (k ∷ ks) zero = lowest (is_timed_out moment k)
+  where
+    lowest : (b : Bool) → has_bit 0 (one_if b + 2 * bits_of (map (is_timed_out moment) ks)) ≡ b
+    lowest true = eq-eqb ((1 + 2 * bits_of (map (is_timed_out moment) ks)) % 2) 1 (omega arith)
+    lowest false = ne_eqb ((0 + 2 * bits_of (map (is_timed_out moment) ks)) % 2) 1 (λ (e : (0 + 2 * bits_of (map (is_timed_out moment) ks)) % 2 ≡ 1). omega (arith, e))
+bit_told moment (k ∷ ks) (suc c) = ap (has_bit c) (others (is_timed_out moment k)) ∙ bit_told moment ks c
+  where
+    others : (b : Bool) → (one_if b + 2 * bits_of (map (is_timed_out moment) ks)) / 2 ≡ bits_of (map (is_timed_out moment) ks)
+    others true = omega arith
+    others false = omega arith
+
+-- a client whose time ran out is closed, and the others idle
+ticked : (setup : Setup) (past : List Entry) (m moment c bits : ℕ) (x : Option Client) → has_bit c bits ≡ late_at moment x → SlotTied setup c past x
+    → Goes setup c past (entry (steps.Tick m) (Ok (replies.Ticked bits))) (option_map (client_after_tick moment) x)
+ticked setup past m moment c bits None told tied = goes_nowhere setup c past (entry (steps.Tick m) (Ok (replies.Ticked bits))) None (rw told refl) refl tied
+ticked setup past m moment c bits (Some k) told tied = elim (cases_Bool (is_timed_out moment k)) [
+  | inl late ↦ rw late (goes_ends setup c past (entry (steps.Tick m) (Ok (replies.Ticked bits))) k (client_after_close k) (rw (told ∙ late) refl) refl refl refl (same_counts k.window) tied)
+  | inr on ↦ rw on (goes_nowhere setup c past (entry (steps.Tick m) (Ok (replies.Ticked bits))) (Some k) (rw (told ∙ on) refl) refl tied)
+]
+
+pub tick : (setup : Setup) (past : List Entry) (m : ℕ) (r : Reply) (s : State) → outcome setup s (steps.Tick m) ≡ Ok r → Tied setup past s
     → Follows setup past (entry (steps.Tick m) (Ok r)) (after setup s (steps.Tick m))
-tick setup past m r s tied =
-    quiet_step setup past (entry (steps.Tick m) (Ok r)) s (after setup s (steps.Tick m)) refl (λ c. refl) refl refl (told_moment setup past s m tied)
-    (λ p. rw (map-get (master_after_tick (latest s m)) s.outstations p)
-    (master_ticked setup p m (latest s m) r past (slice_get s.outstations p) (told_moment setup past s m tied) (tied.outstations p)))
-    tied
+tick setup past m r s e tied =
+    let step : Step = steps.Tick m in
+    let moment : ℕ = latest s m in
+    let told = answered (fault_of s step) (can_rise s.counts (needs setup s step).counts) (reply_to setup s step) r e in
+    let bits : ℕ = bits_of (map (is_timed_out moment) s.clients) in
+    let here : Entry = entry step (Ok (replies.Ticked bits)) in
+    subst (λ (x : Reply). Follows setup past (entry step (Ok x)) (after setup s step)) told.2
+    (record {
+      picture = same_log setup past here s.picture refl tied.picture;
+      outstations = λ p. rw (map-get (master_after_tick moment) s.outstations p)
+          (master_ticked setup p m moment (replies.Ticked bits) past (slice_get s.outstations p) (told_moment setup past s m tied) (tied.outstations p));
+      clients = λ c. rw (map-get (client_after_tick moment) s.clients c) (ticked setup past m moment c bits (slice_get s.clients c) (bit_told moment s.clients c) (tied.clients c));
+      moment = told_moment setup past s m tied;
+    })
 
 -- ---- Fragment
 

@@ -9,7 +9,7 @@ use Rattle.gw_steps.specs.Steps.{outcome, after}
 use Rattle.gw_steps.specs.Runs.{Entry}
 use Rattle.gw_steps.specs.Sound.{IsSound}
 use Rattle.gw_steps.proofs.Running.{entry}
-use Rattle.gw_news.proofs.ClientSteps.{client_up, frame, pump}
+use Rattle.gw_news.proofs.ClientSteps.{client_up, client_down, frame, pump}
 use Rattle.gw_news.proofs.OutstationSteps.{outstation_up, outstation_down, fragment, poll, tick}
 use Rattle.gw_news.proofs.Tied.{Tied, Follows}
 
@@ -20,6 +20,7 @@ step_follows setup past (steps.OutstationDown o m) r s single small sound e tied
 step_follows setup past (steps.Fragment f m) r s single small sound e tied = fragment setup past f m r s single e tied
 step_follows setup past (steps.Poll o m wall) r s single small sound e tied = poll setup past o m wall r s e tied
 step_follows setup past (steps.ClientUp c m) r s single small sound e tied = client_up setup past c m r s e tied
+step_follows setup past (steps.ClientDown c m) r s single small sound e tied = client_down setup past c m r s e tied
 step_follows setup past (steps.Frame c apdu m) r s single small sound e tied = frame setup past c m apdu r s e tied
 step_follows setup past (steps.Pump c m) r s single small sound e tied = pump setup past c m r s small sound e tied
-step_follows setup past (steps.Tick m) r s single small sound e tied = tick setup past m r s tied
+step_follows setup past (steps.Tick m) r s single small sound e tied = tick setup past m r s e tied

@@ -1,5 +1,5 @@
 -- What ties a client's part of the state to its history, and how each turn keeps it.
-use Rattle.std.proofs.Common.{◌≡◌, ℕ, ◌+◌, ◌%◌, true, false, List, [], ◌∷◌, ◌++◌, map, length, Option, Some, None, refl, sym, ap, ◌∙◌, arith, inl, inr}
+use Rattle.std.proofs.Common.{◌≡◌, ℕ, true, false, List, [], ◌∷◌, ◌++◌, map, length, Option, Some, None, refl, sym, ap, ◌∙◌, inl, inr}
 use Rattle.std.specs.Prelude.{option_map}
 use Rattle.std.proofs.lemmas.Bool.{cases_Bool, true≢false}
 use Rattle.std.proofs.lemmas.List.{append-nil}
@@ -7,16 +7,20 @@ use Rattle.gw_model.specs.declared.observation.Observation.{Observation}
 use Rattle.gw_map.specs.Settings.{Setup}
 use Rattle.gw_station.specs.declared.client.Stage.{Stage}
 use Rattle.gw_station.specs.declared.client.Stage.TheVariants.{Down, Stopped, Started}
+use Rattle.iec_apci.specs.declared.apdu.Apdu.{Apdu}
+use Rattle.iec_apci.specs.declared.apdu.Apdu.TheVariants.{U}
+use Rattle.iec_apci.specs.declared.apdu.Signal.TheVariants.{StartAct, StopAct}
 use Rattle.gw_station.specs.Client.{Client, is_started as is_in_session, queue_with, client_with_news}
 use Rattle.gw_steps.specs.Runs.{Entry}
 use Rattle.gw_steps.specs.Said.{Said}
 use Rattle.gw_news.specs.Log.{log_of, news_of_entry}
-use Rattle.gw_news.specs.Turns.{Idle, Connects, Begins, Ends, PutsOut, turn_of}
-use Rattle.gw_news.specs.Sessions.{is_started, spontaneous_in, spontaneous_by, is_numbered, puts_numbered, Happening, Came, Gone, session_of, gone_of}
+use Rattle.gw_news.specs.Turns.{Idle, Connects, Takes, Ends, PutsOut, turn_of}
+use Rattle.gw_news.specs.Sessions.{is_started, started_with, spontaneous_in, spontaneous_by, is_numbered, puts_numbered, Happening, Came, Gone, session_of, gone_of}
 use Rattle.gw_news.specs.Fates.{Element, is_put_out, is_dropped, fates, fates_from, items_of}
 use Rattle.gw_news.specs.News.{TellsNews, SaysOfStation, SpeaksBy}
-use Rattle.gw_news.specs.Numbers.{sent_with, sent_to, SaysNumber, HasNumber}
+use Rattle.gw_news.specs.Numbers.{sent_to, taken_from, SaysNumbers, HasNumbers}
 use Rattle.gw_news.proofs.Settled.{put, AreSettled, before_queue, fates_from-append, queue_grows, queue_shrinks, settled_more, kept_in, queued_in, dropped_in, put_out_more, dropped_same, gone_of-append, none_gone}
+use Rattle.gw_news.proofs.Windows.{WindowTied, SameCounts, same_counts, window_same}
 
 -- ---- the tie
 
@@ -28,7 +32,7 @@ pub record ClientTied (setup : Setup) (c : ℕ) (past : List Entry) (k : Client)
   pub told : fates None (session_of setup c past) ≡ before_queue settled k.queue
   pub put_out : gone_of (session_of setup c past) ≡ items_of is_put_out settled
   pub dropped : k.dropped ≡ length (items_of is_dropped settled)
-  pub number : k.next_send ≡ sent_to setup c past % 32768
+  pub window : WindowTied setup c past k.window
 
 -- where there is no such client, nothing started
 abbrev pub SlotTied : Setup → ℕ → List Entry → Option Client → Type 0
@@ -39,7 +43,7 @@ SlotTied setup c past (Some k) = ClientTied setup c past k
 -- session stands
 pub record Goes (setup : Setup) (c : ℕ) (past : List Entry) (e : Entry) (x : Option Client) : Type 0 where
   pub tied : SlotTied setup c (e ∷ past) x
-  pub numbered : HasNumber (sent_to setup c past) (turn_of setup c e)
+  pub numbered : HasNumbers (sent_to setup c past) (taken_from setup c past) (turn_of setup c e)
   pub quiet : is_started setup c past ≡ false → puts_numbered (turn_of setup c e) ≡ false
   pub speaks : SpeaksBy setup.station.common_address (turn_of setup c e)
 
@@ -47,12 +51,11 @@ pub record Goes (setup : Setup) (c : ℕ) (past : List Entry) (e : Entry) (x : O
 abbrev pub brought : Setup → List Entry → Entry → List Observation
 brought setup past e = news_of_entry setup (log_of setup past) past e
 
--- what the history sees of a client is the same
+-- what the history sees of a client's session is the same
 pub record Alike (k new : Client) : Type 0 where
   pub stage : new.stage ≡ k.stage
   pub queue : new.queue ≡ k.queue
   pub dropped : new.dropped ≡ k.dropped
-  pub next_send : new.next_send ≡ k.next_send
 
 -- ---- sessions
 
@@ -71,9 +74,9 @@ goes_on setup c past e xs ys was is eb ep = rw (is, was, eb, ep) refl
 pub session_idle : (setup : Setup) (c : ℕ) (past : List Entry) (e : Entry) (xs : List Observation) (k new : Client)
     → is_started setup c past ≡ true → is_started setup c (e ∷ past) ≡ true → is_in_session new.stage ≡ true
     → brought setup past e ≡ xs → spontaneous_by setup.station.common_address (turn_of setup c e) ≡ []
-    → new.queue ≡ k.queue ++ xs → new.dropped ≡ k.dropped → new.next_send ≡ sent_to setup c (e ∷ past) % 32768
+    → new.queue ≡ k.queue ++ xs → new.dropped ≡ k.dropped → WindowTied setup c (e ∷ past) new.window
     → ClientTied setup c past k → ClientTied setup c (e ∷ past) new
-session_idle setup c past e xs k new was is in_session eb ep queue dropped number tied =
+session_idle setup c past e xs k new was is in_session eb ep queue dropped window tied =
     let hs : List Happening = session_of setup c past in
     let on = goes_on setup c past e xs [] was is eb ep in
     let session : session_of setup c (e ∷ past) ≡ hs ++ map Came xs = on ∙ ap (λ (ys : List Happening). hs ++ ys) (append-nil (map Came xs)) in
@@ -88,14 +91,14 @@ session_idle setup c past e xs k new was is in_session eb ep queue dropped numbe
       told = ap (fates None) session ∙ (told ∙ ap (before_queue tied.settled) (sym queue));
       put_out = ap gone_of session ∙ (gone ∙ tied.put_out);
       dropped = dropped ∙ tied.dropped;
-      number = number;
+      window = window;
     }
 
 -- a client without a session, before and after
 pub stopped_still : (setup : Setup) (c : ℕ) (past : List Entry) (e : Entry) (new : Client)
     → is_started setup c (e ∷ past) ≡ false → is_in_session new.stage ≡ false → new.queue ≡ [] → new.dropped ≡ 0
-    → new.next_send ≡ sent_to setup c (e ∷ past) % 32768 → ClientTied setup c (e ∷ past) new
-stopped_still setup c past e new stopped out queue dropped number =
+    → WindowTied setup c (e ∷ past) new.window → ClientTied setup c (e ∷ past) new
+stopped_still setup c past e new stopped out queue dropped window =
     let none = none_happened setup c (e ∷ past) stopped in
     record {
       started = stopped ∙ sym out;
@@ -104,7 +107,7 @@ stopped_still setup c past e new stopped out queue dropped number =
       told = ap (fates None) none ∙ ap (before_queue []) (sym queue);
       put_out = ap gone_of none;
       dropped = dropped;
-      number = number;
+      window = window;
     }
 
 -- a client without a session has nothing queued, and nothing dropped
@@ -122,28 +125,33 @@ nothing_queued setup c past k stopped tied =
 
 -- ---- turns
 
+-- a turn in which nothing but news may come, and a window whose counts stay
+window_idle : (setup : Setup) (c : ℕ) (past : List Entry) (e : Entry) (k new : Client) → turn_of setup c e ≡ Idle → SameCounts k.window new.window
+    → ClientTied setup c past k → WindowTied setup c (e ∷ past) new.window
+window_idle setup c past e k new turn same tied = window_same setup c past e k.window new.window (rw turn refl) (rw turn refl) (rw turn refl) same tied.window
+
 -- nothing but news
 idle_queue : (setup : Setup) (c : ℕ) (past : List Entry) (e : Entry) (xs : List Observation) (k new : Client) (stage : Stage)
     → turn_of setup c e ≡ Idle → brought setup past e ≡ xs → k.stage ≡ stage → new.stage ≡ stage
-    → new.queue ≡ queue_with xs stage k.queue → new.dropped ≡ k.dropped → new.next_send ≡ k.next_send
+    → new.queue ≡ queue_with xs stage k.queue → new.dropped ≡ k.dropped → SameCounts k.window new.window
     → ClientTied setup c past k → ClientTied setup c (e ∷ past) new
-idle_queue setup c past e xs k new Down turn eb stage same queue dropped next tied =
+idle_queue setup c past e xs k new Down turn eb stage same queue dropped counts tied =
     let stopped : is_started setup c past ≡ false = tied.started ∙ ap is_in_session stage in
     let none = nothing_queued setup c past k stopped tied in
-    stopped_still setup c past e new (rw turn stopped) (ap is_in_session same) (queue ∙ none.0) (dropped ∙ none.1) (next ∙ (tied.number ∙ rw turn refl))
-idle_queue setup c past e xs k new Stopped turn eb stage same queue dropped next tied =
+    stopped_still setup c past e new (rw turn stopped) (ap is_in_session same) (queue ∙ none.0) (dropped ∙ none.1) (window_idle setup c past e k new turn counts tied)
+idle_queue setup c past e xs k new Stopped turn eb stage same queue dropped counts tied =
     let stopped : is_started setup c past ≡ false = tied.started ∙ ap is_in_session stage in
     let none = nothing_queued setup c past k stopped tied in
-    stopped_still setup c past e new (rw turn stopped) (ap is_in_session same) (queue ∙ none.0) (dropped ∙ none.1) (next ∙ (tied.number ∙ rw turn refl))
-idle_queue setup c past e xs k new Started turn eb stage same queue dropped next tied =
+    stopped_still setup c past e new (rw turn stopped) (ap is_in_session same) (queue ∙ none.0) (dropped ∙ none.1) (window_idle setup c past e k new turn counts tied)
+idle_queue setup c past e xs k new Started turn eb stage same queue dropped counts tied =
     let was : is_started setup c past ≡ true = tied.started ∙ ap is_in_session stage in
-    session_idle setup c past e xs k new was (rw turn was) (ap is_in_session same) eb (rw turn refl) queue dropped (next ∙ (tied.number ∙ rw turn refl)) tied
+    session_idle setup c past e xs k new was (rw turn was) (ap is_in_session same) eb (rw turn refl) queue dropped (window_idle setup c past e k new turn counts tied) tied
 
 pub goes_idle : (setup : Setup) (c : ℕ) (past : List Entry) (e : Entry) (xs : List Observation) (x : Option Client)
     → turn_of setup c e ≡ Idle → brought setup past e ≡ xs → SlotTied setup c past x → Goes setup c past e (option_map (client_with_news xs) x)
 goes_idle setup c past e xs None turn eb tied = record { tied = rw turn tied; numbered = rw turn tt; quiet = λ stopped. rw turn refl; speaks = rw turn tt }
 goes_idle setup c past e xs (Some k) turn eb tied = record {
-  tied = idle_queue setup c past e xs k (client_with_news xs k) k.stage turn eb refl refl refl refl refl tied;
+  tied = idle_queue setup c past e xs k (client_with_news xs k) k.stage turn eb refl refl refl refl (same_counts k.window) tied;
   numbered = rw turn tt;
   quiet = λ stopped. rw turn refl;
   speaks = rw turn tt;
@@ -157,9 +165,9 @@ same_queue Started queue = sym (append-nil queue)
 
 -- nothing at all
 pub goes_alike : (setup : Setup) (c : ℕ) (past : List Entry) (e : Entry) (k new : Client)
-    → turn_of setup c e ≡ Idle → brought setup past e ≡ [] → Alike k new → ClientTied setup c past k → Goes setup c past e (Some new)
-goes_alike setup c past e k new turn none alike tied = record {
-  tied = idle_queue setup c past e [] k new k.stage turn none refl alike.stage (alike.queue ∙ same_queue k.stage k.queue) alike.dropped alike.next_send tied;
+    → turn_of setup c e ≡ Idle → brought setup past e ≡ [] → Alike k new → SameCounts k.window new.window → ClientTied setup c past k → Goes setup c past e (Some new)
+goes_alike setup c past e k new turn none alike counts tied = record {
+  tied = idle_queue setup c past e [] k new k.stage turn none refl alike.stage (alike.queue ∙ same_queue k.stage k.queue) alike.dropped counts tied;
   numbered = rw turn tt;
   quiet = λ stopped. rw turn refl;
   speaks = rw turn tt;
@@ -169,25 +177,25 @@ pub goes_nowhere : (setup : Setup) (c : ℕ) (past : List Entry) (e : Entry) (x 
     → turn_of setup c e ≡ Idle → brought setup past e ≡ [] → SlotTied setup c past x → Goes setup c past e x
 goes_nowhere setup c past e None turn none tied = record { tied = rw turn tied; numbered = rw turn tt; quiet = λ stopped. rw turn refl; speaks = rw turn tt }
 goes_nowhere setup c past e (Some k) turn none tied =
-    goes_alike setup c past e k k turn none (record { stage = refl; queue = refl; dropped = refl; next_send = refl }) tied
+    goes_alike setup c past e k k turn none (record { stage = refl; queue = refl; dropped = refl }) (same_counts k.window) tied
 
 -- its connection stands anew
 pub goes_connects : (setup : Setup) (c : ℕ) (past : List Entry) (e : Entry) (new : Client)
-    → turn_of setup c e ≡ Connects → is_in_session new.stage ≡ false → new.queue ≡ [] → new.dropped ≡ 0 → new.next_send ≡ 0
+    → turn_of setup c e ≡ Connects → is_in_session new.stage ≡ false → new.queue ≡ [] → new.dropped ≡ 0 → WindowTied setup c (e ∷ past) new.window
     → Goes setup c past e (Some new)
-goes_connects setup c past e new turn out queue dropped next = record {
-  tied = stopped_still setup c past e new (rw turn refl) out queue dropped (next ∙ rw turn refl);
+goes_connects setup c past e new turn out queue dropped window = record {
+  tied = stopped_still setup c past e new (rw turn refl) out queue dropped window;
   numbered = rw turn tt;
   quiet = λ stopped. rw turn refl;
   speaks = rw turn tt;
 }
 
--- its connection is closed
+-- its connection is closed, or lost
 pub goes_ends : (setup : Setup) (c : ℕ) (past : List Entry) (e : Entry) (k new : Client)
-    → turn_of setup c e ≡ Ends → is_in_session new.stage ≡ false → new.queue ≡ [] → new.dropped ≡ 0 → new.next_send ≡ k.next_send
+    → turn_of setup c e ≡ Ends → is_in_session new.stage ≡ false → new.queue ≡ [] → new.dropped ≡ 0 → SameCounts k.window new.window
     → ClientTied setup c past k → Goes setup c past e (Some new)
-goes_ends setup c past e k new turn out queue dropped next tied = record {
-  tied = stopped_still setup c past e new (rw turn refl) out queue dropped (next ∙ (tied.number ∙ rw turn refl));
+goes_ends setup c past e k new turn out queue dropped counts tied = record {
+  tied = stopped_still setup c past e new (rw turn refl) out queue dropped (window_same setup c past e k.window new.window (rw turn refl) (rw turn refl) (rw turn refl) counts tied.window);
   numbered = rw turn tt;
   quiet = λ stopped. rw turn refl;
   speaks = rw turn tt;
@@ -195,9 +203,9 @@ goes_ends setup c past e k new turn out queue dropped next tied = record {
 
 -- its session begins
 pub goes_begins : (setup : Setup) (c : ℕ) (past : List Entry) (e : Entry) (k new : Client)
-    → turn_of setup c e ≡ Begins → is_in_session k.stage ≡ false → is_in_session new.stage ≡ true → new.queue ≡ [] → new.dropped ≡ 0 → new.next_send ≡ k.next_send
-    → ClientTied setup c past k → Goes setup c past e (Some new)
-goes_begins setup c past e k new turn out in_session queue dropped next tied =
+    → turn_of setup c e ≡ Takes (U StartAct) → is_in_session k.stage ≡ false → is_in_session new.stage ≡ true → new.queue ≡ [] → new.dropped ≡ 0
+    → WindowTied setup c (e ∷ past) new.window → ClientTied setup c past k → Goes setup c past e (Some new)
+goes_begins setup c past e k new turn out in_session queue dropped window tied =
     let stopped : is_started setup c past ≡ false = tied.started ∙ out in
     let none : session_of setup c (e ∷ past) ≡ [] = rw (turn, stopped) refl in
     record {
@@ -208,58 +216,69 @@ goes_begins setup c past e k new turn out in_session queue dropped next tied =
         told = ap (fates None) none ∙ ap (before_queue []) (sym queue);
         put_out = ap gone_of none;
         dropped = dropped;
-        number = next ∙ (tied.number ∙ rw turn refl);
+        window = window;
       };
       numbered = rw turn tt;
       quiet = λ stopped. rw turn refl;
       speaks = rw turn tt;
     }
 
--- its session stands already, and goes on
-pub goes_begins_again : (setup : Setup) (c : ℕ) (past : List Entry) (e : Entry) (k new : Client)
-    → turn_of setup c e ≡ Begins → brought setup past e ≡ [] → is_in_session k.stage ≡ true → Alike k new
-    → ClientTied setup c past k → Goes setup c past e (Some new)
-goes_begins_again setup c past e k new turn none in_session alike tied =
-    let was : is_started setup c past ≡ true = tied.started ∙ in_session in
-    record {
-      tied = session_idle setup c past e [] k new was (rw turn refl) (ap is_in_session alike.stage ∙ in_session) none (rw turn refl)
-          (alike.queue ∙ sym (append-nil k.queue)) alike.dropped (alike.next_send ∙ (tied.number ∙ rw turn refl)) tied;
-      numbered = rw turn tt;
-      quiet = λ stopped. rw turn refl;
-      speaks = rw turn tt;
-    }
+-- its session ends, and the connection stands
+pub goes_stops : (setup : Setup) (c : ℕ) (past : List Entry) (e : Entry) (new : Client)
+    → turn_of setup c e ≡ Takes (U StopAct) → is_in_session new.stage ≡ false → new.queue ≡ [] → new.dropped ≡ 0
+    → WindowTied setup c (e ∷ past) new.window → Goes setup c past e (Some new)
+goes_stops setup c past e new turn out queue dropped window = record {
+  tied = stopped_still setup c past e new (rw turn refl) out queue dropped window;
+  numbered = rw turn tt;
+  quiet = λ stopped. rw turn refl;
+  speaks = rw turn tt;
+}
 
--- something without a number that isn't spontaneous is put out to it
+-- whether or not a session stands, it goes on as it is
+stays : (setup : Setup) (c : ℕ) (past : List Entry) (e : Entry) (k new : Client) → is_started setup c (e ∷ past) ≡ is_started setup c past → brought setup past e ≡ []
+    → spontaneous_by setup.station.common_address (turn_of setup c e) ≡ [] → Alike k new → WindowTied setup c (e ∷ past) new.window
+    → ClientTied setup c past k → ClientTied setup c (e ∷ past) new
+stays setup c past e k new same none nothing alike window tied = elim (cases_Bool (is_in_session k.stage)) [
+  | inl in_session ↦
+      (let was : is_started setup c past ≡ true = tied.started ∙ in_session in
+      session_idle setup c past e [] k new was (same ∙ was) (ap is_in_session alike.stage ∙ in_session) none nothing
+      (alike.queue ∙ sym (append-nil k.queue)) alike.dropped window tied)
+  | inr out ↦
+      (let stopped : is_started setup c past ≡ false = tied.started ∙ out in
+      let empty = nothing_queued setup c past k stopped tied in
+      stopped_still setup c past e new (same ∙ stopped) (ap is_in_session alike.stage ∙ out) (alike.queue ∙ empty.0) (alike.dropped ∙ empty.1) window)
+]
+
+-- an APDU is taken by which no session begins or ends
+pub goes_takes : (setup : Setup) (c : ℕ) (past : List Entry) (e : Entry) (a : Apdu) (k new : Client)
+    → turn_of setup c e ≡ Takes a → brought setup past e ≡ [] → started_with a (is_started setup c past) ≡ is_started setup c past
+    → Alike k new → WindowTied setup c (e ∷ past) new.window → ClientTied setup c past k → Goes setup c past e (Some new)
+goes_takes setup c past e a k new turn none same alike window tied = record {
+  tied = stays setup c past e k new (rw turn same) none (rw turn refl) alike window tied;
+  numbered = rw turn tt;
+  quiet = λ stopped. rw turn refl;
+  speaks = rw turn tt;
+}
+
+-- something without N(S) is put out to it
 pub goes_puts_other : (setup : Setup) (c : ℕ) (past : List Entry) (e : Entry) (said : Said) (k new : Client)
     → turn_of setup c e ≡ PutsOut said → brought setup past e ≡ [] → spontaneous_in setup.station.common_address said ≡ []
-    → is_numbered said ≡ false → SaysOfStation setup.station.common_address said → SaysNumber (sent_to setup c past) said → sent_with said (sent_to setup c past) ≡ sent_to setup c past → Alike k new
-    → ClientTied setup c past k → Goes setup c past e (Some new)
-goes_puts_other setup c past e said k new turn none nothing unnumbered ours says same alike tied = record {
-  tied = elim (cases_Bool (is_in_session k.stage)) [
-    | inl in_session ↦
-        (let was : is_started setup c past ≡ true = tied.started ∙ in_session in
-        session_idle setup c past e [] k new was (rw turn was) (ap is_in_session alike.stage ∙ in_session) none (rw turn nothing)
-        (alike.queue ∙ sym (append-nil k.queue)) alike.dropped number tied)
-    | inr out ↦
-        (let stopped : is_started setup c past ≡ false = tied.started ∙ out in
-        let empty = nothing_queued setup c past k stopped tied in
-        stopped_still setup c past e new (rw turn stopped) (ap is_in_session alike.stage ∙ out) (alike.queue ∙ empty.0) (alike.dropped ∙ empty.1) number)
-  ];
+    → is_numbered said ≡ false → SaysOfStation setup.station.common_address said → SaysNumbers (sent_to setup c past) (taken_from setup c past) said
+    → Alike k new → WindowTied setup c (e ∷ past) new.window → ClientTied setup c past k → Goes setup c past e (Some new)
+goes_puts_other setup c past e said k new turn none nothing unnumbered ours says alike window tied = record {
+  tied = stays setup c past e k new (rw turn refl) none (rw turn nothing) alike window tied;
   numbered = rw turn says;
   quiet = λ stopped. rw turn unnumbered;
   speaks = rw turn ours;
 }
-  where
-    number : new.next_send ≡ sent_to setup c (e ∷ past) % 32768
-    number = alike.next_send ∙ (tied.number ∙ sym (rw turn (ap (λ (n : ℕ). n % 32768) same)))
 
 -- its oldest news are put out
 pub goes_puts_news : (setup : Setup) (c : ℕ) (past : List Entry) (e : Entry) (said : Said) (x : Observation) (queue : List Observation) (k new : Client)
     → turn_of setup c e ≡ PutsOut said → brought setup past e ≡ [] → spontaneous_in setup.station.common_address said ≡ x ∷ []
-    → SaysOfStation setup.station.common_address said → SaysNumber (sent_to setup c past) said → sent_with said (sent_to setup c past) ≡ sent_to setup c past + 1
+    → SaysOfStation setup.station.common_address said → SaysNumbers (sent_to setup c past) (taken_from setup c past) said
     → is_in_session k.stage ≡ true → k.queue ≡ x ∷ queue → new.stage ≡ k.stage → new.queue ≡ queue → new.dropped ≡ k.dropped
-    → new.next_send ≡ (k.next_send + 1) % 32768 → ClientTied setup c past k → Goes setup c past e (Some new)
-goes_puts_news setup c past e said x queue k new turn none puts ours says one_more in_session front stage rest dropped next tied =
+    → WindowTied setup c (e ∷ past) new.window → ClientTied setup c past k → Goes setup c past e (Some new)
+goes_puts_news setup c past e said x queue k new turn none puts ours says in_session front stage rest dropped window tied =
     let hs : List Happening = session_of setup c past in
     let was : is_started setup c past ≡ true = tied.started ∙ in_session in
     let by : spontaneous_by setup.station.common_address (turn_of setup c e) ≡ x ∷ [] = rw turn puts in
@@ -270,8 +289,6 @@ goes_puts_news setup c past e said x queue k new turn none puts ours says one_mo
     fates_from-append None [] hs (Gone x ∷ [])
     ∙ (ap (λ (es : List Element). fates_from None es (Gone x ∷ [])) (tied.told ∙ ap (before_queue tied.settled) front)
     ∙ queue_shrinks tied.settled x queue tied.all_settled) in
-    let sent : sent_to setup c (e ∷ past) ≡ sent_to setup c past + 1 = rw turn one_more in
-    let number : new.next_send ≡ (sent_to setup c past + 1) % 32768 = omega (arith, next, tied.number) in
     record {
       tied = record {
         started = rw turn (was ∙ sym (ap is_in_session stage ∙ in_session));
@@ -280,7 +297,7 @@ goes_puts_news setup c past e said x queue k new turn none puts ours says one_mo
         told = ap (fates None) session ∙ (told ∙ ap (before_queue (tied.settled ++ put x ∷ [])) (sym rest));
         put_out = ap gone_of session ∙ (gone ∙ sym (put_out_more tied.settled x));
         dropped = dropped ∙ (tied.dropped ∙ sym (ap length (dropped_same tied.settled x)));
-        number = number ∙ sym (ap (λ (n : ℕ). n % 32768) sent);
+        window = window;
       };
       numbered = rw turn says;
       quiet = λ stopped. absurd (true≢false (sym was ∙ stopped));

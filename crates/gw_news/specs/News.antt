@@ -9,7 +9,7 @@ use Rattle.gw_steps.specs.Runs.{Entry, state_after}
 use Rattle.gw_news.specs.Log.{log_of}
 use Rattle.iec_asdu.specs.Asdu.{Asdu}
 use Rattle.gw_steps.specs.Said.{Said, Numbered, Receipt, Function}
-use Rattle.gw_news.specs.Turns.{Turn, Idle, Connects, Begins, Ends, PutsOut, Garbles, turn_of}
+use Rattle.gw_news.specs.Turns.{Turn, Idle, Connects, Takes, Ends, PutsOut, Garbles, turn_of}
 use Rattle.gw_news.specs.Sessions.{is_started, session_of, gone_of, puts_numbered}
 use Rattle.gw_news.specs.Fates.{fates, items_of, is_queued, is_dropped, is_kept}
 
@@ -45,7 +45,7 @@ SaysOfStation common (Function signal) = Unit {0}
 abbrev pub SpeaksBy : ℕ → Turn → Type 0
 SpeaksBy common Idle = Unit {0}
 SpeaksBy common Connects = Unit {0}
-SpeaksBy common Begins = Unit {0}
+SpeaksBy common (Takes apdu) = Unit {0}
 SpeaksBy common Ends = Unit {0}
 SpeaksBy common (PutsOut said) = SaysOfStation common said
 SpeaksBy common Garbles = ⊥

@@ -4,10 +4,14 @@ use Rattle.gw_map.specs.Settings.{Setup, HasSingleAddresses}
 use Rattle.gw_steps.specs.Runs.{Entry, IsRun, AtEach}
 use Rattle.gw_steps.specs.Sound.{LeavesSound}
 
-pub record IsSoundRun (setup : Setup) (past : List Entry) : Type 0 where
-  -- no two rows have one address, and the common address has 16 bits
+-- no two rows have one address, the common address has 16 bits, and the window k is smaller than the sequence numbers
+pub record IsSoundSetup (setup : Setup) : Type 0 where
   pub addresses : HasSingleAddresses setup.rows setup.controls
   pub station : setup.station.common_address < 65536
+  pub window : setup.station.k < 32768
+
+pub record IsSoundRun (setup : Setup) (past : List Entry) : Type 0 where
+  pub settings : IsSoundSetup setup
   pub run : IsRun setup past
   -- what is queued can be sent, at each place
   pub sound : AtEach (LeavesSound setup) past

@@ -1,17 +1,27 @@
--- A client's session: what came and what was put out since its STARTDT act.
+-- A client's session, from a STARTDT act to the next STOPDT act or the end of the connection: what came and what was
+-- put out in it.
 use Rattle.std.specs.Prelude.{ℕ, Bool, true, false, ◌&&◌, ◌==◌, List, [], ◌∷◌, ◌++◌, map, Option, Some, None, if◌then◌else◌}
 use Rattle.gw_model.specs.declared.observation.Observation.{Observation}
 use Rattle.gw_map.specs.Settings.{Setup}
+use Rattle.iec_apci.specs.declared.apdu.Apdu.{Apdu}
+use Rattle.iec_apci.specs.declared.apdu.Apdu.TheVariants.{U}
+use Rattle.iec_apci.specs.declared.apdu.Signal.TheVariants.{StartAct, StopAct}
 use Rattle.iec_asdu.specs.Asdu.{Asdu}
 use Rattle.gw_steps.specs.Runs.{Entry}
 use Rattle.gw_steps.specs.Said.{Said, Numbered, Receipt, Function}
 use Rattle.gw_news.specs.Log.{log_of, news_of_entry}
-use Rattle.gw_news.specs.Turns.{Turn, Idle, Connects, Begins, Ends, PutsOut, Garbles, turn_of}
+use Rattle.gw_news.specs.Turns.{Turn, Idle, Connects, Takes, Ends, PutsOut, Garbles, turn_of}
+
+-- STARTDT act begins a session, where none stands, and STOPDT act ends it
+abbrev pub started_with : Apdu → Bool → Bool
+started_with (U StartAct) started = true
+started_with (U StopAct) started = false
+started_with _ started = started
 
 abbrev pub started_after : Turn → Bool → Bool
 started_after Idle started = started
 started_after Connects started = false
-started_after Begins started = true
+started_after (Takes apdu) started = started_with apdu started
 started_after Ends started = false
 started_after (PutsOut said) started = started
 started_after Garbles started = started
@@ -35,7 +45,7 @@ spontaneous_in common (Function signal) = []
 abbrev pub spontaneous_by : ℕ → Turn → List Observation
 spontaneous_by common Idle = []
 spontaneous_by common Connects = []
-spontaneous_by common Begins = []
+spontaneous_by common (Takes apdu) = []
 spontaneous_by common Ends = []
 spontaneous_by common (PutsOut said) = spontaneous_in common said
 spontaneous_by common Garbles = []
@@ -49,7 +59,7 @@ is_numbered (Function signal) = false
 abbrev pub puts_numbered : Turn → Bool
 puts_numbered Idle = false
 puts_numbered Connects = false
-puts_numbered Begins = false
+puts_numbered (Takes apdu) = false
 puts_numbered Ends = false
 puts_numbered (PutsOut said) = is_numbered said
 puts_numbered Garbles = false

@@ -1,18 +1,19 @@
 -- What a line of a replay asks for. O and C are decimal numbers of 8 bits, M of 64 bits, HEX is octets in hexadecimal.
-use Rattle.std.specs.Prelude.{◌≡◌, ◌⊎◌, ℕ, ◌+◌, ◌^◌, ◌==◌, List, take, drop, position, codes, Option, Some, None, Result, Ok, Err, option_map, option_and_then, if◌then◌else◌}
+use Rattle.std.specs.Prelude.{◌≡◌, ◌⊎◌, ℕ, ◌+◌, ◌^◌, ◌==◌, List, take, drop, position, codes, Option, Some, None, Result, Ok, Err, option_map, option_and_then, if◌then◌else◌, MatchBool}
 use Rattle.std.specs.Str.{bytes_eq}
 use Rattle.dnp_app.specs.declared.fault.AppFault.{AppFault}
 use Rattle.dnp_app.specs.declared.fault.AppFault.TheVariants.{Memory}
 use Rattle.dnp_app.specs.Response.{Fragment, StoresHeader, response_of}
-use Rattle.iec_apci.specs.Apdu.{Unnumbered, apdu as spelling}
-use Rattle.iec_apci.specs.declared.apdu.Apdu.TheVariants.{U}
-use Rattle.iec_apci.specs.declared.apdu.Signal.TheVariants.{StartAct}
+use Rattle.iec_apci.specs.declared.apdu.Apdu.{Apdu}
 use Rattle.gw_steps.specs.declared.step.Step.{Step}
 use Rattle.gw_steps.specs.declared.step.Step.TheVariants as steps
 use Rattle.gw_text.specs.Decimal.{number}
 use Rattle.gw_text.specs.Hex.{line_octets}
 use Rattle.gw_replay.specs.declared.instruction.Instruction.{Instruction}
 use Rattle.gw_replay.specs.declared.instruction.Instruction.TheVariants.{Make, Queue, Refused}
+use Rattle.gw_replay.specs.declared.refusal.Refusal.{Refusal}
+use Rattle.gw_replay.specs.declared.refusal.Refusal.TheVariants as refusals
+use Rattle.gw_replay.specs.Frames.{IsApduRead}
 
 -- ---- words
 
@@ -66,27 +67,41 @@ numbers_and_octets text =
     (option_and_then (λ t. number (2 ^ 64) (first_word t)) (rest_of text))
     (option_and_then line_octets (option_and_then rest_of (rest_of text)))
 
--- ---- what is asked for
+-- ---- octets
 
 -- the step of a response's octets, or their refusal
 abbrev pub step_or_refusal : ℕ → Result Fragment AppFault → Instruction
 step_or_refusal m (Ok fragment) = Make (steps.Fragment fragment m)
-step_or_refusal m (Err fault) = Refused fault
+step_or_refusal m (Err fault) = Refused (refusals.Fragment fault)
 
 -- `O M HEX` of a fragment
 abbrev pub fragment_in : List ℕ → Option Instruction
 fragment_in text = option_map (λ p. step_or_refusal p.1 (response_of p.0 p.2)) (numbers_and_octets text)
 
--- the octets of STARTDT act (IEC 60870-5-104, 5.3)
-abbrev pub start_spelling : List ℕ
-start_spelling = spelling (Unnumbered StartAct)
+-- its octets are those of a response, of which a header is stored
+abbrev pub NeedsMemory : List ℕ → Type 0
+NeedsMemory text = (p : ℕ × ℕ × List ℕ) × (numbers_and_octets text ≡ Some p) × StoresHeader p.2
 
--- `C M HEX` of a frame: STARTDT act alone
-abbrev pub start_with : ℕ × ℕ × List ℕ → Option Instruction
-start_with (c, m, octets) = if bytes_eq octets start_spelling then Some (Make (steps.Frame c (U StartAct) m)) else None
+-- it was read, or memory ran out over its octets
+abbrev pub IsFragmentRead : List ℕ → Option Instruction → Type 0
+IsFragmentRead text found = (found ≡ fragment_in text)
+    ⊎ (NeedsMemory text × (found ≡ Some (Refused (refusals.Fragment Memory))))
 
-abbrev pub frame_in : List ℕ → Option Instruction
-frame_in text = option_and_then start_with (numbers_and_octets text)
+-- the step of an APDU, or the refusal of octets that are none
+abbrev pub frame_or_refusal : ℕ → ℕ → Result Apdu Refusal → Instruction
+frame_or_refusal c m (Ok apdu) = Make (steps.Frame c apdu m)
+frame_or_refusal c m (Err refusal) = Refused refusal
+
+abbrev pub IsFrame : Option (ℕ × ℕ × List ℕ) → Option Instruction → Type 0
+IsFrame None found = found ≡ None
+IsFrame (Some p) found =
+    (read : Result Apdu Refusal) × IsApduRead p.2 read × (found ≡ Some (frame_or_refusal p.0 p.1 read))
+
+-- `C M HEX` of a frame was read
+abbrev pub IsFrameRead : List ℕ → Option Instruction → Type 0
+IsFrameRead text found = IsFrame (numbers_and_octets text) found
+
+-- ---- other verbs
 
 -- the step of a verb with the number of an outstation or client, and a moment
 abbrev pub step_at : List ℕ → ℕ → ℕ → Option Step
@@ -94,6 +109,7 @@ step_at verb n m =
     if bytes_eq verb (codes "up") then Some (steps.OutstationUp n m)
     else if bytes_eq verb (codes "down") then Some (steps.OutstationDown n m)
     else if bytes_eq verb (codes "open") then Some (steps.ClientUp n m)
+    else if bytes_eq verb (codes "close") then Some (steps.ClientDown n m)
     else if bytes_eq verb (codes "pump") then Some (steps.Pump n m)
     else None
 
@@ -113,35 +129,18 @@ short_with verb text =
     if bytes_eq verb (codes "queue") then option_map Queue (number (2 ^ 8) text)
     else option_map Make (step_with verb text)
 
--- what a verb asks for, with the text after it
-abbrev pub asked_with : List ℕ → List ℕ → Option Instruction
-asked_with verb text =
-    if bytes_eq verb (codes "frag") then fragment_in text
-    else if bytes_eq verb (codes "frame") then frame_in text
-    else short_with verb text
-
--- what a line asks for
-abbrev pub asked_of : List ℕ → Option Instruction
-asked_of line = option_and_then (asked_with (first_word line)) (rest_of line)
-
--- ---- where memory runs out
-
--- a fragment's octets are those of a response, of which a header is stored
-abbrev pub NeedsMemory : List ℕ → Type 0
-NeedsMemory text = (p : ℕ × ℕ × List ℕ) × (numbers_and_octets text ≡ Some p) × StoresHeader p.2
-
--- memory ran out over the octets of a fragment
-abbrev pub LacksMemory : List ℕ → List ℕ → Option Instruction → Type 0
-LacksMemory verb text found = (verb ≡ codes "frag") × NeedsMemory text × (found ≡ Some (Refused Memory))
+-- ---- lines
 
 -- a verb was read with the text after it
 abbrev pub IsReadWith : List ℕ → List ℕ → Option Instruction → Type 0
-IsReadWith verb text found = (found ≡ asked_with verb text) ⊎ LacksMemory verb text found
+IsReadWith verb text found =
+    MatchBool (bytes_eq verb (codes "frag")) (IsFragmentRead text found)
+    (MatchBool (bytes_eq verb (codes "frame")) (IsFrameRead text found) (found ≡ short_with verb text))
 
 abbrev pub IsReadAfter : List ℕ → Option (List ℕ) → Option Instruction → Type 0
 IsReadAfter verb None found = found ≡ None
 IsReadAfter verb (Some text) found = IsReadWith verb text found
 
--- a line was read: as it asks, or memory ran out over the octets of its fragment
+-- a line was read
 abbrev pub IsRead : List ℕ → Option Instruction → Type 0
 IsRead line found = IsReadAfter (first_word line) (rest_of line) found

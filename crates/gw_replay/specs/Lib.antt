@@ -1,4 +1,6 @@
+pub mod Frames
 pub mod Instructions
+pub mod Refusals
 pub mod Replies
 pub mod Place
 pub mod Replay

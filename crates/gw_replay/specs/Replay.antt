@@ -7,20 +7,20 @@ use Rattle.gw_steps.specs.State.{at_first}
 use Rattle.gw_steps.specs.Steps.{Allowed}
 use Rattle.gw_hub.specs.Clients.{queued_at, dropped_at}
 use Rattle.gw_input.specs.Lines.{AreAnswered, IsAnswered, lines_of}
-use Rattle.gw_text.specs.Text.{refusal_text}
 use Rattle.gw_replay.specs.declared.instruction.Instruction.{Instruction}
 use Rattle.gw_replay.specs.declared.instruction.Instruction.TheVariants as instructions
 use Rattle.gw_replay.specs.declared.player.Played.{Played}
 use Rattle.gw_replay.specs.declared.player.Played.TheVariants.{Replied, Refused, Waiting}
 use Rattle.gw_replay.specs.Instructions.{IsRead}
 use Rattle.gw_replay.specs.Place.{Place, place}
+use Rattle.gw_replay.specs.Refusals.{refused_line}
 use Rattle.gw_replay.specs.Replies.{reply_line}
 
 -- the hub was asked for a step, for what waits, or for nothing since octets were refused
 abbrev pub Plays : Hub → Instruction → Played → Hub → Type 0
 Plays old (instructions.Make step) (Replied reply) new =
     Allowed old.setup old.state step reply new.state × (new.setup ≡ old.setup)
-Plays old (instructions.Refused fault) (Refused told) new = (told ≡ fault) × (new ≡ old)
+Plays old (instructions.Refused refusal) (Refused told) new = (told ≡ refusal) × (new ≡ old)
 Plays old (instructions.Queue client) (Waiting queued dropped) new =
     (queued ≡ queued_at (slice_get old.state.clients client))
     × (dropped ≡ dropped_at (slice_get old.state.clients client)) × (new ≡ old)
@@ -31,13 +31,13 @@ Plays old instruction played new = ⊥
 -- the text of what came of an instruction
 abbrev pub played_text : Played → List ℕ
 played_text (Replied reply) = reply_line reply
-played_text (Refused fault) = refusal_text fault
+played_text (Refused refusal) = refused_line refusal
 played_text (Waiting queued dropped) =
     codes "queued " ++ (decimal queued ++ (codes " dropped " ++ (decimal dropped ++ 10 ∷ [])))
 
 -- whether a line was refused, with one more
 abbrev pub refused_after : Bool → Played → Bool
-refused_after has_refused (Refused fault) = true
+refused_after has_refused (Refused refusal) = true
 refused_after has_refused played = has_refused
 
 -- a line was read, of which at most 8,191 octets are right

@@ -8,7 +8,7 @@ use Rattle.dnp_master.specs.declared.verdict.Verdict.TheVariants as verdicts
 use Rattle.dnp_master.specs.declared.verdict.Ignored.{Ignored}
 use Rattle.dnp_master.specs.declared.verdict.Ignored.TheVariants.{NoRequest, WrongSequence, WrongFirst}
 use Rattle.gw_station.specs.declared.event.Why.{Why}
-use Rattle.gw_station.specs.declared.event.Why.TheVariants.{Flooded}
+use Rattle.gw_station.specs.declared.event.Why.TheVariants.{Sequence, NotStarted, Malformed, Flooded, Timer}
 use Rattle.gw_steps.specs.declared.step.StepFault.{StepFault}
 use Rattle.gw_steps.specs.declared.step.StepFault.TheVariants.{NoOutstation, NoClient, NotUp, AlreadyUp, Memory, Spent}
 use Rattle.gw_text.specs.Hex.{spaced_digits}
@@ -24,7 +24,11 @@ ignored_name WrongSequence = codes "WrongSequence"
 ignored_name WrongFirst = codes "WrongFirst"
 
 abbrev pub why_name : Why → List ℕ
+why_name Sequence = codes "Sequence"
+why_name NotStarted = codes "NotStarted"
+why_name Malformed = codes "Malformed"
 why_name Flooded = codes "Flooded"
+why_name Timer = codes "Timer"
 
 abbrev pub fault_name : StepFault → List ℕ
 fault_name NoOutstation = codes "1 NoOutstation"

@@ -1,15 +1,13 @@
 //! The lines of a replay.
-ghost use Rattle.std.specs.Prelude.{◌≡◌, ◌≤◌, ◌⊎◌, IfOk, IfSome, Some, length, option_map};
-ghost use Rattle.std.specs.Str.{bytes_eq};
-ghost use Rattle.dnp_app.specs.declared.fault.AppFault.TheVariants.{Memory as NoMemory};
-ghost use Rattle.gw_replay.specs.Instructions.{IsRead, IsReadWith, NeedsMemory, asked_with, first_word, fragment_in, frame_in, numbers_and_octets, rest_of, short_with, space_in, paired_with, start_spelling, step_at, step_with, three_numbers, two_numbers};
-ghost use Rattle.gw_replay.specs.declared.instruction.Instruction.TheVariants.{Refused};
+ghost use Rattle.std.specs.Prelude.{◌≡◌, ◌≤◌, IfOk, IfSome, length, option_map};
+ghost use Rattle.gw_replay.specs.Instructions.{IsFragmentRead, IsFrameRead, IsRead, IsReadWith, first_word, numbers_and_octets, rest_of, short_with, space_in, paired_with, step_at, step_with, three_numbers, two_numbers};
 
-use dnp_app::{AppFault, read_response};
+use crate::frame::read_apdu;
+use crate::refusal::Refusal;
+use dnp_app::read_response;
 use gw_hub::Step;
 use gw_model::Memory;
 use gw_text::{line_octets, number_8, number_64};
-use iec_apci::{Apdu, Signal, write_apdu};
 use std::alloc::Global;
 
 /// What a line of a replay asks for. Outstations and clients go by their position, moments are in
@@ -17,12 +15,12 @@ use std::alloc::Global;
 #[derive(Debug, Drop)]
 pub enum Instruction {
     /// `up O M`: an outstation comes up. `down O M`: it is lost. `poll O M W`: its writer asks for the next request at
-    /// a wall time. `open C M`: a client comes up. `pump C M`: a client's writer asks for the next APDU. `tick M`:
-    /// time has passed. `frag O M HEX`, with the octets of a response: a fragment of an outstation. `frame C M HEX`, with
-    /// the octets of STARTDT act: a client sends it.
+    /// a wall time. `open C M`: a client comes up. `close C M`: it is lost. `pump C M`: a client's writer asks for the
+    /// next APDU. `tick M`: time has passed. `frag O M HEX`, with the octets of a response: a fragment of an
+    /// outstation. `frame C M HEX`, with the octets of one APDU: a client sends it.
     Make(Step),
-    /// `frag O M HEX`, with other octets: they are refused.
-    Refused(AppFault),
+    /// `frag O M HEX` or `frame C M HEX`, with other octets: they are refused.
+    Refused(Refusal),
     /// `queue C`: how many news wait for a client, and how many were dropped.
     Queue(u8),
 }
@@ -110,43 +108,32 @@ fn instruction_with(alloc: Global, verb: &[u8], text: &[u8]) -> Result<Option<In
 
 /// A fragment, with the text after the verb: its response, or why its octets are none.
 fn fragment(alloc: Global, text: &[u8]) -> Result<Option<Instruction>, Memory>
-    ensures { IfOk result (λ found. (found ≡ fragment_in text.now)
-        ⊎ (NeedsMemory text.now × (found ≡ Some (Refused NoMemory)))) }
+    ensures { IfOk result (IsFragmentRead text.now) }
 {
     let Some((outstation, moment, octets)) = numbers_and_octets(alloc, text)? else {
         return Ok(None);
     };
     match read_response(alloc, outstation, octets) {
         Ok(response) => Ok(Some(Instruction::Make(Step::Fragment { response, moment }))),
-        Err(fault) => Ok(Some(Instruction::Refused(fault))),
+        Err(fault) => Ok(Some(Instruction::Refused(Refusal::Fragment(fault)))),
     }
 }
 
-/// A frame of a client, with the text after the verb: STARTDT act alone.
+/// A frame of a client, with the text after the verb: its APDU, or why its octets are none.
 fn frame(alloc: Global, text: &[u8]) -> Result<Option<Instruction>, Memory>
-    ensures { IfOk result (λ found. found ≡ frame_in text.now) }
+    ensures { IfOk result (IsFrameRead text.now) }
 {
     let Some((client, moment, octets)) = numbers_and_octets(alloc, text)? else {
         return Ok(None);
     };
-    if !is_start(octets.as_slice()) {
-        return Ok(None);
+    match read_apdu(alloc, octets.as_slice())? {
+        Ok(apdu) => Ok(Some(Instruction::Make(Step::Frame {
+            client,
+            apdu,
+            moment,
+        }))),
+        Err(refusal) => Ok(Some(Instruction::Refused(refusal))),
     }
-    let apdu = Apdu::U(Signal::StartAct);
-    Ok(Some(Instruction::Make(Step::Frame {
-        client,
-        apdu,
-        moment,
-    })))
-}
-
-/// Whether octets are STARTDT act.
-fn is_start(octets: &[u8]) -> bool
-    ensures { result ≡ bytes_eq octets.now start_spelling }
-{
-    let mut buffer = [0; 255];
-    let end = write_apdu(&Apdu::U(Signal::StartAct), &mut buffer);
-    octets == &buffer[..end]
 }
 
 /// What the other verbs ask for.
@@ -200,6 +187,10 @@ fn step_at(verb: &[u8], place: u8, moment: u64) -> Option<Step>
             moment,
         }),
         b"open" => Some(Step::ClientUp {
+            client: place,
+            moment,
+        }),
+        b"close" => Some(Step::ClientDown {
             client: place,
             moment,
         }),

@@ -1,10 +1,14 @@
 //! `gateway replay`: steps of the core in, one a line; its replies out.
 #![tactic(auto)]
 
+mod frame;
 mod instruction;
 mod player;
+mod refusal;
 mod reply_text;
 
+pub use iec_apci::ApciFault;
 pub use instruction::{Instruction, read_instruction};
 pub use player::{Played, Player, play, replay};
+pub use refusal::{Refusal, write_refused};
 pub use reply_text::push_reply;

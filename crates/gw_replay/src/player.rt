@@ -4,13 +4,12 @@ ghost use Rattle.std.specs.Io.KnownBytes.{Appends};
 ghost use Rattle.gw_replay.specs.Replay.{AnswersInput, IsFine, IsFound, Plays, beginning, played_text, refused_after};
 
 use crate::instruction::{Instruction, read_instruction};
+use crate::refusal::{Refusal, write_refused};
 use crate::reply_text::push_reply;
-use dnp_app::AppFault;
 use gw_hub::{Hub, Reply, StepFault};
 use gw_input::{AnswersLines, Stop, answer_lines, finish};
 use gw_map::Settings;
 use gw_model::Memory;
-use gw_text::write_refusal;
 use std::alloc::Global;
 use std::io::{BufRead, Write};
 use std::marker::Model;
@@ -24,8 +23,8 @@ const KEPT: usize = 8192;
 pub enum Played {
     /// A step was made, or not for a fault.
     Replied(Result<Reply, StepFault>),
-    /// The octets are no response, and no step was made.
-    Refused(AppFault),
+    /// The octets are no response or no APDU, and no step was made.
+    Refused(Refusal),
     /// How many news wait, and how many were dropped.
     Waiting { queued: usize, dropped: usize },
 }
@@ -36,7 +35,7 @@ pub fn play(hub: &mut Hub, instruction: Instruction) -> Played
 {
     match instruction {
         Instruction::Make(step) => Played::Replied(hub.step(&step)),
-        Instruction::Refused(fault) => Played::Refused(fault),
+        Instruction::Refused(refusal) => Played::Refused(refusal),
         Instruction::Queue(client) => Played::Waiting {
             queued: hub.queued(client),
             dropped: hub.dropped(client),
@@ -76,7 +75,7 @@ fn write_played<W: Write>(played: Played, text: &mut Vec<u8>, writer: &mut W) ->
             push_reply(text, reply)?;
             writer.write_all(text.as_slice())?;
         }
-        Played::Refused(fault) => write_refusal(writer, fault)?,
+        Played::Refused(refusal) => write_refused(writer, refusal)?,
         Played::Waiting { queued, dropped } => {
             writeln!(writer, "queued {queued} dropped {dropped}")?;
         }
@@ -167,9 +166,9 @@ fn run<R: BufRead, W: Write>(
 
 /// Makes the steps that lines ask for, and writes the reply to each.
 ///
-/// The status is 0, or 1 where a fragment was refused, a line was no instruction (`refused line N`, which
-/// ends it), reading or writing failed, memory ran out (`refused memory`) or 4,294,967,295 reads didn't
-/// reach the end of the input. A fault or a close is no refusal.
+/// The status is 0, or 1 where a fragment or a frame was refused, a line was no instruction (`refused line N`,
+/// which ends it), reading or writing failed, memory ran out (`refused memory`) or 4,294,967,295 reads
+/// didn't reach the end of the input. A fault or a close is no refusal.
 pub fn replay<R: BufRead + Drop, W: Write + Drop>(
     alloc: Global,
     settings: Settings,

@@ -122,7 +122,11 @@ fn why_name(why: Why) -> &'static [u8]
     ensures { result.now ≡ why_name why }
 {
     match why {
+        Why::Sequence => b"Sequence",
+        Why::NotStarted => b"NotStarted",
+        Why::Malformed => b"Malformed",
         Why::Flooded => b"Flooded",
+        Why::Timer => b"Timer",
     }
 }
 

@@ -1,15 +1,20 @@
 -- A client's part of the core's state, as its contracts see it.
-use Rattle.std.specs.Prelude.{ℕ, Bool, true, false, List, [], ◌++◌}
+use Rattle.std.specs.Prelude.{ℕ, Bool, true, false, ◌&&◌, List, [], ◌++◌, if◌then◌else◌}
 use Rattle.gw_model.specs.declared.observation.Observation.{Observation}
+use Rattle.iec_apci.specs.declared.apdu.Signal.{Signal}
+use Rattle.iec_window.specs.declared.limits.Limits.{Limits}
+use Rattle.iec_window.specs.Counts.{Counts}
+use Rattle.iec_window.specs.Steps.{counts_at_start}
+use Rattle.iec_window.specs.Timers.{ran_out}
 use Rattle.gw_station.specs.declared.client.Stage.{Stage}
 use Rattle.gw_station.specs.declared.client.Stage.TheVariants.{Down, Stopped, Started}
 
 pub record Client : Type 0 where
   pub stage : Stage
-  -- STARTDT confirmations that wait to be put out
-  pub confirmations : ℕ
-  -- N(S) of the next I format
-  pub next_send : ℕ
+  -- what was sent and received, and since when the timers run
+  pub window : Counts
+  -- confirmations of U formats that wait to be put out, oldest first
+  pub confirmations : List Signal
   -- of a started client: the news that aren't put out yet, oldest first, and how many were dropped
   pub queue : List Observation
   pub dropped : ℕ
@@ -24,16 +29,27 @@ is_started Down = false
 is_started Stopped = false
 is_started Started = true
 
--- as at first
-abbrev pub client_down : Client
-client_down = record { stage = Down; confirmations = 0; next_send = 0; queue = []; dropped = 0 }
+-- as at first, with the parameters k, w, t1, t2 and t3
+abbrev pub client_down : Limits → Client
+client_down limits = record {
+  stage = Down;
+  window = counts_at_start limits 0;
+  confirmations = [];
+  queue = [];
+  dropped = 0;
+}
 
 -- the client connected at a moment
 abbrev pub client_after_up : ℕ → Client → Client
-client_after_up moment c =
-    record c { stage = Stopped; confirmations = 0; next_send = 0; queue = []; dropped = 0 }
+client_after_up moment c = record c {
+  stage = Stopped;
+  window = counts_at_start c.window.limits moment;
+  confirmations = [];
+  queue = [];
+  dropped = 0;
+}
 
--- the connection is closed
+-- the connection is closed, or lost
 abbrev pub client_after_close : Client → Client
 client_after_close c = record c { stage = Down; queue = []; dropped = 0 }
 
@@ -46,3 +62,11 @@ queue_with xs Started queue = queue ++ xs
 -- news that come: they join the queue of a started client
 abbrev pub client_with_news : List Observation → Client → Client
 client_with_news xs c = record c { queue = queue_with xs c.stage c.queue }
+
+-- t1 has passed for a client that is up
+abbrev pub is_timed_out : ℕ → Client → Bool
+is_timed_out moment c = is_up c.stage && ran_out moment c.window
+
+-- time has passed
+abbrev pub client_after_tick : ℕ → Client → Client
+client_after_tick moment c = if is_timed_out moment c then client_after_close c else c

@@ -1,3 +1,4 @@
+pub mod First
 pub mod Client
 pub mod Frames
 pub mod Pump

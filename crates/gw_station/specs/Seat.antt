@@ -10,11 +10,11 @@ pub record Seat : Type 0 where
   pub spare : ℕ
 
 -- room is needed in a session alone
-abbrev pub Holds : ℕ → Stage → ℕ → Type 0
-Holds n Down spare = Unit {0}
-Holds n Stopped spare = Unit {0}
-Holds n Started spare = n ≤ spare
+abbrev pub IsSpare : ℕ → Stage → ℕ → Type 0
+IsSpare n Down spare = Unit {0}
+IsSpare n Stopped spare = Unit {0}
+IsSpare n Started spare = n ≤ spare
 
 -- room for n more news
 abbrev pub HasRoom : ℕ → Seat → Type 0
-HasRoom n seat = Holds n seat.client.stage seat.spare
+HasRoom n seat = IsSpare n seat.client.stage seat.spare

@@ -1,36 +1,93 @@
 //! Worked examples, computed by the definitions.
-ghost use Rattle.std.specs.Prelude.{◌≡◌, [], ◌∷◌, pos, Some, None};
-ghost use Rattle.iec_apci.specs.declared.apdu.Signal.TheVariants.{StartCon};
-ghost use Rattle.iec_apci.specs.Apdu.{Information, Unnumbered};
-ghost use Rattle.gw_station.specs.declared.client.Stage.TheVariants.{Down, Started};
+ghost use Rattle.std.specs.Prelude.{◌≡◌, [], ◌∷◌, pos, map, length, true, false, Some, None};
+ghost use Rattle.iec_apci.specs.declared.apdu.Apdu.TheVariants.{I, S, U};
+ghost use Rattle.iec_apci.specs.declared.apdu.Signal.TheVariants.{StartAct, StartCon, StopAct, StopCon, TestAct, TestCon};
+ghost use Rattle.iec_apci.specs.Apdu.{Information, Supervisory, Unnumbered};
+ghost use Rattle.iec_window.specs.Examples.{usual};
+ghost use Rattle.gw_station.specs.declared.client.Stage.TheVariants.{Down, Started, Stopped};
 ghost use Rattle.gw_station.specs.declared.event.Event.TheVariants.{Closed, Taken};
-ghost use Rattle.gw_station.specs.declared.event.Why.TheVariants.{Flooded};
-ghost use Rattle.gw_station.specs.Client.{client_with_news};
-ghost use Rattle.gw_station.specs.Frames.{client_after_apdu, event_of};
-ghost use Rattle.gw_station.specs.Pump.{client_after_pump, given};
-ghost use Rattle.gw_station.specs.Example.{asked, connected, start, started, switched_on, waiting};
+ghost use Rattle.gw_station.specs.declared.event.Why.TheVariants.{Flooded, Malformed, NotStarted, Sequence};
+ghost use Rattle.gw_station.specs.Client.{client_after_close, client_after_tick, client_after_up, client_down, client_with_news, is_timed_out};
+ghost use Rattle.gw_station.specs.Frames.{begins, client_after_apdu, close_of, event_of};
+ghost use Rattle.gw_station.specs.Pump.{given};
+ghost use Rattle.gw_station.specs.Example.{command, connected, cut, header_alone, narrow, narrow_full, pumped, started, switched_on, taking, tested, waiting};
 
-/// What is put out to a client that connects and starts, and when it is closed.
-pub fn client_by_example()
-    // Nothing before STARTDT act; its confirmation; and then what waits, with N(S) 0 and, of the next, 1.
-    ensures stopped { given (pos 0) 1 connected ≡ None }
-    ensures confirmation { given (pos 0) 1 (asked 1 connected) ≡ Some (Unnumbered StartCon) }
-    ensures nothing { given (pos 0) 1 started ≡ None }
-    ensures news { given (pos 0) 1 waiting
-        ≡ Some (Information 0 0 (1 ∷ 1 ∷ 3 ∷ 0 ∷ 1 ∷ 0 ∷ 0x05 ∷ 0x10 ∷ 0 ∷ 1 ∷ [])) }
-    ensures more_news { given (pos 0) 1 (client_with_news (switched_on ∷ []) (client_after_pump 0 waiting))
-        ≡ Some (Information 1 0 (1 ∷ 1 ∷ 3 ∷ 0 ∷ 1 ∷ 0 ∷ 0x05 ∷ 0x10 ∷ 0 ∷ 1 ∷ [])) }
-    // N(S) counts modulo 32,768.
-    ensures last_number { (client_after_pump 0 (record waiting { next_send = 32766 })).next_send ≡ 32767 }
-    ensures wraps { (client_after_pump 0 (record waiting { next_send = 32767 })).next_send ≡ 0 }
+/// STARTDT, STOPDT and TESTFR.
+pub fn control_functions()
+    // Nothing before STARTDT act; then its confirmation; then nothing, or what waits.
+    ensures stopped { given (pos 0) 1 0 connected ≡ None }
+    ensures confirmation { given (pos 0) 1 0 (taking 0 (U StartAct ∷ []) connected) ≡ Some (Unnumbered StartCon) }
+    ensures nothing { given (pos 0) 1 0 started ≡ None }
     // A second STARTDT act is confirmed before the news, and the session goes on.
-    ensures twice { given (pos 0) 1 (client_after_apdu 0 start waiting) ≡ Some (Unnumbered StartCon) }
-    ensures goes_on { (client_after_apdu 0 start waiting).queue ≡ switched_on ∷ [] }
+    ensures twice { given (pos 0) 1 0 (taking 0 (U StartAct ∷ []) waiting) ≡ Some (Unnumbered StartCon) }
+    ensures goes_on { (taking 0 (U StartAct ∷ []) waiting).queue ≡ switched_on ∷ [] }
+    ensures begins { map (begins (U StartAct)) (connected ∷ started ∷ tested 32 connected ∷ [])
+        ≡ true ∷ false ∷ false ∷ [] }
     // News that come before STARTDT act aren't kept.
     ensures unheard { (client_with_news (switched_on ∷ []) connected).queue ≡ [] }
+    // STOPDT act is confirmed and ends the session: what waits is gone, and its numbers go on. Without a session it is
+    // confirmed too.
+    ensures stop { given (pos 0) 1 0 (taking 0 (U StopAct ∷ []) waiting) ≡ Some (Unnumbered StopCon) }
+    ensures stops { (taking 0 (U StopAct ∷ []) waiting).queue ≡ [] }
+    ensures numbers { given (pos 0) 1 0 (client_with_news (switched_on ∷ [])
+        (pumped 0 2 (taking 0 (U StopAct ∷ U StartAct ∷ []) (pumped 0 1 waiting))))
+        ≡ Some (Information 1 0 (1 ∷ 1 ∷ 3 ∷ 0 ∷ 1 ∷ 0 ∷ 0x05 ∷ 0x10 ∷ 0 ∷ 1 ∷ [])) }
+    ensures not_started { (taking 0 (U StopAct ∷ []) connected).stage ≡ Stopped }
+    ensures stop_twice { given (pos 0) 1 0 (taking 0 (U StopAct ∷ []) connected) ≡ Some (Unnumbered StopCon) }
+    // Confirmations wait in order, over STOPDT too.
+    ensures in_order { (taking 0 (U TestAct ∷ U StopAct ∷ U StartAct ∷ []) started).confirmations
+        ≡ TestCon ∷ StopCon ∷ StartCon ∷ [] }
+    // Confirmations from the client are taken, and change nothing but t3.
+    ensures ignored { (taking 0 (U StartCon ∷ U StopCon ∷ U TestCon ∷ []) started) ≡ started }
     // 32 confirmations may wait.
-    ensures most { event_of start (asked 31 connected) ≡ Taken }
-    ensures stage { (asked 32 connected).stage ≡ Started }
-    ensures flooded { event_of start (asked 32 connected) ≡ Closed Flooded }
-    ensures closed { (asked 33 connected).stage ≡ Down }
+    ensures most { event_of (U TestAct) (tested 31 started) ≡ Taken }
+    ensures flooded { event_of (U TestAct) (tested 32 started) ≡ Closed Flooded }
+    ensures not_flooded { event_of (U TestCon) (tested 32 started) ≡ Taken }
+    ensures closed { (tested 33 started).stage ≡ Down }
+{}
+
+/// I and S formats.
+pub fn numbered_formats()
+    // News with N(S) 0, then 1; N(R) counts what came.
+    ensures news { given (pos 0) 1 0 waiting
+        ≡ Some (Information 0 0 (1 ∷ 1 ∷ 3 ∷ 0 ∷ 1 ∷ 0 ∷ 0x05 ∷ 0x10 ∷ 0 ∷ 1 ∷ [])) }
+    ensures more_news { given (pos 0) 1 0
+        (taking 0 (I 0 1 command ∷ []) (client_with_news (switched_on ∷ []) (pumped 0 1 waiting)))
+        ≡ Some (Information 1 1 (1 ∷ 1 ∷ 3 ∷ 0 ∷ 1 ∷ 0 ∷ 0x05 ∷ 0x10 ∷ 0 ∷ 1 ∷ [])) }
+    // An I format closes: without a session; with a wrong number; with fewer than 6 octets. In that order.
+    ensures first { close_of (I 1 1 cut) connected ≡ Some NotStarted }
+    ensures second { close_of (I 1 0 cut) started ≡ Some Sequence }
+    ensures second_receive { close_of (I 0 1 cut) started ≡ Some Sequence }
+    ensures third { close_of (I 0 0 cut) started ≡ Some Malformed }
+    ensures none { close_of (I 0 0 header_alone) started ≡ None }
+    ensures repeated { close_of (I 0 0 header_alone) (taking 0 (I 0 0 header_alone ∷ []) started) ≡ Some Sequence }
+    // An S format is judged by its number alone, started or not.
+    ensures receipt { close_of (S 0) connected ≡ None }
+    ensures beyond { close_of (S 1) connected ≡ Some Sequence }
+    ensures acknowledged { close_of (S 1) (pumped 0 1 waiting) ≡ None }
+    ensures closes { taking 0 (S 1 ∷ []) started ≡ client_after_close started }
+{}
+
+/// The windows k and w, and the timers.
+pub fn windows_and_timers()
+    // t3: TESTFR act once, before news; t1 runs from it, and ends by its confirmation.
+    ensures quiet { given (pos 0) 1 19999 started ≡ None }
+    ensures test { given (pos 0) 1 20000 waiting ≡ Some (Unnumbered TestAct) }
+    ensures test_once { given (pos 0) 1 20000 (pumped 20000 1 started) ≡ None }
+    ensures t1 { map (λ moment. is_timed_out moment (pumped 20000 1 started)) (34999 ∷ 35000 ∷ [])
+        ≡ false ∷ true ∷ [] }
+    ensures answered { is_timed_out 35000 (taking 34000 (U TestCon ∷ []) (pumped 20000 1 started)) ≡ false }
+    ensures unanswered { is_timed_out 35000 (taking 34000 (U TestAct ∷ []) (pumped 20000 1 started)) ≡ true }
+    ensures timer { (client_after_tick 35000 (pumped 20000 1 started)).stage ≡ Down }
+    ensures down { is_timed_out 35000 (client_after_close (pumped 20000 1 started)) ≡ false }
+    // k: two wait, so the third isn't put out; w: one I format isn't enough for an S format, but t2 is.
+    ensures full { map (λ moment. given (pos 0) 1 moment narrow_full) (0 ∷ 9999 ∷ 10000 ∷ [])
+        ≡ None ∷ None ∷ Some (Supervisory 1) ∷ [] }
+    ensures full_w { given (pos 0) 1 0 (taking 0 (I 1 0 command ∷ []) narrow_full) ≡ Some (Supervisory 2) }
+    ensures room { given (pos 0) 1 0 (taking 0 (S 1 ∷ []) narrow_full)
+        ≡ Some (Information 2 1 (1 ∷ 1 ∷ 3 ∷ 0 ∷ 1 ∷ 0 ∷ 0x05 ∷ 0x10 ∷ 0 ∷ 1 ∷ [])) }
+    ensures receipted { given (pos 0) 1 10000 (pumped 10000 1 narrow_full) ≡ None }
+    ensures runs_out { map (λ moment. is_timed_out moment narrow_full) (14999 ∷ 15000 ∷ []) ≡ false ∷ true ∷ [] }
+    // A connection begins with nothing of the one before.
+    ensures anew { client_after_up 0 (client_after_close narrow_full) ≡ client_after_up 0 narrow }
 {}

@@ -4,11 +4,12 @@
 mod apdu;
 mod client;
 mod event;
-mod examples;
+pub mod examples;
+mod sending;
 mod station;
 
-pub use apdu::{news_format, start_confirmation};
+pub use apdu::news_format;
 pub use client::Stage;
 pub use event::{Event, Why};
-pub use examples::client_by_example;
+pub use sending::Sending;
 pub use station::{Face, Station};

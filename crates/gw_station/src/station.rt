@@ -1,27 +1,31 @@
 //! What is known of one client.
-ghost use Rattle.std.specs.Prelude.{◌≡◌, ℕ, ◌+◌, [], ◌∷◌, length, option_map, OnOk};
+ghost use Rattle.std.specs.Prelude.{◌≡◌, ◌<◌, ◌+◌, ◌^◌, ℕ, [], ◌∷◌, length, nat_le, option_map, IfOk, IfSome, OnOk};
 ghost use Rattle.iec_apci.specs.Buffer.{buffer_of};
-ghost use Rattle.gw_station.specs.Client.{client_after_up, client_down, client_with_news, is_up};
-ghost use Rattle.gw_station.specs.Frames.{client_after_apdu, event_of};
-ghost use Rattle.gw_station.specs.Pump.{client_after_pump, given};
+ghost use Rattle.iec_window.specs.Counts.{sent_in_all};
+ghost use Rattle.gw_station.specs.Client.{client_after_close, client_after_tick, client_after_up, client_down, client_with_news, is_started, is_timed_out, is_up};
+ghost use Rattle.gw_station.specs.Frames.{begins, client_after_apdu, client_taking, client_with_session, client_with_signal, close_of, event_of};
+ghost use Rattle.gw_station.specs.Pump.{client_after_pump, client_with_sent, content_of, given, news_offered, offered, IsRoomy};
 ghost use Rattle.gw_station.specs.Seat.{HasRoom};
-ghost use Rattle.gw_station.specs.Example.{start};
+ghost use Rattle.iec_apci.specs.declared.apdu.Apdu.TheVariants as formats;
+ghost use Rattle.gw_station.specs.declared.sending.Sending.TheVariants as sendings;
 
-use crate::apdu::{news_format, start_confirmation};
+use crate::apdu::news_format;
 use crate::client::Stage;
 use crate::event::{Event, Why};
+use crate::sending::Sending;
 use gw_model::{Memory, Observation};
 use gw_time::Zone;
-use iec_apci::{Apdu, ApduBuf, Signal};
+use iec_apci::{Apdu, ApduBuf, Asdu, Signal};
+use iec_window::{Limits, Window};
 use std::alloc::Global;
 use std::collections::VecDeque;
 use std::marker::Model;
 
 /// How many confirmations of U formats may wait.
-const MOST_CONFIRMATIONS: u8 = 32;
+const MOST_CONFIRMATIONS: usize = 32;
 
-/// N(S) is counted modulo this (IEC 60870-5-104, 5.1).
-const NUMBERS: u16 = 32_768;
+/// How many octets the header of an ASDU has, which is the least that an I format carries (IEC 60870-5-101, 7.1).
+const HEADER_OCTETS: u8 = 6;
 
 /// What the station shows to every client.
 #[derive(Clone, Copy, Debug, PartialEq, Eq)]
@@ -36,16 +40,15 @@ pub struct Face {
 #[derive(Debug, Drop)]
 pub struct Station {
     stage: Stage,
-    /// STARTDT confirmations that wait.
-    confirmations: u8,
-    /// N(S) of the next I format.
-    next_send: u16,
+    window: Window,
+    /// Confirmations of U formats that wait, oldest first.
+    confirmations: VecDeque<Signal>,
     /// The news that aren't put out yet, oldest first.
     queue: VecDeque<Observation>,
 }
 
 impl Model for Station {
-    ghost use Rattle.std.specs.Prelude.{◌<◌, ◌-◌};
+    ghost use Rattle.std.specs.Prelude.{◌≤◌, ◌-◌, length};
     ghost use Rattle.std.specs.VecDeque.{deque_len, deque_capacity};
     ghost use Rattle.gw_station.specs.Seat.{Seat};
 
@@ -54,28 +57,32 @@ impl Model for Station {
     ghost view = { λ s. record {
       client = record {
         stage = s.stage;
-        confirmations = s.confirmations;
-        next_send = s.next_send;
+        window = s.window;
+        confirmations = s.confirmations.items;
         queue = s.queue.items;
         dropped = 0;
       };
       spare = deque_capacity s.queue - deque_len s.queue;
     } };
 
-    ghost invariant = { λ s. s.next_send < 32768 };
+    // There is room for 32 confirmations.
+    ghost invariant = { λ s. (length s.confirmations.items ≤ 32) × (32 ≤ deque_capacity s.confirmations) };
 }
 
 impl Station {
-    /// A client that is down.
-    pub fn new(alloc: Global) -> Station
-        ensures { result.client ≡ client_down }
+    /// A client that is down, with the parameters of its connections.
+    pub fn new(alloc: Global, limits: &Limits) -> Result<Station, Memory>
+        requires { limits.now.k < 32768 }
+        ensures { IfOk result (λ station. station.client ≡ client_down limits.now) }
     {
-        Station {
+        let window = Window::new(alloc, limits.k, limits.w, limits.t1, limits.t2, limits.t3)?;
+        let confirmations = VecDeque::with_capacity(alloc, MOST_CONFIRMATIONS)?;
+        Ok(Station {
             stage: Stage::Down,
-            confirmations: 0,
-            next_send: 0,
+            window,
+            confirmations,
             queue: VecDeque::new(alloc),
-        }
+        })
     }
 
     /// Whether the client is up.
@@ -102,42 +109,45 @@ impl Station {
     }
 
     /// The client connects at a moment, in milliseconds.
-    pub fn up(&mut self, _moment: u64)
-        ensures { self.new.client ≡ client_after_up _moment self.old.client }
+    pub fn up(&mut self, moment: u64)
+        ensures { self.new.client ≡ client_after_up moment self.old.client }
     {
         self.stage = Stage::Stopped;
-        self.confirmations = 0;
-        self.next_send = 0;
+        self.window.begin(moment);
+        self.confirmations.clear();
         self.queue.clear();
     }
 
-    /// Takes an APDU that came at a moment. STARTDT act alone is acted on so far; where its confirmation finds no
-    /// place the connection is closed.
-    pub fn frame(&mut self, apdu: &Apdu, _moment: u64) -> Event
-        ensures event { result ≡ event_of apdu.now self.old.client }
-        ensures client { self.new.client ≡ client_after_apdu _moment apdu.now self.old.client }
+    /// The connection is closed, or lost.
+    pub fn down(&mut self)
+        ensures { self.new.client ≡ client_after_close self.old.client }
+    {
+        self.stage = Stage::Down;
+        self.queue.clear();
+    }
+
+    /// Whether a session would begin by an APDU.
+    pub fn begins(&self, apdu: &Apdu) -> bool
+        ensures { result ≡ begins apdu.now self.now.client }
     {
         match apdu {
-            Apdu::U(Signal::StartAct) => self.start(_moment),
-            _ => Event::Taken,
+            Apdu::U(Signal::StartAct) => !self.is_started() && !self.is_full(),
+            _ => false,
         }
     }
 
-    /// Takes a STARTDT act.
-    fn start(&mut self, _moment: u64) -> Event
-        ensures event { result ≡ event_of start self.old.client }
-        ensures client { self.new.client ≡ client_after_apdu _moment start self.old.client }
+    /// Takes an APDU that came at a moment, or closes the connection. Of an I format only the numbers are acted on
+    /// so far.
+    pub fn frame(&mut self, apdu: &Apdu, moment: u64) -> Event
+        requires { self.old.client.window.received + 1 < 2 ^ 64 }
+        ensures event { result ≡ event_of apdu.now self.old.client }
+        ensures client { self.new.client ≡ client_after_apdu moment apdu.now self.old.client }
     {
-        if self.confirmations >= MOST_CONFIRMATIONS {
-            self.stage = Stage::Down;
-            self.queue.clear();
-            return Event::Closed(Why::Flooded);
+        if let Some(why) = self.close_by(apdu) {
+            self.down();
+            return Event::Closed(why);
         }
-        if self.stage != Stage::Started {
-            self.stage = Stage::Started;
-            self.queue.clear();
-        }
-        self.confirmations += 1;
+        self.take(apdu, moment);
         Event::Taken
     }
 
@@ -146,7 +156,10 @@ impl Station {
         ensures same { self.new.client ≡ self.old.client }
         ensures room { OnOk result (HasRoom news self.new) }
     {
-        Ok(self.queue.reserve(news)?)
+        if self.stage == Stage::Started {
+            self.queue.reserve(news)?;
+        }
+        Ok(())
     }
 
     /// Takes news, for which room was made.
@@ -160,22 +173,190 @@ impl Station {
         }
     }
 
-    /// The next APDU for the client: a confirmation that waits, then the oldest news.
-    pub fn pump(&mut self, face: &Face, _moment: u64) -> Option<ApduBuf>
+    /// The next APDU for the client at a moment: a confirmation that waits, TESTFR act where t3 has passed, the
+    /// oldest news where fewer than k I formats wait for their acknowledgement, an S format where one is due.
+    pub fn pump(&mut self, face: &Face, moment: u64) -> Option<ApduBuf>
+        requires { sent_in_all self.old.client.window + 1 < 2 ^ 64 }
         ensures apdu { result
-            ≡ option_map buffer_of (given face.now.zone.offset_minutes face.now.common_address self.old.client) }
-        ensures client { self.new.client ≡ client_after_pump _moment self.old.client }
+            ≡ option_map buffer_of (given face.now.zone.offset_minutes face.now.common_address moment self.old.client) }
+        ensures client { self.new.client ≡ client_after_pump moment self.old.client }
     {
-        if self.confirmations > 0 {
-            self.confirmations -= 1;
-            return Some(start_confirmation());
+        let sending = self.offered(moment)?;
+        Some(self.send(sending, face, moment))
+    }
+
+    /// Time has passed: whether the connection is closed, since t1 ran out.
+    pub fn tick(&mut self, moment: u64) -> bool
+        ensures closed { result ≡ is_timed_out moment self.old.client }
+        ensures client { self.new.client ≡ client_after_tick moment self.old.client }
+    {
+        let is_timed_out = self.is_up() && self.window.ran_out(moment);
+        if is_timed_out {
+            self.down();
         }
-        if self.stage != Stage::Started {
-            return None;
+        is_timed_out
+    }
+
+    fn is_started(&self) -> bool
+        ensures { result ≡ is_started self.now.client.stage }
+    {
+        self.stage == Stage::Started
+    }
+
+    /// Whether no further confirmation finds a place.
+    fn is_full(&self) -> bool
+        ensures { result ≡ nat_le 32 (length self.now.client.confirmations) }
+    {
+        self.confirmations.len() >= MOST_CONFIRMATIONS
+    }
+
+    /// Why an APDU closes the connection, if it does.
+    fn close_by(&self, apdu: &Apdu) -> Option<Why>
+        ensures { result ≡ close_of apdu.now self.now.client }
+    {
+        match apdu {
+            Apdu::I { ns, nr, asdu } => self.close_by_information(*ns, *nr, asdu),
+            Apdu::S { nr } => {
+                if self.window.is_right_receive(*nr) {
+                    None
+                } else {
+                    Some(Why::Sequence)
+                }
+            }
+            Apdu::U(signal) => {
+                if signal.confirmation().is_some() && self.is_full() {
+                    Some(Why::Flooded)
+                } else {
+                    None
+                }
+            }
         }
-        let news = self.queue.pop_front()?;
-        let apdu = news_format(self.next_send, face.common_address, &face.zone, &news);
-        self.next_send = (self.next_send + 1) % NUMBERS;
-        Some(apdu)
+    }
+
+    fn close_by_information(&self, ns: u16, nr: u16, asdu: &Asdu) -> Option<Why>
+        ensures { result ≡ close_of (formats.I ns nr asdu.now) self.now.client }
+    {
+        if !self.is_started() {
+            return Some(Why::NotStarted);
+        }
+        if !(self.window.is_right_send(ns) && self.window.is_right_receive(nr)) {
+            return Some(Why::Sequence);
+        }
+        if asdu.len < HEADER_OCTETS {
+            return Some(Why::Malformed);
+        }
+        None
+    }
+
+    /// Takes an APDU that doesn't close the connection.
+    fn take(&mut self, apdu: &Apdu, moment: u64)
+        requires open { close_of apdu.now self.old.client ≡ None }
+        requires count { self.old.client.window.received + 1 < 2 ^ 64 }
+        ensures { self.new.client ≡ client_taking moment apdu.now self.old.client }
+    {
+        match apdu {
+            // Both numbers were judged before.
+            Apdu::I { ns, nr, .. } => {
+                let _ = self.window.received(*ns, *nr, moment);
+            }
+            Apdu::S { nr } => {
+                let _ = self.window.acknowledged(*nr, moment);
+            }
+            Apdu::U(signal) => self.take_signal(*signal, moment),
+        }
+    }
+
+    /// Takes a control function, for whose confirmation there is a place.
+    fn take_signal(&mut self, signal: Signal, moment: u64)
+        requires { close_of (formats.U signal) self.old.client ≡ None }
+        ensures { self.new.client ≡ client_with_signal moment signal self.old.client }
+    {
+        match signal {
+            Signal::TestCon => self.window.test_confirmed(moment),
+            _ => self.window.heard(moment),
+        }
+        self.begin_or_end(signal);
+        if let Some(confirmation) = signal.confirmation() {
+            self.confirmations.push_back_reserved(confirmation);
+        }
+    }
+
+    /// Begins a session by STARTDT act where none stands, and ends it by STOPDT act.
+    fn begin_or_end(&mut self, signal: Signal)
+        ensures client { self.new.client ≡ client_with_session signal self.old.client }
+    {
+        match (signal, self.stage) {
+            (Signal::StartAct, Stage::Started) => {}
+            (Signal::StartAct, _) => {
+                self.stage = Stage::Started;
+                self.queue.clear();
+            }
+            (Signal::StopAct, Stage::Started) => {
+                self.stage = Stage::Stopped;
+                self.queue.clear();
+            }
+            _ => {}
+        }
+    }
+
+    /// What is put out next at a moment, if anything.
+    fn offered(&self, moment: u64) -> Option<Sending>
+        ensures sending { result ≡ offered moment self.now.client }
+        ensures room { IfSome result (IsRoomy self.now.client.window) }
+    {
+        if let Some(signal) = self.confirmations.front() {
+            return Some(Sending::Confirm(*signal));
+        }
+        if self.window.owes_test(moment) {
+            return Some(Sending::Test);
+        }
+        if let Some(news) = self.news_offered() {
+            return Some(Sending::News(news));
+        }
+        if self.window.owes_ack(moment) {
+            return Some(Sending::Receipt);
+        }
+        None
+    }
+
+    /// A started client's oldest news, where an I format may be sent.
+    fn news_offered(&self) -> Option<Observation>
+        ensures news { option_map sendings.News result ≡ news_offered self.now.client }
+        ensures room { IfSome result (λ news. IsRoomy self.now.client.window (sendings.News news)) }
+    {
+        if self.is_started() && self.window.may_send() {
+            self.queue.front().copied()
+        } else {
+            None
+        }
+    }
+
+    /// Puts out what is offered.
+    fn send(&mut self, sending: Sending, face: &Face, moment: u64) -> ApduBuf
+        requires room { IsRoomy self.old.client.window sending }
+        requires count { sent_in_all self.old.client.window + 1 < 2 ^ 64 }
+        ensures apdu { result ≡ buffer_of (content_of face.now.zone.offset_minutes face.now.common_address
+            self.old.client.window sending) }
+        ensures client { self.new.client ≡ client_with_sent moment sending self.old.client }
+    {
+        match sending {
+            Sending::Confirm(signal) => {
+                self.confirmations.pop_front();
+                ApduBuf::of(&Apdu::U(signal))
+            }
+            Sending::Test => {
+                self.window.test_sent(moment);
+                ApduBuf::of(&Apdu::U(Signal::TestAct))
+            }
+            Sending::News(news) => {
+                self.queue.pop_front();
+                let (ns, nr) = self.window.sent(moment);
+                news_format(ns, nr, face.common_address, &face.zone, &news)
+            }
+            Sending::Receipt => {
+                let nr = self.window.ack_sent();
+                ApduBuf::of(&Apdu::S { nr })
+            }
+        }
     }
 }

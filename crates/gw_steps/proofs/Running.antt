@@ -4,12 +4,13 @@ use Rattle.std.specs.Prelude.{replicate}
 use Rattle.std.specs.List.{AllByRecursion}
 use Rattle.std.proofs.lemmas.List.{length-take, take_more, take_all}
 use Rattle.gw_map.specs.Settings.{Setup}
+use Rattle.iec_window.specs.declared.limits.Limits.{Limits}
 use Rattle.gw_station.specs.Client.{client_down}
 use Rattle.gw_station.specs.Sound.{IsSoundClient}
 use Rattle.gw_steps.specs.declared.step.Step.{Step}
 use Rattle.gw_steps.specs.declared.step.Reply.{Reply}
 use Rattle.gw_steps.specs.declared.step.StepFault.{StepFault}
-use Rattle.gw_steps.specs.State.{State, at_first, client_limit}
+use Rattle.gw_steps.specs.State.{State, at_first, client_limit, limits_of}
 use Rattle.gw_steps.specs.Steps.{Allowed}
 use Rattle.gw_steps.specs.Runs.{Entry, history, state_after, IsRun, AtEach}
 use Rattle.gw_steps.specs.Sound.{IsSound, LeavesSound}
@@ -25,12 +26,12 @@ pub record Ran (setup : Setup) (past : List Entry) (s : State) : Type 0 where
 
 -- ---- at first
 
-all_down : (offset : ℤ) (n : ℕ) → AllByRecursion (IsSoundClient offset) (replicate n client_down)
-all_down offset zero = tt
-all_down offset (suc n) = (tt, all_down offset n)
+all_down : (offset : ℤ) (limits : Limits) (n : ℕ) → AllByRecursion (IsSoundClient offset 0) (replicate n (client_down limits))
+all_down offset limits zero = tt
+all_down offset limits (suc n) = (record { sendable = tt; received = omega arith; sent = omega arith }, all_down offset limits n)
 
 pub sound_first : (setup : Setup) → IsSound setup.station.offset_minutes (at_first setup)
-sound_first setup = all_down setup.station.offset_minutes client_limit
+sound_first setup = all_down setup.station.offset_minutes (limits_of setup.station) client_limit
 
 pub ran_first : (setup : Setup) → Ran setup [] (at_first setup)
 ran_first setup = record { run = tt; state = refl; sound = sound_first setup }

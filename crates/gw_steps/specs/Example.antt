@@ -102,7 +102,17 @@ starts (suc n) = start ∷ starts n
 
 -- the state with other counts
 abbrev pub counting : ℕ → ℕ → State → State
-counting n news s = record s { counts = record { steps = n; news = news } }
+counting n news s = record s { counts = record { steps = n; news = news; sessions = 1 } }
+
+-- the state after so many sessions
+abbrev pub beginning : ℕ → State → State
+beginning n s = record s { counts = record s.counts { sessions = n } }
+
+-- clients 0 and 2 are started, and the event was put out to both
+abbrev pub two_clients : List Step
+two_clients =
+    outstation_up ∷ connect ∷ start ∷ pump ∷ steps.ClientUp 2 0 ∷ steps.Frame 2 (U StartAct) 0 ∷ steps.Pump 2 0
+    ∷ fragment_of event ∷ pump ∷ steps.Pump 2 0 ∷ []
 
 -- the last count of 64 bits
 abbrev pub last_count : ℕ

@@ -1,5 +1,5 @@
 -- The step relation: what a step answers where memory is never refused, and the state after it, by cases on the step.
-use Rattle.std.specs.Prelude.{◌≡◌, ℕ, ◌+◌, ◌^◌, Bool, true, false, ◌&&◌, nat_lt, List, [], length, map, slice_get, Option, Some, None, option_map, Result, Ok, Err, IsTrue, if◌then◌else◌}
+use Rattle.std.specs.Prelude.{◌≡◌, ℕ, ◌+◌, ◌*◌, ◌^◌, Bool, true, false, ◌&&◌, nat_lt, List, [], ◌∷◌, length, map, slice_get, Option, Some, None, option_map, Result, Ok, Err, IsTrue, if◌then◌else◌}
 use Rattle.gw_model.specs.declared.observation.Observation.{Observation}
 use Rattle.gw_map.specs.Settings.{Setup}
 use Rattle.gw_model.specs.Places.{change}
@@ -7,14 +7,15 @@ use Rattle.dnp_app.specs.Response.{Fragment}
 use Rattle.dnp_app.specs.declared.request.Request.{Request}
 use Rattle.dnp_master.specs.Master.{Master, master_down, master_after_up, master_after_next, master_after_tick, request_given}
 use Rattle.dnp_master.specs.Fragments.{accepts, verdict_of, master_after_fragment}
+use Rattle.iec_apci.specs.declared.apdu.Apdu.{Apdu}
 use Rattle.iec_apci.specs.Apdu.{Content}
 use Rattle.iec_apci.specs.Buffer.{buffer_of}
 use Rattle.gw_picture.specs.Picture.{news_of, picture_after}
 use Rattle.gw_picture.specs.Loss.{losses_of, picture_after_loss}
 use Rattle.gw_station.specs.declared.event.Event.{Event}
 use Rattle.gw_station.specs.declared.event.Event.TheVariants as events
-use Rattle.gw_station.specs.Client.{Client, is_up, client_after_up, client_with_news}
-use Rattle.gw_station.specs.Frames.{event_of, client_after_apdu}
+use Rattle.gw_station.specs.Client.{Client, is_up, is_timed_out, client_after_up, client_after_close, client_with_news, client_after_tick}
+use Rattle.gw_station.specs.Frames.{event_of, client_after_apdu, begins}
 use Rattle.gw_station.specs.Pump.{given, client_after_pump}
 use Rattle.gw_steps.specs.declared.step.Step.{Step}
 use Rattle.gw_steps.specs.declared.step.Step.TheVariants as steps
@@ -51,6 +52,7 @@ fault_of s (steps.OutstationDown o moment) = fault_unless_up NoOutstation (outst
 fault_of s (steps.Fragment f moment) = fault_unless_up NoOutstation (outstation_up s f.outstation)
 fault_of s (steps.Poll o moment wall) = fault_unless_up NoOutstation (outstation_up s o)
 fault_of s (steps.ClientUp c moment) = fault_unless_down NoClient (client_up s c)
+fault_of s (steps.ClientDown c moment) = fault_unless_up NoClient (client_up s c)
 fault_of s (steps.Frame c apdu moment) = fault_unless_up NoClient (client_up s c)
 fault_of s (steps.Pump c moment) = fault_unless_up NoClient (client_up s c)
 fault_of s (steps.Tick moment) = None
@@ -74,6 +76,19 @@ news_of_fragment setup s f =
 abbrev pub losses : Setup → State → ℕ → List Observation
 losses setup s o = losses_of o setup.rows s.picture
 
+-- an APDU begins a session of its client
+abbrev pub begun_by : Apdu → Option Client → Bool
+begun_by apdu None = false
+begun_by apdu (Some k) = begins apdu k
+
+abbrev pub is_beginning : State → ℕ → Apdu → Bool
+is_beginning s c apdu = begun_by apdu (slice_get s.clients c)
+
+-- one where it is so
+abbrev pub one_if : Bool → ℕ
+one_if true = 1
+one_if false = 0
+
 -- memory may be wanted, and by how much the counts rise
 pub record Needs : Type 0 where
   pub memory : Bool
@@ -82,19 +97,30 @@ pub record Needs : Type 0 where
 abbrev pub needs : Setup → State → Step → Needs
 needs setup s (steps.Fragment f moment) = record {
   memory = is_accepting s f;
-  counts = record { steps = 1; news = length (news_of_fragment setup s f) };
+  counts = record { steps = 1; news = length (news_of_fragment setup s f); sessions = 0 };
 }
 needs setup s (steps.OutstationDown o moment) = record {
   memory = nat_lt 0 (length (losses setup s o));
-  counts = record { steps = 1; news = length (losses setup s o) };
+  counts = record { steps = 1; news = length (losses setup s o); sessions = 0 };
 }
-needs setup s _ = record { memory = false; counts = record { steps = 1; news = 0 } }
+needs setup s (steps.Frame c apdu moment) = record {
+  memory = false;
+  counts = record { steps = 1; news = 0; sessions = one_if (is_beginning s c apdu) };
+}
+needs setup s _ = record { memory = false; counts = record { steps = 1; news = 0; sessions = 0 } }
 
 abbrev pub can_rise : Counts → Counts → Bool
-can_rise counts more = nat_lt (counts.steps + more.steps) (2 ^ 64) && nat_lt (counts.news + more.news) (2 ^ 64)
+can_rise counts more =
+    nat_lt (counts.steps + more.steps) (2 ^ 64)
+    && nat_lt (counts.news + more.news) (2 ^ 64)
+    && nat_lt (counts.sessions + more.sessions) (2 ^ 64)
 
 abbrev pub raised : Counts → Counts → Counts
-raised counts more = record { steps = counts.steps + more.steps; news = counts.news + more.news }
+raised counts more = record {
+  steps = counts.steps + more.steps;
+  news = counts.news + more.news;
+  sessions = counts.sessions + more.sessions;
+}
 
 -- ---- the answer
 
@@ -127,19 +153,27 @@ abbrev pub reply_giving : Option Content → Reply
 reply_giving None = replies.Nothing
 reply_giving (Some content) = replies.Apdu (buffer_of content)
 
+-- a bit for each, the lowest for the first
+abbrev pub bits_of : List Bool → ℕ
+bits_of [] = 0
+bits_of (b ∷ bs) = one_if b + 2 * bits_of bs
+
 abbrev pub reply_to : Setup → State → Step → Reply
 reply_to setup s (steps.OutstationUp o moment) = replies.Done
 reply_to setup s (steps.OutstationDown o moment) = replies.Done
 reply_to setup s (steps.Poll o moment wall) =
     outstation_reply (λ m. reply_asking (request_given (latest s moment) wall m)) (slice_get s.outstations o)
-reply_to setup s (steps.Tick moment) = replies.Ticked 0
+reply_to setup s (steps.Tick moment) = replies.Ticked (bits_of (map (is_timed_out (latest s moment)) s.clients))
 reply_to setup s (steps.Fragment f moment) =
     outstation_reply (λ m. replies.Verdict (verdict_of m f)) (slice_get s.outstations f.outstation)
 reply_to setup s (steps.ClientUp c moment) = replies.Done
+reply_to setup s (steps.ClientDown c moment) = replies.Done
 reply_to setup s (steps.Frame c apdu moment) =
     client_reply (λ k. reply_of_event (event_of apdu k)) (slice_get s.clients c)
 reply_to setup s (steps.Pump c moment) =
-    client_reply (λ k. reply_giving (given setup.station.offset_minutes setup.station.common_address k)) (slice_get s.clients c)
+    client_reply
+    (λ k. reply_giving (given setup.station.offset_minutes setup.station.common_address (latest s moment) k))
+    (slice_get s.clients c)
 
 -- a fault, or the reply where the counts can rise
 abbrev pub answer : Option StepFault → Bool → Reply → Result Reply StepFault
@@ -157,6 +191,7 @@ moment_of (steps.OutstationDown o moment) = moment
 moment_of (steps.Fragment f moment) = moment
 moment_of (steps.Poll o moment wall) = moment
 moment_of (steps.ClientUp c moment) = moment
+moment_of (steps.ClientDown c moment) = moment
 moment_of (steps.Frame c apdu moment) = moment
 moment_of (steps.Pump c moment) = moment
 moment_of (steps.Tick moment) = moment
@@ -184,10 +219,14 @@ parts_after setup s moment (steps.OutstationUp o _) =
 parts_after setup s moment (steps.OutstationDown o _) = parts_after_loss setup s o
 parts_after setup s moment (steps.Poll o _ wall) =
     record s { outstations = change o (master_after_next moment wall) s.outstations }
-parts_after setup s moment (steps.Tick _) = record s { outstations = map (master_after_tick moment) s.outstations }
+parts_after setup s moment (steps.Tick _) = record s {
+  outstations = map (master_after_tick moment) s.outstations;
+  clients = map (client_after_tick moment) s.clients;
+}
 parts_after setup s moment (steps.Fragment f _) =
     if is_accepting s f then parts_after_fragment setup s moment f else s
 parts_after setup s moment (steps.ClientUp c _) = record s { clients = change c (client_after_up moment) s.clients }
+parts_after setup s moment (steps.ClientDown c _) = record s { clients = change c client_after_close s.clients }
 parts_after setup s moment (steps.Frame c apdu _) =
     record s { clients = change c (client_after_apdu moment apdu) s.clients }
 parts_after setup s moment (steps.Pump c _) = record s { clients = change c (client_after_pump moment) s.clients }

@@ -8,17 +8,17 @@ ghost use Rattle.dnp_master.specs.declared.verdict.Ignored.TheVariants.{NoReques
 ghost use Rattle.gw_station.specs.declared.event.Why.TheVariants.{Flooded};
 ghost use Rattle.dnp_app.specs.Requests.{read_octets, request};
 ghost use Rattle.iec_apci.specs.Buffer.{buffer};
-ghost use Rattle.iec_apci.specs.declared.apdu.Apdu.TheVariants.{U};
+ghost use Rattle.iec_apci.specs.declared.apdu.Apdu.TheVariants.{S, U};
 ghost use Rattle.iec_apci.specs.declared.apdu.Signal.TheVariants.{StartAct};
 ghost use Rattle.gw_steps.specs.State.{at_first};
 ghost use Rattle.gw_steps.specs.Steps.{outcome};
-ghost use Rattle.gw_steps.specs.Example.{after_steps, ahead, connect, counting, event, fragment_of, integrity_answer, last_count, next_reading, outstation_down, outstation_up, poll, pump, reached, reading, returned, setup, solicited, start, started, starting, starts, timed};
+ghost use Rattle.gw_steps.specs.Example.{after_steps, ahead, beginning, connect, counting, event, fragment_of, integrity_answer, last_count, next_reading, outstation_down, outstation_up, poll, pump, reached, reading, returned, setup, solicited, start, started, starting, starts, timed, two_clients};
 
 /// Replies to single steps, with faults before them.
 pub fn replies_by_example()
     // Before anything is up.
     ensures no_outstation { outcome setup (at_first setup) (steps.OutstationUp 1 0) ≡ Err NoOutstation }
-    ensures no_client { outcome setup (at_first setup) (steps.Pump 1 0) ≡ Err NoClient }
+    ensures no_client { outcome setup (at_first setup) (steps.Pump 8 0) ≡ Err NoClient }
     ensures not_up { outcome setup (at_first setup) (fragment_of event) ≡ Err NotUp }
     ensures client_down { outcome setup (at_first setup) pump ≡ Err NotUp }
     ensures poll_down { outcome setup (at_first setup) poll ≡ Err NotUp }
@@ -40,12 +40,25 @@ pub fn replies_by_example()
         outstation_down ≡ Err Spent }
     ensures nothing_lost { outcome setup (counting 0 last_count (reached started)) outstation_down ≡ Ok replies.Done }
     ensures last_tick { outcome setup (counting last_count 0 (reached started)) (steps.Tick 0) ≡ Err Spent }
-    ensures fault_first { outcome setup (counting last_count 0 (reached started)) (steps.Pump 1 0) ≡ Err NoClient }
+    ensures last_session { outcome setup (beginning last_count (reached (connect ∷ []))) start ≡ Err Spent }
+    ensures session_goes_on { outcome setup (beginning last_count (reached started)) start ≡ Ok replies.Taken }
+    ensures fault_first { outcome setup (counting last_count 0 (reached started)) (steps.Pump 8 0) ≡ Err NoClient }
     // 32 confirmations may wait; a further STARTDT act closes the connection, and the client may connect again.
     ensures most { outcome setup (reached (connect ∷ starts 31)) start ≡ Ok replies.Taken }
     ensures flooded { outcome setup (reached (connect ∷ starts 32)) start ≡ Ok (replies.Closed Flooded) }
     ensures closed { outcome setup (reached (connect ∷ starts 33)) pump ≡ Err NotUp }
     ensures again { outcome setup (reached (connect ∷ starts 33)) connect ≡ Ok replies.Done }
+    // A connection that is lost, or closed since t1 ran out; the others stay.
+    ensures lost { outcome setup (reached (starting ++ steps.ClientDown 0 0 ∷ [])) pump ≡ Err NotUp }
+    ensures lost_twice { outcome setup (reached (connect ∷ steps.ClientDown 0 0 ∷ [])) (steps.ClientDown 0 0)
+        ≡ Err NotUp }
+    ensures eighth { outcome setup (at_first setup) (steps.ClientUp 7 0) ≡ Ok replies.Done }
+    ensures ninth { outcome setup (at_first setup) (steps.ClientUp 8 0) ≡ Err NoClient }
+    ensures in_time { outcome setup (reached two_clients) (steps.Tick 14999) ≡ Ok (replies.Ticked 0) }
+    ensures run_out { outcome setup (reached two_clients) (steps.Tick 15000) ≡ Ok (replies.Ticked 5) }
+    ensures one_runs_out { outcome setup (reached (two_clients ++ steps.Frame 0 (S 1) 0 ∷ [])) (steps.Tick 15000)
+        ≡ Ok (replies.Ticked 4) }
+    ensures timer { outcome setup (reached (two_clients ++ steps.Tick 15000 ∷ [])) (steps.Pump 2 15000) ≡ Err NotUp }
     // A moment before an earlier one counts as that one.
     ensures moment { (reached (steps.ClientUp 0 9 ∷ steps.Frame 0 (U StartAct) 5 ∷ [])).moment ≡ 9 }
     ensures later_moment { (reached (steps.ClientUp 0 9 ∷ steps.Frame 0 (U StartAct) 12 ∷ [])).moment ≡ 12 }

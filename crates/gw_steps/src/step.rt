@@ -35,7 +35,12 @@ pub enum Step {
         client: u8,
         moment: u64,
     },
-    /// A client sent an APDU. Only STARTDT act is acted on so far.
+    /// The connection to a client is lost.
+    ClientDown {
+        client: u8,
+        moment: u64,
+    },
+    /// A client sent an APDU. Of I formats only the numbers are acted on so far.
     Frame {
         client: u8,
         apdu: Apdu,
@@ -55,7 +60,7 @@ pub enum Step {
 /// The reply to a step.
 #[derive(Clone, Copy, Debug, PartialEq, Eq)]
 pub enum Reply {
-    /// The outstation or client is up now, or the outstation is down.
+    /// The outstation or client is up now, or down.
     Done,
     /// What became of a fragment.
     Verdict(Verdict),
@@ -86,6 +91,6 @@ pub enum StepFault {
     AlreadyUp = 4,
     /// Memory ran out.
     Memory = 5,
-    /// A 64-bit count of steps or news can't rise by what the step needs.
+    /// A 64-bit count of steps, news or sessions can't rise by what the step needs.
     Spent = 6,
 }

@@ -5,7 +5,7 @@ use dnp_app::read_response;
 use gw_hub::{Apdu, ApduBuf, Hub, Reply, Signal, Step, StepFault, Verdict};
 use gw_map::{DEFAULT_SETTINGS, Settings};
 use gw_model::{Observation, Quality, Stamp, Value};
-use gw_station::{news_format, start_confirmation};
+use gw_station::{Why, news_format};
 use gw_time::Zone;
 use std::process::Abort;
 use std::test::Fail;
@@ -51,7 +51,11 @@ const PICTURE: &[Observation] = &[
 fn news_of_on(ns: u16) -> ApduBuf
     requires { ns < 32768 }
 {
-    news_format(ns, 1, &Zone::UTC, &ON)
+    news_format(ns, 0, 1, &Zone::UTC, &ON)
+}
+
+fn start_confirmation() -> ApduBuf {
+    ApduBuf::of(&Apdu::U(Signal::StartCon))
 }
 
 fn check_apdu(rt: &impl Abort, apdu: &ApduBuf, octets: &[u8]) {
@@ -112,29 +116,24 @@ fn begun(rt: &impl AllocGlobal) -> Result<Vec<Step>, Fail> {
     Ok(steps)
 }
 
-/// The hub replies so to a step.
-fn check_step(rt: &impl Abort, hub: &mut Hub, step: &Step, reply: Reply) {
-    assert_eq!(rt; hub.step(step), Ok(reply));
-}
-
-/// Only STARTDT act is acted on so far: any other APDU is taken and changes nothing.
+/// The numbers by which a log names the causes of a close.
 #[test]
-fn other_apdus_change_nothing(rt: HostRuntime) -> Result<(), Fail> {
-    let settings = Settings::read(rt.alloc(), DEFAULT_SETTINGS)?;
-    let mut hub = Hub::new(rt.alloc(), settings)?;
-    check_step(&rt, &mut hub, &client_up(0), Reply::Done);
-    for apdu in [Apdu::U(Signal::TestAct), Apdu::S { nr: 7 }] {
-        check_step(&rt, &mut hub, &frame(0, apdu), Reply::Taken);
-    }
-    check_step(&rt, &mut hub, &pump(0), Reply::Nothing);
-    Ok(())
+fn causes_are_numbered(rt: HostRuntime) {
+    let causes = [
+        Why::Sequence,
+        Why::NotStarted,
+        Why::Malformed,
+        Why::Flooded,
+        Why::Timer,
+    ];
+    assert_eq!(rt; causes.map(|why| why as u8), [1, 2, 3, 4, 5]);
 }
 
 /// The session begins, an event comes, and three APDUs are asked for, the last for a client that isn't there.
 fn steps_of_an_event(rt: &impl AllocGlobal) -> Result<Vec<Step>, Fail> {
     let mut steps = begun(rt)?;
     steps.push(fragment(rt, &EVENT)?)?;
-    for client in [0, 0, 1] {
+    for client in [0, 0, 8] {
         steps.push(pump(client))?;
     }
     Ok(steps)

@@ -1,5 +1,5 @@
 -- APDUs as they are transmitted (IEC 60870-5-104, clause 5).
-use Rattle.std.specs.Prelude.{ℕ, ◌*◌, ◌/◌, ◌%◌, ◌<◌, ◌≤◌, List, [], ◌∷◌, ◌++◌, length}
+use Rattle.std.specs.Prelude.{ℕ, ◌*◌, ◌/◌, ◌%◌, ◌<◌, ◌≤◌, List, [], ◌∷◌, ◌++◌, length, Option, Some, None}
 use Rattle.iec_apci.specs.declared.apdu.Signal.{Signal}
 use Rattle.iec_apci.specs.declared.apdu.Signal.TheVariants.{StartAct, StartCon, StopAct, StopCon, TestAct, TestCon}
 
@@ -17,6 +17,15 @@ code_of StopAct = 0x13
 code_of StopCon = 0x23
 code_of TestAct = 0x43
 code_of TestCon = 0x83
+
+-- the con that confirms an act
+abbrev pub confirmation_of : Signal → Option Signal
+confirmation_of StartAct = Some StartCon
+confirmation_of StartCon = None
+confirmation_of StopAct = Some StopCon
+confirmation_of StopCon = None
+confirmation_of TestAct = Some TestCon
+confirmation_of TestCon = None
 
 -- two octets, the low one first
 abbrev pub word : ℕ → List ℕ

@@ -1,5 +1,6 @@
 //! APDUs as values.
 ghost use Rattle.std.specs.Prelude.{◌≡◌, ◌+◌, ◌≤◌, take};
+ghost use Rattle.iec_apci.specs.Apdu.{confirmation_of};
 
 /// A function of the U format (IEC 60870-5-104, 5.2 and 5.3), numbered by its first control octet.
 #[derive(Clone, Copy, Debug, PartialEq, Eq)]
@@ -16,6 +17,20 @@ pub enum Signal {
     TestAct = 0x43,
     /// TESTFR con.
     TestCon = 0x83,
+}
+
+impl Signal {
+    /// The con that confirms an act; none where this is a con.
+    pub fn confirmation(self) -> Option<Signal>
+        ensures { result ≡ confirmation_of self }
+    {
+        match self {
+            Signal::StartAct => Some(Signal::StartCon),
+            Signal::StopAct => Some(Signal::StopCon),
+            Signal::TestAct => Some(Signal::TestCon),
+            Signal::StartCon | Signal::StopCon | Signal::TestCon => None,
+        }
+    }
 }
 
 /// An ASDU, whatever it means: 0 to 249 octets.

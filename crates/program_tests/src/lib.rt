@@ -13,6 +13,8 @@ mod polls;
 #[cfg(test)]
 mod replay;
 #[cfg(test)]
+mod sessions;
+#[cfg(test)]
 mod text;
 #[cfg(test)]
 mod translator;

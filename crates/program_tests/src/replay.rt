@@ -1,7 +1,9 @@
 //! Tests of gw_replay.
 use gw_hub::{Reply, Step, StepFault, Why};
 use gw_map::{DEFAULT_SETTINGS, Settings};
-use gw_replay::{Instruction, push_reply, read_instruction, replay};
+use gw_replay::{
+    ApciFault, Instruction, Refusal, push_reply, read_instruction, replay, write_refused,
+};
 use std::process::Abort;
 use std::test::Fail;
 
@@ -60,8 +62,8 @@ const REPLAYS: &[(&str, &str, u8)] = &[
     ),
     // Each fault, in its order; a fault is no refusal.
     (
-        "up 1 0\npump 1 0\npump 0 0\nfrag 0 0 C0 81 00 00\nup 0 0\nup 0 0\nopen 0 0\nopen 0 0\n\
-         frame 1 0 68 04 07 00 00 00\nqueue 255\n",
+        "up 1 0\npump 8 0\npump 0 0\nfrag 0 0 C0 81 00 00\nup 0 0\nup 0 0\nopen 0 0\nopen 0 0\n\
+         frame 8 0 68 04 07 00 00 00\nqueue 255\n",
         "fault 1 NoOutstation\nfault 2 NoClient\nfault 3 NotUp\nfault 3 NotUp\nok\nfault 4 AlreadyUp\n\
          ok\nfault 4 AlreadyUp\nfault 2 NoClient\nqueued 0 dropped 0\n",
         0,
@@ -84,9 +86,9 @@ const REPLAYS: &[(&str, &str, u8)] = &[
         "ok\nrefused line 4\n",
         1,
     ),
-    // Other octets than those of STARTDT act.
+    // A digit that is none, behind octets that are no APDU.
     (
-        "open 0 0\nframe 0 0 68 04 43 00 00 00\nopen 0 0\n",
+        "open 0 0\nframe 0 0 69 0G\nopen 0 0\n",
         "ok\nrefused line 2\n",
         1,
     ),
@@ -105,7 +107,12 @@ fn replays(rt: HostRuntime) -> Result<(), Fail> {
 
 /// Lines that are refused.
 const OTHER_LINES: &[&str] = &[
-    "close 0 0",
+    "shut 0 0",
+    "close",
+    "close 0",
+    "close 0 ",
+    "close 0 0 0",
+    "close 256 0",
     "down 0",
     "poll 0 0",
     "poll 0 0 0 0",
@@ -127,6 +134,11 @@ const OTHER_LINES: &[&str] = &[
     "frag 0 0 ",
     "frag 0 0 C0 8",
     "frame 0 0",
+    "frame 0 0 ",
+    "frame 0 0 6",
+    "frame 0 0 68 0",
+    "frame 0 0 68  04 07 00 00 00",
+    "frame 256 0 68 04 07 00 00 00",
     "queue",
     "queue 0 ",
     "queue 256",
@@ -203,14 +215,26 @@ fn told(rt: &impl AllocGlobal, replies: &[Result<Reply, StepFault>]) -> Result<V
 #[test]
 fn replies_are_told_with_ample_memory(rt: HostRuntime) -> Result<(), Fail> {
     let replies = [
-        Ok(Reply::Closed(Why::Flooded)),
+        Ok(Reply::Closed(Why::Timer)),
         Ok(Reply::Ticked { closed: 0x91 }),
         Err(StepFault::Memory),
         Err(StepFault::Spent),
     ];
     let text = told(&rt, &replies)?;
-    let want = b"closed Flooded\nticked 0 4 7\nfault 5 Memory\nfault 6 Spent\n";
+    let want = b"closed Timer\nticked 0 4 7\nfault 5 Memory\nfault 6 Spent\n";
     assert_eq!(rt; text.as_slice(), want.as_slice());
+    Ok(())
+}
+
+/// The words of a refused frame are those that its fault is shown with.
+#[test]
+fn refusals_of_frames(rt: HostRuntime) -> Result<(), Fail> {
+    for fault in [ApciFault::Start, ApciFault::Length, ApciFault::Control] {
+        let mut output = Vec::new(rt.alloc());
+        write_refused(&mut output, Refusal::Frame(fault))?;
+        let shown = format!(in rt.alloc(); "refused apci {fault}\n")?;
+        assert_eq!(rt; output.as_slice(), shown.as_str().as_bytes());
+    }
     Ok(())
 }
 

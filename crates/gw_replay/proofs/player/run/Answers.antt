@@ -1,4 +1,4 @@
-use Rattle.std.proofs.Common.{◌≡◌, Bool, not, IfSome, ap, subst, sym}
+use Rattle.std.proofs.Common.{Bool, not, IfSome, subst, sym}
 use Rattle.gw_replay.specs.Place.{Place}
 use Rattle.gw_replay.specs.Replay.{AnswersInput, AnswersLine}
 use Rattle.gw_input.specs.Lines.{IsAnswered}

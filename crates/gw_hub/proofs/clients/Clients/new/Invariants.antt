@@ -6,4 +6,4 @@ use Rattle.gw_hub.specs.Clients.{clients_of}
 use Rattle.gw_hub.proofs.clients.Clients.new.Given as goal
 
 abbrev pub invariant-loop : goal.invariant-loop
-invariant-loop l = clients_of l.stations.items ≡ replicate l.counter client_down
+invariant-loop l = clients_of l.stations.items ≡ replicate l.counter (client_down l.limits)

@@ -4,7 +4,7 @@ use Rattle.gw_steps.specs.Sound.{IsSound}
 use Rattle.gw_steps.specs.Steps.{Allowed}
 use Rattle.gw_steps.specs.Runs.{history}
 use Rattle.gw_steps.proofs.Running.{Ran, run_on, run_all}
-use Rattle.gw_news.proofs.EachPlace.{tells_news, confirms_taken, numbers_in_order}
+use Rattle.gw_news.proofs.EachPlace.{tells_news, confirms_taken, right_numbers}
 use Rattle.gw_hub.proofs.hub.Hub.run.Goals as goal
 
 pub loop-step-preserved : goal.loop-step-preserved
@@ -27,16 +27,40 @@ pub returns-clause-news : goal.returns-clause-news
 returns-clause-news c =
     let ran : Ran c.args.settings (history [] c.args.steps.items c.loop-step.replies.items) c.loop-step.hub.state =
     run_all c.args.settings c.args.steps.items c.loop-step.replies.items c.loop-step.step-index c.loop-step.hub.state (omega (arith, c.loop-step.auto, c.loop-step-test.false)) c.loop-step.invariant.2 in
-    tells_news c.args.settings _ c.new.ensures.settings.0 (omega (arith, c.new.ensures.settings.1.common_address.1)) ran.run ran.sound
+    tells_news c.args.settings _ (record {
+      settings = record {
+        addresses = c.new.ensures.settings.0;
+        station = omega (arith, c.new.ensures.settings.1.common_address.1);
+        window = omega (arith, c.new.ensures.settings.1.k.1);
+      };
+      run = ran.run;
+      sound = ran.sound;
+    })
 
 pub returns-clause-confirms : goal.returns-clause-confirms
 returns-clause-confirms c =
     let ran : Ran c.args.settings (history [] c.args.steps.items c.loop-step.replies.items) c.loop-step.hub.state =
     run_all c.args.settings c.args.steps.items c.loop-step.replies.items c.loop-step.step-index c.loop-step.hub.state (omega (arith, c.loop-step.auto, c.loop-step-test.false)) c.loop-step.invariant.2 in
-    confirms_taken c.args.settings _ c.new.ensures.settings.0 (omega (arith, c.new.ensures.settings.1.common_address.1)) ran.run ran.sound
+    confirms_taken c.args.settings _ (record {
+      settings = record {
+        addresses = c.new.ensures.settings.0;
+        station = omega (arith, c.new.ensures.settings.1.common_address.1);
+        window = omega (arith, c.new.ensures.settings.1.k.1);
+      };
+      run = ran.run;
+      sound = ran.sound;
+    })
 
 pub returns-clause-numbers : goal.returns-clause-numbers
 returns-clause-numbers c =
     let ran : Ran c.args.settings (history [] c.args.steps.items c.loop-step.replies.items) c.loop-step.hub.state =
     run_all c.args.settings c.args.steps.items c.loop-step.replies.items c.loop-step.step-index c.loop-step.hub.state (omega (arith, c.loop-step.auto, c.loop-step-test.false)) c.loop-step.invariant.2 in
-    numbers_in_order c.args.settings _ c.new.ensures.settings.0 (omega (arith, c.new.ensures.settings.1.common_address.1)) ran.run ran.sound
+    right_numbers c.args.settings _ (record {
+      settings = record {
+        addresses = c.new.ensures.settings.0;
+        station = omega (arith, c.new.ensures.settings.1.common_address.1);
+        window = omega (arith, c.new.ensures.settings.1.k.1);
+      };
+      run = ran.run;
+      sound = ran.sound;
+    })

@@ -1,0 +1,43 @@
+//! Octets that make no step.
+ghost use Rattle.std.specs.Prelude.{◌≡◌, OnOk};
+ghost use Rattle.std.specs.Io.KnownBytes.{Appends};
+ghost use Rattle.gw_replay.specs.Refusals.{apci_line, refused_line};
+
+use dnp_app::AppFault;
+use gw_text::write_refusal;
+use iec_apci::ApciFault;
+use std::io::{self, Write};
+
+/// Why octets make no step.
+#[derive(Clone, Copy, Debug, PartialEq, Eq)]
+pub enum Refusal {
+    /// Those of a fragment are no response.
+    Fragment(AppFault),
+    /// Those of a frame don't begin with an APDU.
+    Frame(ApciFault),
+    /// Those of a frame end before an APDU does, or go on behind it.
+    Partial,
+}
+
+/// Writes the line of octets that make no step.
+pub fn write_refused<W: Write>(writer: &mut W, refusal: Refusal) -> io::Result<()>
+    ensures { OnOk result
+        (Appends (W.contents writer.old) (W.contents writer.new) (refused_line refusal)) }
+{
+    match refusal {
+        Refusal::Fragment(fault) => write_refusal(writer, fault),
+        Refusal::Frame(fault) => writer.write_all(apci_line(fault)),
+        Refusal::Partial => writer.write_all(b"refused apci 0 Partial\n"),
+    }
+}
+
+/// The line of octets that don't begin with an APDU.
+fn apci_line(fault: ApciFault) -> &'static [u8]
+    ensures { result.now ≡ apci_line fault }
+{
+    match fault {
+        ApciFault::Start => b"refused apci 1 Start\n",
+        ApciFault::Length => b"refused apci 2 Length\n",
+        ApciFault::Control => b"refused apci 3 Control\n",
+    }
+}
