@@ -1,5 +1,5 @@
 pub mod Places
-pub mod Seats
+pub mod Walks
 pub mod Taking
 pub mod Losing
 pub mod Bits

@@ -7,10 +7,9 @@ use Rattle.gw_entries.specs.declared.row.Row.{Row}
 use Rattle.gw_picture.specs.Loss.{losses_at, losses_of, picture_after_loss, picture_losing_at}
 use Rattle.gw_picture.proofs.Losses.{loss_next, shown_next, losses_end, shown_end}
 use Rattle.gw_station.specs.Client.{Client, client_with_news}
-use Rattle.gw_station.specs.Seat.{Seat, HasRoom}
-use Rattle.gw_station.specs.Sound.{IsSendable}
+use Rattle.gw_station.specs.Sound.{IsSendable, CanTake}
 use Rattle.gw_station.proofs.Sounds.{sendable-append}
-use Rattle.gw_hub.proofs.Taking.{map_came-twice, map_came-nil, room_same, room_at_least}
+use Rattle.gw_hub.proofs.Taking.{map_came-twice, map_came-nil, can_same, can_fewer}
 
 -- what the rows from a place on still lose
 abbrev pub rest_of : ℕ → List Row → ℕ → List Observation → List Observation
@@ -42,30 +41,29 @@ left_behind offset o rows n picture new cs changed all last final within left en
     } in
     subst (λ (q : List Observation). LeftToLose offset o rows (n + 1) q changed all last final) (sym en) on
 
-pub left_at_last : (offset : ℤ) (o : ℕ) (rows : List Row) (n : ℕ) (picture : List Observation) (cs : List Client) (all last : List Observation) (final : List Client)
-    → length picture ≤ n → LeftToLose offset o rows n picture cs all last final
+pub left_at_last : (offset : ℤ) (o : ℕ) (rows : List Row) (n m : ℕ) (picture : List Observation) (cs : List Client) (all last : List Observation) (final : List Client)
+    → length picture ≤ n → AllByRecursion (CanTake m) cs → LeftToLose offset o rows n picture cs all last final
     → (picture ≡ last) × (cs ≡ final) × AllByRecursion (IsSendable offset) all
-left_at_last offset o rows n picture cs all last final past left =
+left_at_last offset o rows n m picture cs all last final past can left =
     let none : rest_of o rows n picture ≡ [] = losses_end o rows picture n past in (
       sym (shown_end o rows picture n past) ∙ left.shown,
-      map_came-nil cs ∙ (ap (λ (xs : List Observation). map (client_with_news xs) cs) (sym none) ∙ left.clients_left),
+      map_came-nil m cs can ∙ (ap (λ (xs : List Observation). map (client_with_news xs) cs) (sym none) ∙ left.clients_left),
       left.sendable (subst (AllByRecursion (IsSendable offset)) (sym none) tt),
     )
 
--- ---- room
+-- ---- how many more can come
 
--- room for the rest is room for the losses of this row, and for those behind it
+-- where the rest can come, the losses of this row can, and those behind it
 rest_length : (o : ℕ) (rows : List Row) (n : ℕ) (picture : List Observation) → n < length picture
     → length (rest_of o rows n picture) ≡ length (rest_of o rows (n + 1) (picture_losing_at o rows picture n)) + length (losses_at o rows picture n)
 rest_length o rows n picture within =
     omega (arith, ap length (loss_next o rows picture n within), length-append (losses_at o rows picture n) (rest_of o rows (n + 1) (picture_losing_at o rows picture n)))
 
-pub room_apart : (o : ℕ) (rows : List Row) (n : ℕ) (picture : List Observation) (seats : List Seat) → n < length picture
-    → AllByRecursion (HasRoom (length (rest_of o rows n picture))) seats
-    → AllByRecursion (HasRoom (length (rest_of o rows (n + 1) (picture_losing_at o rows picture n)) + length (losses_at o rows picture n))) seats
-room_apart o rows n picture seats within all = room_same _ _ seats (rest_length o rows n picture within) all
+pub can_apart : (o : ℕ) (rows : List Row) (n : ℕ) (picture : List Observation) (cs : List Client) → n < length picture
+    → AllByRecursion (CanTake (length (rest_of o rows n picture))) cs
+    → AllByRecursion (CanTake (length (rest_of o rows (n + 1) (picture_losing_at o rows picture n)) + length (losses_at o rows picture n))) cs
+can_apart o rows n picture cs within all = can_same _ _ cs (rest_length o rows n picture within) all
 
-pub room_for_row : (o : ℕ) (rows : List Row) (n : ℕ) (picture : List Observation) (seats : List Seat) → n < length picture
-    → AllByRecursion (HasRoom (length (rest_of o rows n picture))) seats → AllByRecursion (HasRoom (length (losses_at o rows picture n))) seats
-room_for_row o rows n picture seats within all =
-    room_at_least (length (rest_of o rows (n + 1) (picture_losing_at o rows picture n))) (length (losses_at o rows picture n)) seats (room_apart o rows n picture seats within all)
+pub can_for_row : (o : ℕ) (rows : List Row) (n : ℕ) (picture : List Observation) (cs : List Client) → n < length picture
+    → AllByRecursion (CanTake (length (rest_of o rows n picture))) cs → AllByRecursion (CanTake (length (losses_at o rows picture n))) cs
+can_for_row o rows n picture cs within all = can_fewer _ _ cs (omega (arith, rest_length o rows n picture within)) all

@@ -29,9 +29,7 @@ map-end f [] y = refl
 map-end f (x ∷ xs) y = ap (λ (zs : List _). f x ∷ zs) (map-end f xs y)
 
 -- one more of them at the end
-pub one_more : {A B : Type 0} (f : A → B) (n m : ℕ) (x : B) (y : A) (ys more : List A) → m ≡ n + 1 → more ≡ ys ++ y ∷ [] → f y ≡ x
-    → map f ys ≡ replicate n x → map f more ≡ replicate m x
-one_more f n m x y ys more next push is so_far =
+pub one_more : {A : Type 0} (n m : ℕ) (x y : A) (ys more : List A) → m ≡ n + 1 → more ≡ ys ++ y ∷ [] → y ≡ x → ys ≡ replicate n x → more ≡ replicate m x
+one_more n m x y ys more next push is so_far =
     let e : m ≡ suc n = omega (arith, next) in
-    ap (map f) push ∙ (map-end f ys y ∙ (ap (λ (zs : List _). zs ++ f y ∷ []) so_far
-    ∙ (ap (λ (z : _). replicate n x ++ z ∷ []) is ∙ sym (ap (λ (k : ℕ). replicate k x) e ∙ replicate_suc n x))))
+    push ∙ (ap (λ (zs : List _). zs ++ y ∷ []) so_far ∙ (ap (λ (z : _). replicate n x ++ z ∷ []) is ∙ sym (ap (λ (k : ℕ). replicate k x) e ∙ replicate_suc n x)))

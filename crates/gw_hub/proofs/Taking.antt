@@ -4,109 +4,84 @@ use Rattle.std.proofs.lemmas.Bool.{ltb-true}
 use Rattle.gw_steps.specs.State.{Counts}
 use Rattle.gw_steps.specs.Steps.{can_rise}
 use Rattle.gw_hub.specs.Hub.{step_with}
-use Rattle.std.proofs.Common.{◌≡◌, Bool, true, false, ltb, ℕ, ℤ, zero, suc, ◌+◌, ◌^◌, ◌<◌, ◌≤◌, List, [], ◌∷◌, ◌++◌, map, length, refl, sym, ap, subst, ◌∙◌, append_assoc, arith}
+use Rattle.std.proofs.Common.{◌≡◌, Bool, true, false, ltb, ℕ, ℤ, zero, suc, ◌+◌, ◌^◌, ◌<◌, ◌≤◌, List, [], ◌∷◌, ◌++◌, map, length, refl, sym, ap, subst, ◌∙◌, arith}
 use Rattle.std.specs.List.{AllByRecursion}
-use Rattle.std.proofs.lemmas.List.{append-nil, length-append}
+use Rattle.std.proofs.lemmas.List.{length-append}
 use Rattle.gw_model.specs.declared.observation.Observation.{Observation}
 use Rattle.gw_entries.specs.declared.row.Row.{Row}
 use Rattle.gw_model.specs.declared.point.Report.{Report}
 use Rattle.gw_model.specs.Places.{change}
 use Rattle.gw_picture.specs.Picture.{news_of, news_of_report, picture_after_report, picture_after}
-use Rattle.gw_station.specs.declared.client.Stage.{Stage}
-use Rattle.gw_station.specs.declared.client.Stage.TheVariants.{Down, Stopped, Started}
-use Rattle.gw_station.specs.Client.{Client, queue_with, client_with_news}
-use Rattle.gw_station.specs.Seat.{Seat, IsSpare, HasRoom}
-use Rattle.gw_station.specs.Sound.{IsSendable, IsSoundClient}
+use Rattle.gw_station.specs.Client.{Client, client_with_news}
+use Rattle.gw_station.specs.Sound.{IsSendable, IsSoundClient, CanTake}
+use Rattle.gw_station.proofs.Queues.{came-nil, came-twice}
 use Rattle.gw_station.proofs.Sounds.{sendable-append, sound_later, sound_with_news}
 use Rattle.gw_hub.specs.Clients.{CanCount}
 
 -- ---- news that come one after the other
 
-queue-nil : (stage : Stage) (queue : List Observation) → queue ≡ queue_with [] stage queue
-queue-nil Down queue = refl
-queue-nil Stopped queue = refl
-queue-nil Started queue = sym (append-nil queue)
-
-came-nil : (c : Client) → c ≡ client_with_news [] c
-came-nil c = ap (λ (q : List Observation). record c { queue = q }) (queue-nil c.stage c.queue)
-
-pub map_came-nil : (cs : List Client) → cs ≡ map (client_with_news []) cs
-map_came-nil [] = refl
-map_came-nil (c ∷ cs) = let one = came-nil c in let rest = map_came-nil cs in cc
-
 -- no news change nothing
-pub came_none : (xs : List Observation) (cs : List Client) → [] ≡ xs → cs ≡ map (client_with_news xs) cs
-came_none xs cs e = subst (λ (ys : List Observation). cs ≡ map (client_with_news ys) cs) e (map_came-nil cs)
+pub map_came-nil : (n : ℕ) (cs : List Client) → AllByRecursion (CanTake n) cs → cs ≡ map (client_with_news []) cs
+map_came-nil n [] all = refl
+map_came-nil n (c ∷ cs) all = let one = sym (came-nil c all.0.few) in let rest = map_came-nil n cs all.1 in cc
 
-queue-twice : (xs ys : List Observation) (stage : Stage) (queue : List Observation) → queue_with ys stage (queue_with xs stage queue) ≡ queue_with (xs ++ ys) stage queue
-queue-twice xs ys Down queue = refl
-queue-twice xs ys Stopped queue = refl
-queue-twice xs ys Started queue = append_assoc queue xs ys
-
-came-twice : (xs ys : List Observation) (c : Client) → client_with_news ys (client_with_news xs c) ≡ client_with_news (xs ++ ys) c
-came-twice xs ys c = ap (λ (q : List Observation). record c { queue = q }) (queue-twice xs ys c.stage c.queue)
+pub came_none : (n : ℕ) (xs : List Observation) (cs : List Client) → [] ≡ xs → AllByRecursion (CanTake n) cs → cs ≡ map (client_with_news xs) cs
+came_none n xs cs e all = subst (λ (ys : List Observation). cs ≡ map (client_with_news ys) cs) e (map_came-nil n cs all)
 
 pub map_came-twice : (xs ys : List Observation) (cs : List Client) → map (client_with_news ys) (map (client_with_news xs) cs) ≡ map (client_with_news (xs ++ ys)) cs
 map_came-twice xs ys [] = refl
 map_came-twice xs ys (c ∷ cs) = let one = came-twice xs ys c in let rest = map_came-twice xs ys cs in cc
 
--- ---- room
+-- ---- how many more can come
 
-less_room : (n : ℕ) (stage : Stage) (spare : ℕ) → IsSpare (n + 1) stage spare → IsSpare n stage spare
-less_room n Down spare room = tt
-less_room n Stopped spare room = tt
-less_room n Started spare room = omega (arith, room)
+pub can_same : (m n : ℕ) (cs : List Client) → m ≡ n → AllByRecursion (CanTake m) cs → AllByRecursion (CanTake n) cs
+can_same m n cs e all = subst (λ (k : ℕ). AllByRecursion (CanTake k) cs) e all
 
-pub room_less : (n : ℕ) (seats : List Seat) → AllByRecursion (HasRoom (n + 1)) seats → AllByRecursion (HasRoom n) seats
-room_less n [] all = tt
-room_less n (seat ∷ seats) all = (less_room n seat.client.stage seat.spare all.0, room_less n seats all.1)
-
-pub room_same : (m n : ℕ) (seats : List Seat) → m ≡ n → AllByRecursion (HasRoom m) seats → AllByRecursion (HasRoom n) seats
-room_same m n seats e all = subst (λ (k : ℕ). AllByRecursion (HasRoom k) seats) e all
-
-pub room_at_least : (n m : ℕ) (seats : List Seat) → AllByRecursion (HasRoom (n + m)) seats → AllByRecursion (HasRoom m) seats
-room_at_least zero m seats all = room_same (0 + m) m seats (omega arith) all
-room_at_least (suc n) m seats all = room_at_least n m seats (room_less (n + m) seats (room_same (suc n + m) (n + m + 1) seats (omega arith) all))
+pub can_fewer : (m n : ℕ) (cs : List Client) → n ≤ m → AllByRecursion (CanTake m) cs → AllByRecursion (CanTake n) cs
+can_fewer m n [] le all = tt
+can_fewer m n (c ∷ cs) le all = (record { count = omega (arith, le, all.0.count); few = all.0.few }, can_fewer m n cs le all.1)
 
 -- ---- what every client keeps
 
--- more steps were made
-pub sound_more : (offset : ℤ) (n m : ℕ) (cs : List Client) → n ≤ m → AllByRecursion (IsSoundClient offset n) cs → AllByRecursion (IsSoundClient offset m) cs
-sound_more offset n m [] le all = tt
-sound_more offset n m (c ∷ cs) le all = (sound_later offset n m c le all.0, sound_more offset n m cs le all.1)
+-- more steps were made, and more news came
+pub sound_more : (offset : ℤ) (n m i j : ℕ) (cs : List Client) → n ≤ m → i ≤ j → AllByRecursion (IsSoundClient offset n i) cs → AllByRecursion (IsSoundClient offset m j) cs
+sound_more offset n m i j [] le few all = tt
+sound_more offset n m i j (c ∷ cs) le few all = (sound_later offset n m i j c le few all.0, sound_more offset n m i j cs le few all.1)
 
-change_sound : (offset : ℤ) (n m i : ℕ) (f : Client → Client) (cs : List Client) → n ≤ m → ((c : Client) → IsSoundClient offset n c → IsSoundClient offset m (f c))
-    → AllByRecursion (IsSoundClient offset n) cs → AllByRecursion (IsSoundClient offset m) (change i f cs)
-change_sound offset n m i f [] le keeps all = tt
-change_sound offset n m zero f (c ∷ cs) le keeps all = (keeps c all.0, sound_more offset n m cs le all.1)
-change_sound offset n m (suc i) f (c ∷ cs) le keeps all = (sound_later offset n m c le all.0, change_sound offset n m i f cs le keeps all.1)
+change_sound : (offset : ℤ) (n m i p : ℕ) (f : Client → Client) (cs : List Client) → n ≤ m → ((c : Client) → IsSoundClient offset n i c → IsSoundClient offset m i (f c))
+    → AllByRecursion (IsSoundClient offset n i) cs → AllByRecursion (IsSoundClient offset m i) (change p f cs)
+change_sound offset n m i p f [] le keeps all = tt
+change_sound offset n m i zero f (c ∷ cs) le keeps all = (keeps c all.0, sound_more offset n m i i cs le (omega arith) all.1)
+change_sound offset n m i (suc p) f (c ∷ cs) le keeps all = (sound_later offset n m i i c le (omega arith) all.0, change_sound offset n m i p f cs le keeps all.1)
 
 -- one client changed
-pub sound_change_here : (offset : ℤ) (n i : ℕ) (f : Client → Client) (cs changed : List Client) → changed ≡ change i f cs
-    → ((c : Client) → IsSoundClient offset n c → IsSoundClient offset n (f c)) → AllByRecursion (IsSoundClient offset n) cs → AllByRecursion (IsSoundClient offset n) changed
-sound_change_here offset n i f cs changed e keeps all = subst (AllByRecursion (IsSoundClient offset n)) (sym e) (change_sound offset n n i f cs (omega arith) keeps all)
+pub sound_change_here : (offset : ℤ) (n i p : ℕ) (f : Client → Client) (cs changed : List Client) → changed ≡ change p f cs
+    → ((c : Client) → IsSoundClient offset n i c → IsSoundClient offset n i (f c)) → AllByRecursion (IsSoundClient offset n i) cs → AllByRecursion (IsSoundClient offset n i) changed
+sound_change_here offset n i p f cs changed e keeps all = subst (AllByRecursion (IsSoundClient offset n i)) (sym e) (change_sound offset n n i p f cs (omega arith) keeps all)
 
 -- one client changed in a step
-pub sound_change : (offset : ℤ) (n m i : ℕ) (f : Client → Client) (cs changed : List Client) → changed ≡ change i f cs → m ≡ n + 1
-    → ((c : Client) → IsSoundClient offset n c → IsSoundClient offset (n + 1) (f c)) → AllByRecursion (IsSoundClient offset n) cs → AllByRecursion (IsSoundClient offset m) changed
-sound_change offset n m i f cs changed e one keeps all =
-    subst (λ (k : ℕ). AllByRecursion (IsSoundClient offset k) changed) (sym one)
-    (subst (AllByRecursion (IsSoundClient offset (n + 1))) (sym e) (change_sound offset n (n + 1) i f cs (omega arith) keeps all))
+pub sound_change : (offset : ℤ) (n m i j p : ℕ) (f : Client → Client) (cs changed : List Client) → changed ≡ change p f cs → m ≡ n + 1 → i ≤ j
+    → ((c : Client) → IsSoundClient offset n i c → IsSoundClient offset (n + 1) i (f c)) → AllByRecursion (IsSoundClient offset n i) cs → AllByRecursion (IsSoundClient offset m j) changed
+sound_change offset n m i j p f cs changed e one few keeps all =
+    sound_more offset (n + 1) m i j changed (omega (arith, one)) few
+    (subst (AllByRecursion (IsSoundClient offset (n + 1) i)) (sym e) (change_sound offset n (n + 1) i p f cs (omega arith) keeps all))
 
-map_sound : (offset : ℤ) (n : ℕ) (f : Client → Client) (cs : List Client) → ((c : Client) → IsSoundClient offset n c → IsSoundClient offset n (f c))
-    → AllByRecursion (IsSoundClient offset n) cs → AllByRecursion (IsSoundClient offset n) (map f cs)
-map_sound offset n f [] keeps all = tt
-map_sound offset n f (c ∷ cs) keeps all = (keeps c all.0, map_sound offset n f cs keeps all.1)
+map_sound : (offset : ℤ) (n i j : ℕ) (f : Client → Client) (cs : List Client) → ((c : Client) → IsSoundClient offset n i c → IsSoundClient offset n j (f c))
+    → AllByRecursion (IsSoundClient offset n i) cs → AllByRecursion (IsSoundClient offset n j) (map f cs)
+map_sound offset n i j f [] keeps all = tt
+map_sound offset n i j f (c ∷ cs) keeps all = (keeps c all.0, map_sound offset n i j f cs keeps all.1)
 
 -- every client changed
-pub sound_changed : (offset : ℤ) (n : ℕ) (f : Client → Client) (cs changed : List Client) → changed ≡ map f cs
-    → ((c : Client) → IsSoundClient offset n c → IsSoundClient offset n (f c)) → AllByRecursion (IsSoundClient offset n) cs → AllByRecursion (IsSoundClient offset n) changed
-sound_changed offset n f cs changed e keeps all = subst (AllByRecursion (IsSoundClient offset n)) (sym e) (map_sound offset n f cs keeps all)
+pub sound_changed : (offset : ℤ) (n i j : ℕ) (f : Client → Client) (cs changed : List Client) → changed ≡ map f cs
+    → ((c : Client) → IsSoundClient offset n i c → IsSoundClient offset n j (f c)) → AllByRecursion (IsSoundClient offset n i) cs → AllByRecursion (IsSoundClient offset n j) changed
+sound_changed offset n i j f cs changed e keeps all = subst (AllByRecursion (IsSoundClient offset n j)) (sym e) (map_sound offset n i j f cs keeps all)
 
--- news came to every client
-pub sound_came : (offset : ℤ) (n : ℕ) (xs : List Observation) (cs changed : List Client) → changed ≡ map (client_with_news xs) cs → AllByRecursion (IsSendable offset) xs
-    → AllByRecursion (IsSoundClient offset n) cs → AllByRecursion (IsSoundClient offset n) changed
-sound_came offset n xs cs changed e sends all = sound_changed offset n (client_with_news xs) cs changed e (λ c sound. sound_with_news offset n xs c sends sound) all
+-- news came to every client in a step
+pub sound_came : (offset : ℤ) (n m i j : ℕ) (xs : List Observation) (cs changed : List Client) → changed ≡ map (client_with_news xs) cs → AllByRecursion (IsSendable offset) xs
+    → n ≤ m → i + length xs ≤ j → AllByRecursion (IsSoundClient offset n i) cs → AllByRecursion (IsSoundClient offset m j) changed
+sound_came offset n m i j xs cs changed e sends le few all =
+    sound_more offset n m (i + length xs) j changed le few
+    (sound_changed offset n i (i + length xs) (client_with_news xs) cs changed e (λ c sound. sound_with_news offset n i xs c sends sound) all)
 
 -- counts that can rise can rise by a step
 pub can_rise_step : (counts : Counts) (news sessions : ℕ) → can_rise counts (step_with news sessions) ≡ true → counts.steps + 1 < 2 ^ 64
@@ -119,10 +94,26 @@ can_rise_step counts news sessions e =
     first true b e = refl
     first false b e = absurd cc
 
+-- and by the news
+pub can_rise_news : (counts : Counts) (news sessions : ℕ) → can_rise counts (step_with news sessions) ≡ true → counts.news + news < 2 ^ 64
+can_rise_news counts news sessions e =
+    ltb-true (counts.news + news) (2 ^ 64)
+    (middle (ltb (counts.steps + 1) (2 ^ 64)) (ltb (counts.news + news) (2 ^ 64)) (ltb (counts.sessions + sessions) (2 ^ 64)) e)
+  where
+    middle : (a b c : Bool) → a && b && c ≡ true → b ≡ true
+    middle true true c e = refl
+    middle true false c e = absurd cc
+    middle false b c e = absurd cc
+
 -- where one step more can be counted, each client's I formats can
-pub counts_can : (offset : ℤ) (n : ℕ) (cs : List Client) → n + 1 < 2 ^ 64 → AllByRecursion (IsSoundClient offset n) cs → AllByRecursion CanCount cs
-counts_can offset n [] lt all = tt
-counts_can offset n (c ∷ cs) lt all = (record { received = omega (arith, lt, all.0.received); sent = omega (arith, lt, all.0.sent) }, counts_can offset n cs lt all.1)
+pub counts_can : (offset : ℤ) (n i : ℕ) (cs : List Client) → n + 1 < 2 ^ 64 → AllByRecursion (IsSoundClient offset n i) cs → AllByRecursion CanCount cs
+counts_can offset n i [] lt all = tt
+counts_can offset n i (c ∷ cs) lt all = (record { received = omega (arith, lt, all.0.received); sent = omega (arith, lt, all.0.sent) }, counts_can offset n i cs lt all.1)
+
+-- where so many news more can be counted, each client can take them
+pub news_can : (offset : ℤ) (n i news : ℕ) (cs : List Client) → i + news < 2 ^ 64 → AllByRecursion (IsSoundClient offset n i) cs → AllByRecursion (CanTake news) cs
+news_can offset n i news [] lt all = tt
+news_can offset n i news (c ∷ cs) lt all = (record { count = omega (arith, lt, all.0.dropped); few = all.0.few }, news_can offset n i news cs lt all.1)
 
 -- ---- what is left to take
 
@@ -153,9 +144,16 @@ left_more offset rows n m picture new r now rest cs changed all last final left 
     } in
     subst (λ (p : List Observation). Left offset rows (n + m) p rest changed all last final) (sym en) on
 
-pub left_none : (offset : ℤ) (rows : List Row) (n : ℕ) (picture : List Observation) (rest : List Report) (cs : List Client) (all last : List Observation) (final : List Client)
-    → rest ≡ [] → Left offset rows n picture rest cs all last final
+pub left_none : (offset : ℤ) (rows : List Row) (n m : ℕ) (picture : List Observation) (rest : List Report) (cs : List Client) (all last : List Observation) (final : List Client)
+    → rest ≡ [] → AllByRecursion (CanTake m) cs → Left offset rows n picture rest cs all last final
     → (n ≡ length all) × (picture ≡ last) × (cs ≡ final) × AllByRecursion (IsSendable offset) all
-left_none offset rows n picture rest cs all last final e left =
+left_none offset rows n m picture rest cs all last final e can left =
     let here : Left offset rows n picture [] cs all last final = subst (λ (rs : List Report). Left offset rows n picture rs cs all last final) e left in
-    (omega (arith, here.count), here.shown, map_came-nil cs ∙ here.clients_left, here.sendable tt)
+    (omega (arith, here.count), here.shown, map_came-nil m cs can ∙ here.clients_left, here.sendable tt)
+
+-- the first of the reports brings no more than all of them, and the others the rest
+pub rest_length : (offset : ℤ) (rows : List Row) (picture : List Observation) (r : Report) (now rest : List Report) → now ≡ r ∷ rest
+    → length (news_of offset rows picture now) ≡ length (news_of offset rows (picture_after_report offset rows picture r) rest) + length (news_of_report offset rows picture r)
+rest_length offset rows picture r now rest e =
+    ap (λ (rs : List Report). length (news_of offset rows picture rs)) e
+    ∙ omega (arith, length-append (news_of_report offset rows picture r) (news_of offset rows (picture_after_report offset rows picture r) rest))

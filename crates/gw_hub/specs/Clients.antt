@@ -1,5 +1,5 @@
--- The stations of all clients.
-use Rattle.std.specs.Prelude.{ℕ, ℤ, ◌+◌, ◌^◌, ◌<◌, List, map, length, Option, Some, None, Result, Ok, Err}
+-- What the clients of the hub are asked.
+use Rattle.std.specs.Prelude.{ℕ, ℤ, ◌+◌, ◌^◌, ◌<◌, length, Option, Some, None, Result, Ok, Err}
 use Rattle.iec_apci.specs.declared.apdu.Apdu.{Apdu}
 use Rattle.iec_window.specs.Counts.{sent_in_all}
 use Rattle.gw_station.specs.Client.{Client}
@@ -7,15 +7,7 @@ use Rattle.gw_station.specs.Frames.{event_of}
 use Rattle.gw_station.specs.Pump.{given}
 use Rattle.gw_steps.specs.declared.step.Reply.{Reply}
 use Rattle.gw_steps.specs.Steps.{client_reply, reply_giving, reply_of_event}
-use Rattle.gw_station.specs.Seat.{Seat}
 use Rattle.gw_steps.specs.declared.step.StepFault.{StepFault}
-
--- the client of a station
-abbrev pub client_of : Seat → Client
-client_of seat = seat.client
-
-abbrev pub clients_of : List Seat → List Client
-clients_of seats = map client_of seats
 
 -- the reply to an APDU, and to a pump of a station whose clocks are offset minutes ahead of UTC
 abbrev pub reply_to_apdu : Apdu → Option Client → Reply

@@ -1,5 +1,5 @@
 -- The hub, as its contracts see it: the settings that it runs with, and its state.
-use Rattle.std.specs.Prelude.{◌≡◌, ℕ, ◌+◌, ◌^◌, ◌<◌, Bool, true, false, List, length, Result}
+use Rattle.std.specs.Prelude.{◌≡◌, ℕ, ◌+◌, ◌^◌, ◌<◌, Bool, List, length, Result}
 use Rattle.std.specs.List.{AllByRecursion}
 use Rattle.gw_model.specs.declared.point.Report.{Report}
 use Rattle.gw_map.specs.Settings.{Setup}
@@ -10,7 +10,6 @@ use Rattle.gw_station.specs.Sound.{IsSoundClient}
 use Rattle.gw_steps.specs.declared.step.Step.{Step}
 use Rattle.gw_steps.specs.declared.step.Reply.{Reply}
 use Rattle.gw_steps.specs.declared.step.StepFault.{StepFault}
-use Rattle.gw_steps.specs.declared.step.StepFault.TheVariants.{Memory, Spent}
 use Rattle.gw_steps.specs.State.{State, Counts}
 use Rattle.gw_steps.specs.Steps.{Allowed, can_rise, raised, latest, parts_after_fragment}
 
@@ -41,21 +40,20 @@ news_among hub reports = length (news_of_all hub.setup hub.state.picture reports
 abbrev pub can_take : Hub → List Report → Bool
 can_take hub reports = can_rise hub.state.counts (step_with (news_among hub reports) 0)
 
--- they can rise by a step without news, with so many sessions that begin
-abbrev pub can_count : ℕ → Hub → Bool
-can_count sessions hub = can_rise hub.state.counts (step_with 0 sessions)
+-- they can rise by a step that brings no news and begins no session
+abbrev pub can_count : Hub → Bool
+can_count hub = can_rise hub.state.counts (step_with 0 0)
 
--- a step with so many sessions that begin was counted at a moment
-abbrev pub state_counting : ℕ → ℕ → State → State
-state_counting sessions moment s =
-    record s { counts = raised s.counts (step_with 0 sessions); moment = latest s moment }
+-- such a step was counted at a moment
+abbrev pub state_counting : ℕ → State → State
+state_counting moment s = record s { counts = raised s.counts (step_with 0 0); moment = latest s moment }
 
 -- a step was counted; no client had more I formats than there were steps before
 pub record IsCounted (hub : Hub) : Type 0 where
   pub before : ℕ
   pub counted : hub.state.counts.steps ≡ before + 1
   pub few : before + 1 < 2 ^ 64
-  pub sound : AllByRecursion (IsSoundClient hub.setup.station.offset_minutes before) hub.state.clients
+  pub sound : AllByRecursion (IsSoundClient hub.setup.station.offset_minutes before hub.state.counts.news) hub.state.clients
 
 -- the state of a hub that took a response at a moment
 abbrev pub state_with_response : Hub → ℕ → Fragment → State
@@ -64,8 +62,3 @@ state_with_response hub moment response =
       counts = raised hub.state.counts (step_with (news_among hub response.reports) 0);
       moment = latest hub.state moment;
     }
-
--- why a response was not taken: the counts can't rise, or memory ran out
-abbrev pub IsTakingFault : Bool → StepFault → Type 0
-IsTakingFault rises Memory = rises ≡ true
-IsTakingFault rises fault = (fault ≡ Spent) × (rises ≡ false)

@@ -6,8 +6,7 @@ ghost use Rattle.gw_map.specs.Settings.{HasSingleAddresses};
 ghost use Rattle.gw_picture.specs.Loss.{losses_at, losses_of, picture_after_loss, picture_losing_at};
 ghost use Rattle.gw_picture.specs.Picture.{picture_after, picture_after_report};
 ghost use Rattle.gw_station.specs.Client.{client_with_news};
-ghost use Rattle.gw_station.specs.Seat.{HasRoom};
-ghost use Rattle.gw_station.specs.Sound.{IsSendable};
+ghost use Rattle.gw_station.specs.Sound.{CanTake, IsSendable};
 ghost use Rattle.gw_steps.specs.declared.step.Step.TheVariants as steps;
 ghost use Rattle.gw_steps.specs.declared.step.StepFault.TheVariants.{NoClient, NoOutstation, Spent};
 ghost use Rattle.gw_steps.specs.State.{at_first, limits_of};
@@ -17,8 +16,8 @@ ghost use Rattle.gw_steps.specs.Sound.{IsSound};
 ghost use Rattle.gw_news.specs.Confirms.{ConfirmsLast};
 ghost use Rattle.gw_news.specs.News.{Holds};
 ghost use Rattle.gw_news.specs.Numbers.{HasRightNumbers};
-ghost use Rattle.gw_hub.specs.Clients.{clients_of, dropped_at, queued_at, unless};
-ghost use Rattle.gw_hub.specs.Hub.{can_count, can_take, news_of_all, news_of_one, state_counting, state_with_response, Answers, IsCounted, IsTakingFault};
+ghost use Rattle.gw_hub.specs.Clients.{dropped_at, queued_at, unless};
+ghost use Rattle.gw_hub.specs.Hub.{can_count, can_take, news_of_all, news_of_one, state_counting, state_with_response, Answers, IsCounted};
 
 use crate::clients::Clients;
 use crate::counts::Counts;
@@ -54,7 +53,6 @@ pub struct Hub {
 impl Model for Hub {
     ghost use Rattle.gw_hub.specs.Hub.{Hub as Seen};
     ghost use Rattle.gw_steps.specs.Sound.{IsSound};
-    ghost use Rattle.gw_hub.specs.Clients.{clients_of};
 
     ghost Value = { Seen };
 
@@ -63,7 +61,7 @@ impl Model for Hub {
       state = record {
         outstations = h.outstations;
         picture = h.picture;
-        clients = clients_of h.clients;
+        clients = h.clients;
         counts = h.counts;
         moment = h.moment;
       };
@@ -72,7 +70,7 @@ impl Model for Hub {
     ghost invariant = { λ h. IsSound h.settings.station.offset_minutes (record {
       outstations = h.outstations;
       picture = h.picture;
-      clients = clients_of h.clients;
+      clients = h.clients;
       counts = h.counts;
       moment = h.moment;
     }) };
@@ -85,12 +83,12 @@ impl Hub {
         ensures state { IfOk result (λ hub. hub.state ≡ at_first settings) }
         ensures settings { HasSingleAddresses settings.rows settings.controls × IsStation settings.station }
     {
-        // The contracts of these two tell what all settings keep.
+        // The contracts of `rows` and `station` tell what all settings keep.
         let _rows = settings.rows();
-        let _station = settings.station();
+        let station = settings.station();
         let outstations = Outstations::new(alloc, settings.outstations())?;
         let picture = Picture::new(alloc, &settings)?;
-        let clients = Clients::new(alloc, CLIENTS, &limits_of(settings.station()))?;
+        let clients = Clients::new(alloc, CLIENTS, &limits_of(station), station.queue)?;
         Ok(Hub {
             alloc,
             settings,
@@ -117,7 +115,7 @@ impl Hub {
     }
 
     /// How many news of a client's session were dropped; 0 where there is no such client.
-    pub fn dropped(&self, client: u8) -> usize
+    pub fn dropped(&self, client: u8) -> u64
         ensures { result ≡ dropped_at (slice_get self.now.state.clients client) }
     {
         self.clients.dropped(client)
@@ -198,19 +196,19 @@ impl Hub {
         }
     }
 
-    /// Counts a step that brings no news, with so many sessions that begin.
-    fn count(&mut self, sessions: u64, moment: u64) -> Result<(), StepFault>
-        ensures ok { OnOk result ((can_count sessions self.old ≡ true)
-            × (self.new.state ≡ state_counting sessions moment self.old.state)) }
+    /// Counts a step that brings no news and begins no session.
+    fn count(&mut self, moment: u64) -> Result<(), StepFault>
+        ensures ok { OnOk result ((can_count self.old ≡ true)
+            × (self.new.state ≡ state_counting moment self.old.state)) }
         ensures counted { OnOk result (IsCounted self.new) }
         ensures err { IfErr result (λ fault. fault ≡ Spent) }
-        ensures spent { OnErr result ((can_count sessions self.old ≡ false) × (self.new.state ≡ self.old.state)) }
+        ensures spent { OnErr result ((can_count self.old ≡ false) × (self.new.state ≡ self.old.state)) }
         ensures setup { self.new.setup ≡ self.old.setup }
     {
-        if !self.counts.can_rise(0, sessions) {
+        if !self.counts.can_rise(0, 0) {
             return Err(StepFault::Spent);
         }
-        self.counts.raise(0, sessions);
+        self.counts.raise(0, 0);
         self.moment = self.latest(moment);
         Ok(())
     }
@@ -239,7 +237,7 @@ impl Hub {
                 }
             }
         }
-        self.count(0, moment)?;
+        self.count(moment)?;
         self.outstations.come_up(outstation, self.moment);
         Ok(Reply::Done)
     }
@@ -260,7 +258,7 @@ impl Hub {
         }
     }
 
-    /// An outstation is lost. All room is made before anything changes.
+    /// An outstation is lost.
     fn outstation_down(&mut self, outstation: u8, moment: u64) -> Result<Reply, StepFault>
         ensures step { Answers self.old (steps.OutstationDown outstation moment) result self.new }
         ensures setup { self.new.setup ≡ self.old.setup }
@@ -271,9 +269,6 @@ impl Hub {
             return Err(StepFault::Spent);
         }
         let moment = self.latest(moment);
-        if self.clients.reserve(news).is_err() {
-            return Err(StepFault::Memory);
-        }
         lose_rows(
             &mut self.picture,
             &mut self.clients,
@@ -300,17 +295,18 @@ impl Hub {
         if master.accepts(response) {
             self.accept(response, moment)?;
         } else {
-            self.count(0, moment)?;
+            self.count(moment)?;
         }
         Ok(Reply::Verdict(verdict))
     }
 
-    /// Takes an accepted response. All room is made before anything changes.
+    /// Takes an accepted response.
     fn accept(&mut self, response: &Response, moment: u64) -> Result<(), StepFault>
         ensures ok { OnOk result ((can_take self.old response.now.reports ≡ true)
             × (self.new.state ≡ state_with_response self.old moment response.now)) }
-        ensures err { IfErr result (IsTakingFault (can_take self.old response.now.reports)) }
-        ensures same { OnErr result (self.new.state ≡ self.old.state) }
+        ensures err { IfErr result (λ fault. fault ≡ Spent) }
+        ensures spent { OnErr result ((can_take self.old response.now.reports ≡ false)
+            × (self.new.state ≡ self.old.state)) }
         ensures setup { self.new.setup ≡ self.old.setup }
     {
         let reports = response.reports();
@@ -318,9 +314,6 @@ impl Hub {
             return Err(StepFault::Spent);
         }
         let moment = self.latest(moment);
-        if self.clients.reserve(reports.len()).is_err() {
-            return Err(StepFault::Memory);
-        }
         let news = take_reports(
             &mut self.picture,
             &mut self.clients,
@@ -338,7 +331,7 @@ impl Hub {
         ensures setup { self.new.setup ≡ self.old.setup }
     {
         self.reached(outstation)?;
-        self.count(0, moment)?;
+        self.count(moment)?;
         Ok(self.outstations.next(outstation, self.moment, wall))
     }
 
@@ -346,7 +339,7 @@ impl Hub {
         ensures step { Answers self.old (steps.Tick moment) result self.new }
         ensures setup { self.new.setup ≡ self.old.setup }
     {
-        self.count(0, moment)?;
+        self.count(moment)?;
         self.outstations.tick(self.moment);
         let closed = self.clients.tick(self.moment);
         Ok(Reply::Ticked { closed })
@@ -361,7 +354,7 @@ impl Hub {
             Some(true) => return Err(StepFault::AlreadyUp),
             Some(false) => {}
         }
-        self.count(0, moment)?;
+        self.count(moment)?;
         self.clients.come_up(client, self.moment);
         Ok(Reply::Done)
     }
@@ -371,7 +364,7 @@ impl Hub {
         ensures setup { self.new.setup ≡ self.old.setup }
     {
         self.connected(client)?;
-        self.count(0, moment)?;
+        self.count(moment)?;
         self.clients.go_down(client);
         Ok(Reply::Done)
     }
@@ -393,8 +386,16 @@ impl Hub {
     {
         self.connected(client)?;
         let sessions = u64::from(self.clients.begins(client, apdu));
-        self.count(sessions, moment)?;
-        Ok(self.clients.frame(client, apdu, self.moment))
+        if !self.counts.can_rise(0, sessions) {
+            return Err(StepFault::Spent);
+        }
+        let moment = self.latest(moment);
+        let Ok(reply) = self.clients.frame(client, apdu, moment) else {
+            return Err(StepFault::Memory);
+        };
+        self.counts.raise(0, sessions);
+        self.moment = moment;
+        Ok(reply)
     }
 
     /// What the station shows to every client.
@@ -413,7 +414,7 @@ impl Hub {
         ensures setup { self.new.setup ≡ self.old.setup }
     {
         self.connected(client)?;
-        self.count(0, moment)?;
+        self.count(moment)?;
         let face = self.face();
         Ok(self.clients.pump(client, &face, self.moment))
     }
@@ -432,19 +433,21 @@ fn limits_of(station: &Station) -> Limits
     }
 }
 
-/// Takes a report, for which room was made; gives how many news it is.
+/// Takes a report; gives how many news it is.
 fn take_report(
     picture: &mut Picture,
     clients: &mut Clients,
     settings: &Settings,
     report: &Report,
 ) -> u64
-    requires { AllByRecursion (HasRoom 1) clients.old }
+    requires { AllByRecursion (CanTake (length (news_of_one settings.now picture.old report.now))) clients.old }
     ensures count { result ≡ length (news_of_one settings.now picture.old report.now) }
     ensures picture { picture.new ≡ picture_after_report settings.now.station.offset_minutes settings.now.rows picture.old report.now }
-    ensures clients { clients_of clients.new
-        ≡ map (client_with_news (news_of_one settings.now picture.old report.now)) (clients_of clients.old) }
-    ensures room { (n : ℕ) → AllByRecursion (HasRoom (n + 1)) clients.old → AllByRecursion (HasRoom n) clients.new }
+    ensures clients { clients.new
+        ≡ map (client_with_news (news_of_one settings.now picture.old report.now)) clients.old }
+    ensures more { (n : ℕ)
+        → AllByRecursion (CanTake (n + length (news_of_one settings.now picture.old report.now))) clients.old
+        → AllByRecursion (CanTake n) clients.new }
     ensures sendable { AllByRecursion (IsSendable settings.now.station.offset_minutes)
         (news_of_one settings.now picture.old report.now) }
 {
@@ -457,18 +460,18 @@ fn take_report(
     }
 }
 
-/// Takes reports in turn, for which room was made; gives how many news they are.
+/// Takes reports in turn; gives how many news they are.
 fn take_reports(
     picture: &mut Picture,
     clients: &mut Clients,
     settings: &Settings,
     reports: &[Report],
 ) -> u64
-    requires { AllByRecursion (HasRoom (length reports.now)) clients.old }
+    requires { AllByRecursion (CanTake (length (news_of_all settings.now picture.old reports.now))) clients.old }
     ensures count { result ≡ length (news_of_all settings.now picture.old reports.now) }
     ensures picture { picture.new ≡ picture_after settings.now.station.offset_minutes settings.now.rows picture.old reports.now }
-    ensures clients { clients_of clients.new
-        ≡ map (client_with_news (news_of_all settings.now picture.old reports.now)) (clients_of clients.old) }
+    ensures clients { clients.new
+        ≡ map (client_with_news (news_of_all settings.now picture.old reports.now)) clients.old }
     ensures sendable { AllByRecursion (IsSendable settings.now.station.offset_minutes)
         (news_of_all settings.now picture.old reports.now) }
 {
@@ -479,7 +482,7 @@ fn take_reports(
     news
 }
 
-/// Shows the loss of the row at a position, and puts it into the queues, for which room was made.
+/// Shows the loss of the row at a position, and puts it into the queues.
 fn lose_row(
     picture: &mut Picture,
     clients: &mut Clients,
@@ -487,14 +490,14 @@ fn lose_row(
     position: usize,
     outstation: u8,
 )
-    requires { AllByRecursion (HasRoom (length (losses_at outstation settings.now.rows picture.old position)))
+    requires { AllByRecursion (CanTake (length (losses_at outstation settings.now.rows picture.old position)))
         clients.old }
     ensures picture { picture.new ≡ picture_losing_at outstation settings.now.rows picture.old position }
-    ensures clients { clients_of clients.new
-        ≡ map (client_with_news (losses_at outstation settings.now.rows picture.old position)) (clients_of clients.old) }
-    ensures room { (n : ℕ)
-        → AllByRecursion (HasRoom (n + length (losses_at outstation settings.now.rows picture.old position))) clients.old
-        → AllByRecursion (HasRoom n) clients.new }
+    ensures clients { clients.new
+        ≡ map (client_with_news (losses_at outstation settings.now.rows picture.old position)) clients.old }
+    ensures more { (n : ℕ)
+        → AllByRecursion (CanTake (n + length (losses_at outstation settings.now.rows picture.old position))) clients.old
+        → AllByRecursion (CanTake n) clients.new }
     ensures sendable { AllByRecursion (IsSendable settings.now.station.offset_minutes)
         (losses_at outstation settings.now.rows picture.old position) }
 {
@@ -503,12 +506,12 @@ fn lose_row(
     }
 }
 
-/// Shows the loss of an outstation, row by row, and puts it into the queues, for which room was made.
+/// Shows the loss of an outstation, row by row, and puts it into the queues.
 fn lose_rows(picture: &mut Picture, clients: &mut Clients, settings: &Settings, outstation: u8)
-    requires { AllByRecursion (HasRoom (length (losses_of outstation settings.now.rows picture.old))) clients.old }
+    requires { AllByRecursion (CanTake (length (losses_of outstation settings.now.rows picture.old))) clients.old }
     ensures picture { picture.new ≡ picture_after_loss outstation settings.now.rows picture.old }
-    ensures clients { clients_of clients.new
-        ≡ map (client_with_news (losses_of outstation settings.now.rows picture.old)) (clients_of clients.old) }
+    ensures clients { clients.new
+        ≡ map (client_with_news (losses_of outstation settings.now.rows picture.old)) clients.old }
     ensures sendable { AllByRecursion (IsSendable settings.now.station.offset_minutes)
         (losses_of outstation settings.now.rows picture.old) }
 {

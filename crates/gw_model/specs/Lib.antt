@@ -4,3 +4,5 @@ pub mod Fit
 pub mod Outcome
 pub mod Optional
 pub mod Places
+pub mod First
+pub mod Bits

@@ -23,7 +23,7 @@ use Rattle.gw_station.specs.declared.event.Why.TheVariants.{Sequence, NotStarted
 use Rattle.gw_station.specs.declared.sending.Sending.{Sending}
 use Rattle.gw_station.specs.declared.sending.Sending.TheVariants.{Confirm, Test, News, Receipt}
 use Rattle.gw_station.specs.Client.{Client, is_up, is_started as is_in_session, client_after_up, client_after_close}
-use Rattle.gw_station.specs.First.{when, first_of}
+use Rattle.gw_model.specs.First.{when, first_of}
 use Rattle.gw_station.specs.Frames.{close_of, event_by, event_of, client_by, client_taking, client_with_signal, window_with_signal, client_after_apdu}
 use Rattle.gw_station.specs.Pump.{has_room, news_offered, offered, content_of, given, client_by_offer, client_with_sent, client_after_pump}
 use Rattle.gw_station.specs.Sound.{IsSendable, IsSoundClient}
@@ -42,7 +42,7 @@ use Rattle.gw_steps.proofs.Running.{entry}
 use Rattle.gw_steps.proofs.Saying.{said-content, said-news}
 use Rattle.gw_news.specs.Accepted.{last_after, last_text, asked_of}
 use Rattle.gw_news.specs.Turns.{Idle, Connects, Takes, PutsOut, turn_of}
-use Rattle.gw_news.proofs.Turns.{ClientTied, SlotTied, Goes, Alike, brought, goes_alike, goes_nowhere, goes_connects, goes_ends, goes_begins, goes_stops, goes_takes, goes_puts_other, goes_puts_news}
+use Rattle.gw_news.proofs.Turns.{ClientTied, SlotTied, Goes, Alike, brought, same_limit, goes_alike, goes_nowhere, goes_connects, goes_ends, goes_begins, goes_stops, goes_takes, goes_puts_other, goes_puts_news}
 use Rattle.gw_news.proofs.Windows.{WindowTied, SameCounts, same_counts, window_same, window_begun, window_sent, window_with_s, window_with_i}
 use Rattle.gw_news.proofs.Masters.{same_master}
 use Rattle.gw_news.proofs.Tied.{Tied, Follows, same_log}
@@ -71,7 +71,7 @@ one_client setup past step r s new c f k none lasts asks idle same_picture same_
     }
 
 same_session : (k : Client) → Alike k k
-same_session k = record { stage = refl; queue = refl; dropped = refl }
+same_session k = record { stage = refl; limit = refl; queue = refl; dropped = refl }
 
 -- ---- ClientUp
 
@@ -86,7 +86,7 @@ client_up setup past c m r s e tied =
     subst (λ (x : Reply). Follows setup past (entry step (Ok x)) (after setup s step)) told.2
     (one_client setup past step replies.Done s (after setup s step) c (client_after_up (latest s m)) down.0 refl (λ o last. refl) (λ o. refl)
     (λ d ne. rw (ne_eqb c d ne) refl) refl refl refl refl down.1
-    (λ mine. goes_connects setup c past here (client_after_up (latest s m) down.0) own refl refl refl
+    (λ mine. goes_connects setup c past here (client_after_up (latest s m) down.0) own refl refl refl mine.limited
     (window_begun setup c past here down.0.window.limits (latest s m) own mine.window.limits))
     tied)
 
@@ -101,7 +101,7 @@ client_down setup past c m r s e tied =
     subst (λ (x : Reply). Follows setup past (entry step (Ok x)) (after setup s step)) told.2
     (one_client setup past step replies.Done s (after setup s step) c client_after_close up.0 refl (λ o last. refl) (λ o. refl)
     (λ d ne. rw (ne_eqb c d ne) refl) refl refl refl refl up.1
-    (goes_ends setup c past (entry step (Ok replies.Done)) up.0 (client_after_close up.0) (rw (eq-eqb c c refl) refl) refl refl refl (same_counts up.0.window))
+    (goes_ends setup c past (entry step (Ok replies.Done)) up.0 (client_after_close up.0) (rw (eq-eqb c c refl) refl) refl refl refl refl (same_counts up.0.window))
     tied)
 
 -- ---- Frame
@@ -152,8 +152,8 @@ signal_taken setup past c m moment StartAct k mine =
     signal_window setup past c m moment StartAct k (window_with_signal moment StartAct k.window) (record { limits = refl; acknowledged = refl; waiting = refl; received = refl }) mine in
     elim (cases_Bool (is_in_session k.stage)) [
       | inl in_session ↦ goes_takes setup c past e (U StartAct) k new turn refl (sym (mine.started ∙ in_session))
-          (record { stage = rw in_session refl; queue = rw in_session refl; dropped = rw in_session refl }) window mine
-      | inr out ↦ goes_begins setup c past e k new turn out (rw out refl) (rw out refl) (rw out refl) window mine
+          (record { stage = rw in_session refl; limit = rw in_session refl; queue = rw in_session refl; dropped = rw in_session refl }) window mine
+      | inr out ↦ goes_begins setup c past e k new turn out (rw out refl) (rw out refl) (rw out refl) (rw out refl) window mine
     ]
 signal_taken setup past c m moment StopAct k mine =
     let e : Entry = entry (steps.Frame c (U StopAct) m) (Ok replies.Taken) in
@@ -162,22 +162,22 @@ signal_taken setup past c m moment StopAct k mine =
     let window : WindowTied setup c (e ∷ past) (window_with_signal moment StopAct k.window) =
     signal_window setup past c m moment StopAct k (window_with_signal moment StopAct k.window) (record { limits = refl; acknowledged = refl; waiting = refl; received = refl }) mine in
     elim (cases_Bool (is_in_session k.stage)) [
-      | inl in_session ↦ goes_stops setup c past e new turn (rw in_session refl) (rw in_session refl) (rw in_session refl) window
+      | inl in_session ↦ goes_stops setup c past e new turn (rw in_session refl) (rw in_session refl) (rw in_session refl) (same_limit setup k.limit new.limit (rw in_session refl) mine.limited) window
       | inr out ↦ goes_takes setup c past e (U StopAct) k new turn refl (sym (mine.started ∙ out))
-          (record { stage = rw out refl; queue = rw out refl; dropped = rw out refl }) window mine
+          (record { stage = rw out refl; limit = rw out refl; queue = rw out refl; dropped = rw out refl }) window mine
     ]
 signal_taken setup past c m moment TestAct k mine =
     goes_takes setup c past (entry (steps.Frame c (U TestAct) m) (Ok replies.Taken)) (U TestAct) k (client_with_signal moment TestAct k) (takes_turn setup c m (U TestAct)) refl refl
-    (record { stage = refl; queue = refl; dropped = refl }) (signal_window setup past c m moment TestAct k (window_with_signal moment TestAct k.window) (record { limits = refl; acknowledged = refl; waiting = refl; received = refl }) mine) mine
+    (record { stage = refl; limit = refl; queue = refl; dropped = refl }) (signal_window setup past c m moment TestAct k (window_with_signal moment TestAct k.window) (record { limits = refl; acknowledged = refl; waiting = refl; received = refl }) mine) mine
 signal_taken setup past c m moment TestCon k mine =
     goes_takes setup c past (entry (steps.Frame c (U TestCon) m) (Ok replies.Taken)) (U TestCon) k (client_with_signal moment TestCon k) (takes_turn setup c m (U TestCon)) refl refl
-    (record { stage = refl; queue = refl; dropped = refl }) (signal_window setup past c m moment TestCon k (window_with_signal moment TestCon k.window) (record { limits = refl; acknowledged = refl; waiting = refl; received = refl }) mine) mine
+    (record { stage = refl; limit = refl; queue = refl; dropped = refl }) (signal_window setup past c m moment TestCon k (window_with_signal moment TestCon k.window) (record { limits = refl; acknowledged = refl; waiting = refl; received = refl }) mine) mine
 signal_taken setup past c m moment StartCon k mine =
     goes_takes setup c past (entry (steps.Frame c (U StartCon) m) (Ok replies.Taken)) (U StartCon) k (client_with_signal moment StartCon k) (takes_turn setup c m (U StartCon)) refl refl
-    (record { stage = refl; queue = refl; dropped = refl }) (signal_window setup past c m moment StartCon k (window_with_signal moment StartCon k.window) (record { limits = refl; acknowledged = refl; waiting = refl; received = refl }) mine) mine
+    (record { stage = refl; limit = refl; queue = refl; dropped = refl }) (signal_window setup past c m moment StartCon k (window_with_signal moment StartCon k.window) (record { limits = refl; acknowledged = refl; waiting = refl; received = refl }) mine) mine
 signal_taken setup past c m moment StopCon k mine =
     goes_takes setup c past (entry (steps.Frame c (U StopCon) m) (Ok replies.Taken)) (U StopCon) k (client_with_signal moment StopCon k) (takes_turn setup c m (U StopCon)) refl refl
-    (record { stage = refl; queue = refl; dropped = refl }) (signal_window setup past c m moment StopCon k (window_with_signal moment StopCon k.window) (record { limits = refl; acknowledged = refl; waiting = refl; received = refl }) mine) mine
+    (record { stage = refl; limit = refl; queue = refl; dropped = refl }) (signal_window setup past c m moment StopCon k (window_with_signal moment StopCon k.window) (record { limits = refl; acknowledged = refl; waiting = refl; received = refl }) mine) mine
 
 -- an APDU that doesn't close
 taken : (setup : Setup) (past : List Entry) (c m moment : ℕ) (a : Apdu) (k : Client) → close_of a k ≡ None → ClientTied setup c past k
@@ -187,19 +187,19 @@ taken setup past c m moment (I ns nr asdu) k e mine =
     let here : Entry = entry (steps.Frame c (I ns nr asdu) m) (Ok replies.Taken) in
     let turn = takes_turn setup c m (I ns nr asdu) in
     goes_takes setup c past here (I ns nr asdu) k (client_taking moment (I ns nr asdu) k) turn refl refl
-    (record { stage = refl; queue = refl; dropped = refl }) (window_with_i setup c past here ns nr moment asdu k.window turn told.send told.receive mine.window) mine
+    (record { stage = refl; limit = refl; queue = refl; dropped = refl }) (window_with_i setup c past here ns nr moment asdu k.window turn told.send told.receive mine.window) mine
 taken setup past c m moment (S nr) k e mine =
     let here : Entry = entry (steps.Frame c (S nr) m) (Ok replies.Taken) in
     let turn = takes_turn setup c m (S nr) in
     goes_takes setup c past here (S nr) k (client_taking moment (S nr) k) turn refl refl
-    (record { stage = refl; queue = refl; dropped = refl }) (window_with_s setup c past here nr moment k.window turn (open_s nr k e) mine.window) mine
+    (record { stage = refl; limit = refl; queue = refl; dropped = refl }) (window_with_s setup c past here nr moment k.window turn (open_s nr k e) mine.window) mine
 taken setup past c m moment (U signal) k e mine = signal_taken setup past c m moment signal k mine
 
 frame_own : (setup : Setup) (past : List Entry) (c m moment : ℕ) (a : Apdu) (k : Client) (why : Option Why) → close_of a k ≡ why → ClientTied setup c past k
     → Goes setup c past (entry (steps.Frame c a m) (Ok (reply_of_event (event_by why)))) (Some (client_by why k (client_taking moment a k)))
 frame_own setup past c m moment a k None e mine = taken setup past c m moment a k e mine
 frame_own setup past c m moment a k (Some why) e mine =
-    goes_ends setup c past (entry (steps.Frame c a m) (Ok (replies.Closed why))) k (client_after_close k) (rw (eq-eqb c c refl) refl) refl refl refl (same_counts k.window) mine
+    goes_ends setup c past (entry (steps.Frame c a m) (Ok (replies.Closed why))) k (client_after_close k) (rw (eq-eqb c c refl) refl) refl refl refl refl (same_counts k.window) mine
 
 frame_apart : (setup : Setup) (c d m : ℕ) (a : Apdu) (why : Option Why) → (c ≡ d → ⊥) → turn_of setup d (entry (steps.Frame c a m) (Ok (reply_of_event (event_by why)))) ≡ Idle
 frame_apart setup c d m a None ne = rw (ne_eqb c d ne) refl
@@ -240,7 +240,7 @@ receipt setup past c m moment k mine =
     let small : receive_number k.window < 32768 = omega arith in
     let turn = own_turn setup c m (Supervisory (receive_number k.window)) (ReceiptSaid (receive_number k.window)) (said-content setup.station.offset_minutes (Supervisory (receive_number k.window)) small) in
     let new : Client = client_with_sent moment Receipt k in
-    goes_puts_other setup c past e (ReceiptSaid (receive_number k.window)) k new turn refl refl refl tt (ap (λ (n : ℕ). n % 32768) mine.window.received) (record { stage = refl; queue = refl; dropped = refl })
+    goes_puts_other setup c past e (ReceiptSaid (receive_number k.window)) k new turn refl refl refl tt (ap (λ (n : ℕ). n % 32768) mine.window.received) (record { stage = refl; limit = refl; queue = refl; dropped = refl })
     (window_same setup c past e k.window new.window (rw turn refl) (rw turn refl) (rw turn refl) (record { limits = refl; acknowledged = refl; waiting = refl; received = refl }) mine.window) mine
 
 news : (setup : Setup) (past : List Entry) (c m moment : ℕ) (x : Observation) (queue : List Observation) (k : Client) → setup.station.common_address < 65536
@@ -257,7 +257,7 @@ news setup past c m moment x queue k small in_session room front ok mine =
     let nr_small : nr < 32768 = omega arith in
     let turn = own_turn setup c m content (Numbered ns nr (Some (news_asdu offset common x))) (said-news offset common ns nr x small ns_small nr_small ok) in
     goes_puts_news setup c past e (Numbered ns nr (Some (news_asdu offset common x))) x queue k (client_with_sent moment (News x) k) turn refl (rw (eq-eqb common common refl) refl) (refl, refl)
-    (ap (λ (n : ℕ). n % 32768) mine.window.sent, ap (λ (n : ℕ). n % 32768) mine.window.received) in_session front refl (ap (drop 1) front) refl
+    (ap (λ (n : ℕ). n % 32768) mine.window.sent, ap (λ (n : ℕ). n % 32768) mine.window.received) in_session front refl refl (ap (drop 1) front) refl
     (window_sent setup c past e moment ns nr (Some (news_asdu offset common x)) k.window turn room mine.window) mine
 
 nothing : (setup : Setup) (past : List Entry) (c m : ℕ) (k : Client) → ClientTied setup c past k → Goes setup c past (entry (steps.Pump c m) (Ok replies.Nothing)) (Some k)
@@ -288,23 +288,23 @@ pump_own setup past c m moment k small sound mine = by_confirmation (slice_get k
     by_news false room es er = by_receipt (owes_ack moment k.window)
 
     by_test : (owes : Bool) → PumpedBy setup past c m moment k (first_of (when owes Test ∷ news_offered k ∷ when (owes_ack moment k.window) Receipt ∷ []))
-    by_test true = unnumbered setup past c m TestAct k (client_with_sent moment Test k) (record { stage = refl; queue = refl; dropped = refl })
+    by_test true = unnumbered setup past c m TestAct k (client_with_sent moment Test k) (record { stage = refl; limit = refl; queue = refl; dropped = refl })
         (record { limits = refl; acknowledged = refl; waiting = refl; received = refl }) mine
     by_test false = by_news (is_in_session k.stage) (has_room k.window) refl refl
 
     by_confirmation : (x : Option Signal) → PumpedBy setup past c m moment k (first_of (option_map Confirm x ∷ when (owes_test moment k.window) Test ∷ news_offered k ∷ when (owes_ack moment k.window) Receipt ∷ []))
     by_confirmation None = by_test (owes_test moment k.window)
-    by_confirmation (Some signal) = unnumbered setup past c m signal k (client_with_sent moment (Confirm signal) k) (record { stage = refl; queue = refl; dropped = refl }) (same_counts k.window) mine
+    by_confirmation (Some signal) = unnumbered setup past c m signal k (client_with_sent moment (Confirm signal) k) (record { stage = refl; limit = refl; queue = refl; dropped = refl }) (same_counts k.window) mine
 
 pump_apart : (setup : Setup) (c d m : ℕ) (given : Option Content) → (c ≡ d → ⊥) → turn_of setup d (entry (steps.Pump c m) (Ok (reply_giving given))) ≡ Idle
 pump_apart setup c d m None ne = refl
 pump_apart setup c d m (Some content) ne = rw (ne_eqb c d ne) refl
 
 -- one of many
-sound_at : (offset : ℤ) (n : ℕ) (ks : List Client) (c : ℕ) (k : Client) → slice_get ks c ≡ Some k → AllByRecursion (IsSoundClient offset n) ks → IsSoundClient offset n k
-sound_at offset n [] c k at all = absurd cc
-sound_at offset n (x ∷ ks) zero k at all = subst (IsSoundClient offset n) (some_is x k at) all.0
-sound_at offset n (x ∷ ks) (suc c) k at all = sound_at offset n ks c k at all.1
+sound_at : (offset : ℤ) (n i : ℕ) (ks : List Client) (c : ℕ) (k : Client) → slice_get ks c ≡ Some k → AllByRecursion (IsSoundClient offset n i) ks → IsSoundClient offset n i k
+sound_at offset n i [] c k at all = absurd cc
+sound_at offset n i (x ∷ ks) zero k at all = subst (IsSoundClient offset n i) (some_is x k at) all.0
+sound_at offset n i (x ∷ ks) (suc c) k at all = sound_at offset n i ks c k at all.1
 
 pub pump : (setup : Setup) (past : List Entry) (c m : ℕ) (r : Reply) (s : State) → setup.station.common_address < 65536 → IsSound setup.station.offset_minutes s
     → outcome setup s (steps.Pump c m) ≡ Ok r → Tied setup past s → Follows setup past (entry (steps.Pump c m) (Ok r)) (after setup s (steps.Pump c m))
@@ -315,7 +315,7 @@ pump setup past c m r s small sound e tied =
     let up = who_is_up (λ (k : Client). is_up k.stage) NoClient (slice_get s.clients c) told.0 in
     let content : Option Content = given setup.station.offset_minutes setup.station.common_address moment up.0 in
     let reply : reply_giving content ≡ r = sym (ap (client_reply (λ (k : Client). reply_giving (given setup.station.offset_minutes setup.station.common_address moment k))) up.1) ∙ told.2 in
-    let sends = (sound_at setup.station.offset_minutes s.counts.steps s.clients c up.0 up.1 sound).sendable in
+    let sends = (sound_at setup.station.offset_minutes s.counts.steps s.counts.news s.clients c up.0 up.1 sound).sendable in
     subst (λ (x : Reply). Follows setup past (entry step (Ok x)) (after setup s step)) reply
     (one_client setup past step (reply_giving content) s (after setup s step) c (client_after_pump moment) up.0 refl (λ o last. refl) (λ o. refl)
     (λ d ne. pump_apart setup c d m content ne) refl refl refl refl up.1

@@ -42,33 +42,35 @@ use Rattle.gw_news.proofs.Steps.{step_follows}
 -- ---- at first
 
 -- a client that never was up
-client_tied : (setup : Setup) (c : ℕ) → ClientTied setup c [] (client_down (limits_of setup.station))
-client_tied setup c = record {
+client_tied : (setup : Setup) (c : ℕ) → 0 < setup.station.queue → ClientTied setup c [] (client_down (limits_of setup.station) setup.station.queue)
+client_tied setup c some = record {
   started = refl;
   settled = [];
   all_settled = tt;
   told = refl;
   put_out = refl;
   dropped = refl;
+  few = omega arith;
+  limited = record { is = refl; some = some };
   window = record { limits = refl; sent = refl; received = refl; acknowledged = refl; few = omega arith };
 }
 
-down_tied : (setup : Setup) (c d n : ℕ) → SlotTied setup c [] (slice_get (replicate n (client_down (limits_of setup.station))) d)
-down_tied setup c d zero = refl
-down_tied setup c zero (suc n) = client_tied setup c
-down_tied setup c (suc d) (suc n) = down_tied setup c d n
+down_tied : (setup : Setup) (c d n : ℕ) → 0 < setup.station.queue → SlotTied setup c [] (slice_get (replicate n (client_down (limits_of setup.station) setup.station.queue)) d)
+down_tied setup c d zero some = refl
+down_tied setup c zero (suc n) some = client_tied setup c some
+down_tied setup c (suc d) (suc n) some = down_tied setup c d n some
 
 outstation_tied : (setup : Setup) (o : ℕ) (x : Option OutstationSetup) → slice_get setup.outstations o ≡ x
     → MasterTied setup o [] (option_map (λ (outstation : OutstationSetup). master_down outstation.poll) x)
 outstation_tied setup o None e = tt
 outstation_tied setup o (Some x) e = record { poll = ap (option_map (λ (outstation : OutstationSetup). outstation.poll)) e; last = refl; number = omega arith; awaits = tt }
 
-first_tied : (setup : Setup) → Tied setup [] (at_first setup)
-first_tied setup = record {
+first_tied : (setup : Setup) → 0 < setup.station.queue → Tied setup [] (at_first setup)
+first_tied setup some = record {
   picture = refl;
   outstations = λ o. rw (map-get (λ (outstation : OutstationSetup). master_down outstation.poll) setup.outstations o)
       (outstation_tied setup o (slice_get setup.outstations o) refl);
-  clients = λ c. down_tied setup c c client_limit;
+  clients = λ c. down_tied setup c c client_limit some;
   moment = refl;
 }
 
@@ -176,10 +178,10 @@ record Told (setup : Setup) (past : List Entry) : Type 0 where
 
 told_first : (setup : Setup) → IsSoundSetup setup → Told setup []
 told_first setup fit = record {
-  tied = first_tied setup;
-  news = holds setup [] (first_tied setup) (λ c. tt) (λ c. tt);
+  tied = first_tied setup fit.queue;
+  news = holds setup [] (first_tied setup fit.queue) (λ c. tt) (λ c. tt);
   confirmed = tt;
-  numbered = numbers setup [] fit.window (first_tied setup) tt;
+  numbered = numbers setup [] fit.window (first_tied setup fit.queue) tt;
 }
 
 told_more : (setup : Setup) (past : List Entry) (e : Entry) → IsSoundSetup setup → Follows setup past e (state_after setup (e ∷ past)) → ConfirmsLast setup (e ∷ past)

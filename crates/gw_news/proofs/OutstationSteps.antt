@@ -145,7 +145,7 @@ ticked : (setup : Setup) (past : List Entry) (m moment c bits : ℕ) (x : Option
     → Goes setup c past (entry (steps.Tick m) (Ok (replies.Ticked bits))) (option_map (client_after_tick moment) x)
 ticked setup past m moment c bits None told tied = goes_nowhere setup c past (entry (steps.Tick m) (Ok (replies.Ticked bits))) None (rw told refl) refl tied
 ticked setup past m moment c bits (Some k) told tied = elim (cases_Bool (is_timed_out moment k)) [
-  | inl late ↦ rw late (goes_ends setup c past (entry (steps.Tick m) (Ok (replies.Ticked bits))) k (client_after_close k) (rw (told ∙ late) refl) refl refl refl (same_counts k.window) tied)
+  | inl late ↦ rw late (goes_ends setup c past (entry (steps.Tick m) (Ok (replies.Ticked bits))) k (client_after_close k) (rw (told ∙ late) refl) refl refl refl refl (same_counts k.window) tied)
   | inr on ↦ rw on (goes_nowhere setup c past (entry (steps.Tick m) (Ok (replies.Ticked bits))) (Some k) (rw (told ∙ on) refl) refl tied)
 ]
 

@@ -1,16 +1,21 @@
--- Fates where no limit stands: elements that are settled, put out or dropped, and then those queued.
-use Rattle.std.proofs.Common.{◌≡◌, ℕ, Bool, false, List, [], ◌∷◌, ◌++◌, map, Option, None, refl, sym, ap, ◌∙◌, append_assoc, inl, inr}
+-- Fates: elements that are settled, put out or dropped, and then those queued.
+use Rattle.std.proofs.Common.{◌≡◌, ℕ, zero, suc, ◌+◌, ◌-◌, ◌≤◌, ◌<◌, Bool, false, List, [], ◌∷◌, ◌++◌, map, length, take, drop, refl, sym, ap, ◌∙◌, append_assoc, arith, inl, inr}
 use Rattle.std.proofs.lemmas.Bool.{cases_Bool}
-use Rattle.std.proofs.lemmas.List.{append-nil}
+use Rattle.std.proofs.lemmas.List.{append-nil, length-append, length-drop, length-take-le}
+use Rattle.circular_buffer.specs.Buffer.{keep_last}
 use Rattle.gw_model.specs.declared.observation.Observation.{Observation}
 use Rattle.gw_news.specs.Sessions.{Happening, Came, Gone, gone_of}
-use Rattle.gw_news.specs.Fates.{Fate, Queued, PutOut, Dropped, Element, is_queued, is_put_out, is_dropped, is_kept, use_up, fate_step, fates_from, items_of}
+use Rattle.gw_station.proofs.Queues.{drop-front, kept_on, kept_all}
+use Rattle.gw_news.specs.Fates.{Fate, Queued, PutOut, Dropped, Element, is_queued, is_put_out, is_dropped, is_kept, dropped_fate, lapse_first, lapse, use_up, fate_step, fates_from, items_of}
 
 abbrev pub queued : Observation → Element
 queued x = record { item = x; fate = Queued }
 
 abbrev pub put : Observation → Element
 put x = record { item = x; fate = PutOut }
+
+abbrev pub drops : Observation → Element
+drops x = record { item = x; fate = Dropped }
 
 -- none of them is queued
 abbrev pub AreSettled : List Element → Type 0
@@ -21,25 +26,13 @@ AreSettled (e ∷ es) = (is_queued e.fate ≡ false) × AreSettled es
 abbrev pub before_queue : List Element → List Observation → List Element
 before_queue settled queue = settled ++ map queued queue
 
-pub fates_from-append : (limit : Option ℕ) (es : List Element) (xs ys : List Happening) → fates_from limit es (xs ++ ys) ≡ fates_from limit (fates_from limit es xs) ys
+pub fates_from-append : (limit : ℕ) (es : List Element) (xs ys : List Happening) → fates_from limit es (xs ++ ys) ≡ fates_from limit (fates_from limit es xs) ys
 fates_from-append limit es [] ys = refl
 fates_from-append limit es (h ∷ xs) ys = fates_from-append limit (fate_step limit es h) xs ys
-
-came_fates : (es : List Element) (xs : List Observation) → fates_from None es (map Came xs) ≡ es ++ map queued xs
-came_fates es [] = sym (append-nil es)
-came_fates es (x ∷ xs) = came_fates (es ++ queued x ∷ []) xs ∙ append_assoc es (queued x ∷ []) (map queued xs)
 
 map-append : {A B : Type 0} (f : A → B) (xs ys : List A) → map f (xs ++ ys) ≡ map f xs ++ map f ys
 map-append f [] ys = refl
 map-append f (x ∷ xs) ys = ap (λ (zs : List _). f x ∷ zs) (map-append f xs ys)
-
--- news join the queue
-pub queue_grows : (settled : List Element) (queue xs : List Observation)
-    → fates_from None (before_queue settled queue) (map Came xs) ≡ before_queue settled (queue ++ xs)
-queue_grows settled queue xs =
-    came_fates (before_queue settled queue) xs
-    ∙ (append_assoc settled (map queued queue) (map queued xs)
-    ∙ ap (λ (es : List Element). settled ++ es) (sym (map-append queued queue xs)))
 
 -- the oldest of the queue is put out
 use_up-settled : (settled : List Element) (x : Observation) (rest : List Element) → AreSettled settled
@@ -123,6 +116,120 @@ put_out_more settled x = items_of-append is_put_out settled (put x ∷ [])
 
 pub dropped_same : (settled : List Element) (x : Observation) → items_of is_dropped (settled ++ put x ∷ []) ≡ items_of is_dropped settled
 dropped_same settled x = items_of-append is_dropped settled (put x ∷ []) ∙ append-nil (items_of is_dropped settled)
+
+-- ---- news that come
+
+-- what is settled stays as it is
+settled_stays : (e : Element) → is_queued e.fate ≡ false → record e { fate = dropped_fate e.fate } ≡ e
+settled_stays e all = ap (λ (f : Fate). record e { fate = f }) (go e.fate all)
+  where
+    go : (f : Fate) → is_queued f ≡ false → dropped_fate f ≡ f
+    go Queued is = absurd cc
+    go PutOut is = refl
+    go Dropped is = refl
+
+-- of the first n those that are settled stay as they are
+lapse-settled : (n k : ℕ) (settled rest : List Element) → AreSettled settled → k ≡ n - length settled → lapse_first n (settled ++ rest) ≡ settled ++ lapse_first k rest
+lapse-settled n k [] rest all e = let same : n ≡ k = omega (arith, e) in ap (λ (i : ℕ). lapse_first i rest) same
+lapse-settled zero k (e ∷ es) rest all is = let none : 0 ≡ k = omega (arith, is) in ap (λ (i : ℕ). e ∷ (es ++ lapse_first i rest)) none
+lapse-settled (suc n) k (e ∷ es) rest all is =
+    let one = settled_stays e all.0 in
+    let others = lapse-settled n k es rest all.1 (omega (arith, is)) in
+    cc
+
+-- the oldest of a queue are dropped
+lapse-queue : (n : ℕ) (queue : List Observation) → lapse_first n (map queued queue) ≡ map drops (take n queue) ++ map queued (drop n queue)
+lapse-queue zero queue = refl
+lapse-queue (suc n) [] = refl
+lapse-queue (suc n) (x ∷ queue) = ap (λ (es : List Element). drops x ∷ es) (lapse-queue n queue)
+
+dropped_are_settled : (settled : List Element) (xs : List Observation) → AreSettled settled → AreSettled (settled ++ map drops xs)
+dropped_are_settled [] [] all = tt
+dropped_are_settled [] (x ∷ xs) all = (refl, dropped_are_settled [] xs tt)
+dropped_are_settled (e ∷ es) xs all = (all.0, dropped_are_settled es xs all.1)
+
+none_put : (xs : List Observation) → items_of is_put_out (map drops xs) ≡ []
+none_put [] = refl
+none_put (x ∷ xs) = none_put xs
+
+all_dropped : (xs : List Observation) → items_of is_dropped (map drops xs) ≡ xs
+all_dropped [] = refl
+all_dropped (x ∷ xs) = ap (λ (ys : List Observation). x ∷ ys) (all_dropped xs)
+
+-- news joined a queue of which so many may wait: some more are settled
+pub record Grown (limit : ℕ) (settled : List Element) (queue xs : List Observation) : Type 0 where
+  pub more : List Element
+  pub all : AreSettled more
+  pub told : fates_from limit (before_queue settled queue) (map Came xs) ≡ before_queue more (keep_last limit (queue ++ xs))
+  pub put_out : items_of is_put_out more ≡ items_of is_put_out settled
+  pub dropped : length (items_of is_dropped more) ≡ length (items_of is_dropped settled) + (length (queue ++ xs) - limit)
+
+-- one came
+grown_one : (limit : ℕ) (settled : List Element) (queue : List Observation) (x : Observation) → 0 < limit → AreSettled settled → Grown limit settled queue (x ∷ [])
+grown_one limit settled queue x some all =
+    let n : ℕ = length queue + 1 - limit in
+    let es : List Element = before_queue settled queue in
+    let size : length es ≡ length settled + length queue = length-append settled (map queued queue) ∙ ap (λ (k : ℕ). length settled + k) (map_length queue) in
+    let over : length es + 1 - limit - length settled ≡ n = omega (arith, size) in
+    let few : n ≤ length queue = omega (arith, some) in
+    let kept : keep_last limit (queue ++ x ∷ []) ≡ drop n queue ++ x ∷ [] =
+    ap (λ (k : ℕ). drop k (queue ++ x ∷ [])) (omega (arith, length-append queue (x ∷ []))) ∙ sym (drop-front 0 n n queue (x ∷ []) few (omega arith)) in
+    let lapsed : lapse limit es ≡ settled ++ (map drops (take n queue) ++ map queued (drop n queue)) =
+    lapse-settled (length es + 1 - limit) n settled (map queued queue) all (sym over) ∙ ap (λ (fs : List Element). settled ++ fs) (lapse-queue n queue) in
+    let more : List Element = settled ++ map drops (take n queue) in
+    record {
+      more = more;
+      all = dropped_are_settled settled (take n queue) all;
+      told = ap (λ (fs : List Element). fs ++ queued x ∷ []) lapsed
+          ∙ (ap (λ (fs : List Element). fs ++ queued x ∷ []) (sym (append_assoc settled (map drops (take n queue)) (map queued (drop n queue))))
+          ∙ (append_assoc more (map queued (drop n queue)) (queued x ∷ [])
+          ∙ ap (λ (fs : List Element). more ++ fs) (sym (map-append queued (drop n queue) (x ∷ [])) ∙ ap (map queued) (sym kept))));
+      put_out = items_of-append is_put_out settled (map drops (take n queue))
+          ∙ (ap (λ (ys : List Observation). items_of is_put_out settled ++ ys) (none_put (take n queue)) ∙ append-nil (items_of is_put_out settled));
+      dropped =
+          let ds : List Observation = items_of is_dropped settled in
+          omega (
+            arith,
+            ap length (items_of-append is_dropped settled (map drops (take n queue)) ∙ ap (λ (ys : List Observation). ds ++ ys) (all_dropped (take n queue))),
+            length-append ds (take n queue),
+            length-take-le n queue few,
+            length-append queue (x ∷ []),
+          );
+    }
+  where
+    map_length : (xs : List Observation) → length (map queued xs) ≡ length xs
+    map_length [] = refl
+    map_length (y ∷ ys) = ap suc (map_length ys)
+
+pub grown : (limit : ℕ) (settled : List Element) (queue xs : List Observation) → 0 < limit → length queue ≤ limit → AreSettled settled → Grown limit settled queue xs
+grown limit settled queue [] some few all = record {
+  more = settled;
+  all = all;
+  told = ap (before_queue settled) (sym (ap (keep_last limit) (append-nil queue) ∙ kept_all limit queue few));
+  put_out = refl;
+  dropped = omega (arith, length-append queue [], few);
+}
+grown limit settled queue (x ∷ xs) some few all =
+    let one = grown_one limit settled queue x some all in
+    let kept : List Observation = keep_last limit (queue ++ x ∷ []) in
+    let rest = grown limit one.more kept xs some (omega (arith, length-drop (length (queue ++ x ∷ []) - limit) (queue ++ x ∷ []))) one.all in
+    let whole : keep_last limit (kept ++ xs) ≡ keep_last limit (queue ++ x ∷ xs) =
+    kept_on limit (queue ++ x ∷ []) xs ∙ ap (keep_last limit) (append_assoc queue (x ∷ []) xs) in
+    record {
+      more = rest.more;
+      all = rest.all;
+      told = ap (λ (es : List Element). fates_from limit es (map Came xs)) one.told ∙ (rest.told ∙ ap (before_queue rest.more) whole);
+      put_out = rest.put_out ∙ one.put_out;
+      dropped = omega (
+        arith,
+        rest.dropped,
+        one.dropped,
+        length-append queue (x ∷ []),
+        length-append queue (x ∷ xs),
+        length-append kept xs,
+        length-drop (length (queue ++ x ∷ []) - limit) (queue ++ x ∷ []),
+      );
+    }
 
 -- ---- what was put out
 

@@ -1,5 +1,5 @@
--- The fate of each observation that came in a session, apart from any queue.
-use Rattle.std.specs.Prelude.{ℕ, zero, suc, ◌+◌, ◌-◌, Bool, true, false, List, [], ◌∷◌, ◌++◌, length, Option, Some, None, if◌then◌else◌}
+-- The fate of each observation that came in a session, where so many may wait, apart from any queue.
+use Rattle.std.specs.Prelude.{ℕ, zero, suc, ◌+◌, ◌-◌, Bool, true, false, List, [], ◌∷◌, ◌++◌, length, if◌then◌else◌}
 use Rattle.gw_model.specs.declared.observation.Observation.{Observation}
 use Rattle.gw_news.specs.Sessions.{Happening, Came, Gone}
 
@@ -44,26 +44,25 @@ lapse_first zero es = es
 lapse_first (suc n) [] = []
 lapse_first (suc n) (e ∷ es) = record e { fate = dropped_fate e.fate } ∷ lapse_first n es
 
--- where a limit stands, element i is dropped unless it was put out when element i + limit comes
-abbrev pub lapse : Option ℕ → List Element → List Element
-lapse None es = es
-lapse (Some limit) es = lapse_first (length es + 1 - limit) es
+-- element i is dropped unless it was put out when element i + limit comes
+abbrev pub lapse : ℕ → List Element → List Element
+lapse limit es = lapse_first (length es + 1 - limit) es
 
 -- the oldest element that is queued is put out
 abbrev pub use_up : List Element → List Element
 use_up [] = []
 use_up (e ∷ es) = if is_queued e.fate then record e { fate = PutOut } ∷ es else e ∷ use_up es
 
-abbrev pub fate_step : Option ℕ → List Element → Happening → List Element
+abbrev pub fate_step : ℕ → List Element → Happening → List Element
 fate_step limit es (Came x) = lapse limit es ++ record { item = x; fate = Queued } ∷ []
 fate_step limit es (Gone x) = use_up es
 
 -- the fates after more happenings
-abbrev pub fates_from : Option ℕ → List Element → List Happening → List Element
+abbrev pub fates_from : ℕ → List Element → List Happening → List Element
 fates_from limit es [] = es
 fates_from limit es (h ∷ hs) = fates_from limit (fate_step limit es h) hs
 
-abbrev pub fates : Option ℕ → List Happening → List Element
+abbrev pub fates : ℕ → List Happening → List Element
 fates limit hs = fates_from limit [] hs
 
 -- the observations whose fate passes a test, in order

@@ -23,9 +23,9 @@ in_session (Some k) = is_in_session k.stage
 
 -- a session's news: what was put out, then what is queued, are all that came, less what was dropped
 pub record TellsNews (setup : Setup) (c : ℕ) (past : List Entry) (k : Client) : Type 0 where
-  pub in_order : gone_of (session_of setup c past) ++ k.queue ≡ items_of is_kept (fates None (session_of setup c past))
-  pub queued : k.queue ≡ items_of is_queued (fates None (session_of setup c past))
-  pub dropped : k.dropped ≡ length (items_of is_dropped (fates None (session_of setup c past)))
+  pub in_order : gone_of (session_of setup c past) ++ k.queue ≡ items_of is_kept (fates setup.station.queue (session_of setup c past))
+  pub queued : k.queue ≡ items_of is_queued (fates setup.station.queue (session_of setup c past))
+  pub dropped : k.dropped ≡ length (items_of is_dropped (fates setup.station.queue (session_of setup c past)))
 
 -- no I format is put out to a client without a session
 abbrev pub QuietLast : Setup → ℕ → List Entry → Type 0

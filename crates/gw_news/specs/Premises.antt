@@ -4,11 +4,13 @@ use Rattle.gw_map.specs.Settings.{Setup, HasSingleAddresses}
 use Rattle.gw_steps.specs.Runs.{Entry, IsRun, AtEach}
 use Rattle.gw_steps.specs.Sound.{LeavesSound}
 
--- no two rows have one address, the common address has 16 bits, and the window k is smaller than the sequence numbers
+-- no two rows have one address, the common address has 16 bits, the window k is smaller than the sequence numbers, and
+-- some news may wait for a client
 pub record IsSoundSetup (setup : Setup) : Type 0 where
   pub addresses : HasSingleAddresses setup.rows setup.controls
   pub station : setup.station.common_address < 65536
   pub window : setup.station.k < 32768
+  pub queue : 0 < setup.station.queue
 
 pub record IsSoundRun (setup : Setup) (past : List Entry) : Type 0 where
   pub settings : IsSoundSetup setup

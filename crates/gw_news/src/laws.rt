@@ -1,6 +1,6 @@
 //! The laws of every run of the step relation. Their premises: no two rows of the point map have one key or one
-//! address, the common address has 16 bits, the window k is below 32,768, and each state of the run is sound, which is
-//! that what is queued can be sent.
+//! address, the common address has 16 bits, the window k is below 32,768, a queue takes some news, and each state of the
+//! run is sound, which is that what is queued can be sent.
 //! A hub keeps them by its type.
 ghost use Rattle.std.specs.Prelude.{List};
 ghost use Rattle.gw_map.specs.Settings.{Setup};

@@ -51,62 +51,75 @@ fn event(rt: &HostRuntime) -> Result<Step, Fail> {
     })
 }
 
-#[test]
-fn a_fragment_is_taken_or_changes_nothing(rt: HostRuntime) -> Result<(), Fail> {
-    let mut hub = new_hub(&rt)?;
-    let steps = [
-        Step::ClientUp {
-            client: 0,
-            moment: 0,
-        },
-        Step::Frame {
-            client: 0,
-            apdu: Apdu::U(Signal::StartAct),
-            moment: 0,
-        },
-        Step::OutstationUp {
-            outstation: 0,
-            moment: 0,
-        },
-    ];
-    for step in &steps {
-        // These steps need no memory.
-        assert!(rt; hub.step(step).is_ok());
-    }
-    let event = event(&rt)?;
-    let before = hub.picture().first().copied();
-    let mut reply = hub.step(&event);
-    if reply == Err(StepFault::Memory) {
-        println!(rt; "refused")?;
-        assert_eq!(rt; hub.picture().first().copied(), before);
-        assert_eq!(rt; hub.queued(0), 0);
-        reply = hub.step(&event);
-    }
-    assert_eq!(rt; reply, ACCEPTED);
-    assert_eq!(rt; hub.queued(0), 1);
-    if loss_meets_refusal(&rt, &mut hub) {
-        println!(rt; "refused")?;
-    }
-    Ok(())
+/// A step gets this reply.
+fn check(rt: &impl Abort, hub: &mut Hub, step: &Step, reply: Result<Reply, StepFault>) {
+    assert_eq!(rt; hub.step(step), reply);
 }
 
-/// The loss of the outstation is told of the one row that was good, or changes nothing where memory is refused;
-/// whether it was.
-fn loss_meets_refusal(rt: &impl Abort, hub: &mut Hub) -> bool {
+/// Starts the data transfer of client 0; whether memory was refused before, which changed nothing.
+fn start_meets_refusal(rt: &impl Abort, hub: &mut Hub) -> bool {
+    let start = Step::Frame {
+        client: 0,
+        apdu: Apdu::U(Signal::StartAct),
+        moment: 0,
+    };
+    let first = hub.step(&start);
+    if first == Err(StepFault::Memory) {
+        check_nothing_waits(rt, hub);
+        check(rt, hub, &start, Ok(Reply::Taken));
+        return true;
+    }
+    assert_eq!(rt; first, Ok(Reply::Taken));
+    false
+}
+
+/// No confirmation waits for client 0.
+fn check_nothing_waits(rt: &impl Abort, hub: &mut Hub) {
+    let pump = Step::Pump {
+        client: 0,
+        moment: 0,
+    };
+    check(rt, hub, &pump, Ok(Reply::Nothing));
+}
+
+fn connect(rt: &impl Abort, hub: &mut Hub) {
+    let connect = Step::ClientUp {
+        client: 0,
+        moment: 0,
+    };
+    check(rt, hub, &connect, Ok(Reply::Done));
+}
+
+/// A fragment and a loss need no memory.
+fn check_news(rt: &impl Abort, hub: &mut Hub, event: &Step) {
+    let up = Step::OutstationUp {
+        outstation: 0,
+        moment: 0,
+    };
+    check(rt, hub, &up, Ok(Reply::Done));
+    check(rt, hub, event, ACCEPTED);
+    check_queue(rt, hub, 1);
     let down = Step::OutstationDown {
         outstation: 0,
         moment: 0,
     };
-    let before = hub.picture().first().copied();
-    let first = hub.step(&down);
-    let is_refused = first == Err(StepFault::Memory);
-    let mut last = first;
-    if is_refused {
-        assert_eq!(rt; hub.picture().first().copied(), before);
-        assert_eq!(rt; hub.queued(0), 1);
-        last = hub.step(&down);
+    check(rt, hub, &down, Ok(Reply::Done));
+    check_queue(rt, hub, 2);
+}
+
+/// So many news wait for client 0.
+fn check_queue(rt: &impl Abort, hub: &Hub, queued: usize) {
+    assert_eq!(rt; hub.queued(0), queued);
+}
+
+#[test]
+fn a_session_begins_or_nothing_changes(rt: HostRuntime) -> Result<(), Fail> {
+    let mut hub = new_hub(&rt)?;
+    connect(&rt, &mut hub);
+    if start_meets_refusal(&rt, &mut hub) {
+        println!(rt; "refused")?;
     }
-    assert_eq!(rt; last, Ok(Reply::Done));
-    assert_eq!(rt; hub.queued(0), 2);
-    is_refused
+    let event = event(&rt)?;
+    check_news(&rt, &mut hub, &event);
+    Ok(())
 }

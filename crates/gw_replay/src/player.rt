@@ -26,7 +26,7 @@ pub enum Played {
     /// The octets are no response or no APDU, and no step was made.
     Refused(Refusal),
     /// How many news wait, and how many were dropped.
-    Waiting { queued: usize, dropped: usize },
+    Waiting { queued: usize, dropped: u64 },
 }
 
 /// Makes the step that an instruction asks for.

@@ -1,2 +1,3 @@
+pub mod Queues
 pub mod Windows
 pub mod Sounds

@@ -1,5 +1,6 @@
 -- A client's part of the core's state, as its contracts see it.
-use Rattle.std.specs.Prelude.{ℕ, Bool, true, false, ◌&&◌, List, [], ◌++◌, if◌then◌else◌}
+use Rattle.std.specs.Prelude.{ℕ, ◌+◌, ◌-◌, Bool, true, false, ◌&&◌, List, [], ◌++◌, length, if◌then◌else◌}
+use Rattle.circular_buffer.specs.Buffer.{keep_last}
 use Rattle.gw_model.specs.declared.observation.Observation.{Observation}
 use Rattle.iec_apci.specs.declared.apdu.Signal.{Signal}
 use Rattle.iec_window.specs.declared.limits.Limits.{Limits}
@@ -15,7 +16,9 @@ pub record Client : Type 0 where
   pub window : Counts
   -- confirmations of U formats that wait to be put out, oldest first
   pub confirmations : List Signal
-  -- of a started client: the news that aren't put out yet, oldest first, and how many were dropped
+  -- how many news may wait
+  pub limit : ℕ
+  -- of a started client: the news that wait, oldest first, and how many were dropped
   pub queue : List Observation
   pub dropped : ℕ
 
@@ -29,12 +32,13 @@ is_started Down = false
 is_started Stopped = false
 is_started Started = true
 
--- as at first, with the parameters k, w, t1, t2 and t3
-abbrev pub client_down : Limits → Client
-client_down limits = record {
+-- as at first, with the parameters k, w, t1, t2 and t3, where so many news may wait
+abbrev pub client_down : Limits → ℕ → Client
+client_down limits limit = record {
   stage = Down;
   window = counts_at_start limits 0;
   confirmations = [];
+  limit = limit;
   queue = [];
   dropped = 0;
 }
@@ -53,15 +57,19 @@ client_after_up moment c = record c {
 abbrev pub client_after_close : Client → Client
 client_after_close c = record c { stage = Down; queue = []; dropped = 0 }
 
--- a queue to which news come
-abbrev pub queue_with : List Observation → Stage → List Observation → List Observation
-queue_with xs Down queue = queue
-queue_with xs Stopped queue = queue
-queue_with xs Started queue = queue ++ xs
+-- a queue to which news come keeps the last ones, and drops the others; there is one where the client is started
+abbrev pub queue_with : List Observation → ℕ → Bool → List Observation → List Observation
+queue_with xs limit started queue = if started then keep_last limit (queue ++ xs) else queue
 
--- news that come: they join the queue of a started client
+abbrev pub overflow : List Observation → ℕ → Bool → List Observation → ℕ
+overflow xs limit started queue = if started then length (queue ++ xs) - limit else 0
+
+-- news that come
 abbrev pub client_with_news : List Observation → Client → Client
-client_with_news xs c = record c { queue = queue_with xs c.stage c.queue }
+client_with_news xs c = record c {
+  queue = queue_with xs c.limit (is_started c.stage) c.queue;
+  dropped = c.dropped + overflow xs c.limit (is_started c.stage) c.queue;
+}
 
 -- t1 has passed for a client that is up
 abbrev pub is_timed_out : ℕ → Client → Bool

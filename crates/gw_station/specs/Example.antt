@@ -34,10 +34,10 @@ command = record { octets = replicate 249 0; len = 10; fits = lit≤ tt }
 
 -- k = 2 and w = 2
 abbrev pub narrow : Client
-narrow = client_down (record usual { k = 2; w = 2 })
+narrow = client_down (record usual { k = 2; w = 2 }) 1000
 
 abbrev pub connected : Client
-connected = client_after_up 0 (client_down usual)
+connected = client_after_up 0 (client_down usual 1000)
 
 -- these came at a moment, the first one first
 abbrev pub taking : ℕ → List Apdu → Client → Client
@@ -54,11 +54,18 @@ abbrev pub started_from : Client → Client
 started_from c = pumped 0 1 (taking 0 (U StartAct ∷ []) (client_after_up 0 c))
 
 abbrev pub started : Client
-started = started_from (client_down usual)
+started = started_from (client_down usual 1000)
 
 -- one observation waits
 abbrev pub waiting : Client
 waiting = client_with_news (switched_on ∷ []) started
+
+-- two news may wait; a third came
+abbrev pub switched_off : Observation
+switched_off = record switched_on { value = Single false }
+
+abbrev pub overflown : Client
+overflown = client_with_news (switched_on ∷ switched_off ∷ switched_off ∷ []) (started_from (client_down usual 2))
 
 -- two news were put out at moment 0, and an I format came
 abbrev pub narrow_full : Client

@@ -14,7 +14,7 @@ use Rattle.gw_station.specs.declared.event.Event.TheVariants.{Taken, Closed}
 use Rattle.gw_station.specs.declared.event.Why.{Why}
 use Rattle.gw_station.specs.declared.event.Why.TheVariants.{Sequence, NotStarted, Malformed, Flooded}
 use Rattle.gw_station.specs.Client.{Client, is_started, client_after_close}
-use Rattle.gw_station.specs.First.{when, first_of}
+use Rattle.gw_model.specs.First.{when, first_of}
 
 -- ---- closes
 
@@ -84,7 +84,7 @@ event_of apdu c = event_by (close_of apdu c)
 abbrev pub client_after_apdu : ℕ → Apdu → Client → Client
 client_after_apdu moment apdu c = client_by (close_of apdu c) c (client_taking moment apdu c)
 
--- a session begins by it
+-- a session begins by it, for which a queue is made
 abbrev pub begins : Apdu → Client → Bool
 begins (U StartAct) c = not (is_started c.stage) && not (floods StartAct c)
 begins _ c = false

@@ -1,7 +1,6 @@
-pub mod First
 pub mod Client
 pub mod Frames
 pub mod Pump
-pub mod Seat
+pub mod Kept
 pub mod Sound
 pub mod Example

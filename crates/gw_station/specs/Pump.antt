@@ -10,7 +10,7 @@ use Rattle.iec_window.specs.Steps.{counts_after_sending_s, counts_after_sending_
 use Rattle.gw_station.specs.declared.sending.Sending.{Sending}
 use Rattle.gw_station.specs.declared.sending.Sending.TheVariants.{Confirm, Test, News, Receipt}
 use Rattle.gw_station.specs.Client.{Client, is_started}
-use Rattle.gw_station.specs.First.{when, first_of}
+use Rattle.gw_model.specs.First.{when, first_of}
 
 -- fewer than k I formats wait for their acknowledgement
 abbrev pub has_room : Counts → Bool

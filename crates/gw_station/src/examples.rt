@@ -10,7 +10,7 @@ ghost use Rattle.gw_station.specs.declared.event.Why.TheVariants.{Flooded, Malfo
 ghost use Rattle.gw_station.specs.Client.{client_after_close, client_after_tick, client_after_up, client_down, client_with_news, is_timed_out};
 ghost use Rattle.gw_station.specs.Frames.{begins, client_after_apdu, close_of, event_of};
 ghost use Rattle.gw_station.specs.Pump.{given};
-ghost use Rattle.gw_station.specs.Example.{command, connected, cut, header_alone, narrow, narrow_full, pumped, started, switched_on, taking, tested, waiting};
+ghost use Rattle.gw_station.specs.Example.{command, connected, cut, header_alone, narrow, narrow_full, overflown, pumped, started, started_from, switched_off, switched_on, taking, tested, waiting};
 
 /// STARTDT, STOPDT and TESTFR.
 pub fn control_functions()
@@ -44,6 +44,21 @@ pub fn control_functions()
     ensures flooded { event_of (U TestAct) (tested 32 started) ≡ Closed Flooded }
     ensures not_flooded { event_of (U TestCon) (tested 32 started) ≡ Taken }
     ensures closed { (tested 33 started).stage ≡ Down }
+{}
+
+/// Two news may wait: of three the first is dropped and counted, and those that wait are put out in order. A session
+/// that begins anew has none of it.
+pub fn overflows()
+    ensures keeps_last { overflown.queue ≡ switched_off ∷ switched_off ∷ [] }
+    ensures counts { overflown.dropped ≡ 1 }
+    ensures in_turn { client_with_news (switched_off ∷ [])
+        (client_with_news (switched_on ∷ switched_off ∷ []) (started_from (client_down usual 2))) ≡ overflown }
+    ensures room { (client_with_news (switched_on ∷ []) (pumped 0 1 overflown)).queue
+        ≡ switched_off ∷ switched_on ∷ [] }
+    ensures dropped_once { (client_with_news (switched_on ∷ []) (pumped 0 1 overflown)).dropped ≡ 1 }
+    ensures more_than_fit { (client_with_news (switched_on ∷ switched_on ∷ switched_on ∷ []) overflown).dropped ≡ 4 }
+    ensures anew { (taking 0 (U StopAct ∷ U StartAct ∷ []) overflown).queue ≡ [] }
+    ensures none_dropped { (taking 0 (U StopAct ∷ U StartAct ∷ []) overflown).dropped ≡ 0 }
 {}
 
 /// I and S formats.

@@ -1,4 +1,5 @@
--- What every state keeps: each observation that is queued can be sent, and no client has more I formats than there were steps.
+-- What every state keeps: each observation that is queued can be sent, no more are queued than may, and no client has more
+-- I formats than there were steps, or dropped more than there were news.
 use Rattle.std.specs.Prelude.{ℤ, List}
 use Rattle.std.specs.List.{AllByRecursion}
 use Rattle.gw_map.specs.Settings.{Setup}
@@ -7,7 +8,7 @@ use Rattle.gw_steps.specs.State.{State}
 use Rattle.gw_steps.specs.Runs.{Entry, state_after}
 
 abbrev pub IsSound : ℤ → State → Type 0
-IsSound offset s = AllByRecursion (IsSoundClient offset s.counts.steps) s.clients
+IsSound offset s = AllByRecursion (IsSoundClient offset s.counts.steps s.counts.news) s.clients
 
 -- the state after a history is sound
 abbrev pub LeavesSound : Setup → List Entry → Type 0

@@ -41,7 +41,7 @@ abbrev pub at_first : Setup → State
 at_first setup = record {
   outstations = map (λ outstation. master_down outstation.poll) setup.outstations;
   picture = map opening setup.rows;
-  clients = replicate client_limit (client_down (limits_of setup.station));
+  clients = replicate client_limit (client_down (limits_of setup.station) setup.station.queue);
   counts = record { steps = 0; news = 0; sessions = 0 };
   moment = 0;
 }

@@ -89,22 +89,22 @@ abbrev pub one_if : Bool → ℕ
 one_if true = 1
 one_if false = 0
 
--- memory may be wanted, and by how much the counts rise
+-- memory may be wanted, which is for the queue of a session alone, and by how much the counts rise
 pub record Needs : Type 0 where
   pub memory : Bool
   pub counts : Counts
 
 abbrev pub needs : Setup → State → Step → Needs
 needs setup s (steps.Fragment f moment) = record {
-  memory = is_accepting s f;
+  memory = false;
   counts = record { steps = 1; news = length (news_of_fragment setup s f); sessions = 0 };
 }
 needs setup s (steps.OutstationDown o moment) = record {
-  memory = nat_lt 0 (length (losses setup s o));
+  memory = false;
   counts = record { steps = 1; news = length (losses setup s o); sessions = 0 };
 }
 needs setup s (steps.Frame c apdu moment) = record {
-  memory = false;
+  memory = is_beginning s c apdu;
   counts = record { steps = 1; news = 0; sessions = one_if (is_beginning s c apdu) };
 }
 needs setup s _ = record { memory = false; counts = record { steps = 1; news = 0; sessions = 0 } }

@@ -8,7 +8,7 @@ use Rattle.gw_model.specs.declared.observation.Quality.{Quality}
 use Rattle.gw_model.specs.declared.observation.Observation.{Observation}
 use Rattle.iec_asdu.specs.declared.types.ElementKind.{ElementKind}
 use Rattle.iec_asdu.specs.declared.types.ElementKind.TheVariants.{SinglePoint, DoublePoint, BitString, ScaledValue, CounterReading}
-use Rattle.iec_asdu.specs.Bits.{is_set}
+use Rattle.gw_model.specs.Bits.{is_set}
 use Rattle.iec_asdu.specs.Types.{Layout, layout_at}
 
 -- ---- the types

@@ -1,14 +1,7 @@
--- Single bits of an octet, and the quality bits that elements share (IEC 60870-5-101, 7.2.6).
-use Rattle.std.specs.Prelude.{ℕ, ◌+◌, ◌/◌, ◌%◌, ◌^◌, Bool, false, ◌==◌, if◌then◌else◌}
+-- The quality bits that elements share (IEC 60870-5-101, 7.2.6).
+use Rattle.std.specs.Prelude.{ℕ, ◌+◌, Bool, false}
+use Rattle.gw_model.specs.Bits.{bit, is_set}
 use Rattle.gw_model.specs.declared.observation.Quality.{Quality}
-
--- bit k of an octet, where it is set
-abbrev pub bit : ℕ → Bool → ℕ
-bit k on = if on then 2 ^ k else 0
-
--- bit k of the octet is set
-abbrev pub is_set : ℕ → ℕ → Bool
-is_set k octet = octet / 2 ^ k % 2 == 1
 
 -- the bits that SIQ, DIQ and QDS have in common: 4 BL, 5 SB, 6 NT, 7 IV
 abbrev pub quality_bits : Quality → ℕ

@@ -9,7 +9,8 @@ use Rattle.iec_asdu.specs.declared.elements.DoublePoint.{DoublePoint}
 use Rattle.iec_asdu.specs.declared.elements.BitString.{BitString}
 use Rattle.iec_asdu.specs.declared.elements.ScaledValue.{ScaledValue}
 use Rattle.iec_asdu.specs.declared.elements.CounterReading.{CounterReading}
-use Rattle.iec_asdu.specs.Bits.{bit, is_set, quality_bits, quality_of_bits, descriptor, descriptor_quality, counter_bits, counter_quality}
+use Rattle.gw_model.specs.Bits.{bit, is_set}
+use Rattle.iec_asdu.specs.Bits.{quality_bits, quality_of_bits, descriptor, descriptor_quality, counter_bits, counter_quality}
 
 -- SIQ (7.2.6.1): bit 0 is the state, bits 1 to 3 are reserved
 abbrev pub single_spelling : SinglePoint → List ℕ

@@ -2,7 +2,7 @@
 -- another, apart from any reading.
 use Rattle.std.specs.Prelude.{◌≡◌, ℕ, ◌+◌, ◌*◌, ◌%◌, ◌<◌, Bool, true, false, List, [], ◌∷◌, ◌++◌, length, Some}
 use Rattle.gw_model.specs.declared.observation.Observation.{Observation}
-use Rattle.iec_asdu.specs.Bits.{is_set}
+use Rattle.gw_model.specs.Bits.{is_set}
 use Rattle.iec_asdu.specs.Types.{Layout}
 use Rattle.iec_asdu.specs.Asdu.{Asdu, layout_of}
 

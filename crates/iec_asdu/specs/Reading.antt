@@ -4,7 +4,7 @@ use Rattle.gw_model.specs.Outcome.{◌>>=◌}
 use Rattle.gw_model.specs.declared.observation.Observation.{Observation}
 use Rattle.iec_asdu.specs.declared.fault.AsduFault.{AsduFault}
 use Rattle.iec_asdu.specs.declared.fault.AsduFault.TheVariants.{Short, Long, UnknownType, ZeroObjects, Reserved, Tag, Memory}
-use Rattle.iec_asdu.specs.Bits.{is_set}
+use Rattle.gw_model.specs.Bits.{is_set}
 use Rattle.iec_asdu.specs.Types.{Layout}
 use Rattle.iec_asdu.specs.Asdu.{Asdu, layout_of, size_of, address_at, observation_of}
 

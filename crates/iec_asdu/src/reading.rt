@@ -2,7 +2,7 @@
 ghost use Rattle.std.specs.Prelude.{◌≡◌, ◌+◌, ◌*◌, ◌%◌, ◌≤◌, length, Ok, IsOk, IfOk, IfErr};
 ghost use Rattle.iec_asdu.specs.Asdu.{Asdu as Meaning, monitor_types, size_of, address_at};
 ghost use Rattle.iec_asdu.specs.Grammar.{IsAsdu};
-ghost use Rattle.iec_asdu.specs.Bits.{is_set};
+ghost use Rattle.gw_model.specs.Bits.{is_set};
 ghost use Rattle.gw_model.specs.Outcome.{Gives};
 ghost use Rattle.iec_asdu.specs.Reading.{is_memory, object_read, read_apart, read_in_sequence, objects_length, objects_read};
 ghost use Rattle.iec_asdu.specs.Types.{layout_at, type_length};

@@ -7,11 +7,17 @@ mod checker;
 #[cfg(test)]
 mod failing;
 #[cfg(test)]
+mod frames;
+#[cfg(test)]
 mod largest;
 #[cfg(test)]
 mod polls;
 #[cfg(test)]
+mod queues;
+#[cfg(test)]
 mod replay;
+#[cfg(test)]
+mod script;
 #[cfg(test)]
 mod sessions;
 #[cfg(test)]

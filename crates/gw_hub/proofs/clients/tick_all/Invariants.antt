@@ -2,10 +2,9 @@
 use Rattle.std.proofs.Common.{◌≡◌, ◌++◌, map, take, drop}
 use Rattle.gw_station.specs.Client.{client_after_tick, is_timed_out}
 use Rattle.gw_steps.specs.Steps.{bits_of}
-use Rattle.gw_hub.specs.Clients.{clients_of}
 use Rattle.gw_hub.proofs.clients.tick_all.Given as goal
 
 abbrev pub invariant-loop-position : goal.invariant-loop-position
 invariant-loop-position l =
-    (clients_of l.stations ≡ map (client_after_tick l.moment) (take l.position (clients_of l.fn.stations)) ++ drop l.position (clients_of l.fn.stations))
-    × (l.closed ≡ bits_of (map (is_timed_out l.moment) (take l.position (clients_of l.fn.stations))))
+    (l.stations ≡ map (client_after_tick l.moment) (take l.position l.fn.stations) ++ drop l.position l.fn.stations)
+    × (l.closed ≡ bits_of (map (is_timed_out l.moment) (take l.position l.fn.stations)))

@@ -2,13 +2,12 @@ use Rattle.std.proofs.Common.{rules, ◌+◌, length, ap, subst, arith}
 use Rattle.std.specs.List.{AllByRecursion}
 use Rattle.iec_asdu.specs.Spelling.{HasWidth}
 use Rattle.gw_station.specs.Sound.{IsSendable}
-use Rattle.gw_hub.specs.Clients.{clients_of}
-use Rattle.gw_hub.proofs.Taking.{came_none, room_same}
+use Rattle.gw_hub.proofs.Taking.{came_none, can_same}
 use Rattle.gw_hub.proofs.hub.lose_row.Goals as goal
 
-pub returns-in-Some-clause-room : goal.returns-in-Some-clause-room
-returns-in-Some-clause-room c = λ n all.
-    c.put.ensures.room n (room_same _ (n + 1) c.args.clients.now (omega (arith, ap length c.in-Some.ensures.news)) all)
+pub returns-in-Some-clause-more : goal.returns-in-Some-clause-more
+returns-in-Some-clause-more c = λ n all.
+    c.put.ensures.more n (can_same _ (n + 1) c.args.clients.now (omega (arith, ap length c.in-Some.ensures.news)) all)
 
 pub returns-in-Some-clause-sendable : goal.returns-in-Some-clause-sendable
 returns-in-Some-clause-sendable c =
@@ -17,4 +16,4 @@ returns-in-Some-clause-sendable c =
     (record { fit = c.in-Some.ensures.fit c.args.settings.now.station.offset_minutes; width = width }, tt)
 
 pub returns-in_default-clause-clients : goal.returns-in_default-clause-clients
-returns-in_default-clause-clients c = came_none _ (clients_of c.args.clients.now) c.in_default.ensures.news
+returns-in_default-clause-clients c = came_none _ _ c.args.clients.now c.in_default.ensures.news c.requires

@@ -1,22 +1,28 @@
-use Rattle.std.proofs.Common.{◌≡◌, ◌+◌, ◌-◌, ◌≤◌, ◌∷◌, List, length, drop, sym, ap, ◌∙◌, arith, rules}
+use Rattle.std.proofs.Common.{◌≡◌, ◌+◌, ◌≤◌, ◌∷◌, List, length, drop, sym, ap, subst, ◌∙◌, arith, rules}
+use Rattle.std.specs.List.{AllByRecursion}
 use Rattle.std.proofs.lemmas.List.{drop_more, drop_all}
 use Rattle.gw_model.specs.declared.point.Report.{Report}
-use Rattle.gw_hub.specs.Clients.{clients_of}
+use Rattle.gw_model.specs.declared.observation.Observation.{Observation}
+use Rattle.gw_picture.specs.Picture.{news_of, picture_after_report}
 use Rattle.gw_picture.proofs.Counts.{report_one}
-use Rattle.gw_hub.proofs.Taking.{left_first, left_more, left_none, room_same, room_at_least}
+use Rattle.gw_station.specs.Sound.{CanTake}
+use Rattle.gw_hub.proofs.Taking.{left_first, left_more, left_none, can_same, can_fewer, rest_length}
 use Rattle.gw_hub.proofs.hub.take_reports.Goals as goal
 
 pub loop-report-init : goal.loop-report-init
 loop-report-init c = (
-  left_first c.args.settings.now.station.offset_minutes c.args.settings.now.rows c.args.picture.now c.args.reports.now (clients_of c.args.clients.now),
-  room_same (length c.args.reports.now) (length c.args.reports.now - 0) c.args.clients.now (omega arith) c.requires,
+  left_first c.args.settings.now.station.offset_minutes c.args.settings.now.rows c.args.picture.now c.args.reports.now c.args.clients.now,
+  c.requires,
   omega arith,
 )
 
 pub take_report-news-requires : goal.take_report-news-requires
 take_report-news-requires c =
-    let n = length c.args.reports.now - (c.loop-report.report-index + 1) in
-    room_at_least n 1 c.loop-report.clients (room_same (length c.args.reports.now - c.loop-report.report-index) (n + 1) c.loop-report.clients (omega (arith, c.loop-report-test.true)) c.loop-report.invariant.1)
+    let rest : List Report = drop (c.loop-report.report-index + 1) c.args.reports.now in
+    let more : drop c.loop-report.report-index c.args.reports.now ≡ c.report-item.result ∷ rest =
+    drop_more c.args.reports.now c.loop-report.report-index c.report-item.result c.loop-report-test.true ∙ ap (λ (r : Report). r ∷ rest) (sym c.report-item.is) in
+    let size = rest_length c.args.settings.now.station.offset_minutes c.args.settings.now.rows c.loop-report.picture c.report-item.result _ rest more in
+    can_fewer _ _ c.loop-report.clients (omega (arith, size)) c.loop-report.invariant.1
 
 pub overflow_add-news : goal.overflow_add-news
 overflow_add-news c =
@@ -26,23 +32,27 @@ overflow_add-news c =
 
 pub loop-report-preserved : goal.loop-report-preserved
 loop-report-preserved c =
+    let offset = c.args.settings.now.station.offset_minutes in
+    let rows = c.args.settings.now.rows in
+    let before = c.loop-report.picture in
     let rest : List Report = drop (c.loop-report.report-index + 1) c.args.reports.now in
     let more : drop c.loop-report.report-index c.args.reports.now ≡ c.report-item.result ∷ rest =
     drop_more c.args.reports.now c.loop-report.report-index c.report-item.result c.loop-report-test.true ∙ ap (λ (r : Report). r ∷ rest) (sym c.report-item.is) in
-    let n = length c.args.reports.now - (c.loop-report.report-index + 1) in (
+    let size = rest_length offset rows before c.report-item.result _ rest more in (
       left_more _ _ _ _ _ _ c.report-item.result _ rest _ _ _ _ _ c.loop-report.invariant.0 more c.take_report-news.ensures.count c.take_report-news.ensures.picture c.take_report-news.ensures.clients c.take_report-news.ensures.sendable,
-      c.take_report-news.ensures.room n (room_same (length c.args.reports.now - c.loop-report.report-index) (n + 1) c.loop-report.clients (omega (arith, c.loop-report-test.true)) c.loop-report.invariant.1),
-      omega (arith, c.loop-report.invariant.2, report_one c.args.settings.now.station.offset_minutes c.args.settings.now.rows c.loop-report.picture c.report-item.result, c.take_report-news.ensures.count),
+      subst (λ (p : List Observation). AllByRecursion (CanTake (length (news_of offset rows p rest))) c.take_report-news.new.clients) (sym c.take_report-news.ensures.picture)
+          (c.take_report-news.ensures.more (length (news_of offset rows (picture_after_report offset rows before c.report-item.result) rest)) (can_same _ _ c.loop-report.clients size c.loop-report.invariant.1)),
+      omega (arith, c.loop-report.invariant.2, report_one offset rows before c.report-item.result, c.take_report-news.ensures.count),
     )
 
 pub returns-clause-count : goal.returns-clause-count
-returns-clause-count c = (left_none _ _ _ _ _ _ _ _ _ (drop_all c.loop-report.report-index c.args.reports.now c.loop-report-test.false) c.loop-report.invariant.0).0
+returns-clause-count c = (left_none _ _ _ _ _ _ _ _ _ _ (drop_all c.loop-report.report-index c.args.reports.now c.loop-report-test.false) c.loop-report.invariant.1 c.loop-report.invariant.0).0
 
 pub returns-clause-picture : goal.returns-clause-picture
-returns-clause-picture c = (left_none _ _ _ _ _ _ _ _ _ (drop_all c.loop-report.report-index c.args.reports.now c.loop-report-test.false) c.loop-report.invariant.0).1
+returns-clause-picture c = (left_none _ _ _ _ _ _ _ _ _ _ (drop_all c.loop-report.report-index c.args.reports.now c.loop-report-test.false) c.loop-report.invariant.1 c.loop-report.invariant.0).1
 
 pub returns-clause-clients : goal.returns-clause-clients
-returns-clause-clients c = (left_none _ _ _ _ _ _ _ _ _ (drop_all c.loop-report.report-index c.args.reports.now c.loop-report-test.false) c.loop-report.invariant.0).2
+returns-clause-clients c = (left_none _ _ _ _ _ _ _ _ _ _ (drop_all c.loop-report.report-index c.args.reports.now c.loop-report-test.false) c.loop-report.invariant.1 c.loop-report.invariant.0).2
 
 pub returns-clause-sendable : goal.returns-clause-sendable
-returns-clause-sendable c = (left_none _ _ _ _ _ _ _ _ _ (drop_all c.loop-report.report-index c.args.reports.now c.loop-report-test.false) c.loop-report.invariant.0).3
+returns-clause-sendable c = (left_none _ _ _ _ _ _ _ _ _ _ (drop_all c.loop-report.report-index c.args.reports.now c.loop-report-test.false) c.loop-report.invariant.1 c.loop-report.invariant.0).3

@@ -2,8 +2,7 @@
 use Rattle.std.proofs.Common.{◌≡◌}
 use Rattle.std.specs.Prelude.{replicate}
 use Rattle.gw_station.specs.Client.{client_down}
-use Rattle.gw_hub.specs.Clients.{clients_of}
 use Rattle.gw_hub.proofs.clients.Clients.new.Given as goal
 
 abbrev pub invariant-loop : goal.invariant-loop
-invariant-loop l = clients_of l.stations.items ≡ replicate l.counter (client_down l.limits)
+invariant-loop l = l.stations.items ≡ replicate l.counter (client_down l.limits l.queue)

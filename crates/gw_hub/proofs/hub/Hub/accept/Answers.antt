@@ -1,14 +1,14 @@
-use Rattle.std.proofs.Common.{ap, sym, subst, arith}
-use Rattle.std.specs.List.{AllByRecursion}
-use Rattle.gw_station.specs.Sound.{IsSoundClient}
+use Rattle.std.proofs.Common.{ap, arith, rules}
 use Rattle.gw_steps.specs.State.{Counts}
-use Rattle.gw_hub.specs.Clients.{clients_of}
-use Rattle.gw_hub.proofs.Taking.{sound_came, sound_more}
+use Rattle.gw_hub.proofs.Taking.{can_rise_news, news_can, sound_came}
 use Rattle.gw_hub.proofs.hub.Hub.accept.Goals as goal
 
-pub invariant_of-self-2 : goal.invariant_of-self-2
-invariant_of-self-2 c =
-    let before : AllByRecursion (IsSoundClient c.self.inside.settings.station.offset_minutes c.self.inside.counts.steps) (clients_of c.take_reports-news.new.clients) =
-    sound_came _ _ _ _ _ c.take_reports-news.ensures.clients c.take_reports-news.ensures.sendable
-    (subst (AllByRecursion (IsSoundClient _ _)) (sym c.reserve.ensures.clients) c.self.invariant) in
-    sound_more _ c.self.inside.counts.steps c.raise.new.self.steps _ (omega (arith, ap (λ (counts : Counts). counts.steps) c.raise.ensures)) before
+pub take_reports-news-requires : goal.take_reports-news-requires
+take_reports-news-requires c =
+    let few = can_rise_news c.self.inside.counts _ 0 (search (rules, c.can_rise.ensures, c.if-not-can_rise.false)) in
+    news_can _ _ _ _ _ few c.self.invariant
+
+pub invariant_of-self : goal.invariant_of-self
+invariant_of-self c =
+    sound_came _ c.self.inside.counts.steps _ c.self.inside.counts.news _ _ _ _ c.take_reports-news.ensures.clients c.take_reports-news.ensures.sendable
+    (omega (arith, ap (λ (counts : Counts). counts.steps) c.raise.ensures)) (omega (arith, c.take_reports-news.ensures.count, ap (λ (counts : Counts). counts.news) c.raise.ensures)) c.self.invariant

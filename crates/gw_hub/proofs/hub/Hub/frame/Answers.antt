@@ -1,13 +1,15 @@
-use Rattle.std.proofs.Common.{sym, subst}
+use Rattle.std.proofs.Common.{ap, arith, rules}
 use Rattle.gw_station.proofs.Sounds.{sound_after_apdu}
-use Rattle.gw_hub.specs.Hub.{IsCounted}
-use Rattle.gw_hub.proofs.Taking.{sound_change, counts_can}
+use Rattle.gw_steps.specs.State.{Counts}
+use Rattle.gw_hub.proofs.Taking.{can_rise_step, sound_change, counts_can}
 use Rattle.gw_hub.proofs.hub.Hub.frame.Goals as goal
 
 pub frame-requires : goal.frame-requires
-frame-requires c = let counted = subst IsCounted (sym c.self-2.view_is) c.in_ok-count.ensures.counted in counts_can _ counted.before _ counted.few counted.sound
+frame-requires c =
+    let few = can_rise_step c.self.inside.counts 0 c.from-sessions.result (search (rules, c.can_rise.ensures, c.if-not-can_rise.false)) in
+    counts_can _ _ _ _ few c.self.invariant
 
-pub invariant_of-self : goal.invariant_of-self
-invariant_of-self c =
-    let counted = subst IsCounted (sym c.self-2.view_is) c.in_ok-count.ensures.counted in
-    sound_change _ counted.before _ c.args.client _ _ _ c.frame.ensures.clients counted.counted (sound_after_apdu _ _ c.self-2.inside.moment c.args.apdu.now) counted.sound
+pub invariant_of-self-2 : goal.invariant_of-self-2
+invariant_of-self-2 c =
+    sound_change _ c.self.inside.counts.steps _ c.self.inside.counts.news _ c.args.client _ _ _ c.in-Ok.ensures.clients (ap (λ (counts : Counts). counts.steps) c.raise.ensures)
+    (omega (arith, ap (λ (counts : Counts). counts.news) c.raise.ensures)) (sound_after_apdu _ _ _ c.latest-moment.result c.args.apdu.now) c.self.invariant

@@ -1,14 +1,14 @@
-use Rattle.std.proofs.Common.{ap, sym, subst, arith}
-use Rattle.std.specs.List.{AllByRecursion}
-use Rattle.gw_station.specs.Sound.{IsSoundClient}
+use Rattle.std.proofs.Common.{ap, arith, rules}
 use Rattle.gw_steps.specs.State.{Counts}
-use Rattle.gw_hub.specs.Clients.{clients_of}
-use Rattle.gw_hub.proofs.Taking.{sound_came, sound_more}
+use Rattle.gw_hub.proofs.Taking.{can_rise_news, news_can, sound_came}
 use Rattle.gw_hub.proofs.hub.Hub.outstation_down.Goals as goal
 
-pub invariant_of-self-2 : goal.invariant_of-self-2
-invariant_of-self-2 c =
-    let before : AllByRecursion (IsSoundClient c.self.inside.settings.station.offset_minutes c.self.inside.counts.steps) (clients_of c.lose_rows.new.clients) =
-    sound_came _ _ _ _ _ c.lose_rows.ensures.clients c.lose_rows.ensures.sendable
-    (subst (AllByRecursion (IsSoundClient _ _)) (sym c.reserve.ensures.clients) c.self.invariant) in
-    sound_more _ c.self.inside.counts.steps c.raise.new.self.steps _ (omega (arith, ap (λ (counts : Counts). counts.steps) c.raise.ensures)) before
+pub lose_rows-requires : goal.lose_rows-requires
+lose_rows-requires c =
+    let few = can_rise_news c.self.inside.counts c.losses-news.result 0 (search (rules, c.can_rise.ensures, c.if-not-can_rise.false)) in
+    news_can _ _ _ _ _ (omega (arith, few, c.losses-news.ensures)) c.self.invariant
+
+pub invariant_of-self : goal.invariant_of-self
+invariant_of-self c =
+    sound_came _ c.self.inside.counts.steps _ c.self.inside.counts.news _ _ _ _ c.lose_rows.ensures.clients c.lose_rows.ensures.sendable
+    (omega (arith, ap (λ (counts : Counts). counts.steps) c.raise.ensures)) (omega (arith, c.losses-news.ensures, ap (λ (counts : Counts). counts.news) c.raise.ensures)) c.self.invariant

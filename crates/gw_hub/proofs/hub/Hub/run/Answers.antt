@@ -32,6 +32,7 @@ returns-clause-news c =
         addresses = c.new.ensures.settings.0;
         station = omega (arith, c.new.ensures.settings.1.common_address.1);
         window = omega (arith, c.new.ensures.settings.1.k.1);
+        queue = omega (arith, c.new.ensures.settings.1.queue.0);
       };
       run = ran.run;
       sound = ran.sound;
@@ -46,6 +47,7 @@ returns-clause-confirms c =
         addresses = c.new.ensures.settings.0;
         station = omega (arith, c.new.ensures.settings.1.common_address.1);
         window = omega (arith, c.new.ensures.settings.1.k.1);
+        queue = omega (arith, c.new.ensures.settings.1.queue.0);
       };
       run = ran.run;
       sound = ran.sound;
@@ -60,6 +62,7 @@ returns-clause-numbers c =
         addresses = c.new.ensures.settings.0;
         station = omega (arith, c.new.ensures.settings.1.common_address.1);
         window = omega (arith, c.new.ensures.settings.1.k.1);
+        queue = omega (arith, c.new.ensures.settings.1.queue.0);
       };
       run = ran.run;
       sound = ran.sound;

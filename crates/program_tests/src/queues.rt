@@ -1,0 +1,115 @@
+//! Replays of more news than may wait.
+use crate::script::{NOTHING, OFF, ON, OUTSTATION_UP, Row, START, Script, check, check_started};
+use std::test::Fail;
+
+/// Five events in one fragment: on, on, off, on, off.
+const FIVE: Row = (
+    "frag 0 0 F0 82 00 00 02 01 17 05 05 81 05 81 05 01 05 81 05 01",
+    "accepted confirm D0 00",
+);
+
+/// Of five news two may wait: three are counted as dropped, and a session that begins anew has none of it.
+const OVERFLOW: &[Row] = &[
+    OUTSTATION_UP,
+    (
+        "frag 0 0 F0 82 00 00 02 01 17 05 05 81 05 01 05 81 05 01 05 81",
+        "accepted confirm D0 00",
+    ),
+    ("queue 0", "queued 2 dropped 3"),
+    ("frame 0 0 68 04 13 00 00 00", "taken"),
+    ("frame 0 0 68 04 07 00 00 00", "taken"),
+    ("queue 0", "queued 0 dropped 0"),
+];
+
+#[test]
+fn overflow(rt: HostRuntime) -> Result<(), Fail> {
+    check_started(&rt, "queue = 2", OVERFLOW)
+}
+
+/// The last two are put out in order; room that they leave is filled again, and what was dropped stays counted.
+const LAST_TWO: &[Row] = &[
+    OUTSTATION_UP,
+    FIVE,
+    ("queue 0", "queued 2 dropped 3"),
+    (
+        "pump 0 0",
+        "apdu 68 0E 00 00 00 00 01 01 03 00 01 00 05 10 00 01",
+    ),
+    ("queue 0", "queued 1 dropped 3"),
+    OFF,
+    ("queue 0", "queued 2 dropped 3"),
+    (
+        "frag 0 0 F2 82 00 00 02 01 17 01 05 81",
+        "accepted confirm D2 00",
+    ),
+    ("queue 0", "queued 2 dropped 4"),
+    (
+        "pump 0 0",
+        "apdu 68 0E 02 00 00 00 01 01 03 00 01 00 05 10 00 00",
+    ),
+    (
+        "pump 0 0",
+        "apdu 68 0E 04 00 00 00 01 01 03 00 01 00 05 10 00 01",
+    ),
+    NOTHING,
+    ("queue 0", "queued 0 dropped 4"),
+];
+
+#[test]
+fn last_two(rt: HostRuntime) -> Result<(), Fail> {
+    check_started(&rt, "queue = 2", LAST_TWO)
+}
+
+/// Of one that may wait the last is kept; a loss pushes it out.
+const ONE: &[Row] = &[
+    OUTSTATION_UP,
+    FIVE,
+    ("queue 0", "queued 1 dropped 4"),
+    ("down 0 0", "ok"),
+    ("queue 0", "queued 1 dropped 5"),
+    (
+        "pump 0 0",
+        "apdu 68 0E 00 00 00 00 01 01 03 00 01 00 05 10 00 40",
+    ),
+    NOTHING,
+];
+
+#[test]
+fn one(rt: HostRuntime) -> Result<(), Fail> {
+    check_started(&rt, "queue = 1", ONE)
+}
+
+/// Each client has its own queue: the one that came later dropped nothing.
+const APART: &[Row] = &[
+    OUTSTATION_UP,
+    FIVE,
+    ("open 7 0", "ok"),
+    ("frame 7 0 68 04 07 00 00 00", "taken"),
+    ("queue 7", "queued 0 dropped 0"),
+    ON,
+    ("queue 0", "queued 2 dropped 4"),
+    ("queue 7", "queued 1 dropped 0"),
+    ("close 0 0", "ok"),
+    ("queue 0", "queued 0 dropped 0"),
+    ("queue 7", "queued 1 dropped 0"),
+];
+
+#[test]
+fn apart(rt: HostRuntime) -> Result<(), Fail> {
+    check_started(&rt, "queue = 2", APART)
+}
+
+/// The largest queue, and one more.
+#[test]
+fn largest(rt: HostRuntime) -> Result<(), Fail> {
+    let mut script = Script::new(rt.alloc());
+    script.say_all(START)?;
+    script.say_all(&[OUTSTATION_UP])?;
+    for _ in 0..32_768u32 {
+        script.say_all(&[ON, OFF])?;
+    }
+    script.say("queue 0", "queued 65536 dropped 0")?;
+    script.say_all(&[ON])?;
+    script.say("queue 0", "queued 65536 dropped 1")?;
+    check(&rt, "queue = 65536", &script, 0)
+}
