@@ -1,0 +1,4 @@
+pub mod Octets
+pub mod Again
+pub mod Spelled
+pub mod Changed

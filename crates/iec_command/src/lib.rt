@@ -1,0 +1,16 @@
+//! ASDUs of IEC 60870-5-101 in control direction: commands, interrogations and the read command.
+#![tactic(auto)]
+
+pub mod causes;
+mod command;
+mod examples;
+mod fault;
+pub mod laws;
+mod mirroring;
+mod reading;
+
+pub use command::{Action, Command, DoubleCommand, SetpointCommand, SingleCommand};
+pub use examples::{bit_examples, command_examples, fault_examples, spelling_examples};
+pub use fault::CommandFault;
+pub use mirroring::mirror;
+pub use reading::read_command;
