@@ -1,0 +1,174 @@
+-- What is written of an answer means what it was made of.
+use Rattle.std.proofs.Common.{◌≡◌, ℕ, ℤ, ◌+◌, ◌/◌, ◌%◌, ◌^◌, ◌<◌, ◌≤◌, Bool, true, false, eqb, List, [], ◌∷◌, length, Option, Some, None, Result, Ok, Err, refl, sym, ap, subst, ◌∙◌, arith, inl, inr}
+use Rattle.std.specs.Prelude.{◌*◌, option_map, slice_set}
+use Rattle.std.proofs.lemmas.Bool.{cases_Bool, eq-eqb}
+use Rattle.gw_model.specs.Bits.{is_set}
+use Rattle.gw_model.specs.Optional.{◌>>=◌}
+use Rattle.gw_model.specs.Fit.{IsFit}
+use Rattle.gw_model.specs.First.{first_of}
+use Rattle.gw_model.specs.declared.observation.Observation.{Observation}
+use Rattle.iec_asdu.specs.Types.{Layout}
+use Rattle.iec_asdu.specs.Asdu.{Asdu, asdu_meaning, monitor_types, layout_of, objects_of}
+use Rattle.iec_asdu.specs.Spelling.{spelling, HasWidth}
+use Rattle.iec_asdu.proofs.Meant.{meant}
+use Rattle.iec_command.specs.declared.command.Command.{Command}
+use Rattle.iec_command.specs.declared.command.Action.{Action}
+use Rattle.iec_command.specs.declared.command.Action.TheVariants as actions
+use Rattle.iec_command.specs.declared.fault.CommandFault.{CommandFault}
+use Rattle.iec_command.specs.Commands.{spelling as command_spelling, cause_octet, command_in, command_of, faults, mirrored, unless, IsWhole}
+use Rattle.iec_command.proofs.Again.{command_of-spelling}
+use Rattle.gw_answers.specs.declared.answer.Answer.{Answer}
+use Rattle.gw_answers.specs.declared.answer.Answer.TheVariants.{Unknown, Confirmed, Shown}
+use Rattle.gw_answers.specs.declared.answer.Part.{Part}
+use Rattle.gw_answers.specs.declared.answer.Part.TheVariants.{Confirmation, Row, Termination}
+use Rattle.gw_answers.specs.Octets.{octets_in, answering, confirming, answer_octets, part_octets}
+use Rattle.gw_answers.specs.Meaning.{Tells, Commands, meant_by, meaning_of, asdu_of, HasCause, ComesBack, MeansAnswer, MeansPart, CanSendAnswer, CanSendPart}
+
+-- ---- commands
+
+-- a command carries no process information
+tells_nothing : (offset : ℤ) (c : Command) (action : Action) → asdu_meaning (monitor_types offset) (command_spelling (record c { action = action })) ≡ None
+unfolding asdu_meaning
+tells_nothing offset c (actions.Single x) = refl
+tells_nothing offset c (actions.Double x) = refl
+tells_nothing offset c (actions.Setpoint x) = refl
+tells_nothing offset c (actions.Interrogation qualifier) = refl
+tells_nothing offset c (actions.CounterInterrogation qualifier) = refl
+tells_nothing offset c actions.Read = refl
+
+pub commands_mean : (offset : ℤ) (c : Command) → IsWhole c → meaning_of offset (command_spelling c) ≡ Commands c
+commands_mean offset c whole =
+    let octets : List ℕ = command_spelling c in
+    ap (λ (m : Option Asdu). meant_by octets m (command_of octets)) (tells_nothing offset c c.action)
+    ∙ ap (λ (r : Result Command CommandFault). meant_by octets None r) (command_of-spelling c whole)
+
+answering_whole : (common cause : ℕ) (negative : Bool) (c : Command) → common < 65536 → cause < 64 → IsWhole c → IsWhole (answering common cause negative c)
+answering_whole common cause negative c small few whole = record {
+  cause = few;
+  originator = whole.originator;
+  common_address = small;
+  address = whole.address;
+  action = whole.action;
+}
+
+confirming_few : (cause : ℕ) → confirming cause < 64
+confirming_few cause = elim (cases_Bool (eqb cause 8)) [ inl is ↦ rw is (omega arith) | inr isnt ↦ rw isnt (omega arith) ]
+
+-- ---- observations
+
+pub observations_mean : (offset : ℤ) (common cause : ℕ) (x : Observation) → common < 65536 → HasWidth x.value → IsFit offset x
+    → meaning_of offset (spelling offset common cause x) ≡ Tells (asdu_of offset common cause 0 x)
+observations_mean offset common cause x small width fit =
+    let octets : List ℕ = spelling offset common cause x in
+    ap (λ (m : Option Asdu). meant_by octets m (command_of octets)) (meant offset common cause x small width fit)
+
+abbrev one : ℕ → ℕ → ℕ → ℕ → List Observation → Asdu
+one identification cause originator common xs =
+    record { identification = identification; cause = cause; originator = originator; common_address = common; observations = xs }
+
+-- the originator is told as it stands, and changes nothing else
+originator_apart : (types : List Layout) (t v cause o : ℕ) (rest : List ℕ)
+    → asdu_meaning types (t ∷ v ∷ cause ∷ o ∷ rest) ≡ option_map (λ (a : Asdu). record a { originator = o }) (asdu_meaning types (t ∷ v ∷ cause ∷ 0 ∷ rest))
+unfolding asdu_meaning
+originator_apart types t v cause o [] = refl
+originator_apart types t v cause o (low ∷ []) = refl
+originator_apart types t v cause o (low ∷ high ∷ objects) = by_layout (layout_of t types)
+  where
+    common : ℕ
+    common = low + 256 * high
+
+    by_objects : (xs : Option (List Observation)) → (xs >>= λ ys. Some (one t cause o common ys)) ≡ option_map (λ (a : Asdu). record a { originator = o }) (xs >>= λ ys. Some (one t cause 0 common ys))
+    by_objects None = refl
+    by_objects (Some xs) = refl
+
+    by_layout : (layout : Option Layout) → (layout >>= λ l. (objects_of l (is_set 7 v) (v % 128) objects >>= λ ys. Some (one t cause o common ys)))
+        ≡ option_map (λ (a : Asdu). record a { originator = o }) (layout >>= λ l. (objects_of l (is_set 7 v) (v % 128) objects >>= λ ys. Some (one t cause 0 common ys)))
+    by_layout None = refl
+    by_layout (Some l) = by_objects (objects_of l (is_set 7 v) (v % 128) objects)
+
+shown_means : (offset : ℤ) (common originator : ℕ) (x : Observation) → common < 65536 → HasWidth x.value → IsFit offset x
+    → meaning_of offset (slice_set (spelling offset common 5 x) 3 originator) ≡ Tells (asdu_of offset common 5 originator x)
+shown_means offset common originator x small width fit =
+    let octets : List ℕ = slice_set (spelling offset common 5 x) 3 originator in
+    ap (λ (m : Option Asdu). meant_by octets m (command_of octets))
+    (originator_apart (monitor_types offset) _ 1 5 originator _ ∙ ap (option_map (λ (a : Asdu). record a { originator = originator })) (meant offset common 5 x small width fit))
+
+-- ---- what comes back
+
+-- the cause is the third octet
+cause_told : (types : List Layout) (t v cause : ℕ) (rest : List ℕ) (a : Asdu) → asdu_meaning types (t ∷ v ∷ cause ∷ rest) ≡ Some a → a.cause ≡ cause
+unfolding asdu_meaning
+cause_told types t v cause [] a e = absurd cc
+cause_told types t v cause (o ∷ []) a e = absurd cc
+cause_told types t v cause (o ∷ low ∷ []) a e = absurd cc
+cause_told types t v cause (o ∷ low ∷ high ∷ objects) a e = by_layout (layout_of t types) e
+  where
+    common : ℕ
+    common = low + 256 * high
+
+    by_objects : (xs : Option (List Observation)) → (xs >>= λ ys. Some (one t cause o common ys)) ≡ Some a → a.cause ≡ cause
+    by_objects None e = absurd cc
+    by_objects (Some xs) e = sym (ap (λ (x : Option Asdu). cause_in x) e)
+      where
+        cause_in : Option Asdu → ℕ
+        cause_in None = cause
+        cause_in (Some b) = b.cause
+
+    by_layout : (layout : Option Layout) → (layout >>= λ l. (objects_of l (is_set 7 v) (v % 128) objects >>= λ ys. Some (one t cause o common ys))) ≡ Some a → a.cause ≡ cause
+    by_layout None e = absurd cc
+    by_layout (Some l) e = by_objects (objects_of l (is_set 7 v) (v % 128) objects) e
+
+-- so it is in a command
+command_told : (octets : List ℕ) (c : Command) → command_of octets ≡ Ok c → c ≡ command_in octets
+unfolding command_of
+command_told octets c e = go (first_of (faults octets)) e
+  where
+    read : Result Command CommandFault → Command
+    read (Ok d) = d
+    read (Err fault) = c
+
+    go : (fault : Option CommandFault) → unless fault (command_in octets) ≡ Ok c → c ≡ command_in octets
+    go None e = sym (ap read e)
+    go (Some fault) e = absurd cc
+
+-- the octet of a cause with P/N
+cause_has : (cause : ℕ) (test : Bool) → cause < 64 → HasCause cause (cause_octet cause true test)
+cause_has cause true few = (omega (arith, few), eq-eqb (cause_octet cause true true / 2 ^ 6 % 2) 1 (omega (arith, few)))
+cause_has cause false few = (omega (arith, few), eq-eqb (cause_octet cause true false / 2 ^ 6 % 2) 1 (omega (arith, few)))
+
+comes_back : (offset : ℤ) (cause : ℕ) (octets : List ℕ) → cause < 64 → 6 ≤ length octets → ComesBack cause (meaning_of offset (mirrored cause true octets))
+comes_back offset cause [] few long = absurd (omega (arith, long))
+comes_back offset cause (t ∷ []) few long = absurd (omega (arith, long))
+comes_back offset cause (t ∷ v ∷ []) few long = absurd (omega (arith, long))
+comes_back offset cause (t ∷ v ∷ old ∷ rest) few long = by_asdu (asdu_meaning (monitor_types offset) back) refl
+  where
+    new : ℕ
+    new = cause_octet cause true (is_set 7 old)
+
+    back : List ℕ
+    back = t ∷ v ∷ new ∷ rest
+
+    has : HasCause cause new
+    has = cause_has cause (is_set 7 old) few
+
+    by_command : (r : Result Command CommandFault) → command_of back ≡ r → ComesBack cause (meant_by back None r)
+    by_command (Ok c) e = let is : c ≡ command_in back = command_told back c e in
+        (ap (λ (d : Command). d.cause) is ∙ has.0, ap (λ (d : Command). d.negative) is ∙ has.1)
+    by_command (Err fault) e = has
+
+    by_asdu : (m : Option Asdu) → asdu_meaning (monitor_types offset) back ≡ m → ComesBack cause (meant_by back m (command_of back))
+    by_asdu (Some a) e = subst (HasCause cause) (sym (cause_told (monitor_types offset) t v new rest a e)) has
+    by_asdu None e = by_command (command_of back) refl
+
+-- ---- answers
+
+pub answer_means : (offset : ℤ) (common : ℕ) (answer : Answer) → common < 65536 → CanSendAnswer offset answer → MeansAnswer offset common answer (meaning_of offset (answer_octets offset common answer))
+answer_means offset common (Unknown asdu cause) small can = comes_back offset cause (octets_in asdu) (omega (arith, can.2)) can.0
+answer_means offset common (Confirmed c negative) small can =
+    commands_mean offset (answering common (confirming c.cause) negative c) (answering_whole common (confirming c.cause) negative c small (confirming_few c.cause) can)
+answer_means offset common (Shown x originator) small can = shown_means offset common originator x small can.1 can.0
+
+pub part_means : (offset : ℤ) (common : ℕ) (part : Part) → common < 65536 → CanSendPart offset part → MeansPart offset common part (meaning_of offset (part_octets offset common part))
+part_means offset common (Confirmation c) small can = commands_mean offset (answering common 7 false c) (answering_whole common 7 false c small (omega arith) can)
+part_means offset common (Row cause x) small can = observations_mean offset common cause x small can.1 can.0
+part_means offset common (Termination c) small can = commands_mean offset (answering common 10 false c) (answering_whole common 10 false c small (omega arith) can)

@@ -1,0 +1,65 @@
+-- What an ASDU of a client gets for an answer at once (IEC 60870-5-101, 7.2.3), while a picture is shown, and an
+-- interrogation is pending or not.
+use Rattle.std.specs.Prelude.{ℕ, Bool, true, Option, Some, None, List, option_map, slice_get, if◌then◌else◌}
+use Rattle.gw_model.specs.declared.observation.Observation.{Observation}
+use Rattle.gw_entries.specs.declared.row.Row.{Row}
+use Rattle.gw_map.specs.Settings.{Setup, row_at_from}
+use Rattle.iec_apci.specs.declared.apdu.Asdu.{Asdu}
+use Rattle.iec_command.specs.declared.command.Command.{Command}
+use Rattle.iec_command.specs.declared.command.Action.{Action}
+use Rattle.iec_command.specs.declared.command.Action.TheVariants as actions
+use Rattle.gw_judge.specs.Judging.{is_execute}
+use Rattle.gw_judge.specs.declared.judging.Judged.{Judged}
+use Rattle.gw_judge.specs.declared.judging.Judged.TheVariants.{Malformed, Refuse, Accepted}
+use Rattle.gw_answers.specs.declared.answer.Answer.{Answer}
+use Rattle.gw_answers.specs.declared.answer.Answer.TheVariants.{Unknown, Confirmed, Shown}
+use Rattle.gw_answers.specs.Interrogations.{is_accepted_act}
+
+-- ---- places
+
+-- how many places have to be free: none for an interrogation that is accepted; two for a command to be executed, one
+-- for its confirmation and one for its termination; one for all else
+abbrev pub places_for : Bool → Judged → ℕ
+places_for pending Malformed = 0
+places_for pending (Refuse cause execute) = if execute then 2 else 1
+places_for pending (Accepted c) = if is_accepted_act pending c then 0 else if is_execute c then 2 else 1
+
+-- ---- the answer
+
+-- what the picture shows of the row with an address, if there is one
+abbrev pub shown_by : List Observation → Option (ℕ × Row) → Option Observation
+shown_by picture None = None
+shown_by picture (Some found) = slice_get picture found.0
+
+abbrev pub shown_at : Setup → List Observation → ℕ → Option Observation
+shown_at setup picture address = shown_by picture (row_at_from 0 address setup.rows)
+
+-- an interrogation that isn't accepted, and each deactivation of one, is confirmed negatively
+abbrev pub refused_act : Bool → Command → Option Answer
+refused_act pending c = if is_accepted_act pending c then None else Some (Confirmed c true)
+
+-- a command for a control waits for what is said of it
+abbrev pub answered_action : Setup → List Observation → Bool → Command → Action → Option Answer
+answered_action setup picture pending c (actions.Interrogation qualifier) = refused_act pending c
+answered_action setup picture pending c (actions.CounterInterrogation qualifier) = refused_act pending c
+answered_action setup picture pending c actions.Read =
+    option_map (λ x. Shown x c.originator) (shown_at setup picture c.address)
+answered_action setup picture pending c _ = None
+
+abbrev pub answered : Setup → List Observation → Bool → Asdu → Judged → Option Answer
+answered setup picture pending asdu Malformed = None
+answered setup picture pending asdu (Refuse cause execute) = Some (Unknown asdu cause)
+answered setup picture pending asdu (Accepted c) = answered_action setup picture pending c c.action
+
+-- ---- commands for controls
+
+abbrev pub control_command : Command → Action → Option Command
+control_command c (actions.Single x) = Some c
+control_command c (actions.Double x) = Some c
+control_command c (actions.Setpoint x) = Some c
+control_command c _ = None
+
+-- the command for a control that an ASDU is, if it is one
+abbrev pub command_by : Judged → Option Command
+command_by (Accepted c) = control_command c c.action
+command_by _ = None

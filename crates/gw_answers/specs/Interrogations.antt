@@ -1,0 +1,45 @@
+-- The answer to an interrogation (IEC 60870-5-101, 7.4.5 and 7.4.8).
+use Rattle.std.specs.Prelude.{ℕ, Bool, true, false, not, ◌&&◌, ◌==◌, List, [], ◌∷◌, ◌++◌, map, filter}
+use Rattle.gw_model.specs.declared.observation.Observation.{Observation}
+use Rattle.gw_model.specs.declared.observation.Value.{Value}
+use Rattle.gw_model.specs.declared.observation.Value.TheVariants.{Single, Double, Scaled, Word, Total}
+use Rattle.iec_command.specs.declared.command.Command.{Command}
+use Rattle.iec_command.specs.declared.command.Action.{Action}
+use Rattle.iec_command.specs.declared.command.Action.TheVariants.{Interrogation, CounterInterrogation}
+use Rattle.gw_answers.specs.declared.answer.Part.{Part}
+use Rattle.gw_answers.specs.declared.answer.Part.TheVariants.{Confirmation, Row, Termination}
+
+-- the station interrogation (QOI 20), and the general request of counters without freeze (QCC 5)
+abbrev pub is_general : Action → Bool
+is_general (Interrogation qualifier) = qualifier == 20
+is_general (CounterInterrogation qualifier) = qualifier == 5
+is_general _ = false
+
+-- the activation of one is accepted where none is pending
+abbrev pub is_accepted_act : Bool → Command → Bool
+is_accepted_act pending c = c.cause == 6 && is_general c.action && not pending
+
+abbrev pub is_total : Value → Bool
+is_total (Single on) = false
+is_total (Double state) = false
+is_total (Scaled value) = false
+is_total (Word word) = false
+is_total (Total count) = true
+
+-- totals answer a counter interrogation, all else a station interrogation
+abbrev pub is_asked_by : Action → Observation → Bool
+is_asked_by (CounterInterrogation qualifier) x = is_total x.value
+is_asked_by _ x = not (is_total x.value)
+
+-- with cause 37 (requested by general counter request), or 20 (interrogated by station interrogation)
+abbrev pub cause_for : Action → ℕ
+cause_for (CounterInterrogation qualifier) = 37
+cause_for _ = 20
+
+-- what the picture shows of what is asked, in the order of its rows
+abbrev pub rows_of : Action → List Observation → List Part
+rows_of action picture = map (Row (cause_for action)) (filter (is_asked_by action) picture)
+
+-- the confirmation, the rows, and the termination
+abbrev pub answer_to : Command → List Observation → List Part
+answer_to c picture = Confirmation c ∷ (rows_of c.action picture ++ Termination c ∷ [])

@@ -1,0 +1,5 @@
+pub mod Interrogations
+pub mod Answers
+pub mod Octets
+pub mod Meaning
+pub mod Example

@@ -1,0 +1,104 @@
+//! What an ASDU gets for an answer at once.
+ghost use Rattle.std.specs.Prelude.{◌≡◌};
+ghost use Rattle.gw_answers.specs.Answers.{answered, answered_action, command_by, places_for, shown_at};
+
+use crate::answer::Answer;
+use crate::interrogation::is_accepted_act;
+use gw_judge::{Judged, is_execute};
+use gw_map::Settings;
+use gw_model::Observation;
+use iec_apci::Asdu;
+use iec_command::{Action, Command};
+
+/// How many places have to be free for the answer to an ASDU, where an interrogation is pending or not: none for an
+/// interrogation that is accepted, two for a command to be executed, one for all else.
+pub fn places_for(judged: &Judged, pending: bool) -> usize
+    ensures { result ≡ places_for pending judged.now }
+{
+    match judged {
+        Judged::Malformed => 0,
+        Judged::Refuse { execute, .. } => { if *execute { 2 } else { 1 } }
+        Judged::Accepted(command) => {
+            if is_accepted_act(command, pending) {
+                0
+            } else if is_execute(command) {
+                2
+            } else {
+                1
+            }
+        }
+    }
+}
+
+/// The answer that an ASDU gets at once, if any, while `picture` shows the rows of `settings`, and an interrogation is
+/// pending or not.
+pub fn answered(
+    asdu: &Asdu,
+    judged: &Judged,
+    pending: bool,
+    settings: &Settings,
+    picture: &[Observation],
+) -> Option<Answer>
+    ensures { result ≡ answered settings.now picture.now pending asdu.now judged.now }
+{
+    match judged {
+        Judged::Malformed => None,
+        Judged::Refuse { cause, .. } => Some(Answer::Unknown {
+            asdu: *asdu,
+            cause: *cause,
+        }),
+        Judged::Accepted(command) => answered_action(command, pending, settings, picture),
+    }
+}
+
+fn answered_action(
+    command: &Command,
+    pending: bool,
+    settings: &Settings,
+    picture: &[Observation],
+) -> Option<Answer>
+    ensures { result ≡ answered_action settings.now picture.now pending command.now command.now.action }
+{
+    match command.action {
+        Action::Interrogation { .. } | Action::CounterInterrogation { .. } => {
+            if is_accepted_act(command, pending) {
+                None
+            } else {
+                Some(Answer::Confirmed {
+                    command: *command,
+                    negative: true,
+                })
+            }
+        }
+        Action::Read => shown_at(command.address, settings, picture).map(|observation| {
+            Answer::Shown {
+                observation,
+                originator: command.originator,
+            }
+        }),
+        Action::Single(_) | Action::Double(_) | Action::Setpoint(_) => None,
+    }
+}
+
+/// What the picture shows of the row with an address, if there is one.
+fn shown_at(address: u32, settings: &Settings, picture: &[Observation]) -> Option<Observation>
+    ensures { result ≡ shown_at settings.now picture.now address }
+{
+    let (position, _) = settings.row_at(address)?;
+    picture.get(position).copied()
+}
+
+/// The command for a control that an ASDU is, if it is one.
+pub fn command_by(judged: &Judged) -> Option<Command>
+    ensures { result ≡ command_by judged.now }
+{
+    match judged {
+        Judged::Accepted(command) => match command.action {
+            Action::Single(_) | Action::Double(_) | Action::Setpoint(_) => Some(*command),
+            Action::Interrogation { .. } | Action::CounterInterrogation { .. } | Action::Read => {
+                None
+            }
+        },
+        Judged::Malformed | Judged::Refuse { .. } => None,
+    }
+}

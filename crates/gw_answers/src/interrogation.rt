@@ -1,0 +1,87 @@
+//! Interrogations.
+ghost use Rattle.std.specs.Prelude.{◌≡◌, ◌<◌, [], ◌∷◌, ◌++◌, length, IfOk};
+ghost use Rattle.std.specs.VecDeque.{deque_capacity};
+ghost use Rattle.gw_answers.specs.Interrogations.{answer_to, cause_for, is_accepted_act, is_asked_by, is_general, rows_of};
+
+use crate::answer::Part;
+use gw_model::{Memory, Observation, Value};
+use iec_command::causes::{ACTIVATION, COUNTER_INTERROGATION, STATION_INTERROGATION};
+use iec_command::{Action, Command};
+use std::alloc::Global;
+use std::collections::VecDeque;
+
+/// The qualifier of a station interrogation (IEC 60870-5-101, 7.2.6.22).
+const STATION: u8 = 20;
+
+/// The qualifier of a general request of counters, without freeze (IEC 60870-5-101, 7.2.6.23).
+const GENERAL_COUNTERS: u8 = 5;
+
+/// Whether a command asks for all rows, or for all counters.
+fn is_general(action: Action) -> bool
+    ensures { result ≡ is_general action }
+{
+    match action {
+        Action::Interrogation { qualifier } => qualifier == STATION,
+        Action::CounterInterrogation { qualifier } => qualifier == GENERAL_COUNTERS,
+        _ => false,
+    }
+}
+
+/// Whether a command is the activation of an interrogation that is accepted: none is pending.
+pub fn is_accepted_act(command: &Command, pending: bool) -> bool
+    ensures { result ≡ is_accepted_act pending command.now }
+{
+    command.cause == ACTIVATION && is_general(command.action) && !pending
+}
+
+/// Whether a row answers an interrogation: totals a counter interrogation, all else a station interrogation.
+fn is_asked_by(action: Action, observation: &Observation) -> bool
+    ensures { result ≡ is_asked_by action observation.now }
+{
+    let is_total = matches!(observation.value, Value::Total(_));
+    match action {
+        Action::CounterInterrogation { .. } => is_total,
+        _ => !is_total,
+    }
+}
+
+/// The cause of transmission of the rows that answer an interrogation.
+fn cause_for(action: Action) -> u8
+    ensures { result ≡ cause_for action }
+{
+    match action {
+        Action::CounterInterrogation { .. } => COUNTER_INTERROGATION,
+        _ => STATION_INTERROGATION,
+    }
+}
+
+/// The answer to an interrogation, of what the picture shows.
+pub fn answer_to(
+    alloc: Global,
+    command: &Command,
+    picture: &[Observation],
+) -> Result<VecDeque<Part>, Memory>
+    ensures { IfOk result (λ parts. parts.items ≡ answer_to command.now picture.now) }
+{
+    let mut parts = VecDeque::with_capacity(alloc, picture.len() + 2)?;
+    parts.push_back_reserved(Part::Confirmation(*command));
+    for observation in picture {
+        push_row(&mut parts, command.action, *observation);
+    }
+    parts.push_back_reserved(Part::Termination(*command));
+    Ok(parts)
+}
+
+/// A row, where it answers the interrogation.
+fn push_row(parts: &mut VecDeque<Part>, action: Action, observation: Observation)
+    requires { length parts.old.items < deque_capacity parts.old }
+    ensures parts { parts.new.items ≡ parts.old.items ++ rows_of action (observation ∷ []) }
+    ensures room { deque_capacity parts.new ≡ deque_capacity parts.old }
+{
+    if is_asked_by(action, &observation) {
+        parts.push_back_reserved(Part::Row {
+            cause: cause_for(action),
+            observation,
+        });
+    }
+}

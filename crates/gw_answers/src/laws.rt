@@ -1,0 +1,15 @@
+//! What holds of every answer.
+ghost use Rattle.std.specs.Prelude.{◌<◌, ℕ, ℤ};
+ghost use Rattle.gw_answers.specs.declared.answer.Answer.{Answer as AnyAnswer};
+ghost use Rattle.gw_answers.specs.declared.answer.Part.{Part as AnyPart};
+ghost use Rattle.gw_answers.specs.Meaning.{CanSendAnswer, CanSendPart, MeansAnswer, MeansPart, meaning_of};
+ghost use Rattle.gw_answers.specs.Octets.{answer_octets, part_octets};
+
+/// What is written of an answer, or of a part of one, means what it was made of: the command with its cause and P/N, the
+/// observation, or an ASDU that comes back with P/N set.
+pub fn answers_mean_what_they_were()
+    ensures answers { (offset : ℤ) (common : ℕ) (answer : AnyAnswer) → common < 65536 → CanSendAnswer offset answer
+        → MeansAnswer offset common answer (meaning_of offset (answer_octets offset common answer)) }
+    ensures parts { (offset : ℤ) (common : ℕ) (part : AnyPart) → common < 65536 → CanSendPart offset part
+        → MeansPart offset common part (meaning_of offset (part_octets offset common part)) }
+{}

@@ -1,0 +1,97 @@
+-- Look-ups by an address: what is found has it, and where none stands twice, whatever has it is found.
+use Rattle.std.proofs.Common.{◌≡◌, ℕ, zero, suc, ◌+◌, ◌<◌, ◌==◌, Bool, true, false, cond, ◌⊎◌, inl, inr, List, [], ◌∷◌, ◌++◌, map, length, Some, refl, sym, ap, subst, ◌∙◌, arith}
+use Rattle.std.specs.Prelude.{Any, slice_index_or}
+use Rattle.std.specs.List.{list_any}
+use Rattle.std.proofs.lemmas.Bool.{cases_Bool, true≢false, eqb-true, eq-eqb}
+use Rattle.std.proofs.lemmas.Option.{same_Some}
+use Rattle.gw_map.specs.Sections.{repeated, same_number}
+use Rattle.gw_map.specs.Settings.{first_from}
+
+-- ---- some element
+
+any_here : {A : Type 0} (P : A → Type 0) (x : A) (xs : List A) → P x → Any P (x ∷ xs)
+any_here P x xs p = (0, x, omega arith, refl, p)
+
+any_there : {A : Type 0} (P : A → Type 0) (x : A) (xs : List A) → Any P xs → Any P (x ∷ xs)
+any_there P x xs any = let below : any.0 < length xs = any.2 in (suc any.0, any.1, omega arith, any.3, any.4)
+
+any_at : {A : Type 0} (P : A → Type 0) (x : A) (xs : List A) (k : ℕ) (y : A) → k < length (x ∷ xs)
+    → slice_index_or (x ∷ xs) k y ≡ y → P y → P x ⊎ Any P xs
+any_at P x xs zero y below there p = inl (subst P (sym there) p)
+any_at P x xs (suc k) y below there p = inr (k, y, omega arith, there, p)
+
+any_cases : {A : Type 0} (P : A → Type 0) (x : A) (xs : List A) → Any P (x ∷ xs) → P x ⊎ Any P xs
+any_cases P x xs any = any_at P x xs any.0 any.1 any.2 any.3 any.4
+
+any_none : {A : Type 0} (P : A → Type 0) → Any P [] → ⊥
+any_none P any = let below : any.0 < 0 = any.2 in omega arith
+
+-- ---- numbers that stand twice
+
+any_more : (a b : ℕ) (xs : List ℕ) → list_any (same_number a) xs ≡ true
+    → list_any (same_number a) (xs ++ b ∷ []) ≡ true
+any_more a b [] h = absurd (true≢false (sym h))
+any_more a b (x ∷ xs) h = elim (cases_Bool (a == x)) [
+  | inl hit ↦ rw hit
+  | inr miss ↦ rw miss (any_more a b xs (rw miss at h))
+]
+
+any_last : (a b : ℕ) (xs : List ℕ) → a ≡ b → list_any (same_number a) (xs ++ b ∷ []) ≡ true
+any_last a b [] e = rw (eq-eqb a b e)
+any_last a b (x ∷ xs) e = elim (cases_Bool (a == x)) [
+  | inl hit ↦ rw hit
+  | inr miss ↦ rw miss (any_last a b xs e)
+]
+
+fresh_head : (again : Bool) (n : ℕ) (more : List ℕ) → cond again (n ∷ []) [] ++ more ≡ []
+    → (again ≡ false) × (more ≡ [])
+fresh_head true n more h = absurd cc
+fresh_head false n more h = (refl, h)
+
+-- ---- the first with a number
+
+module _ {A : Type 0} (f : A → ℕ) (P : A → Type 0) where
+  -- what is found
+  pub any-first : (a m : ℕ) (xs : List A) (found : ℕ × A) → first_from (λ x. a == f x) m xs ≡ Some found → P found.1
+      → Any (λ x. (f x ≡ a) × P x) xs
+  any-first a m [] found e p = absurd cc
+  any-first a m (x ∷ xs) found e p = elim (cases_Bool (a == f x)) [
+    | inl hit ↦
+        let it : x ≡ found.1 = ap (λ (q : ℕ × A). q.1) (same_Some _ _ (rw hit at e)) in
+        any_here (λ x. (f x ≡ a) × P x) x xs (sym (eqb-true a (f x) hit), subst P (sym it) p)
+    | inr miss ↦ any_there (λ x. (f x ≡ a) × P x) x xs (any-first a (m + 1) xs found (rw miss at e) p)
+  ]
+
+  -- no element has a number that stood before
+  none_again : (a n : ℕ) (old : List ℕ) (xs : List A) (more : List ℕ) → list_any (same_number a) old ≡ true
+      → repeated same_number n old (map f xs ++ more) ≡ [] → Any (λ x. (f x ≡ a) × P x) xs → ⊥
+  unfolding repeated
+  none_again a n old [] more there single any = any_none (λ x. (f x ≡ a) × P x) any
+  none_again a n old (x ∷ xs) more there single any =
+      let behind_it = repeated same_number (n + 1) (old ++ f x ∷ []) (map f xs ++ more) in
+      let (fresh, behind) = fresh_head (list_any (same_number (f x)) old) n behind_it single in
+      elim (any_cases (λ x. (f x ≡ a) × P x) x xs any) [
+        | inl here ↦ true≢false (sym there ∙ ap (λ (b : ℕ). list_any (same_number b) old) (sym here.0) ∙ fresh)
+        | inr later ↦ none_again a (n + 1) (old ++ f x ∷ []) xs more (any_more a (f x) old there) behind later
+      ]
+
+  -- whatever has the number, where none stands twice
+  pub first-any : (a n m : ℕ) (old : List ℕ) (xs : List A) (more : List ℕ)
+      → repeated same_number n old (map f xs ++ more) ≡ [] → Any (λ x. (f x ≡ a) × P x) xs
+      → (found : ℕ × A) × (first_from (λ x. a == f x) m xs ≡ Some found) × P found.1
+  unfolding repeated
+  first-any a n m old [] more single any = absurd (any_none (λ x. (f x ≡ a) × P x) any)
+  first-any a n m old (x ∷ xs) more single any =
+      let behind_it = repeated same_number (n + 1) (old ++ f x ∷ []) (map f xs ++ more) in
+      let (fresh, behind) = fresh_head (list_any (same_number (f x)) old) n behind_it single in
+      elim (any_cases (λ x. (f x ≡ a) × P x) x xs any) [
+        | inl here ↦ ((m, x), rw (eq-eqb a (f x) (sym here.0)), here.1)
+        | inr later ↦ elim (cases_Bool (a == f x)) [
+          | inl hit ↦
+              let there = any_last a (f x) old (eqb-true a (f x) hit) in
+              absurd (none_again a (n + 1) (old ++ f x ∷ []) xs more there behind later)
+          | inr miss ↦
+              let r = first-any a (n + 1) (m + 1) (old ++ f x ∷ []) xs more behind later in
+              (r.0, rw miss r.1, r.2)
+        ]
+      ]

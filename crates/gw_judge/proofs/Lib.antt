@@ -1,0 +1,4 @@
+pub mod Found
+pub mod Objects
+pub mod Accepted
+pub mod Refused

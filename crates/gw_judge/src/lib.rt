@@ -1,0 +1,10 @@
+//! What is to be said of an ASDU from a client of the station, by the settings alone.
+#![tactic(auto)]
+
+pub mod examples;
+mod judging;
+pub mod laws;
+mod rules;
+
+pub use judging::{Judged, judge};
+pub use rules::is_execute;
