@@ -1,0 +1,4 @@
+pub mod Queues
+pub mod Windows
+pub mod Sounds
+pub mod Line

@@ -1,0 +1,106 @@
+-- Clients of the worked examples.
+use Rattle.std.specs.Prelude.{ℕ, zero, suc, false, true, List, [], ◌∷◌, replicate}
+use Rattle.std.proofs.Common.{lit≤}
+use Rattle.gw_model.specs.declared.observation.Observation.{Observation}
+use Rattle.gw_model.specs.declared.observation.Value.TheVariants.{Single}
+use Rattle.gw_model.specs.declared.point.Stamp.TheVariants.{Untimed}
+use Rattle.iec_apci.specs.declared.apdu.Asdu.{Asdu}
+use Rattle.iec_apci.specs.declared.apdu.Apdu.{Apdu}
+use Rattle.iec_apci.specs.declared.apdu.Apdu.TheVariants.{I, U}
+use Rattle.iec_apci.specs.declared.apdu.Signal.TheVariants.{StartAct, TestAct}
+use Rattle.iec_window.specs.Examples.{usual}
+use Rattle.gw_judge.specs.Example.{setup}
+use Rattle.gw_answers.specs.Example.{asdu_with, picture}
+use Rattle.gw_client.specs.Client.{Client, client_down, client_after_up, client_with_news}
+use Rattle.gw_client.specs.Frames.{client_after_apdu}
+use Rattle.gw_client.specs.Pump.{client_after_pump}
+
+-- single-point 4101 is on
+abbrev pub switched_on : Observation
+switched_on = record {
+  address = 4101;
+  value = Single true;
+  quality = record { iv = false; nt = false; sb = false; bl = false; ov = false; cy = false; ca = false };
+  stamp = Untimed;
+}
+
+-- ASDUs of 5 and of 6 octets, of a type that isn't known
+abbrev pub cut : Asdu
+cut = asdu_with (0 ∷ 0 ∷ 0 ∷ 0 ∷ 0 ∷ []) (lit≤ tt)
+
+abbrev pub header_alone : Asdu
+header_alone = asdu_with (0 ∷ 0 ∷ 0 ∷ 0 ∷ 0 ∷ 0 ∷ []) (lit≤ tt)
+
+-- single-command 5001 is selected
+abbrev pub command : Asdu
+command = asdu_with (0x2D ∷ 1 ∷ 6 ∷ 0 ∷ 1 ∷ 0 ∷ 0x89 ∷ 0x13 ∷ 0 ∷ 0x81 ∷ []) (lit≤ tt)
+
+-- the station interrogation, and a read of 4101
+abbrev pub interrogation : Asdu
+interrogation = asdu_with (0x64 ∷ 1 ∷ 6 ∷ 0 ∷ 1 ∷ 0 ∷ 0 ∷ 0 ∷ 0 ∷ 0x14 ∷ []) (lit≤ tt)
+
+abbrev pub reading : Asdu
+reading = asdu_with (0x66 ∷ 1 ∷ 5 ∷ 0 ∷ 1 ∷ 0 ∷ 5 ∷ 0x10 ∷ 0 ∷ []) (lit≤ tt)
+
+-- k = 2 and w = 2
+abbrev pub narrow : Client
+narrow = client_down (record usual { k = 2; w = 2 }) 1000
+
+abbrev pub connected : Client
+connected = client_after_up 0 (client_down usual 1000)
+
+-- these came at a moment, the first one first
+abbrev pub taking : ℕ → List Apdu → Client → Client
+taking moment [] c = c
+taking moment (apdu ∷ more) c = taking moment more (client_after_apdu setup picture moment apdu c)
+
+-- so many pumps at a moment
+abbrev pub pumped : ℕ → ℕ → Client → Client
+pumped moment zero c = c
+pumped moment (suc n) c = pumped moment n (client_after_pump moment c)
+
+-- STARTDT was confirmed
+abbrev pub started_from : Client → Client
+started_from c = pumped 0 1 (taking 0 (U StartAct ∷ []) (client_after_up 0 c))
+
+abbrev pub started : Client
+started = started_from (client_down usual 1000)
+
+-- one observation waits
+abbrev pub waiting : Client
+waiting = client_with_news (switched_on ∷ []) started
+
+-- two news may wait; a third came
+abbrev pub switched_off : Observation
+switched_off = record switched_on { value = Single false }
+
+abbrev pub overflown : Client
+overflown = client_with_news (switched_on ∷ switched_off ∷ switched_off ∷ []) (started_from (client_down usual 2))
+
+-- two news were put out at moment 0, and an I format came
+abbrev pub narrow_full : Client
+narrow_full =
+    taking 0 (I 0 0 command ∷ []) (pumped 0 2 (client_with_news (switched_on ∷ switched_on ∷ switched_on ∷ []) (started_from narrow)))
+
+-- so many TESTFR acts came
+abbrev pub tested : ℕ → Client → Client
+tested n c = taking 0 (replicate n (U TestAct)) c
+
+-- these were read, one after the other
+abbrev pub reads : ℕ → Client → Client
+reads zero c = c
+reads (suc n) c = client_after_apdu setup picture 0 (I n 0 reading) (reads n c)
+
+-- single-command 5001 is executed
+abbrev pub execute : Asdu
+execute = asdu_with (0x2D ∷ 1 ∷ 6 ∷ 0 ∷ 1 ∷ 0 ∷ 0x89 ∷ 0x13 ∷ 0 ∷ 1 ∷ []) (lit≤ tt)
+
+-- an interrogation came at moment 0
+abbrev pub interrogated : Client → Client
+interrogated c = taking 0 (I 0 0 interrogation ∷ []) c
+
+-- of two news that may wait both came before an interrogation, and a third one behind it
+abbrev pub pushed_out : Client
+pushed_out =
+    client_with_news (switched_on ∷ [])
+    (interrogated (client_with_news (switched_on ∷ switched_off ∷ []) (started_from (client_down usual 2))))

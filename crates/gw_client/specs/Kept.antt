@@ -1,0 +1,16 @@
+-- The queue that a station keeps.
+use Rattle.std.specs.Prelude.{◌≡◌, ℕ, ◌≤◌, true, false, List, [], length, Option, Some, None}
+use Rattle.circular_buffer.specs.Buffer.{Buffer}
+use Rattle.gw_model.specs.declared.observation.Observation.{Observation}
+use Rattle.gw_client.specs.declared.client.Stage.{Stage}
+use Rattle.gw_client.specs.Client.{is_started}
+
+abbrev pub items_in : Option (Buffer Observation) → List Observation
+items_in None = []
+items_in (Some buffer) = buffer.items
+
+-- there is one in a session alone, with room for so many
+abbrev pub IsQueue : ℕ → Stage → Option (Buffer Observation) → Type 0
+IsQueue limit stage None = is_started stage ≡ false
+IsQueue limit stage (Some buffer) =
+    (is_started stage ≡ true) × (buffer.capacity ≡ limit) × (length buffer.items ≤ limit)

@@ -1,0 +1,7 @@
+pub mod Client
+pub mod Answers
+pub mod Frames
+pub mod Pump
+pub mod Kept
+pub mod Sound
+pub mod Example

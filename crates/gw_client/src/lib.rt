@@ -1,0 +1,15 @@
+//! The controlled station's part for one client of IEC 60870-5-104, with the answers to its ASDUs: interrogations, reads,
+//! what is unknown, and what is said of commands. It takes the place of `gw_station` once the steps of the core go over
+//! to it.
+#![tactic(auto)]
+
+mod client;
+mod event;
+pub mod examples;
+mod sending;
+mod station;
+
+pub use client::Stage;
+pub use event::{Event, Said, Why};
+pub use sending::Sending;
+pub use station::Station;
