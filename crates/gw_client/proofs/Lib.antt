@@ -2,3 +2,4 @@ pub mod Queues
 pub mod Windows
 pub mod Sounds
 pub mod Line
+pub mod Moves
