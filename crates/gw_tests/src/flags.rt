@@ -45,33 +45,19 @@ fn check_quality(rt: &impl Abort, kind: Kind, flags: u8, wanted: Quality) {
     assert_eq!(rt; quality(kind, flags), wanted, "{kind:?} {flags:02X}");
 }
 
-fn check_online(rt: &impl Abort, kind: Kind, qualities: &[Quality; 8]) {
+/// Each flag beside ONLINE; and without ONLINE, where each is invalid besides.
+fn check_flags(rt: &impl Abort, kind: Kind, qualities: &[Quality; 8]) {
     for place in 0..8 {
-        check_quality(rt, kind, ONLINE[place], qualities[place]);
+        let beside = qualities[place];
+        let alone = Quality { iv: true, ..beside };
+        check_quality(rt, kind, ONLINE[place], beside);
+        check_quality(rt, kind, OFFLINE[place], alone);
     }
 }
 
 #[test]
-fn each_flag_beside_online(rt: HostRuntime) {
+fn each_flag_beside_online_and_alone(rt: HostRuntime) {
     for (kind, qualities) in QUALITIES {
-        check_online(&rt, kind, &qualities);
-    }
-}
-
-fn check_offline(rt: &impl Abort, kind: Kind, qualities: &[Quality; 8]) {
-    for place in 0..8 {
-        let wanted = Quality {
-            iv: true,
-            ..qualities[place]
-        };
-        check_quality(rt, kind, OFFLINE[place], wanted);
-    }
-}
-
-/// Without ONLINE each is invalid besides.
-#[test]
-fn each_flag_alone(rt: HostRuntime) {
-    for (kind, qualities) in QUALITIES {
-        check_offline(&rt, kind, &qualities);
+        check_flags(&rt, kind, &qualities);
     }
 }

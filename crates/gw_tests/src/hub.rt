@@ -83,36 +83,27 @@ fn fragment(rt: &impl AllocGlobal, octets: &[u8]) -> Result<Step, Fail>
     })
 }
 
-fn client_up(client: u8) -> Step {
-    Step::ClientUp { client, moment: 0 }
-}
-
-fn frame(client: u8, apdu: Apdu) -> Step {
-    Step::Frame {
-        client,
-        apdu,
-        moment: 0,
-    }
-}
-
 fn pump(client: u8) -> Step {
     Step::Pump { client, moment: 0 }
-}
-
-fn outstation_up(outstation: u8) -> Step {
-    Step::OutstationUp {
-        outstation,
-        moment: 0,
-    }
 }
 
 /// The client and the outstation come up, the session begins.
 fn begun(rt: &impl AllocGlobal) -> Result<Vec<Step>, Fail> {
     let mut steps = Vec::new(rt.alloc());
-    steps.push(client_up(0))?;
-    steps.push(frame(0, Apdu::U(Signal::StartAct)))?;
+    steps.push(Step::ClientUp {
+        client: 0,
+        moment: 0,
+    })?;
+    steps.push(Step::Frame {
+        client: 0,
+        apdu: Apdu::U(Signal::StartAct),
+        moment: 0,
+    })?;
     steps.push(pump(0))?;
-    steps.push(outstation_up(0))?;
+    steps.push(Step::OutstationUp {
+        outstation: 0,
+        moment: 0,
+    })?;
     Ok(steps)
 }
 
@@ -139,6 +130,15 @@ fn steps_of_an_event(rt: &impl AllocGlobal) -> Result<Vec<Step>, Fail> {
     Ok(steps)
 }
 
+/// A hub with the default settings that made these steps, and their replies.
+fn run(
+    rt: &impl AllocGlobal,
+    steps: Vec<Step>,
+) -> Result<(Hub, Vec<Result<Reply, StepFault>>), Fail> {
+    let settings = Settings::read(rt.alloc(), DEFAULT_SETTINGS)?;
+    Ok(Hub::run(rt.alloc(), settings, steps)?)
+}
+
 fn are_replies_to_an_event(replies: &[Result<Reply, StepFault>]) -> bool {
     let confirm = Some([0xD0, 0]);
     let wanted = [
@@ -157,14 +157,17 @@ fn are_replies_to_an_event(replies: &[Result<Reply, StepFault>]) -> bool {
     replies == wanted.as_slice()
 }
 
-#[test]
-fn a_run_replies_to_each_step(rt: HostRuntime) -> Result<(), Fail> {
-    let steps = steps_of_an_event(&rt)?;
-    let settings = Settings::read(rt.alloc(), DEFAULT_SETTINGS)?;
-    let (hub, replies) = Hub::run(rt.alloc(), settings, steps)?;
-    assert!(rt; are_replies_to_an_event(&replies), "{replies:?}");
+/// Nothing waits for client 0 or 1, and the picture is this.
+fn check_hub(rt: &impl Abort, hub: &Hub) {
     assert_eq!(rt; (hub.queued(0), hub.dropped(0), hub.queued(1)), (0, 0, 0));
     assert_eq!(rt; hub.picture(), PICTURE);
+}
+
+#[test]
+fn a_run_replies_to_each_step(rt: HostRuntime) -> Result<(), Fail> {
+    let (hub, replies) = run(&rt, steps_of_an_event(&rt)?)?;
+    assert!(rt; are_replies_to_an_event(&replies), "{replies:?}");
+    check_hub(&rt, &hub);
     Ok(())
 }
 
@@ -175,8 +178,7 @@ fn a_long_run(rt: HostRuntime) -> Result<(), Fail> {
     for _ in 0..10_000u16 {
         steps.push(pump(0))?;
     }
-    let settings = Settings::read(rt.alloc(), DEFAULT_SETTINGS)?;
-    let (hub, replies) = Hub::run(rt.alloc(), settings, steps)?;
+    let (hub, replies) = run(&rt, steps)?;
     assert_eq!(rt; (hub.queued(0), replies.len()), (0, 10_004));
     assert_eq!(rt; replies.last(), Some(&Ok(Reply::Nothing)));
     Ok(())

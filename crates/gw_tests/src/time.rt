@@ -79,24 +79,29 @@ const TAGS: [(u64, Zone, [u8; 7]); 17] = [
     (4_102_394_399_999, EAST, LAST),
 ];
 
-fn check_tag(rt: &impl Abort, instant: u64, zone: &Zone, tag: [u8; 7]) {
-    let stamp = Stamp::At(instant);
-    assert_eq!(rt; to_tag(stamp, zone), Some(tag), "at {instant}");
-    assert_eq!(rt; from_tag(&tag, zone), Ok(stamp), "back to {instant}");
+/// A stamp has this tag, or none.
+fn check_to_tag(rt: &impl Abort, stamp: Stamp, zone: &Zone, wanted: Option<[u8; 7]>) {
+    assert_eq!(rt; to_tag(stamp, zone), wanted, "at {stamp:?}");
+}
+
+/// A tag shows this stamp, or isn't one.
+fn check_from_tag(rt: &impl Abort, tag: &[u8; 7], zone: &Zone, wanted: Result<Stamp, TagFault>) {
+    assert_eq!(rt; from_tag(tag, zone), wanted, "{tag:?}");
 }
 
 #[test]
 fn instants_and_their_tags(rt: HostRuntime) {
     for (instant, zone, tag) in TAGS {
-        check_tag(&rt, instant, &zone, tag);
+        check_to_tag(&rt, Stamp::At(instant), &zone, Some(tag));
+        check_from_tag(&rt, &tag, &zone, Ok(Stamp::At(instant)));
     }
 }
 
 #[test]
 fn doubtful(rt: HostRuntime) {
     let stamp = Stamp::Doubtful(1_700_000_000_000);
-    assert_eq!(rt; to_tag(stamp, &Zone::UTC), Some(DOUBTFUL_EVENT));
-    assert_eq!(rt; from_tag(&DOUBTFUL_EVENT, &Zone::UTC), Ok(stamp));
+    check_to_tag(&rt, stamp, &Zone::UTC, Some(DOUBTFUL_EVENT));
+    check_from_tag(&rt, &DOUBTFUL_EVENT, &Zone::UTC, Ok(stamp));
     assert_eq!(rt; read_again(stamp, &EAST), Some(Ok(stamp)));
     assert_eq!(rt; read_again(Stamp::Untimed, &EAST), None);
 }
@@ -120,20 +125,12 @@ const OUTSIDE: [(u64, Zone); 13] = [
     (u64::MAX, WEST),
 ];
 
-fn check_no_tag(rt: &impl Abort, instant: u64, zone: &Zone) {
-    assert_eq!(rt; to_tag(Stamp::At(instant), zone), None, "at {instant}");
-    assert_eq!(rt;
-        to_tag(Stamp::Doubtful(instant), zone),
-        None,
-        "at {instant}"
-    );
-}
-
 #[test]
 fn stamps_without_a_tag(rt: HostRuntime) {
-    assert_eq!(rt; to_tag(Stamp::Untimed, &Zone::UTC), None);
+    check_to_tag(&rt, Stamp::Untimed, &Zone::UTC, None);
     for (instant, zone) in OUTSIDE {
-        check_no_tag(&rt, instant, &zone);
+        check_to_tag(&rt, Stamp::At(instant), &zone, None);
+        check_to_tag(&rt, Stamp::Doubtful(instant), &zone, None);
     }
 }
 
@@ -152,24 +149,18 @@ const NO_TAGS: &[([u8; 7], TagFault)] = &[
     ([0x60, 0xEA, 0x00, 0x00, 0x1E, 0x02, 0x17], TagFault::Field),
 ];
 
-fn check_no_stamp(rt: &impl Abort, tag: &[u8; 7], fault: TagFault) {
-    assert_eq!(rt; from_tag(tag, &Zone::UTC), Err(fault), "{tag:?}");
-}
-
 #[test]
 fn octets_that_are_no_tag(rt: HostRuntime) {
     for (tag, fault) in NO_TAGS {
-        check_no_stamp(&rt, tag, *fault);
+        check_from_tag(&rt, tag, &Zone::UTC, Err(*fault));
     }
 }
 
 #[test]
 fn unused_bits(rt: HostRuntime) -> Result<(), Fail> {
     let tag = [0x20, 0x4E, 0xCD, 0xF6, 0xEE, 0xFB, 0x97];
-    assert_eq!(rt;
-        from_tag(&tag, &Zone::UTC),
-        Ok(Stamp::Doubtful(1_700_000_000_000))
-    );
+    let stamp = Stamp::Doubtful(1_700_000_000_000);
+    check_from_tag(&rt, &tag, &Zone::UTC, Ok(stamp));
     assert_eq!(rt; written_again(&tag, &EAST)?, DOUBTFUL_EVENT);
     Ok(())
 }

@@ -1,5 +1,7 @@
 //! ASDUs with process information, with octets from outside.
-use crate::checks::{Told, check_head, check_one, check_refused, check_written, observed, read};
+use crate::checks::{
+    Told, check_head, check_one, check_refused, check_same, check_written, observed, read,
+};
 use gw_model::{Element, Observation, Quality, Stamp, Value};
 use gw_time::Zone;
 use iec_asdu::{AsduFault, BitString, CounterReading, DoublePoint, ScaledValue, SinglePoint};
@@ -54,10 +56,11 @@ type Row = (Told, u16, u8, &'static [u8]);
 /// Writes the observation and reads it again, at a station with these clocks.
 fn check(rt: &(impl Abort + AllocGlobal), row: &Row, zone: &Zone) -> Result<(), Fail> {
     let (told, common, cause, octets) = row;
-    check_written(rt, observed(told), *common, *cause, zone, octets);
+    let observation = observed(told);
+    check_written(rt, observation, *common, *cause, zone, octets);
     let read = read(rt.alloc(), octets, zone)?;
     check_head(rt, &read, *common, *cause);
-    check_one(rt, &read, observed(told), octets);
+    check_one(rt, &read, observation, octets);
     Ok(())
 }
 
@@ -284,19 +287,18 @@ fn each_type_with_time(rt: HostRuntime) -> Result<(), Fail> {
 /// Milliseconds since 1970 that no tag shows.
 const BEYOND: &[u64] = &[946_684_799_999, 4_102_444_800_000, 281_474_976_776_190];
 
+/// An observation with a stamp that no tag shows is written without it.
+fn check_beyond(rt: &impl Abort, stamp: Stamp) {
+    let untimed = b"\x01\x01\x03\x00\x01\x00\x05\x10\x00\x01";
+    let told = (4101, Value::Single(true), Quality::GOOD, stamp);
+    check_written(rt, observed(&told), 1, 3, &Zone::UTC, untimed);
+}
+
 #[test]
 fn beyond_the_window(rt: HostRuntime) {
-    let untimed = b"\x01\x01\x03\x00\x01\x00\x05\x10\x00\x01";
     for t in BEYOND {
-        let at = (4101, Value::Single(true), Quality::GOOD, Stamp::At(*t));
-        check_written(&rt, observed(&at), 1, 3, &Zone::UTC, untimed);
-        let doubtful = (
-            4101,
-            Value::Single(true),
-            Quality::GOOD,
-            Stamp::Doubtful(*t),
-        );
-        check_written(&rt, observed(&doubtful), 1, 3, &Zone::UTC, untimed);
+        check_beyond(&rt, Stamp::At(*t));
+        check_beyond(&rt, Stamp::Doubtful(*t));
     }
 }
 
@@ -378,7 +380,7 @@ const SEVERAL: &[(&[u8], u16, u8, &[Told])] = &[
 fn check_observations(rt: &impl Abort, found: &[Observation], wanted: &[Told]) {
     assert_eq!(rt; found.len(), wanted.len());
     for (found, told) in found.iter().zip(wanted) {
-        assert_eq!(rt; *found, observed(told));
+        check_same(rt, found, observed(told));
     }
 }
 
@@ -485,11 +487,21 @@ const TEXTS: &[(AsduFault, u8, &str)] = &[
     (AsduFault::Memory, 7, "7 Memory"),
 ];
 
+fn check_text(
+    rt: &(impl Abort + AllocGlobal),
+    fault: AsduFault,
+    number: u8,
+    wanted: &str,
+) -> Result<(), Fail> {
+    assert_eq!(rt; fault as u8, number);
+    assert_eq!(rt; fault.to_string(rt.alloc())?.as_str(), wanted);
+    Ok(())
+}
+
 #[test]
 fn texts(rt: HostRuntime) -> Result<(), Fail> {
     for (fault, number, text) in TEXTS {
-        assert_eq!(rt; *fault as u8, *number);
-        assert_eq!(rt; fault.to_string(rt.alloc())?.as_str(), *text);
+        check_text(&rt, *fault, *number, text)?;
     }
     Ok(())
 }

@@ -1,7 +1,8 @@
 //! Calls that take memory, at their largest sizes: no contract tells memory that ran out from a limit of the code.
 ghost use Rattle.std.specs.Prelude.{◌<◌};
 
-use crate::checks::{observed, read};
+use crate::checks::{check_same, observed, read};
+use crate::window::{check_room, check_sent};
 use gw_model::{Observation, Quality, Stamp, Value};
 use gw_time::Zone;
 use iec_apci::laws::apdus_of;
@@ -92,7 +93,7 @@ fn check_all(rt: &impl Abort, found: &[Observation], count: u8, value: Value, st
     assert_eq!(rt; found.len(), usize::from(count));
     for (found, place) in found.iter().zip(0..count) {
         let address = 4096 + u32::from(place);
-        assert_eq!(rt; *found, observed(&(address, value, Quality::GOOD, stamp)));
+        check_same(rt, found, observed(&(address, value, Quality::GOOD, stamp)));
     }
 }
 
@@ -200,13 +201,11 @@ fn check_window(rt: &impl Abort, alloc: Global, k: u16) -> Result<(), Fail>
 {
     let mut window = Window::new(alloc, k, 8, 15_000, 10_000, 20_000)?;
     for number in 0..k {
-        assert!(rt; window.may_send());
-        assert_eq!(rt; window.sent(5), (number, 0));
+        check_sent(rt, &mut window, 5, (number, 0));
     }
-    assert!(rt; !window.may_send());
+    check_room(rt, &window, false);
     assert_eq!(rt; window.acknowledged(k, 6), Ok(()));
-    assert!(rt; window.may_send());
-    assert_eq!(rt; window.sent(7), (k, 0));
+    check_sent(rt, &mut window, 7, (k, 0));
     Ok(())
 }
 

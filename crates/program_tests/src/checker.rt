@@ -1,39 +1,36 @@
 //! Tests of gw_checker.
+use crate::script::check_end;
 use gw_checker::{check_settings, explain, read_file};
 use gw_map::DEFAULT_SETTINGS;
 use std::process::Abort;
 use std::test::Fail;
 
-/// `check` writes this for the octets of a file, and ends with this status.
+/// `check` writes this for the octets of a file, and ends with this status; the sentence for a person is this.
 fn check(
     rt: &(impl Abort + AllocGlobal),
     octets: &[u8],
     want: &str,
     status: u8,
+    sentence: &str,
 ) -> Result<(), Fail> {
     let mut output = Vec::new(rt.alloc());
     let ended = check_settings(rt.alloc(), octets, &mut output);
-    assert_eq!(rt; output.as_slice(), want.as_bytes());
-    assert_eq!(rt; ended, status);
+    check_end(
+        rt,
+        want,
+        (output.as_slice(), ended),
+        (want.as_bytes(), status),
+    );
+    let mut told = Vec::new(rt.alloc());
+    explain(rt.alloc(), octets, &mut told)?;
+    assert_eq!(rt; told.as_slice(), sentence.as_bytes());
     Ok(())
 }
 
-/// The sentence for a person is this.
-fn check_sentence(rt: &(impl Abort + AllocGlobal), octets: &[u8], want: &str) -> Result<(), Fail> {
-    let mut output = Vec::new(rt.alloc());
-    explain(rt.alloc(), octets, &mut output)?;
-    assert_eq!(rt; output.as_slice(), want.as_bytes());
-    Ok(())
-}
-
-#[test]
-fn default_settings(rt: HostRuntime) -> Result<(), Fail> {
-    let want =
-        "point 4101 single 0 binary 5\npoint 4201 scaled 0 analog 0\npoint 4301 total 0 counter 0\n\
-                control 5001 single 0 3 direct\ncontrol 5002 setpoint 0 4 sbo\nrows 3 2\n";
-    check(&rt, DEFAULT_SETTINGS.as_bytes(), want, 0)?;
-    check_sentence(&rt, DEFAULT_SETTINGS.as_bytes(), "")
-}
+/// What is written for the default settings.
+const DEFAULTS: &str =
+    "point 4101 single 0 binary 5\npoint 4201 scaled 0 analog 0\npoint 4301 total 0 counter 0\n\
+    control 5001 single 0 3 direct\ncontrol 5002 setpoint 0 4 sbo\nrows 3 2\n";
 
 /// Settings that are refused, the line, and the sentence.
 const REFUSED: &[(&[u8], &str, &str)] = &[
@@ -79,10 +76,10 @@ const REFUSED: &[(&[u8], &str, &str)] = &[
 ];
 
 #[test]
-fn refused_settings(rt: HostRuntime) -> Result<(), Fail> {
+fn settings(rt: HostRuntime) -> Result<(), Fail> {
+    check(&rt, DEFAULT_SETTINGS.as_bytes(), DEFAULTS, 0, "")?;
     for (octets, line, sentence) in REFUSED {
-        check(&rt, octets, line, 1)?;
-        check_sentence(&rt, octets, sentence)?;
+        check(&rt, octets, line, 1, sentence)?;
     }
     Ok(())
 }
@@ -91,7 +88,10 @@ fn refused_settings(rt: HostRuntime) -> Result<(), Fail> {
 #[test]
 fn no_document(rt: HostRuntime) -> Result<(), Fail> {
     let text = b"[station]\ncommon_address = \n";
-    check(&rt, text, "refused 1 Toml\n", 1)?;
+    let mut line = Vec::new(rt.alloc());
+    let ended = check_settings(rt.alloc(), text, &mut line);
+    let wanted = (b"refused 1 Toml\n".as_slice(), 1);
+    check_end(&rt, "no document", (line.as_slice(), ended), wanted);
     let mut output = Vec::new(rt.alloc());
     explain(rt.alloc(), text, &mut output)?;
     let sentence = String::from_utf8(output)?;

@@ -1,50 +1,31 @@
 //! Tests of readers and writers that fail, in the middle of both programs.
+use crate::script::{DEFAULT, Program, check_end, run};
 use gw_input::{Stop, finish};
-use gw_map::{DEFAULT_SETTINGS, Settings};
-use gw_replay::replay;
-use gw_translator::translate;
-use std::alloc::{AllocError, Global};
+use std::alloc::AllocError;
 use std::io::{self, BufRead, BufReader, BufWriter, ErrorKind, Read, Write};
 use std::process::Abort;
 use std::test::Fail;
 
 /// A program, with lines of input, and what it writes for them.
 #[derive(Clone, Copy)]
-struct Program {
-    is_replay: bool,
+struct Example {
+    program: Program,
     input: &'static [u8],
     output: &'static [u8],
 }
 
-const PROGRAMS: &[Program] = &[
-    Program {
-        is_replay: false,
+const EXAMPLES: &[Example] = &[
+    Example {
+        program: Program::Translator,
         input: b"E3 81 00 00 02 01 17 01 05 81\n",
         output: b"confirm C3 00\nasdu 01 01 03 00 01 00 05 10 00 01\n",
     },
-    Program {
-        is_replay: true,
+    Example {
+        program: Program::Replay,
         input: b"up 0 0\nqueue 0\npump 0 0\n",
         output: b"ok\nqueued 0 dropped 0\nfault 3 NotUp\n",
     },
 ];
-
-/// No status of a program.
-const NO_SETTINGS: u8 = 9;
-
-/// Runs a program; gives its status.
-fn run<R: BufRead + Drop, W: Write + Drop>(
-    alloc: Global,
-    is_replay: bool,
-    reader: R,
-    writer: W,
-) -> u8 {
-    match Settings::read(alloc, DEFAULT_SETTINGS) {
-        Ok(settings) if is_replay => replay(alloc, settings, reader, writer),
-        Ok(settings) => translate(alloc, settings, reader, writer),
-        Err(_) => NO_SETTINGS,
-    }
-}
 
 /// A reader that gives an octet at a time, is interrupted before each, and ends or fails at last.
 #[derive(Drop)]
@@ -77,7 +58,7 @@ impl Read for Interrupted<'_> {
 /// A program reads from such a reader, and writes this with this status.
 fn check_read(
     rt: &(impl Abort + AllocGlobal),
-    program: &Program,
+    example: &Example,
     input: &[u8],
     last: Option<ErrorKind>,
 ) -> Result<(), Fail> {
@@ -88,18 +69,9 @@ fn check_read(
     };
     let reader = BufReader::new(rt.alloc(), reader)?;
     let mut output = Vec::new(rt.alloc());
-    let status = run(rt.alloc(), program.is_replay, reader, &mut output);
-    assert_eq!(rt; output.as_slice(), program.output);
-    assert_eq!(rt; status, u8::from(last.is_some()));
-    Ok(())
-}
-
-/// An interrupted read is tried again.
-#[test]
-fn interrupted_reads(rt: HostRuntime) -> Result<(), Fail> {
-    for program in PROGRAMS {
-        check_read(&rt, program, program.input, None)?;
-    }
+    let status = run(rt.alloc(), example.program, DEFAULT, reader, &mut output)?;
+    let wanted = (example.output, u8::from(last.is_some()));
+    check_end(rt, "the last read", (output.as_slice(), status), wanted);
     Ok(())
 }
 
@@ -114,19 +86,21 @@ const FAILURES: &[ErrorKind] = &[
 ];
 
 /// A program ends with each failure: each whole line before it is answered, and nothing of the line that it cuts.
-fn check_failures(rt: &(impl Abort + AllocGlobal), program: &Program) -> Result<(), Fail> {
-    let mut input = Vec::from_slice(rt.alloc(), program.input)?;
+fn check_failures(rt: &(impl Abort + AllocGlobal), example: &Example) -> Result<(), Fail> {
+    let mut input = Vec::from_slice(rt.alloc(), example.input)?;
     input.extend_from_slice(b"C0 81")?;
     for kind in FAILURES {
-        check_read(rt, program, input.as_slice(), Some(*kind))?;
+        check_read(rt, example, input.as_slice(), Some(*kind))?;
     }
     Ok(())
 }
 
+/// An interrupted read is tried again, and any other failure isn't.
 #[test]
 fn failing_reads(rt: HostRuntime) -> Result<(), Fail> {
-    for program in PROGRAMS {
-        check_failures(&rt, program)?;
+    for example in EXAMPLES {
+        check_read(&rt, example, example.input, None)?;
+        check_failures(&rt, example)?;
     }
     Ok(())
 }
@@ -135,10 +109,10 @@ fn failing_reads(rt: HostRuntime) -> Result<(), Fail> {
 #[test]
 fn many_reads(rt: HostRuntime) -> Result<(), Fail> {
     let mut input = vec![in rt.alloc(); b'\n'; 1_000_000]?;
-    for program in PROGRAMS {
+    for example in EXAMPLES {
         input.truncate(1_000_000);
-        input.extend_from_slice(program.input)?;
-        check_read(&rt, program, input.as_slice(), None)?;
+        input.extend_from_slice(example.input)?;
+        check_read(&rt, example, input.as_slice(), None)?;
     }
     Ok(())
 }
@@ -175,22 +149,22 @@ impl Write for Small<'_> {
 
 /// A program writes to a writer with so much room: it takes the front of the output, and the status is 0 where it
 /// took all.
-fn check_room(rt: &(impl Abort + AllocGlobal), program: &Program, room: usize) -> Result<(), Fail> {
+fn check_room(rt: &(impl Abort + AllocGlobal), example: &Example, room: usize) -> Result<(), Fail> {
     let mut taken = Vec::new(rt.alloc());
     let writer = Small {
         taken: &mut taken,
         room,
         flushes: true,
     };
-    let status = run(rt.alloc(), program.is_replay, program.input, writer);
+    let status = run(rt.alloc(), example.program, DEFAULT, example.input, writer)?;
     assert!(rt;
-        program.output.starts_with(taken.as_slice()),
+        example.output.starts_with(taken.as_slice()),
         "with room for {room} octets"
     );
     assert_eq!(rt; taken.len(), room);
     assert_eq!(rt;
         status == 0,
-        room == program.output.len(),
+        room == example.output.len(),
         "with room for {room} octets"
     );
     Ok(())
@@ -199,16 +173,16 @@ fn check_room(rt: &(impl Abort + AllocGlobal), program: &Program, room: usize) -
 /// Wherever writing fails, what was written is the front of the output, and the status is 1.
 #[test]
 fn failing_writes(rt: HostRuntime) -> Result<(), Fail> {
-    for program in PROGRAMS {
-        for room in 0..=program.output.len() {
-            check_room(&rt, program, room)?;
+    for example in EXAMPLES {
+        for room in 0..=example.output.len() {
+            check_room(&rt, example, room)?;
         }
     }
     Ok(())
 }
 
 /// The status that a program ends with where flushing the buffer before its writer fails or not.
-fn status_flushed(rt: &impl AllocGlobal, program: &Program, flushes: bool) -> Result<u8, Fail> {
+fn status_flushed(rt: &impl AllocGlobal, example: &Example, flushes: bool) -> Result<u8, Fail> {
     let mut taken = Vec::new(rt.alloc());
     let small = Small {
         taken: &mut taken,
@@ -216,15 +190,15 @@ fn status_flushed(rt: &impl AllocGlobal, program: &Program, flushes: bool) -> Re
         flushes,
     };
     let writer = BufWriter::new(rt.alloc(), small)?;
-    Ok(run(rt.alloc(), program.is_replay, program.input, writer))
+    run(rt.alloc(), example.program, DEFAULT, example.input, writer)
 }
 
 /// What is written is not all taken until the writer was flushed, and a failure there is a failure to write.
 #[test]
 fn failing_flushes(rt: HostRuntime) -> Result<(), Fail> {
-    for program in PROGRAMS {
-        assert_eq!(rt; status_flushed(&rt, program, true)?, 0);
-        assert_eq!(rt; status_flushed(&rt, program, false)?, 1);
+    for example in EXAMPLES {
+        assert_eq!(rt; status_flushed(&rt, example, true)?, 0);
+        assert_eq!(rt; status_flushed(&rt, example, false)?, 1);
     }
     Ok(())
 }
@@ -242,8 +216,9 @@ const ENDS: &[(Result<bool, Stop>, &str, u8)] = &[
 fn ends(rt: HostRuntime) -> Result<(), Fail> {
     for (outcome, text, status) in ENDS {
         let mut output = Vec::new(rt.alloc());
-        assert_eq!(rt; finish(*outcome, &mut output), *status);
-        assert_eq!(rt; output.as_slice(), text.as_bytes());
+        let ended = finish(*outcome, &mut output);
+        let wanted = (text.as_bytes(), *status);
+        check_end(&rt, text, (output.as_slice(), ended), wanted);
     }
     Ok(())
 }

@@ -1,33 +1,15 @@
 //! Replays with polls, losses and time.
-use gw_map::Settings;
-use gw_replay::replay;
-use std::process::Abort;
+use crate::script::check_replay;
 use std::test::Fail;
 
-/// Settings with one outstation, to which a line is added, and three points of it.
-fn settings_with(rt: &impl AllocGlobal, line: &str) -> Result<Settings, Fail> {
-    let text = format!(in rt.alloc();
-        "[station]\ncommon_address = 1\n[[outstation]]\naddress = 1\n{line}\n\
-         [[point]]\noutstation = 0\nkind = \"binary\"\nindex = 5\naddress = 4101\n\
-         [[point]]\noutstation = 0\nkind = \"analog\"\nindex = 0\naddress = 4201\n\
-         [[point]]\noutstation = 0\nkind = \"counter\"\nindex = 0\naddress = 4301\n"
-    )?;
-    Ok(Settings::read(rt.alloc(), text.as_str())?)
-}
+/// The settings' text before a line of the outstation.
+pub(crate) const OUTSTATION: &str = "[station]\ncommon_address = 1\n[[outstation]]\naddress = 1\n";
 
-/// A replay on settings writes this, without a refusal.
-fn check_settings_replay(
-    rt: &(impl Abort + AllocGlobal),
-    settings: Settings,
-    input: &[u8],
-    output: &[u8],
-) -> Result<(), Fail> {
-    let mut text = Vec::new(rt.alloc());
-    let code = replay(rt.alloc(), settings, input, &mut text);
-    assert_eq!(rt; text.as_slice(), output, "at {input:?}");
-    assert_eq!(rt; code, 0, "at {input:?}");
-    Ok(())
-}
+/// The settings' text behind it: three points.
+pub(crate) const POINTS: &str =
+    "\n[[point]]\noutstation = 0\nkind = \"binary\"\nindex = 5\naddress = 4101\n\
+    [[point]]\noutstation = 0\nkind = \"analog\"\nindex = 0\naddress = 4201\n\
+    [[point]]\noutstation = 0\nkind = \"counter\"\nindex = 0\naddress = 4301\n";
 
 /// A line of the outstation's settings, the lines of a replay, and what it writes.
 const REPLAYS: &[(&str, &str, &str)] = &[
@@ -133,116 +115,81 @@ const REPLAYS: &[(&str, &str, &str)] = &[
         "up 0 0\npoll 0 0 0\nfrag 0 0 C0 81 00 00\npump 9 5000\npoll 0 1999 0\n",
         "ok\nrequest C0 01 3C 02 06 3C 03 06 3C 04 06 3C 01 06\naccepted end\nfault 2 NoClient\nnothing\n",
     ),
+    // Requests are numbered modulo 16.
+    (
+        "",
+        "up 0 0\npoll 0 0 0\nfrag 0 0 C0 81 00 00\npoll 0 2000 0\nfrag 0 2000 C1 81 00 00\npoll 0 4000 0\n\
+         frag 0 4000 C2 81 00 00\npoll 0 6000 0\nfrag 0 6000 C3 81 00 00\npoll 0 8000 0\n\
+         frag 0 8000 C4 81 00 00\npoll 0 10000 0\nfrag 0 10000 C5 81 00 00\npoll 0 12000 0\n\
+         frag 0 12000 C6 81 00 00\npoll 0 14000 0\nfrag 0 14000 C7 81 00 00\npoll 0 16000 0\n\
+         frag 0 16000 C8 81 00 00\npoll 0 18000 0\nfrag 0 18000 C9 81 00 00\npoll 0 20000 0\n\
+         frag 0 20000 CA 81 00 00\npoll 0 22000 0\nfrag 0 22000 CB 81 00 00\npoll 0 24000 0\n\
+         frag 0 24000 CC 81 00 00\npoll 0 26000 0\nfrag 0 26000 CD 81 00 00\npoll 0 28000 0\n\
+         frag 0 28000 CE 81 00 00\npoll 0 30000 0\nfrag 0 30000 CF 81 00 00\npoll 0 32000 0\n\
+         frag 0 32000 C0 81 00 00\n",
+        "ok\nrequest C0 01 3C 02 06 3C 03 06 3C 04 06 3C 01 06\naccepted end\n\
+         request C1 01 3C 02 06 3C 03 06 3C 04 06\naccepted end\nrequest C2 01 3C 02 06 3C 03 06 3C 04 06\n\
+         accepted end\nrequest C3 01 3C 02 06 3C 03 06 3C 04 06\naccepted end\n\
+         request C4 01 3C 02 06 3C 03 06 3C 04 06\naccepted end\nrequest C5 01 3C 02 06 3C 03 06 3C 04 06\n\
+         accepted end\nrequest C6 01 3C 02 06 3C 03 06 3C 04 06\naccepted end\n\
+         request C7 01 3C 02 06 3C 03 06 3C 04 06\naccepted end\nrequest C8 01 3C 02 06 3C 03 06 3C 04 06\n\
+         accepted end\nrequest C9 01 3C 02 06 3C 03 06 3C 04 06\naccepted end\n\
+         request CA 01 3C 02 06 3C 03 06 3C 04 06\naccepted end\nrequest CB 01 3C 02 06 3C 03 06 3C 04 06\n\
+         accepted end\nrequest CC 01 3C 02 06 3C 03 06 3C 04 06\naccepted end\n\
+         request CD 01 3C 02 06 3C 03 06 3C 04 06\naccepted end\nrequest CE 01 3C 02 06 3C 03 06 3C 04 06\n\
+         accepted end\nrequest CF 01 3C 02 06 3C 03 06 3C 04 06\naccepted end\n\
+         request C0 01 3C 02 06 3C 03 06 3C 04 06\naccepted end\n",
+    ),
+    // An answer of 20 fragments, whose sequence numbers go over 15, and the request behind it.
+    (
+        "",
+        "up 0 0\npoll 0 0 0\nfrag 0 0 80 81 00 00\nfrag 0 0 01 81 00 00\nfrag 0 0 02 81 00 00\n\
+         frag 0 0 03 81 00 00\nfrag 0 0 04 81 00 00\nfrag 0 0 05 81 00 00\nfrag 0 0 06 81 00 00\n\
+         frag 0 0 07 81 00 00\nfrag 0 0 08 81 00 00\nfrag 0 0 09 81 00 00\nfrag 0 0 0A 81 00 00\n\
+         frag 0 0 0B 81 00 00\nfrag 0 0 0C 81 00 00\nfrag 0 0 0D 81 00 00\nfrag 0 0 0E 81 00 00\n\
+         frag 0 0 0F 81 00 00\nfrag 0 0 00 81 00 00\nfrag 0 0 01 81 00 00\nfrag 0 0 02 81 00 00\n\
+         frag 0 0 43 81 00 00\npoll 0 2000 0\n",
+        "ok\nrequest C0 01 3C 02 06 3C 03 06 3C 04 06 3C 01 06\naccepted\naccepted\naccepted\naccepted\n\
+         accepted\naccepted\naccepted\naccepted\naccepted\naccepted\naccepted\naccepted\naccepted\naccepted\n\
+         accepted\naccepted\naccepted\naccepted\naccepted\naccepted end\n\
+         request C4 01 3C 02 06 3C 03 06 3C 04 06\n",
+    ),
 ];
 
 #[test]
 fn replays_with_polls(rt: HostRuntime) -> Result<(), Fail> {
     for (line, input, output) in REPLAYS {
-        let settings = settings_with(&rt, line)?;
-        check_settings_replay(&rt, settings, input.as_bytes(), output.as_bytes())?;
+        let pieces = [OUTSTATION, *line, POINTS];
+        let wanted = (output.as_bytes(), 0);
+        check_replay(&rt, input, &pieces, input.as_bytes(), wanted)?;
     }
     Ok(())
 }
 
-/// The hexadecimal digits.
-const DIGITS: [&str; 16] = [
-    "0", "1", "2", "3", "4", "5", "6", "7", "8", "9", "A", "B", "C", "D", "E", "F",
-];
+/// Settings of two outstations with a binary and a counter each.
+const TWO: &str =
+    "[station]\ncommon_address = 1\n[[outstation]]\naddress = 1\n[[outstation]]\naddress = 2\n\
+    [[point]]\noutstation = 1\nkind = \"counter\"\nindex = 0\naddress = 4\n\
+    [[point]]\noutstation = 0\nkind = \"binary\"\nindex = 0\naddress = 3\n\
+    [[point]]\noutstation = 1\nkind = \"binary\"\nindex = 0\naddress = 2\n\
+    [[point]]\noutstation = 0\nkind = \"counter\"\nindex = 0\naddress = 1\n";
 
-/// Requests are numbered modulo 16.
-#[test]
-fn seventeen_requests(rt: HostRuntime) -> Result<(), Fail> {
-    let mut input = String::from_str(rt.alloc(), "up 0 0\n")?;
-    let mut output = String::from_str(rt.alloc(), "ok\n")?;
-    for number in 0..17u32 {
-        let digit = DIGITS[number as usize % 16];
-        let moment = 2000 * number;
-        let classes = if number == 0 {
-            "3C 02 06 3C 03 06 3C 04 06 3C 01 06"
-        } else {
-            "3C 02 06 3C 03 06 3C 04 06"
-        };
-        input.push_str(format!(in rt.alloc();
-            "poll 0 {moment} 0\nfrag 0 {moment} C{digit} 81 00 00\n"
-        )?.as_str())?;
-        output.push_str(format!(in rt.alloc();
-            "request C{digit} 01 {classes}\naccepted end\n"
-        )?.as_str())?;
-    }
-    check_settings_replay(
-        &rt,
-        settings_with(&rt, "")?,
-        input.as_bytes(),
-        output.as_bytes(),
-    )
-}
+const LOSSES: &str = "up 0 0\nup 1 0\n\
+    frag 0 0 D0 82 00 00 02 01 17 01 00 91 16 01 17 01 00 21 07 00 00 00\n\
+    frag 1 0 D0 82 00 00 02 01 17 01 00 91 16 01 17 01 00 21 07 00 00 00\n\
+    open 0 0\nframe 0 0 68 04 07 00 00 00\npump 0 0\ndown 1 0\nqueue 0\npump 0 0\npump 0 0\ndown 0 0\n\
+    pump 0 0\npump 0 0\npump 0 0\nup 1 0\ndown 1 0\nqueue 0\n";
 
-/// An answer of 20 fragments, whose sequence numbers go over 15, and the request behind it.
-#[test]
-fn twenty_fragments(rt: HostRuntime) -> Result<(), Fail> {
-    let mut input = String::from_str(rt.alloc(), "up 0 0\npoll 0 0 0\nfrag 0 0 80 81 00 00\n")?;
-    let mut output = String::from_str(
-        rt.alloc(),
-        "ok\nrequest C0 01 3C 02 06 3C 03 06 3C 04 06 3C 01 06\naccepted\n",
-    )?;
-    for number in 1..19usize {
-        let digit = DIGITS[number % 16];
-        input.push_str(format!(in rt.alloc(); "frag 0 0 0{digit} 81 00 00\n")?.as_str())?;
-        output.push_str("accepted\n")?;
-    }
-    input.push_str("frag 0 0 43 81 00 00\npoll 0 2000 0\n")?;
-    output.push_str("accepted end\nrequest C4 01 3C 02 06 3C 03 06 3C 04 06\n")?;
-    check_settings_replay(
-        &rt,
-        settings_with(&rt, "")?,
-        input.as_bytes(),
-        output.as_bytes(),
-    )
-}
+const LOST: &str =
+    "ok\nok\naccepted\naccepted\nok\ntaken\napdu 68 04 0B 00 00 00\nok\nqueued 2 dropped 0\n\
+    apdu 68 12 00 00 00 00 0F 01 03 00 01 00 04 00 00 07 00 00 00 A0\n\
+    apdu 68 0E 02 00 00 00 01 01 03 00 01 00 02 00 00 61\nok\n\
+    apdu 68 0E 04 00 00 00 01 01 03 00 01 00 03 00 00 61\n\
+    apdu 68 12 06 00 00 00 0F 01 03 00 01 00 01 00 00 07 00 00 00 A0\nnothing\nok\nok\nqueued 0 dropped 0\n";
 
-/// An answer of 2,048 octets: 2,037 binary inputs, of which input 5 has a row.
-#[test]
-fn longest_answer(rt: HostRuntime) -> Result<(), Fail> {
-    let mut input = String::from_str(
-        rt.alloc(),
-        "up 0 0\npoll 0 0 0\nfrag 0 0 E0 81 00 00 01 02 01 00 00 F4 07",
-    )?;
-    for _ in 0..2037u32 {
-        input.push_str(" 81")?;
-    }
-    input.push_str("\n")?;
-    let output =
-        "ok\nrequest C0 01 3C 02 06 3C 03 06 3C 04 06 3C 01 06\naccepted confirm C0 00 end\n";
-    check_settings_replay(
-        &rt,
-        settings_with(&rt, "")?,
-        input.as_bytes(),
-        output.as_bytes(),
-    )
-}
-
-/// Two outstations with a binary and a counter each; both good. The loss of one is told of its own points, in the order
-/// of the file.
+/// Both are good. The loss of one is told of its own points, in the order of the file.
 #[test]
 fn loss_of_one_of_two(rt: HostRuntime) -> Result<(), Fail> {
-    let settings = Settings::read(
-        rt.alloc(),
-        "[station]\ncommon_address = 1\n[[outstation]]\naddress = 1\n[[outstation]]\naddress = 2\n\
-         [[point]]\noutstation = 1\nkind = \"counter\"\nindex = 0\naddress = 4\n\
-         [[point]]\noutstation = 0\nkind = \"binary\"\nindex = 0\naddress = 3\n\
-         [[point]]\noutstation = 1\nkind = \"binary\"\nindex = 0\naddress = 2\n\
-         [[point]]\noutstation = 0\nkind = \"counter\"\nindex = 0\naddress = 1\n",
-    )?;
-    let input = "up 0 0\nup 1 0\n\
-        frag 0 0 D0 82 00 00 02 01 17 01 00 91 16 01 17 01 00 21 07 00 00 00\n\
-        frag 1 0 D0 82 00 00 02 01 17 01 00 91 16 01 17 01 00 21 07 00 00 00\n\
-        open 0 0\nframe 0 0 68 04 07 00 00 00\npump 0 0\ndown 1 0\nqueue 0\npump 0 0\npump 0 0\ndown 0 0\n\
-        pump 0 0\npump 0 0\npump 0 0\nup 1 0\ndown 1 0\nqueue 0\n";
-    let output =
-        "ok\nok\naccepted\naccepted\nok\ntaken\napdu 68 04 0B 00 00 00\nok\nqueued 2 dropped 0\n\
-        apdu 68 12 00 00 00 00 0F 01 03 00 01 00 04 00 00 07 00 00 00 A0\n\
-        apdu 68 0E 02 00 00 00 01 01 03 00 01 00 02 00 00 61\nok\n\
-        apdu 68 0E 04 00 00 00 01 01 03 00 01 00 03 00 00 61\n\
-        apdu 68 12 06 00 00 00 0F 01 03 00 01 00 01 00 00 07 00 00 00 A0\nnothing\nok\nok\nqueued 0 dropped 0\n";
-    check_settings_replay(&rt, settings, input.as_bytes(), output.as_bytes())
+    let wanted = (LOST.as_bytes(), 0);
+    check_replay(&rt, "losses", &[TWO], LOSSES.as_bytes(), wanted)
 }

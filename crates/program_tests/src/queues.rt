@@ -1,5 +1,5 @@
 //! Replays of more news than may wait.
-use crate::script::{NOTHING, OFF, ON, OUTSTATION_UP, Row, START, Script, check, check_started};
+use crate::script::{NOTHING, OFF, ON, OUTSTATION_UP, Row, STARTED, Session, check_sessions};
 use std::test::Fail;
 
 /// Five events in one fragment: on, on, off, on, off.
@@ -20,11 +20,6 @@ const OVERFLOW: &[Row] = &[
     ("frame 0 0 68 04 07 00 00 00", "taken"),
     ("queue 0", "queued 0 dropped 0"),
 ];
-
-#[test]
-fn overflow(rt: HostRuntime) -> Result<(), Fail> {
-    check_started(&rt, "queue = 2", OVERFLOW)
-}
 
 /// The last two are put out in order; room that they leave is filled again, and what was dropped stays counted.
 const LAST_TWO: &[Row] = &[
@@ -55,11 +50,6 @@ const LAST_TWO: &[Row] = &[
     ("queue 0", "queued 0 dropped 4"),
 ];
 
-#[test]
-fn last_two(rt: HostRuntime) -> Result<(), Fail> {
-    check_started(&rt, "queue = 2", LAST_TWO)
-}
-
 /// Of one that may wait the last is kept; a loss pushes it out.
 const ONE: &[Row] = &[
     OUTSTATION_UP,
@@ -73,11 +63,6 @@ const ONE: &[Row] = &[
     ),
     NOTHING,
 ];
-
-#[test]
-fn one(rt: HostRuntime) -> Result<(), Fail> {
-    check_started(&rt, "queue = 1", ONE)
-}
 
 /// Each client has its own queue: the one that came later dropped nothing.
 const APART: &[Row] = &[
@@ -94,22 +79,28 @@ const APART: &[Row] = &[
     ("queue 7", "queued 1 dropped 0"),
 ];
 
-#[test]
-fn apart(rt: HostRuntime) -> Result<(), Fail> {
-    check_started(&rt, "queue = 2", APART)
-}
+const QUEUES: &[Session] = &[
+    ("overflow", "queue = 2", &[STARTED, (1, OVERFLOW)], 0),
+    ("the last two", "queue = 2", &[STARTED, (1, LAST_TWO)], 0),
+    ("one", "queue = 1", &[STARTED, (1, ONE)], 0),
+    ("two clients", "queue = 2", &[STARTED, (1, APART)], 0),
+    // The largest queue, and one more.
+    (
+        "the largest",
+        "queue = 65536",
+        &[
+            STARTED,
+            (1, &[OUTSTATION_UP]),
+            (32_768, &[ON, OFF]),
+            (1, &[("queue 0", "queued 65536 dropped 0")]),
+            (1, &[ON]),
+            (1, &[("queue 0", "queued 65536 dropped 1")]),
+        ],
+        0,
+    ),
+];
 
-/// The largest queue, and one more.
 #[test]
-fn largest(rt: HostRuntime) -> Result<(), Fail> {
-    let mut script = Script::new(rt.alloc());
-    script.say_all(START)?;
-    script.say_all(&[OUTSTATION_UP])?;
-    for _ in 0..32_768u32 {
-        script.say_all(&[ON, OFF])?;
-    }
-    script.say("queue 0", "queued 65536 dropped 0")?;
-    script.say_all(&[ON])?;
-    script.say("queue 0", "queued 65536 dropped 1")?;
-    check(&rt, "queue = 65536", &script, 0)
+fn queues(rt: HostRuntime) -> Result<(), Fail> {
+    check_sessions(&rt, QUEUES)
 }

@@ -1,26 +1,8 @@
 //! Tests of gw_replay.
+use crate::script::{DEFAULT, check_replay};
 use gw_hub::{Reply, Step, StepFault, Why};
-use gw_map::{DEFAULT_SETTINGS, Settings};
-use gw_replay::{
-    ApciFault, Instruction, Refusal, push_reply, read_instruction, replay, write_refused,
-};
-use std::process::Abort;
+use gw_replay::{ApciFault, Instruction, Refusal, push_reply, read_instruction, write_refused};
 use std::test::Fail;
-
-/// `replay` writes this for an input, and ends with this status.
-pub fn check_replay(
-    rt: &(impl Abort + AllocGlobal),
-    input: &[u8],
-    output: &[u8],
-    status: u8,
-) -> Result<(), Fail> {
-    let mut text = Vec::new(rt.alloc());
-    let settings = Settings::read(rt.alloc(), DEFAULT_SETTINGS)?;
-    let code = replay(rt.alloc(), settings, input, &mut text);
-    assert_eq!(rt; text.as_slice(), output, "at {input:?}");
-    assert_eq!(rt; code, status, "at {input:?}");
-    Ok(())
-}
 
 /// Lines, what `replay` writes for them, and its status.
 const REPLAYS: &[(&str, &str, u8)] = &[
@@ -97,14 +79,6 @@ const REPLAYS: &[(&str, &str, u8)] = &[
     ("", "", 0),
 ];
 
-#[test]
-fn replays(rt: HostRuntime) -> Result<(), Fail> {
-    for (input, output, status) in REPLAYS {
-        check_replay(&rt, input.as_bytes(), output.as_bytes(), *status)?;
-    }
-    Ok(())
-}
-
 /// Lines that are refused.
 const OTHER_LINES: &[&str] = &[
     "shut 0 0",
@@ -148,47 +122,19 @@ const OTHER_LINES: &[&str] = &[
 ];
 
 #[test]
-fn other_lines(rt: HostRuntime) -> Result<(), Fail> {
+fn replays(rt: HostRuntime) -> Result<(), Fail> {
+    for (input, output, status) in REPLAYS {
+        let wanted = (output.as_bytes(), *status);
+        check_replay(&rt, input, DEFAULT, input.as_bytes(), wanted)?;
+    }
     for line in OTHER_LINES {
-        check_replay(&rt, line.as_bytes(), b"refused line 1\n", 1)?;
+        let wanted = (b"refused line 1\n".as_slice(), 1);
+        check_replay(&rt, line, DEFAULT, line.as_bytes(), wanted)?;
     }
     Ok(())
 }
 
-/// `frag 0 0` with a response of so many octets, all behind the fourth of an object that isn't known.
-fn long_fragment(rt: &impl AllocGlobal, octets: usize) -> Result<Vec<u8>, Fail> {
-    let mut line = Vec::from_slice(rt.alloc(), b"frag 0 0 C0 81 00 00")?;
-    for _ in 4..octets {
-        line.extend_from_slice(b" 63")?;
-    }
-    Ok(line)
-}
-
-/// `queue 0` with so many zeros.
-fn long_queue(rt: &impl AllocGlobal, zeros: usize) -> Result<Vec<u8>, Fail> {
-    let mut line = Vec::from_slice(rt.alloc(), b"queue ")?;
-    for _ in 0..zeros {
-        line.push(b'0')?;
-    }
-    Ok(line)
-}
-
-#[test]
-fn long_lines(rt: HostRuntime) -> Result<(), Fail> {
-    let unknown = b"refused 3 Object 1 UnknownObject at 0\n";
-    check_replay(&rt, &long_fragment(&rt, 2048)?, unknown, 1)?;
-    check_replay(&rt, &long_fragment(&rt, 2049)?, b"refused line 1\n", 1)?;
-    check_replay(&rt, &long_queue(&rt, 8186)?, b"refused line 1\n", 1)?;
-    check_replay(&rt, &long_queue(&rt, 8185)?, b"queued 0 dropped 0\n", 0)
-}
-
-/// A line is read as a fragment of outstation 3 that comes at this moment.
-fn check_fragment_read(rt: &(impl Abort + AllocGlobal), line: &[u8], at: u64) -> Result<(), Fail> {
-    let found = read_instruction(rt.alloc(), line)?;
-    assert!(rt; is_fragment_at(&found, at));
-    Ok(())
-}
-
+/// It is a fragment of outstation 3 that comes at this moment.
 fn is_fragment_at(found: &Option<Instruction>, at: u64) -> bool {
     match found {
         Some(Instruction::Make(Step::Fragment { response, moment })) => {
@@ -200,16 +146,9 @@ fn is_fragment_at(found: &Option<Instruction>, at: u64) -> bool {
 
 #[test]
 fn instructions_are_read_with_ample_memory(rt: HostRuntime) -> Result<(), Fail> {
-    check_fragment_read(&rt, b"frag 3 4 C0 81 00 00", 4)
-}
-
-/// The lines of replies.
-fn told(rt: &impl AllocGlobal, replies: &[Result<Reply, StepFault>]) -> Result<Vec<u8>, Fail> {
-    let mut text = Vec::new(rt.alloc());
-    for reply in replies {
-        push_reply(&mut text, *reply)?;
-    }
-    Ok(text)
+    let found = read_instruction(rt.alloc(), b"frag 3 4 C0 81 00 00")?;
+    assert!(rt; is_fragment_at(&found, 4));
+    Ok(())
 }
 
 #[test]
@@ -220,7 +159,10 @@ fn replies_are_told_with_ample_memory(rt: HostRuntime) -> Result<(), Fail> {
         Err(StepFault::Memory),
         Err(StepFault::Spent),
     ];
-    let text = told(&rt, &replies)?;
+    let mut text = Vec::new(rt.alloc());
+    for reply in replies {
+        push_reply(&mut text, reply)?;
+    }
     let want = b"closed Timer\nticked 0 4 7\nfault 5 Memory\nfault 6 Spent\n";
     assert_eq!(rt; text.as_slice(), want.as_slice());
     Ok(())

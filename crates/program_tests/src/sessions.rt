@@ -1,22 +1,16 @@
 //! Replays of clients: STARTDT, STOPDT and TESTFR, the windows k and w, the timers, and each cause of a close.
-use crate::script::{GONE, NARROW, NOTHING, OFF, ON, OUTSTATION_UP, START, USUAL, Row, Script, check, check_started};
+use crate::script::{
+    GONE, NARROW, NOTHING, OFF, ON, OUTSTATION_UP, Part, Row, START, STARTED, Script, Session,
+    USUAL, check, check_sessions,
+};
 use std::io::Write;
-use std::process::Abort;
 use std::test::Fail;
 
 // ---- STARTDT, STOPDT and TESTFR
 
-/// 32 confirmations wait, and one more is asked for.
-#[test]
-fn floods(rt: HostRuntime) -> Result<(), Fail> {
-    let mut script = Script::started(rt.alloc())?;
-    for _ in 0..32 {
-        script.say("frame 0 0 68 04 43 00 00 00", "taken")?;
-    }
-    script.say("frame 0 0 68 04 43 00 00 00", "closed Flooded")?;
-    script.say_all(&[GONE])?;
-    check(&rt, USUAL, &script, 0)
-}
+const TEST: &[Row] = &[("frame 0 0 68 04 43 00 00 00", "taken")];
+
+const ONE_TEST_MORE: &[Row] = &[("frame 0 0 68 04 43 00 00 00", "closed Flooded"), GONE];
 
 /// The queue is dropped, news that come then aren't kept, and behind the next start the numbers go on.
 const STOPS: &[Row] = &[
@@ -46,11 +40,6 @@ const STOPS: &[Row] = &[
     NOTHING,
 ];
 
-#[test]
-fn stops(rt: HostRuntime) -> Result<(), Fail> {
-    check_started(&rt, USUAL, STOPS)
-}
-
 /// While it is stopped S formats are taken, and I formats aren't.
 const STOPPED: &[Row] = &[
     OUTSTATION_UP,
@@ -68,23 +57,11 @@ const STOPPED: &[Row] = &[
     GONE,
 ];
 
-#[test]
-fn stopped(rt: HostRuntime) -> Result<(), Fail> {
-    check_started(&rt, USUAL, STOPPED)
-}
-
-/// Each STOPDT act is confirmed, started or not.
-#[test]
-fn stops_without_start(rt: HostRuntime) -> Result<(), Fail> {
-    let mut script = Script::new(rt.alloc());
-    script.say("open 0 0", "ok")?;
-    for _ in 0..2 {
-        script.say("frame 0 0 68 04 13 00 00 00", "taken")?;
-        script.say("pump 0 0", "apdu 68 04 23 00 00 00")?;
-        script.say("pump 0 0", "nothing")?;
-    }
-    check(&rt, USUAL, &script, 0)
-}
+const STOP: &[Row] = &[
+    ("frame 0 0 68 04 13 00 00 00", "taken"),
+    ("pump 0 0", "apdu 68 04 23 00 00 00"),
+    ("pump 0 0", "nothing"),
+];
 
 const STARTS_TWICE: &[Row] = &[
     OUTSTATION_UP,
@@ -98,11 +75,6 @@ const STARTS_TWICE: &[Row] = &[
     ),
     NOTHING,
 ];
-
-#[test]
-fn second_start_keeps_the_queue(rt: HostRuntime) -> Result<(), Fail> {
-    check_started(&rt, USUAL, STARTS_TWICE)
-}
 
 /// Confirmations are put out before news, in their order, over STOPDT too.
 const CONFIRMS: &[Row] = &[
@@ -121,11 +93,6 @@ const CONFIRMS: &[Row] = &[
     ),
     NOTHING,
 ];
-
-#[test]
-fn confirmations_wait(rt: HostRuntime) -> Result<(), Fail> {
-    check_started(&rt, USUAL, CONFIRMS)
-}
 
 /// A client that sends STARTDT con, STOPDT con and TESTFR con, stopped and then started.
 const UNASKED: &[Row] = &[
@@ -151,13 +118,6 @@ const UNASKED: &[Row] = &[
     NOTHING,
 ];
 
-#[test]
-fn unasked_confirmations(rt: HostRuntime) -> Result<(), Fail> {
-    let mut script = Script::new(rt.alloc());
-    script.say_all(UNASKED)?;
-    check(&rt, USUAL, &script, 0)
-}
-
 // ---- I and S formats
 
 /// An ASDU of 4 octets.
@@ -181,28 +141,6 @@ const HEADERS: &[Row] = &[
 
 const EMPTY: &[Row] = &[("frame 0 0 68 04 00 00 00 00", "closed Malformed"), GONE];
 
-#[test]
-fn short_asdus(rt: HostRuntime) -> Result<(), Fail> {
-    check_started(&rt, USUAL, SHORT)?;
-    check_started(&rt, USUAL, HEADERS)?;
-    check_started(&rt, USUAL, EMPTY)
-}
-
-/// An S format that acknowledges an I format which was never sent; before the first number is the last.
-#[test]
-fn wraps(rt: HostRuntime) -> Result<(), Fail> {
-    check_started(
-        &rt,
-        USUAL,
-        &[("frame 0 0 68 04 01 00 02 00", "closed Sequence"), GONE],
-    )?;
-    check_started(
-        &rt,
-        USUAL,
-        &[("frame 0 0 68 04 01 00 FE FF", "closed Sequence"), GONE],
-    )
-}
-
 /// A right I format before STARTDT act.
 const EARLY: &[Row] = &[
     ("open 0 0", "ok"),
@@ -218,23 +156,20 @@ const EARLY: &[Row] = &[
     ),
 ];
 
-/// The causes of a close by an I format, in their order, each beside those behind it: data transfer isn't started,
-/// N(S) or N(R) is wrong, the ASDU is short.
-#[test]
-fn causes_in_order(rt: HostRuntime) -> Result<(), Fail> {
-    let mut script = Script::new(rt.alloc());
-    script.say_all(EARLY)?;
-    script.say_all(START)?;
-    script.say("frame 0 0 68 08 02 00 00 00 64 01 06 00", "closed Sequence")?;
-    script.say_all(START)?;
-    script.say("frame 0 0 68 08 00 00 02 00 64 01 06 00", "closed Sequence")?;
-    script.say_all(START)?;
-    script.say(
-        "frame 0 0 68 08 00 00 00 00 64 01 06 00",
-        "closed Malformed",
-    )?;
-    check(&rt, USUAL, &script, 0)
-}
+const SKIPS_BEFORE_SHORT: &[Row] = &[(
+    "frame 0 0 68 08 02 00 00 00 64 01 06 00",
+    "closed Sequence",
+)];
+
+const ACKNOWLEDGES_BEFORE_SHORT: &[Row] = &[(
+    "frame 0 0 68 08 00 00 02 00 64 01 06 00",
+    "closed Sequence",
+)];
+
+const SHORT_ALONE: &[Row] = &[(
+    "frame 0 0 68 08 00 00 00 00 64 01 06 00",
+    "closed Malformed",
+)];
 
 /// Of two I formats that may wait, the third one waits for an acknowledgement. N(R) may acknowledge none newly, or all.
 const FULL: &[Row] = &[
@@ -292,12 +227,6 @@ const ACKNOWLEDGED: &[Row] = &[
     GONE,
 ];
 
-#[test]
-fn window_is_full(rt: HostRuntime) -> Result<(), Fail> {
-    check_started(&rt, NARROW, FULL)?;
-    check_started(&rt, NARROW, ACKNOWLEDGED)
-}
-
 const REPEATED: &[Row] = &[
     (
         "frame 0 0 68 0E 00 00 00 00 64 01 06 00 01 00 00 00 00 14",
@@ -322,99 +251,56 @@ const SKIPPED: &[Row] = &[
     GONE,
 ];
 
-#[test]
-fn send_numbers(rt: HostRuntime) -> Result<(), Fail> {
-    check_started(&rt, USUAL, REPEATED)?;
-    check_started(&rt, USUAL, SKIPPED)
-}
+/// General interrogations, the first seven.
+const SEVEN: &[Row] = &[
+    (
+        "frame 0 0 68 0E 00 00 00 00 64 01 06 00 01 00 00 00 00 14",
+        "taken",
+    ),
+    (
+        "frame 0 0 68 0E 02 00 00 00 64 01 06 00 01 00 00 00 00 14",
+        "taken",
+    ),
+    (
+        "frame 0 0 68 0E 04 00 00 00 64 01 06 00 01 00 00 00 00 14",
+        "taken",
+    ),
+    (
+        "frame 0 0 68 0E 06 00 00 00 64 01 06 00 01 00 00 00 00 14",
+        "taken",
+    ),
+    (
+        "frame 0 0 68 0E 08 00 00 00 64 01 06 00 01 00 00 00 00 14",
+        "taken",
+    ),
+    (
+        "frame 0 0 68 0E 0A 00 00 00 64 01 06 00 01 00 00 00 00 14",
+        "taken",
+    ),
+    (
+        "frame 0 0 68 0E 0C 00 00 00 64 01 06 00 01 00 00 00 00 14",
+        "taken",
+    ),
+];
 
-/// A client sends a general interrogation with these numbers.
-fn send(script: &mut Script, ns: u16, nr: u16) -> Result<(), Fail> {
-    let [ns_low, ns_high] = (ns << 1).to_le_bytes();
-    let [nr_low, nr_high] = (nr << 1).to_le_bytes();
-    writeln!(
-        script.input,
-        "frame 0 0 68 0E {ns_low:02X} {ns_high:02X} {nr_low:02X} {nr_high:02X} 64 01 06 00 01 00 00 00 00 14"
-    )?;
-    writeln!(script.output, "taken")?;
-    Ok(())
-}
+/// The eighth one.
+const EIGHTH: &[Row] = &[(
+    "frame 0 0 68 0E 0E 00 00 00 64 01 06 00 01 00 00 00 00 14",
+    "taken",
+)];
 
-/// Of I formats that came, the eighth makes an S format due.
-#[test]
-fn eight_received(rt: HostRuntime) -> Result<(), Fail> {
-    let mut script = Script::started(rt.alloc())?;
-    for ns in 0..7 {
-        send(&mut script, ns, 0)?;
-    }
-    script.say("pump 0 0", "nothing")?;
-    send(&mut script, 7, 0)?;
-    script.say("pump 0 0", "apdu 68 04 01 00 10 00")?;
-    script.say("pump 0 0", "nothing")?;
-    check(&rt, USUAL, &script, 0)
-}
+const S_FORMAT: &[Row] = &[("pump 0 0", "apdu 68 04 01 00 10 00"), NOTHING];
 
-/// An I format that is put out acknowledges them, so no S format is due then.
-#[test]
-fn news_acknowledge(rt: HostRuntime) -> Result<(), Fail> {
-    let mut script = Script::started(rt.alloc())?;
-    for ns in 0..8 {
-        send(&mut script, ns, 0)?;
-    }
-    script.say_all(&[OUTSTATION_UP, ON])?;
-    script.say(
+const NEWS_ACKNOWLEDGE: &[Row] = &[
+    OUTSTATION_UP,
+    ON,
+    (
         "pump 0 0",
         "apdu 68 0E 00 00 10 00 01 01 03 00 01 00 05 10 00 01",
-    )?;
-    script.say("pump 0 0", "nothing")?;
-    script.say("pump 0 10000", "nothing")?;
-    check(&rt, USUAL, &script, 0)
-}
-
-/// An event, on and off by turns, which is put out with these numbers.
-fn put_out(script: &mut Script, ns: u16, nr: u16) -> Result<(), Fail> {
-    let (sequence, flags, state) = if ns % 2 == 0 {
-        ("0", "81", "01")
-    } else {
-        ("1", "01", "00")
-    };
-    let [ns_low, ns_high] = (ns << 1).to_le_bytes();
-    let [nr_low, nr_high] = (nr << 1).to_le_bytes();
-    writeln!(
-        script.input,
-        "frag 0 0 F{sequence} 82 00 00 02 01 17 01 05 {flags}\npump 0 0"
-    )?;
-    writeln!(
-        script.output,
-        "accepted confirm D{sequence} 00\n\
-         apdu 68 0E {ns_low:02X} {ns_high:02X} {nr_low:02X} {nr_high:02X} 01 01 03 00 01 00 05 10 00 {state}"
-    )?;
-    Ok(())
-}
-
-/// A client acknowledges what comes before this number.
-fn acknowledge(script: &mut Script, nr: u16) -> Result<(), Fail> {
-    let [low, high] = (nr << 1).to_le_bytes();
-    writeln!(script.input, "frame 0 0 68 04 01 00 {low:02X} {high:02X}")?;
-    writeln!(script.output, "taken")?;
-    Ok(())
-}
-
-/// The numbers of both sides go on with 0 behind 32,767: an event is put out and acknowledged by an S format, and a
-/// general interrogation comes, 32,769 times.
-#[test]
-fn numbers_begin_again(rt: HostRuntime) -> Result<(), Fail> {
-    let mut script = Script::started(rt.alloc())?;
-    script.say_all(&[OUTSTATION_UP])?;
-    for count in 0..32769u16 {
-        let number = count % 32768;
-        let next = (number + 1) % 32768;
-        put_out(&mut script, number, number)?;
-        acknowledge(&mut script, next)?;
-        send(&mut script, number, next)?;
-    }
-    check(&rt, USUAL, &script, 0)
-}
+    ),
+    NOTHING,
+    ("pump 0 10000", "nothing"),
+];
 
 // ---- timers
 
@@ -428,11 +314,6 @@ const QUIET: &[Row] = &[
     ("tick 35000", "ticked"),
     ("pump 0 35000", "fault 3 NotUp"),
 ];
-
-#[test]
-fn quiet_connection(rt: HostRuntime) -> Result<(), Fail> {
-    check_started(&rt, USUAL, QUIET)
-}
 
 /// TESTFR con ends t1, and t3 runs anew.
 const ANSWERED: &[Row] = &[
@@ -457,12 +338,6 @@ const UNANSWERED: &[Row] = &[
     ("tick 35000", "ticked 0"),
 ];
 
-#[test]
-fn tests_of_connections(rt: HostRuntime) -> Result<(), Fail> {
-    check_started(&rt, USUAL, ANSWERED)?;
-    check_started(&rt, USUAL, UNANSWERED)
-}
-
 /// t2 runs from the I format that came, t1 from those that were put out.
 const NARROW_TIMES: &[Row] = &[
     OUTSTATION_UP,
@@ -485,11 +360,6 @@ const NARROW_TIMES: &[Row] = &[
     ("tick 15000", "ticked 0"),
     ("pump 0 15000", "fault 3 NotUp"),
 ];
-
-#[test]
-fn narrow_windows(rt: HostRuntime) -> Result<(), Fail> {
-    check_started(&rt, NARROW, NARROW_TIMES)
-}
 
 /// t1 of an I format.
 const LATE: &[Row] = &[
@@ -522,12 +392,6 @@ const LATER: &[Row] = &[
     ("tick 17000", "ticked 0"),
 ];
 
-#[test]
-fn oldest_news_are_late(rt: HostRuntime) -> Result<(), Fail> {
-    check_started(&rt, USUAL, LATE)?;
-    check_started(&rt, USUAL, LATER)
-}
-
 /// t1, t2 and t3 have run out: a pump asks for a test, the next one acknowledges, and a tick closes.
 const ALL_LATE: &[Row] = &[
     OUTSTATION_UP,
@@ -548,65 +412,78 @@ const ALL_LATE: &[Row] = &[
     ("pump 0 25000", "fault 3 NotUp"),
 ];
 
-#[test]
-fn all_timers_at_once(rt: HostRuntime) -> Result<(), Fail> {
-    check_started(&rt, USUAL, ALL_LATE)
-}
-
 // ---- clients
 
 /// Each of eight clients connects and starts.
-fn start_eight(script: &mut Script) -> Result<(), Fail> {
-    for client in 0..8u8 {
-        writeln!(
-            script.input,
-            "open {client} 0\nframe {client} 0 68 04 07 00 00 00\npump {client} 0"
-        )?;
-        writeln!(script.output, "ok\ntaken\napdu 68 04 0B 00 00 00")?;
-    }
-    Ok(())
-}
-
-/// To each of eight clients this is put out.
-fn pump_eight(script: &mut Script, reply: &str) -> Result<(), Fail> {
-    for client in 0..8u8 {
-        writeln!(script.input, "pump {client} 0")?;
-        writeln!(script.output, "{reply}")?;
-    }
-    Ok(())
-}
+const EIGHT_START: &[Row] = &[
+    ("open 0 0", "ok"),
+    ("frame 0 0 68 04 07 00 00 00", "taken"),
+    ("pump 0 0", "apdu 68 04 0B 00 00 00"),
+    ("open 1 0", "ok"),
+    ("frame 1 0 68 04 07 00 00 00", "taken"),
+    ("pump 1 0", "apdu 68 04 0B 00 00 00"),
+    ("open 2 0", "ok"),
+    ("frame 2 0 68 04 07 00 00 00", "taken"),
+    ("pump 2 0", "apdu 68 04 0B 00 00 00"),
+    ("open 3 0", "ok"),
+    ("frame 3 0 68 04 07 00 00 00", "taken"),
+    ("pump 3 0", "apdu 68 04 0B 00 00 00"),
+    ("open 4 0", "ok"),
+    ("frame 4 0 68 04 07 00 00 00", "taken"),
+    ("pump 4 0", "apdu 68 04 0B 00 00 00"),
+    ("open 5 0", "ok"),
+    ("frame 5 0 68 04 07 00 00 00", "taken"),
+    ("pump 5 0", "apdu 68 04 0B 00 00 00"),
+    ("open 6 0", "ok"),
+    ("frame 6 0 68 04 07 00 00 00", "taken"),
+    ("pump 6 0", "apdu 68 04 0B 00 00 00"),
+    ("open 7 0", "ok"),
+    ("frame 7 0 68 04 07 00 00 00", "taken"),
+    ("pump 7 0", "apdu 68 04 0B 00 00 00"),
+];
 
 const FIRST_NEWS: &str = "apdu 68 0E 00 00 00 00 01 01 03 00 01 00 05 10 00 01";
 
-#[test]
-fn eight_clients(rt: HostRuntime) -> Result<(), Fail> {
-    let mut script = Script::new(rt.alloc());
-    start_eight(&mut script)?;
-    script.say_all(&[OUTSTATION_UP, ON])?;
-    pump_eight(&mut script, FIRST_NEWS)?;
-    pump_eight(&mut script, "nothing")?;
-    script.say("tick 15000", "ticked 0 1 2 3 4 5 6 7")?;
-    check(&rt, USUAL, &script, 0)
-}
+/// To each of eight clients the first news are put out.
+const EIGHT_NEWS: &[Row] = &[
+    OUTSTATION_UP,
+    ON,
+    ("pump 0 0", FIRST_NEWS),
+    ("pump 1 0", FIRST_NEWS),
+    ("pump 2 0", FIRST_NEWS),
+    ("pump 3 0", FIRST_NEWS),
+    ("pump 4 0", FIRST_NEWS),
+    ("pump 5 0", FIRST_NEWS),
+    ("pump 6 0", FIRST_NEWS),
+    ("pump 7 0", FIRST_NEWS),
+];
 
-/// Of eight clients 0 and 5 don't acknowledge.
-#[test]
-fn two_run_out(rt: HostRuntime) -> Result<(), Fail> {
-    let mut script = Script::new(rt.alloc());
-    start_eight(&mut script)?;
-    script.say_all(&[OUTSTATION_UP, ON])?;
-    pump_eight(&mut script, FIRST_NEWS)?;
-    for client in [1u8, 2, 3, 4, 6, 7] {
-        writeln!(script.input, "frame {client} 0 68 04 01 00 02 00")?;
-        writeln!(script.output, "taken")?;
-    }
-    script.say("tick 14999", "ticked")?;
-    script.say("tick 15000", "ticked 0 5")?;
-    script.say("tick 15000", "ticked")?;
-    script.say("pump 5 15000", "fault 3 NotUp")?;
-    script.say("pump 6 15000", "nothing")?;
-    check(&rt, USUAL, &script, 0)
-}
+const EIGHT_RUN_OUT: &[Row] = &[
+    ("pump 0 0", "nothing"),
+    ("pump 1 0", "nothing"),
+    ("pump 2 0", "nothing"),
+    ("pump 3 0", "nothing"),
+    ("pump 4 0", "nothing"),
+    ("pump 5 0", "nothing"),
+    ("pump 6 0", "nothing"),
+    ("pump 7 0", "nothing"),
+    ("tick 15000", "ticked 0 1 2 3 4 5 6 7"),
+];
+
+/// Clients 0 and 5 don't acknowledge.
+const TWO_RUN_OUT: &[Row] = &[
+    ("frame 1 0 68 04 01 00 02 00", "taken"),
+    ("frame 2 0 68 04 01 00 02 00", "taken"),
+    ("frame 3 0 68 04 01 00 02 00", "taken"),
+    ("frame 4 0 68 04 01 00 02 00", "taken"),
+    ("frame 6 0 68 04 01 00 02 00", "taken"),
+    ("frame 7 0 68 04 01 00 02 00", "taken"),
+    ("tick 14999", "ticked"),
+    ("tick 15000", "ticked 0 5"),
+    ("tick 15000", "ticked"),
+    ("pump 5 15000", "fault 3 NotUp"),
+    ("pump 6 15000", "nothing"),
+];
 
 /// Clients that there are none of, and that are down, or up.
 const FAULTS: &[Row] = &[
@@ -660,8 +537,236 @@ const ONE_OF_TWO: &[Row] = &[
     ("pump 3 0", "fault 3 NotUp"),
 ];
 
+const OPENED: Part = (1, &[("open 0 0", "ok")]);
+
+/// STARTDT, STOPDT and TESTFR.
+const STARTS: &[Session] = &[
+    // 32 confirmations wait, and one more is asked for.
+    (
+        "floods",
+        USUAL,
+        &[STARTED, (32, TEST), (1, ONE_TEST_MORE)],
+        0,
+    ),
+    ("stops", USUAL, &[STARTED, (1, STOPS)], 0),
+    ("stopped", USUAL, &[STARTED, (1, STOPPED)], 0),
+    // Each STOPDT act is confirmed, started or not.
+    ("stops without start", USUAL, &[OPENED, (2, STOP)], 0),
+    (
+        "a second start keeps the queue",
+        USUAL,
+        &[STARTED, (1, STARTS_TWICE)],
+        0,
+    ),
+    ("confirmations wait", USUAL, &[STARTED, (1, CONFIRMS)], 0),
+    ("unasked confirmations", USUAL, &[(1, UNASKED)], 0),
+];
+
 #[test]
-fn clients_apart(rt: HostRuntime) -> Result<(), Fail> {
-    check_started(&rt, USUAL, FAULTS)?;
-    check_started(&rt, USUAL, ONE_OF_TWO)
+fn starts_and_stops(rt: HostRuntime) -> Result<(), Fail> {
+    check_sessions(&rt, STARTS)
+}
+
+/// I and S formats that close, and the causes in their order.
+const FORMATS: &[Session] = &[
+    ("an ASDU of 4 octets", USUAL, &[STARTED, (1, SHORT)], 0),
+    ("headers of ASDUs", USUAL, &[STARTED, (1, HEADERS)], 0),
+    ("an empty ASDU", USUAL, &[STARTED, (1, EMPTY)], 0),
+    // An S format that acknowledges an I format which was never sent; before the first number is the last.
+    (
+        "acknowledges 1 of 0",
+        USUAL,
+        &[
+            STARTED,
+            (
+                1,
+                &[("frame 0 0 68 04 01 00 02 00", "closed Sequence"), GONE],
+            ),
+        ],
+        0,
+    ),
+    (
+        "acknowledges 32,767 of 0",
+        USUAL,
+        &[
+            STARTED,
+            (
+                1,
+                &[("frame 0 0 68 04 01 00 FE FF", "closed Sequence"), GONE],
+            ),
+        ],
+        0,
+    ),
+    // The causes of a close by an I format, in their order, each beside those behind it: data transfer isn't started,
+    // N(S) or N(R) is wrong, the ASDU is short.
+    (
+        "causes in order",
+        USUAL,
+        &[
+            (1, EARLY),
+            STARTED,
+            (1, SKIPS_BEFORE_SHORT),
+            STARTED,
+            (1, ACKNOWLEDGES_BEFORE_SHORT),
+            STARTED,
+            (1, SHORT_ALONE),
+        ],
+        0,
+    ),
+];
+
+#[test]
+fn formats(rt: HostRuntime) -> Result<(), Fail> {
+    check_sessions(&rt, FORMATS)
+}
+
+/// The windows k and w, and the numbers.
+const WINDOWS: &[Session] = &[
+    ("the window is full", NARROW, &[STARTED, (1, FULL)], 0),
+    (
+        "I formats acknowledge",
+        NARROW,
+        &[STARTED, (1, ACKNOWLEDGED)],
+        0,
+    ),
+    ("N(S) is repeated", USUAL, &[STARTED, (1, REPEATED)], 0),
+    ("N(S) is skipped", USUAL, &[STARTED, (1, SKIPPED)], 0),
+    // Of I formats that came, the eighth makes an S format due.
+    (
+        "eight received",
+        USUAL,
+        &[
+            STARTED,
+            (1, SEVEN),
+            (1, &[NOTHING]),
+            (1, EIGHTH),
+            (1, S_FORMAT),
+        ],
+        0,
+    ),
+    // An I format that is put out acknowledges them, so no S format is due then.
+    (
+        "news acknowledge",
+        USUAL,
+        &[STARTED, (1, SEVEN), (1, EIGHTH), (1, NEWS_ACKNOWLEDGE)],
+        0,
+    ),
+];
+
+#[test]
+fn windows(rt: HostRuntime) -> Result<(), Fail> {
+    check_sessions(&rt, WINDOWS)
+}
+
+/// The timers.
+const TIMERS: &[Session] = &[
+    ("a quiet connection", USUAL, &[STARTED, (1, QUIET)], 0),
+    ("a test is answered", USUAL, &[STARTED, (1, ANSWERED)], 0),
+    (
+        "a test is not answered",
+        USUAL,
+        &[STARTED, (1, UNANSWERED)],
+        0,
+    ),
+    ("narrow windows", NARROW, &[STARTED, (1, NARROW_TIMES)], 0),
+    ("news are late", USUAL, &[STARTED, (1, LATE)], 0),
+    ("later news are late", USUAL, &[STARTED, (1, LATER)], 0),
+    ("all timers at once", USUAL, &[STARTED, (1, ALL_LATE)], 0),
+];
+
+#[test]
+fn timers(rt: HostRuntime) -> Result<(), Fail> {
+    check_sessions(&rt, TIMERS)
+}
+
+/// Eight clients.
+const EIGHT: &[Session] = &[
+    (
+        "eight clients",
+        USUAL,
+        &[(1, EIGHT_START), (1, EIGHT_NEWS), (1, EIGHT_RUN_OUT)],
+        0,
+    ),
+    (
+        "two of eight run out",
+        USUAL,
+        &[(1, EIGHT_START), (1, EIGHT_NEWS), (1, TWO_RUN_OUT)],
+        0,
+    ),
+];
+
+#[test]
+fn eight_clients(rt: HostRuntime) -> Result<(), Fail> {
+    check_sessions(&rt, EIGHT)
+}
+
+/// Two clients, and those that there are none of.
+const CLIENTS: &[Session] = &[
+    ("faults", USUAL, &[STARTED, (1, FAULTS)], 0),
+    ("one of two clients", USUAL, &[STARTED, (1, ONE_OF_TWO)], 0),
+];
+
+#[test]
+fn two_clients(rt: HostRuntime) -> Result<(), Fail> {
+    check_sessions(&rt, CLIENTS)
+}
+
+// ---- numbers
+
+/// A client sends a general interrogation with these numbers.
+fn send(script: &mut Script, ns: u16, nr: u16) -> Result<(), Fail> {
+    let [ns_low, ns_high] = (ns << 1).to_le_bytes();
+    let [nr_low, nr_high] = (nr << 1).to_le_bytes();
+    writeln!(
+        script.input,
+        "frame 0 0 68 0E {ns_low:02X} {ns_high:02X} {nr_low:02X} {nr_high:02X} 64 01 06 00 01 00 00 00 00 14"
+    )?;
+    writeln!(script.output, "taken")?;
+    Ok(())
+}
+
+/// An event, on and off by turns, which is put out with these numbers.
+fn put_out(script: &mut Script, ns: u16, nr: u16) -> Result<(), Fail> {
+    let (sequence, flags, state) = if ns % 2 == 0 {
+        ("0", "81", "01")
+    } else {
+        ("1", "01", "00")
+    };
+    let [ns_low, ns_high] = (ns << 1).to_le_bytes();
+    let [nr_low, nr_high] = (nr << 1).to_le_bytes();
+    writeln!(
+        script.input,
+        "frag 0 0 F{sequence} 82 00 00 02 01 17 01 05 {flags}\npump 0 0"
+    )?;
+    writeln!(
+        script.output,
+        "accepted confirm D{sequence} 00\n\
+         apdu 68 0E {ns_low:02X} {ns_high:02X} {nr_low:02X} {nr_high:02X} 01 01 03 00 01 00 05 10 00 {state}"
+    )?;
+    Ok(())
+}
+
+/// A client acknowledges what comes before this number.
+fn acknowledge(script: &mut Script, nr: u16) -> Result<(), Fail> {
+    let [low, high] = (nr << 1).to_le_bytes();
+    writeln!(script.input, "frame 0 0 68 04 01 00 {low:02X} {high:02X}")?;
+    writeln!(script.output, "taken")?;
+    Ok(())
+}
+
+/// The numbers of both sides go on with 0 behind 32,767: an event is put out and acknowledged by an S format, and a
+/// general interrogation comes, 32,769 times.
+#[test]
+fn numbers_begin_again(rt: HostRuntime) -> Result<(), Fail> {
+    let mut script = Script::new(rt.alloc());
+    script.say_all(START)?;
+    script.say_all(&[OUTSTATION_UP])?;
+    for count in 0..32769u16 {
+        let number = count % 32768;
+        let next = (number + 1) % 32768;
+        put_out(&mut script, number, number)?;
+        acknowledge(&mut script, next)?;
+        send(&mut script, number, next)?;
+    }
+    check(&rt, "numbers begin again", USUAL, &script, 0)
 }

@@ -1,7 +1,7 @@
 //! Tests of gw_text.
+use crate::script::{DEFAULT, settings_of};
 use dnp_app::AppFault;
 use dnp_objects::{ObjectFault, Why};
-use gw_map::{DEFAULT_SETTINGS, Settings};
 use gw_model::{Memory, Observation, Quality, Stamp, Value};
 use gw_text::{line_octets, push_accepted, write_refusal};
 use std::process::Abort;
@@ -68,7 +68,7 @@ const ON: Observation = Observation {
 #[test]
 fn news_are_told_with_ample_memory(rt: HostRuntime) -> Result<(), Fail> {
     let mut text = Vec::new(rt.alloc());
-    let settings = Settings::read(rt.alloc(), DEFAULT_SETTINGS)?;
+    let settings = settings_of(rt.alloc(), DEFAULT)?;
     push_accepted(&mut text, &settings, Some([0xC3, 0]), &[ON], &mut [0; 249])?;
     let want = b"confirm C3 00\nasdu 01 01 03 00 01 00 05 10 00 01\n";
     assert_eq!(rt; text.as_slice(), want.as_slice());

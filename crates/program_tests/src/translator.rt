@@ -1,27 +1,13 @@
 //! Tests of gw_translator.
+use crate::script::{DEFAULT, check_translation, settings_of};
 use dnp_app::AppFault;
 use dnp_objects::{ObjectFault, Why};
-use gw_map::{DEFAULT_SETTINGS, Settings};
+use gw_map::Settings;
 use gw_model::Memory;
 use gw_picture::Picture;
-use gw_translator::{Decision, decide, translate};
+use gw_translator::{Decision, decide};
 use std::process::Abort;
 use std::test::Fail;
-
-/// `translate` writes this for an input, and ends with this status.
-pub fn check_lines(
-    rt: &(impl Abort + AllocGlobal),
-    input: &[u8],
-    want: &[u8],
-    status: u8,
-) -> Result<(), Fail> {
-    let mut output = Vec::new(rt.alloc());
-    let settings = Settings::read(rt.alloc(), DEFAULT_SETTINGS)?;
-    let ended = translate(rt.alloc(), settings, input, &mut output);
-    assert_eq!(rt; output.as_slice(), want, "at {input:?}");
-    assert_eq!(rt; ended, status, "at {input:?}");
-    Ok(())
-}
 
 /// Lines, what `translate` writes for them, and its status.
 const LINES: &[(&str, &str, u8)] = &[
@@ -77,14 +63,6 @@ const LINES: &[(&str, &str, u8)] = &[
     ("\n\n\n", "", 0),
     ("", "", 0),
 ];
-
-#[test]
-fn lines(rt: HostRuntime) -> Result<(), Fail> {
-    for (input, want, status) in LINES {
-        check_lines(&rt, input.as_bytes(), want.as_bytes(), *status)?;
-    }
-    Ok(())
-}
 
 /// The same for objects of many kinds, of binary input 5, analog input 0 and counter 0.
 const OBJECTS: &[(&str, &str, u8)] = &[
@@ -173,41 +151,14 @@ const OBJECTS: &[(&str, &str, u8)] = &[
 ];
 
 #[test]
-fn objects(rt: HostRuntime) -> Result<(), Fail> {
-    for (input, want, status) in OBJECTS {
-        check_lines(&rt, input.as_bytes(), want.as_bytes(), *status)?;
+fn lines(rt: HostRuntime) -> Result<(), Fail> {
+    for table in [LINES, OBJECTS] {
+        for (input, want, status) in table {
+            let wanted = (want.as_bytes(), *status);
+            check_translation(&rt, input, DEFAULT, input.as_bytes(), wanted)?;
+        }
     }
     Ok(())
-}
-
-/// Adds a line of octets that says nothing: a response with empty headers, filled to `count` octets.
-fn push_line(input: &mut Vec<u8>, count: usize) -> Result<(), Fail> {
-    input.extend_from_slice(b"C0 81 00 00")?;
-    for _ in 4..count {
-        input.extend_from_slice(b" 00")?;
-    }
-    Ok(())
-}
-
-/// A line of one octet more than a fragment has, one of 40,000, one that is no text, and one that is too short.
-fn push_faulty_lines(input: &mut Vec<u8>) -> Result<(), Fail> {
-    push_line(input, 2049)?;
-    input.push(b'\n')?;
-    push_line(input, 40_000)?;
-    input.extend_from_slice(b"\n\xFF\xFE\nC0 81 00\n")?;
-    Ok(())
-}
-
-#[test]
-fn long_lines(rt: HostRuntime) -> Result<(), Fail> {
-    let mut longest = Vec::new(rt.alloc());
-    push_line(&mut longest, 2048)?;
-    let unknown = b"refused 3 Object 1 UnknownObject at 0\n";
-    check_lines(&rt, &longest, unknown, 1)?;
-    let mut faulty = Vec::new(rt.alloc());
-    push_faulty_lines(&mut faulty)?;
-    let want = b"refused 0 Hex\nrefused 0 Hex\nrefused 0 Hex\nrefused 1 Short\n";
-    check_lines(&rt, &faulty, want, 1)
 }
 
 /// This is decided of a line; gives how many news it has.
@@ -226,7 +177,7 @@ fn check_decision(
 
 #[test]
 fn with_ample_memory(rt: HostRuntime) -> Result<(), Fail> {
-    let settings = Settings::read(rt.alloc(), DEFAULT_SETTINGS)?;
+    let settings = settings_of(rt.alloc(), DEFAULT)?;
     let mut picture = Picture::new(rt.alloc(), &settings)?;
     let short = Decision::Refused(AppFault::Short);
     check_decision(&rt, &settings, &mut picture, b"C0 81 00", short)?;
@@ -275,27 +226,11 @@ const ANALOGS: &[(&str, &str, &str)] = &[
     ),
 ];
 
-/// `translate` writes this for a fragment, where the point has this line.
-fn check_analog(
-    rt: &(impl Abort + AllocGlobal),
-    line: &str,
-    input: &str,
-    want: &str,
-) -> Result<(), Fail> {
-    let mut text = String::from_str(rt.alloc(), ANALOG)?;
-    text.push_str(line)?;
-    let settings = Settings::read(rt.alloc(), text.as_str())?;
-    let mut output = Vec::new(rt.alloc());
-    let status = translate(rt.alloc(), settings, input.as_bytes(), &mut output);
-    assert_eq!(rt; output.as_slice(), want.as_bytes());
-    assert_eq!(rt; status, 0);
-    Ok(())
-}
-
 #[test]
 fn analog_values_by_their_rows(rt: HostRuntime) -> Result<(), Fail> {
     for (line, input, want) in ANALOGS {
-        check_analog(&rt, line, input, want)?;
+        let wanted = (want.as_bytes(), 0);
+        check_translation(&rt, input, &[ANALOG, *line], input.as_bytes(), wanted)?;
     }
     Ok(())
 }

@@ -3,4 +3,4 @@ use Rattle.iec_tests.proofs.window.numbers_wrap.Given as goal
 
 -- no more came than were fed
 abbrev pub invariant-loop-number : goal.invariant-loop-number
-invariant-loop-number g l = l.window.received ≤ l.number-counter
+invariant-loop-number g l = l.window.received ≤ l.number
