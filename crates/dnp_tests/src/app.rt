@@ -58,11 +58,15 @@ fn say_on(reports: &[Report]) -> bool {
     }
 }
 
+fn check_octets(rt: &impl Abort, found: &[u8], wanted: &[u8]) {
+    assert_eq!(rt; found, wanted);
+}
+
 #[test]
 fn a_response_is_read(rt: HostRuntime) -> Result<(), Fail> {
     let fragment = b"\xE3\x81\x90\x08\x02\x01\x17\x01\x05\x81";
     let response = read(&rt, 3, fragment)?;
-    assert_eq!(rt; response.octets(), fragment.as_slice());
+    check_octets(&rt, response.octets(), fragment);
     check_head(&rt, &response);
     check_control(&rt, &response);
     assert_eq!(rt; confirm(3, false), [0xC3, 0x00]);
@@ -210,11 +214,20 @@ const STEPPED_OVER: &[(&[u8], usize)] = &[
     ),
 ];
 
+fn check_stepped_over(
+    rt: &(impl Abort + AllocGlobal),
+    part: &[u8],
+    wanted: usize,
+) -> Result<(), Fail> {
+    let response = response_with(rt, part)?;
+    assert_eq!(rt; response.stepped_over(), wanted);
+    Ok(())
+}
+
 #[test]
 fn objects_are_stepped_over(rt: HostRuntime) -> Result<(), Fail> {
     for (part, wanted) in STEPPED_OVER {
-        let response = response_with(&rt, part)?;
-        assert_eq!(rt; response.stepped_over(), *wanted);
+        check_stepped_over(&rt, part, *wanted)?;
     }
     Ok(())
 }

@@ -41,6 +41,22 @@ fn fed(alloc: Global, stream: &[u8]) -> Result<LinkFeed, Fail> {
     Ok(feed)
 }
 
+/// So many were found.
+fn check_count(rt: &impl Abort, found: usize, wanted: usize) {
+    assert_eq!(rt; found, wanted);
+}
+
+/// Pieces of the link's stream give so many events.
+fn check_events_of(
+    rt: &(impl Abort + AllocGlobal),
+    pieces: &[&[u8]],
+    count: usize,
+) -> Result<(), Fail> {
+    let events = events_of(rt.alloc(), pieces)?;
+    check_count(rt, events.len(), count);
+    Ok(())
+}
+
 fn is_longest(event: &Option<LinkEvent>) -> bool {
     match event {
         Some(LinkEvent::Frame(frame)) => frame.user() == [0x11; 250].as_slice(),
@@ -63,9 +79,7 @@ fn check_events(rt: &impl Abort, feed: &mut LinkFeed) {
 fn many_octets_in_one_piece(rt: HostRuntime) -> Result<(), Fail> {
     let stream = long_stream(&rt)?;
     check_events(&rt, &mut fed(rt.alloc(), &stream)?);
-    let events = events_of(rt.alloc(), &[&stream])?;
-    assert_eq!(rt; events.len(), 224 + 128);
-    Ok(())
+    check_events_of(&rt, &[&stream], 224 + 128)
 }
 
 /// In many pieces, before the first event is asked for.
@@ -79,19 +93,24 @@ fn many_octets_in_many_pieces(rt: HostRuntime) -> Result<(), Fail> {
         pieces.push(piece)?;
     }
     check_events(&rt, &mut feed);
-    let events = events_of(rt.alloc(), &pieces)?;
-    assert_eq!(rt; events.len(), 224 + 128);
-    Ok(())
+    check_events_of(&rt, &pieces, 224 + 128)
+}
+
+/// The headers of a part of outstation 0, and what it reports.
+fn read(rt: &impl AllocGlobal, part: &[u8]) -> Result<(Vec<Header>, Vec<Report>), Fail> {
+    let found = headers(rt.alloc(), part)?;
+    let told = reports(rt.alloc(), 0, &found, part)?;
+    Ok((found, told))
 }
 
 /// 511 headers in 2,048 octets, the last with two events.
 fn check_most_headers(rt: &(impl Abort + AllocGlobal)) -> Result<(), Fail> {
     let mut part = repeated(rt.alloc(), b"", b"\x33\x02\x07\x00", 510)?;
     part.extend_from_slice(b"\x02\x01\x17\x02\x05\x81\x06\x81")?;
-    assert_eq!(rt; part.len(), 2048);
-    let found = headers(rt.alloc(), &part)?;
-    assert_eq!(rt; found.len(), 511);
-    assert_eq!(rt; reports(rt.alloc(), 0, &found, &part)?.len(), 2);
+    check_count(rt, part.len(), 2048);
+    let (found, told) = read(rt, &part)?;
+    check_count(rt, found.len(), 511);
+    check_count(rt, told.len(), 2);
     Ok(())
 }
 
@@ -107,14 +126,18 @@ fn last_index(reports: &[Report]) -> Option<u16> {
     reports.last().map(|report| report.key.index)
 }
 
+/// So many reports, and the index of the last.
+fn check_reports(rt: &impl Abort, reports: &[Report], count: usize, last: Option<u16>) {
+    assert_eq!(rt; reports.len(), count);
+    assert_eq!(rt; last_index(reports), last);
+}
+
 /// One header of 65,536 inputs that are on.
 fn check_most_objects(rt: &(impl Abort + AllocGlobal)) -> Result<(), Fail> {
     let part = repeated(rt.alloc(), b"\x01\x01\x01\x00\x00\xFF\xFF", b"\xFF", 8192)?;
-    let found = headers(rt.alloc(), &part)?;
+    let (found, told) = read(rt, &part)?;
     assert!(rt; are_most_objects(&found));
-    let told = reports(rt.alloc(), 0, &found, &part)?;
-    assert_eq!(rt; told.len(), 65_536);
-    assert_eq!(rt; last_index(&told), Some(65_535));
+    check_reports(rt, &told, 65_536, Some(65_535));
     Ok(())
 }
 
@@ -171,18 +194,18 @@ const RESPONSES: &[Largest] = &[
 /// The octets before the states of 16,296 inputs.
 const PACKED_FRONT: &[u8] = b"\xC0\x81\x00\x00\x01\x01\x01\x00\x00\xA7\x3F";
 
-fn check_reports(rt: &impl Abort, reports: &[Report], count: usize, last: Option<u16>) {
-    assert_eq!(rt; reports.len(), count);
-    assert_eq!(rt; last_index(reports), last);
+/// A fragment of outstation 0 is read.
+fn read_fragment(rt: &(impl Abort + AllocGlobal), fragment: Vec<u8>) -> Result<Response, Fail> {
+    assert_eq!(rt; fragment.len(), 2048);
+    Ok(read_response(rt.alloc(), 0, fragment)?)
 }
 
 fn check_response(rt: &(impl Abort + AllocGlobal), row: &Largest) -> Result<(), Fail> {
     let (front, octets, times, count, last, stepped_over) = *row;
     let fragment = repeated(rt.alloc(), front, octets, times)?;
-    assert_eq!(rt; fragment.len(), 2048);
-    let response = read_response(rt.alloc(), 0, fragment)?;
-    assert_eq!(rt; response.octets().len(), 2048);
-    assert_eq!(rt; response.stepped_over(), stepped_over);
+    let response = read_fragment(rt, fragment)?;
+    check_count(rt, response.octets().len(), 2048);
+    check_count(rt, response.stepped_over(), stepped_over);
     check_reports(rt, response.reports(), count, last);
     Ok(())
 }
@@ -228,6 +251,11 @@ fn counted() -> [u8; FRAGMENT_LIMIT] {
     fragment
 }
 
+/// It ended a fragment of these octets.
+fn check_octets(rt: &impl Abort, found: Option<Vec<u8>>, wanted: &[u8]) {
+    assert_eq!(rt; found.as_deref(), Some(wanted));
+}
+
 /// Eight segments of a fragment.
 fn check_unfinished(
     rt: &impl Abort,
@@ -246,7 +274,7 @@ fn check_finished(
     fragment: &[u8; FRAGMENT_LIMIT],
 ) -> Result<(), Fail> {
     let last = ended_by(rt, assembler, fragment, 9)?;
-    assert_eq!(rt; last.as_deref(), Some(fragment.as_slice()));
+    check_octets(rt, last, fragment);
     Ok(())
 }
 
@@ -258,7 +286,7 @@ fn check_whole(
 ) -> Result<(), Fail> {
     let segment = repeated(rt.alloc(), b"\xC5", fragment, 1)?;
     let last = ended(assembler, &segment)?;
-    assert_eq!(rt; last.as_deref(), Some(fragment.as_slice()));
+    check_octets(rt, last, fragment);
     Ok(())
 }
 
@@ -279,7 +307,7 @@ fn fragment_of_any_number(rt: HostRuntime) -> Result<(), Fail> {
     let mut assembler = Assembler::new(rt.alloc());
     for number in 0..64u8 {
         let whole = ended(&mut assembler, &[0xC0 + number, 1])?;
-        assert_eq!(rt; whole.as_deref(), Some([1].as_slice()));
+        check_octets(&rt, whole, &[1]);
         let begun = ended(&mut assembler, &[0x40 + number, 1])?;
         assert!(rt; begun.is_none());
     }
@@ -318,18 +346,37 @@ fn are_largest(responses: &[Response], fragment: &[u8]) -> bool {
         && response.reports().len() == 16_296)
 }
 
+/// Pieces of a stream hold so many fragments.
+fn check_fragments(
+    rt: &(impl Abort + AllocGlobal),
+    pieces: &[&[u8]],
+    count: usize,
+) -> Result<(), Fail> {
+    let fragments = fragments_of(rt.alloc(), pieces, 1024, 1)?;
+    check_count(rt, fragments.len(), count);
+    Ok(())
+}
+
+/// Pieces of a stream hold so many of the largest responses.
+fn check_responses(
+    rt: &(impl Abort + AllocGlobal),
+    pieces: &[&[u8]],
+    count: usize,
+) -> Result<(), Fail> {
+    let responses = responses_of(rt.alloc(), 0, pieces, 1024, 1)?;
+    check_count(rt, responses.len(), count);
+    let fragment = largest_fragment(rt.alloc())?;
+    assert!(rt; are_largest(&responses, &fragment));
+    Ok(())
+}
+
 /// Through all layers.
 #[test]
 fn many_largest_responses(rt: HostRuntime) -> Result<(), Fail> {
     let stream = stream_of(&rt, 27)?;
-    assert_eq!(rt; stream.len(), 65_097);
-    let fragments = fragments_of(rt.alloc(), &[&stream], 1024, 1)?;
-    assert_eq!(rt; fragments.len(), 27);
-    let responses = responses_of(rt.alloc(), 0, &[&stream], 1024, 1)?;
-    assert_eq!(rt; responses.len(), 27);
-    let fragment = largest_fragment(rt.alloc())?;
-    assert!(rt; are_largest(&responses, &fragment));
-    Ok(())
+    check_count(&rt, stream.len(), 65_097);
+    check_fragments(&rt, &[&stream], 27)?;
+    check_responses(&rt, &[&stream], 27)
 }
 
 /// In pieces of ten octets.
@@ -340,7 +387,5 @@ fn many_pieces(rt: HostRuntime) -> Result<(), Fail> {
     for piece in stream.chunks(10) {
         pieces.push(piece)?;
     }
-    let fragments = fragments_of(rt.alloc(), &pieces, 1024, 1)?;
-    assert_eq!(rt; fragments.len(), 6);
-    Ok(())
+    check_fragments(&rt, &pieces, 6)
 }

@@ -124,44 +124,46 @@ fn tell_event(reports: &[Report]) -> bool {
     }
 }
 
+/// The responses that the pieces of a stream of an outstation hold.
+fn responses_in(
+    rt: &impl AllocGlobal,
+    outstation: u8,
+    pieces: &[&[u8]],
+) -> Result<Vec<Response>, Fail> {
+    Ok(responses_of(rt.alloc(), outstation, pieces, OWN, PEER)?)
+}
+
+/// They are that of `EVENT` alone.
+fn check_event(
+    rt: &(impl Abort + AllocGlobal),
+    outstation: u8,
+    pieces: &[&[u8]],
+) -> Result<(), Fail> {
+    let responses = responses_in(rt, outstation, pieces)?;
+    assert!(rt; are_event(&responses, outstation), "{outstation}");
+    Ok(())
+}
+
 #[test]
 fn response_octet_by_octet(rt: HostRuntime) -> Result<(), Fail> {
     let pieces = octet_by_octet(rt.alloc(), &EVENT_FRAME)?;
-    let responses = responses_of(rt.alloc(), 3, &pieces, OWN, PEER)?;
-    assert!(rt; are_event(&responses, 3));
-    for response in responses.iter() {
+    check_event(&rt, 3, &pieces)?;
+    for response in responses_in(&rt, 3, &pieces)?.iter() {
         assert!(rt; tell_event(response.reports()));
     }
     Ok(())
 }
 
+/// For each outstation; beside fragments that are cut, one that is no response, and one whose object part is cut.
 #[test]
 fn other_fragments_are_left_out(rt: HostRuntime) -> Result<(), Fail> {
-    let pieces = [THREE.as_slice(), EVENT_FRAME.as_slice(), FIVE.as_slice()];
-    let responses = responses_of(rt.alloc(), 0, &pieces, OWN, PEER)?;
-    assert!(rt; are_event(&responses, 0));
-    Ok(())
-}
-
-/// A fragment that is no response, and one whose object part is cut.
-#[test]
-fn refused_fragments_are_left_out(rt: HostRuntime) -> Result<(), Fail> {
+    for outstation in 0..=255u8 {
+        check_event(&rt, outstation, &[&EVENT_FRAME])?;
+    }
+    check_event(&rt, 0, &[&THREE, &EVENT_FRAME, &FIVE])?;
     let request = frames_of(rt.alloc(), &[0xC0, 0x02, 0x00, 0x00])?;
     let cut = frames_of(rt.alloc(), &[0xC0, 0x81, 0x00, 0x00, 0x02])?;
-    let pieces = [request.as_slice(), cut.as_slice(), EVENT_FRAME.as_slice()];
-    let responses = responses_of(rt.alloc(), 0, &pieces, OWN, PEER)?;
-    assert!(rt; are_event(&responses, 0));
-    Ok(())
-}
-
-/// For each outstation.
-#[test]
-fn responses_of_each_outstation(rt: HostRuntime) -> Result<(), Fail> {
-    for outstation in 0..=255u8 {
-        let responses = responses_of(rt.alloc(), outstation, &[&EVENT_FRAME], OWN, PEER)?;
-        assert!(rt; are_event(&responses, outstation));
-    }
-    Ok(())
+    check_event(&rt, 0, &[request.as_slice(), cut.as_slice(), &EVENT_FRAME])
 }
 
 #[test]
