@@ -6,13 +6,10 @@ use Rattle.gw_model.specs.declared.observation.Observation.{Observation}
 use Rattle.gw_model.specs.Fit.{IsFit}
 use Rattle.iec_asdu.specs.Spelling.{HasWidth}
 use Rattle.iec_window.specs.Counts.{sent_in_all}
-use Rattle.iec_command.specs.Commands.{IsWhole}
 use Rattle.gw_answers.specs.Octets.{IsReturnable}
 use Rattle.gw_answers.specs.Meaning.{CanSendAnswer, CanSendPart}
 use Rattle.gw_client.specs.declared.sending.Sending.{Sending}
 use Rattle.gw_client.specs.declared.sending.Sending.TheVariants as sendings
-use Rattle.gw_client.specs.declared.event.Event.{Event}
-use Rattle.gw_client.specs.declared.event.Event.TheVariants as events
 use Rattle.gw_client.specs.Client.{Client}
 
 -- an ASDU can carry the observation: it is fit, and its number has its element's width
@@ -28,12 +25,6 @@ IsReturnableSending _ = Unit {0}
 -- what answers the client can be sent
 abbrev pub CanAnswer : ℤ → Client → Type 0
 CanAnswer offset c = AllByRecursion (CanSendAnswer offset) c.answers × AllByRecursion (CanSendPart offset) c.rest
-
--- a command has the bits of its places
-abbrev pub IsWholeEvent : Event → Type 0
-IsWholeEvent events.Taken = Unit {0}
-IsWholeEvent (events.Command command) = IsWhole command
-IsWholeEvent (events.Closed why) = Unit {0}
 
 -- after so many steps and news
 pub record IsSoundClient (offset : ℤ) (steps news : ℕ) (c : Client) : Type 0 where
