@@ -4,12 +4,12 @@ use Rattle.std.specs.Prelude.{◌*◌, option_map, slice_set}
 use Rattle.std.proofs.lemmas.Bool.{cases_Bool, eq-eqb}
 use Rattle.gw_model.specs.Bits.{is_set}
 use Rattle.gw_model.specs.Optional.{◌>>=◌}
-use Rattle.gw_model.specs.Fit.{IsFit}
+use Rattle.gw_model.specs.Fit.{HasWidth, IsFit}
 use Rattle.gw_model.specs.First.{first_of}
 use Rattle.gw_model.specs.declared.observation.Observation.{Observation}
 use Rattle.iec_asdu.specs.Types.{Layout}
 use Rattle.iec_asdu.specs.Asdu.{Asdu, asdu_meaning, monitor_types, layout_of, objects_of}
-use Rattle.iec_asdu.specs.Spelling.{spelling, HasWidth}
+use Rattle.iec_asdu.specs.Spelling.{spelling}
 use Rattle.iec_asdu.proofs.Meant.{meant}
 use Rattle.iec_command.specs.declared.command.Command.{Command}
 use Rattle.iec_command.specs.declared.command.Action.{Action}
@@ -166,9 +166,9 @@ pub answer_means : (offset : ℤ) (common : ℕ) (answer : Answer) → common < 
 answer_means offset common (Unknown asdu cause) small can = comes_back offset cause (octets_in asdu) (omega (arith, can.2)) can.0
 answer_means offset common (Confirmed c negative) small can =
     commands_mean offset (answering common (confirming c.cause) negative c) (answering_whole common (confirming c.cause) negative c small (confirming_few c.cause) can)
-answer_means offset common (Shown x originator) small can = shown_means offset common originator x small can.1 can.0
+answer_means offset common (Shown x originator) small can = shown_means offset common originator x small can.width can.fit
 
 pub part_means : (offset : ℤ) (common : ℕ) (part : Part) → common < 65536 → CanSendPart offset part → MeansPart offset common part (meaning_of offset (part_octets offset common part))
 part_means offset common (Confirmation c) small can = commands_mean offset (answering common 7 false c) (answering_whole common 7 false c small (omega arith) can)
-part_means offset common (Row cause x) small can = observations_mean offset common cause x small can.1 can.0
+part_means offset common (Row cause x) small can = observations_mean offset common cause x small can.width can.fit
 part_means offset common (Termination c) small can = commands_mean offset (answering common 10 false c) (answering_whole common 10 false c small (omega arith) can)

@@ -1,11 +1,11 @@
 -- What an ASDU means, whether it carries process information or a command.
 use Rattle.std.specs.Prelude.{◌≡◌, ℕ, ℤ, ◌%◌, true, false, List, [], ◌∷◌, Option, Some, None, Result, Ok, Err, is_some, slice_index}
 use Rattle.gw_model.specs.Bits.{is_set}
-use Rattle.gw_model.specs.Fit.{IsFit}
+use Rattle.gw_model.specs.Fit.{HasWidth, IsFit}
 use Rattle.gw_model.specs.declared.observation.Observation.{Observation}
 use Rattle.gw_time.specs.Spelling.{tag_of}
 use Rattle.iec_asdu.specs.Asdu.{Asdu, asdu_meaning, monitor_types}
-use Rattle.iec_asdu.specs.Spelling.{type_of, HasWidth}
+use Rattle.iec_asdu.specs.Spelling.{type_of}
 use Rattle.iec_command.specs.declared.command.Command.{Command}
 use Rattle.iec_command.specs.declared.fault.CommandFault.{CommandFault}
 use Rattle.iec_command.specs.Commands.{command_of, IsWhole}
@@ -64,14 +64,19 @@ MeansPart offset common (Confirmation c) meant = meant ≡ Commands (answering c
 MeansPart offset common (Row cause x) meant = meant ≡ Tells (asdu_of offset common cause 0 x)
 MeansPart offset common (Termination c) meant = meant ≡ Commands (answering common 10 false c)
 
--- an answer can be sent: what comes back has a whole header, a command has the bits of its places, and an observation is
--- fit
+-- an ASDU can carry the observation: it is fit, and its number has its element's width
+pub record IsSendable (offset : ℤ) (x : Observation) : Type 0 where
+  pub fit : IsFit offset x
+  pub width : HasWidth x.value
+
+-- an answer can be sent: what comes back has a whole header, a command has the bits of its places, and an ASDU can carry
+-- the observation
 abbrev pub CanSendAnswer : ℤ → Answer → Type 0
 CanSendAnswer offset (Unknown asdu cause) = IsReturnable (Unknown asdu cause)
 CanSendAnswer offset (Confirmed c negative) = IsWhole c
-CanSendAnswer offset (Shown x originator) = IsFit offset x × HasWidth x.value
+CanSendAnswer offset (Shown x originator) = IsSendable offset x
 
 abbrev pub CanSendPart : ℤ → Part → Type 0
 CanSendPart offset (Confirmation c) = IsWhole c
-CanSendPart offset (Row cause x) = IsFit offset x × HasWidth x.value
+CanSendPart offset (Row cause x) = IsSendable offset x
 CanSendPart offset (Termination c) = IsWhole c

@@ -3,3 +3,4 @@ pub mod Walks
 pub mod Taking
 pub mod Losing
 pub mod Bits
+pub mod Made

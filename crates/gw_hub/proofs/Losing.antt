@@ -7,7 +7,8 @@ use Rattle.gw_entries.specs.declared.row.Row.{Row}
 use Rattle.gw_picture.specs.Loss.{losses_at, losses_of, picture_after_loss, picture_losing_at}
 use Rattle.gw_picture.proofs.Losses.{loss_next, shown_next, losses_end, shown_end}
 use Rattle.gw_station.specs.Client.{Client, client_with_news}
-use Rattle.gw_station.specs.Sound.{IsSendable, CanTake}
+use Rattle.gw_answers.specs.Meaning.{IsSendable}
+use Rattle.gw_station.specs.Sound.{CanTake}
 use Rattle.gw_station.proofs.Sounds.{sendable-append}
 use Rattle.gw_hub.proofs.Taking.{map_came-twice, map_came-nil, can_same, can_fewer}
 

@@ -6,17 +6,32 @@ use Rattle.gw_steps.specs.Steps.{can_rise}
 use Rattle.gw_hub.specs.Hub.{step_with}
 use Rattle.std.proofs.Common.{◌≡◌, Bool, true, false, ltb, ℕ, ℤ, zero, suc, ◌+◌, ◌^◌, ◌<◌, ◌≤◌, List, [], ◌∷◌, ◌++◌, map, length, refl, sym, ap, subst, ◌∙◌, arith}
 use Rattle.std.specs.List.{AllByRecursion}
+use Rattle.std.proofs.Math.ListN.{set}
 use Rattle.std.proofs.lemmas.List.{length-append}
 use Rattle.gw_model.specs.declared.observation.Observation.{Observation}
 use Rattle.gw_entries.specs.declared.row.Row.{Row}
+use Rattle.gw_map.specs.Settings.{Setup}
 use Rattle.gw_model.specs.declared.point.Report.{Report}
 use Rattle.gw_model.specs.Places.{change}
 use Rattle.gw_picture.specs.Picture.{news_of, news_of_report, picture_after_report, picture_after}
+use Rattle.gw_picture.specs.Shown.{IsShown}
+use Rattle.gw_picture.proofs.Shows.{shown_fit}
+use Rattle.iec_apci.specs.declared.apdu.Apdu.{Apdu}
+use Rattle.gw_answers.specs.declared.answer.Answer.{Answer}
+use Rattle.gw_answers.specs.declared.answer.Answer.TheVariants.{Unknown, Confirmed, Shown}
+use Rattle.gw_answers.specs.Octets.{IsReturnable}
+use Rattle.gw_answers.specs.Meaning.{CanSendAnswer}
+use Rattle.gw_station.specs.declared.event.Event.{Event}
+use Rattle.gw_station.specs.declared.event.Event.TheVariants as events
+use Rattle.gw_station.specs.declared.event.Said.TheVariants.{Negative}
 use Rattle.gw_station.specs.Client.{Client, client_with_news}
-use Rattle.gw_station.specs.Sound.{IsSendable, IsSoundClient, CanTake}
+use Rattle.gw_station.specs.Frames.{event_of, client_after_apdu}
+use Rattle.gw_answers.specs.Meaning.{IsSendable}
+use Rattle.gw_station.specs.Sound.{IsSoundClient, IsWholeEvent, CanAnswer, CanTake}
 use Rattle.gw_station.proofs.Queues.{came-nil, came-twice}
-use Rattle.gw_station.proofs.Sounds.{sendable-append, sound_later, sound_with_news}
-use Rattle.gw_hub.specs.Clients.{CanCount}
+use Rattle.gw_station.proofs.Sounds.{sendable-append, sound_later, sound_with_news, sound_after_apdu, sound_told}
+use Rattle.gw_steps.specs.Steps.{client_answered, client_after_frame}
+use Rattle.gw_hub.specs.Clients.{CanCount, CanPump}
 
 -- ---- news that come one after the other
 
@@ -66,6 +81,14 @@ sound_change offset n m i j p f cs changed e one few keeps all =
     sound_more offset (n + 1) m i j changed (omega (arith, one)) few
     (subst (AllByRecursion (IsSoundClient offset (n + 1) i)) (sym e) (change_sound offset n (n + 1) i p f cs (omega arith) keeps all))
 
+-- one client is another, in a step
+pub sound_set : (offset : ℤ) (n i p : ℕ) (cs : List Client) (c : Client) → IsSoundClient offset (n + 1) i c → AllByRecursion (IsSoundClient offset n i) cs
+    → AllByRecursion (IsSoundClient offset (n + 1) i) (set cs p c)
+sound_set offset n i p [] c sound all = tt
+sound_set offset n i zero (x ∷ cs) c sound all = (sound, sound_more offset n (n + 1) i i cs (omega arith) (omega arith) all.1)
+sound_set offset n i (suc p) (x ∷ cs) c sound all =
+    (sound_later offset n (n + 1) i i x (omega arith) (omega arith) all.0, sound_set offset n i p cs c sound all.1)
+
 map_sound : (offset : ℤ) (n i j : ℕ) (f : Client → Client) (cs : List Client) → ((c : Client) → IsSoundClient offset n i c → IsSoundClient offset n j (f c))
     → AllByRecursion (IsSoundClient offset n i) cs → AllByRecursion (IsSoundClient offset n j) (map f cs)
 map_sound offset n i j f [] keeps all = tt
@@ -82,6 +105,30 @@ pub sound_came : (offset : ℤ) (n m i j : ℕ) (xs : List Observation) (cs chan
 sound_came offset n m i j xs cs changed e sends le few all =
     sound_more offset n m (i + length xs) j changed le few
     (sound_changed offset n i (i + length xs) (client_with_news xs) cs changed e (λ c sound. sound_with_news offset n i xs c sends sound) all)
+
+-- ---- an APDU
+
+-- what is shown can be sent
+pub sendable_shown : (offset : ℤ) (xs : List Observation) → AllByRecursion IsShown xs → AllByRecursion (IsSendable offset) xs
+sendable_shown offset [] all = tt
+sendable_shown offset (x ∷ xs) all = (record { fit = shown_fit offset x all.0; width = all.0.width }, sendable_shown offset xs all.1)
+
+-- a command was answered
+sound_answered : (offset : ℤ) (n i : ℕ) (event : Event) (c : Client) → IsWholeEvent event → IsSoundClient offset n i c
+    → IsSoundClient offset n i (client_answered event c)
+sound_answered offset n i events.Taken c whole sound = sound
+sound_answered offset n i (events.Command command) c whole sound = sound_told offset n i Negative command c whole sound
+sound_answered offset n i (events.Closed why) c whole sound = sound
+
+-- an APDU was taken, and a command in it answered
+pub sound_after_frame : (offset : ℤ) (n i : ℕ) (setup : Setup) (picture : List Observation) (moment : ℕ) (apdu : Apdu) (c after : Client) (event : Event)
+    → event ≡ event_of setup apdu c → IsWholeEvent event → after ≡ client_after_apdu setup picture moment apdu c → CanAnswer offset after
+    → IsSoundClient offset n i c → IsSoundClient offset (n + 1) i (client_after_frame setup picture moment apdu c)
+sound_after_frame offset n i setup picture moment apdu c after event is whole e answers sound =
+    sound_answered offset (n + 1) i (event_of setup apdu c) (client_after_apdu setup picture moment apdu c) (subst IsWholeEvent is whole)
+    (sound_after_apdu offset n i setup picture moment apdu c (subst (CanAnswer offset) e answers) sound)
+
+-- ---- what can be counted
 
 -- counts that can rise can rise by a step
 pub can_rise_step : (counts : Counts) (news sessions : ℕ) → can_rise counts (step_with news sessions) ≡ true → counts.steps + 1 < 2 ^ 64
@@ -108,7 +155,20 @@ can_rise_news counts news sessions e =
 -- where one step more can be counted, each client's I formats can
 pub counts_can : (offset : ℤ) (n i : ℕ) (cs : List Client) → n + 1 < 2 ^ 64 → AllByRecursion (IsSoundClient offset n i) cs → AllByRecursion CanCount cs
 counts_can offset n i [] lt all = tt
-counts_can offset n i (c ∷ cs) lt all = (record { received = omega (arith, lt, all.0.received); sent = omega (arith, lt, all.0.sent) }, counts_can offset n i cs lt all.1)
+counts_can offset n i (c ∷ cs) lt all = (record { received = omega (arith, lt, all.0.received) }, counts_can offset n i cs lt all.1)
+
+-- answers that can be sent can be spelled
+answers_can : (offset : ℤ) (answers : List Answer) → AllByRecursion (CanSendAnswer offset) answers → AllByRecursion IsReturnable answers
+answers_can offset [] all = tt
+answers_can offset (Unknown asdu cause ∷ answers) all = (all.0, answers_can offset answers all.1)
+answers_can offset (Confirmed command negative ∷ answers) all = (tt, answers_can offset answers all.1)
+answers_can offset (Shown x originator ∷ answers) all = (tt, answers_can offset answers all.1)
+
+-- so what waits for each client can be put out
+pub pumps_can : (offset : ℤ) (n i : ℕ) (cs : List Client) → n + 1 < 2 ^ 64 → AllByRecursion (IsSoundClient offset n i) cs → AllByRecursion CanPump cs
+pumps_can offset n i [] lt all = tt
+pumps_can offset n i (c ∷ cs) lt all =
+    (record { sent = omega (arith, lt, all.0.sent); answers = answers_can offset c.answers all.0.answers }, pumps_can offset n i cs lt all.1)
 
 -- where so many news more can be counted, each client can take them
 pub news_can : (offset : ℤ) (n i news : ℕ) (cs : List Client) → i + news < 2 ^ 64 → AllByRecursion (IsSoundClient offset n i) cs → AllByRecursion (CanTake news) cs

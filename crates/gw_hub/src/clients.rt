@@ -1,16 +1,18 @@
 //! All clients, by their position.
-ghost use Rattle.std.specs.Prelude.{◌≡◌, ◌+◌, ◌<◌, ◌≤◌, ℕ, [], ◌∷◌, length, map, option_map, replicate, slice_get, true, IfOk, OnErr, OnOk};
+ghost use Rattle.std.specs.Prelude.{◌≡◌, ◌+◌, ◌<◌, ◌≤◌, ℕ, ℤ, [], ◌∷◌, length, map, option_map, replicate, slice_get, true, IfOk, OnErr, OnOk};
 ghost use Rattle.std.specs.List.{AllByRecursion};
 ghost use Rattle.gw_model.specs.Places.{change};
 ghost use Rattle.gw_station.specs.Client.{client_after_close, client_after_tick, client_after_up, client_down, client_with_news, is_timed_out, is_up};
-ghost use Rattle.gw_station.specs.Frames.{client_after_apdu};
+ghost use Rattle.gw_station.specs.Frames.{event_of, wants_memory};
 ghost use Rattle.gw_station.specs.Pump.{client_after_pump, given};
-ghost use Rattle.gw_station.specs.Sound.{CanTake};
-ghost use Rattle.gw_steps.specs.Steps.{begun_by, bits_of, reply_giving, reply_of_event};
-ghost use Rattle.gw_hub.specs.Clients.{dropped_at, queued_at, reply_to_apdu, reply_to_pump, CanCount};
+ghost use Rattle.gw_answers.specs.Meaning.{IsSendable};
+ghost use Rattle.gw_station.specs.Sound.{CanTake, IsSoundClient};
+ghost use Rattle.gw_steps.specs.Steps.{begun_by, bits_of, client_after_frame, reply_giving, reply_of_event, wanted_by};
+ghost use Rattle.gw_hub.specs.Clients.{dropped_at, queued_at, reply_to_apdu, reply_to_pump, CanCount, CanPump};
 
+use gw_map::Settings;
 use gw_model::{Memory, Observation};
-use gw_station::{Event, Face, Station};
+use gw_station::{Event, Said, Station};
 use gw_steps::Reply;
 use iec_apci::Apdu;
 use iec_window::Limits;
@@ -90,25 +92,38 @@ impl Clients {
         begins_at(&self.stations, client, apdu)
     }
 
-    /// Takes an APDU from a client. Memory is wanted for the queue of a session that begins.
-    pub fn frame(&mut self, client: u8, apdu: &Apdu, moment: u64) -> Result<Reply, Memory>
+    /// Takes an APDU that came from a client at a moment; a command for a control is answered negatively at once.
+    /// `picture` is what is shown of each row of `settings`. Memory is wanted for the queue of a session that begins,
+    /// and for the copy of the picture that answers an interrogation.
+    pub fn frame(
+        &mut self,
+        client: u8,
+        apdu: &Apdu,
+        moment: u64,
+        settings: &Settings,
+        picture: &[Observation],
+    ) -> Result<Reply, Memory>
         requires { AllByRecursion CanCount self.old }
-        ensures reply { IfOk result (λ reply. reply ≡ reply_to_apdu apdu.now (slice_get self.old client)) }
-        ensures clients { OnOk result (self.new ≡ change client (client_after_apdu moment apdu.now) self.old) }
-        ensures memory { OnErr result (begun_by apdu.now (slice_get self.old client) ≡ true) }
+        ensures reply { IfOk result (λ reply. reply ≡ reply_to_apdu settings.now apdu.now (slice_get self.old client)) }
+        ensures clients { OnOk result
+            (self.new ≡ change client (client_after_frame settings.now picture.now moment apdu.now) self.old) }
+        ensures memory { OnErr result (wanted_by settings.now apdu.now (slice_get self.old client) ≡ true) }
         ensures same { OnErr result (self.new ≡ self.old) }
+        // Where the picture can be sent, all clients stay sound, one step later.
+        ensures sound { (offset : ℤ) (n i : ℕ) → AllByRecursion (IsSendable offset) picture.now
+            → AllByRecursion (IsSoundClient offset n i) self.old
+            → OnOk result (AllByRecursion (IsSoundClient offset (n + 1) i) self.new) }
     {
-        frame_at(&mut self.stations, client, apdu, moment)
+        frame_at(&mut self.stations, client, apdu, moment, settings, picture)
     }
 
     /// The next APDU for a client.
-    pub fn pump(&mut self, client: u8, face: &Face, moment: u64) -> Reply
-        requires { AllByRecursion CanCount self.old }
-        ensures reply { result ≡ reply_to_pump face.now.zone.offset_minutes face.now.common_address moment
-            (slice_get self.old client) }
+    pub fn pump(&mut self, client: u8, settings: &Settings, moment: u64) -> Reply
+        requires { AllByRecursion CanPump self.old }
+        ensures reply { result ≡ reply_to_pump settings.now moment (slice_get self.old client) }
         ensures clients { self.new ≡ change client (client_after_pump moment) self.old }
     {
-        pump_at(&mut self.stations, client, face, moment)
+        pump_at(&mut self.stations, client, settings, moment)
     }
 
     /// Time has passed, for every client: a bit for each whose connection is closed, the lowest for the first.
@@ -181,20 +196,54 @@ fn begins_at(stations: &[Station], client: u8, apdu: &Apdu) -> bool
     }
 }
 
-fn frame_at(stations: &mut [Station], client: u8, apdu: &Apdu, moment: u64) -> Result<Reply, Memory>
+fn frame_at(
+    stations: &mut [Station],
+    client: u8,
+    apdu: &Apdu,
+    moment: u64,
+    settings: &Settings,
+    picture: &[Observation],
+) -> Result<Reply, Memory>
     requires { AllByRecursion CanCount stations.old }
-    ensures reply { IfOk result (λ reply. reply ≡ reply_to_apdu apdu.now (slice_get stations.old client)) }
-    ensures clients { OnOk result (stations.new ≡ change client (client_after_apdu moment apdu.now) stations.old) }
-    ensures memory { OnErr result (begun_by apdu.now (slice_get stations.old client) ≡ true) }
+    ensures reply { IfOk result
+        (λ reply. reply ≡ reply_to_apdu settings.now apdu.now (slice_get stations.old client)) }
+    ensures clients { OnOk result
+        (stations.new ≡ change client (client_after_frame settings.now picture.now moment apdu.now) stations.old) }
+    ensures memory { OnErr result (wanted_by settings.now apdu.now (slice_get stations.old client) ≡ true) }
     ensures same { OnErr result (stations.new ≡ stations.old) }
+    ensures sound { (offset : ℤ) (n i : ℕ) → AllByRecursion (IsSendable offset) picture.now
+        → AllByRecursion (IsSoundClient offset n i) stations.old
+        → OnOk result (AllByRecursion (IsSoundClient offset (n + 1) i) stations.new) }
 {
     let position = usize::from(client);
     if position < stations.len() {
-        let event = stations[position].frame(apdu, moment)?;
-        Ok(reply_to(event))
+        frame_one(&mut stations[position], apdu, moment, settings, picture)
     } else {
         Ok(Reply::Nothing)
     }
+}
+
+fn frame_one(
+    station: &mut Station,
+    apdu: &Apdu,
+    moment: u64,
+    settings: &Settings,
+    picture: &[Observation],
+) -> Result<Reply, Memory>
+    requires { CanCount station.old }
+    ensures reply { IfOk result (λ reply. reply ≡ reply_of_event (event_of settings.now apdu.now station.old)) }
+    ensures client { OnOk result
+        (station.new ≡ client_after_frame settings.now picture.now moment apdu.now station.old) }
+    ensures memory { OnErr result (wants_memory settings.now apdu.now station.old ≡ true) }
+    ensures same { OnErr result (station.new ≡ station.old) }
+    ensures sound { (offset : ℤ) (n i : ℕ) → AllByRecursion (IsSendable offset) picture.now
+        → IsSoundClient offset n i station.old → OnOk result (IsSoundClient offset (n + 1) i station.new) }
+{
+    let event = station.frame(apdu, moment, settings, picture)?;
+    if let Event::Command(command) = event {
+        station.answer(&command, Said::Negative);
+    }
+    Ok(reply_to(event))
 }
 
 /// The reply to what became of an APDU.
@@ -202,32 +251,31 @@ fn reply_to(event: Event) -> Reply
     ensures { result ≡ reply_of_event event }
 {
     match event {
-        Event::Taken => Reply::Taken,
+        Event::Taken | Event::Command(_) => Reply::Taken,
         Event::Closed(why) => Reply::Closed(why),
     }
 }
 
-fn pump_at(stations: &mut [Station], client: u8, face: &Face, moment: u64) -> Reply
-    requires { AllByRecursion CanCount stations.old }
-    ensures reply { result ≡ reply_to_pump face.now.zone.offset_minutes face.now.common_address moment
-        (slice_get stations.old client) }
+fn pump_at(stations: &mut [Station], client: u8, settings: &Settings, moment: u64) -> Reply
+    requires { AllByRecursion CanPump stations.old }
+    ensures reply { result ≡ reply_to_pump settings.now moment (slice_get stations.old client) }
     ensures clients { stations.new ≡ change client (client_after_pump moment) stations.old }
 {
     let position = usize::from(client);
     if position < stations.len() {
-        pump_one(&mut stations[position], face, moment)
+        pump_one(&mut stations[position], settings, moment)
     } else {
         Reply::Nothing
     }
 }
 
-fn pump_one(station: &mut Station, face: &Face, moment: u64) -> Reply
-    requires { CanCount station.old }
-    ensures reply { result
-        ≡ reply_giving (given face.now.zone.offset_minutes face.now.common_address moment station.old) }
+fn pump_one(station: &mut Station, settings: &Settings, moment: u64) -> Reply
+    requires { CanPump station.old }
+    ensures reply { result ≡ reply_giving
+        (given settings.now.station.offset_minutes settings.now.station.common_address moment station.old) }
     ensures client { station.new ≡ client_after_pump moment station.old }
 {
-    match station.pump(face, moment) {
+    match station.pump(settings, moment) {
         Some(apdu) => Reply::Apdu(apdu),
         None => Reply::Nothing,
     }

@@ -6,7 +6,8 @@ ghost use Rattle.gw_map.specs.Settings.{HasSingleAddresses};
 ghost use Rattle.gw_picture.specs.Loss.{losses_at, losses_of, picture_after_loss, picture_losing_at};
 ghost use Rattle.gw_picture.specs.Picture.{picture_after, picture_after_report};
 ghost use Rattle.gw_station.specs.Client.{client_with_news};
-ghost use Rattle.gw_station.specs.Sound.{CanTake, IsSendable};
+ghost use Rattle.gw_answers.specs.Meaning.{IsSendable};
+ghost use Rattle.gw_station.specs.Sound.{CanTake};
 ghost use Rattle.gw_steps.specs.declared.step.Step.TheVariants as steps;
 ghost use Rattle.gw_steps.specs.declared.step.StepFault.TheVariants.{NoClient, NoOutstation, Spent};
 ghost use Rattle.gw_steps.specs.State.{at_first, limits_of};
@@ -16,6 +17,10 @@ ghost use Rattle.gw_steps.specs.Sound.{IsSound};
 ghost use Rattle.gw_news.specs.Confirms.{ConfirmsLast};
 ghost use Rattle.gw_news.specs.News.{Holds};
 ghost use Rattle.gw_news.specs.Numbers.{HasRightNumbers};
+ghost use Rattle.gw_mirror.specs.Interrogations.{AnswersInterrogations};
+ghost use Rattle.gw_mirror.specs.Line.{KeepsLine};
+ghost use Rattle.gw_mirror.specs.Mirror.{Mirrors};
+ghost use Rattle.gw_mirror.specs.Right.{JudgesLast};
 ghost use Rattle.gw_hub.specs.Clients.{dropped_at, queued_at, unless};
 ghost use Rattle.gw_hub.specs.Hub.{can_count, can_take, news_of_all, news_of_one, state_counting, state_with_response, Answers, IsCounted};
 
@@ -26,7 +31,6 @@ use dnp_app::Response;
 use gw_map::{Settings, Station};
 use gw_model::{Memory, Observation, Report};
 use gw_picture::Picture;
-use gw_station::Face;
 use gw_steps::{Reply, Step, StepFault};
 use iec_apci::Apdu;
 use iec_window::Limits;
@@ -123,13 +127,21 @@ impl Hub {
 
     /// Makes steps one after the other on a new hub; gives it with a reply for each of them.
     ///
-    /// These are a run of the step relation. At each place of the list the picture is that of the log, and for each
-    /// client's session the observations meant by the spontaneous ASDUs put out since its STARTDT, followed by those
-    /// queued, are the news since then, in order, less those dropped (`news`); a confirmation was given only with
-    /// the news put into the log, or for a repeated fragment (`confirms`); and the numbers of each client's connection
-    /// are right (`numbers`): the nth I format put out since it came up, counted from 0, has N(S) n modulo 32,768, each
-    /// N(R) is the number of I formats taken, at most k lie beyond the client's last N(R), and an I or S format closes
-    /// where it has to.
+    /// These are a run of the step relation, and at each place of the list this holds:
+    /// - `news`: the picture is that of the log, and for each client's session the observations meant by the spontaneous
+    ///   ASDUs put out since its STARTDT, followed by those queued, are the news since then, in order, less those dropped.
+    /// - `interrogations`: what was put out of the answer to a client's interrogation is the front of it, and all of it
+    ///   once its termination is out: the confirmation, what the picture showed at its act, and the termination.
+    /// - `line`: each I format put out to a client is the first of what waited for it: answers to its ASDUs, news that
+    ///   came before the interrogation that is pending, the rest of its answer, and later news.
+    /// - `mirror`: once a station interrogation was confirmed, and while no news since its act was dropped, the
+    ///   observations put out from then on and those that wait have as their last values what the picture shows, but for
+    ///   totals.
+    /// - `numbers`: the nth I format put out since a client came up, counted from 0, has N(S) n modulo 32,768, each N(R)
+    ///   is the number of I formats taken, and at most k lie beyond the client's last N(R).
+    /// - `frames`: an I or S format is taken where it is right, and closes the connection where it isn't.
+    /// - `confirms`: a confirmation was given to an outstation only with the news put into the log, or for a repeated
+    ///   fragment.
     pub fn run(
         alloc: Global,
         settings: Settings,
@@ -143,6 +155,11 @@ impl Hub {
         ensures news { IfOk result (λ run. AtEach (Holds settings) (history [] steps.items run.1.items)) }
         ensures confirms { IfOk result (λ run. AtEach (ConfirmsLast settings) (history [] steps.items run.1.items)) }
         ensures numbers { IfOk result (λ run. AtEach (HasRightNumbers settings) (history [] steps.items run.1.items)) }
+        ensures frames { IfOk result (λ run. AtEach (JudgesLast settings) (history [] steps.items run.1.items)) }
+        ensures line { IfOk result (λ run. AtEach (KeepsLine settings) (history [] steps.items run.1.items)) }
+        ensures interrogations { IfOk result (λ run.
+            AtEach (AnswersInterrogations settings) (history [] steps.items run.1.items)) }
+        ensures mirror { IfOk result (λ run. AtEach (Mirrors settings) (history [] steps.items run.1.items)) }
     {
         let mut hub = Hub::new(alloc, settings)?;
         let mut replies = Vec::with_capacity(alloc, steps.len())?;
@@ -156,7 +173,7 @@ impl Hub {
     pub fn step(&mut self, step: &Step) -> Result<Reply, StepFault>
         ensures step { Allowed self.old.setup self.old.state step.now result self.new.state }
         ensures setup { self.new.setup ≡ self.old.setup }
-        // Each observation that is queued can be sent.
+        // Whatever waits for a client can be sent.
         ensures sound { IsSound self.new.setup.station.offset_minutes self.new.state }
     {
         let reply = match step {
@@ -390,23 +407,16 @@ impl Hub {
             return Err(StepFault::Spent);
         }
         let moment = self.latest(moment);
-        let Ok(reply) = self.clients.frame(client, apdu, moment) else {
+        let picture = self.picture.rows();
+        let Ok(reply) = self
+            .clients
+            .frame(client, apdu, moment, &self.settings, picture)
+        else {
             return Err(StepFault::Memory);
         };
         self.counts.raise(0, sessions);
         self.moment = moment;
         Ok(reply)
-    }
-
-    /// What the station shows to every client.
-    fn face(&self) -> Face
-        ensures common { result.common_address ≡ self.now.setup.station.common_address }
-        ensures offset { result.zone.offset_minutes ≡ self.now.setup.station.offset_minutes }
-    {
-        Face {
-            common_address: self.settings.station().common_address,
-            zone: self.settings.zone(),
-        }
     }
 
     fn pump(&mut self, client: u8, moment: u64) -> Result<Reply, StepFault>
@@ -415,8 +425,7 @@ impl Hub {
     {
         self.connected(client)?;
         self.count(moment)?;
-        let face = self.face();
-        Ok(self.clients.pump(client, &face, self.moment))
+        Ok(self.clients.pump(client, &self.settings, self.moment))
     }
 }
 

@@ -13,7 +13,7 @@ use Rattle.iec_command.specs.declared.command.Action.{Action}
 use Rattle.iec_command.specs.declared.command.Action.TheVariants.{Single, Double, Setpoint, Interrogation, CounterInterrogation, Read}
 use Rattle.iec_command.specs.declared.fault.CommandFault.{CommandFault}
 use Rattle.iec_command.specs.declared.fault.CommandFault.TheVariants.{UnknownType}
-use Rattle.iec_command.specs.Commands.{command_of}
+use Rattle.iec_command.specs.Commands.{command_of, IsWhole}
 use Rattle.gw_judge.specs.declared.judging.Judged.{Judged}
 use Rattle.gw_judge.specs.declared.judging.Judged.TheVariants.{Malformed, Refuse, Accepted}
 
@@ -115,3 +115,8 @@ judged_reading setup (Err _) = Malformed
 
 abbrev pub judged : Setup → List ℕ → Judged
 judged setup octets = judged_reading setup (command_of octets)
+
+-- a command that is accepted has the bits of its places
+abbrev pub IsWholeJudged : Judged → Type 0
+IsWholeJudged (Accepted c) = IsWhole c
+IsWholeJudged _ = Unit {0}

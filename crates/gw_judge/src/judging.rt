@@ -1,6 +1,7 @@
 //! What is to be said of an ASDU from a client.
 ghost use Rattle.std.specs.Prelude.{◌≡◌};
-ghost use Rattle.gw_judge.specs.Judging.{judged, judged_command, refusal_of};
+ghost use Rattle.gw_judge.specs.Judging.{judged, judged_command, refusal_of, IsWholeJudged};
+ghost use Rattle.iec_command.specs.Commands.{IsWhole};
 
 use crate::rules::{has_known_cause, has_object, is_addressed, is_execute};
 use gw_map::Settings;
@@ -27,7 +28,8 @@ pub enum Judged {
 
 /// Judges an ASDU of a client, from its first octet to its last, by the settings.
 pub fn judge(octets: &[u8], settings: &Settings) -> Judged
-    ensures { result ≡ judged settings.now octets.now }
+    ensures judged { result ≡ judged settings.now octets.now }
+    ensures whole { IsWholeJudged result }
 {
     match read_command(octets) {
         Ok(command) => judge_command(&command, settings),
@@ -40,7 +42,8 @@ pub fn judge(octets: &[u8], settings: &Settings) -> Judged
 }
 
 fn judge_command(command: &Command, settings: &Settings) -> Judged
-    ensures { result ≡ judged_command settings.now command.now }
+    ensures judged { result ≡ judged_command settings.now command.now }
+    ensures whole { IsWhole command.now → IsWholeJudged result }
 {
     match refusal_of(command, settings) {
         None => Judged::Accepted(*command),

@@ -1,5 +1,6 @@
 -- Which observations an ASDU can carry (IEC 60870-5-101, 7.2.5, 7.2.6).
-use Rattle.std.specs.Prelude.{ℕ, ℤ, pos, ◌+ℤ◌, ◌*ℤ◌, ◌≤ℤ◌, ◌<ℤ◌, ◌≤◌, Bool, not, ◌&&◌, nat_lt, IsTrue}
+use Rattle.std.specs.Prelude.{ℕ, ℤ, pos, ◌+ℤ◌, ◌*ℤ◌, ◌≤ℤ◌, ◌<ℤ◌, ◌^◌, ◌<◌, ◌≤◌, Bool, not, ◌&&◌, nat_lt, FitsSigned, IsTrue}
+use Rattle.std.specs.Int.{w16}
 use Rattle.gw_model.specs.declared.point.Stamp.{Stamp}
 use Rattle.gw_model.specs.declared.point.Stamp.TheVariants.{Untimed, At, Doubtful}
 use Rattle.gw_model.specs.declared.observation.Value.{Value}
@@ -32,3 +33,11 @@ pub record IsFit (offset : ℤ) (x : Observation) : Type 0 where
   pub address : (1 ≤ x.address) × (x.address ≤ 16777215)
   pub element : IsTrue (is_of_element x.value x.quality)
   pub stamp : IsInWindow offset x.stamp
+
+-- a number has the width of its element
+abbrev pub HasWidth : Value → Type 0
+HasWidth (Single on) = Unit {0}
+HasWidth (Double state) = Unit {0}
+HasWidth (Word n) = n < 2 ^ 32
+HasWidth (Scaled z) = FitsSigned w16 z
+HasWidth (Total n) = n < 2 ^ 32

@@ -29,14 +29,15 @@ use Rattle.gw_steps.proofs.Running.{entry}
 use Rattle.gw_news.specs.Accepted.{last_text, is_text, Asked, is_in_sequence, is_in_place, is_answer, asked_of}
 use Rattle.gw_news.specs.Confirms.{verdict_in, verdict_due_to_answer, verdict_due, confirmation_in, confirmation_due, Confirms, ConfirmsLast}
 use Rattle.gw_news.specs.News.{client_at, in_session, TellsNews, QuietLast, SpeaksLast, Holds}
-use Rattle.gw_news.specs.Numbers.{KeepsWindow, JudgesBy, NumbersLast, HasRightNumbers}
+use Rattle.gw_news.specs.Numbers.{KeepsWindow, NumbersLast, HasRightNumbers}
 use Rattle.gw_news.specs.Premises.{IsSoundSetup, IsSoundRun}
 use Rattle.gw_news.specs.Sessions.{is_started}
+use Rattle.gw_news.specs.Turns.{turn_of}
+use Rattle.gw_news.proofs.Becomes.{SlotBecomes}
 use Rattle.gw_news.proofs.Turns.{ClientTied, SlotTied, tells}
 use Rattle.gw_news.proofs.Windows.{window_kept}
-use Rattle.gw_news.proofs.Judged.{judges}
 use Rattle.gw_news.proofs.Masters.{MasterIs, MasterTied, verdict_is}
-use Rattle.gw_news.proofs.Tied.{Tied, Follows, tied_by, fault_follows}
+use Rattle.gw_news.proofs.Tied.{Tied, Follows, client_goes, tied_by, fault_follows}
 use Rattle.gw_news.proofs.Steps.{step_follows}
 
 -- ---- at first
@@ -52,7 +53,7 @@ client_tied setup c some = record {
   dropped = refl;
   few = omega arith;
   limited = record { is = refl; some = some };
-  window = record { limits = refl; sent = refl; received = refl; acknowledged = refl; few = omega arith };
+  linked = record { window = record { limits = refl; sent = refl; received = refl; acknowledged = refl; few = omega arith }; parts = tt };
 }
 
 down_tied : (setup : Setup) (c d n : ℕ) → 0 < setup.station.queue → SlotTied setup c [] (slice_get (replicate n (client_down (limits_of setup.station) setup.station.queue)) d)
@@ -107,6 +108,7 @@ confirms setup past step r s e tied =
   where
     of_event : (event : Event) → (verdict_in (reply_of_event event) ≡ None)
     of_event events.Taken = refl
+    of_event (events.Command command) = refl
     of_event (events.Closed why) = refl
 
     of_asking : (request : Option Request) → verdict_in (reply_asking request) ≡ None
@@ -134,7 +136,7 @@ confirms setup past step r s e tied =
         rw up.1 (record { verdict = none; confirmation = ap confirmation_in none })
     by (steps.Frame c a m) e =
         let up = who_is_up (λ (k : Client). is_up k.stage) NoClient (slice_get s.clients c) e in
-        let none = of_event (event_of a up.0) in
+        let none = of_event (event_of setup a up.0) in
         rw up.1 (record { verdict = none; confirmation = ap confirmation_in none })
     by (steps.Pump c m) e =
         let up = who_is_up (λ (k : Client). is_up k.stage) NoClient (slice_get s.clients c) e in
@@ -163,15 +165,27 @@ holds setup past tied quiet speaks = record {
 -- the numbers, where the last entry's are right
 slot_keeps : (setup : Setup) (c : ℕ) (past : List Entry) (x : Option Client) → setup.station.k < 32768 → SlotTied setup c past x → IfSome x (λ client. KeepsWindow setup c past)
 slot_keeps setup c past None small tied = tt
-slot_keeps setup c past (Some k) small tied = window_kept setup c past k.window small tied.window
+slot_keeps setup c past (Some k) small tied = window_kept setup c past k.window small tied.linked.window
 
 numbers : (setup : Setup) (past : List Entry) → setup.station.k < 32768 → Tied setup past (state_after setup past) → NumbersLast setup past → HasRightNumbers setup past
 numbers setup past small tied last = record { last = last; window = λ c. slot_keeps setup c past (client_at setup c past) small (tied.clients c) }
 
 -- ---- a run so far
 
+-- what the last entry is to each client
+abbrev pub Evolves : Setup → List Entry → Type 0
+Evolves setup [] = Unit {0}
+Evolves setup (e ∷ past) =
+    (c : ℕ) → SlotBecomes setup past e (turn_of setup c e) (client_at setup c past) (client_at setup c (e ∷ past))
+
+-- the state is tied to the history, and each client became what it is by the last entry
+pub record Grows (setup : Setup) (past : List Entry) : Type 0 where
+  pub tied : Tied setup past (state_after setup past)
+  pub evolves : Evolves setup past
+
 record Told (setup : Setup) (past : List Entry) : Type 0 where
   tied : Tied setup past (state_after setup past)
+  grown : AtEach (Grows setup) past
   news : AtEach (Holds setup) past
   confirmed : AtEach (ConfirmsLast setup) past
   numbered : AtEach (HasRightNumbers setup) past
@@ -179,40 +193,32 @@ record Told (setup : Setup) (past : List Entry) : Type 0 where
 told_first : (setup : Setup) → IsSoundSetup setup → Told setup []
 told_first setup fit = record {
   tied = first_tied setup fit.queue;
+  grown = record { tied = first_tied setup fit.queue; evolves = tt };
   news = holds setup [] (first_tied setup fit.queue) (λ c. tt) (λ c. tt);
   confirmed = tt;
   numbered = numbers setup [] fit.window (first_tied setup fit.queue) tt;
 }
 
-told_more : (setup : Setup) (past : List Entry) (e : Entry) → IsSoundSetup setup → Follows setup past e (state_after setup (e ∷ past)) → ConfirmsLast setup (e ∷ past)
-    → JudgesBy setup past e.step e.reply → Told setup past → Told setup (e ∷ past)
-told_more setup past e fit follows last judged told =
-    let tied = tied_by setup past e (state_after setup (e ∷ past)) follows in
+told_more : (setup : Setup) (past : List Entry) (e : Entry) → IsSoundSetup setup → Follows setup past e (state_after setup past) (state_after setup (e ∷ past)) → ConfirmsLast setup (e ∷ past)
+    → Told setup past → Told setup (e ∷ past)
+told_more setup past e fit follows last told =
+    let tied = tied_by setup past e (state_after setup past) (state_after setup (e ∷ past)) fit.station told.tied follows in
+    let goes = client_goes setup past e (state_after setup past) (state_after setup (e ∷ past)) fit.station told.tied follows in
     record {
       tied = tied;
-      news = (holds setup (e ∷ past) tied (λ c. (follows.clients c).quiet) (λ c. (follows.clients c).speaks), told.news);
+      grown = (record { tied = tied; evolves = follows.clients }, told.grown);
+      news = (holds setup (e ∷ past) tied (λ c. (goes c).quiet) (λ c. (goes c).speaks), told.news);
       confirmed = (last, told.confirmed);
-      numbered = (numbers setup (e ∷ past) fit.window tied (record { puts_out = λ c. (follows.clients c).numbered; judges = judged }), told.numbered);
+      numbered = (numbers setup (e ∷ past) fit.window tied (λ c. (goes c).numbered), told.numbered);
     }
 
 told_by : (setup : Setup) (past : List Entry) (step : Step) (reply : Result Reply StepFault) → IsSoundSetup setup → IsSound setup.station.offset_minutes (state_after setup past)
     → Allowed setup (state_after setup past) step reply (state_after setup (entry step reply ∷ past)) → Told setup past → Told setup (entry step reply ∷ past)
 told_by setup past step (Ok r) fit sound allowed told =
-    told_more setup past (entry step (Ok r)) fit (step_follows setup past step r (state_after setup past) fit.addresses fit.station sound allowed.0 told.tied)
-    (confirms setup past step r (state_after setup past) allowed.0 told.tied) (judges setup past step r (state_after setup past) fit.window allowed.0 told.tied) told
+    told_more setup past (entry step (Ok r)) fit (step_follows setup past step r (state_after setup past) fit.addresses sound allowed.0 told.tied)
+    (confirms setup past step r (state_after setup past) allowed.0 told.tied) told
 told_by setup past step (Err f) fit sound allowed told =
-    told_more setup past (entry step (Err f)) fit (fault_follows setup past step f (state_after setup past) told.tied) tt (unjudged step) told
-  where
-    unjudged : (step : Step) → JudgesBy setup past step (Err f)
-    unjudged (steps.Frame c a m) = tt
-    unjudged (steps.OutstationUp o m) = tt
-    unjudged (steps.OutstationDown o m) = tt
-    unjudged (steps.Fragment f m) = tt
-    unjudged (steps.Poll o m wall) = tt
-    unjudged (steps.ClientUp c m) = tt
-    unjudged (steps.ClientDown c m) = tt
-    unjudged (steps.Pump c m) = tt
-    unjudged (steps.Tick m) = tt
+    told_more setup past (entry step (Err f)) fit (fault_follows setup past step f (state_after setup past) told.tied) tt told
 
 -- the state before the last entry is sound
 sound_last : (setup : Setup) (past : List Entry) → AtEach (LeavesSound setup) past → LeavesSound setup past
@@ -232,3 +238,6 @@ confirms_taken setup past given = (run_told setup past given.settings given.run 
 
 pub right_numbers : (setup : Setup) (past : List Entry) → IsSoundRun setup past → AtEach (HasRightNumbers setup) past
 right_numbers setup past given = (run_told setup past given.settings given.run given.sound).numbered
+
+pub each_grows : (setup : Setup) (past : List Entry) → IsSoundRun setup past → AtEach (Grows setup) past
+each_grows setup past given = (run_told setup past given.settings given.run given.sound).grown

@@ -1,11 +1,12 @@
 pub mod Pictures
 pub mod Settled
+pub mod Becomes
 pub mod Windows
 pub mod Turns
 pub mod Masters
+pub mod ByTurns
 pub mod Tied
 pub mod ClientSteps
 pub mod OutstationSteps
 pub mod Steps
-pub mod Judged
 pub mod EachPlace

@@ -31,8 +31,9 @@ use Rattle.gw_news.specs.Turns.{Idle, has_bit, turn_of}
 use Rattle.gw_news.proofs.Masters.{MasterIs, MasterTied, same_master, same_accepted, master_up, master_lost, master_polled, master_ticked, master_accepted, master_left, other_last, other_asked}
 use Rattle.gw_news.proofs.Pictures.{news_same}
 use Rattle.gw_news.proofs.Tied.{Tied, Follows, same_log}
-use Rattle.gw_news.proofs.Turns.{SlotTied, Goes, brought, goes_idle, goes_nowhere, goes_ends}
-use Rattle.gw_news.proofs.Windows.{same_counts}
+use Rattle.gw_news.proofs.Turns.{SlotTied}
+use Rattle.gw_news.proofs.Becomes.{brought, SlotBecomes}
+use Rattle.gw_news.proofs.ByTurns.{idle_slot}
 
 -- ---- one outstation
 
@@ -50,21 +51,27 @@ changed_outstations setup past e s o f lasts asks own tied p = elim (cases_eq o 
   | inr ne ↦ rw (change-there o p f s.outstations ne) (same_master setup p past e (slice_get s.outstations p) (lasts p ne) (asks p ne) (tied.outstations p))
 ]
 
+-- news come to a client
+came_slot : (setup : Setup) (past : List Entry) (e : Entry) (xs : List Observation) (x : Option Client) → brought setup past e ≡ xs
+    → SlotBecomes setup past e Idle x (option_map (client_with_news xs) x)
+came_slot setup past e xs None came = (refl, refl)
+came_slot setup past e xs (Some k) came = (client_with_news xs k, refl, ap (λ (ys : List Observation). client_with_news ys k) (sym came))
+
 -- a step that brings no news and is nothing to any client
 quiet_step : (setup : Setup) (past : List Entry) (e : Entry) (s new : State) → brought setup past e ≡ [] → ((c : ℕ) → turn_of setup c e ≡ Idle)
     → new.picture ≡ s.picture → new.clients ≡ s.clients → new.moment ≡ moment_after (e ∷ past)
-    → ((p : ℕ) → MasterTied setup p (e ∷ past) (slice_get new.outstations p)) → Tied setup past s → Follows setup past e new
+    → ((p : ℕ) → MasterTied setup p (e ∷ past) (slice_get new.outstations p)) → Tied setup past s → Follows setup past e s new
 quiet_step setup past e s new none idle same_picture same_clients moment outstations tied = record {
   picture = same_picture ∙ same_log setup past e s.picture none tied.picture;
   outstations = outstations;
-  clients = λ c. rw same_clients (goes_nowhere setup c past e (slice_get s.clients c) (idle c) none (tied.clients c));
+  clients = λ c. rw same_clients (idle_slot setup c past e (turn_of setup c e) (slice_get s.clients c) (idle c) none (tied.clients c));
   moment = moment;
 }
 
 -- ---- OutstationUp
 
 pub outstation_up : (setup : Setup) (past : List Entry) (o m : ℕ) (r : Reply) (s : State) → Tied setup past s
-    → Follows setup past (entry (steps.OutstationUp o m) (Ok r)) (after setup s (steps.OutstationUp o m))
+    → Follows setup past (entry (steps.OutstationUp o m) (Ok r)) s (after setup s (steps.OutstationUp o m))
 outstation_up setup past o m r s tied =
     let e : Entry = entry (steps.OutstationUp o m) (Ok r) in
     quiet_step setup past e s (after setup s (steps.OutstationUp o m)) refl (λ c. refl) refl refl (told_moment setup past s m tied)
@@ -75,7 +82,7 @@ outstation_up setup past o m r s tied =
 -- ---- OutstationDown
 
 pub outstation_down : (setup : Setup) (past : List Entry) (o m : ℕ) (r : Reply) (s : State) → HasSingleAddresses setup.rows setup.controls → Tied setup past s
-    → Follows setup past (entry (steps.OutstationDown o m) (Ok r)) (after setup s (steps.OutstationDown o m))
+    → Follows setup past (entry (steps.OutstationDown o m) (Ok r)) s (after setup s (steps.OutstationDown o m))
 outstation_down setup past o m r s single tied =
     let e : Entry = entry (steps.OutstationDown o m) (Ok r) in
     let log : List Observation = log_of setup past in
@@ -86,7 +93,7 @@ outstation_down setup past o m r s single tied =
           changed_outstations setup past e s o (λ (x : Master). master_down x.poll) (λ p ne. rw (ne_eqb o p ne) refl) (λ p ne. rw (ne_eqb o p ne) refl)
           (master_lost setup o m r past (slice_get s.outstations o) (tied.outstations o)) tied;
       clients = λ c. rw (map-get (client_with_news (losses setup s o)) s.clients c)
-          (goes_idle setup c past e (losses setup s o) (slice_get s.clients c) refl (sym told) (tied.clients c));
+          (came_slot setup past e (losses setup s o) (slice_get s.clients c) (sym told));
       moment = told_moment setup past s m tied;
     }
 
@@ -98,7 +105,7 @@ other_polled setup past o p m wall None ne = refl
 other_polled setup past o p m wall (Some request) ne = rw (ne_eqb o p ne) refl
 
 pub poll : (setup : Setup) (past : List Entry) (o m wall : ℕ) (r : Reply) (s : State) → outcome setup s (steps.Poll o m wall) ≡ Ok r → Tied setup past s
-    → Follows setup past (entry (steps.Poll o m wall) (Ok r)) (after setup s (steps.Poll o m wall))
+    → Follows setup past (entry (steps.Poll o m wall) (Ok r)) s (after setup s (steps.Poll o m wall))
 poll setup past o m wall r s e tied =
     let step : Step = steps.Poll o m wall in
     let told = answered (fault_of s step) (can_rise s.counts (needs setup s step).counts) (reply_to setup s step) r e in
@@ -111,7 +118,7 @@ poll setup past o m wall r s e tied =
     let own : MasterTied setup o (here ∷ past) (option_map (master_after_next moment wall) (slice_get s.outstations o)) =
     subst (λ (y : Option Master). MasterTied setup o (here ∷ past) (option_map (master_after_next moment wall) y)) (sym up.1)
     (master_polled setup o m wall moment past up.0 (task_given moment wall up.0) refl (told_moment setup past s m tied) is) in
-    subst (λ (x : Reply). Follows setup past (entry step (Ok x)) (after setup s step)) reply
+    subst (λ (x : Reply). Follows setup past (entry step (Ok x)) s (after setup s step)) reply
     (quiet_step setup past here s (after setup s step) refl (λ c. refl) refl refl (told_moment setup past s m tied)
     (changed_outstations setup past here s o (master_after_next moment wall) (λ p ne. refl) (λ p ne. other_polled setup past o p m wall given ne) own tied)
     tied)
@@ -142,22 +149,25 @@ bit_told moment (k ∷ ks) (suc c) = ap (has_bit c) (others (is_timed_out moment
 
 -- a client whose time ran out is closed, and the others idle
 ticked : (setup : Setup) (past : List Entry) (m moment c bits : ℕ) (x : Option Client) → has_bit c bits ≡ late_at moment x → SlotTied setup c past x
-    → Goes setup c past (entry (steps.Tick m) (Ok (replies.Ticked bits))) (option_map (client_after_tick moment) x)
-ticked setup past m moment c bits None told tied = goes_nowhere setup c past (entry (steps.Tick m) (Ok (replies.Ticked bits))) None (rw told refl) refl tied
-ticked setup past m moment c bits (Some k) told tied = elim (cases_Bool (is_timed_out moment k)) [
-  | inl late ↦ rw late (goes_ends setup c past (entry (steps.Tick m) (Ok (replies.Ticked bits))) k (client_after_close k) (rw (told ∙ late) refl) refl refl refl refl (same_counts k.window) tied)
-  | inr on ↦ rw on (goes_nowhere setup c past (entry (steps.Tick m) (Ok (replies.Ticked bits))) (Some k) (rw (told ∙ on) refl) refl tied)
-]
+    → let e : Entry = entry (steps.Tick m) (Ok (replies.Ticked bits)) in
+    SlotBecomes setup past e (turn_of setup c e) x (option_map (client_after_tick moment) x)
+ticked setup past m moment c bits None told tied = (rw told refl, refl)
+ticked setup past m moment c bits (Some k) told tied =
+    let e : Entry = entry (steps.Tick m) (Ok (replies.Ticked bits)) in
+    elim (cases_Bool (is_timed_out moment k)) [
+      | inl late ↦ rw (late, told ∙ late) (client_after_close k, refl, (refl, refl))
+      | inr on ↦ rw on (idle_slot setup c past e (turn_of setup c e) (Some k) (rw (told ∙ on) refl) refl tied)
+    ]
 
 pub tick : (setup : Setup) (past : List Entry) (m : ℕ) (r : Reply) (s : State) → outcome setup s (steps.Tick m) ≡ Ok r → Tied setup past s
-    → Follows setup past (entry (steps.Tick m) (Ok r)) (after setup s (steps.Tick m))
+    → Follows setup past (entry (steps.Tick m) (Ok r)) s (after setup s (steps.Tick m))
 tick setup past m r s e tied =
     let step : Step = steps.Tick m in
     let moment : ℕ = latest s m in
     let told = answered (fault_of s step) (can_rise s.counts (needs setup s step).counts) (reply_to setup s step) r e in
     let bits : ℕ = bits_of (map (is_timed_out moment) s.clients) in
     let here : Entry = entry step (Ok (replies.Ticked bits)) in
-    subst (λ (x : Reply). Follows setup past (entry step (Ok x)) (after setup s step)) told.2
+    subst (λ (x : Reply). Follows setup past (entry step (Ok x)) s (after setup s step)) told.2
     (record {
       picture = same_log setup past here s.picture refl tied.picture;
       outstations = λ p. rw (map-get (master_after_tick moment) s.outstations p)
@@ -170,7 +180,7 @@ tick setup past m r s e tied =
 
 fragment_taken : (setup : Setup) (past : List Entry) (f : Fragment) (m : ℕ) (r : Reply) (s : State) (x : Master) → HasSingleAddresses setup.rows setup.controls
     → slice_get s.outstations f.outstation ≡ Some x → MasterIs setup f.outstation past x → accepts x f ≡ true
-    → Tied setup past s → Follows setup past (entry (steps.Fragment f m) (Ok r)) (after setup s (steps.Fragment f m))
+    → Tied setup past s → Follows setup past (entry (steps.Fragment f m) (Ok r)) s (after setup s (steps.Fragment f m))
 fragment_taken setup past f m r s x single at is takes tied =
     let e : Entry = entry (steps.Fragment f m) (Ok r) in
     let log : List Observation = log_of setup past in
@@ -189,12 +199,12 @@ fragment_taken setup past f m r s x single at is takes tied =
     rw accepting (record {
       picture = shown ∙ ap (λ (zs : List Observation). picture_of setup.rows (log ++ zs)) (sym came);
       outstations = changed_outstations setup past e s f.outstation (master_after_fragment moment f) (λ p ne. other_last past f p m r ne) (λ p ne. other_asked setup past f p m r ne) own tied;
-      clients = λ c. rw (map-get (client_with_news ys) s.clients c) (goes_idle setup c past e ys (slice_get s.clients c) refl (came ∙ sym told) (tied.clients c));
+      clients = λ c. rw (map-get (client_with_news ys) s.clients c) (came_slot setup past e ys (slice_get s.clients c) (came ∙ sym told));
       moment = told_moment setup past s m tied;
     })
 
 fragment_left : (setup : Setup) (past : List Entry) (f : Fragment) (m : ℕ) (r : Reply) (s : State) (x : Master) → slice_get s.outstations f.outstation ≡ Some x
-    → MasterIs setup f.outstation past x → accepts x f ≡ false → Tied setup past s → Follows setup past (entry (steps.Fragment f m) (Ok r)) (after setup s (steps.Fragment f m))
+    → MasterIs setup f.outstation past x → accepts x f ≡ false → Tied setup past s → Follows setup past (entry (steps.Fragment f m) (Ok r)) s (after setup s (steps.Fragment f m))
 fragment_left setup past f m r s x at is left tied =
     let e : Entry = entry (steps.Fragment f m) (Ok r) in
     let none : brought setup past e ≡ [] = rw (sym (same_accepted setup past f x is) ∙ left) refl in
@@ -205,12 +215,12 @@ fragment_left setup past f m r s x at is left tied =
         | inl same ↦ subst (λ (y : ℕ). MasterTied setup y (e ∷ past) (slice_get s.outstations y)) same (rw at (master_left setup past f m r x left is))
         | inr ne ↦ same_master setup p past e (slice_get s.outstations p) (other_last past f p m r ne) (other_asked setup past f p m r ne) (tied.outstations p)
       ];
-      clients = λ c. goes_nowhere setup c past e (slice_get s.clients c) refl none (tied.clients c);
+      clients = λ c. idle_slot setup c past e (turn_of setup c e) (slice_get s.clients c) refl none (tied.clients c);
       moment = told_moment setup past s m tied;
     })
 
 pub fragment : (setup : Setup) (past : List Entry) (f : Fragment) (m : ℕ) (r : Reply) (s : State) → HasSingleAddresses setup.rows setup.controls
-    → outcome setup s (steps.Fragment f m) ≡ Ok r → Tied setup past s → Follows setup past (entry (steps.Fragment f m) (Ok r)) (after setup s (steps.Fragment f m))
+    → outcome setup s (steps.Fragment f m) ≡ Ok r → Tied setup past s → Follows setup past (entry (steps.Fragment f m) (Ok r)) s (after setup s (steps.Fragment f m))
 fragment setup past f m r s single e tied =
     let step : Step = steps.Fragment f m in
     let told = answered (fault_of s step) (can_rise s.counts (needs setup s step).counts) (reply_to setup s step) r e in

@@ -1,6 +1,7 @@
 -- What ties a client's part of the state to its history, and how each turn keeps it.
-use Rattle.std.proofs.Common.{◌≡◌, ℕ, ◌+◌, ◌-◌, ◌≤◌, ◌<◌, Bool, true, false, List, [], ◌∷◌, ◌++◌, map, length, Option, Some, None, refl, sym, ap, ◌∙◌, arith, inl, inr}
-use Rattle.std.specs.Prelude.{option_map}
+use Rattle.std.proofs.Common.{◌≡◌, ℕ, ◌+◌, ◌-◌, ◌≤◌, ◌<◌, Bool, true, false, List, [], ◌∷◌, ◌++◌, map, length, Option, Some, None, refl, sym, ap, subst, ◌∙◌, arith, inl, inr}
+use Rattle.std.specs.Prelude.{◌⊎◌, option_map}
+use Rattle.std.specs.List.{AllByRecursion}
 use Rattle.std.proofs.lemmas.Bool.{cases_Bool, true≢false}
 use Rattle.std.proofs.lemmas.List.{append-nil, length-append, length-drop}
 use Rattle.circular_buffer.specs.Buffer.{keep_last}
@@ -9,16 +10,18 @@ use Rattle.gw_map.specs.Settings.{Setup}
 use Rattle.iec_apci.specs.declared.apdu.Apdu.{Apdu}
 use Rattle.iec_apci.specs.declared.apdu.Apdu.TheVariants.{U}
 use Rattle.iec_apci.specs.declared.apdu.Signal.TheVariants.{StartAct, StopAct}
+use Rattle.gw_answers.specs.declared.answer.Part.{Part}
+use Rattle.gw_answers.specs.declared.answer.Part.TheVariants.{Confirmation, Row, Termination}
 use Rattle.gw_station.specs.Client.{Client, is_started as is_in_session, queue_with, overflow, client_with_news}
 use Rattle.gw_station.proofs.Queues.{kept_all}
 use Rattle.gw_steps.specs.Runs.{Entry}
 use Rattle.gw_steps.specs.Said.{Said}
-use Rattle.gw_news.specs.Log.{log_of, news_of_entry}
 use Rattle.gw_news.specs.Turns.{Idle, Connects, Takes, Ends, PutsOut, turn_of}
 use Rattle.gw_news.specs.Sessions.{is_started, started_with, spontaneous_in, spontaneous_by, is_numbered, puts_numbered, Happening, Came, Gone, session_of, gone_of}
 use Rattle.gw_news.specs.Fates.{Element, is_put_out, is_dropped, fates, fates_from, items_of}
 use Rattle.gw_news.specs.News.{TellsNews, SaysOfStation, SpeaksBy}
-use Rattle.gw_news.specs.Numbers.{sent_to, taken_from, SaysNumbers, HasNumbers}
+use Rattle.gw_news.specs.Numbers.{sent_to, taken_from, receive_from, SaysNumbers, HasNumbers}
+use Rattle.gw_news.proofs.Becomes.{brought}
 use Rattle.gw_news.proofs.Settled.{put, AreSettled, before_queue, fates_from-append, grown, queue_shrinks, settled_more, kept_in, queued_in, dropped_in, put_out_more, dropped_same, gone_of-append, none_gone}
 use Rattle.gw_news.proofs.Windows.{WindowTied, SameCounts, same_counts, window_same}
 
@@ -28,6 +31,17 @@ use Rattle.gw_news.proofs.Windows.{WindowTied, SameCounts, same_counts, window_s
 pub record HasLimit (setup : Setup) (limit : ℕ) : Type 0 where
   pub is : limit ≡ setup.station.queue
   pub some : 0 < limit
+
+-- a part of an answer to an interrogation has a cause of one: 20 or 37
+abbrev pub IsRequested : Part → Type 0
+IsRequested (Confirmation c) = Unit {0}
+IsRequested (Row cause x) = (cause ≡ 20) ⊎ (cause ≡ 37)
+IsRequested (Termination c) = Unit {0}
+
+-- the window is tied, and the rest of an answer is one
+pub record Linked (setup : Setup) (c : ℕ) (past : List Entry) (k : Client) : Type 0 where
+  pub window : WindowTied setup c past k.window
+  pub parts : AllByRecursion IsRequested k.rest
 
 -- the fates of a session's news are settled ones, and then the queue
 pub record ClientTied (setup : Setup) (c : ℕ) (past : List Entry) (k : Client) : Type 0 where
@@ -39,7 +53,7 @@ pub record ClientTied (setup : Setup) (c : ℕ) (past : List Entry) (k : Client)
   pub dropped : k.dropped ≡ length (items_of is_dropped settled)
   pub few : length k.queue ≤ k.limit
   pub limited : HasLimit setup k.limit
-  pub window : WindowTied setup c past k.window
+  pub linked : Linked setup c past k
 
 -- where there is no such client, nothing started
 abbrev pub SlotTied : Setup → ℕ → List Entry → Option Client → Type 0
@@ -53,10 +67,6 @@ pub record Goes (setup : Setup) (c : ℕ) (past : List Entry) (e : Entry) (x : O
   pub numbered : HasNumbers (sent_to setup c past) (taken_from setup c past) (turn_of setup c e)
   pub quiet : is_started setup c past ≡ false → puts_numbered (turn_of setup c e) ≡ false
   pub speaks : SpeaksBy setup.station.common_address (turn_of setup c e)
-
--- what an entry brings
-abbrev pub brought : Setup → List Entry → Entry → List Observation
-brought setup past e = news_of_entry setup (log_of setup past) past e
 
 -- what the history sees of a client's session is the same
 pub record Alike (k new : Client) : Type 0 where
@@ -72,7 +82,7 @@ pub none_happened : (setup : Setup) (c : ℕ) (past : List Entry) → is_started
 none_happened setup c [] stopped = refl
 none_happened setup c (e ∷ past) stopped = rw stopped refl
 
-goes_on : (setup : Setup) (c : ℕ) (past : List Entry) (e : Entry) (xs ys : List Observation)
+pub goes_on : (setup : Setup) (c : ℕ) (past : List Entry) (e : Entry) (xs ys : List Observation)
     → is_started setup c past ≡ true → is_started setup c (e ∷ past) ≡ true → brought setup past e ≡ xs
     → spontaneous_by setup.station.common_address (turn_of setup c e) ≡ ys
     → session_of setup c (e ∷ past) ≡ session_of setup c past ++ (map Came xs ++ map Gone ys)
@@ -86,8 +96,8 @@ pub session_idle : (setup : Setup) (c : ℕ) (past : List Entry) (e : Entry) (xs
     → is_started setup c past ≡ true → is_started setup c (e ∷ past) ≡ true → is_in_session new.stage ≡ true
     → brought setup past e ≡ xs → spontaneous_by setup.station.common_address (turn_of setup c e) ≡ []
     → new.limit ≡ k.limit → new.queue ≡ keep_last k.limit (k.queue ++ xs) → new.dropped ≡ k.dropped + (length (k.queue ++ xs) - k.limit)
-    → WindowTied setup c (e ∷ past) new.window → ClientTied setup c past k → ClientTied setup c (e ∷ past) new
-session_idle setup c past e xs k new was is in_session eb ep limit queue dropped window tied =
+    → Linked setup c (e ∷ past) new → ClientTied setup c past k → ClientTied setup c (e ∷ past) new
+session_idle setup c past e xs k new was is in_session eb ep limit queue dropped linked tied =
     let hs : List Happening = session_of setup c past in
     let on = goes_on setup c past e xs [] was is eb ep in
     let session : session_of setup c (e ∷ past) ≡ hs ++ map Came xs = on ∙ ap (λ (ys : List Happening). hs ++ ys) (append-nil (map Came xs)) in
@@ -107,24 +117,24 @@ session_idle setup c past e xs k new was is in_session eb ep limit queue dropped
       dropped = omega (arith, dropped, tied.dropped, more.dropped);
       few = omega (arith, limit, ap length queue, length-drop (length (k.queue ++ xs) - k.limit) (k.queue ++ xs));
       limited = same_limit setup k.limit new.limit limit tied.limited;
-      window = window;
+      linked = linked;
     }
 
 -- one to which no news come
 session_still : (setup : Setup) (c : ℕ) (past : List Entry) (e : Entry) (k new : Client)
     → is_started setup c past ≡ true → is_started setup c (e ∷ past) ≡ true → brought setup past e ≡ []
     → spontaneous_by setup.station.common_address (turn_of setup c e) ≡ [] → Alike k new
-    → WindowTied setup c (e ∷ past) new.window → ClientTied setup c past k → ClientTied setup c (e ∷ past) new
-session_still setup c past e k new was is none nothing alike window tied =
+    → Linked setup c (e ∷ past) new → ClientTied setup c past k → ClientTied setup c (e ∷ past) new
+session_still setup c past e k new was is none nothing alike linked tied =
     session_idle setup c past e [] k new was is (ap is_in_session alike.stage ∙ (sym tied.started ∙ was)) none nothing alike.limit
     (alike.queue ∙ sym (ap (keep_last k.limit) (append-nil k.queue) ∙ kept_all k.limit k.queue tied.few))
-    (omega (arith, alike.dropped, length-append k.queue [], tied.few)) window tied
+    (omega (arith, alike.dropped, length-append k.queue [], tied.few)) linked tied
 
 -- a client without a session, before and after
 pub stopped_still : (setup : Setup) (c : ℕ) (past : List Entry) (e : Entry) (new : Client)
     → is_started setup c (e ∷ past) ≡ false → is_in_session new.stage ≡ false → new.queue ≡ [] → new.dropped ≡ 0
-    → HasLimit setup new.limit → WindowTied setup c (e ∷ past) new.window → ClientTied setup c (e ∷ past) new
-stopped_still setup c past e new stopped out queue dropped limited window =
+    → HasLimit setup new.limit → Linked setup c (e ∷ past) new → ClientTied setup c (e ∷ past) new
+stopped_still setup c past e new stopped out queue dropped limited linked =
     let none = none_happened setup c (e ∷ past) stopped in
     record {
       started = stopped ∙ sym out;
@@ -135,7 +145,7 @@ stopped_still setup c past e new stopped out queue dropped limited window =
       dropped = dropped;
       few = omega (arith, ap length queue);
       limited = limited;
-      window = window;
+      linked = linked;
     }
 
 -- a client without a session has nothing queued, and nothing dropped
@@ -153,71 +163,62 @@ nothing_queued setup c past k stopped tied =
 
 -- ---- turns
 
--- a turn in which nothing but news may come, and a window whose counts stay
-window_idle : (setup : Setup) (c : ℕ) (past : List Entry) (e : Entry) (k new : Client) → turn_of setup c e ≡ Idle → SameCounts k.window new.window
-    → ClientTied setup c past k → WindowTied setup c (e ∷ past) new.window
-window_idle setup c past e k new turn same tied = window_same setup c past e k.window new.window (rw turn refl) (rw turn refl) (rw turn refl) same tied.window
+-- a window whose counts stay
+pub linked_same : (setup : Setup) (c : ℕ) (past : List Entry) (e : Entry) (k new : Client) → sent_to setup c (e ∷ past) ≡ sent_to setup c past
+    → taken_from setup c (e ∷ past) ≡ taken_from setup c past → receive_from setup c (e ∷ past) ≡ receive_from setup c past → SameCounts k.window new.window
+    → AllByRecursion IsRequested new.rest → Linked setup c past k → Linked setup c (e ∷ past) new
+linked_same setup c past e k new es et er same parts linked = record { window = window_same setup c past e k.window new.window es et er same linked.window; parts = parts }
+
+-- a turn in which nothing but news may come
+linked_idle : (setup : Setup) (c : ℕ) (past : List Entry) (e : Entry) (k new : Client) → turn_of setup c e ≡ Idle → SameCounts k.window new.window → new.rest ≡ k.rest
+    → ClientTied setup c past k → Linked setup c (e ∷ past) new
+linked_idle setup c past e k new turn same rest tied =
+    linked_same setup c past e k new (rw turn refl) (rw turn refl) (rw turn refl) same (subst (AllByRecursion IsRequested) (sym rest) tied.linked.parts) tied.linked
 
 -- whether or not a session stands, it goes on as it is
 stays : (setup : Setup) (c : ℕ) (past : List Entry) (e : Entry) (k new : Client) → is_started setup c (e ∷ past) ≡ is_started setup c past → brought setup past e ≡ []
-    → spontaneous_by setup.station.common_address (turn_of setup c e) ≡ [] → Alike k new → WindowTied setup c (e ∷ past) new.window
+    → spontaneous_by setup.station.common_address (turn_of setup c e) ≡ [] → Alike k new → Linked setup c (e ∷ past) new
     → ClientTied setup c past k → ClientTied setup c (e ∷ past) new
-stays setup c past e k new same none nothing alike window tied = elim (cases_Bool (is_in_session k.stage)) [
+stays setup c past e k new same none nothing alike linked tied = elim (cases_Bool (is_in_session k.stage)) [
   | inl in_session ↦
       (let was : is_started setup c past ≡ true = tied.started ∙ in_session in
-      session_still setup c past e k new was (same ∙ was) none nothing alike window tied)
+      session_still setup c past e k new was (same ∙ was) none nothing alike linked tied)
   | inr out ↦
       (let stopped : is_started setup c past ≡ false = tied.started ∙ out in
       let empty = nothing_queued setup c past k stopped tied in
       stopped_still setup c past e new (same ∙ stopped) (ap is_in_session alike.stage ∙ out) (alike.queue ∙ empty.0) (alike.dropped ∙ empty.1)
-      (same_limit setup k.limit new.limit alike.limit tied.limited) window)
+      (same_limit setup k.limit new.limit alike.limit tied.limited) linked)
 ]
 
 -- nothing but news
 idle_queue : (setup : Setup) (c : ℕ) (past : List Entry) (e : Entry) (xs : List Observation) (k new : Client) (started : Bool)
     → turn_of setup c e ≡ Idle → brought setup past e ≡ xs → is_in_session k.stage ≡ started → is_in_session new.stage ≡ started → new.limit ≡ k.limit
     → new.queue ≡ queue_with xs k.limit started k.queue → new.dropped ≡ k.dropped + overflow xs k.limit started k.queue → SameCounts k.window new.window
-    → ClientTied setup c past k → ClientTied setup c (e ∷ past) new
-idle_queue setup c past e xs k new false turn eb out same limit queue dropped counts tied =
+    → new.rest ≡ k.rest → ClientTied setup c past k → ClientTied setup c (e ∷ past) new
+idle_queue setup c past e xs k new false turn eb out same limit queue dropped counts rest tied =
     let stopped : is_started setup c past ≡ false = tied.started ∙ out in
     let none = nothing_queued setup c past k stopped tied in
-    stopped_still setup c past e new (rw turn stopped) same (queue ∙ none.0) (omega (arith, dropped, none.1)) (same_limit setup k.limit new.limit limit tied.limited) (window_idle setup c past e k new turn counts tied)
-idle_queue setup c past e xs k new true turn eb in_session same limit queue dropped counts tied =
+    stopped_still setup c past e new (rw turn stopped) same (queue ∙ none.0) (omega (arith, dropped, none.1)) (same_limit setup k.limit new.limit limit tied.limited) (linked_idle setup c past e k new turn counts rest tied)
+idle_queue setup c past e xs k new true turn eb in_session same limit queue dropped counts rest tied =
     let was : is_started setup c past ≡ true = tied.started ∙ in_session in
-    session_idle setup c past e xs k new was (rw turn was) same eb (rw turn refl) limit queue dropped (window_idle setup c past e k new turn counts tied) tied
+    session_idle setup c past e xs k new was (rw turn was) same eb (rw turn refl) limit queue dropped (linked_idle setup c past e k new turn counts rest tied) tied
 
 pub goes_idle : (setup : Setup) (c : ℕ) (past : List Entry) (e : Entry) (xs : List Observation) (x : Option Client)
     → turn_of setup c e ≡ Idle → brought setup past e ≡ xs → SlotTied setup c past x → Goes setup c past e (option_map (client_with_news xs) x)
 goes_idle setup c past e xs None turn eb tied = record { tied = rw turn tied; numbered = rw turn tt; quiet = λ stopped. rw turn refl; speaks = rw turn tt }
 goes_idle setup c past e xs (Some k) turn eb tied = record {
-  tied = idle_queue setup c past e xs k (client_with_news xs k) (is_in_session k.stage) turn eb refl refl refl refl refl (same_counts k.window) tied;
+  tied = idle_queue setup c past e xs k (client_with_news xs k) (is_in_session k.stage) turn eb refl refl refl refl refl (same_counts k.window) refl tied;
   numbered = rw turn tt;
   quiet = λ stopped. rw turn refl;
   speaks = rw turn tt;
 }
-
--- nothing at all
-pub goes_alike : (setup : Setup) (c : ℕ) (past : List Entry) (e : Entry) (k new : Client)
-    → turn_of setup c e ≡ Idle → brought setup past e ≡ [] → Alike k new → SameCounts k.window new.window → ClientTied setup c past k → Goes setup c past e (Some new)
-goes_alike setup c past e k new turn none alike counts tied = record {
-  tied = stays setup c past e k new (rw turn refl) none (rw turn refl) alike (window_idle setup c past e k new turn counts tied) tied;
-  numbered = rw turn tt;
-  quiet = λ stopped. rw turn refl;
-  speaks = rw turn tt;
-}
-
-pub goes_nowhere : (setup : Setup) (c : ℕ) (past : List Entry) (e : Entry) (x : Option Client)
-    → turn_of setup c e ≡ Idle → brought setup past e ≡ [] → SlotTied setup c past x → Goes setup c past e x
-goes_nowhere setup c past e None turn none tied = record { tied = rw turn tied; numbered = rw turn tt; quiet = λ stopped. rw turn refl; speaks = rw turn tt }
-goes_nowhere setup c past e (Some k) turn none tied =
-    goes_alike setup c past e k k turn none (record { stage = refl; limit = refl; queue = refl; dropped = refl }) (same_counts k.window) tied
 
 -- its connection stands anew
 pub goes_connects : (setup : Setup) (c : ℕ) (past : List Entry) (e : Entry) (new : Client)
-    → turn_of setup c e ≡ Connects → is_in_session new.stage ≡ false → new.queue ≡ [] → new.dropped ≡ 0 → HasLimit setup new.limit → WindowTied setup c (e ∷ past) new.window
+    → turn_of setup c e ≡ Connects → is_in_session new.stage ≡ false → new.queue ≡ [] → new.dropped ≡ 0 → HasLimit setup new.limit → Linked setup c (e ∷ past) new
     → Goes setup c past e (Some new)
-goes_connects setup c past e new turn out queue dropped limited window = record {
-  tied = stopped_still setup c past e new (rw turn refl) out queue dropped limited window;
+goes_connects setup c past e new turn out queue dropped limited linked = record {
+  tied = stopped_still setup c past e new (rw turn refl) out queue dropped limited linked;
   numbered = rw turn tt;
   quiet = λ stopped. rw turn refl;
   speaks = rw turn tt;
@@ -225,10 +226,10 @@ goes_connects setup c past e new turn out queue dropped limited window = record 
 
 -- its connection is closed, or lost
 pub goes_ends : (setup : Setup) (c : ℕ) (past : List Entry) (e : Entry) (k new : Client)
-    → turn_of setup c e ≡ Ends → is_in_session new.stage ≡ false → new.queue ≡ [] → new.dropped ≡ 0 → new.limit ≡ k.limit → SameCounts k.window new.window
+    → turn_of setup c e ≡ Ends → is_in_session new.stage ≡ false → new.queue ≡ [] → new.dropped ≡ 0 → new.limit ≡ k.limit → Linked setup c (e ∷ past) new
     → ClientTied setup c past k → Goes setup c past e (Some new)
-goes_ends setup c past e k new turn out queue dropped limit counts tied = record {
-  tied = stopped_still setup c past e new (rw turn refl) out queue dropped (same_limit setup k.limit new.limit limit tied.limited) (window_same setup c past e k.window new.window (rw turn refl) (rw turn refl) (rw turn refl) counts tied.window);
+goes_ends setup c past e k new turn out queue dropped limit linked tied = record {
+  tied = stopped_still setup c past e new (rw turn refl) out queue dropped (same_limit setup k.limit new.limit limit tied.limited) linked;
   numbered = rw turn tt;
   quiet = λ stopped. rw turn refl;
   speaks = rw turn tt;
@@ -237,8 +238,8 @@ goes_ends setup c past e k new turn out queue dropped limit counts tied = record
 -- its session begins
 pub goes_begins : (setup : Setup) (c : ℕ) (past : List Entry) (e : Entry) (k new : Client)
     → turn_of setup c e ≡ Takes (U StartAct) → is_in_session k.stage ≡ false → is_in_session new.stage ≡ true → new.queue ≡ [] → new.dropped ≡ 0 → new.limit ≡ k.limit
-    → WindowTied setup c (e ∷ past) new.window → ClientTied setup c past k → Goes setup c past e (Some new)
-goes_begins setup c past e k new turn out in_session queue dropped limit window tied =
+    → Linked setup c (e ∷ past) new → ClientTied setup c past k → Goes setup c past e (Some new)
+goes_begins setup c past e k new turn out in_session queue dropped limit linked tied =
     let stopped : is_started setup c past ≡ false = tied.started ∙ out in
     let none : session_of setup c (e ∷ past) ≡ [] = rw (turn, stopped) refl in
     record {
@@ -251,7 +252,7 @@ goes_begins setup c past e k new turn out in_session queue dropped limit window 
         dropped = dropped;
         few = omega (arith, ap length queue);
         limited = same_limit setup k.limit new.limit limit tied.limited;
-        window = window;
+        linked = linked;
       };
       numbered = rw turn tt;
       quiet = λ stopped. rw turn refl;
@@ -261,9 +262,9 @@ goes_begins setup c past e k new turn out in_session queue dropped limit window 
 -- its session ends, and the connection stands
 pub goes_stops : (setup : Setup) (c : ℕ) (past : List Entry) (e : Entry) (new : Client)
     → turn_of setup c e ≡ Takes (U StopAct) → is_in_session new.stage ≡ false → new.queue ≡ [] → new.dropped ≡ 0 → HasLimit setup new.limit
-    → WindowTied setup c (e ∷ past) new.window → Goes setup c past e (Some new)
-goes_stops setup c past e new turn out queue dropped limited window = record {
-  tied = stopped_still setup c past e new (rw turn refl) out queue dropped limited window;
+    → Linked setup c (e ∷ past) new → Goes setup c past e (Some new)
+goes_stops setup c past e new turn out queue dropped limited linked = record {
+  tied = stopped_still setup c past e new (rw turn refl) out queue dropped limited linked;
   numbered = rw turn tt;
   quiet = λ stopped. rw turn refl;
   speaks = rw turn tt;
@@ -272,9 +273,9 @@ goes_stops setup c past e new turn out queue dropped limited window = record {
 -- an APDU is taken by which no session begins or ends
 pub goes_takes : (setup : Setup) (c : ℕ) (past : List Entry) (e : Entry) (a : Apdu) (k new : Client)
     → turn_of setup c e ≡ Takes a → brought setup past e ≡ [] → started_with a (is_started setup c past) ≡ is_started setup c past
-    → Alike k new → WindowTied setup c (e ∷ past) new.window → ClientTied setup c past k → Goes setup c past e (Some new)
-goes_takes setup c past e a k new turn none same alike window tied = record {
-  tied = stays setup c past e k new (rw turn same) none (rw turn refl) alike window tied;
+    → Alike k new → Linked setup c (e ∷ past) new → ClientTied setup c past k → Goes setup c past e (Some new)
+goes_takes setup c past e a k new turn none same alike linked tied = record {
+  tied = stays setup c past e k new (rw turn same) none (rw turn refl) alike linked tied;
   numbered = rw turn tt;
   quiet = λ stopped. rw turn refl;
   speaks = rw turn tt;
@@ -284,11 +285,23 @@ goes_takes setup c past e a k new turn none same alike window tied = record {
 pub goes_puts_other : (setup : Setup) (c : ℕ) (past : List Entry) (e : Entry) (said : Said) (k new : Client)
     → turn_of setup c e ≡ PutsOut said → brought setup past e ≡ [] → spontaneous_in setup.station.common_address said ≡ []
     → is_numbered said ≡ false → SaysOfStation setup.station.common_address said → SaysNumbers (sent_to setup c past) (taken_from setup c past) said
-    → Alike k new → WindowTied setup c (e ∷ past) new.window → ClientTied setup c past k → Goes setup c past e (Some new)
-goes_puts_other setup c past e said k new turn none nothing unnumbered ours says alike window tied = record {
-  tied = stays setup c past e k new (rw turn refl) none (rw turn nothing) alike window tied;
+    → Alike k new → Linked setup c (e ∷ past) new → ClientTied setup c past k → Goes setup c past e (Some new)
+goes_puts_other setup c past e said k new turn none nothing unnumbered ours says alike linked tied = record {
+  tied = stays setup c past e k new (rw turn refl) none (rw turn nothing) alike linked tied;
   numbered = rw turn says;
   quiet = λ stopped. rw turn unnumbered;
+  speaks = rw turn ours;
+}
+
+-- an I format that carries no news is put out to it
+pub goes_puts_numbered : (setup : Setup) (c : ℕ) (past : List Entry) (e : Entry) (said : Said) (k new : Client)
+    → turn_of setup c e ≡ PutsOut said → brought setup past e ≡ [] → spontaneous_in setup.station.common_address said ≡ []
+    → SaysOfStation setup.station.common_address said → SaysNumbers (sent_to setup c past) (taken_from setup c past) said
+    → is_in_session k.stage ≡ true → Alike k new → Linked setup c (e ∷ past) new → ClientTied setup c past k → Goes setup c past e (Some new)
+goes_puts_numbered setup c past e said k new turn none nothing ours says in_session alike linked tied = record {
+  tied = stays setup c past e k new (rw turn refl) none (rw turn nothing) alike linked tied;
+  numbered = rw turn says;
+  quiet = λ stopped. absurd (true≢false (sym (tied.started ∙ in_session) ∙ stopped));
   speaks = rw turn ours;
 }
 
@@ -297,8 +310,8 @@ pub goes_puts_news : (setup : Setup) (c : ℕ) (past : List Entry) (e : Entry) (
     → turn_of setup c e ≡ PutsOut said → brought setup past e ≡ [] → spontaneous_in setup.station.common_address said ≡ x ∷ []
     → SaysOfStation setup.station.common_address said → SaysNumbers (sent_to setup c past) (taken_from setup c past) said
     → is_in_session k.stage ≡ true → k.queue ≡ x ∷ queue → new.stage ≡ k.stage → new.limit ≡ k.limit → new.queue ≡ queue → new.dropped ≡ k.dropped
-    → WindowTied setup c (e ∷ past) new.window → ClientTied setup c past k → Goes setup c past e (Some new)
-goes_puts_news setup c past e said x queue k new turn none puts ours says in_session front stage limit rest dropped window tied =
+    → Linked setup c (e ∷ past) new → ClientTied setup c past k → Goes setup c past e (Some new)
+goes_puts_news setup c past e said x queue k new turn none puts ours says in_session front stage limit rest dropped linked tied =
     let hs : List Happening = session_of setup c past in
     let was : is_started setup c past ≡ true = tied.started ∙ in_session in
     let by : spontaneous_by setup.station.common_address (turn_of setup c e) ≡ x ∷ [] = rw turn puts in
@@ -319,7 +332,7 @@ goes_puts_news setup c past e said x queue k new turn none puts ours says in_ses
         dropped = dropped ∙ (tied.dropped ∙ sym (ap length (dropped_same tied.settled x)));
         few = omega (arith, limit, ap length rest, ap length front, tied.few);
         limited = same_limit setup k.limit new.limit limit tied.limited;
-        window = window;
+        linked = linked;
       };
       numbered = rw turn says;
       quiet = λ stopped. absurd (true≢false (sym was ∙ stopped));

@@ -5,8 +5,7 @@ use Rattle.std.proofs.lemmas.List.{length-drop}
 use Rattle.gw_map.specs.Settings.{Setup}
 use Rattle.iec_apci.specs.declared.apdu.Asdu.{Asdu as AsduOctets}
 use Rattle.iec_apci.specs.declared.apdu.Apdu.TheVariants.{I, S}
-use Rattle.iec_asdu.specs.Asdu.{Asdu}
-use Rattle.std.specs.Prelude.{Option}
+use Rattle.gw_answers.specs.Meaning.{Meant}
 use Rattle.iec_window.specs.declared.limits.Limits.{Limits}
 use Rattle.iec_window.specs.Counts.{Counts, sent_in_all}
 use Rattle.iec_window.specs.Sequence.{Acknowledges, new_acknowledgements, is_right_send, is_right_receive}
@@ -62,9 +61,9 @@ window_begun setup c past e limits moment turn same = record {
 }
 
 -- an I format was put out
-pub window_sent : (setup : Setup) (c : ℕ) (past : List Entry) (e : Entry) (moment ns nr : ℕ) (asdu : Option Asdu) (w : Counts) → turn_of setup c e ≡ PutsOut (Numbered ns nr asdu)
+pub window_sent : (setup : Setup) (c : ℕ) (past : List Entry) (e : Entry) (moment ns nr : ℕ) (meant : Meant) (w : Counts) → turn_of setup c e ≡ PutsOut (Numbered ns nr meant)
     → has_room w ≡ true → WindowTied setup c past w → WindowTied setup c (e ∷ past) (counts_after_sending_i moment w)
-window_sent setup c past e moment ns nr asdu w turn room tied =
+window_sent setup c past e moment ns nr meant w turn room tied =
     let more : sent_to setup c (e ∷ past) ≡ sent_to setup c past + 1 = rw turn refl in
     let taken : taken_from setup c (e ∷ past) ≡ taken_from setup c past = rw turn refl in
     let last : receive_from setup c (e ∷ past) ≡ receive_from setup c past = rw turn refl in

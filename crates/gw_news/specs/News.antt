@@ -1,13 +1,15 @@
 -- The headline, in its part on news: at each place of a run the picture is that of the log, and for each
 -- client's session the observations put out, followed by those queued, are the news since its STARTDT, in
 -- order, less those dropped.
-use Rattle.std.specs.Prelude.{◌≡◌, ℕ, Bool, false, List, [], ◌∷◌, ◌++◌, length, slice_get, Option, Some, None, IfSome}
+use Rattle.std.specs.Prelude.{◌≡◌, ◌⊎◌, ℕ, ◌≤◌, ◌==◌, Bool, false, ◌||◌, IsTrue, List, [], ◌∷◌, ◌++◌, length, slice_get, Option, Some, None, IfSome}
 use Rattle.gw_map.specs.Settings.{Setup}
 use Rattle.gw_picture.specs.Log.{picture_of}
 use Rattle.gw_station.specs.Client.{Client, is_started as is_in_session}
 use Rattle.gw_steps.specs.Runs.{Entry, state_after}
 use Rattle.gw_news.specs.Log.{log_of}
 use Rattle.iec_asdu.specs.Asdu.{Asdu}
+use Rattle.iec_command.specs.declared.command.Command.{Command}
+use Rattle.gw_answers.specs.Meaning.{Meant, Tells, Commands, Unread, ComesBack}
 use Rattle.gw_steps.specs.Said.{Said, Numbered, Receipt, Function}
 use Rattle.gw_news.specs.Turns.{Turn, Idle, Connects, Takes, Ends, PutsOut, Garbles, turn_of}
 use Rattle.gw_news.specs.Sessions.{is_started, session_of, gone_of, puts_numbered}
@@ -32,13 +34,27 @@ abbrev pub QuietLast : Setup → ℕ → List Entry → Type 0
 QuietLast setup c [] = Unit {0}
 QuietLast setup c (e ∷ past) = is_started setup c past ≡ false → puts_numbered (turn_of setup c e) ≡ false
 
--- an I format carries an ASDU of the station, with cause 3 (spontaneous)
-abbrev pub IsOfStation : ℕ → Option Asdu → Type 0
-IsOfStation common None = ⊥
-IsOfStation common (Some asdu) = (asdu.cause ≡ 3) × (asdu.common_address ≡ common)
+-- process information of the station: spontaneous (3), requested (5), or interrogated (20, 37)
+abbrev pub IsInformation : ℕ → Asdu → Type 0
+IsInformation common asdu =
+    IsTrue (asdu.cause == 3 || asdu.cause == 5 || asdu.cause == 20 || asdu.cause == 37) × (asdu.common_address ≡ common)
+
+-- the station's confirmation of an activation (7) or a deactivation (9), or a termination (10)
+abbrev pub IsConfirmation : ℕ → Command → Type 0
+IsConfirmation common c = IsTrue (c.cause == 7 || c.cause == 9 || c.cause == 10) × (c.common_address ≡ common)
+
+-- what is unknown comes back: P/N is set, and the cause is one from 44 to 47
+abbrev pub IsUnknown : Meant → Type 0
+IsUnknown meant = (cause : ℕ) × (44 ≤ cause) × (cause ≤ 47) × ComesBack cause meant
+
+-- an I format carries one of these
+abbrev pub IsOfStation : ℕ → Meant → Type 0
+IsOfStation common (Tells asdu) = IsInformation common asdu ⊎ IsUnknown (Tells asdu)
+IsOfStation common (Commands c) = IsConfirmation common c ⊎ IsUnknown (Commands c)
+IsOfStation common (Unread octets) = IsUnknown (Unread octets)
 
 abbrev pub SaysOfStation : ℕ → Said → Type 0
-SaysOfStation common (Numbered ns nr asdu) = IsOfStation common asdu
+SaysOfStation common (Numbered ns nr meant) = IsOfStation common meant
 SaysOfStation common (Receipt nr) = Unit {0}
 SaysOfStation common (Function signal) = Unit {0}
 

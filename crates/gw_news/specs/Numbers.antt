@@ -1,25 +1,19 @@
 -- The sequence numbers of each client's connection (IEC 60870-5-104, 5.1), by what was taken and what was put out since
 -- the client came up.
-use Rattle.std.specs.Prelude.{◌≡◌, ℕ, ◌+◌, ◌%◌, ◌<◌, ◌≤◌, true, List, [], ◌∷◌, Result, Ok, IfSome}
+use Rattle.std.specs.Prelude.{◌≡◌, ℕ, ◌+◌, ◌%◌, ◌<◌, ◌≤◌, List, [], ◌∷◌, IfSome}
 use Rattle.gw_map.specs.Settings.{Setup}
 use Rattle.iec_apci.specs.declared.apdu.Apdu.{Apdu}
 use Rattle.iec_apci.specs.declared.apdu.Apdu.TheVariants.{I, S, U}
-use Rattle.gw_steps.specs.declared.step.Step.{Step}
-use Rattle.gw_steps.specs.declared.step.Step.TheVariants as steps
-use Rattle.gw_steps.specs.declared.step.Reply.{Reply}
-use Rattle.gw_steps.specs.declared.step.Reply.TheVariants as replies
-use Rattle.gw_steps.specs.declared.step.StepFault.{StepFault}
 use Rattle.gw_steps.specs.Runs.{Entry}
 use Rattle.gw_steps.specs.Said.{Said, Numbered, Receipt, Function}
 use Rattle.gw_news.specs.Turns.{Turn, Idle, Connects, Takes, Ends, PutsOut, Garbles, turn_of}
-use Rattle.gw_news.specs.Sessions.{is_started}
 use Rattle.gw_news.specs.News.{client_at}
 
 -- ---- what was taken and put out
 
 -- one more, where it is an I format
 abbrev pub sent_with : Said → ℕ → ℕ
-sent_with (Numbered ns nr asdu) n = n + 1
+sent_with (Numbered ns nr meant) n = n + 1
 sent_with (Receipt nr) n = n
 sent_with (Function signal) n = n
 
@@ -94,22 +88,11 @@ pub record IsRightReceive (setup : Setup) (c : ℕ) (past : List Entry) (nr : �
   pub named : Names nr (sent_to setup c past) count
   pub not_fewer : acknowledged ≤ count
 
--- an I format is right in a session, with N(S) the number of those taken, a right N(R) and a whole header of an ASDU;
--- an S format with a right N(R)
-abbrev pub IsRight : Setup → ℕ → List Entry → Apdu → Type 0
-IsRight setup c past (I ns nr asdu) =
-    (is_started setup c past ≡ true)
-    × (ns ≡ taken_from setup c past % 32768)
-    × IsRightReceive setup c past nr
-    × (6 ≤ asdu.len)
-IsRight setup c past (S nr) = IsRightReceive setup c past nr
-IsRight setup c past (U signal) = Unit {0}
-
 -- ---- what holds of a place
 
 -- what is put out behind so many I formats, where so many were taken; and it is an APDU
 abbrev pub SaysNumbers : ℕ → ℕ → Said → Type 0
-SaysNumbers sent taken (Numbered ns nr asdu) = (ns ≡ sent % 32768) × (nr ≡ taken % 32768)
+SaysNumbers sent taken (Numbered ns nr meant) = (ns ≡ sent % 32768) × (nr ≡ taken % 32768)
 SaysNumbers sent taken (Receipt nr) = nr ≡ taken % 32768
 SaysNumbers sent taken (Function signal) = Unit {0}
 
@@ -121,27 +104,10 @@ HasNumbers sent taken Ends = Unit {0}
 HasNumbers sent taken (PutsOut said) = SaysNumbers sent taken said
 HasNumbers sent taken Garbles = ⊥
 
--- an I or S format that isn't right
-abbrev pub IsWrong : Setup → ℕ → List Entry → Apdu → Type 0
-IsWrong setup c past (I ns nr asdu) = IsRight setup c past (I ns nr asdu) → ⊥
-IsWrong setup c past (S nr) = IsRight setup c past (S nr) → ⊥
-IsWrong setup c past (U signal) = Unit {0}
-
--- an I or S format is taken where it is right, and closes where it isn't
-abbrev pub JudgesBy : Setup → List Entry → Step → Result Reply StepFault → Type 0
-JudgesBy setup past (steps.Frame c apdu moment) (Ok replies.Taken) = IsRight setup c past apdu
-JudgesBy setup past (steps.Frame c apdu moment) (Ok (replies.Closed why)) = IsWrong setup c past apdu
-JudgesBy setup past (steps.Frame c apdu moment) (Ok _) = ⊥
-JudgesBy setup past _ _ = Unit {0}
-
--- what the last entry puts out to each client has the numbers of its place, and what it takes from it is right
-pub record NumbersBy (setup : Setup) (past : List Entry) (e : Entry) : Type 0 where
-  pub puts_out : (c : ℕ) → HasNumbers (sent_to setup c past) (taken_from setup c past) (turn_of setup c e)
-  pub judges : JudgesBy setup past e.step e.reply
-
+-- what the last entry puts out to each client has the numbers of its place
 abbrev pub NumbersLast : Setup → List Entry → Type 0
 NumbersLast setup [] = Unit {0}
-NumbersLast setup (e ∷ past) = NumbersBy setup past e
+NumbersLast setup (e ∷ past) = (c : ℕ) → HasNumbers (sent_to setup c past) (taken_from setup c past) (turn_of setup c e)
 
 pub record HasRightNumbers (setup : Setup) (past : List Entry) : Type 0 where
   pub last : NumbersLast setup past

@@ -1,12 +1,12 @@
 -- A client's session, from a STARTDT act to the next STOPDT act or the end of the connection: what came and what was
 -- put out in it.
-use Rattle.std.specs.Prelude.{ℕ, Bool, true, false, ◌&&◌, ◌==◌, List, [], ◌∷◌, ◌++◌, map, Option, Some, None, if◌then◌else◌}
+use Rattle.std.specs.Prelude.{ℕ, Bool, true, false, ◌&&◌, ◌==◌, List, [], ◌∷◌, ◌++◌, map, if◌then◌else◌}
 use Rattle.gw_model.specs.declared.observation.Observation.{Observation}
 use Rattle.gw_map.specs.Settings.{Setup}
 use Rattle.iec_apci.specs.declared.apdu.Apdu.{Apdu}
 use Rattle.iec_apci.specs.declared.apdu.Apdu.TheVariants.{U}
 use Rattle.iec_apci.specs.declared.apdu.Signal.TheVariants.{StartAct, StopAct}
-use Rattle.iec_asdu.specs.Asdu.{Asdu}
+use Rattle.gw_answers.specs.Meaning.{Meant, Tells, Commands, Unread}
 use Rattle.gw_steps.specs.Runs.{Entry}
 use Rattle.gw_steps.specs.Said.{Said, Numbered, Receipt, Function}
 use Rattle.gw_news.specs.Log.{log_of, news_of_entry}
@@ -31,13 +31,14 @@ is_started setup c [] = false
 is_started setup c (e ∷ past) = started_after (turn_of setup c e) (is_started setup c past)
 
 -- the observations of an ASDU of cause 3 (spontaneous) with the station's common address
-abbrev pub spontaneous_of : ℕ → Option Asdu → List Observation
-spontaneous_of common None = []
-spontaneous_of common (Some asdu) =
+abbrev pub spontaneous_of : ℕ → Meant → List Observation
+spontaneous_of common (Tells asdu) =
     if (asdu.cause == 3) && (asdu.common_address == common) then asdu.observations else []
+spontaneous_of common (Commands command) = []
+spontaneous_of common (Unread octets) = []
 
 abbrev pub spontaneous_in : ℕ → Said → List Observation
-spontaneous_in common (Numbered ns nr asdu) = spontaneous_of common asdu
+spontaneous_in common (Numbered ns nr meant) = spontaneous_of common meant
 spontaneous_in common (Receipt nr) = []
 spontaneous_in common (Function signal) = []
 
@@ -52,7 +53,7 @@ spontaneous_by common Garbles = []
 
 -- whether an I format is put out
 abbrev pub is_numbered : Said → Bool
-is_numbered (Numbered ns nr asdu) = true
+is_numbered (Numbered ns nr meant) = true
 is_numbered (Receipt nr) = false
 is_numbered (Function signal) = false
 

@@ -1,6 +1,6 @@
 -- What is shown can be sent: at first, and after a report and a loss.
-use Rattle.std.proofs.Common.{◌≡◌, ℕ, ℤ, zero, suc, Bool, true, false, cond, List, [], ◌∷◌, map, Option, Some, None, refl, sym, subst}
-use Rattle.std.specs.Prelude.{slice_get, IsTrue, IfSome}
+use Rattle.std.proofs.Common.{◌≡◌, ℕ, ℤ, zero, suc, Bool, true, false, cond, List, [], ◌∷◌, map, Option, Some, None, refl, sym, subst, arith}
+use Rattle.std.specs.Prelude.{pos, slice_get, IsTrue, IfSome}
 use Rattle.std.specs.List.{AllByRecursion}
 use Rattle.std.specs.Option.{option_to_list}
 use Rattle.gw_entries.specs.declared.row.Row.{Row}
@@ -10,7 +10,7 @@ use Rattle.gw_model.specs.declared.observation.Value.{Value}
 use Rattle.gw_model.specs.declared.observation.Value.TheVariants.{Single, Double, Scaled, Word, Total}
 use Rattle.gw_model.specs.declared.observation.Quality.{Quality}
 use Rattle.gw_model.specs.declared.observation.Observation.{Observation}
-use Rattle.gw_model.specs.Fit.{is_of_element, IsFit, IsInWindow}
+use Rattle.gw_model.specs.Fit.{is_of_element, HasWidth, IsFit, IsInWindow}
 use Rattle.gw_model.specs.Places.{change}
 use Rattle.gw_picture.specs.Opening.{opening, value_at_first, quality_at_first}
 use Rattle.gw_picture.specs.Picture.{without_time}
@@ -27,18 +27,29 @@ opening_element shows.Scaled = refl
 opening_element shows.Word = refl
 opening_element shows.Total = refl
 
+zero_fits : HasWidth (Scaled (pos 0))
+zero_fits = omega arith
+
+opening_width : (show : Show) → HasWidth (value_at_first show)
+opening_width shows.Single = tt
+opening_width shows.Double = tt
+opening_width shows.Scaled = zero_fits
+opening_width shows.Word = omega arith
+opening_width shows.Total = omega arith
+
 all_opening : (rows : List Row) → AllByRecursion IsShown (map opening rows)
 all_opening [] = tt
-all_opening (row ∷ rows) = (record { address = (row.from, row.to); element = opening_element row.show; untimed = refl }, all_opening rows)
+all_opening (row ∷ rows) = (record { address = (row.from, row.to); element = opening_element row.show; width = opening_width row.show; untimed = refl }, all_opening rows)
 
 pub opening_shown : (rows : List Row) (picture : List Observation) → picture ≡ map opening rows → AllByRecursion IsShown picture
 opening_shown rows picture e = subst (AllByRecursion IsShown) (sym e) (all_opening rows)
 
 -- ---- after a report
 
-pub image_shown : (offset : ℤ) (n : ℕ) (image : Observation) (picture : List Observation) → IsFit offset image → AllByRecursion IsShown picture
+pub image_shown : (offset : ℤ) (n : ℕ) (image : Observation) (picture : List Observation) → IsFit offset image → HasWidth image.value → AllByRecursion IsShown picture
     → AllByRecursion IsShown (change n (λ _. without_time image) picture)
-image_shown offset n image picture fit all = all_change IsShown n (without_time image) picture (record { address = fit.address; element = fit.element; untimed = refl }) all
+image_shown offset n image picture fit width all =
+    all_change IsShown n (without_time image) picture (record { address = fit.address; element = fit.element; width = width; untimed = refl }) all
 
 -- ---- after a loss
 
@@ -50,7 +61,7 @@ lost_element (Word word) q e = e
 lost_element (Total count) q e = e
 
 lost_shown : (x : Observation) → IsShown x → IsShown (lost x)
-lost_shown x is = record { address = is.address; element = lost_element x.value x.quality is.element; untimed = refl }
+lost_shown x is = record { address = is.address; element = lost_element x.value x.quality is.element; width = is.width; untimed = refl }
 
 row_shown : (outstation : ℕ) (row : Row) (x : Observation) → IsShown x → IsShown (shown_after_loss outstation row x)
 row_shown outstation row x is = go (is_lost_with outstation row x)
@@ -92,7 +103,7 @@ losses_shown outstation rows picture n all = both_losses outstation (slice_get r
 
 -- ---- what is shown can be sent, whatever the clocks
 
-shown_fit : (offset : ℤ) (x : Observation) → IsShown x → IsFit offset x
+pub shown_fit : (offset : ℤ) (x : Observation) → IsShown x → IsFit offset x
 shown_fit offset x is = record { address = is.address; element = is.element; stamp = subst (IsInWindow offset) (sym is.untimed) tt }
 
 option_fit : (offset : ℤ) (result : Option Observation) (xs : List Observation) → option_to_list result ≡ xs → AllByRecursion IsShown xs → IfSome result (IsFit offset)

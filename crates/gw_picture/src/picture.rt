@@ -1,10 +1,12 @@
 //! What was shown of each row last.
 ghost use Rattle.std.specs.Prelude.{◌≡◌, ℤ, length, map, IfOk, IfSome};
+ghost use Rattle.std.specs.List.{AllByRecursion};
 ghost use Rattle.std.specs.Option.{option_to_list};
 ghost use Rattle.gw_model.specs.Fit.{IsFit};
 ghost use Rattle.gw_picture.specs.Loss.{losses_at, losses_of, picture_losing_at};
 ghost use Rattle.gw_picture.specs.Picture.{news_of, news_of_report, picture_after_report};
 ghost use Rattle.gw_picture.specs.Opening.{opening};
+ghost use Rattle.gw_picture.specs.Shown.{IsShown};
 
 use crate::counting::count_news;
 use crate::losing::{count_losses, lose_at};
@@ -44,9 +46,10 @@ impl Picture {
         Ok(Picture { shown })
     }
 
-    /// What is shown, in the order of the rows.
+    /// What is shown, in the order of the rows: observations without time that an ASDU can carry.
     pub fn rows(&self) -> &[Observation]
-        ensures { result.now ≡ self.now }
+        ensures shown { result.now ≡ self.now }
+        ensures sendable { AllByRecursion IsShown self.now }
     {
         self.shown.as_slice()
     }

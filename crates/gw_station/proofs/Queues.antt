@@ -28,35 +28,41 @@ queue-nil : (limit : ℕ) (started : Bool) (queue : List Observation) → length
 queue-nil limit true queue few = ap (keep_last limit) (append-nil queue) ∙ kept_all limit queue few
 queue-nil limit false queue few = refl
 
-overflow-nil : (limit n : ℕ) (started : Bool) (queue : List Observation) → length queue ≤ limit → n + overflow [] limit started queue ≡ n
-overflow-nil limit n true queue few = omega (arith, length-append queue [], few)
-overflow-nil limit n false queue few = omega arith
+overflow-nil : (limit : ℕ) (started : Bool) (queue : List Observation) → length queue ≤ limit → overflow [] limit started queue ≡ 0
+overflow-nil limit true queue few = omega (arith, length-append queue [], few)
+overflow-nil limit false queue few = refl
 
 queue-twice : (limit : ℕ) (xs ys : List Observation) (started : Bool) (queue : List Observation)
     → queue_with ys limit started (queue_with xs limit started queue) ≡ queue_with (xs ++ ys) limit started queue
 queue-twice limit xs ys true queue = kept_on limit (queue ++ xs) ys ∙ ap (keep_last limit) (append_assoc queue xs ys)
 queue-twice limit xs ys false queue = refl
 
-overflow-twice : (limit n : ℕ) (xs ys : List Observation) (started : Bool) (queue : List Observation)
-    → n + overflow xs limit started queue + overflow ys limit started (queue_with xs limit started queue) ≡ n + overflow (xs ++ ys) limit started queue
-overflow-twice limit n xs ys true queue =
+overflow-twice : (limit : ℕ) (xs ys : List Observation) (started : Bool) (queue : List Observation)
+    → overflow xs limit started queue + overflow ys limit started (queue_with xs limit started queue) ≡ overflow (xs ++ ys) limit started queue
+overflow-twice limit xs ys true queue =
     let zs : List Observation = queue ++ xs in
     omega (arith, length-append queue xs, length-append (drop (length zs - limit) zs) ys, length-drop (length zs - limit) zs, length-append queue (xs ++ ys), length-append xs ys)
-overflow-twice limit n xs ys false queue = omega arith
+overflow-twice limit xs ys false queue = refl
 
-of_both : (c : Client) (queue more : List Observation) (n m : ℕ) → queue ≡ more → n ≡ m → record c { queue = queue; dropped = n } ≡ record c { queue = more; dropped = m }
-of_both c queue more n m eq en = rw (eq, en) refl
+of_all : (c : Client) (queue more : List Observation) (n m i j : ℕ) → queue ≡ more → n ≡ m → i ≡ j
+    → record c { queue = queue; dropped = n; older = i } ≡ record c { queue = more; dropped = m; older = j }
+of_all c queue more n m i j eq en ei = rw (eq, en, ei) refl
 
 -- no news change nothing
 pub came-nil : (c : Client) → length c.queue ≤ c.limit → client_with_news [] c ≡ c
 came-nil c few =
-    of_both c (queue_with [] c.limit (is_started c.stage) c.queue) c.queue (c.dropped + overflow [] c.limit (is_started c.stage) c.queue) c.dropped
-    (queue-nil c.limit (is_started c.stage) c.queue few) (overflow-nil c.limit c.dropped (is_started c.stage) c.queue few)
+    let started : Bool = is_started c.stage in
+    let none = overflow-nil c.limit started c.queue few in
+    of_all c (queue_with [] c.limit started c.queue) c.queue (c.dropped + overflow [] c.limit started c.queue) c.dropped (c.older - overflow [] c.limit started c.queue) c.older
+    (queue-nil c.limit started c.queue few) (omega (arith, none)) (omega (arith, none))
 
 -- some news, and then others
 pub came-twice : (xs ys : List Observation) (c : Client) → client_with_news ys (client_with_news xs c) ≡ client_with_news (xs ++ ys) c
 came-twice xs ys c =
-    of_both c (queue_with ys c.limit (is_started c.stage) (queue_with xs c.limit (is_started c.stage) c.queue)) (queue_with (xs ++ ys) c.limit (is_started c.stage) c.queue)
-    (c.dropped + overflow xs c.limit (is_started c.stage) c.queue + overflow ys c.limit (is_started c.stage) (queue_with xs c.limit (is_started c.stage) c.queue))
-    (c.dropped + overflow (xs ++ ys) c.limit (is_started c.stage) c.queue)
-    (queue-twice c.limit xs ys (is_started c.stage) c.queue) (overflow-twice c.limit c.dropped xs ys (is_started c.stage) c.queue)
+    let started : Bool = is_started c.stage in
+    let kept : List Observation = queue_with xs c.limit started c.queue in
+    let both = overflow-twice c.limit xs ys started c.queue in
+    of_all c (queue_with ys c.limit started kept) (queue_with (xs ++ ys) c.limit started c.queue)
+    (c.dropped + overflow xs c.limit started c.queue + overflow ys c.limit started kept) (c.dropped + overflow (xs ++ ys) c.limit started c.queue)
+    (c.older - overflow xs c.limit started c.queue - overflow ys c.limit started kept) (c.older - overflow (xs ++ ys) c.limit started c.queue)
+    (queue-twice c.limit xs ys started c.queue) (omega (arith, both)) (omega (arith, both))

@@ -7,6 +7,8 @@ use Rattle.iec_window.specs.declared.limits.Limits.{Limits}
 use Rattle.iec_window.specs.Counts.{Counts}
 use Rattle.iec_window.specs.Steps.{counts_at_start}
 use Rattle.iec_window.specs.Timers.{ran_out}
+use Rattle.gw_answers.specs.declared.answer.Answer.{Answer}
+use Rattle.gw_answers.specs.declared.answer.Part.{Part}
 use Rattle.gw_station.specs.declared.client.Stage.{Stage}
 use Rattle.gw_station.specs.declared.client.Stage.TheVariants.{Down, Stopped, Started}
 
@@ -18,9 +20,15 @@ pub record Client : Type 0 where
   pub confirmations : List Signal
   -- how many news may wait
   pub limit : ℕ
-  -- of a started client: the news that wait, oldest first, and how many were dropped
+  -- of a started client: the answers to its ASDUs that wait, oldest first
+  pub answers : List Answer
+  -- the news that wait, oldest first, and how many were dropped
   pub queue : List Observation
   pub dropped : ℕ
+  -- of the interrogation that is pending: how many of the queue came before it, and what is left of its answer; nothing
+  -- is left where none is pending
+  pub older : ℕ
+  pub rest : List Part
 
 abbrev pub is_up : Stage → Bool
 is_up Down = false
@@ -39,23 +47,25 @@ client_down limits limit = record {
   window = counts_at_start limits 0;
   confirmations = [];
   limit = limit;
+  answers = [];
   queue = [];
   dropped = 0;
+  older = 0;
+  rest = [];
 }
+
+-- at a stage, with nothing of a session
+abbrev pub client_anew : Stage → Client → Client
+client_anew stage c = record c { stage = stage; answers = []; queue = []; dropped = 0; older = 0; rest = [] }
 
 -- the client connected at a moment
 abbrev pub client_after_up : ℕ → Client → Client
-client_after_up moment c = record c {
-  stage = Stopped;
-  window = counts_at_start c.window.limits moment;
-  confirmations = [];
-  queue = [];
-  dropped = 0;
-}
+client_after_up moment c =
+    record (client_anew Stopped c) { window = counts_at_start c.window.limits moment; confirmations = [] }
 
 -- the connection is closed, or lost
 abbrev pub client_after_close : Client → Client
-client_after_close c = record c { stage = Down; queue = []; dropped = 0 }
+client_after_close c = client_anew Down c
 
 -- a queue to which news come keeps the last ones, and drops the others; there is one where the client is started
 abbrev pub queue_with : List Observation → ℕ → Bool → List Observation → List Observation
@@ -64,11 +74,12 @@ queue_with xs limit started queue = if started then keep_last limit (queue ++ xs
 abbrev pub overflow : List Observation → ℕ → Bool → List Observation → ℕ
 overflow xs limit started queue = if started then length (queue ++ xs) - limit else 0
 
--- news that come
+-- news that come: the oldest are dropped first
 abbrev pub client_with_news : List Observation → Client → Client
 client_with_news xs c = record c {
   queue = queue_with xs c.limit (is_started c.stage) c.queue;
   dropped = c.dropped + overflow xs c.limit (is_started c.stage) c.queue;
+  older = c.older - overflow xs c.limit (is_started c.stage) c.queue;
 }
 
 -- t1 has passed for a client that is up

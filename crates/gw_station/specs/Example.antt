@@ -9,6 +9,8 @@ use Rattle.iec_apci.specs.declared.apdu.Apdu.{Apdu}
 use Rattle.iec_apci.specs.declared.apdu.Apdu.TheVariants.{I, U}
 use Rattle.iec_apci.specs.declared.apdu.Signal.TheVariants.{StartAct, TestAct}
 use Rattle.iec_window.specs.Examples.{usual}
+use Rattle.gw_judge.specs.Example.{setup}
+use Rattle.gw_answers.specs.Example.{asdu_with, picture}
 use Rattle.gw_station.specs.Client.{Client, client_down, client_after_up, client_with_news}
 use Rattle.gw_station.specs.Frames.{client_after_apdu}
 use Rattle.gw_station.specs.Pump.{client_after_pump}
@@ -22,15 +24,23 @@ switched_on = record {
   stamp = Untimed;
 }
 
--- ASDUs of 5, of 6 and of 10 octets
+-- ASDUs of 5 and of 6 octets, of a type that isn't known
 abbrev pub cut : Asdu
-cut = record { octets = replicate 249 0; len = 5; fits = lit≤ tt }
+cut = asdu_with (0 ∷ 0 ∷ 0 ∷ 0 ∷ 0 ∷ []) (lit≤ tt)
 
 abbrev pub header_alone : Asdu
-header_alone = record { octets = replicate 249 0; len = 6; fits = lit≤ tt }
+header_alone = asdu_with (0 ∷ 0 ∷ 0 ∷ 0 ∷ 0 ∷ 0 ∷ []) (lit≤ tt)
 
+-- single-command 5001 is selected
 abbrev pub command : Asdu
-command = record { octets = replicate 249 0; len = 10; fits = lit≤ tt }
+command = asdu_with (0x2D ∷ 1 ∷ 6 ∷ 0 ∷ 1 ∷ 0 ∷ 0x89 ∷ 0x13 ∷ 0 ∷ 0x81 ∷ []) (lit≤ tt)
+
+-- the station interrogation, and a read of 4101
+abbrev pub interrogation : Asdu
+interrogation = asdu_with (0x64 ∷ 1 ∷ 6 ∷ 0 ∷ 1 ∷ 0 ∷ 0 ∷ 0 ∷ 0 ∷ 0x14 ∷ []) (lit≤ tt)
+
+abbrev pub reading : Asdu
+reading = asdu_with (0x66 ∷ 1 ∷ 5 ∷ 0 ∷ 1 ∷ 0 ∷ 5 ∷ 0x10 ∷ 0 ∷ []) (lit≤ tt)
 
 -- k = 2 and w = 2
 abbrev pub narrow : Client
@@ -42,7 +52,7 @@ connected = client_after_up 0 (client_down usual 1000)
 -- these came at a moment, the first one first
 abbrev pub taking : ℕ → List Apdu → Client → Client
 taking moment [] c = c
-taking moment (apdu ∷ more) c = taking moment more (client_after_apdu moment apdu c)
+taking moment (apdu ∷ more) c = taking moment more (client_after_apdu setup picture moment apdu c)
 
 -- so many pumps at a moment
 abbrev pub pumped : ℕ → ℕ → Client → Client
@@ -75,3 +85,22 @@ narrow_full =
 -- so many TESTFR acts came
 abbrev pub tested : ℕ → Client → Client
 tested n c = taking 0 (replicate n (U TestAct)) c
+
+-- these were read, one after the other
+abbrev pub reads : ℕ → Client → Client
+reads zero c = c
+reads (suc n) c = client_after_apdu setup picture 0 (I n 0 reading) (reads n c)
+
+-- single-command 5001 is executed
+abbrev pub execute : Asdu
+execute = asdu_with (0x2D ∷ 1 ∷ 6 ∷ 0 ∷ 1 ∷ 0 ∷ 0x89 ∷ 0x13 ∷ 0 ∷ 1 ∷ []) (lit≤ tt)
+
+-- an interrogation came at moment 0
+abbrev pub interrogated : Client → Client
+interrogated c = taking 0 (I 0 0 interrogation ∷ []) c
+
+-- of two news that may wait both came before an interrogation, and a third one behind it
+abbrev pub pushed_out : Client
+pushed_out =
+    client_with_news (switched_on ∷ [])
+    (interrogated (client_with_news (switched_on ∷ switched_off ∷ []) (started_from (client_down usual 2))))

@@ -1,21 +1,43 @@
--- What every client's part keeps: what is queued can be sent, no more waits than may, and the counts of steps and of news
--- are no fewer than its I formats and what it dropped.
+-- What every client's part keeps: what waits can be sent, no more waits than may, and the counts of steps and of news are
+-- no fewer than its I formats and what it dropped.
 use Rattle.std.specs.Prelude.{ℕ, ℤ, ◌+◌, ◌^◌, ◌<◌, ◌≤◌, length}
 use Rattle.std.specs.List.{AllByRecursion}
-use Rattle.gw_model.specs.declared.observation.Observation.{Observation}
-use Rattle.gw_model.specs.Fit.{IsFit}
-use Rattle.iec_asdu.specs.Spelling.{HasWidth}
+use Rattle.iec_command.specs.Commands.{IsWhole}
 use Rattle.iec_window.specs.Counts.{sent_in_all}
+use Rattle.gw_answers.specs.Octets.{IsReturnable}
+use Rattle.gw_answers.specs.Meaning.{CanSendAnswer, CanSendPart, IsSendable}
+use Rattle.gw_station.specs.declared.event.Event.{Event}
+use Rattle.gw_station.specs.declared.event.Event.TheVariants as events
+use Rattle.gw_station.specs.declared.sending.Sending.{Sending}
+use Rattle.gw_station.specs.declared.sending.Sending.TheVariants as sendings
 use Rattle.gw_station.specs.Client.{Client}
 
--- an ASDU can carry the observation: it is fit, and its number has its element's width
-pub record IsSendable (offset : ℤ) (x : Observation) : Type 0 where
-  pub fit : IsFit offset x
-  pub width : HasWidth x.value
+-- what is put out can be spelled
+abbrev pub IsReturnableSending : Sending → Type 0
+IsReturnableSending (sendings.Answer answer) = IsReturnable answer
+IsReturnableSending _ = Unit {0}
+
+-- what is put out can be sent: U and S formats always can
+abbrev pub CanSend : ℤ → Sending → Type 0
+CanSend offset (sendings.Answer answer) = CanSendAnswer offset answer
+CanSend offset (sendings.News x) = IsSendable offset x
+CanSend offset (sendings.Part part) = CanSendPart offset part
+CanSend offset _ = Unit {0}
+
+-- a command that an APDU carried has the bits of its places
+abbrev pub IsWholeEvent : Event → Type 0
+IsWholeEvent (events.Command command) = IsWhole command
+IsWholeEvent _ = Unit {0}
+
+-- what answers the client can be sent
+abbrev pub CanAnswer : ℤ → Client → Type 0
+CanAnswer offset c = AllByRecursion (CanSendAnswer offset) c.answers × AllByRecursion (CanSendPart offset) c.rest
 
 -- after so many steps and news
 pub record IsSoundClient (offset : ℤ) (steps news : ℕ) (c : Client) : Type 0 where
   pub sendable : AllByRecursion (IsSendable offset) c.queue
+  pub answers : AllByRecursion (CanSendAnswer offset) c.answers
+  pub rest : AllByRecursion (CanSendPart offset) c.rest
   pub few : length c.queue ≤ c.limit
   pub dropped : c.dropped ≤ news
   pub received : c.window.received ≤ steps

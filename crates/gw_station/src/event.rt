@@ -1,5 +1,7 @@
 //! What becomes of an APDU.
 
+use iec_command::Command;
+
 /// Why a client's connection is closed (IEC 60870-5-104, 5.1 to 5.3).
 #[derive(Clone, Copy, Debug, PartialEq, Eq)]
 pub enum Why {
@@ -7,9 +9,9 @@ pub enum Why {
     Sequence = 1,
     /// An I format came, and data transfer isn't started.
     NotStarted = 2,
-    /// The ASDU is shorter than its header.
+    /// The ASDU is shorter than its header, or has a known type and a wrong count, SQ or length.
     Malformed = 3,
-    /// 32 confirmations wait already.
+    /// 32 confirmations or 32 answers wait already.
     Flooded = 4,
     /// t1 has passed.
     Timer = 5,
@@ -20,6 +22,17 @@ pub enum Why {
 pub enum Event {
     /// It was taken.
     Taken,
+    /// It was taken, and carries a command for a control, which is to be answered.
+    Command(Command),
     /// The client's connection is closed.
     Closed(Why),
+}
+
+/// What is said of a command.
+#[derive(Clone, Copy, Debug, PartialEq, Eq)]
+pub enum Said {
+    /// Its activation or deactivation is confirmed.
+    Confirm,
+    /// It is confirmed negatively.
+    Negative,
 }

@@ -10,7 +10,8 @@ ghost use Rattle.gw_station.specs.declared.event.Why.TheVariants.{Flooded, Malfo
 ghost use Rattle.gw_station.specs.Client.{client_after_close, client_after_tick, client_after_up, client_down, client_with_news, is_timed_out};
 ghost use Rattle.gw_station.specs.Frames.{begins, client_after_apdu, close_of, event_of};
 ghost use Rattle.gw_station.specs.Pump.{given};
-ghost use Rattle.gw_station.specs.Example.{command, connected, cut, header_alone, narrow, narrow_full, overflown, pumped, started, started_from, switched_off, switched_on, taking, tested, waiting};
+ghost use Rattle.gw_judge.specs.Example.{setup};
+ghost use Rattle.gw_station.specs.Example.{command, connected, cut, execute, header_alone, interrogated, interrogation, reading, reads, pushed_out, narrow, narrow_full, overflown, pumped, started, started_from, switched_off, switched_on, taking, tested, waiting};
 
 /// STARTDT, STOPDT and TESTFR.
 pub fn control_functions()
@@ -40,9 +41,9 @@ pub fn control_functions()
     // Confirmations from the client are taken, and change nothing but t3.
     ensures ignored { (taking 0 (U StartCon ∷ U StopCon ∷ U TestCon ∷ []) started) ≡ started }
     // 32 confirmations may wait.
-    ensures most { event_of (U TestAct) (tested 31 started) ≡ Taken }
-    ensures flooded { event_of (U TestAct) (tested 32 started) ≡ Closed Flooded }
-    ensures not_flooded { event_of (U TestCon) (tested 32 started) ≡ Taken }
+    ensures most { event_of setup (U TestAct) (tested 31 started) ≡ Taken }
+    ensures flooded { event_of setup (U TestAct) (tested 32 started) ≡ Closed Flooded }
+    ensures not_flooded { event_of setup (U TestCon) (tested 32 started) ≡ Taken }
     ensures closed { (tested 33 started).stage ≡ Down }
 {}
 
@@ -62,6 +63,7 @@ pub fn overflows()
 {}
 
 /// I and S formats.
+#[tactic(auto, unfolding(iec_command::specs::Commands::command_of))]
 pub fn numbered_formats()
     // News with N(S) 0, then 1; N(R) counts what came.
     ensures news { given (pos 0) 1 0 waiting
@@ -70,20 +72,21 @@ pub fn numbered_formats()
         (taking 0 (I 0 1 command ∷ []) (client_with_news (switched_on ∷ []) (pumped 0 1 waiting)))
         ≡ Some (Information 1 1 (1 ∷ 1 ∷ 3 ∷ 0 ∷ 1 ∷ 0 ∷ 0x05 ∷ 0x10 ∷ 0 ∷ 1 ∷ [])) }
     // An I format closes: without a session; with a wrong number; with fewer than 6 octets. In that order.
-    ensures first { close_of (I 1 1 cut) connected ≡ Some NotStarted }
-    ensures second { close_of (I 1 0 cut) started ≡ Some Sequence }
-    ensures second_receive { close_of (I 0 1 cut) started ≡ Some Sequence }
-    ensures third { close_of (I 0 0 cut) started ≡ Some Malformed }
-    ensures none { close_of (I 0 0 header_alone) started ≡ None }
-    ensures repeated { close_of (I 0 0 header_alone) (taking 0 (I 0 0 header_alone ∷ []) started) ≡ Some Sequence }
+    ensures first { close_of setup (I 1 1 cut) connected ≡ Some NotStarted }
+    ensures second { close_of setup (I 1 0 cut) started ≡ Some Sequence }
+    ensures second_receive { close_of setup (I 0 1 cut) started ≡ Some Sequence }
+    ensures third { close_of setup (I 0 0 cut) started ≡ Some Malformed }
+    ensures none { close_of setup (I 0 0 header_alone) started ≡ None }
+    ensures repeated { close_of setup (I 0 0 header_alone) (taking 0 (I 0 0 header_alone ∷ []) started) ≡ Some Sequence }
     // An S format is judged by its number alone, started or not.
-    ensures receipt { close_of (S 0) connected ≡ None }
-    ensures beyond { close_of (S 1) connected ≡ Some Sequence }
-    ensures acknowledged { close_of (S 1) (pumped 0 1 waiting) ≡ None }
+    ensures receipt { close_of setup (S 0) connected ≡ None }
+    ensures beyond { close_of setup (S 1) connected ≡ Some Sequence }
+    ensures acknowledged { close_of setup (S 1) (pumped 0 1 waiting) ≡ None }
     ensures closes { taking 0 (S 1 ∷ []) started ≡ client_after_close started }
 {}
 
 /// The windows k and w, and the timers.
+#[tactic(auto, unfolding(iec_command::specs::Commands::command_of))]
 pub fn windows_and_timers()
     // t3: TESTFR act once, before news; t1 runs from it, and ends by its confirmation.
     ensures quiet { given (pos 0) 1 19999 started ≡ None }
@@ -105,4 +108,57 @@ pub fn windows_and_timers()
     ensures runs_out { map (λ moment. is_timed_out moment narrow_full) (14999 ∷ 15000 ∷ []) ≡ false ∷ true ∷ [] }
     // A connection begins with nothing of the one before.
     ensures anew { client_after_up 0 (client_after_close narrow_full) ≡ client_after_up 0 narrow }
+{}
+
+/// The answer to an interrogation, with N(R) 1: confirmation, rows, termination.
+#[tactic(auto, unfolding(iec_command::specs::Commands::command_of))]
+pub fn interrogations()
+    ensures confirmation { given (pos 0) 1 0 (interrogated started)
+        ≡ Some (Information 0 1 (0x64 ∷ 1 ∷ 7 ∷ 0 ∷ 1 ∷ 0 ∷ 0 ∷ 0 ∷ 0 ∷ 0x14 ∷ [])) }
+    ensures first_row { given (pos 0) 1 0 (pumped 0 1 (interrogated started))
+        ≡ Some (Information 1 1 (1 ∷ 1 ∷ 0x14 ∷ 0 ∷ 1 ∷ 0 ∷ 5 ∷ 0x10 ∷ 0 ∷ 0xC0 ∷ [])) }
+    ensures second_row { given (pos 0) 1 0 (pumped 0 2 (interrogated started))
+        ≡ Some (Information 2 1 (0x0B ∷ 1 ∷ 0x14 ∷ 0 ∷ 1 ∷ 0 ∷ 0x69 ∷ 0x10 ∷ 0 ∷ 0 ∷ 0 ∷ 0xC0 ∷ [])) }
+    ensures termination { given (pos 0) 1 0 (pumped 0 3 (interrogated started))
+        ≡ Some (Information 3 1 (0x64 ∷ 1 ∷ 0x0A ∷ 0 ∷ 1 ∷ 0 ∷ 0 ∷ 0 ∷ 0 ∷ 0x14 ∷ [])) }
+    ensures nothing { given (pos 0) 1 0 (pumped 0 4 (interrogated started)) ≡ None }
+    // A second one is refused, before the parts that are left; behind the termination it is accepted.
+    ensures second { given (pos 0) 1 0 (taking 0 (I 1 1 interrogation ∷ []) (pumped 0 1 (interrogated started)))
+        ≡ Some (Information 1 2 (0x64 ∷ 1 ∷ 0x47 ∷ 0 ∷ 1 ∷ 0 ∷ 0 ∷ 0 ∷ 0 ∷ 0x14 ∷ [])) }
+    ensures again { given (pos 0) 1 0 (taking 0 (I 1 4 interrogation ∷ []) (pumped 0 4 (interrogated started)))
+        ≡ Some (Information 4 2 (0x64 ∷ 1 ∷ 7 ∷ 0 ∷ 1 ∷ 0 ∷ 0 ∷ 0 ∷ 0 ∷ 0x14 ∷ [])) }
+    // News that came before it come first, later ones last.
+    ensures older_first { given (pos 0) 1 0 (client_with_news (switched_off ∷ []) (interrogated waiting))
+        ≡ Some (Information 0 1 (1 ∷ 1 ∷ 3 ∷ 0 ∷ 1 ∷ 0 ∷ 5 ∷ 0x10 ∷ 0 ∷ 1 ∷ [])) }
+    ensures then_answer { given (pos 0) 1 0 (pumped 0 1 (client_with_news (switched_off ∷ []) (interrogated waiting)))
+        ≡ Some (Information 1 1 (0x64 ∷ 1 ∷ 7 ∷ 0 ∷ 1 ∷ 0 ∷ 0 ∷ 0 ∷ 0 ∷ 0x14 ∷ [])) }
+    ensures later_last { given (pos 0) 1 0 (pumped 0 5 (client_with_news (switched_off ∷ []) (interrogated waiting)))
+        ≡ Some (Information 5 1 (1 ∷ 1 ∷ 3 ∷ 0 ∷ 1 ∷ 0 ∷ 5 ∷ 0x10 ∷ 0 ∷ 0 ∷ [])) }
+    // Of two older ones the first was pushed out.
+    ensures pushed_out { given (pos 0) 1 0 pushed_out
+        ≡ Some (Information 0 1 (1 ∷ 1 ∷ 3 ∷ 0 ∷ 1 ∷ 0 ∷ 5 ∷ 0x10 ∷ 0 ∷ 0 ∷ [])) }
+    ensures not_another { given (pos 0) 1 0 (pumped 0 1 pushed_out)
+        ≡ Some (Information 1 1 (0x64 ∷ 1 ∷ 7 ∷ 0 ∷ 1 ∷ 0 ∷ 0 ∷ 0 ∷ 0 ∷ 0x14 ∷ [])) }
+    // STOPDT ends it.
+    ensures stopped { (taking 0 (U StopAct ∷ []) (interrogated started)).rest ≡ [] }
+    ensures closed { (client_after_close (interrogated started)).rest ≡ [] }
+{}
+
+/// Reads and commands, and the places for their answers.
+#[tactic(auto, unfolding(iec_command::specs::Commands::command_of))]
+pub fn answers()
+    // A read is answered before older news and before the answer to an interrogation.
+    ensures read { given (pos 0) 1 0 (taking 0 (I 1 0 reading ∷ []) (interrogated waiting))
+        ≡ Some (Information 0 2 (1 ∷ 1 ∷ 5 ∷ 0 ∷ 1 ∷ 0 ∷ 5 ∷ 0x10 ∷ 0 ∷ 0xC0 ∷ [])) }
+    // 32 may wait; an interrogation wants no place, a command to be executed two.
+    ensures most { event_of setup (I 31 0 reading) (reads 31 started) ≡ Taken }
+    ensures flooded { event_of setup (I 32 0 reading) (reads 32 started) ≡ Closed Flooded }
+    ensures interrogation { event_of setup (I 32 0 interrogation) (reads 32 started) ≡ Taken }
+    ensures execute { close_of setup (I 30 0 execute) (reads 30 started) ≡ None }
+    ensures execute_flooded { event_of setup (I 31 0 execute) (reads 31 started) ≡ Closed Flooded }
+    ensures select { close_of setup (I 31 0 command) (reads 31 started) ≡ None }
+    // A command waits for what is said of it.
+    ensures waits { (taking 0 (I 0 0 command ∷ []) started).answers ≡ [] }
+    // STOPDT leaves no answer.
+    ensures stopped { (taking 0 (U StopAct ∷ []) (reads 2 started)).answers ≡ [] }
 {}

@@ -1,15 +1,16 @@
-//! The controlled station's part of the core: what is known of one client of IEC 60870-5-104, and what is put out to it.
+//! The controlled station's part for one client of IEC 60870-5-104, with the answers to its ASDUs: interrogations, reads,
+//! what is unknown, and what is said of commands. It takes the place of `gw_station` once the steps of the core go over
+//! to it.
 #![tactic(auto)]
 
-mod apdu;
 mod client;
 mod event;
 pub mod examples;
+pub mod laws;
 mod sending;
 mod station;
 
-pub use apdu::news_format;
 pub use client::Stage;
-pub use event::{Event, Why};
+pub use event::{Event, Said, Why};
 pub use sending::Sending;
-pub use station::{Face, Station};
+pub use station::Station;

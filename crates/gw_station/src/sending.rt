@@ -1,5 +1,6 @@
 //! What can be put out to a client.
 
+use gw_answers::{Answer, Part};
 use gw_model::Observation;
 use iec_apci::Signal;
 
@@ -10,8 +11,12 @@ pub enum Sending {
     Confirm(Signal),
     /// TESTFR act: t3 has passed.
     Test,
+    /// The answer to an ASDU of the client, in I format.
+    Answer(Answer),
     /// The oldest news, in I format.
     News(Observation),
+    /// A part of the answer to an interrogation, in I format.
+    Part(Part),
     /// An S format: w I formats were received, or t2 has passed.
     Receipt,
 }

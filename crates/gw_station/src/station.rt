@@ -1,23 +1,38 @@
 //! What is known of one client.
-ghost use Rattle.std.specs.Prelude.{◌≡◌, ◌<◌, ◌+◌, ◌^◌, ℕ, true, [], ◌∷◌, length, nat_le, option_map, false, None, IfOk, IfSome, OnErr, OnOk};
+ghost use Rattle.std.specs.Prelude.{◌≡◌, ◌<◌, ◌-◌, ◌+◌, ◌^◌, ℕ, ℤ, true, false, None, [], ◌∷◌, drop, length, nat_le, option_map, slice_get, take, IfOk, IfSome, OnErr, OnOk};
+ghost use Rattle.std.specs.List.{AllByRecursion};
+ghost use Rattle.iec_apci.specs.Apdu.{Information};
 ghost use Rattle.iec_apci.specs.Buffer.{buffer_of};
 ghost use Rattle.iec_window.specs.Counts.{sent_in_all};
-ghost use Rattle.gw_station.specs.Client.{client_after_close, client_after_tick, client_after_up, client_down, client_with_news, is_started, is_timed_out, is_up};
-ghost use Rattle.gw_station.specs.Frames.{begins, client_after_apdu, client_taking, client_with_session, client_with_signal, close_of, event_of};
-ghost use Rattle.gw_station.specs.Pump.{client_after_pump, client_with_sent, content_of, given, news_offered, offered, IsRoomy};
-ghost use Rattle.gw_station.specs.Sound.{CanTake};
+ghost use Rattle.iec_window.specs.Sequence.{receive_number, send_number};
+ghost use Rattle.iec_window.specs.Steps.{counts_after_sending_i};
+ghost use Rattle.gw_station.specs.Answers.{client_judging, client_told, is_asking, is_pending};
+ghost use Rattle.gw_station.specs.Client.{client_after_close, client_after_tick, client_after_up, client_anew, client_down, client_with_news, is_started, is_timed_out, is_up};
+ghost use Rattle.gw_station.specs.Frames.{asks, begins, client_after_apdu, client_with_session, client_with_signal, closes_judged, event_of, floods, given_command, overfills, wants_memory, HasPlace};
+ghost use Rattle.gw_station.specs.Kept.{items_in, IsQueue};
+ghost use Rattle.gw_station.specs.Pump.{client_after_pump, client_with_sent, content_of, given, information_offered, line, offered, IsRoomy};
+ghost use Rattle.gw_station.specs.Sound.{CanAnswer, CanTake, IsReturnableSending, IsWholeEvent};
+ghost use Rattle.gw_answers.specs.Meaning.{IsSendable};
+ghost use Rattle.gw_answers.specs.Octets.{IsReturnable};
+ghost use Rattle.gw_model.specs.First.{first_of};
+ghost use Rattle.gw_station.specs.declared.event.Event.TheVariants as events;
 ghost use Rattle.iec_apci.specs.declared.apdu.Apdu.TheVariants as formats;
 ghost use Rattle.iec_apci.specs.declared.apdu.Signal.TheVariants as signals;
-ghost use Rattle.gw_station.specs.declared.sending.Sending.TheVariants as sendings;
 
-use crate::apdu::news_format;
 use crate::client::Stage;
-use crate::event::{Event, Why};
+use crate::event::{Event, Said, Why};
 use crate::sending::Sending;
 use circular_buffer::HeapCircularBuffer;
+use gw_answers::{
+    Answer, Part, answer_asdu, answer_to, answered, command_by, is_accepted_act, observation_asdu,
+    part_asdu, places_for,
+};
+use gw_judge::{Judged, judge};
+use gw_map::Settings;
 use gw_model::{Memory, Observation};
-use gw_time::Zone;
 use iec_apci::{Apdu, ApduBuf, Asdu, Signal};
+use iec_asdu::SPONTANEOUS;
+use iec_command::Command;
 use iec_window::{Limits, Window};
 use std::alloc::Global;
 use std::collections::VecDeque;
@@ -26,17 +41,8 @@ use std::marker::Model;
 /// How many confirmations of U formats may wait.
 const MOST_CONFIRMATIONS: usize = 32;
 
-/// How many octets the header of an ASDU has, which is the least that an I format carries (IEC 60870-5-101, 7.1).
-const HEADER_OCTETS: u8 = 6;
-
-/// What the station shows to every client.
-#[derive(Clone, Copy, Debug, PartialEq, Eq)]
-pub struct Face {
-    /// The common address of its ASDUs.
-    pub common_address: u16,
-    /// Its clocks.
-    pub zone: Zone,
-}
+/// How many answers may wait.
+const MOST_ANSWERS: usize = 32;
 
 /// A client's connection, and what is to be put out to it.
 #[derive(Debug, Drop)]
@@ -46,12 +52,18 @@ pub struct Station {
     window: Window,
     /// Confirmations of U formats that wait, oldest first.
     confirmations: VecDeque<Signal>,
+    /// The answers to its ASDUs that wait, oldest first.
+    answers: VecDeque<Answer>,
     /// How many news may wait.
     limit: usize,
     /// In a session: the news that aren't put out yet, oldest first.
     queue: Option<HeapCircularBuffer<Observation>>,
     /// How many news of the session were dropped.
     dropped: u64,
+    /// How many of the queue came before the interrogation that is pending.
+    older: usize,
+    /// What is left of its answer.
+    rest: VecDeque<Part>,
 }
 
 impl Model for Station {
@@ -67,12 +79,16 @@ impl Model for Station {
       window = s.window;
       confirmations = s.confirmations.items;
       limit = s.limit;
+      answers = s.answers.items;
       queue = items_in s.queue;
       dropped = s.dropped;
+      older = s.older;
+      rest = s.rest.items;
     } };
 
-    // There is room for 32 confirmations, and in a session for the news that may wait.
+    // There is room for 32 confirmations and 32 answers, and in a session for the news that may wait.
     ghost invariant = { λ s. (length s.confirmations.items ≤ 32) × (32 ≤ deque_capacity s.confirmations)
+        × (length s.answers.items ≤ 32) × (32 ≤ deque_capacity s.answers)
         × IsQueue s.limit s.stage s.queue };
 }
 
@@ -84,14 +100,18 @@ impl Station {
     {
         let window = Window::new(alloc, limits.k, limits.w, limits.t1, limits.t2, limits.t3)?;
         let confirmations = VecDeque::with_capacity(alloc, MOST_CONFIRMATIONS)?;
+        let answers = VecDeque::with_capacity(alloc, MOST_ANSWERS)?;
         Ok(Station {
             alloc,
             stage: Stage::Down,
             window,
             confirmations,
+            answers,
             limit: limit as usize,
             queue: None,
             dropped: 0,
+            older: 0,
+            rest: VecDeque::new(alloc),
         })
     }
 
@@ -123,20 +143,30 @@ impl Station {
     pub fn up(&mut self, moment: u64)
         ensures { self.new ≡ client_after_up moment self.old }
     {
-        self.stage = Stage::Stopped;
+        self.begin_at(Stage::Stopped, None);
         self.window.begin(moment);
         self.confirmations.clear();
-        self.queue = None;
-        self.dropped = 0;
     }
 
     /// The connection is closed, or lost.
     pub fn down(&mut self)
         ensures { self.new ≡ client_after_close self.old }
     {
-        self.stage = Stage::Down;
-        self.queue = None;
+        self.begin_at(Stage::Down, None);
+    }
+
+    /// Stands at a stage, with this queue and nothing else of a session.
+    fn begin_at(&mut self, stage: Stage, queue: Option<HeapCircularBuffer<Observation>>)
+        requires made { IsQueue self.old.limit stage queue }
+        requires empty { items_in queue ≡ [] }
+        ensures { self.new ≡ client_anew stage self.old }
+    {
+        self.stage = stage;
+        self.queue = queue;
+        self.answers.clear();
         self.dropped = 0;
+        self.older = 0;
+        self.rest = VecDeque::new(self.alloc);
     }
 
     /// Whether a session would begin by an APDU.
@@ -149,21 +179,84 @@ impl Station {
         }
     }
 
-    /// Takes an APDU that came at a moment, or closes the connection. Of an I format only the numbers are acted on
-    /// so far. Memory is wanted for the queue of a session that begins.
-    pub fn frame(&mut self, apdu: &Apdu, moment: u64) -> Result<Event, Memory>
+    /// The command for a control that `frame` would give for an APDU, if it would.
+    pub fn gives(&self, apdu: &Apdu, settings: &Settings) -> Option<Command>
+        ensures { result ≡ given_command settings.now apdu.now self.now }
+    {
+        match apdu {
+            Apdu::I { ns, nr, asdu } => {
+                let judged = judge(asdu.as_slice(), settings);
+                match self.close_by_information(*ns, *nr, &judged) {
+                    Some(_) => None,
+                    None => command_by(&judged),
+                }
+            }
+            _ => None,
+        }
+    }
+
+    /// Takes an APDU that came at a moment, or closes the connection. `picture` is what is shown of each row of
+    /// `settings`. Memory is wanted for the queue of a session that begins, and for the answer to an interrogation that
+    /// is accepted.
+    pub fn frame(
+        &mut self,
+        apdu: &Apdu,
+        moment: u64,
+        settings: &Settings,
+        picture: &[Observation],
+    ) -> Result<Event, Memory>
         requires { self.old.window.received + 1 < 2 ^ 64 }
-        ensures event { IfOk result (λ event. event ≡ event_of apdu.now self.old) }
-        ensures client { OnOk result (self.new ≡ client_after_apdu moment apdu.now self.old) }
-        ensures memory { OnErr result (begins apdu.now self.old ≡ true) }
+        ensures event { IfOk result (λ event. event ≡ event_of settings.now apdu.now self.old) }
+        ensures client { OnOk result
+            (self.new ≡ client_after_apdu settings.now picture.now moment apdu.now self.old) }
+        ensures place { IfOk result (λ event. HasPlace event self.new) }
+        // Its answers can be sent, where they could before, and the picture's observations can.
+        ensures sendable { (offset : ℤ) → AllByRecursion (IsSendable offset) picture.now → CanAnswer offset self.old
+            → OnOk result (CanAnswer offset self.new) }
+        // A command that is given has the bits of its places.
+        ensures whole { IfOk result (λ event. IsWholeEvent event) }
+        ensures memory { OnErr result (wants_memory settings.now apdu.now self.old ≡ true) }
         ensures same { OnErr result (self.new ≡ self.old) }
     {
-        if let Some(why) = self.close_by(apdu) {
-            self.down();
-            return Ok(Event::Closed(why));
+        match apdu {
+            Apdu::I { ns, nr, asdu } => {
+                self.take_information(*ns, *nr, asdu, moment, settings, picture)
+            }
+            Apdu::S { nr } => {
+                // A wrong number changes nothing.
+                if self.window.acknowledged(*nr, moment).is_err() {
+                    return Ok(self.close(Why::Sequence));
+                }
+                Ok(Event::Taken)
+            }
+            Apdu::U(signal) => {
+                if signal.confirmation().is_some() && self.is_full() {
+                    return Ok(self.close(Why::Flooded));
+                }
+                self.take_signal(*signal, moment)?;
+                Ok(Event::Taken)
+            }
         }
-        self.take(apdu, moment)?;
-        Ok(Event::Taken)
+    }
+
+    fn close(&mut self, why: Why) -> Event
+        ensures event { result ≡ events.Closed why }
+        ensures client { self.new ≡ client_after_close self.old }
+    {
+        self.down();
+        Event::Closed(why)
+    }
+
+    /// Says something of a command for a control that `frame` gave.
+    pub fn answer(&mut self, command: &Command, said: Said)
+        requires { length self.old.answers < 32 }
+        ensures { self.new ≡ client_told said command.now self.old }
+    {
+        let negative = said == Said::Negative;
+        self.answers.push_back_reserved(Answer::Confirmed {
+            command: *command,
+            negative,
+        });
     }
 
     /// Takes news: they join the queue of a started client, and the oldest are dropped where too many would wait.
@@ -175,21 +268,25 @@ impl Station {
         if let Some(queue) = &mut self.queue {
             if queue.is_full() {
                 self.dropped += 1;
+                self.older = self.older.saturating_sub(1);
             }
             queue.push_back(news);
         }
     }
 
-    /// The next APDU for the client at a moment: a confirmation that waits, TESTFR act where t3 has passed, the
-    /// oldest news where fewer than k I formats wait for their acknowledgement, an S format where one is due.
-    pub fn pump(&mut self, face: &Face, moment: u64) -> Option<ApduBuf>
-        requires { sent_in_all self.old.window + 1 < 2 ^ 64 }
-        ensures apdu { result
-            ≡ option_map buffer_of (given face.now.zone.offset_minutes face.now.common_address moment self.old) }
+    /// The next APDU for the client at a moment: a confirmation that waits; TESTFR act where t3 has passed; where a
+    /// session stands and fewer than k I formats wait for their acknowledgement, an answer to an ASDU, the oldest news
+    /// that came before the interrogation that is pending, the next part of its answer, or later news; an S format
+    /// where one is due.
+    pub fn pump(&mut self, settings: &Settings, moment: u64) -> Option<ApduBuf>
+        requires count { sent_in_all self.old.window + 1 < 2 ^ 64 }
+        requires answers { AllByRecursion IsReturnable self.old.answers }
+        ensures apdu { result ≡ option_map buffer_of
+            (given settings.now.station.offset_minutes settings.now.station.common_address moment self.old) }
         ensures client { self.new ≡ client_after_pump moment self.old }
     {
         let sending = self.offered(moment)?;
-        Some(self.send(sending, face, moment))
+        Some(self.send(sending, settings, moment))
     }
 
     /// Time has passed: whether the connection is closed, since t1 ran out.
@@ -217,31 +314,9 @@ impl Station {
         self.confirmations.len() >= MOST_CONFIRMATIONS
     }
 
-    /// Why an APDU closes the connection, if it does.
-    fn close_by(&self, apdu: &Apdu) -> Option<Why>
-        ensures { result ≡ close_of apdu.now self.now }
-    {
-        match apdu {
-            Apdu::I { ns, nr, asdu } => self.close_by_information(*ns, *nr, asdu),
-            Apdu::S { nr } => {
-                if self.window.is_right_receive(*nr) {
-                    None
-                } else {
-                    Some(Why::Sequence)
-                }
-            }
-            Apdu::U(signal) => {
-                if signal.confirmation().is_some() && self.is_full() {
-                    Some(Why::Flooded)
-                } else {
-                    None
-                }
-            }
-        }
-    }
-
-    fn close_by_information(&self, ns: u16, nr: u16, asdu: &Asdu) -> Option<Why>
-        ensures { result ≡ close_of (formats.I ns nr asdu.now) self.now }
+    /// Why an I format closes the connection, if it does.
+    fn close_by_information(&self, ns: u16, nr: u16, judged: &Judged) -> Option<Why>
+        ensures { result ≡ first_of (closes_judged ns nr judged.now self.now) }
     {
         if !self.is_started() {
             return Some(Why::NotStarted);
@@ -249,36 +324,90 @@ impl Station {
         if !(self.window.is_right_send(ns) && self.window.is_right_receive(nr)) {
             return Some(Why::Sequence);
         }
-        if asdu.len < HEADER_OCTETS {
+        if *judged == Judged::Malformed {
             return Some(Why::Malformed);
+        }
+        if self.answers.len() + places_for(judged, self.is_pending()) > MOST_ANSWERS {
+            return Some(Why::Flooded);
         }
         None
     }
 
-    /// Takes an APDU that doesn't close the connection.
-    fn take(&mut self, apdu: &Apdu, moment: u64) -> Result<(), Memory>
-        requires open { close_of apdu.now self.old ≡ None }
-        requires count { self.old.window.received + 1 < 2 ^ 64 }
-        ensures client { OnOk result (self.new ≡ client_taking moment apdu.now self.old) }
-        ensures memory { OnErr result (begins apdu.now self.old ≡ true) }
+    /// Whether an interrogation is pending: something is left of its answer.
+    fn is_pending(&self) -> bool
+        ensures { result ≡ is_pending self.now.rest }
+    {
+        !self.rest.is_empty()
+    }
+
+    /// Takes an I format, or closes the connection.
+    fn take_information(
+        &mut self,
+        ns: u16,
+        nr: u16,
+        asdu: &Asdu,
+        moment: u64,
+        settings: &Settings,
+        picture: &[Observation],
+    ) -> Result<Event, Memory>
+        requires { self.old.window.received + 1 < 2 ^ 64 }
+        ensures event { IfOk result (λ event. event ≡ event_of settings.now (formats.I ns nr asdu.now) self.old) }
+        ensures client { OnOk result
+            (self.new ≡ client_after_apdu settings.now picture.now moment (formats.I ns nr asdu.now) self.old) }
+        ensures place { IfOk result (λ event. HasPlace event self.new) }
+        // Its answers can be sent, where they could before, and the picture's observations can.
+        ensures sendable { (offset : ℤ) → AllByRecursion (IsSendable offset) picture.now → CanAnswer offset self.old
+            → OnOk result (CanAnswer offset self.new) }
+        // A command that is given has the bits of its places.
+        ensures whole { IfOk result (λ event. IsWholeEvent event) }
+        ensures memory { OnErr result (asks settings.now (formats.I ns nr asdu.now) self.old ≡ true) }
         ensures same { OnErr result (self.new ≡ self.old) }
     {
-        match apdu {
-            // Both numbers were judged before.
-            Apdu::I { ns, nr, .. } => {
-                let _ = self.window.received(*ns, *nr, moment);
+        let judged = judge(asdu.as_slice(), settings);
+        if let Some(why) = self.close_by_information(ns, nr, &judged) {
+            return Ok(self.close(why));
+        }
+        self.take_asdu(asdu, &judged, settings, picture)?;
+        // Both numbers were judged before.
+        let _ = self.window.received(ns, nr, moment);
+        Ok(match command_by(&judged) {
+            Some(command) => Event::Command(command),
+            None => Event::Taken,
+        })
+    }
+
+    /// Takes an ASDU for whose answer there are places: an interrogation that is accepted copies the picture, all else is
+    /// answered at once, or waits for what is said of it.
+    fn take_asdu(
+        &mut self,
+        asdu: &Asdu,
+        judged: &Judged,
+        settings: &Settings,
+        picture: &[Observation],
+    ) -> Result<(), Memory>
+        requires { overfills judged.now self.old ≡ false }
+        ensures client { OnOk result
+            (self.new ≡ client_judging settings.now picture.now asdu.now judged.now self.old) }
+        ensures memory { OnErr result (is_asking judged.now self.old ≡ true) }
+        ensures same { OnErr result (self.new ≡ self.old) }
+    {
+        let pending = self.is_pending();
+        if let Judged::Accepted(command) = judged {
+            if is_accepted_act(command, pending) {
+                self.rest = answer_to(self.alloc, command, picture)?;
+                self.older = self.queued();
+                return Ok(());
             }
-            Apdu::S { nr } => {
-                let _ = self.window.acknowledged(*nr, moment);
-            }
-            Apdu::U(signal) => self.take_signal(*signal, moment)?,
+        }
+        if let Some(answer) = answered(asdu, judged, pending, settings, picture) {
+            self.answers.push_back_reserved(answer);
         }
         Ok(())
     }
 
     /// Takes a control function, for whose confirmation there is a place.
     fn take_signal(&mut self, signal: Signal, moment: u64) -> Result<(), Memory>
-        requires { close_of (formats.U signal) self.old ≡ None }
+        requires { floods signal self.old ≡ false }
         ensures client { OnOk result (self.new ≡ client_with_signal moment signal self.old) }
         ensures memory { OnErr result (begins (formats.U signal) self.old ≡ true) }
         ensures same { OnErr result (self.new ≡ self.old) }
@@ -303,15 +432,10 @@ impl Station {
         match (signal, self.stage) {
             (Signal::StartAct, Stage::Started) => {}
             (Signal::StartAct, _) => {
-                self.queue = Some(HeapCircularBuffer::with_capacity(self.alloc, self.limit)?);
-                self.dropped = 0;
-                self.stage = Stage::Started;
+                let queue = HeapCircularBuffer::with_capacity(self.alloc, self.limit)?;
+                self.begin_at(Stage::Started, Some(queue));
             }
-            (Signal::StopAct, Stage::Started) => {
-                self.queue = None;
-                self.dropped = 0;
-                self.stage = Stage::Stopped;
-            }
+            (Signal::StopAct, Stage::Started) => self.begin_at(Stage::Stopped, None),
             _ => {}
         }
         Ok(())
@@ -328,8 +452,8 @@ impl Station {
         if self.window.owes_test(moment) {
             return Some(Sending::Test);
         }
-        if let Some(news) = self.news_offered() {
-            return Some(Sending::News(news));
+        if let Some(sending) = self.information_offered() {
+            return Some(sending);
         }
         if self.window.owes_ack(moment) {
             return Some(Sending::Receipt);
@@ -337,25 +461,55 @@ impl Station {
         None
     }
 
-    /// A started client's oldest news, where an I format may be sent.
-    fn news_offered(&self) -> Option<Observation>
-        ensures news { option_map sendings.News result ≡ news_offered self.now }
-        ensures room { IfSome result (λ news. IsRoomy self.now.window (sendings.News news)) }
+    /// The first of what waits for an I format, in a session, where one may be sent.
+    fn information_offered(&self) -> Option<Sending>
+        ensures sending { result ≡ information_offered self.now }
+        ensures room { IfSome result (IsRoomy self.now.window) }
+    {
+        if self.is_started() && self.window.may_send() {
+            self.first_in_line()
+        } else {
+            None
+        }
+    }
+
+    /// The first of what waits for an I format.
+    fn first_in_line(&self) -> Option<Sending>
+        ensures { result ≡ slice_get (line self.now) 0 }
+    {
+        if let Some(answer) = self.answers.front() {
+            return Some(Sending::Answer(*answer));
+        }
+        let news = self.oldest_news();
+        if let (Some(news), true) = (news, self.older > 0) {
+            return Some(Sending::News(news));
+        }
+        if let Some(part) = self.rest.front() {
+            return Some(Sending::Part(*part));
+        }
+        news.map(Sending::News)
+    }
+
+    fn oldest_news(&self) -> Option<Observation>
+        ensures { result ≡ slice_get self.now.queue 0 }
     {
         match &self.queue {
-            Some(queue) if self.window.may_send() => queue.front().copied(),
-            _ => None,
+            Some(queue) => queue.front().copied(),
+            None => None,
         }
     }
 
     /// Puts out what is offered.
-    fn send(&mut self, sending: Sending, face: &Face, moment: u64) -> ApduBuf
+    fn send(&mut self, sending: Sending, settings: &Settings, moment: u64) -> ApduBuf
         requires room { IsRoomy self.old.window sending }
         requires count { sent_in_all self.old.window + 1 < 2 ^ 64 }
-        ensures apdu { result ≡ buffer_of (content_of face.now.zone.offset_minutes face.now.common_address
-            self.old.window sending) }
+        requires answer { IsReturnableSending sending }
+        ensures apdu { result ≡ buffer_of (content_of settings.now.station.offset_minutes
+            settings.now.station.common_address self.old.window sending) }
         ensures client { self.new ≡ client_with_sent moment sending self.old }
     {
+        let common = settings.station().common_address;
+        let zone = settings.zone();
         match sending {
             Sending::Confirm(signal) => {
                 self.confirmations.pop_front();
@@ -365,17 +519,47 @@ impl Station {
                 self.window.test_sent(moment);
                 ApduBuf::of(&Apdu::U(Signal::TestAct))
             }
+            Sending::Answer(answer) => {
+                self.answers.pop_front();
+                self.send_asdu(answer_asdu(common, &zone, &answer), moment)
+            }
             Sending::News(news) => {
-                if let Some(queue) = &mut self.queue {
-                    queue.pop_front();
+                self.forget_news();
+                self.send_asdu(observation_asdu(common, SPONTANEOUS, &zone, &news), moment)
+            }
+            Sending::Part(part) => {
+                self.rest.pop_front();
+                if self.rest.is_empty() {
+                    self.rest = VecDeque::new(self.alloc);
                 }
-                let (ns, nr) = self.window.sent(moment);
-                news_format(ns, nr, face.common_address, &face.zone, &news)
+                self.send_asdu(part_asdu(common, &zone, &part), moment)
             }
             Sending::Receipt => {
                 let nr = self.window.ack_sent();
                 ApduBuf::of(&Apdu::S { nr })
             }
         }
+    }
+
+    /// Puts out an ASDU in an I format.
+    fn send_asdu(&mut self, asdu: Asdu, moment: u64) -> ApduBuf
+        requires room { length self.old.window.waiting < self.old.window.limits.k }
+        requires count { sent_in_all self.old.window + 1 < 2 ^ 64 }
+        ensures apdu { result ≡ buffer_of (Information (send_number self.old.window)
+            (receive_number self.old.window) (take asdu.len asdu.octets)) }
+        ensures client { self.new ≡ record self.old { window = counts_after_sending_i moment self.old.window } }
+    {
+        let (ns, nr) = self.window.sent(moment);
+        ApduBuf::of(&Apdu::I { ns, nr, asdu })
+    }
+
+    /// The oldest news don't wait any more.
+    fn forget_news(&mut self)
+        ensures { self.new ≡ record self.old { queue = drop 1 self.old.queue; older = self.old.older - 1 } }
+    {
+        if let Some(queue) = &mut self.queue {
+            queue.pop_front();
+        }
+        self.older = self.older.saturating_sub(1);
     }
 }

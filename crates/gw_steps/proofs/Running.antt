@@ -29,7 +29,7 @@ pub record Ran (setup : Setup) (past : List Entry) (s : State) : Type 0 where
 all_down : (offset : ℤ) (limits : Limits) (queue n : ℕ) → AllByRecursion (IsSoundClient offset 0 0) (replicate n (client_down limits queue))
 all_down offset limits queue zero = tt
 all_down offset limits queue (suc n) =
-    (record { sendable = tt; few = omega arith; dropped = omega arith; received = omega arith; sent = omega arith }, all_down offset limits queue n)
+    (record { sendable = tt; answers = tt; rest = tt; few = omega arith; dropped = omega arith; received = omega arith; sent = omega arith }, all_down offset limits queue n)
 
 pub sound_first : (setup : Setup) → IsSound setup.station.offset_minutes (at_first setup)
 sound_first setup = all_down setup.station.offset_minutes (limits_of setup.station) setup.station.queue client_limit

@@ -9,8 +9,9 @@ use Rattle.gw_translate.specs.Example.{static_value, timed_event}
 use Rattle.gw_picture.specs.Example.{rows, analog_value}
 use Rattle.dnp_points.specs.Objects.{binary_report}
 use Rattle.dnp_app.specs.Response.{Fragment}
-use Rattle.iec_apci.specs.declared.apdu.Apdu.TheVariants.{U}
+use Rattle.iec_apci.specs.declared.apdu.Apdu.TheVariants.{I, U}
 use Rattle.iec_apci.specs.declared.apdu.Signal.TheVariants.{StartAct}
+use Rattle.gw_station.specs.Example.{command, interrogation}
 use Rattle.gw_steps.specs.declared.step.Step.{Step}
 use Rattle.gw_steps.specs.declared.step.Step.TheVariants as steps
 use Rattle.gw_steps.specs.State.{State, at_first}
@@ -80,6 +81,18 @@ connect = steps.ClientUp 0 0
 abbrev pub start : Step
 start = steps.Frame 0 (U StartAct) 0
 
+-- the station interrogation, behind so many I formats
+abbrev pub interrogate : ℕ → Step
+interrogate ns = steps.Frame 0 (I ns 0 interrogation) 0
+
+-- single-command 5001, of which no control is in the settings
+abbrev pub operate : Step
+operate = steps.Frame 0 (I 0 0 command) 0
+
+abbrev pub pumps : ℕ → List Step
+pumps zero = []
+pumps (suc n) = steps.Pump 0 0 ∷ pumps n
+
 abbrev pub pump : Step
 pump = steps.Pump 0 0
 
@@ -113,6 +126,10 @@ abbrev pub two_clients : List Step
 two_clients =
     outstation_up ∷ connect ∷ start ∷ pump ∷ steps.ClientUp 2 0 ∷ steps.Frame 2 (U StartAct) 0 ∷ steps.Pump 2 0
     ∷ fragment_of event ∷ pump ∷ steps.Pump 2 0 ∷ []
+
+-- news waited, an interrogation came, and then other news
+abbrev pub interrogated : List Step
+interrogated = started ++ fragment_of event ∷ interrogate 0 ∷ fragment_of reading ∷ []
 
 -- the last count of 64 bits
 abbrev pub last_count : ℕ

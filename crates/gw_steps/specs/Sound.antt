@@ -1,5 +1,5 @@
--- What every state keeps: each observation that is queued can be sent, no more are queued than may, and no client has more
--- I formats than there were steps, or dropped more than there were news.
+-- What every state keeps: whatever waits for a client can be sent, no more news are queued than may, and no client has
+-- more I formats than there were steps, or dropped more than there were news.
 use Rattle.std.specs.Prelude.{ℤ, List}
 use Rattle.std.specs.List.{AllByRecursion}
 use Rattle.gw_map.specs.Settings.{Setup}

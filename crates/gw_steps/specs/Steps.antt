@@ -15,7 +15,9 @@ use Rattle.gw_picture.specs.Loss.{losses_of, picture_after_loss}
 use Rattle.gw_station.specs.declared.event.Event.{Event}
 use Rattle.gw_station.specs.declared.event.Event.TheVariants as events
 use Rattle.gw_station.specs.Client.{Client, is_up, is_timed_out, client_after_up, client_after_close, client_with_news, client_after_tick}
-use Rattle.gw_station.specs.Frames.{event_of, client_after_apdu, begins}
+use Rattle.gw_station.specs.declared.event.Said.TheVariants.{Negative}
+use Rattle.gw_station.specs.Answers.{client_told}
+use Rattle.gw_station.specs.Frames.{event_of, client_after_apdu, begins, wants_memory}
 use Rattle.gw_station.specs.Pump.{given, client_after_pump}
 use Rattle.gw_steps.specs.declared.step.Step.{Step}
 use Rattle.gw_steps.specs.declared.step.Step.TheVariants as steps
@@ -84,12 +86,17 @@ begun_by apdu (Some k) = begins apdu k
 abbrev pub is_beginning : State → ℕ → Apdu → Bool
 is_beginning s c apdu = begun_by apdu (slice_get s.clients c)
 
+-- memory is wanted for an APDU: for the queue of a session that begins, or the copy of the picture for an interrogation
+abbrev pub wanted_by : Setup → Apdu → Option Client → Bool
+wanted_by setup apdu None = false
+wanted_by setup apdu (Some k) = wants_memory setup apdu k
+
 -- one where it is so
 abbrev pub one_if : Bool → ℕ
 one_if true = 1
 one_if false = 0
 
--- memory may be wanted, which is for the queue of a session alone, and by how much the counts rise
+-- memory may be wanted, and by how much the counts rise
 pub record Needs : Type 0 where
   pub memory : Bool
   pub counts : Counts
@@ -104,7 +111,7 @@ needs setup s (steps.OutstationDown o moment) = record {
   counts = record { steps = 1; news = length (losses setup s o); sessions = 0 };
 }
 needs setup s (steps.Frame c apdu moment) = record {
-  memory = is_beginning s c apdu;
+  memory = wanted_by setup apdu (slice_get s.clients c);
   counts = record { steps = 1; news = 0; sessions = one_if (is_beginning s c apdu) };
 }
 needs setup s _ = record { memory = false; counts = record { steps = 1; news = 0; sessions = 0 } }
@@ -146,6 +153,7 @@ reply_asking (Some request) = replies.Request request
 -- the reply to what became of an APDU
 abbrev pub reply_of_event : Event → Reply
 reply_of_event events.Taken = replies.Taken
+reply_of_event (events.Command command) = replies.Taken
 reply_of_event (events.Closed why) = replies.Closed why
 
 -- the reply to a pump that gives this
@@ -169,7 +177,7 @@ reply_to setup s (steps.Fragment f moment) =
 reply_to setup s (steps.ClientUp c moment) = replies.Done
 reply_to setup s (steps.ClientDown c moment) = replies.Done
 reply_to setup s (steps.Frame c apdu moment) =
-    client_reply (λ k. reply_of_event (event_of apdu k)) (slice_get s.clients c)
+    client_reply (λ k. reply_of_event (event_of setup apdu k)) (slice_get s.clients c)
 reply_to setup s (steps.Pump c moment) =
     client_reply
     (λ k. reply_giving (given setup.station.offset_minutes setup.station.common_address (latest s moment) k))
@@ -195,6 +203,16 @@ moment_of (steps.ClientDown c moment) = moment
 moment_of (steps.Frame c apdu moment) = moment
 moment_of (steps.Pump c moment) = moment
 moment_of (steps.Tick moment) = moment
+
+-- no control is operated: a command for one is confirmed negatively
+abbrev pub client_answered : Event → Client → Client
+client_answered (events.Command command) k = client_told Negative command k
+client_answered _ k = k
+
+-- an APDU came at a moment, while the picture showed this, and a command in it was answered
+abbrev pub client_after_frame : Setup → List Observation → ℕ → Apdu → Client → Client
+client_after_frame setup picture moment apdu k =
+    client_answered (event_of setup apdu k) (client_after_apdu setup picture moment apdu k)
 
 -- the loss of an outstation
 abbrev pub parts_after_loss : Setup → State → ℕ → State
@@ -228,7 +246,7 @@ parts_after setup s moment (steps.Fragment f _) =
 parts_after setup s moment (steps.ClientUp c _) = record s { clients = change c (client_after_up moment) s.clients }
 parts_after setup s moment (steps.ClientDown c _) = record s { clients = change c client_after_close s.clients }
 parts_after setup s moment (steps.Frame c apdu _) =
-    record s { clients = change c (client_after_apdu moment apdu) s.clients }
+    record s { clients = change c (client_after_frame setup s.picture moment apdu) s.clients }
 parts_after setup s moment (steps.Pump c _) = record s { clients = change c (client_after_pump moment) s.clients }
 
 abbrev pub after : Setup → State → Step → State

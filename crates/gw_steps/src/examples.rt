@@ -11,8 +11,8 @@ ghost use Rattle.iec_apci.specs.Buffer.{buffer};
 ghost use Rattle.iec_apci.specs.declared.apdu.Apdu.TheVariants.{S, U};
 ghost use Rattle.iec_apci.specs.declared.apdu.Signal.TheVariants.{StartAct};
 ghost use Rattle.gw_steps.specs.State.{at_first};
-ghost use Rattle.gw_steps.specs.Steps.{outcome};
-ghost use Rattle.gw_steps.specs.Example.{after_steps, ahead, beginning, connect, counting, event, fragment_of, integrity_answer, last_count, next_reading, outstation_down, outstation_up, poll, pump, reached, reading, returned, setup, solicited, start, started, starting, starts, timed, two_clients};
+ghost use Rattle.gw_steps.specs.Steps.{needs, outcome};
+ghost use Rattle.gw_steps.specs.Example.{after_steps, ahead, beginning, connect, counting, event, fragment_of, integrity_answer, interrogate, interrogated, last_count, next_reading, operate, outstation_down, outstation_up, poll, pump, pumps, reached, reading, returned, setup, solicited, start, started, starting, starts, timed, two_clients};
 
 /// Replies to single steps, with faults before them.
 pub fn replies_by_example()
@@ -120,4 +120,40 @@ pub fn runs_by_example()
     ensures timed { outcome ahead (after_steps ahead (at_first ahead) (started ++ fragment_of timed ∷ [])) pump
         ≡ Ok (replies.Apdu (buffer (0x68 ∷ 0x15 ∷ 0 ∷ 0 ∷ 0 ∷ 0
         ∷ 0x1E ∷ 1 ∷ 3 ∷ 0 ∷ 1 ∷ 0 ∷ 0x05 ∷ 0x10 ∷ 0 ∷ 0x01 ∷ 0x20 ∷ 0x4E ∷ 0x0D ∷ 0x17 ∷ 0x0E ∷ 0x0B ∷ 0x17 ∷ []))) }
+{}
+
+/// A station interrogation while news wait: older news, its confirmation, the picture of its moment, its termination, and
+/// then later news.
+#[tactic(auto, unfolding(iec_command::specs::Commands::command_of))]
+pub fn interrogations_by_example()
+    ensures taken { outcome setup (reached (started ++ fragment_of event ∷ [])) (interrogate 0) ≡ Ok replies.Taken }
+    ensures older { outcome setup (reached interrogated) pump ≡ Ok (replies.Apdu (buffer (0x68 ∷ 0x0E ∷ 0 ∷ 0 ∷ 2 ∷ 0
+        ∷ 1 ∷ 1 ∷ 3 ∷ 0 ∷ 1 ∷ 0 ∷ 0x05 ∷ 0x10 ∷ 0 ∷ 0x01 ∷ []))) }
+    ensures confirmed { outcome setup (reached (interrogated ++ pumps 1)) pump
+        ≡ Ok (replies.Apdu (buffer (0x68 ∷ 0x0E ∷ 2 ∷ 0 ∷ 2 ∷ 0
+        ∷ 0x64 ∷ 1 ∷ 7 ∷ 0 ∷ 1 ∷ 0 ∷ 0 ∷ 0 ∷ 0 ∷ 0x14 ∷ []))) }
+    ensures first_row { outcome setup (reached (interrogated ++ pumps 2)) pump
+        ≡ Ok (replies.Apdu (buffer (0x68 ∷ 0x0E ∷ 4 ∷ 0 ∷ 2 ∷ 0
+        ∷ 1 ∷ 1 ∷ 0x14 ∷ 0 ∷ 1 ∷ 0 ∷ 0x05 ∷ 0x10 ∷ 0 ∷ 0x01 ∷ []))) }
+    // As it was shown at the act, before the reading came.
+    ensures second_row { outcome setup (reached (interrogated ++ pumps 3)) pump
+        ≡ Ok (replies.Apdu (buffer (0x68 ∷ 0x10 ∷ 6 ∷ 0 ∷ 2 ∷ 0
+        ∷ 0x0B ∷ 1 ∷ 0x14 ∷ 0 ∷ 1 ∷ 0 ∷ 0x69 ∷ 0x10 ∷ 0 ∷ 0 ∷ 0 ∷ 0xC0 ∷ []))) }
+    ensures terminated { outcome setup (reached (interrogated ++ pumps 4)) pump
+        ≡ Ok (replies.Apdu (buffer (0x68 ∷ 0x0E ∷ 8 ∷ 0 ∷ 2 ∷ 0
+        ∷ 0x64 ∷ 1 ∷ 0x0A ∷ 0 ∷ 1 ∷ 0 ∷ 0 ∷ 0 ∷ 0 ∷ 0x14 ∷ []))) }
+    ensures later { outcome setup (reached (interrogated ++ pumps 5)) pump
+        ≡ Ok (replies.Apdu (buffer (0x68 ∷ 0x10 ∷ 0x0A ∷ 0 ∷ 2 ∷ 0
+        ∷ 0x0B ∷ 1 ∷ 3 ∷ 0 ∷ 1 ∷ 0 ∷ 0x69 ∷ 0x10 ∷ 0 ∷ 7 ∷ 0 ∷ 0 ∷ []))) }
+    ensures nothing { outcome setup (reached (interrogated ++ pumps 6)) pump ≡ Ok replies.Nothing }
+    // A second one meanwhile is confirmed negatively, and a command without a control comes back.
+    ensures second { outcome setup (reached (started ++ interrogate 0 ∷ interrogate 1 ∷ [])) pump
+        ≡ Ok (replies.Apdu (buffer (0x68 ∷ 0x0E ∷ 0 ∷ 0 ∷ 4 ∷ 0
+        ∷ 0x64 ∷ 1 ∷ 0x47 ∷ 0 ∷ 1 ∷ 0 ∷ 0 ∷ 0 ∷ 0 ∷ 0x14 ∷ []))) }
+    ensures unknown { outcome setup (reached (started ++ operate ∷ [])) pump
+        ≡ Ok (replies.Apdu (buffer (0x68 ∷ 0x0E ∷ 0 ∷ 0 ∷ 2 ∷ 0
+        ∷ 0x2D ∷ 1 ∷ 0x6F ∷ 0 ∷ 1 ∷ 0 ∷ 0x89 ∷ 0x13 ∷ 0 ∷ 0x81 ∷ []))) }
+    // Memory is wanted for the act alone that is accepted.
+    ensures memory { (needs setup (reached started) (interrogate 0)).memory ≡ true }
+    ensures no_memory { (needs setup (reached (started ++ interrogate 0 ∷ [])) (interrogate 1)).memory ≡ false }
 {}

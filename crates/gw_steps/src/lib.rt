@@ -5,5 +5,5 @@
 mod examples;
 mod step;
 
-pub use examples::{replies_by_example, runs_by_example};
+pub use examples::{interrogations_by_example, replies_by_example, runs_by_example};
 pub use step::{Reply, Step, StepFault};

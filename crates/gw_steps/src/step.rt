@@ -40,7 +40,7 @@ pub enum Step {
         client: u8,
         moment: u64,
     },
-    /// A client sent an APDU. Of I formats only the numbers are acted on so far.
+    /// A client sent an APDU. A command for a control in it is confirmed negatively.
     Frame {
         client: u8,
         apdu: Apdu,

@@ -2,10 +2,11 @@
 ghost use Rattle.std.specs.Prelude.{◌<◌, ◌≤◌, length};
 
 use dnp_app::read_response;
+use gw_answers::observation_asdu;
 use gw_hub::{Apdu, ApduBuf, Hub, Reply, Signal, Step, StepFault, Verdict};
 use gw_map::{DEFAULT_SETTINGS, Settings};
 use gw_model::{Observation, Quality, Stamp, Value};
-use gw_station::{Why, news_format};
+use gw_station::Why;
 use gw_time::Zone;
 use std::process::Abort;
 use std::test::Fail;
@@ -47,11 +48,15 @@ const PICTURE: &[Observation] = &[
     },
 ];
 
+/// The cause of transmission of news.
+const SPONTANEOUS: u8 = 3;
+
 /// An I format that shows input 5 as on.
 fn news_of_on(ns: u16) -> ApduBuf
     requires { ns < 32768 }
 {
-    news_format(ns, 0, 1, &Zone::UTC, &ON)
+    let asdu = observation_asdu(1, SPONTANEOUS, &Zone::UTC, &ON);
+    ApduBuf::of(&Apdu::I { ns, nr: 0, asdu })
 }
 
 fn start_confirmation() -> ApduBuf {

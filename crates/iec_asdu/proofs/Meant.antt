@@ -10,7 +10,7 @@ use Rattle.gw_model.specs.declared.observation.Value.{Value}
 use Rattle.gw_model.specs.declared.observation.Value.TheVariants.{Single, Double, Scaled, Word, Total}
 use Rattle.gw_model.specs.declared.observation.Quality.{Quality}
 use Rattle.gw_model.specs.declared.observation.Observation.{Observation}
-use Rattle.gw_model.specs.Fit.{is_of_element, IsFit, IsInWindow}
+use Rattle.gw_model.specs.Fit.{is_of_element, HasWidth, IsFit, IsInWindow}
 use Rattle.gw_time.specs.Tag.{tag_meaning}
 use Rattle.gw_time.specs.Spelling.{tag_of}
 use Rattle.gw_time.proofs.Century.{window_is_century}
@@ -18,7 +18,7 @@ use Rattle.gw_time.proofs.Spelled.{IsTagOf, tag_in_window}
 use Rattle.iec_asdu.specs.Laws.{single_again, double_again, word_again, scaled_again, counter_again}
 use Rattle.gw_model.specs.Optional.{◌>>=◌}
 use Rattle.iec_asdu.specs.Asdu.{Asdu, monitor_types, observation_of, objects_apart, objects_of, asdu_meaning}
-use Rattle.iec_asdu.specs.Spelling.{type_of, spelling, spelling_with, HasWidth}
+use Rattle.iec_asdu.specs.Spelling.{type_of, spelling, spelling_with}
 
 -- an ASDU of one object, originator 0
 abbrev one_of : ℕ → ℕ → ℕ → Observation → Asdu

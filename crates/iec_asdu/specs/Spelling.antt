@@ -1,5 +1,5 @@
 -- How one observation is spelled as an ASDU: with time, where its stamp has a tag, and without one elsewhere.
-use Rattle.std.specs.Prelude.{ℕ, ℤ, ◌<◌, ◌^◌, Bool, List, [], ◌∷◌, ◌++◌, take, Option, Some, None, FitsSigned}
+use Rattle.std.specs.Prelude.{ℕ, ℤ, Bool, List, [], ◌∷◌, ◌++◌, take, Option, Some, None}
 use Rattle.std.specs.Option.{is_some}
 use Rattle.std.specs.Int.{w16, w32, to_le_bytes}
 use Rattle.gw_model.specs.declared.observation.Value.{Value}
@@ -47,11 +47,3 @@ spelling_with tag common cause x =
 -- the ASDU of an observation, at a station whose clocks are offset minutes ahead of UTC
 abbrev pub spelling : ℤ → ℕ → ℕ → Observation → List ℕ
 spelling offset common cause x = spelling_with (tag_of offset x.stamp) common cause x
-
--- a number has the width of its element
-abbrev pub HasWidth : Value → Type 0
-HasWidth (Single on) = Unit {0}
-HasWidth (Double state) = Unit {0}
-HasWidth (Word n) = n < 2 ^ 32
-HasWidth (Scaled z) = FitsSigned w16 z
-HasWidth (Total n) = n < 2 ^ 32

@@ -1,9 +1,9 @@
 //! Writing ASDUs with process information.
 ghost use Rattle.std.specs.Prelude.{◌≡◌, ◌+◌, ◌<◌, ◌≤◌, ◌++◌, length, take, drop, slice_get, All, IfSome, IsSomeAnd};
 ghost use Rattle.std.specs.Option.{is_some};
-ghost use Rattle.gw_model.specs.Fit.{IsFit};
+ghost use Rattle.gw_model.specs.Fit.{HasWidth, IsFit};
 ghost use Rattle.iec_asdu.specs.Asdu.{monitor_types, asdu_meaning};
-ghost use Rattle.iec_asdu.specs.Spelling.{element_spelling, tag_octets, spelling, HasWidth};
+ghost use Rattle.iec_asdu.specs.Spelling.{element_spelling, tag_octets, spelling};
 
 use crate::elements::{BitString, CounterReading, DoublePoint, ScaledValue, SinglePoint};
 use crate::types::identification_of;

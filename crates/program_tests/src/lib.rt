@@ -9,6 +9,8 @@ mod failing;
 #[cfg(test)]
 mod frames;
 #[cfg(test)]
+mod interrogations;
+#[cfg(test)]
 mod largest;
 #[cfg(test)]
 mod polls;
@@ -16,6 +18,8 @@ mod polls;
 mod queues;
 #[cfg(test)]
 mod replay;
+#[cfg(test)]
+mod requests;
 #[cfg(test)]
 mod script;
 #[cfg(test)]

@@ -1,7 +1,7 @@
 use Rattle.std.proofs.Common.{rules, ◌+◌, length, ap, subst, arith}
 use Rattle.std.specs.List.{AllByRecursion}
-use Rattle.iec_asdu.specs.Spelling.{HasWidth}
-use Rattle.gw_station.specs.Sound.{IsSendable}
+use Rattle.gw_model.specs.Fit.{HasWidth}
+use Rattle.gw_answers.specs.Meaning.{IsSendable}
 use Rattle.gw_hub.proofs.Taking.{came_none, can_same}
 use Rattle.gw_hub.proofs.hub.lose_row.Goals as goal
 

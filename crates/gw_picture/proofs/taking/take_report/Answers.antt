@@ -3,6 +3,7 @@ use Rattle.std.specs.List.{AllByRecursion}
 use Rattle.gw_entries.specs.declared.row.Row.{Row}
 use Rattle.gw_model.specs.declared.observation.Observation.{Observation}
 use Rattle.gw_map.specs.Settings.{row_from}
+use Rattle.gw_model.specs.Fit.{HasWidth}
 use Rattle.gw_model.specs.Places.{change}
 use Rattle.gw_picture.specs.Picture.{picture_by_row, without_time}
 use Rattle.gw_picture.specs.Shown.{IsShown}
@@ -19,4 +20,5 @@ returns-in-Some-clause-shown c =
 
 pub returns-in-Some-clause-keeps : goal.returns-in-Some-clause-keeps
 returns-in-Some-clause-keeps c =
-    λ all. subst (AllByRecursion IsShown) (sym c.show_at.ensures.shown) (image_shown _ _ _ _ c.image-image.ensures.fit all)
+    let width : HasWidth c.image-image.result.value = search rules in
+    λ all. subst (AllByRecursion IsShown) (sym c.show_at.ensures.shown) (image_shown _ _ _ _ c.image-image.ensures.fit width all)

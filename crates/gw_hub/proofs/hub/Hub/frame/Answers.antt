@@ -1,7 +1,8 @@
-use Rattle.std.proofs.Common.{ap, arith, rules}
-use Rattle.gw_station.proofs.Sounds.{sound_after_apdu}
+use Rattle.std.proofs.Common.{◌+◌, ◌≤◌, sym, ap, subst, arith, rules}
+use Rattle.std.specs.List.{AllByRecursion}
+use Rattle.gw_answers.specs.Meaning.{IsSendable}
 use Rattle.gw_steps.specs.State.{Counts}
-use Rattle.gw_hub.proofs.Taking.{can_rise_step, sound_change, counts_can}
+use Rattle.gw_hub.proofs.Taking.{can_rise_step, counts_can, sendable_shown, sound_more}
 use Rattle.gw_hub.proofs.hub.Hub.frame.Goals as goal
 
 pub frame-requires : goal.frame-requires
@@ -11,5 +12,10 @@ frame-requires c =
 
 pub invariant_of-self-2 : goal.invariant_of-self-2
 invariant_of-self-2 c =
-    sound_change _ c.self.inside.counts.steps _ c.self.inside.counts.news _ c.args.client _ _ _ c.in-Ok.ensures.clients (ap (λ (counts : Counts). counts.steps) c.raise.ensures)
-    (omega (arith, ap (λ (counts : Counts). counts.news) c.raise.ensures)) (sound_after_apdu _ _ _ c.latest-moment.result c.args.apdu.now) c.self.invariant
+    let offset = c.self.inside.settings.station.offset_minutes in
+    let counts = c.self.inside.counts in
+    let rows = c.rows-picture.ensures in
+    let sends = subst (AllByRecursion (IsSendable offset)) (sym rows.shown) (sendable_shown offset c.self.inside.picture rows.sendable) in
+    let steps : counts.steps + 1 ≤ c.raise.new.self.steps = omega (arith, ap (λ (counts : Counts). counts.steps) c.raise.ensures) in
+    let news : counts.news ≤ c.raise.new.self.news = omega (arith, ap (λ (counts : Counts). counts.news) c.raise.ensures) in
+    sound_more offset _ _ _ _ _ steps news (c.in-Ok.ensures.sound offset counts.steps counts.news sends c.self.invariant)

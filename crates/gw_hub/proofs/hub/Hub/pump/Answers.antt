@@ -1,4 +1,4 @@
-use Rattle.std.proofs.Common.{◌≡◌, true, ℕ, ℤ, List, None, Ok, refl, sym, ap, subst, ◌∙◌, arith, rules}
+use Rattle.std.proofs.Common.{◌≡◌, true, ℕ, List, None, Ok, refl, sym, ap, subst, ◌∙◌, arith, rules}
 use Rattle.std.specs.Prelude.{slice_get}
 use Rattle.gw_map.specs.Settings.{Setup}
 use Rattle.gw_station.specs.Client.{Client}
@@ -9,22 +9,24 @@ use Rattle.gw_steps.specs.State.{State}
 use Rattle.gw_steps.specs.Steps.{fault_of, can_rise, latest, outcome}
 use Rattle.gw_hub.specs.Clients.{reply_to_pump}
 use Rattle.gw_hub.specs.Hub.{Hub, IsCounted, step_with}
-use Rattle.gw_hub.proofs.Taking.{sound_change, counts_can}
+use Rattle.gw_hub.proofs.Taking.{sound_change, pumps_can}
 use Rattle.gw_hub.proofs.hub.Hub.pump.Goals as goal
 
 pub pump-requires : goal.pump-requires
-pump-requires c = let counted = subst IsCounted (sym c.self.view_is) c.in_ok-count.ensures.counted in counts_can _ counted.before _ _ counted.few counted.sound
+pump-requires c = let counted = subst IsCounted (sym c.self.view_is) c.in_ok-count.ensures.counted in pumps_can _ counted.before _ _ counted.few counted.sound
 
 pub invariant_of-self : goal.invariant_of-self
 invariant_of-self c =
     let counted = subst IsCounted (sym c.self.view_is) c.in_ok-count.ensures.counted in
     sound_change _ counted.before _ _ _ c.args.client _ _ _ c.pump.ensures.clients counted.counted (omega arith) (sound_after_pump _ _ _ c.self.inside.moment) counted.sound
 
-same_reply : (c : ℕ) (o p : ℤ) (n q m l : ℕ) (ks js : List Client) → o ≡ p → n ≡ q → m ≡ l → ks ≡ js → reply_to_pump o n m (slice_get ks c) ≡ reply_to_pump p q l (slice_get js c)
-same_reply c o p n q m l ks js eo en em ek = rw (eo, en, em, ek) refl
+same_reply : (c : ℕ) (a b : Setup) (m l : ℕ) (ks js : List Client) → a ≡ b → m ≡ l → ks ≡ js
+    → reply_to_pump a m (slice_get ks c) ≡ reply_to_pump b l (slice_get js c)
+same_reply c a b m l ks js es em ek = rw (es, em, ek) refl
 
-answered_so : (setup : Setup) (s : State) (c m : ℕ) (r : Reply) → fault_of s (steps.Pump c m) ≡ None → can_rise s.counts (step_with 0 0) ≡ true
-    → r ≡ reply_to_pump setup.station.offset_minutes setup.station.common_address (latest s m) (slice_get s.clients c) → outcome setup s (steps.Pump c m) ≡ Ok r
+answered_so : (setup : Setup) (s : State) (c m : ℕ) (r : Reply) → fault_of s (steps.Pump c m) ≡ None
+    → can_rise s.counts (step_with 0 0) ≡ true → r ≡ reply_to_pump setup (latest s m) (slice_get s.clients c)
+    → outcome setup s (steps.Pump c m) ≡ Ok r
 answered_so setup s c m r fault rises reply = rw (fault, rises) (ap (λ (x : Reply). Ok x) (sym reply))
 
 pub returns-clause-step : goal.returns-clause-step
@@ -34,9 +36,7 @@ returns-clause-step c =
     let state = c.in_ok-count.ensures.ok.1 in
     let moment : c.self.inside.moment ≡ latest old.state c.args.moment = ap (λ (h : Hub). h.state.moment) c.self.view_is ∙ ap (λ (s : State). s.moment) state in
     let clients : c.self.inside.clients ≡ old.state.clients = ap (λ (h : Hub). h.state.clients) c.self.view_is ∙ ap (λ (s : State). s.clients) state in
-    let common = c.face-face.ensures.common ∙ ap (λ (s : Setup). s.station.common_address) c.in_ok-count.ensures.setup in
-    let offset = c.face-face.ensures.offset ∙ ap (λ (s : Setup). s.station.offset_minutes) c.in_ok-count.ensures.setup in
-    let reply : c.pump.result ≡ reply_to_pump old.setup.station.offset_minutes old.setup.station.common_address (latest old.state c.args.moment) (slice_get old.state.clients c.args.client) =
-    c.pump.ensures.reply ∙ same_reply c.args.client _ _ _ _ _ _ _ _ offset common moment clients in
+    let reply : c.pump.result ≡ reply_to_pump old.setup (latest old.state c.args.moment) (slice_get old.state.clients c.args.client) =
+    c.pump.ensures.reply ∙ same_reply c.args.client _ _ _ _ _ _ setup moment clients in
     let fault : fault_of old.state (steps.Pump c.args.client c.args.moment) ≡ None = search (rules, c.in_ok-connected.ensures) in
     (answered_so old.setup old.state c.args.client c.args.moment c.pump.result fault c.in_ok-count.ensures.ok.0 reply, search (rules, clients, moment, state))

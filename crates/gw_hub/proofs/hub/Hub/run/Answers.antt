@@ -1,10 +1,13 @@
-use Rattle.std.proofs.Common.{◌≡◌, List, [], get_or, ap, subst, ◌∙◌, arith}
+use Rattle.std.proofs.Common.{◌≡◌, List, get_or, ap, subst, ◌∙◌, arith}
 use Rattle.gw_map.specs.Settings.{Setup}
 use Rattle.gw_steps.specs.Sound.{IsSound}
 use Rattle.gw_steps.specs.Steps.{Allowed}
-use Rattle.gw_steps.specs.Runs.{history}
-use Rattle.gw_steps.proofs.Running.{Ran, run_on, run_all}
+use Rattle.gw_steps.proofs.Running.{run_on}
 use Rattle.gw_news.proofs.EachPlace.{tells_news, confirms_taken, right_numbers}
+use Rattle.gw_mirror.proofs.EachLine.{runs_keep_line, runs_answer}
+use Rattle.gw_mirror.proofs.Judged.{runs_judge}
+use Rattle.gw_mirror.proofs.EachMirror.{runs_mirror}
+use Rattle.gw_hub.proofs.Made.{made}
 use Rattle.gw_hub.proofs.hub.Hub.run.Goals as goal
 
 pub loop-step-preserved : goal.loop-step-preserved
@@ -25,45 +28,35 @@ loop-step-preserved c =
 
 pub returns-clause-news : goal.returns-clause-news
 returns-clause-news c =
-    let ran : Ran c.args.settings (history [] c.args.steps.items c.loop-step.replies.items) c.loop-step.hub.state =
-    run_all c.args.settings c.args.steps.items c.loop-step.replies.items c.loop-step.step-index c.loop-step.hub.state (omega (arith, c.loop-step.auto, c.loop-step-test.false)) c.loop-step.invariant.2 in
-    tells_news c.args.settings _ (record {
-      settings = record {
-        addresses = c.new.ensures.settings.0;
-        station = omega (arith, c.new.ensures.settings.1.common_address.1);
-        window = omega (arith, c.new.ensures.settings.1.k.1);
-        queue = omega (arith, c.new.ensures.settings.1.queue.0);
-      };
-      run = ran.run;
-      sound = ran.sound;
-    })
+    tells_news c.args.settings _ (made _ c.args.steps.items c.loop-step.replies.items c.loop-step.step-index _ c.new.ensures.settings.0 c.new.ensures.settings.1
+    (omega (arith, c.loop-step.auto, c.loop-step-test.false)) c.loop-step.invariant.2)
 
 pub returns-clause-confirms : goal.returns-clause-confirms
 returns-clause-confirms c =
-    let ran : Ran c.args.settings (history [] c.args.steps.items c.loop-step.replies.items) c.loop-step.hub.state =
-    run_all c.args.settings c.args.steps.items c.loop-step.replies.items c.loop-step.step-index c.loop-step.hub.state (omega (arith, c.loop-step.auto, c.loop-step-test.false)) c.loop-step.invariant.2 in
-    confirms_taken c.args.settings _ (record {
-      settings = record {
-        addresses = c.new.ensures.settings.0;
-        station = omega (arith, c.new.ensures.settings.1.common_address.1);
-        window = omega (arith, c.new.ensures.settings.1.k.1);
-        queue = omega (arith, c.new.ensures.settings.1.queue.0);
-      };
-      run = ran.run;
-      sound = ran.sound;
-    })
+    confirms_taken c.args.settings _ (made _ c.args.steps.items c.loop-step.replies.items c.loop-step.step-index _ c.new.ensures.settings.0 c.new.ensures.settings.1
+    (omega (arith, c.loop-step.auto, c.loop-step-test.false)) c.loop-step.invariant.2)
 
 pub returns-clause-numbers : goal.returns-clause-numbers
 returns-clause-numbers c =
-    let ran : Ran c.args.settings (history [] c.args.steps.items c.loop-step.replies.items) c.loop-step.hub.state =
-    run_all c.args.settings c.args.steps.items c.loop-step.replies.items c.loop-step.step-index c.loop-step.hub.state (omega (arith, c.loop-step.auto, c.loop-step-test.false)) c.loop-step.invariant.2 in
-    right_numbers c.args.settings _ (record {
-      settings = record {
-        addresses = c.new.ensures.settings.0;
-        station = omega (arith, c.new.ensures.settings.1.common_address.1);
-        window = omega (arith, c.new.ensures.settings.1.k.1);
-        queue = omega (arith, c.new.ensures.settings.1.queue.0);
-      };
-      run = ran.run;
-      sound = ran.sound;
-    })
+    right_numbers c.args.settings _ (made _ c.args.steps.items c.loop-step.replies.items c.loop-step.step-index _ c.new.ensures.settings.0 c.new.ensures.settings.1
+    (omega (arith, c.loop-step.auto, c.loop-step-test.false)) c.loop-step.invariant.2)
+
+pub returns-clause-frames : goal.returns-clause-frames
+returns-clause-frames c =
+    runs_judge c.args.settings _ (made _ c.args.steps.items c.loop-step.replies.items c.loop-step.step-index _ c.new.ensures.settings.0 c.new.ensures.settings.1
+    (omega (arith, c.loop-step.auto, c.loop-step-test.false)) c.loop-step.invariant.2)
+
+pub returns-clause-line : goal.returns-clause-line
+returns-clause-line c =
+    runs_keep_line c.args.settings _ (made _ c.args.steps.items c.loop-step.replies.items c.loop-step.step-index _ c.new.ensures.settings.0 c.new.ensures.settings.1
+    (omega (arith, c.loop-step.auto, c.loop-step-test.false)) c.loop-step.invariant.2)
+
+pub returns-clause-interrogations : goal.returns-clause-interrogations
+returns-clause-interrogations c =
+    runs_answer c.args.settings _ (made _ c.args.steps.items c.loop-step.replies.items c.loop-step.step-index _ c.new.ensures.settings.0 c.new.ensures.settings.1
+    (omega (arith, c.loop-step.auto, c.loop-step-test.false)) c.loop-step.invariant.2)
+
+pub returns-clause-mirror : goal.returns-clause-mirror
+returns-clause-mirror c =
+    runs_mirror c.args.settings _ (made _ c.args.steps.items c.loop-step.replies.items c.loop-step.step-index _ c.new.ensures.settings.0 c.new.ensures.settings.1
+    (omega (arith, c.loop-step.auto, c.loop-step-test.false)) c.loop-step.invariant.2)

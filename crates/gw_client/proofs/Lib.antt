@@ -1,5 +1,0 @@
-pub mod Queues
-pub mod Windows
-pub mod Sounds
-pub mod Line
-pub mod Moves

@@ -1,6 +1,0 @@
-use Rattle.std.proofs.Common.{rules}
-use Rattle.gw_client.proofs.Line.{offered_returnable}
-use Rattle.gw_client.proofs.station.Station.pump.Goals as goal
-
-pub send-requires-clause-answer : goal.send-requires-clause-answer
-send-requires-clause-answer c = search (rules, offered_returnable c.args.moment c.args.self.now c.requires.answers)

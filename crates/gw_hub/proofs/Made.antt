@@ -1,0 +1,27 @@
+-- A run of a hub meets what the laws of runs suppose.
+use Rattle.std.proofs.Common.{ℕ, ◌≤◌, List, [], length, take, Result, arith}
+use Rattle.gw_entries.specs.Ranges.{IsStation}
+use Rattle.gw_map.specs.Settings.{Setup, HasSingleAddresses}
+use Rattle.gw_steps.specs.declared.step.Step.{Step}
+use Rattle.gw_steps.specs.declared.step.Reply.{Reply}
+use Rattle.gw_steps.specs.declared.step.StepFault.{StepFault}
+use Rattle.gw_steps.specs.State.{State}
+use Rattle.gw_steps.specs.Runs.{history}
+use Rattle.gw_steps.proofs.Running.{Ran, run_all}
+use Rattle.gw_news.specs.Premises.{IsSoundRun}
+
+-- all steps were made
+pub made : (setup : Setup) (ss : List Step) (rs : List (Result Reply StepFault)) (i : ℕ) (s : State) → HasSingleAddresses setup.rows setup.controls → IsStation setup.station
+    → length ss ≤ i → Ran setup (history [] (take i ss) rs) s → IsSoundRun setup (history [] ss rs)
+made setup ss rs i s addresses station all so_far =
+    let ran : Ran setup (history [] ss rs) s = run_all setup ss rs i s all so_far in
+    record {
+      settings = record {
+        addresses = addresses;
+        station = omega (arith, station.common_address.1);
+        window = omega (arith, station.k.1);
+        queue = omega (arith, station.queue.0);
+      };
+      run = ran.run;
+      sound = ran.sound;
+    }

@@ -1,0 +1,12 @@
+pub mod Lines
+pub mod Fated
+pub mod Parts
+pub mod Lined
+pub mod EachLine
+pub mod Judged
+pub mod Known
+pub mod Joined
+pub mod Waits
+pub mod Watches
+pub mod Mirrored
+pub mod EachMirror

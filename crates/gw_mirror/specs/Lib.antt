@@ -1,0 +1,5 @@
+pub mod Interrogations
+pub mod Line
+pub mod Right
+pub mod Mirror
+pub mod Example
