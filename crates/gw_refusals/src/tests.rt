@@ -1,7 +1,7 @@
 use crate::read_copy;
-use dnp_app::AppFault;
-use gw_hub::{Apdu, Hub, Reply, Signal, Step, StepFault, Verdict};
+use gw_hub::{Apdu, ApduBuf, Hub, Reply, Signal, Step, StepFault, Verdict};
 use gw_map::{DEFAULT_SETTINGS, Settings};
+use iec_apci::Asdu;
 use std::process::Abort;
 use std::test::Fail;
 
@@ -32,23 +32,22 @@ fn new_hub(rt: &HostRuntime) -> Result<Hub, Fail> {
     Ok(Hub::new(rt.alloc(), settings(rt)?)?)
 }
 
-/// The event, at the second try where memory was refused.
+/// The event.
 fn event(rt: &HostRuntime) -> Result<Step, Fail> {
-    let response = match read_copy(rt.alloc(), &EVENT) {
-        Ok(response) => response,
-        Err(AppFault::Memory) => {
-            println!(rt; "refused")?;
-            match read_copy(rt.alloc(), &EVENT) {
-                Ok(response) => response,
-                Err(fault) => return Err(Fail::new(fault)),
-            }
-        }
-        Err(fault) => return Err(Fail::new(fault)),
-    };
-    Ok(Step::Fragment {
-        response,
-        moment: 0,
-    })
+    match read_copy(rt.alloc(), &EVENT) {
+        Ok(response) => Ok(Step::Fragment {
+            response,
+            moment: 0,
+        }),
+        Err(fault) => Err(Fail::new(fault)),
+    }
+}
+
+/// A station interrogation with a cause of transmission.
+fn interrogation(cause: u8) -> Asdu {
+    let mut octets = [0; 249];
+    octets[..10].copy_from_slice(&[100, 1, cause, 0, 1, 0, 0, 0, 0, 20]);
+    Asdu { octets, len: 10 }
 }
 
 /// A step gets this reply.
@@ -56,30 +55,55 @@ fn check(rt: &impl Abort, hub: &mut Hub, step: &Step, reply: Result<Reply, StepF
     assert_eq!(rt; hub.step(step), reply);
 }
 
-/// Starts the data transfer of client 0; whether memory was refused before, which changed nothing.
-fn start_meets_refusal(rt: &impl Abort, hub: &mut Hub) -> bool {
-    let start = Step::Frame {
+/// An APDU of client 0 is taken; whether memory was refused before, which changed nothing.
+fn meets_refusal(rt: &impl Abort, hub: &mut Hub, apdu: Apdu) -> bool {
+    let frame = Step::Frame {
         client: 0,
-        apdu: Apdu::U(Signal::StartAct),
+        apdu,
         moment: 0,
     };
-    let first = hub.step(&start);
+    let first = hub.step(&frame);
     if first == Err(StepFault::Memory) {
-        check_nothing_waits(rt, hub);
-        check(rt, hub, &start, Ok(Reply::Taken));
+        check_pump(rt, hub, Reply::Nothing);
+        check(rt, hub, &frame, Ok(Reply::Taken));
         return true;
     }
     assert_eq!(rt; first, Ok(Reply::Taken));
     false
 }
 
-/// No confirmation waits for client 0.
-fn check_nothing_waits(rt: &impl Abort, hub: &mut Hub) {
+/// The next that is put out to client 0, if anything.
+fn check_pump(rt: &impl Abort, hub: &mut Hub, reply: Reply) {
     let pump = Step::Pump {
         client: 0,
         moment: 0,
     };
-    check(rt, hub, &pump, Ok(Reply::Nothing));
+    check(rt, hub, &pump, Ok(reply));
+}
+
+/// A session begins by STARTDT act; whether memory was refused before.
+fn start_meets_refusal(rt: &impl Abort, hub: &mut Hub) -> bool {
+    let refused = meets_refusal(rt, hub, Apdu::U(Signal::StartAct));
+    let confirmation = ApduBuf::of(&Apdu::U(Signal::StartCon));
+    check_pump(rt, hub, Reply::Apdu(confirmation));
+    refused
+}
+
+/// A station interrogation is accepted; whether memory was refused before.
+fn interrogation_meets_refusal(rt: &impl Abort, hub: &mut Hub) -> bool {
+    let act = Apdu::I {
+        ns: 0,
+        nr: 0,
+        asdu: interrogation(6),
+    };
+    let refused = meets_refusal(rt, hub, act);
+    let confirmation = Apdu::I {
+        ns: 0,
+        nr: 1,
+        asdu: interrogation(7),
+    };
+    check_pump(rt, hub, Reply::Apdu(ApduBuf::of(&confirmation)));
+    refused
 }
 
 fn connect(rt: &impl Abort, hub: &mut Hub) {
@@ -113,13 +137,16 @@ fn check_queue(rt: &impl Abort, hub: &Hub, queued: usize) {
 }
 
 #[test]
-fn a_session_begins_or_nothing_changes(rt: HostRuntime) -> Result<(), Fail> {
+fn a_step_is_made_or_nothing_changes(rt: HostRuntime) -> Result<(), Fail> {
+    let event = event(&rt)?;
     let mut hub = new_hub(&rt)?;
     connect(&rt, &mut hub);
     if start_meets_refusal(&rt, &mut hub) {
         println!(rt; "refused")?;
     }
-    let event = event(&rt)?;
+    if interrogation_meets_refusal(&rt, &mut hub) {
+        println!(rt; "refused")?;
+    }
     check_news(&rt, &mut hub, &event);
     Ok(())
 }

@@ -651,7 +651,7 @@ const TWO: &[Row] = &[
     ("pump 7 0", "nothing"),
 ];
 
-/// A client that interrogated too little or too much closes itself alone.
+/// An interrogation without its qualifier closes the connection of that client alone.
 const ONE_OF_TWO: &[Row] = &[
     ("open 7 0", "ok"),
     ("frame 7 0 68 04 07 00 00 00", "taken"),

@@ -428,21 +428,21 @@ fn qualifiers(rt: HostRuntime) -> Result<(), Fail> {
     talk.check(&rt, "qualifiers")
 }
 
+/// A command with this object, and its deactivation, are confirmed negatively.
+fn deny(talk: &mut Talk, known: Asdu, object: &[u8]) -> Result<(), Fail> {
+    let asdu = known.with_object(object);
+    talk.ask(asdu, asdu.with_cause(0x47))?;
+    talk.ask(asdu.with_cause(8), asdu.with_cause(0x49))
+}
+
 /// Commands, until they are carried out: selects and executes, and their deactivations.
 #[test]
 fn commands(rt: HostRuntime) -> Result<(), Fail> {
     let mut talk = Talk::new(rt.alloc())?;
     for element in 0..=255u8 {
-        let objects: [&[u8]; 3] = [
-            &[0x89, 0x13, 0, element],
-            &[0x8B, 0x13, 0, element],
-            &[0x8A, 0x13, 0, 0xE8, 0x03, element],
-        ];
-        for (known, object) in COMMANDS.iter().zip(objects) {
-            let asdu = known.with_object(object);
-            talk.ask(asdu, asdu.with_cause(0x47))?;
-            talk.ask(asdu.with_cause(8), asdu.with_cause(0x49))?;
-        }
+        deny(&mut talk, SINGLE, &[0x89, 0x13, 0, element])?;
+        deny(&mut talk, DOUBLE, &[0x8B, 0x13, 0, element])?;
+        deny(&mut talk, SETPOINT, &[0x8A, 0x13, 0, 0xE8, 0x03, element])?;
     }
     talk.check(&rt, "commands")
 }
