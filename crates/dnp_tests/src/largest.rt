@@ -1,7 +1,7 @@
 //! Calls that take memory, at their largest sizes: no contract tells memory that ran out from a limit of the code.
 ghost use Rattle.std.specs.Prelude.{◌≤◌, length};
 
-use dnp_app::{Response, read_response};
+use dnp_app::Response;
 use dnp_link::laws::events_of;
 use dnp_link::{LinkEvent, LinkFeed, Why, write_frame};
 use dnp_objects::{Header, headers};
@@ -147,76 +147,8 @@ fn largest_object_parts(rt: HostRuntime) -> Result<(), Fail> {
     check_most_objects(&rt)
 }
 
-/// Fragments of 2,048 octets: the octets up to the objects, what stands behind them so many times, how many reports
-/// they give, the index of the last, and how many objects are stepped over.
-type Largest = (&'static [u8], &'static [u8], u16, usize, Option<u16>, usize);
-
-const RESPONSES: &[Largest] = &[
-    // 511 headers without an object; 341 headers, all but the first with an event.
-    (b"\xC0\x81\x00\x00", b"\x33\x02\x07\x00", 511, 0, None, 0),
-    (
-        b"\xC0\x81\x00\x00\x33\x02\x07\x00",
-        b"\x02\x01\x17\x01\x05\x81",
-        340,
-        340,
-        Some(5),
-        0,
-    ),
-    // 2,037 output states; as many strings of one octet, which are stepped over.
-    (
-        b"\xC0\x81\x00\x00\x0A\x02\x01\x00\x00\xF4\x07",
-        b"\x81",
-        2037,
-        2037,
-        Some(2036),
-        0,
-    ),
-    (
-        b"\xC0\x81\x00\x00\x6E\x01\x01\x00\x00\xF4\x07",
-        b"\x41",
-        2037,
-        0,
-        None,
-        2037,
-    ),
-    // 16,296 inputs, and 8,148 double-bit inputs.
-    (PACKED_FRONT, b"\xFF", 2037, 16_296, Some(16_295), 0),
-    (
-        b"\xC0\x81\x00\x00\x03\x01\x01\x00\x00\xD3\x1F",
-        b"\xAA",
-        2037,
-        8148,
-        Some(8147),
-        0,
-    ),
-];
-
 /// The octets before the states of 16,296 inputs.
 const PACKED_FRONT: &[u8] = b"\xC0\x81\x00\x00\x01\x01\x01\x00\x00\xA7\x3F";
-
-/// A fragment of outstation 0 is read.
-fn read_fragment(rt: &(impl Abort + AllocGlobal), fragment: Vec<u8>) -> Result<Response, Fail> {
-    assert_eq!(rt; fragment.len(), 2048);
-    Ok(read_response(rt.alloc(), 0, fragment)?)
-}
-
-fn check_response(rt: &(impl Abort + AllocGlobal), row: &Largest) -> Result<(), Fail> {
-    let (front, octets, times, count, last, stepped_over) = *row;
-    let fragment = repeated(rt.alloc(), front, octets, times)?;
-    let response = read_fragment(rt, fragment)?;
-    check_count(rt, response.octets().len(), 2048);
-    check_count(rt, response.stepped_over(), stepped_over);
-    check_reports(rt, response.reports(), count, last);
-    Ok(())
-}
-
-#[test]
-fn largest_responses(rt: HostRuntime) -> Result<(), Fail> {
-    for row in RESPONSES {
-        check_response(&rt, row)?;
-    }
-    Ok(())
-}
 
 /// The fragment that a segment ends, if it ends one.
 fn ended(assembler: &mut Assembler, segment: &[u8]) -> Result<Option<Vec<u8>>, Fail> {
@@ -315,7 +247,7 @@ fn fragment_of_any_number(rt: HostRuntime) -> Result<(), Fail> {
 }
 
 /// The frames of a fragment.
-pub fn frames_of(alloc: Global, fragment: &[u8]) -> Result<Vec<u8>, Fail>
+fn frames_of(alloc: Global, fragment: &[u8]) -> Result<Vec<u8>, Fail>
     requires { length fragment.now ≤ 2048 }
 {
     let mut stream = Vec::new(alloc);

@@ -39,14 +39,6 @@ pub fn read(alloc: Global, octets: &[u8], zone: &Zone) -> Result<Monitor, Fail> 
     Ok(read_monitor(alloc, octets, zone)?)
 }
 
-pub fn check_same(rt: &impl Abort, found: &Observation, wanted: Observation) {
-    assert_eq!(rt; *found, wanted);
-}
-
-pub fn check_head(rt: &impl Abort, read: &Monitor, common: u16, cause: u8) {
-    assert_eq!(rt; (read.common, read.cause), (common, cause));
-}
-
 /// One observation was read.
 pub fn check_one(rt: &impl Abort, read: &Monitor, wanted: Observation, octets: &[u8]) {
     assert_eq!(rt;

@@ -1,8 +1,9 @@
 //! Calls that take memory, at their largest sizes: no contract tells memory that ran out from a limit of the code.
-ghost use Rattle.std.specs.Prelude.{◌<◌};
+ghost use Rattle.std.specs.Prelude.{◌≡◌, ◌+◌, ◌^◌, ◌<◌};
+ghost use Rattle.iec_window.specs.Counts.{sent_in_all};
+ghost use Rattle.iec_window.specs.Steps.{counts_after_sending_i};
 
-use crate::checks::{check_same, observed, read};
-use crate::window::{check_room, check_sent};
+use crate::checks::{observed, read};
 use gw_model::{Observation, Quality, Stamp, Value};
 use gw_time::Zone;
 use iec_apci::laws::apdus_of;
@@ -93,7 +94,8 @@ fn check_all(rt: &impl Abort, found: &[Observation], count: u8, value: Value, st
     assert_eq!(rt; found.len(), usize::from(count));
     for (found, place) in found.iter().zip(0..count) {
         let address = 4096 + u32::from(place);
-        check_same(rt, found, observed(&(address, value, Quality::GOOD, stamp)));
+        let wanted = observed(&(address, value, Quality::GOOD, stamp));
+        assert_eq!(rt; *found, wanted);
     }
 }
 
@@ -195,6 +197,15 @@ fn windows_of_any_parameters(rt: HostRuntime) -> Result<(), Fail> {
     Ok(())
 }
 
+/// There is room, and an I format is sent with these numbers.
+fn check_sent(rt: &impl Abort, window: &mut Window, moment: u64, numbers: (u16, u16))
+    requires { sent_in_all window.old + 1 < 2 ^ 64 }
+    ensures { window.new ≡ counts_after_sending_i moment window.old }
+{
+    assert!(rt; window.may_send());
+    assert_eq!(rt; window.sent(moment), numbers);
+}
+
 /// A window of k takes k I formats and no more, and after their acknowledgement as many again.
 fn check_window(rt: &impl Abort, alloc: Global, k: u16) -> Result<(), Fail>
     requires { k < 32768 }
@@ -203,7 +214,7 @@ fn check_window(rt: &impl Abort, alloc: Global, k: u16) -> Result<(), Fail>
     for number in 0..k {
         check_sent(rt, &mut window, 5, (number, 0));
     }
-    check_room(rt, &window, false);
+    assert!(rt; !window.may_send());
     assert_eq!(rt; window.acknowledged(k, 6), Ok(()));
     check_sent(rt, &mut window, 7, (k, 0));
     Ok(())

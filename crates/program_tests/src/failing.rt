@@ -1,6 +1,7 @@
 //! Tests of readers and writers that fail, in the middle of both programs.
-use crate::script::{DEFAULT, Program, check_end, run};
+use crate::script::{Program, check_end, run};
 use gw_input::{Stop, finish};
+use gw_map::DEFAULT_SETTINGS;
 use std::alloc::AllocError;
 use std::io::{self, BufRead, BufReader, BufWriter, ErrorKind, Read, Write};
 use std::process::Abort;
@@ -69,7 +70,13 @@ fn check_read(
     };
     let reader = BufReader::new(rt.alloc(), reader)?;
     let mut output = Vec::new(rt.alloc());
-    let status = run(rt.alloc(), example.program, DEFAULT, reader, &mut output)?;
+    let status = run(
+        rt.alloc(),
+        example.program,
+        DEFAULT_SETTINGS,
+        reader,
+        &mut output,
+    )?;
     let wanted = (example.output, u8::from(last.is_some()));
     check_end(rt, "the last read", (output.as_slice(), status), wanted);
     Ok(())
@@ -156,7 +163,13 @@ fn check_room(rt: &(impl Abort + AllocGlobal), example: &Example, room: usize) -
         room,
         flushes: true,
     };
-    let status = run(rt.alloc(), example.program, DEFAULT, example.input, writer)?;
+    let status = run(
+        rt.alloc(),
+        example.program,
+        DEFAULT_SETTINGS,
+        example.input,
+        writer,
+    )?;
     assert!(rt;
         example.output.starts_with(taken.as_slice()),
         "with room for {room} octets"
@@ -190,7 +203,13 @@ fn status_flushed(rt: &impl AllocGlobal, example: &Example, flushes: bool) -> Re
         flushes,
     };
     let writer = BufWriter::new(rt.alloc(), small)?;
-    run(rt.alloc(), example.program, DEFAULT, example.input, writer)
+    run(
+        rt.alloc(),
+        example.program,
+        DEFAULT_SETTINGS,
+        example.input,
+        writer,
+    )
 }
 
 /// What is written is not all taken until the writer was flushed, and a failure there is a failure to write.

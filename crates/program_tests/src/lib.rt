@@ -1,30 +1,16 @@
-//! Tests of the programs through their public calls: the lines that they read and write, and readers and writers that
-//! fail.
+//! Tests of the programs through their public calls: readers and writers that fail, each ASDU that a client may send, and
+//! words and numbers. `transcripts/` has what the programs write for lines.
 #![tactic(auto)]
 
 #[cfg(test)]
-mod checker;
-#[cfg(test)]
 mod failing;
 #[cfg(test)]
-mod frames;
+mod hub;
 #[cfg(test)]
-mod interrogations;
-#[cfg(test)]
-mod largest;
-#[cfg(test)]
-mod polls;
-#[cfg(test)]
-mod queues;
-#[cfg(test)]
-mod replay;
+mod replies;
 #[cfg(test)]
 mod requests;
 #[cfg(test)]
 mod script;
 #[cfg(test)]
-mod sessions;
-#[cfg(test)]
 mod text;
-#[cfg(test)]
-mod translator;

@@ -1,16 +1,14 @@
 //! Replays of what a client sends in I formats: each type, cause, address, length and qualifier, and what answers it.
-use crate::script::{START, Script, check_replay};
+use crate::script::{START, Script};
 use gw_map::DEFAULT_SETTINGS;
 use std::alloc::Global;
 use std::io::Write;
 use std::process::Abort;
 use std::test::Fail;
 
-/// The default settings with a double command beside the other controls.
-const CONTROLLED: &[&str] = &[
-    DEFAULT_SETTINGS,
-    "\n[[control]]\noutstation = 0\nshow = \"double\"\nindex = 5\naddress = 5003\n",
-];
+/// A double command, beside the controls of the default settings.
+const CONTROL: &str =
+    "\n[[control]]\noutstation = 0\nshow = \"double\"\nindex = 5\naddress = 5003\n";
 
 /// An ASDU: its header, and its object.
 #[derive(Clone, Copy)]
@@ -201,8 +199,9 @@ impl Talk {
     /// All is printed as wanted, and at the end nothing waits.
     fn check(mut self, rt: &(impl Abort + AllocGlobal), name: &str) -> Result<(), Fail> {
         self.script.say_all(&[("pump 0 0", "nothing")])?;
-        let wanted = (self.script.output.as_slice(), 0);
-        check_replay(rt, name, CONTROLLED, self.script.input.as_slice(), wanted)
+        let mut settings = String::from_str(rt.alloc(), DEFAULT_SETTINGS)?;
+        settings.push_str(CONTROL)?;
+        self.script.check(rt, name, settings.as_str())
     }
 }
 
@@ -581,4 +580,16 @@ fn closes_in_order(rt: HostRuntime) -> Result<(), Fail> {
     talk.got = 2;
     talk.close_by(READ, "closed Sequence")?;
     talk.check(&rt, "closes in order")
+}
+
+// ---- numbers
+
+/// The numbers of both sides go on with 0 behind 32,767: 32,769 reads are answered.
+#[test]
+fn numbers_begin_again(rt: HostRuntime) -> Result<(), Fail> {
+    let mut talk = Talk::new(rt.alloc())?;
+    for _ in 0..32769u16 {
+        talk.ask(READ, INPUT_READ)?;
+    }
+    talk.check(&rt, "numbers begin again")
 }

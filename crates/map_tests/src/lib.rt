@@ -1,5 +1,0 @@
-//! Tests of settings through their public calls.
-#![tactic(auto)]
-
-#[cfg(test)]
-mod settings;

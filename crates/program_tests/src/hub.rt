@@ -1,0 +1,85 @@
+//! The hub and what it stands on: calls that take memory, at sizes that no transcript has, and numbers and words.
+use gw_answers::answer_to;
+use gw_hub::{Hub, Reply, Step};
+use gw_map::{DEFAULT_SETTINGS, Settings};
+use gw_model::{Observation, Quality, Stamp, Value};
+use gw_station::Why;
+use gw_time::TagFault;
+use iec_command::causes::ACTIVATION;
+use iec_command::{Action, Command};
+use std::process::Abort;
+use std::test::Fail;
+
+/// A station interrogation.
+const ACT: Command = Command {
+    cause: ACTIVATION,
+    negative: false,
+    test: false,
+    originator: 0,
+    common_address: 1,
+    address: 0,
+    action: Action::Interrogation { qualifier: 20 },
+};
+
+/// Of 20,000 rows each is told, between the confirmation and the termination.
+#[test]
+fn all_rows_are_told(rt: HostRuntime) -> Result<(), Fail> {
+    let mut picture = Vec::new(rt.alloc());
+    for address in 1..20_001u32 {
+        picture.push(Observation {
+            address,
+            value: Value::Single(true),
+            quality: Quality::GOOD,
+            stamp: Stamp::Untimed,
+        })?;
+    }
+    let parts = answer_to(rt.alloc(), &ACT, picture.as_slice())?;
+    assert_eq!(rt; parts.len(), 20_002);
+    Ok(())
+}
+
+/// Many steps in one run.
+#[test]
+fn a_long_run(rt: HostRuntime) -> Result<(), Fail> {
+    let mut steps = Vec::new(rt.alloc());
+    steps.push(Step::ClientUp {
+        client: 0,
+        moment: 0,
+    })?;
+    for _ in 0..10_000u16 {
+        steps.push(Step::Pump {
+            client: 0,
+            moment: 0,
+        })?;
+    }
+    let settings = Settings::read(rt.alloc(), DEFAULT_SETTINGS)?;
+    let (hub, replies) = Hub::run(rt.alloc(), settings, steps)?;
+    assert_eq!(rt; (hub.queued(0), replies.len()), (0, 10_001));
+    assert_eq!(rt; replies.last(), Some(&Ok(Reply::Nothing)));
+    Ok(())
+}
+
+/// The numbers by which a log names the causes of a close.
+#[test]
+fn causes_are_numbered(rt: HostRuntime) {
+    let causes = [
+        Why::Sequence,
+        Why::NotStarted,
+        Why::Malformed,
+        Why::Flooded,
+        Why::Timer,
+    ];
+    assert_eq!(rt; causes.map(|why| why as u8), [1, 2, 3, 4, 5]);
+}
+
+#[test]
+fn words_of_faults_of_tags(rt: HostRuntime) -> Result<(), Fail> {
+    for (fault, number, text) in [
+        (TagFault::Field, 1, "1 Field"),
+        (TagFault::Date, 2, "2 Date"),
+    ] {
+        assert_eq!(rt; fault as u8, number);
+        assert_eq!(rt; fault.to_string(rt.alloc())?.as_str(), text);
+    }
+    Ok(())
+}
