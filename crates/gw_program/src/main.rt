@@ -1,10 +1,8 @@
 //! The gateway's programs.
 #![tactic(auto)]
 
-mod command_line;
-
-use command_line::{Asked, LineFault, command_line as read_words};
 use gw_checker::{Unusable, check_settings, explain, read_file, read_settings};
+use gw_command_line::{Asked, LineFault, command_line as read_words};
 use gw_map::{DEFAULT_SETTINGS, Settings};
 use gw_replay::replay;
 use gw_translator::translate;
@@ -25,33 +23,53 @@ fn main(rt: HostRuntime) -> io::Result<ExitCode> {
         words.push(argument.as_str())?;
     }
     let status = match read_words(rt.alloc(), words.as_slice()) {
-        Ok(Asked::Check { file }) => check(&rt, file)?,
-        Ok(Asked::Translate { settings }) => match settings_given(&rt, settings) {
-            Ok(settings) => {
-                let reader = BufReader::new(rt.alloc(), rt.reader())?;
-                let writer = BufWriter::new(rt.alloc(), io::writer(&rt))?;
-                translate(rt.alloc(), settings, reader, writer)
-            }
-            Err(why) => refuse(&rt, &why)?,
-        },
-        Ok(Asked::Replay { file }) => match settings_given(&rt, Some(file)) {
-            Ok(settings) => {
-                let reader = BufReader::new(rt.alloc(), rt.reader())?;
-                let writer = BufWriter::new(rt.alloc(), io::writer(&rt))?;
-                replay(rt.alloc(), settings, reader, writer)
-            }
-            Err(why) => refuse(&rt, &why)?,
-        },
-        Err(LineFault::Clap(error)) => {
-            eprint!(rt; "{error}")?;
-            USAGE
-        }
-        Err(LineFault::Memory) => {
-            println!(rt; "refused memory")?;
-            REFUSED
-        }
+        Ok(asked) => answer(&rt, asked)?,
+        Err(fault) => tell(&rt, &fault)?,
     };
     Ok(ExitCode::from(status))
+}
+
+/// Does what a command line asks for; gives the status.
+fn answer(rt: &HostRuntime, asked: Asked) -> io::Result<u8> {
+    match asked {
+        Asked::Check { file } => check(rt, file),
+        Asked::Translate { settings } => match settings_given(rt, settings) {
+            Ok(settings) => translate_input(rt, settings),
+            Err(why) => refuse(rt, &why),
+        },
+        Asked::Replay { file } => match settings_given(rt, Some(file)) {
+            Ok(settings) => replay_input(rt, settings),
+            Err(why) => refuse(rt, &why),
+        },
+    }
+}
+
+/// Writes why a command line asks for nothing; gives the status.
+fn tell(rt: &HostRuntime, fault: &LineFault) -> io::Result<u8> {
+    match fault {
+        LineFault::Clap(error) => {
+            eprint!(rt; "{error}")?;
+            Ok(USAGE)
+        }
+        LineFault::Memory => {
+            println!(rt; "refused memory")?;
+            Ok(REFUSED)
+        }
+    }
+}
+
+/// `gateway translate`, from standard input to standard output; gives the status.
+fn translate_input(rt: &HostRuntime, settings: Settings) -> io::Result<u8> {
+    let reader = BufReader::new(rt.alloc(), rt.reader())?;
+    let writer = BufWriter::new(rt.alloc(), io::writer(rt))?;
+    Ok(translate(rt.alloc(), settings, reader, writer))
+}
+
+/// `gateway replay`, from standard input to standard output; gives the status.
+fn replay_input(rt: &HostRuntime, settings: Settings) -> io::Result<u8> {
+    let reader = BufReader::new(rt.alloc(), rt.reader())?;
+    let writer = BufWriter::new(rt.alloc(), io::writer(rt))?;
+    Ok(replay(rt.alloc(), settings, reader, writer))
 }
 
 /// The settings of a file, or those that are used where none is named.

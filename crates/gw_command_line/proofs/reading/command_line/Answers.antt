@@ -4,9 +4,9 @@ use Rattle.clap.specs.Words.{App, HasMatchesOf, fault_of}
 use Rattle.clap.specs.Kinds.{HasKind}
 use Rattle.clap.specs.Walk.{texts}
 use Rattle.clap.proofs.CallerLemmas.{some_of_text}
-use Rattle.gw_program.specs.CommandLine.{asked_of, request_of, spelled}
-use Rattle.gw_program.proofs.LineLemmas.{as_gateway, line_asks, refusal_of}
-use Rattle.gw_program.proofs.command_line.command_line.Goals as goal
+use Rattle.gw_command_line.specs.CommandLine.{asked_of, request_of, spelled}
+use Rattle.gw_command_line.proofs.LineLemmas.{as_gateway, line_asks, refusal_of}
+use Rattle.gw_command_line.proofs.reading.command_line.Goals as goal
 
 pub returns-in_err-matches-clause-refused : goal.returns-in_err-matches-clause-refused
 returns-in_err-matches-clause-refused c =

@@ -8,10 +8,10 @@ use Rattle.clap.specs.declared.builder.action.ArgAction.TheVariants.{Set}
 use Rattle.clap.specs.declared.error.Error.{Error}
 use Rattle.clap.specs.declared.error.kind.ErrorKind.{ErrorKind}
 use Rattle.clap.specs.declared.error.kind.ErrorKind.TheVariants.{OutOfMemory}
-use Rattle.gw_program.specs.declared.command_line.Asked.{Asked}
-use Rattle.gw_program.specs.declared.command_line.Asked.TheVariants.{Check, Translate, Replay}
-use Rattle.gw_program.specs.declared.command_line.LineFault.{LineFault}
-use Rattle.gw_program.specs.declared.command_line.LineFault.TheVariants.{Clap, Memory}
+use Rattle.gw_command_line.specs.declared.reading.Asked.{Asked}
+use Rattle.gw_command_line.specs.declared.reading.Asked.TheVariants.{Check, Translate, Replay}
+use Rattle.gw_command_line.specs.declared.reading.LineFault.{LineFault}
+use Rattle.gw_command_line.specs.declared.reading.LineFault.TheVariants.{Clap, Memory}
 
 -- ---- the program
 

@@ -4,7 +4,7 @@
 ghost use Rattle.std.specs.Prelude.{◌≡◌, [], ◌∷◌, codes, None, Some};
 ghost use Rattle.clap.specs.Words.{fault_of};
 ghost use Rattle.clap.specs.declared.error.ErrorKind.TheVariants.{DisplayHelp, InvalidSubcommand, MissingRequiredArgument, MissingSubcommand, UnknownArgument};
-ghost use Rattle.gw_program.specs.CommandLine.{gateway, spelled, to_check, to_replay, to_translate};
+ghost use Rattle.gw_command_line.specs.CommandLine.{gateway, spelled, to_check, to_replay, to_translate};
 
 /// Four lines that ask for something, and five that are refused, with the kinds of error that may
 /// say so. A word that is no subcommand may be called an unknown argument too.

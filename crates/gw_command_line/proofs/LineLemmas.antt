@@ -15,7 +15,7 @@ use Rattle.clap.specs.declared.error.ErrorKind.TheVariants.{DisplayHelp, Invalid
 use Rattle.clap.specs.Words.{first_of, first_value, rows_of}
 use Rattle.clap.specs.declared.parser.matches.Found.{Found}
 use Rattle.clap.proofs.WalkLemmas.{first_value-rows}
-use Rattle.gw_program.specs.CommandLine.{IsRefusal, as_fault, asked_of, fault_as, gateway, spelled}
+use Rattle.gw_command_line.specs.CommandLine.{IsRefusal, as_fault, asked_of, fault_as, gateway, spelled}
 
 -- ---- a line that is not refused does not stop at `help`, for which help is the answer
 

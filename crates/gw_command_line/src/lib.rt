@@ -1,0 +1,6 @@
+//! The program's command line, read by `clap`.
+#![tactic(auto)]
+
+mod reading;
+
+pub use reading::{Asked, LineFault, command_line};
