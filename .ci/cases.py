@@ -12,6 +12,8 @@ ESCAPES = {b"t": b"\t", b"r": b"\r", b"0": b"\0", b"\\": b"\\", b"c": b""}
 
 @dataclass
 class Case:
+    """Words of a command line, what is given on standard input, and what is wanted of both outputs and the status."""
+
     title: str
     place: str
     words: list = field(default_factory=list)
