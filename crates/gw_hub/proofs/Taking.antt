@@ -31,7 +31,8 @@ use Rattle.gw_station.specs.Sound.{IsSoundClient, IsWholeEvent, CanAnswer, CanTa
 use Rattle.gw_station.proofs.Queues.{came-nil, came-twice}
 use Rattle.gw_station.proofs.Sounds.{sendable-append, sound_later, sound_with_news, sound_after_apdu, sound_told}
 use Rattle.gw_steps.specs.Steps.{client_answered, client_after_frame}
-use Rattle.gw_hub.specs.Clients.{CanCount, CanPump}
+use Rattle.gw_parts.specs.Clients.{CanCount, CanPump}
+use Rattle.gw_parts.proofs.Sounds.{sound_more}
 
 -- ---- news that come one after the other
 
@@ -58,11 +59,6 @@ can_fewer m n (c ∷ cs) le all = (record { count = omega (arith, le, all.0.coun
 
 -- ---- what every client keeps
 
--- more steps were made, and more news came
-pub sound_more : (offset : ℤ) (n m i j : ℕ) (cs : List Client) → n ≤ m → i ≤ j → AllByRecursion (IsSoundClient offset n i) cs → AllByRecursion (IsSoundClient offset m j) cs
-sound_more offset n m i j [] le few all = tt
-sound_more offset n m i j (c ∷ cs) le few all = (sound_later offset n m i j c le few all.0, sound_more offset n m i j cs le few all.1)
-
 change_sound : (offset : ℤ) (n m i p : ℕ) (f : Client → Client) (cs : List Client) → n ≤ m → ((c : Client) → IsSoundClient offset n i c → IsSoundClient offset m i (f c))
     → AllByRecursion (IsSoundClient offset n i) cs → AllByRecursion (IsSoundClient offset m i) (change p f cs)
 change_sound offset n m i p f [] le keeps all = tt
@@ -81,14 +77,6 @@ sound_change offset n m i j p f cs changed e one few keeps all =
     sound_more offset (n + 1) m i j changed (omega (arith, one)) few
     (subst (AllByRecursion (IsSoundClient offset (n + 1) i)) (sym e) (change_sound offset n (n + 1) i p f cs (omega arith) keeps all))
 
--- one client is another, in a step
-pub sound_set : (offset : ℤ) (n i p : ℕ) (cs : List Client) (c : Client) → IsSoundClient offset (n + 1) i c → AllByRecursion (IsSoundClient offset n i) cs
-    → AllByRecursion (IsSoundClient offset (n + 1) i) (set cs p c)
-sound_set offset n i p [] c sound all = tt
-sound_set offset n i zero (x ∷ cs) c sound all = (sound, sound_more offset n (n + 1) i i cs (omega arith) (omega arith) all.1)
-sound_set offset n i (suc p) (x ∷ cs) c sound all =
-    (sound_later offset n (n + 1) i i x (omega arith) (omega arith) all.0, sound_set offset n i p cs c sound all.1)
-
 map_sound : (offset : ℤ) (n i j : ℕ) (f : Client → Client) (cs : List Client) → ((c : Client) → IsSoundClient offset n i c → IsSoundClient offset n j (f c))
     → AllByRecursion (IsSoundClient offset n i) cs → AllByRecursion (IsSoundClient offset n j) (map f cs)
 map_sound offset n i j f [] keeps all = tt
@@ -106,27 +94,10 @@ sound_came offset n m i j xs cs changed e sends le few all =
     sound_more offset n m (i + length xs) j changed le few
     (sound_changed offset n i (i + length xs) (client_with_news xs) cs changed e (λ c sound. sound_with_news offset n i xs c sends sound) all)
 
--- ---- an APDU
-
 -- what is shown can be sent
 pub sendable_shown : (offset : ℤ) (xs : List Observation) → AllByRecursion IsShown xs → AllByRecursion (IsSendable offset) xs
 sendable_shown offset [] all = tt
 sendable_shown offset (x ∷ xs) all = (record { fit = shown_fit offset x all.0; width = all.0.width }, sendable_shown offset xs all.1)
-
--- a command was answered
-sound_answered : (offset : ℤ) (n i : ℕ) (event : Event) (c : Client) → IsWholeEvent event → IsSoundClient offset n i c
-    → IsSoundClient offset n i (client_answered event c)
-sound_answered offset n i events.Taken c whole sound = sound
-sound_answered offset n i (events.Command command) c whole sound = sound_told offset n i Negative command c whole sound
-sound_answered offset n i (events.Closed why) c whole sound = sound
-
--- an APDU was taken, and a command in it answered
-pub sound_after_frame : (offset : ℤ) (n i : ℕ) (setup : Setup) (picture : List Observation) (moment : ℕ) (apdu : Apdu) (c after : Client) (event : Event)
-    → event ≡ event_of setup apdu c → IsWholeEvent event → after ≡ client_after_apdu setup picture moment apdu c → CanAnswer offset after
-    → IsSoundClient offset n i c → IsSoundClient offset (n + 1) i (client_after_frame setup picture moment apdu c)
-sound_after_frame offset n i setup picture moment apdu c after event is whole e answers sound =
-    sound_answered offset (n + 1) i (event_of setup apdu c) (client_after_apdu setup picture moment apdu c) (subst IsWholeEvent is whole)
-    (sound_after_apdu offset n i setup picture moment apdu c (subst (CanAnswer offset) e answers) sound)
 
 -- ---- what can be counted
 

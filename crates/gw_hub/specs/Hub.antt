@@ -1,5 +1,5 @@
 -- The hub, as its contracts see it: the settings that it runs with, and its state.
-use Rattle.std.specs.Prelude.{◌≡◌, ℕ, ◌+◌, ◌^◌, ◌<◌, Bool, List, length, Result}
+use Rattle.std.specs.Prelude.{◌≡◌, ℕ, ◌+◌, ◌^◌, ◌<◌, Bool, List, length, Option, Some, None, Result, Ok, Err}
 use Rattle.std.specs.List.{AllByRecursion}
 use Rattle.gw_model.specs.declared.point.Report.{Report}
 use Rattle.gw_map.specs.Settings.{Setup}
@@ -62,3 +62,8 @@ state_with_response hub moment response =
       counts = raised hub.state.counts (step_with (news_among hub response.reports) 0);
       moment = latest hub.state moment;
     }
+
+-- why a step is not made, if there is a reason
+abbrev pub unless : Option StepFault → Result (Unit {0}) StepFault
+unless None = Ok tt
+unless (Some fault) = Err fault

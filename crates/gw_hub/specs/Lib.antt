@@ -1,3 +1,1 @@
-pub mod Clients
-pub mod Outstations
 pub mod Hub

@@ -21,15 +21,14 @@ ghost use Rattle.gw_mirror.specs.Interrogations.{AnswersInterrogations};
 ghost use Rattle.gw_mirror.specs.Line.{KeepsLine};
 ghost use Rattle.gw_mirror.specs.Mirror.{Mirrors};
 ghost use Rattle.gw_mirror.specs.Right.{JudgesLast};
-ghost use Rattle.gw_hub.specs.Clients.{dropped_at, queued_at, unless};
-ghost use Rattle.gw_hub.specs.Hub.{can_count, can_take, news_of_all, news_of_one, state_counting, state_with_response, Answers, IsCounted};
+ghost use Rattle.gw_parts.specs.Clients.{dropped_at, queued_at};
+ghost use Rattle.gw_hub.specs.Hub.{can_count, can_take, news_of_all, news_of_one, state_counting, state_with_response, unless, Answers, IsCounted};
 
-use crate::clients::Clients;
 use crate::counts::Counts;
-use crate::outstations::Outstations;
 use dnp_app::Response;
 use gw_map::{Settings, Station};
 use gw_model::{Memory, Observation, Report};
+use gw_parts::{Clients, Outstations};
 use gw_picture::Picture;
 use gw_steps::{Reply, Step, StepFault};
 use iec_apci::Apdu;

@@ -3,10 +3,8 @@
 //! `gw_news` hold. There are places for eight clients.
 #![tactic(auto)]
 
-mod clients;
 mod counts;
 mod hub;
-mod outstations;
 
 pub use dnp_master::{Ignored, Verdict};
 pub use gw_station::Why;

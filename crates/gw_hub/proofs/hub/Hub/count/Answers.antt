@@ -1,6 +1,7 @@
 use Rattle.std.proofs.Common.{ap, arith, rules}
 use Rattle.gw_steps.specs.State.{Counts}
-use Rattle.gw_hub.proofs.Taking.{can_rise_step, sound_more}
+use Rattle.gw_parts.proofs.Sounds.{sound_more}
+use Rattle.gw_hub.proofs.Taking.{can_rise_step}
 use Rattle.gw_hub.proofs.hub.Hub.count.Goals as goal
 
 pub returns-clause-counted : goal.returns-clause-counted

@@ -2,7 +2,8 @@ use Rattle.std.proofs.Common.{◌+◌, ◌≤◌, sym, ap, subst, arith, rules}
 use Rattle.std.specs.List.{AllByRecursion}
 use Rattle.gw_answers.specs.Meaning.{IsSendable}
 use Rattle.gw_steps.specs.State.{Counts}
-use Rattle.gw_hub.proofs.Taking.{can_rise_step, counts_can, sendable_shown, sound_more}
+use Rattle.gw_parts.proofs.Sounds.{sound_more}
+use Rattle.gw_hub.proofs.Taking.{can_rise_step, counts_can, sendable_shown}
 use Rattle.gw_hub.proofs.hub.Hub.frame.Goals as goal
 
 pub frame-requires : goal.frame-requires

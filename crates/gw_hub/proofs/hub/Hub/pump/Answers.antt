@@ -7,7 +7,7 @@ use Rattle.gw_steps.specs.declared.step.Reply.{Reply}
 use Rattle.gw_steps.specs.declared.step.Step.TheVariants as steps
 use Rattle.gw_steps.specs.State.{State}
 use Rattle.gw_steps.specs.Steps.{fault_of, can_rise, latest, outcome}
-use Rattle.gw_hub.specs.Clients.{reply_to_pump}
+use Rattle.gw_parts.specs.Clients.{reply_to_pump}
 use Rattle.gw_hub.specs.Hub.{Hub, IsCounted, step_with}
 use Rattle.gw_hub.proofs.Taking.{sound_change, pumps_can}
 use Rattle.gw_hub.proofs.hub.Hub.pump.Goals as goal

@@ -1,0 +1,4 @@
+pub mod Places
+pub mod Walks
+pub mod Sounds
+pub mod Bits

@@ -1,0 +1,12 @@
+use Rattle.std.proofs.Common.{arith}
+use Rattle.dnp_master.specs.Master.{master_down}
+use Rattle.gw_parts.proofs.Places.{changed_at, changed_past}
+use Rattle.gw_parts.proofs.outstations.go_down_at.Goals as goal
+
+pub returns-then-position-masters : goal.returns-then-position-masters
+returns-then-position-masters c =
+    changed_at c.args.outstation c.from-position.result (λ master. master_down master.poll) c.args.masters.now c.index-masters-position.result c.down.new.self c.from-position.ensures (omega (arith, c.if-position-masters.true)) c.down.ensures
+
+pub returns-else-position-masters : goal.returns-else-position-masters
+returns-else-position-masters c =
+    changed_past c.args.outstation (λ master. master_down master.poll) c.args.masters.now (omega (arith, c.from-position.ensures, c.if-position-masters.false))

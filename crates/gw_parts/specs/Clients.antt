@@ -1,0 +1,39 @@
+-- What is asked of the clients.
+use Rattle.std.specs.Prelude.{ℕ, ◌+◌, ◌^◌, ◌<◌, length, Option, Some, None}
+use Rattle.std.specs.List.{AllByRecursion}
+use Rattle.gw_map.specs.Settings.{Setup}
+use Rattle.iec_apci.specs.declared.apdu.Apdu.{Apdu}
+use Rattle.iec_window.specs.Counts.{sent_in_all}
+use Rattle.gw_answers.specs.Octets.{IsReturnable}
+use Rattle.gw_station.specs.Client.{Client}
+use Rattle.gw_station.specs.Frames.{event_of}
+use Rattle.gw_station.specs.Pump.{given}
+use Rattle.gw_steps.specs.declared.step.Reply.{Reply}
+use Rattle.gw_steps.specs.Steps.{client_reply, reply_giving, reply_of_event}
+
+-- the reply to an APDU
+abbrev pub reply_to_apdu : Setup → Apdu → Option Client → Reply
+reply_to_apdu setup apdu = client_reply (λ k. reply_of_event (event_of setup apdu k))
+
+-- the reply to a pump at a moment
+abbrev pub reply_to_pump : Setup → ℕ → Option Client → Reply
+reply_to_pump setup moment =
+    client_reply (λ k. reply_giving (given setup.station.offset_minutes setup.station.common_address moment k))
+
+-- one more I format that is received can be counted in 64 bits
+pub record CanCount (k : Client) : Type 0 where
+  pub received : k.window.received + 1 < 2 ^ 64
+
+-- one more I format that is sent can be counted in 64 bits, and the answers that wait can be spelled
+pub record CanPump (k : Client) : Type 0 where
+  pub sent : sent_in_all k.window + 1 < 2 ^ 64
+  pub answers : AllByRecursion IsReturnable k.answers
+
+-- how many news wait at a place, and how many were dropped
+abbrev pub queued_at : Option Client → ℕ
+queued_at None = 0
+queued_at (Some k) = length k.queue
+
+abbrev pub dropped_at : Option Client → ℕ
+dropped_at None = 0
+dropped_at (Some k) = k.dropped
