@@ -94,6 +94,14 @@ def read_cases(names):
     return [one for path in paths for case in cases_of(path) for one in one_by_one(case)]
 
 
+def first_difference(found, wanted):
+    """The first line that differs, as found and as wanted."""
+    one, other = bytes(found).split(b"\n") + [b""], bytes(wanted).split(b"\n") + [b""]
+    number = next(n for n in range(len(one) + len(other)) if one[n : n + 1] != other[n : n + 1])
+    found, wanted = (b"".join(it[number : number + 1]).decode(errors="replace") for it in (one, other))
+    return f"line {number + 1} is {found!r}, wanted {wanted!r}"
+
+
 def build():
     """Proves and builds the program, unless it stands."""
     subprocess.run(["./gateway", "translate"], cwd=ROOT, stdin=subprocess.DEVNULL, check=True)

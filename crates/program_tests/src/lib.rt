@@ -1,16 +1,12 @@
-//! Tests of the programs through their public calls: readers and writers that fail, each ASDU that a client may send, and
-//! words and numbers. `transcripts/` has what the programs write for lines.
+//! Tests of the programs' crates through their public calls: words, numbers, ends and sizes that no run of the program
+//! shows. `transcripts/` and the scripts of `.ci/` have what the programs write for lines.
 #![tactic(auto)]
 
 #[cfg(test)]
-mod failing;
+mod ends;
 #[cfg(test)]
 mod hub;
 #[cfg(test)]
 mod replies;
-#[cfg(test)]
-mod requests;
-#[cfg(test)]
-mod script;
 #[cfg(test)]
 mod text;

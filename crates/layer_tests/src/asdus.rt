@@ -1,0 +1,286 @@
+//! iec_asdu: each bit of the information elements alone, as IEC 60870-5-101, 7.2.6, numbers them, and the most objects.
+use gw_model::{Observation, Quality, Stamp, Value};
+use gw_time::Zone;
+use iec_asdu::{AsduFault, read_monitor, write_monitor};
+use std::alloc::Global;
+use std::process::Abort;
+use std::test::Fail;
+
+const GOOD: Quality = Quality::GOOD;
+
+const IV: Quality = Quality { iv: true, ..GOOD };
+
+const NT: Quality = Quality { nt: true, ..GOOD };
+
+const SB: Quality = Quality { sb: true, ..GOOD };
+
+const BL: Quality = Quality { bl: true, ..GOOD };
+
+const OV: Quality = Quality { ov: true, ..GOOD };
+
+const CY: Quality = Quality { cy: true, ..GOOD };
+
+const CA: Quality = Quality { ca: true, ..GOOD };
+
+/// The bits of SIQ and DIQ (7.2.6.1 and 7.2.6.2).
+const STATE_BITS: &[(u8, Quality)] = &[
+    (0x00, GOOD),
+    (0x10, BL),
+    (0x20, SB),
+    (0x40, NT),
+    (0x80, IV),
+];
+
+/// The bits of QDS (7.2.6.3).
+const DESCRIPTOR_BITS: &[(u8, Quality)] = &[
+    (0x00, GOOD),
+    (0x01, OV),
+    (0x10, BL),
+    (0x20, SB),
+    (0x40, NT),
+    (0x80, IV),
+];
+
+/// The bits behind the sequence number of BCR (7.2.6.9).
+const COUNTER_BITS: &[(u8, Quality)] = &[(0x00, GOOD), (0x20, CY), (0x40, CA), (0x80, IV)];
+
+/// The bits of a counter's sequence number, which are passed over.
+const SEQUENCE_BITS: &[(u8, Quality)] = &[
+    (0x01, GOOD),
+    (0x02, GOOD),
+    (0x04, GOOD),
+    (0x08, GOOD),
+    (0x10, GOOD),
+];
+
+/// The qualities that states, values with QDS, and counters have no bit for.
+const NO_STATE_BITS: &[(u8, Quality)] = &[(0x00, OV), (0x00, CY), (0x00, CA)];
+
+const NO_DESCRIPTOR_BITS: &[(u8, Quality)] = &[(0x00, CY), (0x00, CA)];
+
+const NO_COUNTER_BITS: &[(u8, Quality)] = &[(0x00, NT), (0x00, SB), (0x00, BL), (0x00, OV)];
+
+/// A type identification, a value, its octets before the last, its bits in the last, and the bits of the quality there.
+type Row = (u8, Value, &'static [u8], u8, &'static [(u8, Quality)]);
+
+/// These are written and read as one another.
+const ELEMENTS: &[Row] = &[
+    (1, Value::Single(false), b"", 0x00, STATE_BITS),
+    (1, Value::Single(true), b"", 0x01, STATE_BITS),
+    (3, Value::Double(0), b"", 0x00, STATE_BITS),
+    (3, Value::Double(1), b"", 0x01, STATE_BITS),
+    (3, Value::Double(2), b"", 0x02, STATE_BITS),
+    (3, Value::Double(3), b"", 0x03, STATE_BITS),
+    (
+        7,
+        Value::Word(0x8765_4321),
+        b"\x21\x43\x65\x87",
+        0x00,
+        DESCRIPTOR_BITS,
+    ),
+    (11, Value::Scaled(-2), b"\xFE\xFF", 0x00, DESCRIPTOR_BITS),
+    (
+        15,
+        Value::Total(0x8765_4321),
+        b"\x21\x43\x65\x87",
+        0x00,
+        COUNTER_BITS,
+    ),
+];
+
+/// These are written so, and lose their quality.
+const WITHOUT_BIT: &[Row] = &[
+    (1, Value::Single(false), b"", 0x00, NO_STATE_BITS),
+    (3, Value::Double(0), b"", 0x00, NO_STATE_BITS),
+    (
+        7,
+        Value::Word(0),
+        b"\x00\x00\x00\x00",
+        0x00,
+        NO_DESCRIPTOR_BITS,
+    ),
+    (11, Value::Scaled(0), b"\x00\x00", 0x00, NO_DESCRIPTOR_BITS),
+    (
+        15,
+        Value::Total(0),
+        b"\x00\x00\x00\x00",
+        0x00,
+        NO_COUNTER_BITS,
+    ),
+];
+
+/// These are read so.
+const PASSED_OVER: &[Row] = &[(
+    15,
+    Value::Total(7),
+    b"\x07\x00\x00\x00",
+    0x00,
+    SEQUENCE_BITS,
+)];
+
+/// Types, the octets of an element before the last, and the reserved bits of the last.
+const RESERVED: &[(u8, &[u8], &[u8])] = &[
+    (1, b"", &[0x02, 0x04, 0x08]),
+    (3, b"", &[0x04, 0x08]),
+    (7, b"\x00\x00\x00\x00", &[0x02, 0x04, 0x08]),
+    (11, b"\x00\x00", &[0x02, 0x04, 0x08]),
+];
+
+/// An ASDU of so many of these objects, spontaneous, from address 200,704 on: under SQ 0 with its own address each.
+fn asdu_of(
+    alloc: Global,
+    identification: u8,
+    qualifier: u8,
+    front: &[u8],
+    last: u8,
+) -> Result<Vec<u8>, Fail> {
+    let mut octets = Vec::from_slice(alloc, &[identification, qualifier, 3, 0, 1, 0])?;
+    for place in 0..qualifier % 128 {
+        if place == 0 || qualifier < 128 {
+            octets.extend_from_slice(&[place, 0x10, 0x03])?;
+        }
+        octets.extend_from_slice(front)?;
+        octets.push(last)?;
+    }
+    Ok(octets)
+}
+
+/// The ASDU is read as so many such observations, from address 200,704 on.
+fn check_read(
+    rt: &(impl Abort + AllocGlobal),
+    asdu: &[u8],
+    first: Observation,
+    count: u8,
+) -> Result<(), Fail> {
+    let read = read_monitor(rt.alloc(), asdu, &Zone::UTC)?;
+    assert_eq!(rt; read.observations.len(), usize::from(count), "{asdu:?}");
+    for (found, place) in read.observations.iter().zip(0..count) {
+        let address = 200_704 + u32::from(place);
+        assert_eq!(rt; *found, Observation { address, ..first }, "{asdu:?}");
+    }
+    Ok(())
+}
+
+/// Each row's observations and ASDUs are written as these, and read as those.
+fn check_rows(
+    rt: &(impl Abort + AllocGlobal),
+    rows: &[Row],
+    is_written: bool,
+    is_read: bool,
+) -> Result<(), Fail> {
+    for (identification, value, front, last, bits) in rows {
+        for (bit, quality) in *bits {
+            let asdu = asdu_of(rt.alloc(), *identification, 1, front, *last | *bit)?;
+            let observation = Observation {
+                address: 200_704,
+                value: *value,
+                quality: *quality,
+                stamp: Stamp::Untimed,
+            };
+            if is_written {
+                let mut out = [0xAA; 249];
+                let written = write_monitor(&[observation], 1, 3, &Zone::UTC, &mut out);
+                assert_eq!(rt; written.taken, 1);
+                assert_eq!(rt; out[..written.octets], *asdu.as_slice());
+            }
+            if is_read {
+                check_read(rt, &asdu, observation, 1)?;
+            }
+        }
+    }
+    Ok(())
+}
+
+#[test]
+fn each_bit(rt: HostRuntime) -> Result<(), Fail> {
+    check_rows(&rt, ELEMENTS, true, true)?;
+    check_rows(&rt, WITHOUT_BIT, true, false)?;
+    check_rows(&rt, PASSED_OVER, false, true)?;
+    for (identification, front, bits) in RESERVED {
+        for bit in *bits {
+            let asdu = asdu_of(rt.alloc(), *identification, 1, front, *bit)?;
+            match read_monitor(rt.alloc(), &asdu, &Zone::UTC) {
+                Ok(_) => assert!(rt; false, "{asdu:?}"),
+                Err(fault) => assert_eq!(rt; fault, AsduFault::Reserved, "{asdu:?}"),
+            }
+        }
+    }
+    Ok(())
+}
+
+/// On 14 November 2023 at 22:13:20 UTC.
+const AT: Stamp = Stamp::At(1_700_000_000_000);
+
+const UNTIMED: Stamp = Stamp::Untimed;
+
+const WORD: Value = Value::Word(0x8765_4321);
+
+const TOTAL: Value = Value::Total(0x8765_4321);
+
+/// A type identification, the octets of an object but for the last, the last, and what it tells: value and stamp.
+const OBJECTS: &[(u8, &[u8], u8, Value, Stamp)] = &[
+    (1, b"", 0x01, Value::Single(true), UNTIMED),
+    (3, b"", 0x02, Value::Double(2), UNTIMED),
+    (7, b"\x21\x43\x65\x87", 0x00, WORD, UNTIMED),
+    (11, b"\xFE\xFF", 0x00, Value::Scaled(-2), UNTIMED),
+    (15, b"\x21\x43\x65\x87", 0x00, TOTAL, UNTIMED),
+];
+
+/// The same with their time tags: this is the last octet.
+const TIMED_OBJECTS: &[(u8, &[u8], u8, Value, Stamp)] = &[
+    (
+        30,
+        b"\x01\x20\x4E\x0D\x16\x0E\x0B",
+        0x17,
+        Value::Single(true),
+        AT,
+    ),
+    (
+        31,
+        b"\x02\x20\x4E\x0D\x16\x0E\x0B",
+        0x17,
+        Value::Double(2),
+        AT,
+    ),
+    (
+        33,
+        b"\x21\x43\x65\x87\x00\x20\x4E\x0D\x16\x0E\x0B",
+        0x17,
+        WORD,
+        AT,
+    ),
+    (
+        35,
+        b"\xFE\xFF\x00\x20\x4E\x0D\x16\x0E\x0B",
+        0x17,
+        Value::Scaled(-2),
+        AT,
+    ),
+    (
+        37,
+        b"\x21\x43\x65\x87\x00\x20\x4E\x0D\x16\x0E\x0B",
+        0x17,
+        TOTAL,
+        AT,
+    ),
+];
+
+/// 127 objects of each type, with their own addresses and at consecutive ones.
+#[test]
+fn most_objects(rt: HostRuntime) -> Result<(), Fail> {
+    for rows in [OBJECTS, TIMED_OBJECTS] {
+        for (identification, front, last, value, stamp) in rows {
+            let first = Observation {
+                address: 200_704,
+                value: *value,
+                quality: GOOD,
+                stamp: *stamp,
+            };
+            for qualifier in [0x7F, 0xFF] {
+                let asdu = asdu_of(rt.alloc(), *identification, qualifier, front, *last)?;
+                check_read(&rt, &asdu, first, 127)?;
+            }
+        }
+    }
+    Ok(())
+}

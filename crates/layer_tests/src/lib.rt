@@ -1,0 +1,10 @@
+//! Tests of the layers of DNP3 and IEC 60870-5-104 through their public calls, of what neither a clause nor a program
+//! shows. Worked examples stand with the definitions; `.ci/layers` has streams and windows at their limits.
+#![tactic(auto)]
+
+#[cfg(test)]
+mod asdus;
+#[cfg(test)]
+mod largest;
+#[cfg(test)]
+mod words;
