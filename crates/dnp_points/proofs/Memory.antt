@@ -1,18 +1,16 @@
 -- Where memory runs out, something is reported.
-use Rattle.std.proofs.Common.{◌≡◌, ◌≢◌, ℕ, suc, ◌+◌, ◌-◌, ◌*◌, ◌/◌, ◌<◌, ◌≤◌, List, [], ◌∷◌, ◌++◌, length, get_or, take, drop, Some, Result, Ok, Err, refl, sym, ap, ◌∙◌, drop-cons, arith}
+use Rattle.std.proofs.Common.{◌≡◌, ◌≢◌, ℕ, suc, ◌+◌, ◌-◌, ◌*◌, ◌<◌, ◌≤◌, List, [], ◌∷◌, ◌++◌, length, get_or, take, drop, Some, Result, Ok, Err, refl, sym, ap, ◌∙◌, drop-cons, arith}
 use Rattle.std.specs.Prelude.{OnErr}
 use Rattle.std.proofs.lemmas.List.{length-append}
 use Rattle.gw_model.specs.declared.point.Stamp.{Stamp}
 use Rattle.gw_model.specs.declared.point.Report.{Report}
 use Rattle.dnp_objects.specs.declared.header.Header.{Header}
-use Rattle.dnp_objects.specs.declared.object.Size.{Size}
 use Rattle.dnp_objects.specs.declared.object.Size.TheVariants.{Octets, Bits}
 use Rattle.dnp_objects.specs.Library.{Variation, object_of, size_of}
-use Rattle.dnp_objects.specs.Headers.{body_length}
 use Rattle.dnp_points.specs.Values.{bits_of}
 use Rattle.dnp_points.specs.Objects.{object_reports, packed_reports, index_of, whole_from, packed_from}
 use Rattle.dnp_points.specs.Meaning.{octets_of_objects, times_of, last_or, header_reports, reports_from, reports_of}
-use Rattle.dnp_points.proofs.Steps.{header_is, whole_turn, packed_turn, packed_octets}
+use Rattle.dnp_points.proofs.Steps.{header_is, whole_turn, packed_turn}
 
 -- a list stays as long as one before it, where one more report is stored
 pub grown : (found items before : List Report) (r : Report) → items ≡ found ++ r ∷ [] → length before ≤ length found → length before ≤ length items
@@ -40,20 +38,18 @@ one_whole_told part h v long long' outstation common prefix' first' turn rest in
     (whole_from v long outstation common h.prefix h.first h.count (octets_of_objects part v h)) r le further (sym (header_is part h v outstation common (Octets long) known sized) ∙ none)
 
 -- packed objects, where the report of one of them isn't stored
-pub one_packed_told : (part : List ℕ) (h : Header) (v : Variation) (width width' outstation : ℕ) (common : Stamp) (first' turn : ℕ) (own : List ℕ) (at : ℕ) (found before : List Report) (r : Report)
+pub one_packed_told : (part : List ℕ) (h : Header) (v : Variation) (width width' outstation : ℕ) (common : Stamp) (first' turn : ℕ) (body own : List ℕ) (at : ℕ) (found before : List Report) (r : Report)
     → object_of h.group h.variation ≡ Some v → size_of v ≡ Bits width → turn < h.count → width' ≡ width → first' ≡ h.first → at ≡ first' + turn
-    → own ≡ take width' (drop (turn * width') (bits_of (take (h.start + (h.count * width' + 7) / 8 - h.start) (drop h.start part))))
+    → body ≡ octets_of_objects part v h → own ≡ take width' (drop (turn * width') (bits_of body))
     → packed_reports v outstation at own ≡ r ∷ [] → length before ≤ length found
-    → found ++ packed_from v width outstation (h.first + turn) (h.count - turn) (drop (turn * width) (bits_of (take (h.start + (h.count * width' + 7) / 8 - h.start) (drop h.start part))))
-    ≡ before ++ packed_from v width outstation h.first h.count (bits_of (take (h.start + (h.count * width' + 7) / 8 - h.start) (drop h.start part)))
+    → found ++ packed_from v width outstation (h.first + turn) (h.count - turn) (drop (turn * width) (bits_of body))
+    ≡ before ++ packed_from v width outstation h.first h.count (bits_of body)
     → header_reports part (object_of h.group h.variation) outstation common h ≢ []
-one_packed_told part h v width width' outstation common first' turn own at found before r known sized lt ew ef ex eo told le so_far = λ none.
-    let octets : List ℕ = take (h.start + (h.count * width' + 7) / 8 - h.start) (drop h.start part) in
-    let further = packed_turn v width width' outstation h.first first' turn h.count (bits_of octets) own at found (found ++ r ∷ []) before r lt ew ef ex eo told refl so_far in
-    let body : octets ≡ octets_of_objects part v h = packed_octets width width' h.count h.start part ew ∙ sym (ap (λ (s : Size). take (body_length s h.count h.prefix) (drop h.start part)) sized) in
-    told_more found (packed_from v width outstation (h.first + (turn + 1)) (h.count - (turn + 1)) (drop ((turn + 1) * width) (bits_of octets))) before
-    (packed_from v width outstation h.first h.count (bits_of octets)) r le further
-    (ap (λ (t : List ℕ). packed_from v width outstation h.first h.count (bits_of t)) body ∙ (sym (header_is part h v outstation common (Bits width) known sized) ∙ none))
+one_packed_told part h v width width' outstation common first' turn body own at found before r known sized lt ew ef ex all eo told le so_far = λ none.
+    let further = packed_turn v width width' outstation h.first first' turn h.count (bits_of body) own at found (found ++ r ∷ []) before r lt ew ef ex eo told refl so_far in
+    told_more found (packed_from v width outstation (h.first + (turn + 1)) (h.count - (turn + 1)) (drop ((turn + 1) * width) (bits_of body))) before
+    (packed_from v width outstation h.first h.count (bits_of body)) r le further
+    (ap (λ (t : List ℕ). packed_from v width outstation h.first h.count (bits_of t)) all ∙ (sym (header_is part h v outstation common (Bits width) known sized) ∙ none))
 
 nil_behind : (xs ys : List Report) → xs ++ ys ≡ [] → ys ≡ []
 nil_behind [] ys e = e

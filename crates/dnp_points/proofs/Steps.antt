@@ -1,6 +1,6 @@
 -- Reading a header's objects, and a part's headers, one after the other, as a loop does.
-use Rattle.std.proofs.Common.{◌≡◌, ◌≢◌, ℕ, zero, suc, ◌+◌, ◌-◌, ◌*◌, ◌/◌, ◌<◌, ◌≤◌, List, [], ◌∷◌, ◌++◌, length, take, drop, Option, Some, refl, sym, ap, subst, ◌∙◌, append_assoc, arith}
-use Rattle.std.proofs.lemmas.List.{append-nil, drop-drop, take-take, drop-take}
+use Rattle.std.proofs.Common.{length-drop, ◌≡◌, ◌≢◌, ℕ, zero, suc, ◌+◌, ◌-◌, ◌*◌, ◌/◌, ◌<◌, ◌≤◌, List, [], ◌∷◌, ◌++◌, length, take, drop, Option, Some, refl, sym, ap, subst, ◌∙◌, append_assoc, arith}
+use Rattle.std.proofs.lemmas.List.{append-nil, drop-drop, take-take, drop-take, length-take}
 use Rattle.std.proofs.lemmas.Bool.{ne_eqb}
 use Rattle.gw_model.specs.declared.point.Stamp.{Stamp}
 use Rattle.gw_model.specs.declared.point.Stamp.TheVariants.{At, Doubtful}
@@ -53,6 +53,32 @@ whole_inside part h v long w known sized =
     let same : w.variation ≡ v = some_is w.variation v (sym w.known ∙ known) in
     let size : size_of w.variation ≡ Octets long = ap size_of same ∙ sized in
     rw (ap (λ (s : Size). body_length s h.count h.prefix) size) at w.inside
+
+whole_octets : (part : List ℕ) (h : Header) (v : Variation) (long long' prefix' : ℕ) → size_of v ≡ Octets long → long' ≡ long → prefix' ≡ h.prefix
+    → take (h.start + h.count * (prefix' + long') - h.start) (drop h.start part) ≡ octets_of_objects part v h
+whole_octets part h v long long' prefix' sized el ep =
+    let each : prefix' + long' ≡ h.prefix + long = omega arith in
+    let same : h.count * (prefix' + long') ≡ h.count * (h.prefix + long) = ap (λ (n : ℕ). h.count * n) each in
+    let size : h.start + h.count * (prefix' + long') - h.start ≡ h.count * (h.prefix + long) = omega (arith, same) in
+    ap (λ (n : ℕ). take n (drop h.start part)) size ∙ sym (ap (λ (s : Size). take (body_length s h.count h.prefix) (drop h.start part)) sized)
+
+-- before the first object nothing was read
+pub whole_at_first : (part : List ℕ) (h : Header) (v : Variation) (long long' prefix' outstation : ℕ) (common : Stamp) → size_of v ≡ Octets long → long' ≡ long → prefix' ≡ h.prefix
+    → whole_from v long outstation common h.prefix (h.first + 0) (h.count - 0) (take (h.start + h.count * (prefix' + long') - h.start) (drop h.start part))
+    ≡ whole_from v long outstation common h.prefix h.first h.count (octets_of_objects part v h)
+whole_at_first part h v long long' prefix' outstation common sized el ep =
+    let next : h.first + 0 ≡ h.first = omega arith in
+    let all : h.count - 0 ≡ h.count = omega arith in
+    rw (next, all, whole_octets part h v long long' prefix' sized el ep) refl
+
+pub whole_left_first : (part : List ℕ) (h : Header) (v : Variation) (long long' prefix' : ℕ) (w : IsWithin part h) → object_of h.group h.variation ≡ Some v → size_of v ≡ Octets long → long' ≡ long → prefix' ≡ h.prefix
+    → length (take (h.start + h.count * (prefix' + long') - h.start) (drop h.start part)) ≡ (h.count - 0) * (h.prefix + long)
+whole_left_first part h v long long' prefix' w known sized el ep =
+    let inside = whole_inside part h v long w known sized in
+    let each : prefix' + long' ≡ h.prefix + long = omega arith in
+    let same : h.count * (prefix' + long') ≡ h.count * (h.prefix + long) = ap (λ (n : ℕ). h.count * n) each in
+    let all : (h.count - 0) * (h.prefix + long) ≡ h.count * (h.prefix + long) = ap (λ (n : ℕ). n * (h.prefix + long)) (omega arith) in
+    simp (length-take, length-drop) (omega (arith, same, all, inside))
 
 -- ---- packed objects
 
@@ -208,18 +234,37 @@ packed_turn v width width' outstation first first' turn count bits own at found 
     ap (λ (n : ℕ). packed_reports v outstation n (take width (drop (turn * width) bits))) (sym x) ∙ (ap (packed_reports v outstation at) (sym o) ∙ told) in
     rw pushed (packed_goes_on v width outstation (first + turn) (first + (turn + 1)) (count - turn) (count - (turn + 1)) (turn * width) ((turn + 1) * width) bits found (before ++ packed_from v width outstation first count bits) r more further place one so_far)
 
--- the octets of packed objects, as a loop takes them
-pub packed_octets : (width width' count start : ℕ) (part : List ℕ) → width' ≡ width
-    → take (start + (count * width' + 7) / 8 - start) (drop start part) ≡ take ((count * width + 7) / 8) (drop start part)
-packed_octets width width' count start part e =
-    let same : count * width' ≡ count * width = ap (λ (n : ℕ). count * n) e in
-    let long : start + (count * width' + 7) / 8 - start ≡ (count * width + 7) / 8 = omega (arith, same) in
-    ap (λ (n : ℕ). take n (drop start part)) long
+-- packed objects stand within the part, and their octets are these
+pub packed_inside : (part : List ℕ) (h : Header) (v : Variation) (width width' : ℕ) (w : IsWithin part h) → object_of h.group h.variation ≡ Some v → size_of v ≡ Bits width → width' ≡ width
+    → h.start + (h.count * width' + 7) / 8 ≤ length part
+packed_inside part h v width width' w known sized e =
+    let same : w.variation ≡ v = some_is w.variation v (sym w.known ∙ known) in
+    let size : size_of w.variation ≡ Bits width = ap size_of same ∙ sized in
+    rw e (rw (ap (λ (s : Size). body_length s h.count h.prefix) size) at w.inside)
 
-pub packed_ends : (part : List ℕ) (h : Header) (v : Variation) (width width' outstation : ℕ) (common : Stamp) (next n : ℕ) (rest : List ℕ) (front before : List Report)
-    → object_of h.group h.variation ≡ Some v → size_of v ≡ Bits width → n ≡ 0 → width' ≡ width
-    → front ++ packed_from v width outstation next n rest ≡ before ++ packed_from v width outstation h.first h.count (bits_of (take (h.start + (h.count * width' + 7) / 8 - h.start) (drop h.start part)))
+pub packed_octets : (part : List ℕ) (h : Header) (v : Variation) (width width' : ℕ) → size_of v ≡ Bits width → width' ≡ width
+    → take (h.start + (h.count * width' + 7) / 8 - h.start) (drop h.start part) ≡ octets_of_objects part v h
+packed_octets part h v width width' sized e =
+    let same : h.count * width' ≡ h.count * width = ap (λ (n : ℕ). h.count * n) e in
+    let long : h.start + (h.count * width' + 7) / 8 - h.start ≡ (h.count * width + 7) / 8 = omega (arith, same) in
+    ap (λ (n : ℕ). take n (drop h.start part)) long ∙ sym (ap (λ (s : Size). take (body_length s h.count h.prefix) (drop h.start part)) sized)
+
+pub packed_ends : (part : List ℕ) (h : Header) (v : Variation) (width outstation : ℕ) (common : Stamp) (next n : ℕ) (body rest : List ℕ) (front before : List Report)
+    → object_of h.group h.variation ≡ Some v → size_of v ≡ Bits width → n ≡ 0 → body ≡ octets_of_objects part v h
+    → front ++ packed_from v width outstation next n rest ≡ before ++ packed_from v width outstation h.first h.count (bits_of body)
     → front ≡ before ++ header_reports part (object_of h.group h.variation) outstation common h
-packed_ends part h v width width' outstation common next n rest front before known sized none e so_far =
+packed_ends part h v width outstation common next n body rest front before known sized none all so_far =
     packed_is_done part h v width outstation common next n rest front before known sized none
-    (so_far ∙ ap (λ (t : List ℕ). before ++ packed_from v width outstation h.first h.count (bits_of t)) (packed_octets width width' h.count h.start part e))
+    (so_far ∙ ap (λ (t : List ℕ). before ++ packed_from v width outstation h.first h.count (bits_of t)) (all ∙ body_is))
+  where
+    body_is : octets_of_objects part v h ≡ take ((h.count * width + 7) / 8) (drop h.start part)
+    body_is = ap (λ (s : Size). take (body_length s h.count h.prefix) (drop h.start part)) sized
+
+-- before the first of packed objects nothing was read
+pub packed_at_first : (v : Variation) (width outstation first count : ℕ) (bits : List ℕ)
+    → packed_from v width outstation (first + 0) (count - 0) (drop (0 * width) bits) ≡ packed_from v width outstation first count bits
+packed_at_first v width outstation first count bits =
+    let next : first + 0 ≡ first = omega arith in
+    let all : count - 0 ≡ count = omega arith in
+    let place : 0 * width ≡ 0 = omega arith in
+    rw (next, all, place) refl

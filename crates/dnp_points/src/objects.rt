@@ -1,8 +1,8 @@
 //! Reading a header's objects one after the other.
-ghost use Rattle.std.specs.Prelude.{◌≡◌, ◌≤◌, ◌<◌, Some, length};
+ghost use Rattle.std.specs.Prelude.{◌≡◌, ◌≤◌, ◌<◌, ◌*◌, Some, length};
 ghost use Rattle.dnp_objects.specs.Library.{object_of};
 ghost use Rattle.dnp_points.specs.Objects.{index_of};
-ghost use Rattle.dnp_points.specs.Meaning.{AreFound, Adds};
+ghost use Rattle.dnp_points.specs.Meaning.{octets_of_objects, AreFound, Adds};
 
 use crate::object::Object;
 use crate::packed::{PackedObject, bits_at};
@@ -53,6 +53,18 @@ impl Objects<'_> {
         Ok(())
     }
 
+    /// The octets of packed objects.
+    fn packed_octets<P: PackedObject>(&self) -> &[u8]
+        requires known { object_of self.now.header.now.group self.now.header.now.variation ≡ Some P.variation }
+        requires inside { AreFound self.now }
+        ensures all { result.now ≡ octets_of_objects self.now.part.now P.variation self.now.header.now }
+        ensures long { self.now.header.now.count * P.BITS ≤ 8 * length result.now }
+    {
+        let header = self.header;
+        let octets = (header.count as usize * P::BITS + 7) / 8;
+        &self.part[header.start..header.start + octets]
+    }
+
     /// Adds what they report, packed into octets.
     pub fn push_packed<P: PackedObject>(&self, found: &mut Vec<Report>) -> Result<(), Memory>
         requires known { object_of self.now.header.now.group self.now.header.now.variation ≡ Some P.variation }
@@ -62,8 +74,7 @@ impl Objects<'_> {
         let header = self.header;
         let first = u32::from(header.first);
         let width = P::BITS;
-        let octets = (header.count as usize * width + 7) / 8;
-        let body = &self.part[header.start..header.start + octets];
+        let body = self.packed_octets::<P>();
         for n in 0..header.count {
             let state = bits_at(body, n as usize * width, width);
             let index = (first + n) as u16;

@@ -1,8 +1,15 @@
-use Rattle.std.proofs.Common.{◌≡◌, ◌+◌, ◌-◌, ◌<◌, [], ◌≢◌, arith, rules}
+use Rattle.std.proofs.Common.{◌≡◌, List, ◌++◌, ap, ◌+◌, ◌-◌, ◌<◌, [], ◌≢◌, arith, rules}
 use Rattle.dnp_points.specs.Meaning.{octets_of_objects, reports_of_objects}
-use Rattle.dnp_points.proofs.Steps.{whole_turn, left_behind, whole_is_done}
+use Rattle.dnp_points.proofs.Steps.{whole_at_first, whole_left_first, whole_turn, left_behind, whole_is_done}
 use Rattle.dnp_points.proofs.Memory.{one_whole_told, grown, on_error}
 use Rattle.dnp_points.proofs.objects.Objects.push_whole.Goals as goal
+
+pub loop-n-init : goal.loop-n-init
+loop-n-init g c = record {
+  read = ap (λ (rs : List _). c.args.found.now.items ++ rs) (whole_at_first c.args.self.now.part.now c.args.self.now.header.now g.O.Object.variation g.O.Object.LENGTH c.LENGTH.result c.from-prefix.result c.args.self.now.outstation c.args.self.now.common g.met.O.Object.sized c.LENGTH.ensures c.from-prefix.ensures);
+  grown = omega arith;
+  left = whole_left_first c.args.self.now.part.now c.args.self.now.header.now g.O.Object.variation g.O.Object.LENGTH c.LENGTH.result c.from-prefix.result c.requires.inside.within c.requires.known g.met.O.Object.sized c.LENGTH.ensures c.from-prefix.ensures;
+}
 
 pub loop-n-preserved : goal.loop-n-preserved
 loop-n-preserved g c =
