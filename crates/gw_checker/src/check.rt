@@ -1,5 +1,4 @@
 //! `gateway check`.
-ghost use Rattle.std.specs.Prelude.{◌≤◌};
 
 use crate::listing::write_listing;
 use crate::reading::read_settings;
@@ -7,14 +6,12 @@ use std::alloc::Global;
 use std::io::{self, Write};
 
 /// Writes what the octets of a settings file mean: a line for each point and each control, and how many there are; or
-/// `refused` with what is wrong. The status is 0, or 1 where they are refused or writing failed.
-pub fn check_settings<W: Write + Drop>(alloc: Global, octets: &[u8], writer: W) -> u8
-    ensures few { result ≤ 1 }
-{
+/// `refused` with what is wrong. Whether they are settings, and all was written.
+pub fn check_settings<W: Write + Drop>(alloc: Global, octets: &[u8], writer: W) -> bool {
     let mut writer = writer;
     match write_check(alloc, octets, &mut writer) {
-        Ok(true) if writer.flush().is_ok() => 0,
-        _ => 1,
+        Ok(is_settings) => writer.flush().is_ok() && is_settings,
+        Err(_) => false,
     }
 }
 

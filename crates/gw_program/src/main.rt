@@ -96,11 +96,11 @@ fn check(rt: &HostRuntime, path: &str) -> io::Result<u8> {
         Err(why) => return refuse(rt, &why),
     };
     let writer = BufWriter::new(rt.alloc(), io::writer(rt))?;
-    let status = check_settings(rt.alloc(), octets.as_slice(), writer);
-    if status != 0 {
-        let mut sentence = Vec::new(rt.alloc());
-        explain(rt.alloc(), octets.as_slice(), &mut sentence)?;
-        rt.stderr().write_all(sentence.as_slice())?;
+    if check_settings(rt.alloc(), octets.as_slice(), writer) {
+        return Ok(0);
     }
-    Ok(status)
+    let mut sentence = Vec::new(rt.alloc());
+    explain(rt.alloc(), octets.as_slice(), &mut sentence)?;
+    rt.stderr().write_all(sentence.as_slice())?;
+    Ok(REFUSED)
 }
