@@ -152,13 +152,25 @@ fn check_read(
     first: Observation,
     count: u8,
 ) -> Result<(), Fail> {
-    let read = read_monitor(rt.alloc(), asdu, &Zone::UTC)?;
-    assert_eq!(rt; read.observations.len(), usize::from(count), "{asdu:?}");
-    for (found, place) in read.observations.iter().zip(0..count) {
+    let observations = read(rt.alloc(), asdu)?;
+    assert_eq!(rt; observations.len(), usize::from(count), "{asdu:?}");
+    for (found, place) in observations.iter().zip(0..count) {
         let address = 200_704 + u32::from(place);
         assert_eq!(rt; *found, Observation { address, ..first }, "{asdu:?}");
     }
     Ok(())
+}
+
+/// The observation is written as this ASDU.
+fn check_written(rt: &impl Abort, observation: Observation, asdu: &[u8]) {
+    let mut out = [0xAA; 249];
+    let written = write_monitor(&[observation], 1, 3, &Zone::UTC, &mut out);
+    assert_eq!(rt; written.taken, 1);
+    assert_eq!(rt; out[..written.octets], *asdu);
+}
+
+fn read(alloc: Global, asdu: &[u8]) -> Result<Vec<Observation>, Fail> {
+    Ok(read_monitor(alloc, asdu, &Zone::UTC)?.observations)
 }
 
 /// Each row's observations and ASDUs are written as these, and read as those.
@@ -178,10 +190,7 @@ fn check_rows(
                 stamp: Stamp::Untimed,
             };
             if is_written {
-                let mut out = [0xAA; 249];
-                let written = write_monitor(&[observation], 1, 3, &Zone::UTC, &mut out);
-                assert_eq!(rt; written.taken, 1);
-                assert_eq!(rt; out[..written.octets], *asdu.as_slice());
+                check_written(rt, observation, &asdu);
             }
             if is_read {
                 check_read(rt, &asdu, observation, 1)?;

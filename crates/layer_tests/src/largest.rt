@@ -1,10 +1,12 @@
 //! Calls that take memory, at their largest sizes: no contract tells memory that ran out from a limit of the code.
+use dnp_app::Response;
 use dnp_link::laws::events_of;
 use dnp_link::{LinkEvent, LinkFeed, Why, write_frame};
-use dnp_objects::headers;
+use dnp_objects::{Header, headers};
 use dnp_points::reports;
 use dnp_receive::{fragments_of, responses_of};
 use dnp_transport::{Assembler, FRAGMENT_LIMIT, Taken, segments};
+use gw_model::Report;
 use iec_apci::laws::apdus_of;
 use iec_apci::{Apdu, ApduFeed};
 use iec_window::Window;
@@ -21,14 +23,20 @@ fn repeated(alloc: Global, front: &[u8], octets: &[u8], times: u16) -> Result<Ve
     Ok(all)
 }
 
+/// The headers of a part of outstation 0, and what it reports.
+fn read(alloc: Global, part: &[u8]) -> Result<(Vec<Header>, Vec<Report>), Fail> {
+    let found = headers(alloc, part)?;
+    let told = reports(alloc, 0, &found, part)?;
+    Ok((found, told))
+}
+
 /// So many headers has a part, so many objects the last of them, so many reports, and this index the last of these.
 fn check_part(
     rt: &(impl Abort + AllocGlobal),
     part: &[u8],
     wanted: (usize, u32, usize, u16),
 ) -> Result<(), Fail> {
-    let found = headers(rt.alloc(), part)?;
-    let told = reports(rt.alloc(), 0, &found, part)?;
+    let (found, told) = read(rt.alloc(), part)?;
     match (found.last(), told.last()) {
         (Some(header), Some(report)) => {
             let counts = (found.len(), header.count, told.len(), report.key.index);
@@ -76,15 +84,27 @@ fn stream_of(alloc: Global, fragment: &[u8; FRAGMENT_LIMIT], count: u16) -> Resu
     repeated(alloc, b"", &frames, count)
 }
 
+fn count_events(alloc: Global, pieces: &[&[u8]]) -> Result<usize, Fail> {
+    Ok(events_of(alloc, pieces)?.len())
+}
+
+fn count_fragments(alloc: Global, pieces: &[&[u8]]) -> Result<usize, Fail> {
+    Ok(fragments_of(alloc, pieces, 1024, 1)?.len())
+}
+
+fn read_responses(alloc: Global, pieces: &[&[u8]]) -> Result<Vec<Response>, Fail> {
+    Ok(responses_of(alloc, 0, pieces, 1024, 1)?)
+}
+
 /// Pieces hold 27 of a response, each in nine frames, and 439 octets that begin none.
 fn check_stream(
     rt: &(impl Abort + AllocGlobal),
     pieces: &[&[u8]],
     fragment: &[u8],
 ) -> Result<(), Fail> {
-    assert_eq!(rt; events_of(rt.alloc(), pieces)?.len(), 682);
-    assert_eq!(rt; fragments_of(rt.alloc(), pieces, 1024, 1)?.len(), 27);
-    let responses = responses_of(rt.alloc(), 0, pieces, 1024, 1)?;
+    assert_eq!(rt; count_events(rt.alloc(), pieces)?, 682);
+    assert_eq!(rt; count_fragments(rt.alloc(), pieces)?, 27);
+    let responses = read_responses(rt.alloc(), pieces)?;
     assert_eq!(rt; responses.len(), 27);
     for response in &responses {
         assert_eq!(rt; response.octets(), fragment);
@@ -93,21 +113,44 @@ fn check_stream(
     Ok(())
 }
 
-/// 65,536 octets, in one piece between empty ones, in pieces of ten, and all before the first event is asked for.
+/// 65,536 octets: 27 of a response, and 439 octets that begin none.
+fn long_stream(
+    rt: &(impl Abort + AllocGlobal),
+    fragment: &[u8; FRAGMENT_LIMIT],
+) -> Result<Vec<u8>, Fail> {
+    let mut stream = stream_of(rt.alloc(), fragment, 27)?;
+    stream.extend_from_slice(&[0; 439])?;
+    assert_eq!(rt; stream.len(), 65_536);
+    Ok(stream)
+}
+
+/// In one piece between empty ones, and in pieces of ten.
 #[test]
 fn many_largest_responses(rt: HostRuntime) -> Result<(), Fail> {
     let fragment = largest_fragment();
-    let mut stream = stream_of(rt.alloc(), &fragment, 27)?;
-    stream.extend_from_slice(&[0; 439])?;
-    assert_eq!(rt; stream.len(), 65_536);
+    let stream = long_stream(&rt, &fragment)?;
     check_stream(&rt, &[&[], &stream, &[]], &fragment)?;
     let mut pieces = Vec::new(rt.alloc());
-    let mut feed = LinkFeed::new(rt.alloc());
     for piece in stream.chunks(10) {
         pieces.push(piece)?;
+    }
+    check_stream(&rt, &pieces, &fragment)
+}
+
+/// A feed that was fed octets in pieces of ten.
+fn fed_in_tens(alloc: Global, stream: &[u8]) -> Result<LinkFeed, Fail> {
+    let mut feed = LinkFeed::new(alloc);
+    for piece in stream.chunks(10) {
         feed.feed(piece)?;
     }
-    check_stream(&rt, &pieces, &fragment)?;
+    Ok(feed)
+}
+
+/// All before the first event is asked for.
+#[test]
+fn many_octets_wait(rt: HostRuntime) -> Result<(), Fail> {
+    let stream = long_stream(&rt, &largest_fragment())?;
+    let mut feed = fed_in_tens(rt.alloc(), &stream)?;
     for _ in 0..243u8 {
         assert!(rt; matches!(feed.next(), Some(LinkEvent::Frame(_))));
     }
@@ -118,17 +161,31 @@ fn many_largest_responses(rt: HostRuntime) -> Result<(), Fail> {
     Ok(())
 }
 
+/// What becomes of a segment.
+fn take(assembler: &mut Assembler, segment: &[u8]) -> Result<Taken, Fail> {
+    Ok(assembler.segment(segment)?)
+}
+
+/// What becomes of the last of so many segments of a fragment.
+fn take_all(
+    assembler: &mut Assembler,
+    fragment: &[u8; FRAGMENT_LIMIT],
+    count: usize,
+) -> Result<Taken, Fail> {
+    let mut taken = Taken::More;
+    for segment in segments(fragment, 60).take(count) {
+        taken = take(assembler, segment.octets())?;
+    }
+    Ok(taken)
+}
+
 /// In nine segments, after eight of them that stay unfinished, and in one segment after eight again.
 #[test]
 fn longest_fragment(rt: HostRuntime) -> Result<(), Fail> {
     let fragment = largest_fragment();
     let mut assembler = Assembler::new(rt.alloc());
     for count in [8, 9, 8] {
-        let mut taken = Taken::More;
-        for segment in segments(&fragment, 60).take(count) {
-            taken = assembler.segment(segment.octets())?;
-        }
-        match taken {
+        match take_all(&mut assembler, &fragment, count)? {
             Taken::More => assert_eq!(rt; count, 8),
             Taken::Fragment(found) => assert_eq!(rt;
                 (count, found.as_slice()),
@@ -138,11 +195,38 @@ fn longest_fragment(rt: HostRuntime) -> Result<(), Fail> {
         }
     }
     let segment = repeated(rt.alloc(), b"\xC5", &fragment, 1)?;
-    match assembler.segment(&segment)? {
+    match take(&mut assembler, &segment)? {
         Taken::Fragment(found) => assert_eq!(rt; found.as_slice(), fragment.as_slice()),
         _ => assert!(rt; false),
     }
     Ok(())
+}
+
+/// A feed that was given nothing, and two pieces.
+fn fed(alloc: Global, front: &[u8], behind: &[u8]) -> Result<ApduFeed, Fail> {
+    let mut feed = ApduFeed::new(alloc);
+    feed.feed(&[])?;
+    feed.feed(front)?;
+    feed.feed(behind)?;
+    Ok(feed)
+}
+
+/// The next APDU is the longest one.
+fn check_longest(rt: &impl Abort, feed: &mut ApduFeed) {
+    match feed.next() {
+        Some(Ok(Apdu::I { ns, nr, asdu })) => {
+            assert_eq!(rt; (ns, nr), (1, 2));
+            assert_eq!(rt; asdu.as_slice(), [0x11; 249].as_slice());
+        }
+        _ => assert!(rt; false),
+    }
+}
+
+/// How many APDUs pieces hold; none may end in a fault.
+fn count_apdus(rt: &(impl Abort + AllocGlobal), pieces: &[&[u8]]) -> Result<usize, Fail> {
+    let (apdus, fault) = apdus_of(rt.alloc(), pieces)?;
+    assert_eq!(rt; fault, None);
+    Ok(apdus.len())
 }
 
 /// 257 of the longest APDUs and the first octet of another, in one piece and in many, and as many again behind them.
@@ -152,27 +236,20 @@ fn longest_apdus(rt: HostRuntime) -> Result<(), Fail> {
     behind.push(0x68)?;
     let stream = repeated(rt.alloc(), b"\x68", &behind, 257)?;
     assert_eq!(rt; stream.len(), 65_536);
-    let mut feed = ApduFeed::new(rt.alloc());
-    feed.feed(&[])?;
-    feed.feed(&stream)?;
-    feed.feed(&repeated(rt.alloc(), b"", &behind, 257)?)?;
+    let mut feed = fed(
+        rt.alloc(),
+        &stream,
+        &repeated(rt.alloc(), b"", &behind, 257)?,
+    )?;
     for _ in 0..514u16 {
-        match feed.next() {
-            Some(Ok(Apdu::I { ns, nr, asdu })) => {
-                assert_eq!(rt; (ns, nr), (1, 2));
-                assert_eq!(rt; asdu.as_slice(), [0x11; 249].as_slice());
-            }
-            _ => assert!(rt; false),
-        }
+        check_longest(&rt, &mut feed);
     }
     assert_eq!(rt; feed.next(), None);
     let mut pieces = Vec::new(rt.alloc());
     for piece in stream.chunks(100) {
         pieces.push(piece)?;
     }
-    let (apdus, fault) = apdus_of(rt.alloc(), &pieces)?;
-    assert_eq!(rt; apdus.len(), 257);
-    assert_eq!(rt; fault, None);
+    assert_eq!(rt; count_apdus(&rt, &pieces)?, 257);
     Ok(())
 }
 
