@@ -1,15 +1,15 @@
 //! The hub and what it stands on: a long run of steps, and numbers and words.
-use gw_hub::{Hub, Reply, Step};
+use gw_hub::{Hub, Reply, Step, StepFault};
 use gw_map::{DEFAULT_SETTINGS, Settings};
 use gw_station::Why;
 use gw_time::TagFault;
+use std::alloc::Global;
 use std::process::Abort;
 use std::test::Fail;
 
-/// Many steps in one run.
-#[test]
-fn a_long_run(rt: HostRuntime) -> Result<(), Fail> {
-    let mut steps = Vec::new(rt.alloc());
+/// Client 0 comes up, and is pumped 10,000 times.
+fn many_steps(alloc: Global) -> Result<Vec<Step>, Fail> {
+    let mut steps = Vec::new(alloc);
     steps.push(Step::ClientUp {
         client: 0,
         moment: 0,
@@ -20,9 +20,21 @@ fn a_long_run(rt: HostRuntime) -> Result<(), Fail> {
             moment: 0,
         })?;
     }
-    let settings = Settings::read(rt.alloc(), DEFAULT_SETTINGS)?;
-    let (hub, replies) = Hub::run(rt.alloc(), settings, steps)?;
-    assert_eq!(rt; (hub.queued(0), replies.len()), (0, 10_001));
+    Ok(steps)
+}
+
+/// The replies to steps, with the default settings.
+fn replies_to(alloc: Global, steps: Vec<Step>) -> Result<Vec<Result<Reply, StepFault>>, Fail> {
+    let settings = Settings::read(alloc, DEFAULT_SETTINGS)?;
+    let (_hub, replies) = Hub::run(alloc, settings, steps)?;
+    Ok(replies)
+}
+
+/// Many steps in one run.
+#[test]
+fn a_long_run(rt: HostRuntime) -> Result<(), Fail> {
+    let replies = replies_to(rt.alloc(), many_steps(rt.alloc())?)?;
+    assert_eq!(rt; replies.len(), 10_001);
     assert_eq!(rt; replies.last(), Some(&Ok(Reply::Nothing)));
     Ok(())
 }
