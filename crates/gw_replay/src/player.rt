@@ -160,8 +160,10 @@ fn run<R: BufRead, W: Write>(
         AnswersInput settings input is_fine (W.contents writer.old) (W.contents writer.new))) }
 {
     let mut player = Player::new(alloc, settings)?;
-    answer_lines(alloc, &mut player, reader, writer)?;
-    Ok(!player.has_refused())
+    match answer_lines(alloc, &mut player, reader, writer) {
+        Ok(_) => Ok(!player.has_refused()),
+        Err(stop) => Err(stop),
+    }
 }
 
 /// Makes the steps that lines ask for, and writes the reply to each.

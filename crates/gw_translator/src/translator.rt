@@ -167,8 +167,10 @@ fn run<R: BufRead, W: Write>(
         Appends (W.contents writer.old) (W.contents writer.new) (text_of settings input))) }
 {
     let mut translator = Translator::new(alloc, settings)?;
-    answer_lines(alloc, &mut translator, reader, writer)?;
-    Ok(translator.finding())
+    match answer_lines(alloc, &mut translator, reader, writer) {
+        Ok(_) => Ok(translator.finding()),
+        Err(stop) => Err(stop),
+    }
 }
 
 /// Reads fragments of outstation 0 in hexadecimal, one a line, and writes for each its confirmation,
