@@ -6,31 +6,23 @@ use Rattle.gw_steps.specs.Steps.{can_rise}
 use Rattle.gw_hub.specs.Hub.{step_with}
 use Rattle.std.proofs.Common.{◌≡◌, Bool, true, false, ltb, ℕ, ℤ, zero, suc, ◌+◌, ◌^◌, ◌<◌, ◌≤◌, List, [], ◌∷◌, ◌++◌, map, length, refl, sym, ap, subst, ◌∙◌, arith}
 use Rattle.std.specs.List.{AllByRecursion}
-use Rattle.std.proofs.Math.ListN.{set}
 use Rattle.std.proofs.lemmas.List.{length-append}
 use Rattle.gw_model.specs.declared.observation.Observation.{Observation}
 use Rattle.gw_entries.specs.declared.row.Row.{Row}
-use Rattle.gw_map.specs.Settings.{Setup}
 use Rattle.gw_model.specs.declared.point.Report.{Report}
 use Rattle.gw_model.specs.Places.{change}
 use Rattle.gw_picture.specs.Picture.{news_of, news_of_report, picture_after_report, picture_after}
 use Rattle.gw_picture.specs.Shown.{IsShown}
 use Rattle.gw_picture.proofs.Shows.{shown_fit}
-use Rattle.iec_apci.specs.declared.apdu.Apdu.{Apdu}
 use Rattle.gw_answers.specs.declared.answer.Answer.{Answer}
 use Rattle.gw_answers.specs.declared.answer.Answer.TheVariants.{Unknown, Confirmed, Shown}
 use Rattle.gw_answers.specs.Octets.{IsReturnable}
 use Rattle.gw_answers.specs.Meaning.{CanSendAnswer}
-use Rattle.gw_station.specs.declared.event.Event.{Event}
-use Rattle.gw_station.specs.declared.event.Event.TheVariants as events
-use Rattle.gw_station.specs.declared.event.Said.TheVariants.{Negative}
 use Rattle.gw_station.specs.Client.{Client, client_with_news}
-use Rattle.gw_station.specs.Frames.{event_of, client_after_apdu}
 use Rattle.gw_answers.specs.Meaning.{IsSendable}
-use Rattle.gw_station.specs.Sound.{IsSoundClient, IsWholeEvent, CanAnswer, CanTake}
+use Rattle.gw_station.specs.Sound.{IsSoundClient, CanTake}
 use Rattle.gw_station.proofs.Queues.{came-nil, came-twice}
-use Rattle.gw_station.proofs.Sounds.{sendable-append, sound_later, sound_with_news, sound_after_apdu, sound_told}
-use Rattle.gw_steps.specs.Steps.{client_answered, client_after_frame}
+use Rattle.gw_station.proofs.Sounds.{sendable-append, sound_later, sound_with_news}
 use Rattle.gw_parts.specs.Clients.{CanCount, CanPump}
 use Rattle.gw_parts.proofs.Sounds.{sound_more}
 

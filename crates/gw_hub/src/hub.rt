@@ -17,6 +17,7 @@ ghost use Rattle.gw_steps.specs.Sound.{IsSound};
 ghost use Rattle.gw_news.specs.Confirms.{ConfirmsLast};
 ghost use Rattle.gw_news.specs.News.{Holds};
 ghost use Rattle.gw_news.specs.Numbers.{HasRightNumbers};
+ghost use Rattle.gw_news.specs.Premises.{IsSoundRun};
 ghost use Rattle.gw_mirror.specs.Interrogations.{AnswersInterrogations};
 ghost use Rattle.gw_mirror.specs.Line.{KeepsLine};
 ghost use Rattle.gw_mirror.specs.Mirror.{Mirrors};
@@ -161,11 +162,26 @@ impl Hub {
         ensures mirror { IfOk result (λ run. AtEach (Mirrors settings) (history [] steps.items run.1.items)) }
     {
         let mut hub = Hub::new(alloc, settings)?;
-        let mut replies = Vec::with_capacity(alloc, steps.len())?;
-        for step in &steps {
-            replies.push(hub.step(step))?;
-        }
+        let replies = hub.make(&steps)?;
         Ok((hub, replies))
+    }
+
+    /// The first steps of a hub.
+    fn make(&mut self, steps: &[Step]) -> Result<Vec<Result<Reply, StepFault>>, Memory>
+        requires first { self.old.state ≡ at_first self.old.setup }
+        requires addresses { HasSingleAddresses self.old.setup.rows self.old.setup.controls }
+        requires station { IsStation self.old.setup.station }
+        ensures replies { IfOk result (λ replies. length replies.items ≡ length steps.now) }
+        ensures run { IfOk result (λ replies. IsSoundRun self.old.setup (history [] steps.now replies.items)) }
+        ensures state { IfOk result (λ replies.
+            self.new.state ≡ state_after self.old.setup (history [] steps.now replies.items)) }
+        ensures setup { self.new.setup ≡ self.old.setup }
+    {
+        let mut replies = Vec::with_capacity(self.alloc, steps.len())?;
+        for step in steps {
+            replies.push(self.step(step))?;
+        }
+        Ok(replies)
     }
 
     /// Makes a step. A step with a fault changes nothing.
