@@ -47,13 +47,18 @@ fn check_part(
     Ok(())
 }
 
-/// 511 headers in 2,048 octets, the last with two events; and one header of 65,536 inputs that are on.
+/// 511 headers in 2,048 octets, the last with two events.
 #[test]
-fn largest_object_parts(rt: HostRuntime) -> Result<(), Fail> {
+fn most_headers(rt: HostRuntime) -> Result<(), Fail> {
     let mut part = repeated(rt.alloc(), b"", b"\x33\x02\x07\x00", 510)?;
     part.extend_from_slice(b"\x02\x01\x17\x02\x05\x81\x06\x81")?;
     assert_eq!(rt; part.len(), 2048);
-    check_part(&rt, &part, (511, 2, 2, 6))?;
+    check_part(&rt, &part, (511, 2, 2, 6))
+}
+
+/// One header of 65,536 inputs that are on.
+#[test]
+fn most_objects(rt: HostRuntime) -> Result<(), Fail> {
     let part = repeated(rt.alloc(), b"\x01\x01\x01\x00\x00\xFF\xFF", b"\xFF", 8192)?;
     check_part(&rt, &part, (1, 65_536, 65_536, 65_535))
 }
@@ -124,17 +129,22 @@ fn long_stream(
     Ok(stream)
 }
 
+fn check_in_tens(
+    rt: &(impl Abort + AllocGlobal),
+    stream: &[u8],
+    fragment: &[u8],
+) -> Result<(), Fail> {
+    let pieces: Vec<&[u8]> = stream.chunks(10).collect(rt.alloc())?;
+    check_stream(rt, &pieces, fragment)
+}
+
 /// In one piece between empty ones, and in pieces of ten.
 #[test]
 fn many_largest_responses(rt: HostRuntime) -> Result<(), Fail> {
     let fragment = largest_fragment();
     let stream = long_stream(&rt, &fragment)?;
     check_stream(&rt, &[&[], &stream, &[]], &fragment)?;
-    let mut pieces = Vec::new(rt.alloc());
-    for piece in stream.chunks(10) {
-        pieces.push(piece)?;
-    }
-    check_stream(&rt, &pieces, &fragment)
+    check_in_tens(&rt, &stream, &fragment)
 }
 
 /// A feed that was fed octets in pieces of ten.
@@ -146,11 +156,8 @@ fn fed_in_tens(alloc: Global, stream: &[u8]) -> Result<LinkFeed, Fail> {
     Ok(feed)
 }
 
-/// All before the first event is asked for.
-#[test]
-fn many_octets_wait(rt: HostRuntime) -> Result<(), Fail> {
-    let stream = long_stream(&rt, &largest_fragment())?;
-    let mut feed = fed_in_tens(rt.alloc(), &stream)?;
+/// 243 frames and 439 octets that begin none.
+fn check_events(rt: &impl Abort, feed: &mut LinkFeed) {
     for _ in 0..243u8 {
         assert!(rt; matches!(feed.next(), Some(LinkEvent::Frame(_))));
     }
@@ -158,6 +165,13 @@ fn many_octets_wait(rt: HostRuntime) -> Result<(), Fail> {
         assert_eq!(rt; feed.next(), Some(LinkEvent::Skipped(Why::BadStart)));
     }
     assert_eq!(rt; feed.next(), None);
+}
+
+/// All before the first event is asked for.
+#[test]
+fn many_octets_wait(rt: HostRuntime) -> Result<(), Fail> {
+    let stream = long_stream(&rt, &largest_fragment())?;
+    check_events(&rt, &mut fed_in_tens(rt.alloc(), &stream)?);
     Ok(())
 }
 
@@ -179,26 +193,29 @@ fn take_all(
     Ok(taken)
 }
 
+/// The fragment isn't finished.
+fn check_unfinished(rt: &impl Abort, taken: &Taken) {
+    assert!(rt; matches!(taken, Taken::More));
+}
+
+/// The fragment is finished, and is this one.
+fn check_finished(rt: &impl Abort, taken: &Taken, fragment: &[u8]) {
+    match taken {
+        Taken::Fragment(found) => assert_eq!(rt; found.as_slice(), fragment),
+        _ => assert!(rt; false),
+    }
+}
+
 /// In nine segments, after eight of them that stay unfinished, and in one segment after eight again.
 #[test]
 fn longest_fragment(rt: HostRuntime) -> Result<(), Fail> {
     let fragment = largest_fragment();
     let mut assembler = Assembler::new(rt.alloc());
-    for count in [8, 9, 8] {
-        match take_all(&mut assembler, &fragment, count)? {
-            Taken::More => assert_eq!(rt; count, 8),
-            Taken::Fragment(found) => assert_eq!(rt;
-                (count, found.as_slice()),
-                (9, fragment.as_slice())
-            ),
-            Taken::Dropped(_) => assert!(rt; false),
-        }
-    }
+    check_unfinished(&rt, &take_all(&mut assembler, &fragment, 8)?);
+    check_finished(&rt, &take_all(&mut assembler, &fragment, 9)?, &fragment);
+    check_unfinished(&rt, &take_all(&mut assembler, &fragment, 8)?);
     let segment = repeated(rt.alloc(), b"\xC5", &fragment, 1)?;
-    match take(&mut assembler, &segment)? {
-        Taken::Fragment(found) => assert_eq!(rt; found.as_slice(), fragment.as_slice()),
-        _ => assert!(rt; false),
-    }
+    check_finished(&rt, &take(&mut assembler, &segment)?, &fragment);
     Ok(())
 }
 
@@ -229,27 +246,41 @@ fn count_apdus(rt: &(impl Abort + AllocGlobal), pieces: &[&[u8]]) -> Result<usiz
     Ok(apdus.len())
 }
 
-/// 257 of the longest APDUs and the first octet of another, in one piece and in many, and as many again behind them.
-#[test]
-fn longest_apdus(rt: HostRuntime) -> Result<(), Fail> {
-    let mut behind = repeated(rt.alloc(), b"\xFD\x02\x00\x04\x00", b"\x11", 249)?;
+/// 257 of the longest APDUs without the first octet, and the first octet of another.
+fn longest_behind(alloc: Global) -> Result<Vec<u8>, Fail> {
+    let mut behind = repeated(alloc, b"\xFD\x02\x00\x04\x00", b"\x11", 249)?;
     behind.push(0x68)?;
-    let stream = repeated(rt.alloc(), b"\x68", &behind, 257)?;
-    assert_eq!(rt; stream.len(), 65_536);
-    let mut feed = fed(
-        rt.alloc(),
-        &stream,
-        &repeated(rt.alloc(), b"", &behind, 257)?,
-    )?;
-    for _ in 0..514u16 {
-        check_longest(&rt, &mut feed);
+    repeated(alloc, b"", &behind, 257)
+}
+
+/// So many of the longest APDUs come, and nothing behind them.
+fn check_all(rt: &impl Abort, feed: &mut ApduFeed, count: u16) {
+    for _ in 0..count {
+        check_longest(rt, feed);
     }
     assert_eq!(rt; feed.next(), None);
-    let mut pieces = Vec::new(rt.alloc());
-    for piece in stream.chunks(100) {
-        pieces.push(piece)?;
-    }
-    assert_eq!(rt; count_apdus(&rt, &pieces)?, 257);
+}
+
+/// 257 of the longest APDUs and the first octet of another in one piece, and as many again behind them.
+#[test]
+fn longest_apdus(rt: HostRuntime) -> Result<(), Fail> {
+    let behind = longest_behind(rt.alloc())?;
+    let stream = repeated(rt.alloc(), b"\x68", &behind, 1)?;
+    assert_eq!(rt; stream.len(), 65_536);
+    check_all(&rt, &mut fed(rt.alloc(), &stream, &behind)?, 514);
+    Ok(())
+}
+
+fn count_in_hundreds(rt: &(impl Abort + AllocGlobal), stream: &[u8]) -> Result<usize, Fail> {
+    let pieces: Vec<&[u8]> = stream.chunks(100).collect(rt.alloc())?;
+    count_apdus(rt, &pieces)
+}
+
+/// The same octets in pieces of a hundred.
+#[test]
+fn longest_apdus_in_pieces(rt: HostRuntime) -> Result<(), Fail> {
+    let stream = repeated(rt.alloc(), b"\x68", &longest_behind(rt.alloc())?, 1)?;
+    assert_eq!(rt; count_in_hundreds(&rt, &stream)?, 257);
     Ok(())
 }
 
