@@ -29,64 +29,70 @@ fn is_known(section: Section, key: &str) -> bool
 fn is_top_key(key: &str) -> bool
     ensures { result ≡ list_any (bytes_eq key.now) top_keys }
 {
-    key == "station" || key == "outstation" || key == "point" || key == "control"
+    matches!(key, "station" | "outstation" | "point" | "control")
 }
 
 fn is_station_key(key: &str) -> bool
     ensures { result ≡ list_any (bytes_eq key.now) (key_names station_keys) }
 {
-    key == "common_address"
-        || key == "master_address"
-        || key == "offset_minutes"
-        || key == "k"
-        || key == "w"
-        || key == "t1_ms"
-        || key == "t2_ms"
-        || key == "t3_ms"
-        || key == "queue"
-        || key == "select_ms"
-        || key == "recorder"
-        || key == "listen"
+    matches!(
+        key,
+        "common_address"
+            | "master_address"
+            | "offset_minutes"
+            | "k"
+            | "w"
+            | "t1_ms"
+            | "t2_ms"
+            | "t3_ms"
+            | "queue"
+            | "select_ms"
+            | "recorder"
+            | "listen"
+    )
 }
 
 fn is_outstation_key(key: &str) -> bool
     ensures { result ≡ list_any (bytes_eq key.now) (key_names outstation_keys) }
 {
-    key == "address"
-        || key == "connect"
-        || key == "poll_ms"
-        || key == "integrity_ms"
-        || key == "response_ms"
-        || key == "unsolicited"
-        || key == "lan_time"
+    matches!(
+        key,
+        "address"
+            | "connect"
+            | "poll_ms"
+            | "integrity_ms"
+            | "response_ms"
+            | "unsolicited"
+            | "lan_time"
+    )
 }
 
 fn is_point_key(key: &str) -> bool
     ensures { result ≡ list_any (bytes_eq key.now) (key_names point_keys) }
 {
-    key == "outstation"
-        || key == "kind"
-        || key == "index"
-        || key == "address"
-        || key == "show"
-        || key == "num"
-        || key == "den"
+    matches!(
+        key,
+        "outstation" | "kind" | "index" | "address" | "show" | "num" | "den"
+    )
 }
 
 fn is_control_key(key: &str) -> bool
     ensures { result ≡ list_any (bytes_eq key.now) (key_names control_keys) }
 {
-    key == "outstation"
-        || key == "show"
-        || key == "index"
-        || key == "address"
-        || key == "select"
-        || key == "mode"
-        || key == "rest"
-        || key == "short_ms"
-        || key == "long_ms"
-        || key == "num"
-        || key == "den"
+    matches!(
+        key,
+        "outstation"
+            | "show"
+            | "index"
+            | "address"
+            | "select"
+            | "mode"
+            | "rest"
+            | "short_ms"
+            | "long_ms"
+            | "num"
+            | "den"
+    )
 }
 
 /// The first key of a table that its section doesn't know.
