@@ -1,9 +1,10 @@
 -- What is wrong with one table: keys that are unknown come first.
-use Rattle.std.proofs.Common.{◌≡◌, ℕ, List, [], ◌∷◌, ◌++◌, map, find, not, Some, None, option_map, String, Global, string_bytes, refl, ap, sym, ◌∙◌, inl, inr}
+use Rattle.std.proofs.Common.{◌≡◌, ℕ, Bor, List, [], ◌∷◌, ◌++◌, map, find, not, Some, None, option_map, String, Global, string_bytes, refl, ap, sym, ◌∙◌, inl, inr}
 use Rattle.std.specs.Prelude.{bytes_eq}
 use Rattle.std.specs.List.{list_any}
 use Rattle.std.specs.Map.{keys_of}
-use Rattle.std.proofs.lemmas.Bool.{cases_Bool}
+use Rattle.std.proofs.lemmas.Bool.{cases_Bool, true≢false}
+use Rattle.std.proofs.lemmas.Slice.Eq.{bytes_eq-Decides}
 use Rattle.std.proofs.lemmas.List.{map-append}
 use Rattle.toml.specs.Data.{Members}
 use Rattle.toml.specs.View.{members_view}
@@ -14,6 +15,22 @@ use Rattle.gw_entries.specs.Answers.{first}
 use Rattle.gw_entries.specs.Complaints.{Wrong, complaint, placed, wrong_at, unknown_keys, entry_wrongs, table_wrongs}
 use Rattle.gw_entries.specs.Tables.{KeyRule}
 use Rattle.gw_entries.proofs.First.{told, first-None}
+
+-- ---- known keys
+
+-- texts are the same either way
+same_either_way : (a b : List ℕ) → bytes_eq a b ≡ bytes_eq b a
+same_either_way a b = elim (cases_Bool (bytes_eq a b)) [
+  | inl same ↦ same ∙ sym ((bytes_eq-Decides b a).1 (sym ((bytes_eq-Decides a b).0 same)))
+  | inr other ↦ elim (cases_Bool (bytes_eq b a)) [
+    | inl same ↦ absurd (true≢false (sym ((bytes_eq-Decides a b).1 (sym ((bytes_eq-Decides b a).0 same))) ∙ other))
+    | inr differ ↦ other ∙ sym differ
+  ]
+]
+
+pub any_known : (key : List ℕ) (known : List (Bor (List ℕ))) → list_any (λ name. bytes_eq name.now key) known ≡ list_any (bytes_eq key) (map (λ name. name.now) known)
+any_known key [] = refl
+any_known key (name ∷ known) = rw (same_either_way name.now key, any_known key known)
 
 -- ---- unknown keys
 

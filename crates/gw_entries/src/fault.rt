@@ -31,18 +31,13 @@ pub enum Fault {
 }
 
 /// Where in the file something is wrong.
-#[derive(Clone, Copy, Debug, PartialEq, Eq, Error)]
+#[derive(Clone, Copy, Debug)]
 pub enum Section {
     /// Outside all tables.
-    #[error("top")]
     Top,
-    #[error("station")]
     Station,
-    #[error("outstation")]
     Outstation,
-    #[error("point")]
     Point,
-    #[error("control")]
     Control,
 }
 

@@ -20,7 +20,7 @@ pub enum Show {
 }
 
 /// What a scaled value is multiplied by.
-#[derive(Clone, Copy, Debug, PartialEq, Eq)]
+#[derive(Clone, Copy, Debug)]
 pub struct Scale {
     /// The numerator, from 1 to 32767.
     pub num: u16,
@@ -33,7 +33,7 @@ pub struct Scale {
 }
 
 /// A point, and the information object address and type by which clients see it.
-#[derive(Clone, Copy, Debug, PartialEq, Eq)]
+#[derive(Clone, Copy, Debug)]
 pub struct Row {
     pub key: PointKey,
     /// The information object address, from 1 to 16777215.

@@ -1,3 +1,5 @@
+use Rattle.std.proofs.Common.{arith}
+use Rattle.std.proofs.lemmas.Int.{ints}
 use Rattle.std.proofs.lemmas.Result.{err_from_is_err_and}
 use Rattle.gw_entries.proofs.First.{stop}
 use Rattle.gw_entries.specs.Values.{station_of}
@@ -61,3 +63,19 @@ returns-clause-read c = (
     listen = c.in_ok-any_text.ensures.1 i;
   },
 )
+
+pub returns-clause-within : goal.returns-clause-within
+returns-clause-within c = record {
+  common_address = c.in_ok-addresses.ensures.within.0;
+  master_address = c.in_ok-addresses.ensures.within.1;
+  offset_from = omega (arith, ints, c.in_ok-offset_minutes.ensures.within);
+  offset_to = omega (arith, ints, c.in_ok-offset_minutes.ensures.within);
+  k = c.in_ok-window.ensures.within.0;
+  w = c.in_ok-window.ensures.within.1;
+  t1_ms = c.in_ok-timers.ensures.within.0;
+  t2_ms = (c.in_ok-timers.ensures.within.1, c.in_ok-timers.ensures.within.2);
+  t3_ms = c.in_ok-timers.ensures.within.3;
+  queue = c.in_ok-limits.ensures.within.0;
+  select_ms = c.in_ok-limits.ensures.within.1;
+  recorder = c.in_ok-limits.ensures.within.2;
+}
