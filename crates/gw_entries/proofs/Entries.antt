@@ -188,23 +188,22 @@ word_reads pairs absence key ms text value other found is =
     word_reads_by (among pairs text) (list_any (bytes_eq text) (words pairs)) key (wrongs_at absence (word_faults (words pairs)) key.now ms) value other
     (is_word pairs text) (wrongs_at-found absence (word_faults (words pairs)) key.now ms (string text) found) (is ∙ rw found)
 
--- a text that stands there is judged alike, whatever is meant where it's left out
-pub text_given : (absence : Absence) (key : List ℕ) (ms : Members) (r : Result (Bor (List ℕ)) KeyFault) → IsSome (get_member key ms)
-    → FindsText required key ms r → FindsText absence key ms r
-unfolding value_or wrongs_at
-text_given absence key ms r given found = given_by (get_member key ms) refl
+-- a value that stands there is judged alike, whatever is meant where it's left out
+pub value_or-given : (absence other : Absence) (key : List ℕ) (ms : Members) → IsSome (get_member key ms) → value_or absence key ms ≡ value_or other key ms
+unfolding value_or
+value_or-given absence other key ms given = by (get_member key ms) refl
   where
-    given_by : (o : Option Data) → get_member key ms ≡ o → FindsText absence key ms r
-    given_by None e = absurd (true≢false (sym given ∙ ap is_some e))
-    given_by (Some d) e = text_same r (value_or-there required key ms d e ∙ sym (value_or-there absence key ms d e)) (λ judged. wrongs_at-found required judged key ms d (value_or-there required key ms d e) ∙ sym (wrongs_at-found absence judged key ms d (value_or-there absence key ms d e))) found
-      where
-        text_same : (r : Result (Bor (List ℕ)) KeyFault) → value_or required key ms ≡ value_or absence key ms
-            → ((judged : Data → List Fault) → wrongs_at required judged key ms ≡ wrongs_at absence judged key ms) → FindsText required key ms r → FindsText absence key ms r
-        text_same (Ok text) same wrongs found = sym same ∙ found
-        text_same (Err fault) same wrongs found = record {
-          text = rw (← wrongs text_faults) found.text;
-          word = λ ws. rw (← wrongs (word_faults ws)) (found.word ws);
-        }
+    by : (o : Option Data) → get_member key ms ≡ o → value_or absence key ms ≡ value_or other key ms
+    by None e = absurd (true≢false (sym given ∙ ap is_some e))
+    by (Some d) e = rw e
+
+pub wrongs_at-given : (absence other : Absence) (judged : Data → List Fault) (key : List ℕ) (ms : Members) → IsSome (get_member key ms)
+    → wrongs_at absence judged key ms ≡ wrongs_at other judged key ms
+wrongs_at-given absence other judged key ms given = by (get_member key ms) refl
+  where
+    by : (o : Option Data) → get_member key ms ≡ o → wrongs_at absence judged key ms ≡ wrongs_at other judged key ms
+    by None e = absurd (true≢false (sym given ∙ ap is_some e))
+    by (Some d) e = wrongs_at-found absence judged key ms d (value_or-there absence key ms d e) ∙ sym (wrongs_at-found other judged key ms d (value_or-there other key ms d e))
 
 pub is_some-false : {A : Type 0} (o : Option A) → is_some o ≡ false → o ≡ None
 is_some-false None h = refl

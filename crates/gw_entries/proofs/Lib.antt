@@ -4,3 +4,4 @@ pub mod Entries
 pub mod Told
 pub mod Unknown
 pub mod Mismatches
+pub mod Words

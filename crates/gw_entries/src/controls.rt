@@ -6,12 +6,11 @@ ghost use Rattle.gw_entries.specs.Complaints.{wrongs_at, entry_wrongs, table_wro
 ghost use Rattle.gw_entries.specs.Fields.{control_fields, operation_of, operation_with};
 ghost use Rattle.gw_entries.specs.Parts.{control_part};
 ghost use Rattle.gw_entries.specs.Tables.{control_shows, modes, rests, words, required, or_text, control_keys};
-ghost use Rattle.gw_entries.specs.Texts.{among};
 ghost use Rattle.gw_entries.specs.declared.fault.Section.TheVariants as of;
 ghost use Rattle.gw_entries.specs.Values.{number_in, control_show_in, mode_in, rest_in, control_of};
 
 use crate::control::{Control, ControlShow, Mode, Operates, Pulses, Rest};
-use crate::entry::{flag, has_key, number, text};
+use crate::entry::{flag, has_key, number, word};
 use crate::fault::{Fault, KeyFault, Section, SettingsFault};
 use crate::keys::check_keys;
 use crate::points::{scale, scale_key};
@@ -19,47 +18,22 @@ use crate::row::Scale;
 use std::alloc::Global;
 use toml::Table;
 
-fn show_named(word: &str) -> Option<ControlShow>
-    ensures { result ≡ among control_shows word.now }
-{
-    match word {
-        "single" => Some(ControlShow::Single),
-        "double" => Some(ControlShow::Double),
-        "setpoint" => Some(ControlShow::Setpoint),
-        _ => None,
-    }
-}
+const SHOWS: [(&str, ControlShow); 3] = [
+    ("single", ControlShow::Single),
+    ("double", ControlShow::Double),
+    ("setpoint", ControlShow::Setpoint),
+];
 
-fn mode_named(word: &str) -> Option<Mode>
-    ensures { result ≡ among modes word.now }
-{
-    match word {
-        "direct" => Some(Mode::Direct),
-        "sbo" => Some(Mode::Sbo),
-        _ => None,
-    }
-}
+const MODES: [(&str, Mode); 2] = [("direct", Mode::Direct), ("sbo", Mode::Sbo)];
 
-fn rest_named(word: &str) -> Option<Rest>
-    ensures { result ≡ among rests word.now }
-{
-    match word {
-        "latch" => Some(Rest::Latch),
-        "short" => Some(Rest::Short),
-        _ => None,
-    }
-}
+const RESTS: [(&str, Rest); 2] = [("latch", Rest::Latch), ("short", Rest::Short)];
 
 fn show(table: &Table) -> Result<ControlShow, KeyFault>
     ensures { Reads (λ show. show) result
         (wrongs_at required (word_faults (words control_shows)) (codes "show") (table_view table.now))
         (control_show_in (table_view table.now)) }
 {
-    let word = text(table, "show", None)?;
-    show_named(word).ok_or(KeyFault {
-        fault: Fault::OutOfRange,
-        key: "show",
-    })
+    word(table, "show", None, &SHOWS)
 }
 
 fn mode(table: &Table) -> Result<Mode, KeyFault>
@@ -67,11 +41,7 @@ fn mode(table: &Table) -> Result<Mode, KeyFault>
         (wrongs_at (or_text "direct") (word_faults (words modes)) (codes "mode") (table_view table.now))
         (mode_in (table_view table.now)) }
 {
-    let word = text(table, "mode", Some("direct"))?;
-    mode_named(word).ok_or(KeyFault {
-        fault: Fault::OutOfRange,
-        key: "mode",
-    })
+    word(table, "mode", Some("direct"), &MODES)
 }
 
 fn rest(table: &Table) -> Result<Rest, KeyFault>
@@ -79,11 +49,7 @@ fn rest(table: &Table) -> Result<Rest, KeyFault>
         (wrongs_at (or_text "latch") (word_faults (words rests)) (codes "rest") (table_view table.now))
         (rest_in (table_view table.now)) }
 {
-    let word = text(table, "rest", Some("latch"))?;
-    rest_named(word).ok_or(KeyFault {
-        fault: Fault::OutOfRange,
-        key: "rest",
-    })
+    word(table, "rest", Some("latch"), &RESTS)
 }
 
 /// Which control point: its outstation, what it's shown as, its index and its address.

@@ -1,11 +1,12 @@
 //! What stands at the keys of one table.
-ghost use Rattle.std.specs.Prelude.{◌≡◌, ◌≤◌, ◌<◌, ◌≤ℤ◌, ◌<ℤ◌, pos, IfOk, is_some, option_map};
+ghost use Rattle.std.specs.Prelude.{◌≡◌, ◌≤◌, ◌<◌, ◌≤ℤ◌, ◌<ℤ◌, pos, IfOk, is_some, option_map, unwrap_or};
 ghost use Rattle.toml.specs.Data.{get_member};
 ghost use Rattle.toml.specs.View.{view, table_view};
 ghost use Rattle.gw_entries.specs.Answers.{Reads, FindsInteger, FindsText, number_absence, text_absence, text_or};
-ghost use Rattle.gw_entries.specs.Complaints.{wrongs_at, integer_faults, text_faults, flag_faults};
-ghost use Rattle.gw_entries.specs.Tables.{or_no};
-ghost use Rattle.gw_entries.specs.Values.{value_or, as_number, as_signed, as_text, as_flag};
+ghost use Rattle.gw_entries.specs.Complaints.{wrongs_at, integer_faults, text_faults, word_faults, flag_faults};
+ghost use Rattle.gw_entries.specs.Tables.{or_no, words as texts};
+ghost use Rattle.gw_entries.specs.Texts.{among, spelled};
+ghost use Rattle.gw_entries.specs.Values.{value_or, as_number, as_signed, as_text, as_word, as_flag};
 
 use crate::fault::{Fault, KeyFault};
 use std::ops::Range;
@@ -115,6 +116,36 @@ pub(crate) fn any_text<'a>(
         (as_text (value_or (text_or default.now) key.now (table_view table.now))) }
 {
     text(table, key, Some(default))
+}
+
+/// What a text stands for, among some words.
+fn among<T: Copy>(words: &[(&str, T)], text: &str) -> Option<T>
+    ensures { result ≡ among (spelled words.now) text.now }
+{
+    for &(word, meaning) in words {
+        if text == word {
+            return Some(meaning);
+        }
+    }
+    None
+}
+
+/// What one of some words stands for.
+pub(crate) fn word<T: Copy>(
+    table: &Table,
+    key: &'static str,
+    default: Option<&'static str>,
+    words: &[(&str, T)],
+) -> Result<T, KeyFault>
+    ensures { (other : T) → Reads (λ meaning. meaning) result
+        (wrongs_at (text_absence default.entry) (word_faults (texts (spelled words.now))) key.now (table_view table.now))
+        (unwrap_or (as_word (spelled words.now) (value_or (text_absence default.entry) key.now (table_view table.now))) other) }
+{
+    let text = text(table, key, default)?;
+    among(words, text).ok_or(KeyFault {
+        fault: Fault::OutOfRange,
+        key,
+    })
 }
 
 /// Yes or no; no, where the key is left out.

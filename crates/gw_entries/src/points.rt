@@ -7,11 +7,10 @@ ghost use Rattle.gw_entries.specs.Fields.{row_fields};
 ghost use Rattle.gw_entries.specs.Parts.{point_part};
 ghost use Rattle.gw_entries.specs.Shown.{is_shown_by, usual_show};
 ghost use Rattle.gw_entries.specs.Tables.{kinds, shows, words, required, usual_type, point_keys};
-ghost use Rattle.gw_entries.specs.Texts.{among};
 ghost use Rattle.gw_entries.specs.declared.fault.Section.TheVariants as of;
 ghost use Rattle.gw_entries.specs.Values.{number_in, kind_in, show_in, source_of, row_of};
 
-use crate::entry::{has_key, number, text};
+use crate::entry::{has_key, number, word};
 use crate::fault::{Fault, KeyFault, Section, SettingsFault};
 use crate::keys::check_keys;
 use crate::row::{Row, Scale, Show};
@@ -19,31 +18,21 @@ use gw_model::{Kind, PointKey};
 use std::alloc::Global;
 use toml::Table;
 
-fn kind_named(word: &str) -> Option<Kind>
-    ensures { result ≡ among kinds word.now }
-{
-    match word {
-        "binary" => Some(Kind::Binary),
-        "output" => Some(Kind::Output),
-        "double" => Some(Kind::Double),
-        "counter" => Some(Kind::Counter),
-        "analog" => Some(Kind::Analog),
-        _ => None,
-    }
-}
+const KINDS: [(&str, Kind); 5] = [
+    ("binary", Kind::Binary),
+    ("output", Kind::Output),
+    ("double", Kind::Double),
+    ("counter", Kind::Counter),
+    ("analog", Kind::Analog),
+];
 
-fn show_named(word: &str) -> Option<Show>
-    ensures { result ≡ among shows word.now }
-{
-    match word {
-        "single" => Some(Show::Single),
-        "double" => Some(Show::Double),
-        "scaled" => Some(Show::Scaled),
-        "word" => Some(Show::Word),
-        "total" => Some(Show::Total),
-        _ => None,
-    }
-}
+const SHOWS: [(&str, Show); 5] = [
+    ("single", Show::Single),
+    ("double", Show::Double),
+    ("scaled", Show::Scaled),
+    ("word", Show::Word),
+    ("total", Show::Total),
+];
 
 /// The type by which points of a kind are shown where nothing else is said.
 fn usual_show(kind: Kind) -> Show
@@ -73,11 +62,7 @@ fn kind(table: &Table) -> Result<Kind, KeyFault>
     ensures { Reads (λ kind. kind) result
         (wrongs_at required (word_faults (words kinds)) (codes "kind") (table_view table.now)) (kind_in (table_view table.now)) }
 {
-    let word = text(table, "kind", None)?;
-    kind_named(word).ok_or(KeyFault {
-        fault: Fault::OutOfRange,
-        key: "kind",
-    })
+    word(table, "kind", None, &KINDS)
 }
 
 /// The type by which a point of a kind is shown.
@@ -89,11 +74,7 @@ fn show(table: &Table, kind: Kind) -> Result<Show, KeyFault>
     if !has_key(table, "show") {
         return Ok(usual_show(kind));
     }
-    let word = text(table, "show", None)?;
-    show_named(word).ok_or(KeyFault {
-        fault: Fault::OutOfRange,
-        key: "show",
-    })
+    word(table, "show", None, &SHOWS)
 }
 
 /// The point that a row is for.
