@@ -1,6 +1,6 @@
 -- The sections, entry by entry.
-use Rattle.std.proofs.Common.{◌≡◌, ℕ, ◌+◌, ◌<◌, List, [], ◌∷◌, ◌++◌, length, drop, get_or, Option, Some, None, option_map, refl, ap, sym, ◌∙◌, codes, append_assoc}
-use Rattle.std.proofs.lemmas.List.{drop_more}
+use Rattle.std.proofs.Common.{◌≡◌, ℕ, ◌+◌, ◌<◌, ◌≤◌, List, [], ◌∷◌, ◌++◌, length, drop, get_or, Option, Some, None, option_map, refl, ap, sym, ◌∙◌, codes, append_assoc}
+use Rattle.std.proofs.lemmas.List.{append-nil, drop_all, drop_more}
 use Rattle.std.proofs.lemmas.Option.{same_Some}
 use Rattle.toml.specs.Data.{Data, string, integer, float, boolean, datetime, array, table, Items, item, Members, as_table}
 use Rattle.toml.specs.View.{view, items_view}
@@ -75,3 +75,8 @@ pub no_more_tables : (done : List Members) (vs : List Value) (i : ℕ) (v : Valu
 no_more_tables done vs i v all h e so =
     ap (after done) (sym (head_is_none (view (get_or vs i v)) (items_view (drop (i + 1) vs)) e))
     ∙ ap (λ xs. after done (tables_of (items_view xs))) (sym (drop_more vs i v h)) ∙ so
+
+pub all_tables : (done : List Members) (vs : List Value) (i : ℕ) (all : Option (List Members)) → length vs ≤ i
+    → after done (tables_of (items_view (drop i vs))) ≡ all → Some done ≡ all
+all_tables done vs i all h so =
+    ap Some (sym (append-nil done)) ∙ ap (λ xs. after done (tables_of (items_view xs))) (sym (drop_all i vs h)) ∙ so
