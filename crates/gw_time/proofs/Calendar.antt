@@ -1,17 +1,16 @@
 -- The days from 1970 to dates of the years 2000 to 2099.
 use Rattle.std.proofs.Common.{◌≡◌, ℕ, ◌≤◌, refl, arith, ℤ, pos, ◌+ℤ◌, ◌<ℤ◌, ◌≤ℤ◌}
 use Rattle.std.proofs.lemmas.Int.{by_lt_z}
-use Rattle.jiff_core.specs.Calendar.{days_of_years, days_of_months, day_count, days_from_civil, IsCivilDate}
+use Rattle.jiff_core.specs.Calendar.{day_count, days_from_civil, IsCivilDate}
 use Rattle.jiff_core.proofs.SignedLemmas.{signed_arith}
+use Rattle.jiff_core.proofs.MarchLemmas.{day_count-early}
 use Rattle.jiff_core.proofs.CalendarLemmas.{days_from_civil-day_count, day_count-day_of_year, day_count-next_year, day_count-later_year, day_count-lt_year}
 
 pub days_to_2000 : day_count (pos 2000) 1 1 ≡ 4_382_910
-unfolding day_count days_of_years days_of_months
-days_to_2000 = refl
+days_to_2000 = day_count-early (pos 2000) 11999 1 1 refl (omega arith) (omega arith) (omega arith)
 
 pub days_to_2100 : day_count (pos 2100) 1 1 ≡ 4_419_435
-unfolding day_count days_of_years days_of_months
-days_to_2100 = refl
+days_to_2100 = day_count-early (pos 2100) 12099 1 1 refl (omega arith) (omega arith) (omega arith)
 
 -- a date has no fewer days before it than the beginning of its year
 from_new_year : (y : ℤ) (m d : ℕ) → 1 ≤ d → day_count y 1 1 ≤ day_count y m d

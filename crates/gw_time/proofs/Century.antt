@@ -1,21 +1,20 @@
 -- The years 2000 to 2099 in milliseconds.
 use Rattle.std.proofs.Common.{◌≡◌, ◌≢◌, ◌↔◌, ℕ, ◌<◌, ◌+ℤ◌, ◌*ℤ◌, arith, refl, ℤ, pos, ◌<ℤ◌, ◌≤ℤ◌}
-use Rattle.jiff_core.specs.Calendar.{IsBetween, IsCivilDate, days_of_years, days_of_months, day_count, days_from_civil}
+use Rattle.jiff_core.specs.Calendar.{IsBetween, IsCivilDate, days_from_civil}
 use Rattle.jiff_core.proofs.SignedLemmas.{signed_arith}
+use Rattle.jiff_core.proofs.CalendarLemmas.{days_from_civil-day_count}
 use Rattle.gw_model.specs.declared.point.Stamp.{Stamp}
 use Rattle.gw_model.specs.declared.point.Stamp.TheVariants.{Untimed, At, Doubtful}
 use Rattle.gw_model.specs.Fit.{IsIn21stCentury, IsInWindow}
 use Rattle.gw_time.specs.Tag.{midnight}
 use Rattle.gw_time.specs.Window.{shown_at, HasTag, IsFrom2000To2099}
-use Rattle.gw_time.proofs.Calendar.{from_2000, before_2100, year_from_2000, year_before_2100}
+use Rattle.gw_time.proofs.Calendar.{days_to_2000, days_to_2100, from_2000, before_2100, year_from_2000, year_before_2100}
 
 pub midnight_2000 : midnight (pos 2000) 1 1 ≡ pos 946_684_800_000
-unfolding days_from_civil day_count days_of_years days_of_months
-midnight_2000 = refl
+midnight_2000 = omega (arith, signed_arith, days_from_civil-day_count (pos 2000) 1 1, days_to_2000)
 
 pub midnight_2100 : midnight (pos 2100) 1 1 ≡ pos 4_102_444_800_000
-unfolding days_from_civil day_count days_of_years days_of_months
-midnight_2100 = refl
+midnight_2100 = omega (arith, signed_arith, days_from_civil-day_count (pos 2100) 1 1, days_to_2100)
 
 -- what clocks show in these years, as numbers
 pub record IsShown (z : ℤ) : Type 0 where

@@ -5,4 +5,3 @@ pub mod Round
 pub mod Months
 pub mod Spelled
 pub mod Clocks
-pub mod OnLiterals

@@ -7,7 +7,7 @@ ghost use Rattle.jiff_core.specs.DateTime.{civil_nanos};
 use jiff::civil::{Date, DateTime, Time};
 
 /// Seven octet binary time, CP56Time2a (IEC 60870-5-101, 7.2.6.18), as the numbers that it is made of.
-#[derive(Clone, Copy, Debug, PartialEq, Eq)]
+#[derive(Clone, Copy)]
 pub struct BinaryTime {
     /// Milliseconds in the minute.
     pub milliseconds: u16,

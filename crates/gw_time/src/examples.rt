@@ -1,4 +1,4 @@
-//! Worked examples, computed with the definitions that the contracts cite.
+//! Worked examples of the definitions that the contracts cite.
 ghost use Rattle.std.specs.Prelude.{◌≡◌, pos, negsuc, [], ◌∷◌, Some, None, Ok, Err};
 ghost use Rattle.gw_model.specs.declared.point.Stamp.TheVariants.{Untimed, At, Doubtful};
 ghost use Rattle.gw_time.specs.declared.fault.TagFault.TheVariants.{Field, Date};
@@ -8,7 +8,6 @@ ghost use Rattle.gw_time.specs.Spelling.{tag_of};
 ghost use Rattle.gw_time.specs.Example.{IsFirst, IsLast};
 
 /// What some tags mean.
-#[tactic(auto, unfolding(crate::proofs::OnLiterals::tag_on_literals))]
 pub fn tag_examples()
     // 14 November 2023, 22:13:20, in UTC; in doubt; and the same with all bits set that are not looked at.
     ensures at { tag_meaning (pos 0) (0x20 ∷ 0x4E ∷ 0x0D ∷ 0x16 ∷ 0x0E ∷ 0x0B ∷ 0x17 ∷ []) ≡ Ok (At 1700000000000) }
@@ -46,7 +45,6 @@ pub fn tag_examples()
 {}
 
 /// The first and the last instant with a tag, at some offsets, and some others without one.
-#[tactic(auto, unfolding(crate::proofs::OnLiterals::tag_on_literals))]
 pub fn window_examples()
     ensures first_west { IsFirst (negsuc 839) 946735200000 (0x00 ∷ 0x00 ∷ 0x00 ∷ 0x00 ∷ 0x01 ∷ 0x01 ∷ 0x00 ∷ []) }
     ensures first_utc { IsFirst (pos 0) 946684800000 (0x00 ∷ 0x00 ∷ 0x00 ∷ 0x00 ∷ 0x01 ∷ 0x01 ∷ 0x00 ∷ []) }
