@@ -1,5 +1,5 @@
 -- The laws of the elements: what is written fills the element, and is read again.
-use Rattle.std.specs.Prelude.{◌≡◌, ℕ, ℤ, ◌==◌, if◌then◌else◌, ◌/◌, ◌%◌, ◌<◌, Bool, true, false, Some, None, length, refl, IsTrue, nat_lt, ◌&&◌, not}
+use Rattle.std.specs.Prelude.{◌≡◌, ℕ, ℤ, ◌==◌, if◌then◌else◌, ◌+◌, ◌/◌, ◌%◌, ◌<◌, Bool, true, false, Some, None, length, refl, IsTrue, nat_lt, ◌&&◌, not}
 use Rattle.std.proofs.Common.{arith, ap, ◌∙◌, pos, negsuc}
 use Rattle.std.specs.Prelude.{FitsSigned}
 use Rattle.std.proofs.lemmas.Int.{to_z-of_z, ints}
@@ -12,7 +12,8 @@ use Rattle.iec_asdu.specs.declared.elements.DoublePoint.{DoublePoint}
 use Rattle.iec_asdu.specs.declared.elements.BitString.{BitString}
 use Rattle.iec_asdu.specs.declared.elements.ScaledValue.{ScaledValue}
 use Rattle.iec_asdu.specs.declared.elements.CounterReading.{CounterReading}
-use Rattle.iec_asdu.specs.Bits.{descriptor, descriptor_quality, counter_bits, counter_quality}
+use Rattle.gw_model.specs.Bits.{bit, is_set}
+use Rattle.iec_asdu.specs.Bits.{quality_bits, quality_of_bits, descriptor, descriptor_quality, counter_bits, counter_quality}
 use Rattle.iec_asdu.specs.Elements.{single_spelling, single_meaning, IsSingleFit, double_spelling, double_meaning, IsDoubleFit, word_spelling, word_meaning, IsWordFit, scaled_spelling, scaled_meaning, IsScaledFit, counter_spelling, counter_meaning, IsCounterFit}
 
 pub single_fills : (x : SinglePoint) → length (single_spelling x) ≡ 1
@@ -37,6 +38,51 @@ quality_of iv nt sb bl ov cy ca = record { iv = iv; nt = nt; sb = sb; bl = bl; o
 abbrev state_quality : Bool → Bool → Bool → Bool → Quality
 state_quality iv nt sb bl = quality_of iv nt sb bl false false false
 
+-- ---- QDS
+
+-- above four other bits the bits in common are read again
+bits_again : (low : ℕ) (iv nt sb bl : Bool) → low < 16
+    → quality_of_bits false (low + quality_bits (state_quality iv nt sb bl)) ≡ state_quality iv nt sb bl
+bits_again low iv nt sb bl small = grind arith
+
+-- a descriptor has no reserved bit, and shows the quality that it was made of
+abbrev IsDescriptorAgain : Quality → Type 0
+IsDescriptorAgain q = ((descriptor q / 2 % 8 == 0) ≡ true) × (descriptor_quality (descriptor q) ≡ q)
+
+bit_small : (b : Bool) → bit 0 b < 16
+bit_small b = grind arith
+
+descriptor_plain : (iv nt sb bl ov : Bool)
+    → (descriptor (quality_of iv nt sb bl ov false false) / 2 % 8 == 0) ≡ true
+descriptor_plain iv nt sb bl ov = grind arith
+
+descriptor_lowest : (iv nt sb bl ov : Bool) → is_set 0 (descriptor (quality_of iv nt sb bl ov false false)) ≡ ov
+descriptor_lowest iv nt sb bl ov = grind arith
+
+abbrev with_overflow : Bool → Quality → Quality
+with_overflow ov q = quality_of q.iv q.nt q.sb q.bl ov q.cy q.ca
+
+descriptor_same : (iv nt sb bl ov : Bool)
+    → let q = quality_of iv nt sb bl ov false false in descriptor_quality (descriptor q) ≡ q
+descriptor_same iv nt sb bl ov =
+    let octet = descriptor (quality_of iv nt sb bl ov false false) in
+    ap (λ (o : Bool). quality_of_bits o octet) (descriptor_lowest iv nt sb bl ov)
+    ∙ ap (with_overflow ov) (bits_again (bit 0 ov) iv nt sb bl (bit_small ov))
+
+descriptor_cases : (iv nt sb bl ov cy ca : Bool) → IsTrue (not cy && not ca)
+    → IsDescriptorAgain (quality_of iv nt sb bl ov cy ca)
+descriptor_cases iv nt sb bl ov false false fit = (descriptor_plain iv nt sb bl ov, descriptor_same iv nt sb bl ov)
+descriptor_cases iv nt sb bl ov _ _ fit = absurd cc
+
+descriptor_again : (q : Quality) → IsTrue (not q.cy && not q.ca) → IsDescriptorAgain q
+descriptor_again q fit = descriptor_cases q.iv q.nt q.sb q.bl q.ov q.cy q.ca fit
+
+-- a value with its quality, read behind the test of the reserved bits
+value_chosen : {A B : Type 0} (make : A → Quality → B) (n m : A) (p q : Quality) (b : Bool) → b ≡ true → n ≡ m → p ≡ q
+    → (if b then Some (make n p) else None) ≡ Some (make m q)
+value_chosen make n m p q true _ en eq = cc
+value_chosen make n m p q false e _ _ = absurd cc
+
 -- ---- SIQ
 
 abbrev single_of : Bool → Quality → SinglePoint
@@ -46,16 +92,15 @@ single_of on q = record { on = on; quality = q }
 abbrev IsSingleAgain : SinglePoint → Type 0
 IsSingleAgain x = single_meaning (single_spelling x) ≡ Some x
 
-single_on : (iv nt sb bl : Bool) → IsSingleAgain (single_of true (state_quality iv nt sb bl))
-single_on iv nt sb bl = grind arith
-
-single_off : (iv nt sb bl : Bool) → IsSingleAgain (single_of false (state_quality iv nt sb bl))
-single_off iv nt sb bl = grind arith
+-- the state stands where a descriptor has its overflow
+single_same : (on iv nt sb bl : Bool) → IsSingleAgain (single_of on (state_quality iv nt sb bl))
+single_same on iv nt sb bl =
+    value_chosen single_of _ on _ (state_quality iv nt sb bl) _ (descriptor_plain iv nt sb bl on)
+    (descriptor_lowest iv nt sb bl on) (bits_again (bit 0 on) iv nt sb bl (bit_small on))
 
 single_cases : (on iv nt sb bl ov cy ca : Bool) → IsSingleFit (single_of on (quality_of iv nt sb bl ov cy ca))
     → IsSingleAgain (single_of on (quality_of iv nt sb bl ov cy ca))
-single_cases true iv nt sb bl false false false fit = single_on iv nt sb bl
-single_cases false iv nt sb bl false false false fit = single_off iv nt sb bl
+single_cases on iv nt sb bl false false false fit = single_same on iv nt sb bl
 single_cases on iv nt sb bl _ _ _ fit = absurd cc
 
 pub single_again : (x : SinglePoint) → IsSingleFit x → single_meaning (single_spelling x) ≡ Some x
@@ -72,8 +117,18 @@ double_of state q = record { state = state; quality = q }
 abbrev IsDoubleAgain : DoublePoint → Type 0
 IsDoubleAgain x = double_meaning (double_spelling x) ≡ Some x
 
+double_plain : (state : ℕ) (iv nt sb bl : Bool)
+    → ((state % 4 + quality_bits (state_quality iv nt sb bl)) / 4 % 4 == 0) ≡ true
+double_plain state iv nt sb bl = grind arith
+
+double_lowest : (state : ℕ) (iv nt sb bl : Bool) → state < 4
+    → (state % 4 + quality_bits (state_quality iv nt sb bl)) % 4 ≡ state
+double_lowest state iv nt sb bl small = grind arith
+
 double_same : (state : ℕ) (iv nt sb bl : Bool) → state < 4 → IsDoubleAgain (double_of state (state_quality iv nt sb bl))
-double_same state iv nt sb bl small = grind arith
+double_same state iv nt sb bl small =
+    value_chosen double_of _ state _ (state_quality iv nt sb bl) _ (double_plain state iv nt sb bl)
+    (double_lowest state iv nt sb bl small) (bits_again (state % 4) iv nt sb bl (omega arith))
 
 -- the parts of a fit double point
 double_parts : (state : ℕ) (a b c : Bool) → IsTrue (nat_lt state 4 && not a && not b && not c)
@@ -92,34 +147,6 @@ double_again x fit =
     let p = double_parts x.state q.ov q.cy q.ca fit in
     double_cases x.state q.iv q.nt q.sb q.bl q.ov q.cy q.ca p.0 p.1 p.2 p.3
 
--- ---- QDS
-
--- a descriptor has no reserved bit, and shows the quality that it was made of
-abbrev IsDescriptorAgain : Quality → Type 0
-IsDescriptorAgain q = ((descriptor q / 2 % 8 == 0) ≡ true) × (descriptor_quality (descriptor q) ≡ q)
-
-descriptor_same : (iv nt sb bl ov : Bool)
-    → let q = quality_of iv nt sb bl ov false false in descriptor_quality (descriptor q) ≡ q
-descriptor_same iv nt sb bl ov = grind arith
-
-descriptor_plain : (iv nt sb bl ov : Bool)
-    → (descriptor (quality_of iv nt sb bl ov false false) / 2 % 8 == 0) ≡ true
-descriptor_plain iv nt sb bl ov = grind arith
-
-descriptor_cases : (iv nt sb bl ov cy ca : Bool) → IsTrue (not cy && not ca)
-    → IsDescriptorAgain (quality_of iv nt sb bl ov cy ca)
-descriptor_cases iv nt sb bl ov false false fit = (descriptor_plain iv nt sb bl ov, descriptor_same iv nt sb bl ov)
-descriptor_cases iv nt sb bl ov _ _ fit = absurd cc
-
-descriptor_again : (q : Quality) → IsTrue (not q.cy && not q.ca) → IsDescriptorAgain q
-descriptor_again q fit = descriptor_cases q.iv q.nt q.sb q.bl q.ov q.cy q.ca fit
-
--- a number with its quality, read behind the test of the reserved bits
-number_chosen : {A B : Type 0} (make : A → Quality → B) (n m : A) (p q : Quality) (b : Bool) → b ≡ true → n ≡ m → p ≡ q
-    → (if b then Some (make n p) else None) ≡ Some (make m q)
-number_chosen make n m p q true _ en eq = cc
-number_chosen make n m p q false e _ _ = absurd cc
-
 -- ---- BSI
 
 abbrev word_of : ℕ → Quality → BitString
@@ -129,7 +156,7 @@ pub word_again : (x : BitString) → IsWordFit x → word_meaning (word_spelling
 word_again x fit =
     let q = descriptor_again x.quality fit.0 in
     let n = from_le_bytes-to_le_bytes_4 x.word fit.1 in
-    number_chosen word_of _ x.word _ x.quality (descriptor x.quality / 2 % 8 == 0) q.0 n q.1
+    value_chosen word_of _ x.word _ x.quality (descriptor x.quality / 2 % 8 == 0) q.0 n q.1
 
 -- ---- SVA
 
@@ -145,7 +172,7 @@ scaled_again x fit =
     let q = descriptor_again x.quality fit.0 in
     let u = from_le_bytes-to_le_bytes_2 (cast_unsigned w16 x.value) (unsigned_small x.value fit.1) in
     let z = ap (λ (n : ℕ). cast_signed w16 n) u ∙ to_z-of_z w16 x.value fit.1 in
-    number_chosen scaled_of _ x.value _ x.quality (descriptor x.quality / 2 % 8 == 0) q.0 z q.1
+    value_chosen scaled_of _ x.value _ x.quality (descriptor x.quality / 2 % 8 == 0) q.0 z q.1
 
 -- ---- BCR
 

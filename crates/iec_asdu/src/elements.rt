@@ -6,14 +6,14 @@ ghost use Rattle.iec_asdu.specs.Elements.{single_spelling, single_meaning, IsSin
 use gw_model::{Element, Quality};
 
 /// Single-point information with quality, SIQ.
-#[derive(Clone, Copy, Debug, PartialEq, Eq)]
+#[derive(Clone, Copy)]
 pub struct SinglePoint {
     pub on: bool,
     pub quality: Quality,
 }
 
 /// Double-point information with quality, DIQ.
-#[derive(Clone, Copy, Debug, PartialEq, Eq)]
+#[derive(Clone, Copy)]
 pub struct DoublePoint {
     /// 0 intermediate, 1 off, 2 on, 3 indeterminate.
     pub state: u8,
@@ -21,21 +21,21 @@ pub struct DoublePoint {
 }
 
 /// A bit string of 32 bits with a quality descriptor, BSI and QDS.
-#[derive(Clone, Copy, Debug, PartialEq, Eq)]
+#[derive(Clone, Copy)]
 pub struct BitString {
     pub word: u32,
     pub quality: Quality,
 }
 
 /// A scaled value with a quality descriptor, SVA and QDS.
-#[derive(Clone, Copy, Debug, PartialEq, Eq)]
+#[derive(Clone, Copy)]
 pub struct ScaledValue {
     pub value: i16,
     pub quality: Quality,
 }
 
 /// A binary counter reading, BCR.
-#[derive(Clone, Copy, Debug, PartialEq, Eq)]
+#[derive(Clone, Copy)]
 pub struct CounterReading {
     pub count: u32,
     pub quality: Quality,

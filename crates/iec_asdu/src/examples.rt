@@ -69,7 +69,6 @@ pub fn asdu_examples()
 {}
 
 /// ASDUs with time: what is written of an observation, and what octets mean.
-#[tactic(auto, unfolding(crate::specs::Asdu::asdu_meaning, crate::specs::Asdu::objects_of, crate::specs::Asdu::objects_apart, crate::specs::Asdu::objects_in_sequence, gw_time::specs::Spelling::tag_showing, gw_time::specs::Spelling::date_after, gw_time::specs::Tag::tag_meaning, jiff_core::specs::Calendar::days_from_civil, jiff_core::specs::Calendar::day_count, jiff_core::specs::Calendar::days_of_years, jiff_core::specs::Calendar::days_of_months))]
 pub fn timed_examples()
     // Single-point 4101 on at 22:13:20 on 14 November 2023, and in doubt 65,535 milliseconds later, in UTC.
     ensures event { spelling (pos 0) 1 3 (timed_observation 4101 (Single true) good 1700000000000)

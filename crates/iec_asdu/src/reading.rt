@@ -22,7 +22,7 @@ const HEADER_OCTETS: usize = 6;
 const ADDRESS_OCTETS: usize = 3;
 
 /// What an ASDU in monitor direction tells.
-#[derive(Debug, Drop)]
+#[derive(Drop)]
 pub struct Monitor {
     /// Common address.
     pub common: u16,

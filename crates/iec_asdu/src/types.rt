@@ -60,7 +60,7 @@ pub fn identification_of(value: Value, timed: bool) -> u8
 }
 
 /// The information elements of process information.
-#[derive(Clone, Copy, Debug, PartialEq, Eq)]
+#[derive(Clone, Copy)]
 pub enum ElementKind {
     SinglePoint,
     DoublePoint,
@@ -116,7 +116,7 @@ impl ElementKind {
 }
 
 /// A type by what its objects carry: an information element, and behind it a time tag or none.
-#[derive(Clone, Copy, Debug, PartialEq, Eq)]
+#[derive(Clone, Copy)]
 pub struct MonitorType {
     pub element: ElementKind,
     pub timed: bool,

@@ -14,7 +14,7 @@ use gw_time::{Zone, to_tag};
 pub const SPONTANEOUS: u8 = 3;
 
 /// What became of a list of observations.
-#[derive(Clone, Copy, Debug, PartialEq, Eq)]
+#[derive(Clone, Copy)]
 pub struct Written {
     /// How many octets the ASDU has, at the front of the buffer.
     pub octets: usize,

@@ -1,4 +1,4 @@
-use Rattle.std.proofs.Common.{◌≡◌, ◌+◌, ◌-◌, ◌≤◌, ◌||◌, false, ◌++◌, ◌∷◌, [], suc, length, arith, rules}
+use Rattle.std.proofs.Common.{◌≡◌, ◌∙◌, ◌+◌, ◌-◌, ◌≤◌, ◌||◌, false, ◌++◌, ◌∷◌, [], suc, length, arith, rules}
 use Rattle.iec_asdu.specs.Types.{layout_at, type_length}
 use Rattle.iec_asdu.specs.Reading.{read_apart}
 use Rattle.iec_asdu.proofs.ObjectLoop.{told_of, further, is_right, all_stored, neither, object_fault, apart_object, behind_object, apart_goes_on, apart_fails, apart_done}
@@ -51,3 +51,18 @@ returns-clause-read c =
     let whole = read_apart layout c.args.count c.args.objects.now in
     all_stored whole progress.front c.loop.found.items
     (apart_done layout _ c.loop.rest.now progress.front whole (omega arith) progress.read) (progress.kept c.if-is_refused.false)
+
+pub split_at-requires : goal.split_at-requires
+split_at-requires c =
+    let more : c.args.count - c.loop.counter ≡ suc (c.args.count - (c.loop.counter + 1)) = omega arith in
+    let enough = rw more at c.loop.invariant.enough in
+    omega (arith, enough)
+
+pub split_at-requires-in-loop : goal.split_at-requires-in-loop
+split_at-requires-in-loop c =
+    let more : c.args.count - c.loop.counter ≡ suc (c.args.count - (c.loop.counter + 1)) = omega arith in
+    let enough = rw more at c.loop.invariant.enough in
+    omega (arith, enough, c.octets.ensures.octets, c.split_at.ensures.back_len)
+
+pub read_object-requires : goal.read_object-requires
+read_object-requires c = c.split_at-in-loop.ensures.front_len ∙ c.octets.ensures.octets

@@ -1,4 +1,4 @@
-use Rattle.std.proofs.Common.{◌≡◌, ◌+◌, ◌-◌, ◌||◌, false, ◌++◌, ◌∷◌, [], suc, length, arith, rules}
+use Rattle.std.proofs.Common.{◌≡◌, ◌∙◌, ◌+◌, ◌-◌, ◌||◌, false, ◌++◌, ◌∷◌, [], suc, length, arith, rules}
 use Rattle.iec_asdu.specs.Types.{layout_at, type_length}
 use Rattle.iec_asdu.specs.Reading.{read_in_sequence}
 use Rattle.iec_asdu.proofs.ObjectLoop.{told_of, further, is_right, all_stored, neither, object_fault, sequence_object, sequence_goes_on, sequence_fails, sequence_done}
@@ -50,3 +50,12 @@ returns-clause-read c =
     let whole = read_in_sequence layout c.args.count c.args.first c.args.objects.now in
     all_stored whole progress.front c.loop-place.found.items
     (sequence_done layout _ _ c.loop-place.rest.now progress.front whole (omega arith) progress.read) (progress.kept c.if-is_refused.false)
+
+pub split_at-requires : goal.split_at-requires
+split_at-requires c =
+    let more : c.args.count - c.loop-place.place ≡ suc (c.args.count - (c.loop-place.place + 1)) = omega arith in
+    let enough = rw more at c.loop-place.invariant.enough in
+    omega (arith, enough, c.octets.ensures.octets)
+
+pub read_object-requires : goal.read_object-requires
+read_object-requires c = c.split_at.ensures.front_len ∙ c.octets.ensures.octets
