@@ -14,7 +14,7 @@ use std::marker::Model;
 
 /// Finds the APDUs in a stream of octets (IEC 60870-5-104, clause 5). A contract sees the octets that were
 /// fed and that no answer has used up yet, or the fault that was met.
-#[derive(Debug, Drop)]
+#[derive(Drop)]
 pub struct ApduFeed {
     octets: OctetQueue,
     /// The fault that was met.
