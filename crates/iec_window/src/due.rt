@@ -1,7 +1,7 @@
 //! What is due by the timers.
 
 /// What the timers ask for at a moment.
-#[derive(Clone, Copy, Debug, PartialEq, Eq)]
+#[derive(Clone, Copy)]
 pub enum Due {
     /// Nothing.
     None,
