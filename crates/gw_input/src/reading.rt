@@ -44,7 +44,7 @@ impl From<AllocError> for Stop {
 }
 
 /// What one read brought.
-#[derive(Clone, Copy, Debug, PartialEq, Eq)]
+#[derive(Clone, Copy)]
 pub enum Piece {
     /// Nothing: a signal came first.
     Nothing,

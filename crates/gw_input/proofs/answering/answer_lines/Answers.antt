@@ -1,9 +1,26 @@
 use Rattle.std.proofs.Common.{◌∙◌, inl, inr, subst, true, false, arith}
 use Rattle.gw_input.specs.Reading.{Brings}
 use Rattle.gw_input.specs.declared.reading.Piece.{Piece}
-use Rattle.gw_input.proofs.AnsweringLaws.{after_line, after_nothing, after_part, answered_at_end, at_end, front_stays, if_ok, stopped, told}
+use Rattle.gw_input.proofs.AnsweringLaws.{after_line, after_nothing, after_part, answered_at_end, at_end, at_first, front_stays, if_ok, stopped, told}
 use Rattle.gw_input.proofs.answering.answer_lines.Goals as goal
 use Rattle.gw_input.proofs.answering.answer_lines.Goals.{in-Nothing, in-Line+in_ok-answer-in-Line+else-not-branch}
+
+pub loop-read-init : goal.loop-read-init
+loop-read-init g c =
+    rw c.in_ok-line.ensures (record {
+      most = c.KEPT.ensures;
+      few = omega arith;
+      so_far = at_first g.A.AnswersLines.Answers c.args.answerer.now c.KEPT.result
+          (g.R.Read.remaining c.args.reader.now) (g.W.Write.contents c.args.writer.now);
+    })
+
+pub begin_next-requires : goal.begin_next-requires
+begin_next-requires g c =
+    let middle = g.R.Read.remaining c.loop-read.reader in
+    let rest = g.R.Read.remaining c.read_piece.new.reader in
+    let same = front_stays c.in_ok-read_piece.field-0 middle rest c.loop-read.line c.read_piece.new.line
+    c.in_ok-read_piece.ensures in
+    omega (arith, same.1, c.loop-read.invariant.few)
 
 pub returns-then-not-branch-clause-answers : goal.returns-then-not-branch-clause-answers
 returns-then-not-branch-clause-answers g c =
