@@ -34,7 +34,7 @@ impl Signal {
 }
 
 /// An ASDU, whatever it means: 0 to 249 octets.
-#[derive(Clone, Copy, Debug)]
+#[derive(Clone, Copy, Debug, PartialEq, Eq)]
 pub struct Asdu {
     /// The ASDU, in the first `len` octets.
     pub octets: [u8; 249],
@@ -53,7 +53,7 @@ impl Asdu {
 }
 
 /// An APDU (IEC 60870-5-104, clause 5). Numbers have 15 bits.
-#[derive(Clone, Copy, Debug)]
+#[derive(Clone, Copy, Debug, PartialEq, Eq)]
 pub enum Apdu {
     /// Numbered information transfer: N(S), N(R) and an ASDU.
     I {
