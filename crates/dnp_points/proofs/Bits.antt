@@ -2,6 +2,7 @@
 use Rattle.std.proofs.Common.{◌≡◌, ◌≢◌, eqb, inl, inr, ℕ, zero, suc, ◌+◌, ◌*◌, ◌/◌, ◌%◌, ◌^◌, ◌<◌, ◌≤◌, List, [], ◌∷◌, length, take, drop, get_or, refl, arith}
 use Rattle.std.specs.Prelude.{IsTrue}
 use Rattle.std.proofs.lemmas.Bool.{eqb-true, or_cases}
+use Rattle.std.proofs.Math.Nat.{mul-le-mul_right}
 use Rattle.dnp_points.specs.Values.{bits_of, number_of_bits, is_packed_width}
 
 pub length-bits_of : (octets : List ℕ) → length (bits_of octets) ≡ 8 * length octets
@@ -62,3 +63,14 @@ two_bits octets bit le even = two_at octets bit (bit / 8) (bit % 8) (omega arith
 
 pub is_two : (width : ℕ) → IsTrue (is_packed_width width) → width ≢ 1 → width ≡ 2
 is_two width is other = elim (or_cases (eqb width 1) (eqb width 2) is) [ inl one ↦ absurd (other (eqb-true width 1 one)) | inr two ↦ eqb-true width 2 two ]
+
+-- packed objects have two bits each at most
+pub bits_few : (count width : ℕ) → IsTrue (is_packed_width width) → count * width ≤ 2 * count
+bits_few count width is = elim (or_cases (eqb width 1) (eqb width 2) is) [
+  | inl one ↦ rw (eqb-true width 1 one) (omega arith)
+  | inr two ↦ rw (eqb-true width 2 two) (omega arith)
+]
+
+-- an object ends within the bits of all
+pub bits_inside : (turn count width bits : ℕ) → turn < count → count * width ≤ bits → turn * width + width ≤ bits
+bits_inside turn count width bits lt inside = omega (arith, mul-le-mul_right {m = turn + 1} {n = count} width (omega arith))

@@ -1,6 +1,6 @@
 -- Reading a header's objects, and a part's headers, one after the other, as a loop does.
-use Rattle.std.proofs.Common.{length-drop, ◌≡◌, ◌≢◌, ℕ, zero, suc, ◌+◌, ◌-◌, ◌*◌, ◌/◌, ◌<◌, ◌≤◌, List, [], ◌∷◌, ◌++◌, length, take, drop, Option, Some, refl, sym, ap, subst, ◌∙◌, append_assoc, arith}
-use Rattle.std.proofs.lemmas.List.{append-nil, drop-drop, take-take, drop-take, length-take}
+use Rattle.std.proofs.Common.{length-drop, ◌≡◌, ◌≢◌, ℕ, zero, suc, ◌+◌, ◌-◌, ◌*◌, ◌/◌, ◌<◌, ◌≤◌, List, [], ◌∷◌, ◌++◌, length, get_or, take, drop, drop-cons, add-one, Option, Some, refl, sym, ap, subst, ◌∙◌, append_assoc, arith}
+use Rattle.std.proofs.lemmas.List.{append-nil, drop_all, drop-drop, take-take, drop-take, length-take}
 use Rattle.std.proofs.lemmas.Bool.{ne_eqb}
 use Rattle.gw_model.specs.declared.point.Stamp.{Stamp}
 use Rattle.gw_model.specs.declared.point.Stamp.TheVariants.{At, Doubtful}
@@ -12,7 +12,7 @@ use Rattle.dnp_objects.specs.Library.{Role, Point, CommonTime, Echo, SteppedOver
 use Rattle.dnp_objects.specs.Headers.{number, body_length}
 use Rattle.dnp_points.specs.Values.{bits_of}
 use Rattle.dnp_points.specs.Objects.{object_reports, packed_reports, index_of, whole_from, packed_from}
-use Rattle.dnp_points.specs.Meaning.{IsWithin, octets_of_objects, time_by, times_from, times_by_role, times_of, last_or, sized_reports, header_reports}
+use Rattle.dnp_points.specs.Meaning.{IsWithin, octets_of_objects, time_by, times_from, times_by_role, times_of, last_or, sized_reports, header_reports, reports_from}
 use Rattle.dnp_points.proofs.Table.{are_times}
 
 some_is : {A : Type 0} (x y : A) → Some x ≡ Some y → x ≡ y
@@ -53,6 +53,10 @@ whole_inside part h v long w known sized =
     let same : w.variation ≡ v = some_is w.variation v (sym w.known ∙ known) in
     let size : size_of w.variation ≡ Octets long = ap size_of same ∙ sized in
     rw (ap (λ (s : Size). body_length s h.count h.prefix) size) at w.inside
+
+pub whole_fits : (part : List ℕ) (h : Header) (v : Variation) (long long' prefix' : ℕ) (w : IsWithin part h) → object_of h.group h.variation ≡ Some v → size_of v ≡ Octets long → long' ≡ long → prefix' ≡ h.prefix
+    → h.start + h.count * (prefix' + long') ≤ length part
+whole_fits part h v long long' prefix' w known sized el ep = rw (ep, el) (whole_inside part h v long w known sized)
 
 whole_octets : (part : List ℕ) (h : Header) (v : Variation) (long long' prefix' : ℕ) → size_of v ≡ Octets long → long' ≡ long → prefix' ≡ h.prefix
     → take (h.start + h.count * (prefix' + long') - h.start) (drop h.start part) ≡ octets_of_objects part v h
@@ -210,6 +214,14 @@ whole_turn v long long' outstation common prefix prefix' first first' turn count
     ap (λ (n : ℕ). object_reports v outstation n common (take long (drop prefix rest))) (sym x) ∙ (ap (object_reports v outstation at common) (sym o) ∙ told) in
     rw (pushed, a) (whole_goes_on v long outstation common prefix (first + turn) (first + (turn + 1)) (count - turn) (count - (turn + 1)) rest found (before ++ whole_from v long outstation common prefix first count body) r more further one so_far)
 
+-- enough octets are left for one more object
+pub left_enough : (long prefix turn count : ℕ) (rest : List ℕ) → turn < count → length rest ≡ (count - turn) * (prefix + long) → prefix + long ≤ length rest
+left_enough long prefix turn count rest lt left =
+    let more : count - turn ≡ suc (count - (turn + 1)) = omega arith in
+    let all : (count - turn) * (prefix + long) ≡ suc (count - (turn + 1)) * (prefix + long) = ap (λ (n : ℕ). n * (prefix + long)) more in
+    let split : suc (count - (turn + 1)) * (prefix + long) ≡ (count - (turn + 1)) * (prefix + long) + (prefix + long) = omega arith in
+    omega (arith, left, all, split)
+
 pub left_behind : (long long' prefix prefix' turn count : ℕ) (rest index behind object after : List ℕ)
     → turn < count → prefix' ≡ prefix → long' ≡ long → length behind + prefix' ≡ length rest → length after + long' ≡ length behind
     → length rest ≡ (count - turn) * (prefix + long) → length after ≡ (count - (turn + 1)) * (prefix + long)
@@ -268,3 +280,21 @@ packed_at_first v width outstation first count bits =
     let all : count - 0 ≡ count = omega arith in
     let place : 0 * width ≡ 0 = omega arith in
     rw (next, all, place) refl
+
+-- ---- the headers of a part
+
+-- one more header, as a loop reads it
+pub header_turn : (outstation : ℕ) (part : List ℕ) (common further : Stamp) (hs : List Header) (i : ℕ) (h d : Header) (found items whole : List Report) → i < length hs → h ≡ get_or hs i d
+    → items ≡ found ++ header_reports part (object_of h.group h.variation) outstation common h → further ≡ last_or common (times_of part (object_of h.group h.variation) h)
+    → found ++ reports_from outstation part common (drop i hs) ≡ whole → items ++ reports_from outstation part further (drop (i + 1) hs) ≡ whole
+header_turn outstation part common further hs i h d found items whole lt at pushed last so_far =
+    let own : List Report = header_reports part (object_of h.group h.variation) outstation common h in
+    let here : drop i hs ≡ h ∷ drop (suc i) hs = drop-cons hs i d lt ∙ ap (λ (x : Header). x ∷ drop (suc i) hs) (sym at) in
+    let others : List Report = reports_from outstation part (last_or common (times_of part (object_of h.group h.variation) h)) (drop (suc i) hs) in
+    rw (pushed, last, add-one) (append_assoc found own others ∙ (ap (λ (rest : List Header). found ++ reports_from outstation part common rest) (sym here) ∙ so_far))
+
+-- behind the last header
+pub headers_end : (outstation : ℕ) (part : List ℕ) (common : Stamp) (hs : List Header) (i : ℕ) (found whole : List Report) → length hs ≤ i
+    → found ++ reports_from outstation part common (drop i hs) ≡ whole → found ≡ whole
+headers_end outstation part common hs i found whole le so_far =
+    sym (append-nil found) ∙ (ap (λ (rest : List Header). found ++ reports_from outstation part common rest) (sym (drop_all i hs le)) ∙ so_far)

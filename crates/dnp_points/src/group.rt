@@ -128,7 +128,7 @@ fn push_counter_events(objects: &Objects<'_>, found: &mut Vec<Report>) -> Result
 }
 
 /// Adds what analog inputs report.
-#[tactic(auto, using(crate::proofs::Table::no_floats), unfolding(dnp_objects::specs::Library::object_of))]
+#[tactic(auto, unfolding(dnp_objects::specs::Library::object_of))]
 fn push_analogs(objects: &Objects<'_>, found: &mut Vec<Report>) -> Result<(), Memory>
     requires group { objects.now.header.now.group ≡ 30 }
     requires inside { AreFound objects.now }
@@ -144,7 +144,7 @@ fn push_analogs(objects: &Objects<'_>, found: &mut Vec<Report>) -> Result<(), Me
 }
 
 /// Adds what analog input events report.
-#[tactic(auto, using(crate::proofs::Table::no_float_events), unfolding(dnp_objects::specs::Library::object_of))]
+#[tactic(auto, unfolding(dnp_objects::specs::Library::object_of))]
 fn push_analog_events(objects: &Objects<'_>, found: &mut Vec<Report>) -> Result<(), Memory>
     requires group { objects.now.header.now.group ≡ 32 }
     requires inside { AreFound objects.now }

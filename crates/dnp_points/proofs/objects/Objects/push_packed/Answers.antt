@@ -1,8 +1,10 @@
 use Rattle.std.proofs.Common.{◌≡◌, List, ◌++◌, ◌+◌, ◌-◌, ◌*◌, ◌<◌, [], ◌≢◌, take, drop, refl, sym, ap, ◌∙◌, arith, rules}
+use Rattle.std.proofs.Math.Nat.{mul-mod_left}
 use Rattle.dnp_points.specs.Values.{bits_of}
 use Rattle.dnp_points.specs.Objects.{packed_reports_by_role}
 use Rattle.dnp_points.specs.Meaning.{reports_of_objects}
 use Rattle.dnp_points.proofs.Steps.{packed_at_first, packed_turn, packed_ends}
+use Rattle.dnp_points.proofs.Bits.{bits_few, bits_inside}
 use Rattle.dnp_points.proofs.Memory.{one_packed_told, grown, on_error}
 use Rattle.dnp_points.proofs.objects.Objects.push_packed.Goals as goal
 
@@ -45,3 +47,24 @@ returns-in_err-push g c =
           (ap (packed_reports_by_role g.P.PackedObject.variation.role g.P.PackedObject.variation.event c.args.self.now.outstation (c.from-first.result + c.loop-n.n)) (sym c.bits_at-state.ensures) ∙ c.report.ensures)
           c.loop-n.invariant.grown c.loop-n.invariant.read);
     }
+
+pub overflow_mul-n : goal.overflow_mul-n
+overflow_mul-n g c =
+    let few = rw (← c.BITS-width.ensures) at (bits_few c.loop-n.n g.P.PackedObject.BITS g.met.P.PackedObject.few) in
+    omega (arith, few, c.loop-n-test.true, c.requires.inside.indexed.ends)
+
+pub bits_at-state-requires-clause-width : goal.bits_at-state-requires-clause-width
+bits_at-state-requires-clause-width g c = rw c.BITS-width.ensures g.met.P.PackedObject.few
+
+pub bits_at-state-requires-clause-whole : goal.bits_at-state-requires-clause-whole
+bits_at-state-requires-clause-whole g c = mul-mod_left c.loop-n.n c.BITS-width.result
+
+pub bits_at-state-requires-clause-inside : goal.bits_at-state-requires-clause-inside
+bits_at-state-requires-clause-inside g c =
+    rw c.BITS-width.ensures (bits_inside c.loop-n.n c.args.self.now.header.now.count g.P.PackedObject.BITS _ c.loop-n-test.true c.packed_octets-body.ensures.long)
+
+pub overflow_add-index : goal.overflow_add-index
+overflow_add-index g c = omega (arith, c.from-first.ensures, c.loop-n-test.true, c.requires.inside.indexed.ends)
+
+pub overflow_cast-index : goal.overflow_cast-index
+overflow_cast-index g c = omega (arith, c.from-first.ensures, c.loop-n-test.true, c.requires.inside.indexed.ends)
