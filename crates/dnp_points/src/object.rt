@@ -38,7 +38,7 @@ pub trait Object {
 }
 
 /// Which time stands at the end of an object.
-#[derive(Clone, Copy, Debug, PartialEq, Eq)]
+#[derive(Clone, Copy)]
 pub enum Time {
     /// None.
     Timeless,
@@ -49,7 +49,7 @@ pub enum Time {
 }
 
 /// How an object of a point is laid out: a flags octet or none, the octets of its value, and a time.
-#[derive(Clone, Copy, Debug, PartialEq, Eq)]
+#[derive(Clone, Copy)]
 pub struct Layout {
     pub kind: Kind,
     pub event: bool,

@@ -1,5 +1,5 @@
-use Rattle.std.proofs.Common.{◌≡◌, List, ◌++◌, ◌+◌, ◌-◌, ◌*◌, ◌<◌, [], ◌≢◌, take, drop, refl, sym, ap, ◌∙◌, arith, rules}
-use Rattle.std.proofs.Math.Nat.{mul-mod_left}
+use Rattle.std.proofs.Common.{◌≡◌, List, ◌++◌, ◌+◌, ◌-◌, ◌*◌, [], ◌≢◌, take, drop, refl, sym, ap, ◌∙◌, arith, rules}
+use Rattle.std.proofs.Math.Nat.{le_refl, mul-mod_left}
 use Rattle.dnp_points.specs.Values.{bits_of}
 use Rattle.dnp_points.specs.Objects.{packed_reports_by_role}
 use Rattle.dnp_points.specs.Meaning.{reports_of_objects}
@@ -11,17 +11,16 @@ use Rattle.dnp_points.proofs.objects.Objects.push_packed.Goals as goal
 pub loop-n-init : goal.loop-n-init
 loop-n-init g c = record {
   read = ap (λ (rs : List _). c.args.found.now.items ++ rs) (packed_at_first g.P.PackedObject.variation g.P.PackedObject.BITS c.args.self.now.outstation c.args.self.now.header.now.first c.args.self.now.header.now.count (bits_of c.packed_octets-body.result.now));
-  grown = omega arith;
+  grown = le_refl _;
 }
 
 pub loop-n-preserved : goal.loop-n-preserved
 loop-n-preserved g c =
-    let lt : c.loop-n.n < c.args.self.now.header.now.count = omega arith in
     let bits = bits_of c.packed_octets-body.result.now in
     record {
       read = packed_turn g.P.PackedObject.variation g.P.PackedObject.BITS c.BITS-width.result c.args.self.now.outstation c.args.self.now.header.now.first c.from-first.result c.loop-n.n c.args.self.now.header.now.count
           bits (take c.BITS-width.result (drop (c.loop-n.n * c.BITS-width.result) bits)) (c.from-first.result + c.loop-n.n) c.loop-n.found.items c.push.new.self.items c.args.found.now.items c.report.result
-          lt c.BITS-width.ensures c.from-first.ensures refl refl (ap (packed_reports_by_role g.P.PackedObject.variation.role g.P.PackedObject.variation.event c.args.self.now.outstation (c.from-first.result + c.loop-n.n)) (sym c.bits_at-state.ensures) ∙ c.report.ensures) c.in_ok-push.ensures.items c.loop-n.invariant.read;
+          c.loop-n-test.true c.BITS-width.ensures c.from-first.ensures refl refl (ap (packed_reports_by_role g.P.PackedObject.variation.role g.P.PackedObject.variation.event c.args.self.now.outstation (c.from-first.result + c.loop-n.n)) (sym c.bits_at-state.ensures) ∙ c.report.ensures) c.in_ok-push.ensures.items c.loop-n.invariant.read;
       grown = grown c.loop-n.found.items c.push.new.self.items c.args.found.now.items c.report.result c.in_ok-push.ensures.items c.loop-n.invariant.grown;
     }
 
@@ -36,14 +35,13 @@ returns g c =
 
 pub returns-in_err-push : goal.returns-in_err-push
 returns-in_err-push g c =
-    let lt : c.loop-n.n < c.args.self.now.header.now.count = omega arith in
     let bits = bits_of c.packed_octets-body.result.now in
     record {
       told = search rules;
       memory = on_error c.from_residual.result (reports_of_objects c.args.self.now ≢ [])
           (one_packed_told c.args.self.now.part.now c.args.self.now.header.now g.P.PackedObject.variation g.P.PackedObject.BITS c.BITS-width.result c.args.self.now.outstation c.args.self.now.common c.from-first.result c.loop-n.n
           c.packed_octets-body.result.now (take c.BITS-width.result (drop (c.loop-n.n * c.BITS-width.result) bits)) (c.from-first.result + c.loop-n.n) c.loop-n.found.items c.args.found.now.items c.report.result
-          c.requires.known g.met.P.PackedObject.sized lt c.BITS-width.ensures c.from-first.ensures refl c.packed_octets-body.ensures.all refl
+          c.requires.known g.met.P.PackedObject.sized c.loop-n-test.true c.BITS-width.ensures c.from-first.ensures refl c.packed_octets-body.ensures.all refl
           (ap (packed_reports_by_role g.P.PackedObject.variation.role g.P.PackedObject.variation.event c.args.self.now.outstation (c.from-first.result + c.loop-n.n)) (sym c.bits_at-state.ensures) ∙ c.report.ensures)
           c.loop-n.invariant.grown c.loop-n.invariant.read);
     }

@@ -1,4 +1,5 @@
-use Rattle.std.proofs.Common.{◌≡◌, List, ◌++◌, ap, ◌+◌, ◌-◌, ◌<◌, [], ◌≢◌, arith, rules}
+use Rattle.std.proofs.Common.{◌≡◌, List, ◌++◌, ap, ◌+◌, ◌-◌, [], ◌≢◌, arith, rules}
+use Rattle.std.proofs.Math.Nat.{le_refl}
 use Rattle.dnp_points.specs.Meaning.{octets_of_objects, reports_of_objects}
 use Rattle.dnp_points.proofs.Steps.{whole_fits, whole_at_first, whole_left_first, whole_turn, left_enough, left_behind, whole_is_done}
 use Rattle.dnp_points.proofs.Memory.{one_whole_told, grown, on_error}
@@ -7,24 +8,23 @@ use Rattle.dnp_points.proofs.objects.Objects.push_whole.Goals as goal
 pub loop-n-init : goal.loop-n-init
 loop-n-init g c = record {
   read = ap (λ (rs : List _). c.args.found.now.items ++ rs) (whole_at_first c.args.self.now.part.now c.args.self.now.header.now g.O.Object.variation g.O.Object.LENGTH c.LENGTH.result c.from-prefix.result c.args.self.now.outstation c.args.self.now.common g.met.O.Object.sized c.LENGTH.ensures c.from-prefix.ensures);
-  grown = omega arith;
+  grown = le_refl _;
   left = whole_left_first c.args.self.now.part.now c.args.self.now.header.now g.O.Object.variation g.O.Object.LENGTH c.LENGTH.result c.from-prefix.result c.requires.inside.within c.requires.known g.met.O.Object.sized c.LENGTH.ensures c.from-prefix.ensures;
 }
 
 pub loop-n-preserved : goal.loop-n-preserved
 loop-n-preserved g c =
-    let lt : c.loop-n.n < c.args.self.now.header.now.count = omega arith in
     record {
       read = whole_turn g.O.Object.variation g.O.Object.LENGTH c.LENGTH-in-loop-n.result c.args.self.now.outstation c.args.self.now.common c.args.self.now.header.now.prefix c.from-prefix.result c.args.self.now.header.now.first c.from-first.result c.loop-n.n c.args.self.now.header.now.count
           c.loop-n.rest.now c.split_at.result.0.now c.split_at.result.1.now c.split_at-in-loop-n.result.0.now c.split_at-in-loop-n.result.1.now c.index_of-index.result
           c.loop-n.found.items c.push.new.self.items c.args.found.now.items (octets_of_objects c.args.self.now.part.now g.O.Object.variation c.args.self.now.header.now) c.report.result
-          lt c.from-prefix.ensures c.from-first.ensures c.LENGTH-in-loop-n.ensures
+          c.loop-n-test.true c.from-prefix.ensures c.from-first.ensures c.LENGTH-in-loop-n.ensures
           c.split_at.ensures.front c.split_at.ensures.back c.split_at-in-loop-n.ensures.front c.split_at-in-loop-n.ensures.back
           c.index_of-index.ensures c.report.ensures c.in_ok-push.ensures.items c.loop-n.invariant.read;
       grown = grown c.loop-n.found.items c.push.new.self.items c.args.found.now.items c.report.result c.in_ok-push.ensures.items c.loop-n.invariant.grown;
       left = left_behind g.O.Object.LENGTH c.LENGTH-in-loop-n.result c.args.self.now.header.now.prefix c.from-prefix.result c.loop-n.n c.args.self.now.header.now.count
           c.loop-n.rest.now c.split_at.result.0.now c.split_at.result.1.now c.split_at-in-loop-n.result.0.now c.split_at-in-loop-n.result.1.now
-          lt c.from-prefix.ensures c.LENGTH-in-loop-n.ensures c.split_at.ensures.back_len c.split_at-in-loop-n.ensures.back_len c.loop-n.invariant.left;
+          c.loop-n-test.true c.from-prefix.ensures c.LENGTH-in-loop-n.ensures c.split_at.ensures.back_len c.split_at-in-loop-n.ensures.back_len c.loop-n.invariant.left;
     }
 
 pub returns : goal.returns
@@ -38,13 +38,12 @@ returns g c =
 
 pub returns-in_err-push : goal.returns-in_err-push
 returns-in_err-push g c =
-    let lt : c.loop-n.n < c.args.self.now.header.now.count = omega arith in
     record {
       told = search rules;
       memory = on_error c.from_residual.result (reports_of_objects c.args.self.now ≢ [])
           (one_whole_told c.args.self.now.part.now c.args.self.now.header.now g.O.Object.variation g.O.Object.LENGTH c.LENGTH-in-loop-n.result c.args.self.now.outstation c.args.self.now.common c.from-prefix.result c.from-first.result c.loop-n.n
           c.loop-n.rest.now c.split_at.result.0.now c.split_at.result.1.now c.split_at-in-loop-n.result.0.now c.index_of-index.result c.loop-n.found.items c.args.found.now.items c.report.result
-          c.requires.known g.met.O.Object.sized lt c.from-prefix.ensures c.from-first.ensures c.LENGTH-in-loop-n.ensures
+          c.requires.known g.met.O.Object.sized c.loop-n-test.true c.from-prefix.ensures c.from-first.ensures c.LENGTH-in-loop-n.ensures
           c.split_at.ensures.front c.split_at.ensures.back c.split_at-in-loop-n.ensures.front
           c.index_of-index.ensures c.report.ensures c.loop-n.invariant.grown c.loop-n.invariant.read);
     }
