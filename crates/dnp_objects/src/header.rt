@@ -12,7 +12,7 @@ use std::alloc::Global;
 const MOST_HEADERS: usize = 512;
 
 /// An object header, and where its objects stand in the part.
-#[derive(Clone, Copy, Debug, PartialEq, Eq)]
+#[derive(Clone, Copy)]
 pub struct Header {
     /// The object group.
     pub group: u8,

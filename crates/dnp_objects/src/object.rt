@@ -4,7 +4,7 @@ ghost use Rattle.std.specs.Option.{option_map};
 ghost use Rattle.dnp_objects.specs.Library.{object_of, size_of, form_of};
 
 /// How much room an object takes.
-#[derive(Clone, Copy, Debug, PartialEq, Eq)]
+#[derive(Clone, Copy)]
 pub enum Size {
     /// So many octets.
     Octets(u8),
@@ -14,7 +14,7 @@ pub enum Size {
 }
 
 /// Under which qualifiers objects may stand (IEEE Std 1815, 4.2.2.7.3).
-#[derive(Clone, Copy, Debug, PartialEq, Eq)]
+#[derive(Clone, Copy)]
 pub enum Access {
     /// A first and a last index: 00 and 01.
     Ranges,
@@ -27,7 +27,7 @@ pub enum Access {
 }
 
 /// How the objects of a variation stand in a part.
-#[derive(Clone, Copy, Debug, PartialEq, Eq)]
+#[derive(Clone, Copy)]
 pub struct Form {
     pub size: Size,
     pub access: Access,

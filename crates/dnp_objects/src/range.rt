@@ -7,14 +7,14 @@ use crate::numbers::number;
 use crate::object::Access;
 
 /// How many octets a number of a range field has.
-#[derive(Clone, Copy, Debug, PartialEq, Eq)]
+#[derive(Clone, Copy)]
 pub enum Width {
     One,
     Two,
 }
 
 /// How a qualifier gives the range (IEEE Std 1815, 4.2.2.7.3).
-#[derive(Clone, Copy, Debug, PartialEq, Eq)]
+#[derive(Clone, Copy)]
 pub enum Range {
     /// A first and a last index.
     StartStop(Width),
@@ -23,7 +23,7 @@ pub enum Range {
 }
 
 /// What a range field gives.
-#[derive(Clone, Copy, Debug, PartialEq, Eq)]
+#[derive(Clone, Copy)]
 pub struct RangeField {
     /// How many octets the field has.
     pub octets: usize,
