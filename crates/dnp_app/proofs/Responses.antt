@@ -2,21 +2,22 @@
 use Rattle.std.proofs.Common.{◌≡◌, ◌≢◌, ℕ, ◌-◌, ◌≤◌, List, [], ◌∷◌, length, take, drop, ltb, true, false, Option, Result, Ok, Err, refl, sym, ap, subst, ◌∙◌}
 use Rattle.std.specs.Prelude.{IfErr, IsErrOf}
 use Rattle.std.proofs.lemmas.Bool.{le-ltb}
+use Rattle.gw_model.specs.declared.point.Report.{Report}
 use Rattle.gw_model.specs.Outcome.{Gives}
 use Rattle.dnp_objects.specs.declared.header.Header.{Header}
 use Rattle.dnp_objects.specs.Headers.{headers_of, IsStoredAt}
 use Rattle.dnp_objects.proofs.HeaderLaws.{first_stored}
-use Rattle.dnp_points.specs.Meaning.{reports_of}
+use Rattle.dnp_points.specs.Meaning.{Means, reports_of}
 use Rattle.dnp_points.proofs.ReportLaws.{meaning-again}
 use Rattle.dnp_app.specs.declared.fault.AppFault.{AppFault}
 use Rattle.dnp_app.specs.declared.fault.AppFault.TheVariants.{Short, NotResponse, Object, Memory}
-use Rattle.dnp_app.specs.Response.{Fragment, IsResponse, is_response, StoresHeader, IsRefused, response_of, is_memory}
+use Rattle.dnp_app.specs.Response.{Fragment, fragment_of, IsResponse, is_response, StoresHeader, IsRefused, response_of, is_memory}
 use Rattle.dnp_app.specs.declared.echoed.Echo.{Echo}
 use Rattle.dnp_app.specs.Echo.{headers_in, lone_echoes, only_one, echo_of}
 use Rattle.dnp_app.specs.SteppedOver.{stepped_over_count, stepped_over_count_of}
 use Rattle.dnp_app.proofs.Echoes.{all_from}
 
-response-again : (f : Fragment) → IsResponse f → response_of f.outstation f.octets ≡ Ok f
+pub response-again : (f : Fragment) → IsResponse f → response_of f.outstation f.octets ≡ Ok f
 response-again f is =
     let long : ltb (length f.octets) 4 ≡ false = le-ltb _ _ is.long in
     rw (long, is.function, meaning-again f.outstation _ f.reports is.means) refl
@@ -42,6 +43,12 @@ refused view (Err (Object e)) outstation octets exact memory = exact
 -- the object part, as the octets from the fifth on
 pub part_is : (octets seen : List ℕ) → seen ≡ octets → take (length seen - 4) (drop 4 seen) ≡ drop 4 octets
 part_is octets seen e = all_from 4 seen ∙ ap (drop 4) e
+
+-- a response that was read
+pub is_read : (outstation : ℕ) (octets part : List ℕ) (reports : List Report) → 4 ≤ length octets → is_response octets ≡ true → part ≡ drop 4 octets → Means outstation part reports
+    → IsResponse (fragment_of outstation octets reports)
+is_read outstation octets part reports long function at means =
+    record { long = long; function = function; means = subst (λ (t : List ℕ). Means outstation t reports) at means }
 
 -- memory runs out where a header is stored
 pub stores_header : (octets part : List ℕ) (place : ℕ) → 4 ≤ length octets → is_response octets ≡ true → part ≡ drop 4 octets → IsStoredAt part place → StoresHeader octets
