@@ -86,7 +86,7 @@ pub fn frame_at(octets: &[u8], len: u8) -> Option<Frame>
 }
 
 /// What the front of octets shows, before any data block is looked at.
-#[derive(Clone, Copy, Debug, PartialEq, Eq)]
+#[derive(Clone, Copy)]
 pub enum Front {
     /// Nothing yet.
     Nothing,

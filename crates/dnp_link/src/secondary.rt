@@ -36,7 +36,7 @@ impl Model for Secondary {
 }
 
 /// What to do with a frame.
-#[derive(Clone, Copy, Debug, PartialEq, Eq)]
+#[derive(Clone, Copy)]
 pub enum Answer {
     /// Hand its user data on.
     Deliver,
