@@ -1,7 +1,7 @@
 //! What an assembler answers to a segment.
 
 /// Why a segment was dropped.
-#[derive(Clone, Copy, Debug, PartialEq, Eq)]
+#[derive(Clone, Copy)]
 pub enum DropCause {
     /// It has no FIR, and no fragment has begun.
     Lone,
@@ -14,7 +14,7 @@ pub enum DropCause {
 }
 
 /// What a segment gave.
-#[derive(Debug, Drop)]
+#[derive(Drop)]
 pub enum Taken {
     /// The fragment that ends with it, of 1 to 2,048 octets.
     Fragment(Vec<u8>),

@@ -13,7 +13,7 @@ use std::marker::Model;
 
 /// Puts fragments together from segments in the order in which they come. It holds at most one
 /// fragment that has begun.
-#[derive(Debug, Drop)]
+#[derive(Drop)]
 pub struct Assembler {
     alloc: Global,
     series: Option<Series>,

@@ -4,7 +4,7 @@ ghost use Rattle.std.specs.Prelude.{◌≡◌, ◌≤◌, ◌∷◌, length};
 use std::marker::Model;
 
 /// A segment of 2 to 250 octets, header first.
-#[derive(Debug, Drop)]
+#[derive(Drop)]
 pub struct Segment {
     octets: [u8; 250],
     len: usize,

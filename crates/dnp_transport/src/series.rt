@@ -11,7 +11,7 @@ use std::marker::Model;
 
 /// The sequence number that goes on with the fragment, and its octets so far, with room for all
 /// that it may get.
-#[derive(Debug, Drop)]
+#[derive(Drop)]
 pub struct Series {
     next: u8,
     octets: Vec<u8>,

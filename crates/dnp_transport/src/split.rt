@@ -10,7 +10,7 @@ use std::marker::Model;
 const SEGMENT_LIMIT: usize = 249;
 
 /// The segments of a fragment that are left, one after another.
-#[derive(Debug, Drop)]
+#[derive(Drop)]
 pub struct SegmentIter<'a> {
     rest: &'a [u8],
     sequence: u8,
