@@ -1,11 +1,13 @@
--- What is put out first is of a kind, where all that waits is; so it can be spelled, where all answers can.
-use Rattle.std.proofs.Common.{ℕ, Bool, true, false, cond, [], ◌∷◌, map, take, drop, Option, Some, None}
-use Rattle.std.specs.Prelude.{◌&&◌, option_map, slice_get, IfSome}
+-- What is put out first is of a kind, where all that waits is; so it can be spelled, where all answers can. Behind answers
+-- and parts come news.
+use Rattle.std.proofs.Common.{◌≡◌, ◌<◌, ◌≤◌, ℕ, zero, suc, Bool, true, false, cond, List, [], ◌∷◌, ◌++◌, map, take, drop, Option, Some, None, ◌⊎◌, inl, inr, refl, sym, ap, arith}
+use Rattle.std.specs.Prelude.{◌&&◌, is_some, option_map, slice_get, IfSome}
 use Rattle.std.specs.List.{AllByRecursion}
 use Rattle.gw_model.specs.First.{when, first_of}
 use Rattle.gw_model.specs.declared.observation.Observation.{Observation}
 use Rattle.iec_apci.specs.declared.apdu.Signal.{Signal}
 use Rattle.iec_window.specs.Timers.{owes_ack, owes_test}
+use Rattle.gw_answers.specs.declared.answer.Answer.{Answer}
 use Rattle.gw_answers.specs.declared.answer.Part.{Part}
 use Rattle.gw_answers.specs.Octets.{IsReturnable}
 use Rattle.gw_station.specs.declared.sending.Sending.{Sending}
@@ -66,3 +68,47 @@ offered_returnable moment c all =
     let news = all-given (λ (x : Observation). IsReturnableSending (sendings.News x)) (λ x. tt) c.queue in
     let parts = all-given (λ (part : Part). IsReturnableSending (sendings.Part part)) (λ part. tt) c.rest in
     offered_so IsReturnableSending (λ signal. tt) tt tt moment c (line_so IsReturnableSending c all news parts)
+
+-- ---- what is first
+
+pub first_answer : (c : Client) (answer : Answer) → slice_get c.answers 0 ≡ Some answer → Some (sendings.Answer answer) ≡ slice_get (line c) 0
+first_answer c answer first = by c.answers first
+  where
+    by : (answers : List Answer) → slice_get answers 0 ≡ Some answer → Some (sendings.Answer answer) ≡ slice_get (line (record c { answers = answers })) 0
+    by [] first = absurd cc
+    by (x ∷ answers) first = ap (option_map sendings.Answer) (sym first)
+
+-- news that came before an interrogation, where no answer waits
+pub first_older : (c : Client) → c.answers ≡ [] → 0 < c.older → is_some (slice_get c.queue 0) ≡ true → option_map sendings.News (slice_get c.queue 0) ≡ slice_get (line c) 0
+first_older c none some waits = rw none (by c.older c.queue some waits)
+  where
+    by : (older : ℕ) (queue : List Observation) → 0 < older → is_some (slice_get queue 0) ≡ true
+        → option_map sendings.News (slice_get queue 0) ≡ slice_get (line (record c { answers = []; older = older; queue = queue })) 0
+    by zero queue some waits = absurd (omega (arith, some))
+    by (suc older) [] some waits = absurd cc
+    by (suc older) (x ∷ queue) some waits = refl
+
+-- a part, where neither an answer nor such news wait
+pub first_part : (c : Client) (part : Part) → c.answers ≡ [] → (c.older ≤ 0) ⊎ (is_some (slice_get c.queue 0) ≡ false) → slice_get c.rest 0 ≡ Some part
+    → Some (sendings.Part part) ≡ slice_get (line c) 0
+first_part c part none no_news first = rw none (by c.older c.queue c.rest no_news first)
+  where
+    by : (older : ℕ) (queue : List Observation) (rest : List Part) → (older ≤ 0) ⊎ (is_some (slice_get queue 0) ≡ false) → slice_get rest 0 ≡ Some part
+        → Some (sendings.Part part) ≡ slice_get (line (record c { answers = []; older = older; queue = queue; rest = rest })) 0
+    by older queue [] no_news first = absurd cc
+    by zero queue (x ∷ rest) no_news first = ap (option_map sendings.Part) (sym first)
+    by (suc older) [] (x ∷ rest) no_news first = ap (option_map sendings.Part) (sym first)
+    by (suc older) (y ∷ queue) (x ∷ rest) (inl few) first = absurd (omega (arith, few))
+    by (suc older) (y ∷ queue) (x ∷ rest) (inr no_one) first = absurd cc
+
+-- where neither an answer nor a part waits
+-- the oldest news are first, however many came before an interrogation
+pub first_news : (c : Client) → c.answers ≡ [] → c.rest ≡ [] → option_map sendings.News (slice_get c.queue 0) ≡ slice_get (line c) 0
+first_news c none empty = rw (none, empty) (by c.older c.queue)
+  where
+    by : (older : ℕ) (queue : List Observation)
+        → option_map sendings.News (slice_get queue 0) ≡ slice_get (map sendings.News (take older queue) ++ map sendings.News (drop older queue)) 0
+    by zero [] = refl
+    by zero (x ∷ queue) = refl
+    by (suc older) [] = refl
+    by (suc older) (x ∷ queue) = refl

@@ -18,7 +18,7 @@ pub enum Why {
 }
 
 /// What became of an APDU from a client.
-#[derive(Clone, Copy, Debug, PartialEq, Eq)]
+#[derive(Clone, Copy)]
 pub enum Event {
     /// It was taken.
     Taken,
@@ -29,7 +29,7 @@ pub enum Event {
 }
 
 /// What is said of a command.
-#[derive(Clone, Copy, Debug, PartialEq, Eq)]
+#[derive(Clone, Copy, PartialEq, Eq)]
 pub enum Said {
     /// Its activation or deactivation is confirmed.
     Confirm,

@@ -5,7 +5,7 @@ use gw_model::Observation;
 use iec_apci::Signal;
 
 /// What is put out to a client next.
-#[derive(Clone, Copy, Debug, PartialEq, Eq)]
+#[derive(Clone, Copy)]
 pub enum Sending {
     /// The confirmation of a U format that the client sent.
     Confirm(Signal),

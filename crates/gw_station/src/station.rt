@@ -222,17 +222,13 @@ impl Station {
             Apdu::I { ns, nr, asdu } => {
                 self.take_information(*ns, *nr, asdu, moment, settings, picture)
             }
-            Apdu::S { nr } => {
+            Apdu::S { nr } => match self.window.acknowledged(*nr, moment) {
+                Ok(()) => Ok(Event::Taken),
                 // A wrong number changes nothing.
-                if self.window.acknowledged(*nr, moment).is_err() {
-                    return Ok(self.close(Why::Sequence));
-                }
-                Ok(Event::Taken)
-            }
+                Err(_) => Ok(self.close(Why::Sequence)),
+            },
+            Apdu::U(signal) if self.is_flooded_by(*signal) => Ok(self.close(Why::Flooded)),
             Apdu::U(signal) => {
-                if signal.confirmation().is_some() && self.is_full() {
-                    return Ok(self.close(Why::Flooded));
-                }
                 self.take_signal(*signal, moment)?;
                 Ok(Event::Taken)
             }
@@ -312,6 +308,13 @@ impl Station {
         ensures { result ≡ nat_le 32 (length self.now.confirmations) }
     {
         self.confirmations.len() >= MOST_CONFIRMATIONS
+    }
+
+    /// Whether a confirmation is wanted, for which there is no place.
+    fn is_flooded_by(&self, signal: Signal) -> bool
+        ensures { result ≡ floods signal self.now }
+    {
+        signal.confirmation().is_some() && self.is_full()
     }
 
     /// Why an I format closes the connection, if it does.
@@ -429,13 +432,13 @@ impl Station {
         ensures memory { OnErr result ((signal ≡ signals.StartAct) × (is_started self.old.stage ≡ false)) }
         ensures same { OnErr result (self.new ≡ self.old) }
     {
-        match (signal, self.stage) {
-            (Signal::StartAct, Stage::Started) => {}
-            (Signal::StartAct, _) => {
+        let started = self.is_started();
+        match signal {
+            Signal::StartAct if !started => {
                 let queue = HeapCircularBuffer::with_capacity(self.alloc, self.limit)?;
                 self.begin_at(Stage::Started, Some(queue));
             }
-            (Signal::StopAct, Stage::Started) => self.begin_at(Stage::Stopped, None),
+            Signal::StopAct if started => self.begin_at(Stage::Stopped, None),
             _ => {}
         }
         Ok(())
@@ -452,13 +455,11 @@ impl Station {
         if self.window.owes_test(moment) {
             return Some(Sending::Test);
         }
-        if let Some(sending) = self.information_offered() {
-            return Some(sending);
-        }
-        if self.window.owes_ack(moment) {
+        let information = self.information_offered();
+        if information.is_none() && self.window.owes_ack(moment) {
             return Some(Sending::Receipt);
         }
-        None
+        information
     }
 
     /// The first of what waits for an I format, in a session, where one may be sent.
@@ -480,14 +481,14 @@ impl Station {
         if let Some(answer) = self.answers.front() {
             return Some(Sending::Answer(*answer));
         }
-        let news = self.oldest_news();
-        if let (Some(news), true) = (news, self.older > 0) {
-            return Some(Sending::News(news));
+        let news = self.oldest_news().map(Sending::News);
+        if news.is_some() && self.older > 0 {
+            return news;
         }
         if let Some(part) = self.rest.front() {
             return Some(Sending::Part(*part));
         }
-        news.map(Sending::News)
+        news
     }
 
     fn oldest_news(&self) -> Option<Observation>
@@ -528,10 +529,7 @@ impl Station {
                 self.send_asdu(observation_asdu(common, SPONTANEOUS, &zone, &news), moment)
             }
             Sending::Part(part) => {
-                self.rest.pop_front();
-                if self.rest.is_empty() {
-                    self.rest = VecDeque::new(self.alloc);
-                }
+                self.forget_part();
                 self.send_asdu(part_asdu(common, &zone, &part), moment)
             }
             Sending::Receipt => {
@@ -561,5 +559,15 @@ impl Station {
             queue.pop_front();
         }
         self.older = self.older.saturating_sub(1);
+    }
+
+    /// The next part of the answer doesn't wait any more; behind the last one its memory is given back.
+    fn forget_part(&mut self)
+        ensures { self.new ≡ record self.old { rest = drop 1 self.old.rest } }
+    {
+        self.rest.pop_front();
+        if self.rest.is_empty() {
+            self.rest = VecDeque::new(self.alloc);
+        }
     }
 }

@@ -1,0 +1,53 @@
+use Rattle.std.proofs.Common.{◌≡◌, ℕ, ◌<◌, ◌≤◌, ◌⊎◌, true, false, List, [], ◌∷◌, length, Some, inl, inr, refl, sym, ap, subst, ◌∙◌, arith, rules}
+use Rattle.std.specs.Prelude.{is_some, option_map, slice_get}
+use Rattle.std.proofs.lemmas.Option.{slice_get_read}
+use Rattle.std.proofs.lemmas.Bool.{false≢true}
+use Rattle.gw_station.specs.declared.sending.Sending.TheVariants as sendings
+use Rattle.gw_station.specs.Client.{Client}
+use Rattle.gw_station.proofs.Line.{first_answer, first_older, first_part, first_news}
+use Rattle.gw_station.proofs.station.Station.first_in_line.Goals as goal
+use Rattle.gw_station.proofs.station.Station.first_in_line.Goals.{else-is_some-via-then-is_some+else-self-gt0, else-is_some-via-else-is_some}
+
+nothing : {A : Type 0} (xs : List A) (n : ℕ) → n ≡ length xs → (0 < n → false ≡ true) → xs ≡ []
+nothing [] n all some = refl
+nothing (x ∷ xs) n all some = absurd (false≢true (some (omega (arith, all))))
+
+pub returns-in-Some : goal.returns-in-Some
+returns-in-Some c =
+    let answers = c.self.inside.answers in
+    let answer = c.in-Some.answer.now in
+    let first = slice_get_read answers.items answers.len 0 answer answers.ok.0 (c.in-Some.ensures.variant.0 refl) c.in-Some.ensures.lookup in
+    first_answer c.args.self.now answer (subst (λ (k : Client). slice_get k.answers 0 ≡ Some answer) c.self.view_is first)
+
+pub returns-then-self-gt0 : goal.returns-then-self-gt0
+returns-then-self-gt0 c =
+    let answers = c.self.inside.answers in
+    let none = sym (ap (λ (k : Client). k.answers) c.self.view_is) ∙ nothing answers.items answers.len answers.ok.0 c.in_default.ensures.variant.1 in
+    let news : c.map-news.result ≡ option_map sendings.News (slice_get c.args.self.now.queue 0) = search rules in
+    let queued = sym (c.map-news.ensures.variant ∙ ap is_some c.oldest_news.ensures) in
+    let waits = queued ∙ (sym c.is_some.ensures ∙ c.if-is_some.true) in
+    news ∙ first_older c.args.self.now none (subst (λ (k : Client). 0 < k.older) c.self.view_is c.if-self-gt0.true) waits
+
+pub returns-in-Some-front : goal.returns-in-Some-front
+returns-in-Some-front c =
+    let s = c.args.self.now in
+    let answers = c.self.inside.answers in
+    let rest = c.self.inside.rest in
+    let part = c.in-Some-front.part.now in
+    let none = sym (ap (λ (k : Client). k.answers) c.self.view_is) ∙ nothing answers.items answers.len answers.ok.0 c.in_default.ensures.variant.1 in
+    let first = slice_get_read rest.items rest.len 0 part rest.ok.0 (c.in-Some-front.ensures.variant.0 refl) c.in-Some-front.ensures.lookup in
+    let queued = sym (c.map-news.ensures.variant ∙ ap is_some c.oldest_news.ensures) in
+    let no_news : (s.older ≤ 0) ⊎ (is_some (slice_get s.queue 0) ≡ false) = elim c.else-is_some.branch [
+      | else-is_some-via-then-is_some+else-self-gt0 w ↦ inl (subst (λ (k : Client). k.older ≤ 0) c.self.view_is w.if-self-gt0.false)
+      | else-is_some-via-else-is_some w ↦ inr (queued ∙ (sym c.is_some.ensures ∙ w.if-is_some.false))
+    ] in
+    first_part s part none no_news (subst (λ (k : Client). slice_get k.rest 0 ≡ Some part) c.self.view_is first)
+
+pub returns : goal.returns
+returns c =
+    let answers = c.self.inside.answers in
+    let rest = c.self.inside.rest in
+    let none = sym (ap (λ (k : Client). k.answers) c.self.view_is) ∙ nothing answers.items answers.len answers.ok.0 c.in_default.ensures.variant.1 in
+    let empty = sym (ap (λ (k : Client). k.rest) c.self.view_is) ∙ nothing rest.items rest.len rest.ok.0 c.in_default-front.ensures.variant.1 in
+    let news : c.map-news.result ≡ option_map sendings.News (slice_get c.args.self.now.queue 0) = search rules in
+    news ∙ first_news c.args.self.now none empty
