@@ -18,13 +18,7 @@ pub fn check_settings<W: Write + Drop>(alloc: Global, octets: &[u8], writer: W) 
 /// Writes what the octets mean or what is wrong; whether they are settings.
 fn write_check<W: Write>(alloc: Global, octets: &[u8], writer: &mut W) -> io::Result<bool> {
     match read_settings(alloc, octets) {
-        Ok(settings) => {
-            write_listing(&settings, writer)?;
-            Ok(true)
-        }
-        Err(why) => {
-            writeln!(writer, "refused {why}")?;
-            Ok(false)
-        }
+        Ok(settings) => write_listing(&settings, writer).and(Ok(true)),
+        Err(why) => writeln!(writer, "refused {why}").and(Ok(false)),
     }
 }

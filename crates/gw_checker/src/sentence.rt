@@ -14,38 +14,59 @@ use toml::{Table, Value};
 pub fn explain<W: Write>(alloc: Global, octets: &[u8], writer: &mut W) -> io::Result<()> {
     match read_settings(alloc, octets) {
         Ok(_settings) => Ok(()),
-        Err(Unusable::File) => writeln!(writer, "The file can't be read."),
-        Err(Unusable::Memory) => writeln!(writer, "There is not enough memory to read the file."),
-        Err(Unusable::NotText) => writeln!(writer, "The file is no text in UTF-8."),
-        Err(Unusable::Refused(SettingsFault::Toml(error))) => {
-            writeln!(writer, "The file is no TOML document: {error}")
-        }
-        Err(Unusable::Refused(SettingsFault::Memory)) => {
-            writeln!(writer, "There is not enough memory to read the file.")
-        }
-        Err(Unusable::Refused(SettingsFault::Refused(fault, place))) => {
-            explain_place(alloc, octets, fault, &place, writer)
-        }
+        Err(why) => write_reason(alloc, octets, &why, writer),
     }
 }
 
-/// Writes a sentence on what is wrong at a place of a document.
-fn explain_place<W: Write>(
+/// Writes a sentence on why the octets of a file can't be used.
+fn write_reason<W: Write>(
     alloc: Global,
     octets: &[u8],
-    fault: Fault,
-    place: &Place,
+    why: &Unusable,
     writer: &mut W,
 ) -> io::Result<()> {
-    let Ok(text) = str::from_utf8(octets) else {
-        return Ok(());
+    let sentence = match why {
+        Unusable::File => "The file can't be read.",
+        Unusable::Memory => "There is not enough memory to read the file.",
+        Unusable::NotText => "The file is no text in UTF-8.",
+        Unusable::Refused(fault) => return write_fault(alloc, octets, fault, writer),
     };
-    let Ok(top) = toml::table_from_str(alloc, text) else {
-        return Ok(());
-    };
-    let entry = entry_at(&top, place);
+    writeln!(writer, "{sentence}")
+}
+
+/// Writes a sentence on what is wrong with the text of a file.
+fn write_fault<W: Write>(
+    alloc: Global,
+    octets: &[u8],
+    fault: &SettingsFault,
+    writer: &mut W,
+) -> io::Result<()> {
+    match fault {
+        SettingsFault::Toml(error) => writeln!(writer, "The file is no TOML document: {error}"),
+        SettingsFault::Memory => writeln!(writer, "There is not enough memory to read the file."),
+        SettingsFault::Refused(fault, place) => match table_of(alloc, octets) {
+            Some(top) => write_place(*fault, place, &top, writer),
+            None => Ok(()),
+        },
+    }
+}
+
+/// The document that the octets of a file are, if they are one.
+fn table_of(alloc: Global, octets: &[u8]) -> Option<Table> {
+    let text = str::from_utf8(octets).ok()?;
+    toml::table_from_str(alloc, text).ok()
+}
+
+/// Writes a sentence on what is wrong at a place of a document.
+fn write_place<W: Write>(
+    fault: Fault,
+    place: &Place,
+    top: &Table,
+    writer: &mut W,
+) -> io::Result<()> {
+    let entry = entry_at(top, place);
     write_entry(place, entry, writer)?;
-    write_found(fault, place, &top, entry, writer)?;
+    write_found(fault, place, top, entry, writer)?;
     let allowed = allowed(place.section, place.key.as_str());
     writeln!(writer, "; allowed: {allowed}.")
 }
@@ -77,17 +98,22 @@ fn number_at(table: Option<&Table>, key: &str) -> Option<i64> {
 fn write_entry<W: Write>(place: &Place, entry: Option<&Table>, writer: &mut W) -> io::Result<()> {
     let section = place.section.name();
     match place.section {
-        Section::Top | Section::Station => return write!(writer, "{section}: "),
-        Section::Outstation | Section::Point | Section::Control => {}
+        Section::Top | Section::Station => write!(writer, "{section}: "),
+        Section::Outstation | Section::Point | Section::Control => {
+            write!(writer, "{section} {}", place.position)?;
+            write_number(" of outstation ", number_at(entry, "outstation"), writer)?;
+            write_number(" with address ", number_at(entry, "address"), writer)?;
+            write!(writer, ": ")
+        }
     }
-    write!(writer, "{section} {}", place.position)?;
-    if let Some(outstation) = number_at(entry, "outstation") {
-        write!(writer, " of outstation {outstation}")?;
+}
+
+/// Writes words and the number behind them, if there is one.
+fn write_number<W: Write>(words: &str, number: Option<i64>, writer: &mut W) -> io::Result<()> {
+    match number {
+        Some(number) => write!(writer, "{words}{number}"),
+        None => Ok(()),
     }
-    if let Some(address) = number_at(entry, "address") {
-        write!(writer, " with address {address}")?;
-    }
-    write!(writer, ": ")
 }
 
 /// Writes what was found.
