@@ -1,7 +1,8 @@
 //! `gateway check`.
 
 use crate::listing::write_listing;
-use crate::reading::read_settings;
+use crate::reading::{Unusable, read_settings};
+use gw_map::Settings;
 use std::alloc::Global;
 use std::io::{self, Write};
 
@@ -18,7 +19,19 @@ pub fn check_settings<W: Write + Drop>(alloc: Global, octets: &[u8], writer: W) 
 /// Writes what the octets mean or what is wrong; whether they are settings.
 fn write_check<W: Write>(alloc: Global, octets: &[u8], writer: &mut W) -> io::Result<bool> {
     match read_settings(alloc, octets) {
-        Ok(settings) => write_listing(&settings, writer).and(Ok(true)),
-        Err(why) => writeln!(writer, "refused {why}").and(Ok(false)),
+        Ok(settings) => write_accepted(&settings, writer),
+        Err(why) => write_refused(&why, writer),
     }
+}
+
+/// Writes what settings mean; that they are some.
+fn write_accepted<W: Write>(settings: &Settings, writer: &mut W) -> io::Result<bool> {
+    write_listing(settings, writer)?;
+    Ok(true)
+}
+
+/// Writes what is wrong; that there are no settings.
+fn write_refused<W: Write>(why: &Unusable, writer: &mut W) -> io::Result<bool> {
+    writeln!(writer, "refused {why}")?;
+    Ok(false)
 }

@@ -73,25 +73,25 @@ fn write_place<W: Write>(
 
 /// The entries of a section that is a list.
 fn entries<'a>(top: &'a Table, section: Section) -> &'a [Value] {
-    let found = top.get(section.name()).and_then(|value| value.as_array());
-    match found {
-        Some(values) => values.as_slice(),
-        None => &[],
+    match top.get(section.name()) {
+        Some(Value::Array(values)) => values.as_slice(),
+        _ => &[],
     }
 }
 
 /// The table of a place, if it has one.
 fn entry_at<'a>(top: &'a Table, place: &Place) -> Option<&'a Table> {
-    match place.section {
-        Section::Top => Some(top),
-        Section::Station => top.get("station")?.as_table(),
-        section => entries(top, section).get(place.position)?.as_table(),
-    }
+    let found = match place.section {
+        Section::Top => return Some(top),
+        Section::Station => top.get("station"),
+        section => entries(top, section).get(place.position),
+    };
+    found?.as_table()
 }
 
-/// The whole number at a key of a table, if there is one.
-fn number_at(table: Option<&Table>, key: &str) -> Option<i64> {
-    table?.get(key)?.as_integer()
+/// The value at a key of a table, if there is one.
+fn value_at<'a>(table: Option<&'a Table>, key: &str) -> Option<&'a Value> {
+    table?.get(key)
 }
 
 /// Writes which entry it is: its section, its position, and its address and outstation where it has them.
@@ -101,18 +101,18 @@ fn write_entry<W: Write>(place: &Place, entry: Option<&Table>, writer: &mut W) -
         Section::Top | Section::Station => write!(writer, "{section}: "),
         Section::Outstation | Section::Point | Section::Control => {
             write!(writer, "{section} {}", place.position)?;
-            write_number(" of outstation ", number_at(entry, "outstation"), writer)?;
-            write_number(" with address ", number_at(entry, "address"), writer)?;
+            write_number(" of outstation ", value_at(entry, "outstation"), writer)?;
+            write_number(" with address ", value_at(entry, "address"), writer)?;
             write!(writer, ": ")
         }
     }
 }
 
-/// Writes words and the number behind them, if there is one.
-fn write_number<W: Write>(words: &str, number: Option<i64>, writer: &mut W) -> io::Result<()> {
-    match number {
-        Some(number) => write!(writer, "{words}{number}"),
-        None => Ok(()),
+/// Writes words and the whole number behind them, if there is one.
+fn write_number<W: Write>(words: &str, value: Option<&Value>, writer: &mut W) -> io::Result<()> {
+    match value {
+        Some(Value::Integer(number)) => write!(writer, "{words}{number}"),
+        _ => Ok(()),
     }
 }
 
@@ -132,11 +132,14 @@ fn write_found<W: Write>(
             let count = entries(top, place.section).len();
             write!(writer, "there are {count}")
         }
-        _ => {
-            write!(writer, "{key} is ")?;
-            write_value(entry.and_then(|table| table.get(key)), writer)
-        }
+        _ => write_at_key(key, value_at(entry, key), writer),
     }
+}
+
+/// Writes a key and what stands there.
+fn write_at_key<W: Write>(key: &str, value: Option<&Value>, writer: &mut W) -> io::Result<()> {
+    write!(writer, "{key} is ")?;
+    write_value(value, writer)
 }
 
 /// Writes a value, or of which type it is.
