@@ -7,7 +7,7 @@ use gw_map::{DEFAULT_SETTINGS, Settings};
 use gw_replay::replay;
 use gw_translator::translate;
 use std::env;
-use std::io::{self, BufReader, BufWriter, Write};
+use std::io::{self, BufReader, BufWriter, Printer, StdinLock, Write};
 use std::process::ExitCode;
 
 /// The status of a program that was refused something.
@@ -22,11 +22,16 @@ fn main(rt: HostRuntime) -> io::Result<ExitCode> {
     for argument in &arguments {
         words.push(argument.as_str())?;
     }
-    let status = match read_words(rt.alloc(), words.as_slice()) {
-        Ok(asked) => answer(&rt, asked)?,
-        Err(fault) => tell(&rt, &fault)?,
-    };
+    let status = obey(&rt, words.as_slice())?;
     Ok(ExitCode::from(status))
+}
+
+/// Does what the words of a command line ask for; gives the status.
+fn obey(rt: &HostRuntime, words: &[&str]) -> io::Result<u8> {
+    match read_words(rt.alloc(), words) {
+        Ok(asked) => answer(rt, asked),
+        Err(fault) => tell(rt, &fault),
+    }
 }
 
 /// Does what a command line asks for; gives the status.
@@ -58,17 +63,28 @@ fn tell(rt: &HostRuntime, fault: &LineFault) -> io::Result<u8> {
     }
 }
 
-/// `gateway translate`, from standard input to standard output; gives the status.
-fn translate_input(rt: &HostRuntime, settings: Settings) -> io::Result<u8> {
+/// Standard input and standard output, buffered.
+type Streams<'a> = (
+    BufReader<StdinLock<'a>>,
+    BufWriter<Printer<'a, HostRuntime>>,
+);
+
+/// Buffers standard input and standard output.
+fn streams(rt: &HostRuntime) -> io::Result<Streams<'_>> {
     let reader = BufReader::new(rt.alloc(), rt.reader())?;
     let writer = BufWriter::new(rt.alloc(), io::writer(rt))?;
+    Ok((reader, writer))
+}
+
+/// `gateway translate`, from standard input to standard output; gives the status.
+fn translate_input(rt: &HostRuntime, settings: Settings) -> io::Result<u8> {
+    let (reader, writer) = streams(rt)?;
     Ok(translate(rt.alloc(), settings, reader, writer))
 }
 
 /// `gateway replay`, from standard input to standard output; gives the status.
 fn replay_input(rt: &HostRuntime, settings: Settings) -> io::Result<u8> {
-    let reader = BufReader::new(rt.alloc(), rt.reader())?;
-    let writer = BufWriter::new(rt.alloc(), io::writer(rt))?;
+    let (reader, writer) = streams(rt)?;
     Ok(replay(rt.alloc(), settings, reader, writer))
 }
 
@@ -91,16 +107,20 @@ fn refuse(rt: &HostRuntime, why: &Unusable) -> io::Result<u8> {
 
 /// `gateway check`: what a settings file means, or what is wrong with it; gives the status.
 fn check(rt: &HostRuntime, path: &str) -> io::Result<u8> {
-    let octets = match read_file(rt.alloc(), rt, path) {
-        Ok(octets) => octets,
-        Err(why) => return refuse(rt, &why),
-    };
+    match read_file(rt.alloc(), rt, path) {
+        Ok(octets) => check_octets(rt, octets.as_slice()),
+        Err(why) => refuse(rt, &why),
+    }
+}
+
+/// What the octets of a settings file mean, or what is wrong with them; gives the status.
+fn check_octets(rt: &HostRuntime, octets: &[u8]) -> io::Result<u8> {
     let writer = BufWriter::new(rt.alloc(), io::writer(rt))?;
-    if check_settings(rt.alloc(), octets.as_slice(), writer) {
+    if check_settings(rt.alloc(), octets, writer) {
         return Ok(0);
     }
     let mut sentence = Vec::new(rt.alloc());
-    explain(rt.alloc(), octets.as_slice(), &mut sentence)?;
+    explain(rt.alloc(), octets, &mut sentence)?;
     rt.stderr().write_all(sentence.as_slice())?;
     Ok(REFUSED)
 }
