@@ -2,41 +2,31 @@
 
 use gw_map::{Settings, SettingsFault};
 use std::alloc::{AllocError, Global};
-use std::error::Error;
 use std::fs::File;
 use std::io::{self, ErrorKind, Read};
 use std::rt::Files;
-use std::{fmt, str};
+use std::str;
+use thiserror::Error;
 
 /// How many octets a settings file may have. One with 20,000 controls, each with all of its keys, has some four million.
 pub const LONGEST_FILE: u64 = 16_777_216;
 
 /// Why a settings file can't be used.
-#[derive(Debug, Drop)]
+#[derive(Debug, Drop, Error)]
 pub enum Unusable {
     /// It can't be read, or is too long.
+    #[error("file")]
     File,
     /// Memory ran out while it was read.
+    #[error("memory")]
     Memory,
     /// It is no text in UTF-8.
+    #[error("1 Toml")]
     NotText,
     /// The text is refused.
+    #[error("{0}")]
     Refused(SettingsFault),
 }
-
-impl fmt::Display for Unusable {
-    fn fmt<W: fmt::Write>(&self, f: &mut fmt::Formatter<W>) -> fmt::Result {
-        let word = match self {
-            Unusable::File => "file",
-            Unusable::Memory => "memory",
-            Unusable::NotText => "1 Toml",
-            Unusable::Refused(fault) => return write!(f, "{fault}"),
-        };
-        f.write_str(word)
-    }
-}
-
-impl Error for Unusable {}
 
 impl From<SettingsFault> for Unusable {
     fn from(fault: SettingsFault) -> Unusable {
