@@ -20,7 +20,7 @@ const NOT_SUPPORTED: u8 = 0x8F;
 /// The secondary station of one link (IEEE Std 1815-2012, clause 9), at the master's end: frames come to it
 /// from an outstation as the primary station. A contract sees both addresses, and the frame count bit (FCB)
 /// that is expected next, if the link was reset.
-#[derive(Debug, Drop)]
+#[derive(Clone, Copy, Debug)]
 pub struct Secondary {
     own: u16,
     peer: u16,
@@ -33,6 +33,8 @@ impl Model for Secondary {
     ghost Value = { Station };
 
     ghost view = { λ s. record { own = s.own; peer = s.peer; expected = s.expected } };
+
+    ghost inverse = { λ s. record { own = s.own; peer = s.peer; expected = s.expected } };
 }
 
 /// What to do with a frame.

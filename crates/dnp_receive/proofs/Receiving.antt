@@ -1,37 +1,71 @@
--- What a receiver does with one frame, and with frames one after another.
-use Rattle.std.proofs.Common.{◌≡◌, ℕ, Bool, true, false, cond, List, [], ◌∷◌, ◌++◌, Option, Some, None, map, refl, sym, ◌∙◌, ap, append_assoc, subst}
-use Rattle.std.specs.Prelude.{option_to_list}
+-- What a receiver gives for one frame, and for frames one after another.
+use Rattle.std.proofs.Common.{◌≡◌, ℕ, Bool, true, false, cond, List, [], ◌∷◌, ◌++◌, Option, Some, None, refl, sym, ◌∙◌, ap, subst, inl, inr, append_assoc}
+use Rattle.std.specs.Prelude.{option_and_then, option_to_list, reverse, filter}
 use Rattle.std.specs.List.{cons_option}
-use Rattle.std.proofs.lemmas.List.{append-nil}
-use Rattle.std.proofs.lemmas.List.Elements.{filter_map-append}
+use Rattle.std.proofs.lemmas.Bool.{cases_Bool, cond-true, cond-false}
+use Rattle.std.proofs.lemmas.List.{append-nil, append_cancel_left, reverse-append}
+use Rattle.std.proofs.lemmas.List.Elements.{filter-append}
 use Rattle.dnp_link.specs.Frame.{Content}
-use Rattle.dnp_link.specs.Stream.{Event, Reading, reading, reading_with_first, joined_readings}
 use Rattle.dnp_link.specs.Station.{Station}
-use Rattle.dnp_link.specs.Secondary.{station_after, answer_by, answer_of, decision_on}
+use Rattle.dnp_link.specs.Secondary.{decision_on, station_after, answer_by, answer_of}
 use Rattle.dnp_link.specs.declared.secondary.Answer.{Answer}
-use Rattle.dnp_link.proofs.Streams.{reading-append}
+use Rattle.dnp_transport.specs.Segment.{is_whole}
+use Rattle.dnp_transport.specs.Fragment.{fragments_ended_in, fragments_of}
 use Rattle.dnp_transport.specs.Series.{Series, step}
-use Rattle.dnp_transport.specs.Runs.{answers_from, series_after, fragment_in, fragments_in}
-use Rattle.dnp_transport.proofs.WholeRuns.{answers_from-append, series_after-append, whole}
-use Rattle.dnp_receive.specs.declared.receiver.Receiver.{Receiver}
-use Rattle.dnp_receive.specs.Answers.{is_delivery}
-use Rattle.dnp_receive.specs.Delivery.{frame_in, frames_of, station_at, user_data_by, delivered_user_data, stream_fragments}
-use Rattle.dnp_receive.specs.Receiver.{fragments_held, station_after_all, Receives}
+use Rattle.dnp_transport.specs.Runs.{series_after, fragment_in}
+use Rattle.dnp_transport.proofs.WholeRuns.{series_after-append, each}
+use Rattle.dnp_receive.specs.Delivery.{station_at, station_after_all, reply_by, replies_by, user_data_by, delivered_user_data}
+use Rattle.dnp_receive.specs.Answers.{is_delivery, handed_on}
+use Rattle.dnp_receive.specs.Completion.{fragment_ended_by, reply_owed, fragment_completed, replies_owed, fragments_completed}
+use Rattle.dnp_receive.specs.Receiver.{Reception, HasTaken}
 
-is_delivery-answer_by : (s : Station) (deliver : Bool) (reply : Option ℕ)
-    → is_delivery (answer_by s deliver reply) ≡ deliver
-is_delivery-answer_by s true None = refl
-is_delivery-answer_by s true (Some control) = refl
-is_delivery-answer_by s false None = refl
-is_delivery-answer_by s false (Some control) = refl
+-- ---- one segment more
 
--- where the answer hands user data on, it is the frame's
-pub user_data_by-delivery : (s : Station) (c : Content) (a : Answer) → a ≡ answer_of s c → is_delivery a ≡ true
-    → user_data_by s c ≡ Some c.user
-user_data_by-delivery s c a is delivers =
-    let d = decision_on s c in
-    ap (λ deliver. cond deliver (Some c.user) None)
-    (sym (is_delivery-answer_by s d.deliver d.reply) ∙ ap is_delivery (sym is) ∙ delivers)
+-- a list with an element more, if there is one
+abbrev with_last : {X : Type 0} → List X → Option X → List X
+with_last xs o = xs ++ option_to_list o
+
+to_list-injective : {X : Type 0} (a b : Option X) → option_to_list a ≡ option_to_list b → a ≡ b
+to_list-injective None None same = refl
+to_list-injective None (Some y) same = absurd cc
+to_list-injective (Some x) None same = absurd cc
+to_list-injective (Some x) (Some y) same = cc
+
+history-whole : (segments : List (List ℕ)) (s : List ℕ) → is_whole s ≡ true
+    → reverse (filter is_whole (segments ++ s ∷ [])) ≡ s ∷ reverse (filter is_whole segments)
+history-whole segments s whole =
+    ap reverse (filter-append is_whole segments (s ∷ [])
+    ∙ ap (λ (t : List (List ℕ)). filter is_whole segments ++ t) (cond-true _ _ _ whole))
+    ∙ reverse-append (filter is_whole segments) (s ∷ [])
+
+history-empty : (segments : List (List ℕ)) (s : List ℕ) → is_whole s ≡ false
+    → reverse (filter is_whole (segments ++ s ∷ [])) ≡ reverse (filter is_whole segments)
+history-empty segments s empty =
+    ap reverse (filter-append is_whole segments (s ∷ [])
+    ∙ ap (λ (t : List (List ℕ)). filter is_whole segments ++ t) (cond-false _ _ _ empty)
+    ∙ append-nil (filter is_whole segments))
+
+-- the fragments of segments and one more
+fragments_of-more : (segments : List (List ℕ)) (s : List ℕ)
+    → fragments_of (segments ++ s ∷ []) ≡ fragments_of segments ++ option_to_list (fragment_ended_by segments s)
+fragments_of-more segments s = elim (cases_Bool (is_whole s)) [
+  | inl whole ↦
+      ap fragments_ended_in (history-whole segments s whole)
+      ∙ ap (with_last (fragments_of segments)) (sym (cond-true _ _ _ whole))
+  | inr empty ↦
+      ap fragments_ended_in (history-empty segments s empty)
+      ∙ (sym (append-nil (fragments_of segments))
+      ∙ ap (with_last (fragments_of segments)) (sym (cond-false _ _ _ empty)))
+]
+
+-- so the assembler gives the fragment that looking back finds
+step_ends : (segments : List (List ℕ)) (s : List ℕ)
+    → fragment_in (step (series_after None segments) s).0 ≡ fragment_ended_by segments s
+step_ends segments s =
+    to_list-injective _ _
+    (append_cancel_left (fragments_of segments) _ _ (sym (each segments s) ∙ fragments_of-more segments s))
+
+-- ---- one frame more
 
 cons_option-append : {X : Type 0} (o : Option X) (a b : List X) → cons_option o (a ++ b) ≡ cons_option o a ++ b
 cons_option-append None a b = refl
@@ -41,130 +75,171 @@ cons_option-nil : {X : Type 0} (o : Option X) → cons_option o [] ≡ option_to
 cons_option-nil None = refl
 cons_option-nil (Some x) = refl
 
--- the assembler has taken what a frame delivers, and the fragment that it gave, if any, was added
-pub one_frame : (old new : Receiver) (c : Content) (segment : List ℕ) → new.secondary ≡ station_after old.secondary c
-    → user_data_by old.secondary c ≡ Some c.user → segment ≡ c.user
-    → new.assembler ≡ (step old.assembler segment).1
-    → fragments_held new ≡ fragments_held old ++ option_to_list (fragment_in (step old.assembler segment).0)
-    → Receives old new (c ∷ [])
-one_frame old new c segment station user same series fragments =
-    let fragment = λ (o : List ℕ). fragment_in (step old.assembler o).0 in
-    record {
-      station = station;
-      series = rw user (series ∙ ap (λ (o : List ℕ). (step old.assembler o).1) same);
-      fragments =
-          rw user (fragments ∙ ap (λ (o : List ℕ). fragments_held old ++ option_to_list (fragment o)) same
-          ∙ ap (λ (fs : List (List ℕ)). fragments_held old ++ fs) (sym (cons_option-nil (fragment c.user))));
-    }
+-- a list, and behind it one that begins with an element, if there is one
+append-cons_option : {X : Type 0} (front : List X) (o : Option X) (rest : List X)
+    → with_last front o ++ rest ≡ front ++ cons_option o rest
+append-cons_option front None rest = ap (λ (xs : List _). xs ++ rest) (append-nil front)
+append-cons_option front (Some x) rest = append_assoc front (x ∷ []) rest
 
-delivered_user_data-append : (s : Station) (a b : List Content)
-    → delivered_user_data s (a ++ b) ≡ delivered_user_data s a ++ delivered_user_data (station_after_all s a) b
-delivered_user_data-append s [] b = refl
-delivered_user_data-append s (c ∷ a) b =
-    ap (cons_option (user_data_by s c)) (delivered_user_data-append (station_after s c) a b)
-    ∙ cons_option-append (user_data_by s c) (delivered_user_data (station_after s c) a) _
+station_after_all-more : (s : Station) (a : List Content) (c : Content)
+    → station_after_all s (a ++ c ∷ []) ≡ station_after (station_after_all s a) c
+station_after_all-more s [] c = refl
+station_after_all-more s (first ∷ a) c = station_after_all-more (station_after s first) a c
 
-station_after_all-append : (s : Station) (a b : List Content)
-    → station_after_all s (a ++ b) ≡ station_after_all (station_after_all s a) b
-station_after_all-append s [] b = refl
-station_after_all-append s (c ∷ a) b = station_after_all-append (station_after s c) a b
+pub replies_by-more : (s : Station) (a : List Content) (c : Content)
+    → replies_by s (a ++ c ∷ []) ≡ replies_by s a ++ option_to_list (reply_by (station_after_all s a) c)
+replies_by-more s [] c = cons_option-nil (reply_by s c)
+replies_by-more s (first ∷ a) c =
+    ap (cons_option (reply_by s first)) (replies_by-more (station_after s first) a c)
+    ∙ cons_option-append (reply_by s first) (replies_by (station_after s first) a) _
 
--- no frame at all
-pub receives_nothing : (r : Receiver) → Receives r r []
-receives_nothing r = record { station = refl; series = refl; fragments = sym (append-nil _) }
+delivered_user_data-more : (s : Station) (a : List Content) (c : Content)
+    → delivered_user_data s (a ++ c ∷ [])
+    ≡ delivered_user_data s a ++ option_to_list (user_data_by (station_after_all s a) c)
+delivered_user_data-more s [] c = cons_option-nil (user_data_by s c)
+delivered_user_data-more s (first ∷ a) c =
+    ap (cons_option (user_data_by s first)) (delivered_user_data-more (station_after s first) a c)
+    ∙ cons_option-append (user_data_by s first) (delivered_user_data (station_after s first) a) _
 
-fragments_in-more : (series : Option Series) (a b : List (List ℕ))
-    → fragments_in (answers_from series (a ++ b))
-    ≡ fragments_in (answers_from series a) ++ fragments_in (answers_from (series_after series a) b)
-fragments_in-more series a b = ap fragments_in (answers_from-append series a b)
-    ∙ filter_map-append fragment_in (answers_from series a) (answers_from (series_after series a) b)
+-- one segment more is delivered, or none
+fragments_if : (segments : List (List ℕ)) (o : Option (List ℕ))
+    → fragments_of (segments ++ option_to_list o)
+    ≡ fragments_of segments ++ option_to_list (option_and_then (fragment_ended_by segments) o)
+fragments_if segments None = ap fragments_of (append-nil segments) ∙ sym (append-nil (fragments_of segments))
+fragments_if segments (Some s) = fragments_of-more segments s
 
--- some frames, and then some more
-pub receives_more : (a b c : Receiver) (first more : List Content) → Receives a b first → Receives b c more
-    → Receives a c (first ++ more)
-receives_more a b c first more x y =
-    let before = delivered_user_data a.secondary first in
-    let behind = delivered_user_data b.secondary more in
-    let given = fragments_in (answers_from a.assembler before) in
-    let all : delivered_user_data a.secondary (first ++ more) ≡ before ++ behind =
-    delivered_user_data-append a.secondary first more
-    ∙ ap (λ s. before ++ delivered_user_data s more) (sym x.station) in
+pub fragments-more : (own peer : ℕ) (before : List Content) (c : Content)
+    → fragments_of (delivered_user_data (station_at own peer) (before ++ c ∷ []))
+    ≡ fragments_of (delivered_user_data (station_at own peer) before)
+    ++ option_to_list (fragment_completed own peer before c)
+fragments-more own peer before c =
+    ap fragments_of (delivered_user_data-more (station_at own peer) before c)
+    ∙ fragments_if (delivered_user_data (station_at own peer) before)
+    (user_data_by (station_after_all (station_at own peer) before) c)
+
+-- ---- frames one after another
+
+replies_go_on : (own peer : ℕ) (before frames : List Content)
+    → replies_by (station_at own peer) before ++ replies_owed own peer before frames
+    ≡ replies_by (station_at own peer) (before ++ frames)
+replies_go_on own peer before [] = append-nil _ ∙ ap (replies_by (station_at own peer)) (sym (append-nil before))
+replies_go_on own peer before (c ∷ more) =
+    let rest = replies_owed own peer (before ++ c ∷ []) more in
+    sym (append-cons_option (replies_by (station_at own peer) before) (reply_owed own peer before c) rest)
+    ∙ (ap (λ (t : List (List ℕ)). t ++ rest) (sym (replies_by-more (station_at own peer) before c))
+    ∙ (replies_go_on own peer (before ++ c ∷ []) more
+    ∙ ap (replies_by (station_at own peer)) (append_assoc before (c ∷ []) more)))
+
+-- the fragments of what frames deliver
+abbrev fragments_from : ℕ → ℕ → List Content → List (List ℕ)
+fragments_from own peer frames = fragments_of (delivered_user_data (station_at own peer) frames)
+
+fragments_go_on : (own peer : ℕ) (before frames : List Content)
+    → fragments_from own peer before ++ fragments_completed own peer before frames
+    ≡ fragments_from own peer (before ++ frames)
+fragments_go_on own peer before [] = append-nil _ ∙ ap (fragments_from own peer) (sym (append-nil before))
+fragments_go_on own peer before (c ∷ more) =
+    let rest = fragments_completed own peer (before ++ c ∷ []) more in
+    sym (append-cons_option (fragments_from own peer before) (fragment_completed own peer before c) rest)
+    ∙ (ap (λ (t : List (List ℕ)). t ++ rest) (sym (fragments-more own peer before c))
+    ∙ (fragments_go_on own peer (before ++ c ∷ []) more
+    ∙ ap (fragments_from own peer) (append_assoc before (c ∷ []) more)))
+
+pub replies_owed_in_turn : (own peer : ℕ) (frames : List Content)
+    → replies_owed own peer [] frames ≡ replies_by (station_at own peer) frames
+replies_owed_in_turn own peer frames = replies_go_on own peer [] frames
+
+pub fragments_completed_in_turn : (own peer : ℕ) (frames : List Content)
+    → fragments_completed own peer [] frames ≡ fragments_of (delivered_user_data (station_at own peer) frames)
+fragments_completed_in_turn own peer frames = fragments_go_on own peer [] frames
+
+-- ---- one call
+
+-- What a call does, by the receiver as it is: the station has taken the frame, and the assembler its user data,
+-- where that is delivered.
+record Steps (old new : Reception) (c : Content) (fragment : Option (List ℕ)) : Type 0 where
+  pub station : new.station ≡ station_after old.station c
+  pub series : new.series ≡ series_after old.series (option_to_list (user_data_by old.station c))
+  pub given :
+      fragment
+      ≡ option_and_then (λ (segment : List ℕ). fragment_in (step old.series segment).0) (user_data_by old.station c)
+
+-- by all frames so far
+taken_more : (own peer : ℕ) (before : List Content) (old new : Reception) (c : Content)
+    (fragment : Option (List ℕ)) → HasTaken own peer before old → Steps old new c fragment
+    → HasTaken own peer (before ++ c ∷ []) new
+taken_more own peer before old new c fragment h steps =
+    let s = station_at own peer in
+    let user = user_data_by (station_after_all s before) c in
+    let delivered = delivered_user_data s before in
     record {
       station =
-          y.station ∙ (ap (λ s. station_after_all s more) x.station
-          ∙ sym (station_after_all-append a.secondary first more));
+          steps.station ∙ (ap (λ (t : Station). station_after t c) h.station
+          ∙ sym (station_after_all-more s before c));
       series =
-          y.series ∙ (ap (λ q. series_after q behind) x.series
-          ∙ (sym (series_after-append a.assembler before behind) ∙ ap (series_after a.assembler) (sym all)));
-      fragments =
-          y.fragments
-          ∙ (ap (λ fs. fs ++ fragments_in (answers_from b.assembler behind)) x.fragments
-          ∙ (append_assoc (fragments_held a) given (fragments_in (answers_from b.assembler behind))
-          ∙ ap (λ fs. fragments_held a ++ fs)
-          (ap (λ q. given ++ fragments_in (answers_from q behind)) x.series
-          ∙ (sym (fragments_in-more a.assembler before behind)
-          ∙ ap (λ d. fragments_in (answers_from a.assembler d)) (sym all)))));
+          steps.series
+          ∙ (ap (λ (t : Station). series_after old.series (option_to_list (user_data_by t c))) h.station
+          ∙ (ap (λ (q : Option Series). series_after q (option_to_list user)) h.series
+          ∙ (sym (series_after-append None delivered (option_to_list user))
+          ∙ ap (series_after None) (sym (delivered_user_data-more s before c)))));
     }
 
--- where this receiver takes the frames that are left, the first one has taken all
-abbrev pub Completes : Receiver → Receiver → List Content → List Content → Type 0
-Completes first now left all = (end : Receiver) → Receives now end left → Receives first end all
+ends_if : (segments : List (List ℕ)) (o : Option (List ℕ))
+    → option_and_then (λ (segment : List ℕ). fragment_in (step (series_after None segments) segment).0) o
+    ≡ option_and_then (fragment_ended_by segments) o
+ends_if segments None = refl
+ends_if segments (Some s) = step_ends segments s
 
--- the event at the front was taken
-pub event_taken : (first now next : Receiver) (octets behind : List ℕ) (e : Event) (all : List Content)
-    → reading octets ≡ reading_with_first e (reading behind) → Receives now next (frames_of (e ∷ []))
-    → Completes first now (frames_of (reading octets).events) all
-    → Completes first next (frames_of (reading behind).events) all
-event_taken first now next octets behind e all reads taken completes end left =
-    let frames : frames_of (reading octets).events ≡ frames_of (e ∷ []) ++ frames_of (reading behind).events =
-    ap (λ (r : Reading). frames_of r.events) reads
-    ∙ cons_option-append (frame_in e) [] (frames_of (reading behind).events) in
-    completes end (subst (Receives now end) (sym frames)
-    (receives_more now next end (frames_of (e ∷ [])) (frames_of (reading behind).events) taken left))
+fragment_by_all : (own peer : ℕ) (before : List Content) (old new : Reception) (c : Content)
+    (fragment : Option (List ℕ)) → HasTaken own peer before old → Steps old new c fragment
+    → fragment ≡ fragment_completed own peer before c
+fragment_by_all own peer before old new c fragment h steps =
+    let s = station_at own peer in
+    let user = user_data_by (station_after_all s before) c in
+    let given = λ (q : Option Series) (o : Option (List ℕ)).
+    option_and_then (λ (segment : List ℕ). fragment_in (step q segment).0) o in
+    steps.given
+    ∙ (ap (λ (t : Station). given old.series (user_data_by t c)) h.station
+    ∙ (ap (λ (q : Option Series). given q user) h.series
+    ∙ ends_if (delivered_user_data s before) user))
 
--- nothing is left
-pub all_taken : (first now : Receiver) (octets rest : List ℕ) (all : List Content)
-    → reading octets ≡ record { events = []; rest = rest }
-    → Completes first now (frames_of (reading octets).events) all → Receives first now all
-all_taken first now octets rest all reads completes =
-    completes now
-    (subst (Receives now now) (sym (ap (λ (r : Reading). frames_of r.events) reads)) (receives_nothing now))
+is_delivery-answer_by : (s : Station) (deliver : Bool) (reply : Option ℕ)
+    → is_delivery (answer_by s deliver reply) ≡ deliver
+is_delivery-answer_by s true None = refl
+is_delivery-answer_by s true (Some control) = refl
+is_delivery-answer_by s false None = refl
+is_delivery-answer_by s false (Some control) = refl
 
--- what was received of a stream so far, and what of it is held back
-pub record IsSoFar (first now : Receiver) (octets held : List ℕ) : Type 0 where
-  pub received : Receives first now (frames_of (reading octets).events)
-  pub held_is : held ≡ (reading octets).rest
+-- the user data that the answer hands on are those that the station delivers
+handed_on-answer_of : (s : Station) (c : Content) (a : Answer) (user : List ℕ) → a ≡ answer_of s c → user ≡ c.user
+    → handed_on a user ≡ user_data_by s c
+handed_on-answer_of s c a user is same =
+    ap (λ (o : List ℕ). handed_on a o) same
+    ∙ ap (λ (b : Bool). cond b (Some c.user) None)
+    (ap is_delivery is ∙ is_delivery-answer_by s (decision_on s c).deliver (decision_on s c).reply)
 
-pub nothing_yet : (first : Receiver) (held : List ℕ) → held ≡ [] → IsSoFar first first [] held
-unfolding reading
-nothing_yet first held none = record { received = receives_nothing first; held_is = none }
+-- what is kept and given after a call, by all frames so far
+pub record IsAnswered (own peer : ℕ) (before : List Content) (c : Content) (new : Reception)
+    (fragment : Option (List ℕ)) : Type 0 where
+  pub taken : HasTaken own peer (before ++ c ∷ []) new
+  pub completed : fragment ≡ fragment_completed own peer before c
 
--- one more piece of the stream
-pub piece_more : (first now next : Receiver) (octets piece held fed left : List ℕ) → IsSoFar first now octets held
-    → fed ≡ held ++ piece → Receives now next (frames_of (reading fed).events) → left ≡ (reading fed).rest
-    → IsSoFar first next (octets ++ piece) left
-piece_more first now next octets piece held fed left so_far fed_is taken left_is =
-    let all : fed ≡ (reading octets).rest ++ piece = fed_is ∙ ap (λ t. t ++ piece) so_far.held_is in
-    let goes_on : reading (octets ++ piece) ≡ joined_readings (reading octets) (reading fed) =
-    reading-append octets piece ∙ ap (λ t. joined_readings (reading octets) (reading t)) (sym all) in
-    let frames : frames_of (reading (octets ++ piece)).events
-    ≡ frames_of (reading octets).events ++ frames_of (reading fed).events =
-    ap (λ (r : Reading). frames_of r.events) goes_on
-    ∙ filter_map-append frame_in (reading octets).events (reading fed).events in
+-- the station has taken the frame, and the assembler what the answer hands on
+pub answered : (own peer : ℕ) (before : List Content) (now old new : Reception) (c : Content) (a : Answer)
+    (user : List ℕ) (fragment : Option (List ℕ)) → HasTaken own peer before now → old ≡ now
+    → a ≡ answer_of old.station c → new.station ≡ station_after old.station c → user ≡ c.user
+    → new.series ≡ series_after old.series (option_to_list (handed_on a user))
+    → fragment ≡ option_and_then (λ (segment : List ℕ). fragment_in (step old.series segment).0) (handed_on a user)
+    → IsAnswered own peer before c new fragment
+answered own peer before now old new c a user fragment h is_now is station same series given =
+    let has_taken : HasTaken own peer before old = subst (HasTaken own peer before) (sym is_now) h in
+    let handed = handed_on-answer_of old.station c a user is same in
+    let steps : Steps old new c fragment = record {
+      station = station;
+      series = series ∙ ap (λ (o : Option (List ℕ)). series_after old.series (option_to_list o)) handed;
+      given = given ∙ ap (option_and_then (λ (o : List ℕ). fragment_in (step old.series o).0)) handed;
+    } in
     record {
-      received = subst (Receives first next) (sym frames) (receives_more first now next _ _ so_far.received taken);
-      held_is = left_is ∙ sym (ap (λ (r : Reading). r.rest) goes_on);
+      taken = taken_more own peer before old new c fragment has_taken steps;
+      completed = fragment_by_all own peer before old new c fragment has_taken steps;
     }
-
--- a new receiver that took a whole stream holds its fragments
-pub stream_received : (first last : Receiver) (own peer : ℕ) (octets : List ℕ) → first.secondary ≡ station_at own peer
-    → first.assembler ≡ None → first.fragments.items ≡ []
-    → Receives first last (frames_of (reading octets).events) → fragments_held last ≡ stream_fragments own peer octets
-stream_received first last own peer octets station series none received =
-    let frames = frames_of (reading octets).events in
-    let given = fragments_in (answers_from first.assembler (delivered_user_data first.secondary frames)) in
-    received.fragments
-    ∙ (ap (λ fs. map (λ f. f.items) fs ++ given) none
-    ∙ (ap (λ q. fragments_in (answers_from q (delivered_user_data first.secondary frames))) series
-    ∙ (ap (λ s. fragments_in (answers_from None (delivered_user_data s frames))) station
-    ∙ whole (delivered_user_data (station_at own peer) frames))))

@@ -1,12 +1,12 @@
--- The fragments, and the responses, that a stream of octets carries to a station (IEEE Std 1815-2012,
--- clauses 4, 8 and 9).
-use Rattle.std.specs.Prelude.{ℕ, List, [], ◌∷◌, Option, Some, None, filter_map, if◌then◌else◌}
+-- What a stream of octets brings a station: the replies that it owes, and the fragments, and the responses, that
+-- come to it (IEEE Std 1815-2012, clauses 4, 8 and 9).
+use Rattle.std.specs.Prelude.{ℕ, List, [], ◌∷◌, Option, Some, None, filter_map, option_map, if◌then◌else◌}
 use Rattle.std.specs.List.{cons_option}
 use Rattle.std.specs.Result.{result_ok}
 use Rattle.dnp_link.specs.Frame.{Content}
 use Rattle.dnp_link.specs.Stream.{Event, Framed, Dropped, reading}
 use Rattle.dnp_link.specs.Station.{Station}
-use Rattle.dnp_link.specs.Secondary.{decision_on, station_after}
+use Rattle.dnp_link.specs.Secondary.{decision_on, reply_frame, station_after}
 use Rattle.dnp_transport.specs.Fragment.{fragments_of}
 use Rattle.dnp_app.specs.Response.{Fragment, response_of}
 
@@ -23,6 +23,20 @@ frames_of events = filter_map frame_in events
 abbrev pub station_at : ℕ → ℕ → Station
 station_at own peer = record { own = own; peer = peer; expected = None }
 
+-- the station after these frames, which come one after another
+abbrev pub station_after_all : Station → List Content → Station
+station_after_all s [] = s
+station_after_all s (c ∷ more) = station_after_all (station_after s c) more
+
+-- the reply that the station owes for a frame, if any
+abbrev pub reply_by : Station → Content → Option (List ℕ)
+reply_by s c = option_map (reply_frame s) (decision_on s c).reply
+
+-- the replies that the station owes for these frames, which come one after another
+abbrev pub replies_by : Station → List Content → List (List ℕ)
+replies_by s [] = []
+replies_by s (c ∷ more) = cons_option (reply_by s c) (replies_by (station_after s c) more)
+
 -- the user data of a frame, where the station delivers it
 abbrev pub user_data_by : Station → Content → Option (List ℕ)
 user_data_by s c = if (decision_on s c).deliver then Some c.user else None
@@ -31,6 +45,11 @@ user_data_by s c = if (decision_on s c).deliver then Some c.user else None
 abbrev pub delivered_user_data : Station → List Content → List (List ℕ)
 delivered_user_data s [] = []
 delivered_user_data s (c ∷ more) = cons_option (user_data_by s c) (delivered_user_data (station_after s c) more)
+
+-- the replies that the station at `own`, which was not reset yet, owes the primary station at `peer` for the
+-- frames of a stream
+abbrev pub stream_replies : ℕ → ℕ → List ℕ → List (List ℕ)
+stream_replies own peer octets = replies_by (station_at own peer) (frames_of (reading octets).events)
 
 -- the fragments of the segments that the frames of a stream deliver to the station at `own`, which was not
 -- reset yet, from the primary station at `peer`

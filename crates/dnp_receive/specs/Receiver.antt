@@ -1,26 +1,18 @@
--- What a receiver does with frames.
-use Rattle.std.specs.Prelude.{◌≡◌, ℕ, List, [], ◌∷◌, ◌++◌, map}
+-- What a receiver has taken.
+use Rattle.std.specs.Prelude.{◌≡◌, ℕ, List, Option, None}
 use Rattle.dnp_link.specs.Frame.{Content}
 use Rattle.dnp_link.specs.Station.{Station}
-use Rattle.dnp_link.specs.Secondary.{station_after}
-use Rattle.dnp_transport.specs.Runs.{answers_from, series_after, fragments_in}
-use Rattle.dnp_receive.specs.declared.receiver.Receiver.{Receiver}
-use Rattle.dnp_receive.specs.Delivery.{delivered_user_data}
+use Rattle.dnp_transport.specs.Series.{Series}
+use Rattle.dnp_transport.specs.Runs.{series_after}
+use Rattle.dnp_receive.specs.Delivery.{station_at, station_after_all, delivered_user_data}
 
--- the station after these frames, which come one after another
-abbrev pub station_after_all : Station → List Content → Station
-station_after_all s [] = s
-station_after_all s (c ∷ more) = station_after_all (station_after s c) more
+-- a receiver as a client sees it: its station of the link, and the series of segments that has begun, if any
+pub record Reception : Type 0 where
+  pub station : Station
+  pub series : Option Series
 
--- the fragments that a receiver holds, as their octets
-abbrev pub fragments_held : Receiver → List (List ℕ)
-fragments_held r = map (λ f. f.items) r.fragments.items
-
--- the old receiver has taken these frames: its station has decided on each, and its assembler has taken what
--- was delivered, and given the fragments that were added
-pub record Receives (old new : Receiver) (frames : List Content) : Type 0 where
-  pub station : new.secondary ≡ station_after_all old.secondary frames
-  pub series : new.assembler ≡ series_after old.assembler (delivered_user_data old.secondary frames)
-  pub fragments :
-      fragments_held new
-      ≡ fragments_held old ++ fragments_in (answers_from old.assembler (delivered_user_data old.secondary frames))
+-- At `own`, for the primary station at `peer`, it has taken these frames: its station is the one after them,
+-- and its series the one after what they delivered.
+pub record HasTaken (own peer : ℕ) (frames : List Content) (r : Reception) : Type 0 where
+  pub station : r.station ≡ station_after_all (station_at own peer) frames
+  pub series : r.series ≡ series_after None (delivered_user_data (station_at own peer) frames)

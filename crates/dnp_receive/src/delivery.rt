@@ -1,9 +1,17 @@
 //! What a whole stream of octets gives, through the layers that read it.
 ghost use Rattle.std.specs.Prelude.{◌≡◌, ◌≤◌, map, length, IfOk};
 ghost use Rattle.std.specs.List.{flat_map};
-ghost use Rattle.dnp_receive.specs.Delivery.{response_at, stream_fragments, stream_responses};
+ghost use Rattle.dnp_link.specs.Stream.{reading};
+ghost use Rattle.dnp_receive.specs.Delivery.{
+  frames_of,
+  response_at,
+  stream_replies,
+  stream_fragments,
+  stream_responses,
+};
+ghost use Rattle.dnp_receive.specs.Gathering.{HasGathered};
 
-use crate::receiver::Receiver;
+use crate::gathering::Gathering;
 use dnp_app::{AppFault, Response, read_response};
 use dnp_link::LinkFeed;
 use gw_model::Memory;
@@ -20,13 +28,23 @@ pub fn fragments_of(
     ensures { IfOk result (λ fragments. map (λ f. f.items) fragments.items
         ≡ stream_fragments own peer (flat_map (λ piece. piece.now) pieces.now)) }
 {
-    let mut feed = LinkFeed::new(alloc);
-    let mut receiver = Receiver::new(alloc, own, peer);
-    for piece in pieces {
-        feed.feed(piece)?;
-        receiver.drain(&mut feed)?;
-    }
-    Ok(receiver.into_fragments())
+    let Gathering { fragments, .. } = gathering_of(alloc, pieces, own, peer)?;
+    Ok(fragments)
+}
+
+/// The frames that the link owes in answer to the octets of a connection, in order. The frames are those from
+/// the outstation's address, `peer`, to `own`.
+pub fn replies_of(
+    alloc: Global,
+    pieces: &[&[u8]],
+    own: u16,
+    peer: u16,
+) -> Result<Vec<[u8; 10]>, Memory>
+    ensures { IfOk result (λ replies. replies.items
+        ≡ stream_replies own peer (flat_map (λ piece. piece.now) pieces.now)) }
+{
+    let Gathering { replies, .. } = gathering_of(alloc, pieces, own, peer)?;
+    Ok(replies)
 }
 
 /// The responses of an outstation in the octets of its connection, which come in these pieces: the fragments
@@ -49,6 +67,20 @@ pub fn responses_of(
         }
     }
     Ok(responses)
+}
+
+/// What the octets of a connection brought, which come in these pieces.
+fn gathering_of(alloc: Global, pieces: &[&[u8]], own: u16, peer: u16) -> Result<Gathering, Memory>
+    ensures { IfOk result (HasGathered own peer (frames_of
+        (reading (flat_map (λ piece. piece.now) pieces.now)).events)) }
+{
+    let mut feed = LinkFeed::new(alloc);
+    let mut gathering = Gathering::new(alloc, own, peer);
+    for piece in pieces {
+        feed.feed(piece)?;
+        gathering.drain(&mut feed)?;
+    }
+    Ok(gathering)
 }
 
 /// The response that a fragment is, where it isn't refused.

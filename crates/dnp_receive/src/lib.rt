@@ -4,6 +4,9 @@
 
 mod delivery;
 pub mod examples;
+mod gathering;
+pub mod laws;
 mod receiver;
 
-pub use delivery::{fragments_of, responses_of};
+pub use delivery::{fragments_of, replies_of, responses_of};
+pub use receiver::{Received, Receiver};

@@ -1,85 +1,96 @@
 //! The layers between the frames of one link and the fragments that they carry.
-ghost use Rattle.std.specs.Prelude.{◌≡◌, [], ◌∷◌, ◌++◌, None, option_to_list, OnOk};
-ghost use Rattle.dnp_link.specs.Content.{event_content};
-ghost use Rattle.dnp_link.specs.Stream.{reading};
-ghost use Rattle.dnp_transport.specs.Runs.{fragment_in};
+ghost use Rattle.std.specs.Prelude.{
+  ◌≡◌,
+  ◌≤◌,
+  ◌&&◌,
+  ℕ,
+  List,
+  [],
+  ◌∷◌,
+  ◌++◌,
+  length,
+  option_map,
+  option_and_then,
+  option_to_list,
+  IsTrue,
+  IfOk,
+  OnOk,
+  OnErr,
+  IfSome,
+};
+ghost use Rattle.dnp_link.specs.Frame.{Content};
+ghost use Rattle.dnp_link.specs.Content.{content};
+ghost use Rattle.dnp_transport.specs.Segment.{may_begin};
 ghost use Rattle.dnp_transport.specs.Series.{step};
-ghost use Rattle.dnp_receive.specs.Delivery.{frames_of, station_at};
-ghost use Rattle.dnp_receive.specs.Answers.{is_delivery};
+ghost use Rattle.dnp_transport.specs.Runs.{series_after, fragment_in};
+ghost use Rattle.dnp_receive.specs.Answers.{is_delivery, handed_on, reply_in};
+ghost use Rattle.dnp_receive.specs.Completion.{reply_owed, fragment_completed, may_begin_fragment};
+ghost use Rattle.dnp_receive.specs.Receiver.{HasTaken};
 
-use dnp_link::{Answer, LinkEvent, LinkFeed, Secondary};
+use dnp_link::{Answer, Frame, Secondary};
 use dnp_transport::{Assembler, Taken};
 use gw_model::Memory;
 use std::alloc::Global;
+use std::marker::Model;
 
-/// The layers above the frames of one link, and the fragments that they gave.
+/// What receives the frames of one link: the secondary station, and the assembler of the segments that it
+/// delivers.
 #[derive(Drop)]
 pub struct Receiver {
     secondary: Secondary,
     assembler: Assembler,
-    fragments: Vec<Vec<u8>>,
+}
+
+impl Model for Receiver {
+    ghost use Rattle.dnp_receive.specs.Receiver.{Reception};
+
+    ghost Value = { Reception };
+
+    ghost view = { λ r. record { station = r.secondary; series = r.assembler } };
+}
+
+/// What a frame brings: the reply that the link owes, and the octets of the fragment that it completes.
+#[derive(Drop)]
+pub struct Received {
+    pub reply: Option<[u8; 10]>,
+    pub fragment: Option<Vec<u8>>,
 }
 
 impl Receiver {
-    ghost use Rattle.dnp_receive.specs.Receiver.{Receives, fragments_held};
-
-    /// A receiver that no frame has come to.
+    /// The receiver at an address, which no frame has come to. It answers to the primary station at `peer`.
     pub fn new(alloc: Global, own: u16, peer: u16) -> Receiver
-        ensures station { result.secondary ≡ station_at own peer }
-        ensures series { result.assembler ≡ None }
-        ensures fragments { result.fragments.items ≡ [] }
+        ensures { HasTaken own peer [] result }
     {
         Receiver {
             secondary: Secondary::new(own, peer),
             assembler: Assembler::new(alloc),
-            fragments: Vec::new(alloc),
         }
     }
 
-    /// The fragments so far.
-    pub fn into_fragments(self) -> Vec<Vec<u8>>
-        ensures { result ≡ self.fragments }
-    {
-        let Receiver { fragments, .. } = self;
-        fragments
-    }
+    /// Takes a frame of the link. What it brings is told by it and all frames before it; the link may owe a reply
+    /// whether or not a fragment is complete.
+    pub fn take(&mut self, frame: &Frame) -> Result<Received, Memory>
+        ensures taken { (own peer : ℕ) (before : List Content) → HasTaken own peer before self.old
+            → OnOk result (HasTaken own peer (before ++ content frame.now ∷ []) self.new) }
+        ensures reply { (own peer : ℕ) (before : List Content) → HasTaken own peer before self.old
+            → IfOk result (λ received. received.reply ≡ reply_owed own peer before (content frame.now)) }
+        ensures fragment { (own peer : ℕ) (before : List Content) → HasTaken own peer before self.old
+            → IfOk result (λ received. option_map (λ f. f.items) received.fragment
+            ≡ fragment_completed own peer before (content frame.now)) }
 
-    /// Takes the events that a feed shows.
-    pub fn drain(&mut self, feed: &mut LinkFeed) -> Result<(), Memory>
-        ensures received { OnOk result (Receives self.old self.new (frames_of (reading feed.old).events)) }
-        ensures rest { OnOk result (feed.new ≡ (reading feed.old).rest) }
-    {
-        while let Some(event) = &feed.next() {
-            self.take(event)?;
-        }
-        Ok(())
-    }
+        // A fragment is short enough to be read as a response.
+        ensures short { IfOk result (λ received. IfSome received.fragment (λ f. length f.items ≤ 2048)) }
+        ensures err { OnErr result (self.new ≡ self.old) }
 
-    /// Takes an event: of a frame what it delivers, if anything.
-    fn take(&mut self, event: &LinkEvent) -> Result<(), Memory>
-        ensures { OnOk result (Receives self.old self.new (frames_of (event_content event.now ∷ []))) }
+        // Memory is needed only where a fragment begins.
+        ensures memory { OnErr result (IsTrue (may_begin_fragment self.old.station (content frame.now))) }
     {
-        let frame = match event {
-            LinkEvent::Frame(frame) => frame,
-            LinkEvent::Skipped(_) => return Ok(()),
-        };
-        if delivers(&self.secondary.take(frame)) {
-            self.put(frame.user())?;
-        }
-        Ok(())
-    }
-
-    /// Takes a segment, and keeps the fragment that it ends, if any.
-    fn put(&mut self, segment: &[u8]) -> Result<(), Memory>
-        ensures station { OnOk result (self.new.secondary ≡ self.old.secondary) }
-        ensures series { OnOk result (self.new.assembler ≡ (step self.old.assembler segment.now).1) }
-        ensures fragments { OnOk result (fragments_held self.new ≡ fragments_held self.old
-            ++ option_to_list (fragment_in (step self.old.assembler segment.now).0)) }
-    {
-        if let Taken::Fragment(fragment) = self.assembler.segment(segment)? {
-            self.fragments.push(fragment)?;
-        }
-        Ok(())
+        let mut secondary = self.secondary;
+        let answer = secondary.take(frame);
+        let reply = reply_in(&answer);
+        let fragment = completed_by(&mut self.assembler, &answer, frame.user())?;
+        self.secondary = secondary;
+        Ok(Received { reply, fragment })
     }
 }
 
@@ -88,4 +99,37 @@ fn delivers(answer: &Answer) -> bool
     ensures { result ≡ is_delivery answer.now }
 {
     matches!(answer, Answer::Deliver | Answer::Both(_))
+}
+
+/// The reply that the answer asks for.
+fn reply_in(answer: &Answer) -> Option<[u8; 10]>
+    ensures { result ≡ reply_in answer.now }
+{
+    match answer {
+        Answer::Reply(reply) | Answer::Both(reply) => Some(*reply),
+        Answer::Deliver | Answer::Ignore => None,
+    }
+}
+
+/// Takes the user data of a frame, where the answer hands them on: the fragment that they complete, if any.
+fn completed_by(
+    assembler: &mut Assembler,
+    answer: &Answer,
+    user: &[u8],
+) -> Result<Option<Vec<u8>>, Memory>
+    ensures fragment { IfOk result (λ fragment. option_map (λ f. f.items) fragment
+        ≡ option_and_then (λ segment. fragment_in (step assembler.old segment).0) (handed_on answer.now user.now)) }
+    ensures series { OnOk result (assembler.new
+        ≡ series_after assembler.old (option_to_list (handed_on answer.now user.now))) }
+    ensures short { IfOk result (λ fragment. IfSome fragment (λ f. length f.items ≤ 2048)) }
+    ensures err { OnErr result (assembler.new ≡ assembler.old) }
+    ensures memory { OnErr result (IsTrue (is_delivery answer.now && may_begin user.now)) }
+{
+    if !delivers(answer) {
+        return Ok(None);
+    }
+    match assembler.segment(user)? {
+        Taken::Fragment(fragment) => Ok(Some(fragment)),
+        Taken::More | Taken::Dropped(_) => Ok(None),
+    }
 }
