@@ -37,6 +37,16 @@ impl KeptOctets {
         }
     }
 
+    /// An equal value.
+    pub fn copy(&self) -> KeptOctets
+        ensures { result ≡ self.now }
+    {
+        KeptOctets {
+            octets: self.octets,
+            len: self.len,
+        }
+    }
+
     /// The octets.
     pub fn as_slice(&self) -> &[u8]
         ensures { result.now ≡ self.now }

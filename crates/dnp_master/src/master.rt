@@ -1,5 +1,5 @@
 //! The master towards one outstation.
-ghost use Rattle.std.specs.Prelude.{◌≡◌};
+ghost use Rattle.std.specs.Prelude.{◌≡◌, IfOk, IsOk};
 ghost use Rattle.dnp_master.specs.Master.{
   is_ready,
   master_after_next,
@@ -28,7 +28,7 @@ use crate::indications::Indications;
 use crate::kept::KeptOctets;
 use crate::verdict::{Ignored, Verdict};
 use dnp_app::{Request, Response};
-use gw_model::Poll;
+use gw_model::{Memory, Poll};
 use std::marker::Model;
 
 /// The master towards one outstation (IEEE Std 1815, clause 4). It takes no memory. Moments are in milliseconds; an
@@ -77,6 +77,19 @@ impl Master {
             exchange: Exchange::Idle,
             due: Due::nothing(),
         }
+    }
+
+    /// An equal value. It takes no memory, so it never answers `Memory`; the core's other parts, which take some,
+    /// are copied by the same form.
+    pub fn copy(&self) -> Result<Master, Memory>
+        ensures equal { IfOk result (λ copy. copy ≡ self.now) }
+        ensures succeeds { IsOk result }
+    {
+        let last = match &self.last {
+            None => None,
+            Some(last) => Some(last.copy()),
+        };
+        Ok(Master { last, ..*self })
     }
 
     /// Whether the outstation is up.

@@ -1,3 +1,4 @@
 pub mod Taking
 pub mod Losing
 pub mod Made
+pub mod Meant

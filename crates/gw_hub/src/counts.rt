@@ -33,6 +33,17 @@ impl Counts {
         }
     }
 
+    /// Equal counts.
+    pub fn copy(&self) -> Counts
+        ensures { result ≡ self.now }
+    {
+        Counts {
+            steps: self.steps,
+            news: self.news,
+            sessions: self.sessions,
+        }
+    }
+
     /// Whether the counts can rise by a step with so many news and sessions that begin.
     pub fn can_rise(&self, news: u64, sessions: u64) -> bool
         ensures { result ≡ can_rise self.now (step_with news sessions) }

@@ -1,5 +1,5 @@
 //! The core as one machine.
-ghost use Rattle.std.specs.Prelude.{◌≡◌, ◌<◌, ◌+◌, ℕ, [], length, map, true, false, IfOk, IfErr, OnOk, OnErr, slice_get};
+ghost use Rattle.std.specs.Prelude.{◌≡◌, ◌<◌, ◌+◌, ◌↔◌, ℕ, [], length, map, true, false, IfOk, IfErr, IsTrue, OnOk, OnErr, slice_get};
 ghost use Rattle.std.specs.List.{AllByRecursion};
 ghost use Rattle.gw_entries.specs.Ranges.{IsStation};
 ghost use Rattle.gw_map.specs.Settings.{HasSingleAddresses};
@@ -12,6 +12,7 @@ ghost use Rattle.gw_steps.specs.declared.step.Step.TheVariants as steps;
 ghost use Rattle.gw_steps.specs.declared.step.StepFault.TheVariants.{NoClient, NoOutstation, Spent};
 ghost use Rattle.gw_steps.specs.State.{at_first, limits_of};
 ghost use Rattle.gw_steps.specs.Steps.{client_up, fault_unless_up, latest, one_if, outstation_up, Allowed};
+ghost use Rattle.gw_steps.specs.Carried.{AreMeant, IsMeant};
 ghost use Rattle.gw_steps.specs.Runs.{history, state_after, AtEach, IsRun};
 ghost use Rattle.gw_steps.specs.Sound.{IsSound};
 ghost use Rattle.gw_news.specs.Confirms.{ConfirmsLast};
@@ -25,6 +26,7 @@ ghost use Rattle.gw_mirror.specs.Right.{JudgesLast};
 ghost use Rattle.gw_parts.specs.Clients.{dropped_at, queued_at};
 ghost use Rattle.gw_hub.specs.Hub.{can_count, can_take, news_of_all, news_of_one, state_counting, state_with_response, unless, Answers, IsCounted};
 
+use crate::common::Common;
 use crate::counts::Counts;
 use dnp_app::Response;
 use gw_map::{Settings, Station};
@@ -45,7 +47,7 @@ const CLIENTS: u8 = 8;
 #[derive(Debug, Drop)]
 pub struct Hub {
     alloc: Global,
-    settings: Settings,
+    settings: Common,
     outstations: Outstations,
     picture: Picture,
     clients: Clients,
@@ -95,12 +97,28 @@ impl Hub {
         let clients = Clients::new(alloc, CLIENTS, &limits_of(station), station.queue)?;
         Ok(Hub {
             alloc,
-            settings,
+            settings: Common::new(alloc, settings)?,
             outstations,
             picture,
             clients,
             counts: Counts::new(),
             moment: 0,
+        })
+    }
+
+    /// An equal hub. The settings are shared; what is copied is the picture, what waits for each client, and what is
+    /// due towards each outstation.
+    pub fn copy(&self) -> Result<Hub, Memory>
+        ensures { IfOk result (λ hub. hub ≡ self.now) }
+    {
+        Ok(Hub {
+            alloc: self.alloc,
+            settings: self.settings.copy()?,
+            outstations: self.outstations.copy()?,
+            picture: self.picture.copy()?,
+            clients: self.clients.copy()?,
+            counts: self.counts.copy(),
+            moment: self.moment,
         })
     }
 
@@ -125,6 +143,13 @@ impl Hub {
         self.clients.dropped(client)
     }
 
+    /// Whether a client is up.
+    pub fn stands(&self, client: u8) -> bool
+        ensures { IsTrue result ↔ (client_up self.now.state client ≡ Some true) }
+    {
+        self.clients.presence(client) == Some(true)
+    }
+
     /// Makes steps one after the other on a new hub; gives it with a reply for each of them.
     ///
     /// These are a run of the step relation, and at each place of the list this holds:
@@ -140,6 +165,7 @@ impl Hub {
     /// - `numbers`: the nth I format put out since a client came up, counted from 0, has N(S) n modulo 32,768, each N(R)
     ///   is the number of I formats taken, and at most k lie beyond the client's last N(R).
     /// - `frames`: an I or S format is taken where it is right, and closes the connection where it isn't.
+    /// - `meant`: each fragment reports what its octets mean, by the definition of responses.
     /// - `confirms`: a confirmation was given to an outstation only with the news put into the log, or for a repeated
     ///   fragment.
     pub fn run(
@@ -160,6 +186,7 @@ impl Hub {
         ensures interrogations { IfOk result (λ run.
             AtEach (AnswersInterrogations settings) (history [] steps.items run.1.items)) }
         ensures mirror { IfOk result (λ run. AtEach (Mirrors settings) (history [] steps.items run.1.items)) }
+        ensures meant { IfOk result (λ run. AreMeant (history [] steps.items run.1.items)) }
     {
         let mut hub = Hub::new(alloc, settings)?;
         let replies = hub.make(&steps)?;
@@ -175,10 +202,12 @@ impl Hub {
         ensures run { IfOk result (λ replies. IsSoundRun self.old.setup (history [] steps.now replies.items)) }
         ensures state { IfOk result (λ replies.
             self.new.state ≡ state_after self.old.setup (history [] steps.now replies.items)) }
+        ensures meant { OnOk result (AllByRecursion IsMeant steps.now) }
         ensures setup { self.new.setup ≡ self.old.setup }
     {
         let mut replies = Vec::with_capacity(self.alloc, steps.len())?;
         for step in steps {
+            step.attest();
             replies.push(self.step(step))?;
         }
         Ok(replies)
@@ -252,8 +281,8 @@ impl Hub {
         if self.counts.can_rise(reports.len() as u64, 0) {
             return true;
         }
-        let zone = self.settings.zone();
-        let news = self.picture.news(reports, &self.settings, &zone);
+        let settings = self.settings.get();
+        let news = self.picture.news(reports, settings, &settings.zone());
         self.counts.can_rise(news, 0)
     }
 
@@ -296,7 +325,7 @@ impl Hub {
         ensures setup { self.new.setup ≡ self.old.setup }
     {
         self.reached(outstation)?;
-        let news = self.picture.losses(outstation, &self.settings);
+        let news = self.picture.losses(outstation, self.settings.get());
         if !self.counts.can_rise(news as u64, 0) {
             return Err(StepFault::Spent);
         }
@@ -304,7 +333,7 @@ impl Hub {
         lose_rows(
             &mut self.picture,
             &mut self.clients,
-            &self.settings,
+            self.settings.get(),
             outstation,
         );
         self.outstations.go_down(outstation);
@@ -349,7 +378,7 @@ impl Hub {
         let news = take_reports(
             &mut self.picture,
             &mut self.clients,
-            &self.settings,
+            self.settings.get(),
             reports,
         );
         self.outstations.take(response, moment);
@@ -425,7 +454,7 @@ impl Hub {
         let picture = self.picture.rows();
         let Ok(reply) = self
             .clients
-            .frame(client, apdu, moment, &self.settings, picture)
+            .frame(client, apdu, moment, self.settings.get(), picture)
         else {
             return Err(StepFault::Memory);
         };
@@ -440,7 +469,7 @@ impl Hub {
     {
         self.connected(client)?;
         self.count(moment)?;
-        Ok(self.clients.pump(client, &self.settings, self.moment))
+        Ok(self.clients.pump(client, self.settings.get(), self.moment))
     }
 }
 

@@ -3,6 +3,7 @@
 //! `gw_news` hold. There are places for eight clients.
 #![tactic(auto)]
 
+mod common;
 mod counts;
 mod hub;
 

@@ -50,6 +50,14 @@ impl Clients {
         Ok(Clients { stations })
     }
 
+    /// An equal value, or `Memory` where there is no room for its stations and what waits in them.
+    pub fn copy(&self) -> Result<Clients, Memory>
+        ensures { IfOk result (λ copy. copy ≡ self.now) }
+    {
+        let stations = copied(*self.stations.allocator(), &self.stations)?;
+        Ok(Clients { stations })
+    }
+
     /// Whether a client is up; none where there is no such client.
     pub fn presence(&self, client: u8) -> Option<bool>
         ensures { result ≡ option_map (λ k. is_up k.stage) (slice_get self.now client) }
@@ -142,6 +150,17 @@ impl Clients {
     {
         put_all(&mut self.stations, news);
     }
+}
+
+/// The same stations.
+fn copied(alloc: Global, stations: &[Station]) -> Result<Vec<Station>, Memory>
+    ensures { IfOk result (λ copy. copy.items ≡ stations.now) }
+{
+    let mut copy = Vec::with_capacity(alloc, stations.len())?;
+    for station in stations {
+        copy.push(station.copy()?)?;
+    }
+    Ok(copy)
 }
 
 fn presence_at(stations: &[Station], client: u8) -> Option<bool>

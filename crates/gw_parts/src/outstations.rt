@@ -41,6 +41,14 @@ impl Outstations {
         Ok(Outstations { masters })
     }
 
+    /// An equal value, or `Memory` where there is no room for its masters.
+    pub fn copy(&self) -> Result<Outstations, Memory>
+        ensures { IfOk result (λ copy. copy ≡ self.now) }
+    {
+        let masters = copied(*self.masters.allocator(), &self.masters)?;
+        Ok(Outstations { masters })
+    }
+
     /// An outstation, if there is such.
     pub fn get(&self, outstation: u8) -> Option<&Master>
         ensures { option_map (λ master. master.now) result ≡ slice_get self.now outstation }
@@ -83,6 +91,17 @@ impl Outstations {
     {
         tick_all(&mut self.masters, moment);
     }
+}
+
+/// The same masters.
+fn copied(alloc: Global, masters: &[Master]) -> Result<Vec<Master>, Memory>
+    ensures { IfOk result (λ copy. copy.items ≡ masters.now) }
+{
+    let mut copy = Vec::with_capacity(alloc, masters.len())?;
+    for master in masters {
+        copy.push(master.copy()?)?;
+    }
+    Ok(copy)
 }
 
 fn come_up_at(masters: &mut [Master], outstation: u8, moment: u64)

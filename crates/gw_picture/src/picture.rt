@@ -46,6 +46,14 @@ impl Picture {
         Ok(Picture { shown })
     }
 
+    /// An equal value, or `Memory` where there is no room for its rows.
+    pub fn copy(&self) -> Result<Picture, Memory>
+        ensures { IfOk result (λ copy. copy ≡ self.now) }
+    {
+        let shown = Vec::from_slice(*self.shown.allocator(), self.shown.as_slice())?;
+        Ok(Picture { shown })
+    }
+
     /// What is shown, in the order of the rows: observations without time that an ASDU can carry.
     pub fn rows(&self) -> &[Observation]
         ensures shown { result.now ≡ self.now }

@@ -1,6 +1,7 @@
 //! What is known of one client.
-ghost use Rattle.std.specs.Prelude.{◌≡◌, ◌<◌, ◌-◌, ◌+◌, ◌^◌, ℕ, ℤ, true, false, None, [], ◌∷◌, drop, length, nat_le, option_map, slice_get, take, IfOk, IfSome, OnErr, OnOk};
+ghost use Rattle.std.specs.Prelude.{◌≡◌, ◌<◌, ◌≤◌, ◌-◌, ◌+◌, ◌^◌, ℕ, ℤ, true, false, None, [], ◌∷◌, drop, length, nat_le, option_map, slice_get, take, IfOk, IfSome, OnErr, OnOk};
 ghost use Rattle.std.specs.List.{AllByRecursion};
+ghost use Rattle.std.specs.VecDeque.{deque_capacity};
 ghost use Rattle.iec_apci.specs.Apdu.{Information};
 ghost use Rattle.iec_apci.specs.Buffer.{buffer_of};
 ghost use Rattle.iec_window.specs.Counts.{sent_in_all};
@@ -112,6 +113,28 @@ impl Station {
             dropped: 0,
             older: 0,
             rest: VecDeque::new(alloc),
+        })
+    }
+
+    /// An equal value, with the same room for what may wait, or `Memory` where there is none for it.
+    pub fn copy(&self) -> Result<Station, Memory>
+        ensures { IfOk result (λ copy. copy ≡ self.now) }
+    {
+        let window = self.window.copy()?;
+        let confirmations = copied(&self.confirmations, MOST_CONFIRMATIONS)?;
+        let answers = copied(&self.answers, MOST_ANSWERS)?;
+        let queue = match &self.queue {
+            None => None,
+            Some(news) => Some(copied_news(news)?),
+        };
+        let rest = copied(&self.rest, self.rest.len())?;
+        Ok(Station {
+            window,
+            confirmations,
+            answers,
+            queue,
+            rest,
+            ..*self
         })
     }
 
@@ -570,4 +593,29 @@ impl Station {
             self.rest = VecDeque::new(self.alloc);
         }
     }
+}
+
+/// The same elements, with room for so many at least.
+fn copied<T: Copy>(elements: &VecDeque<T>, room: usize) -> Result<VecDeque<T>, Memory>
+    ensures items { IfOk result (λ copy. copy.items ≡ elements.now.items) }
+    ensures room { IfOk result (λ copy. room ≤ deque_capacity copy) }
+{
+    let (front, back) = elements.as_slices();
+    let mut copy = Vec::with_capacity(*elements.allocator(), room)?;
+    copy.extend_from_slice(front)?;
+    copy.extend_from_slice(back)?;
+    Ok(VecDeque::from_vec(copy))
+}
+
+/// The same news, with the same room.
+fn copied_news(
+    news: &HeapCircularBuffer<Observation>,
+) -> Result<HeapCircularBuffer<Observation>, Memory>
+    ensures { IfOk result (λ copy. copy ≡ news.now) }
+{
+    let (front, back) = news.as_slices();
+    let mut copy = HeapCircularBuffer::with_capacity(*news.allocator(), news.capacity())?;
+    copy.extend_from_slice(front);
+    copy.extend_from_slice(back);
+    Ok(copy)
 }

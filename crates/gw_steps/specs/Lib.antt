@@ -2,5 +2,6 @@ pub mod State
 pub mod Steps
 pub mod Runs
 pub mod Sound
+pub mod Carried
 pub mod Said
 pub mod Example

@@ -1,4 +1,5 @@
 //! The steps of the core, and what it replies.
+ghost use Rattle.gw_steps.specs.Carried.{IsMeant};
 
 use dnp_app::{Request, Response};
 use dnp_master::Verdict;
@@ -55,6 +56,17 @@ pub enum Step {
     Tick {
         moment: u64,
     },
+}
+
+impl Step {
+    /// Tells a proof what the type of responses keeps of a fragment that the step carries. It does nothing.
+    pub fn attest(&self)
+        ensures { IsMeant self.now }
+    {
+        if let Step::Fragment { response, .. } = self {
+            let _octets = response.octets();
+        }
+    }
 }
 
 /// The reply to a step.

@@ -70,6 +70,14 @@ impl Window {
         })
     }
 
+    /// An equal value, with the same room, or `Memory` where there is none for the moments of k I formats.
+    pub fn copy(&self) -> Result<Window, Memory>
+        ensures { IfOk result (λ copy. copy ≡ self.now) }
+    {
+        let waiting = copied(&self.waiting, usize::from(self.limits.k))?;
+        Ok(Window { waiting, ..*self })
+    }
+
     /// A connection begins: all counts are 0, nothing waits, and t3 runs from this moment.
     pub fn begin(&mut self, moment: u64)
         ensures { self.new ≡ counts_at_start self.old.limits moment }
@@ -251,6 +259,18 @@ fn oldest(waiting: &VecDeque<u64>) -> Option<u64>
     ensures { result ≡ slice_get waiting.now.items 0 }
 {
     waiting.front().copied()
+}
+
+/// The same moments, with room for so many at least.
+fn copied(waiting: &VecDeque<u64>, room: usize) -> Result<VecDeque<u64>, Memory>
+    ensures items { IfOk result (λ copy. copy.items ≡ waiting.now.items) }
+    ensures room { IfOk result (λ copy. room ≤ deque_capacity copy) }
+{
+    let (front, back) = waiting.as_slices();
+    let mut moments = Vec::with_capacity(*waiting.allocator(), room)?;
+    moments.extend_from_slice(front)?;
+    moments.extend_from_slice(back)?;
+    Ok(VecDeque::from_vec(moments))
 }
 
 /// Drops the first of these moments, as many as that.

@@ -10,5 +10,7 @@ take_reports-news-requires c =
 
 pub invariant_of-self : goal.invariant_of-self
 invariant_of-self c =
-    sound_came _ c.self.inside.counts.steps _ c.self.inside.counts.news _ _ _ _ c.take_reports-news.ensures.clients c.take_reports-news.ensures.sendable
-    (omega (arith, ap (λ (counts : Counts). counts.steps) c.raise.ensures)) (omega (arith, c.take_reports-news.ensures.count, ap (λ (counts : Counts). counts.news) c.raise.ensures)) c.self.invariant
+    rw (← c.get.ensures)
+    (sound_came _ c.self.inside.counts.steps _ c.self.inside.counts.news _ _ _ _ c.take_reports-news.ensures.clients c.take_reports-news.ensures.sendable
+    (omega (arith, ap (λ (counts : Counts). counts.steps) c.raise.ensures)) (omega (arith, c.take_reports-news.ensures.count, ap (λ (counts : Counts). counts.news) c.raise.ensures))
+    (rw (← c.get.ensures) at c.self.invariant))

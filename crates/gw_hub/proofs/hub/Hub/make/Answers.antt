@@ -5,6 +5,7 @@ use Rattle.gw_steps.specs.State.{State}
 use Rattle.gw_steps.specs.Steps.{Allowed}
 use Rattle.gw_steps.proofs.Running.{Ran, ran_first, run_on, run_all}
 use Rattle.gw_hub.proofs.Made.{made}
+use Rattle.gw_hub.proofs.Meant.{meant_all, meant_more}
 use Rattle.gw_hub.proofs.hub.Hub.make.Goals as goal
 
 pub loop-step-init : goal.loop-step-init
@@ -12,6 +13,7 @@ loop-step-init c = (
   ap length c.in_ok-replies.ensures.items,
   refl,
   subst (λ (s : State). Ran c.args.self.now.setup [] s) (sym c.requires.first) (ran_first c.args.self.now.setup),
+  tt,
 )
 
 pub loop-step-preserved : goal.loop-step-preserved
@@ -27,6 +29,8 @@ loop-step-preserved c =
       c.step.ensures.setup ∙ same,
       run_on setup c.args.steps.now c.loop-step.replies.items c.push.new.self.items c.loop-step.step-index c.step-item.result c.step.result before new
           allowed sound (omega (arith, c.loop-step-test.true)) c.step-item.is c.loop-step.invariant.0 c.in_ok-push.ensures.items c.loop-step.invariant.2,
+      meant_more c.args.steps.now c.loop-step.step-index c.step-item.result (omega (arith, c.loop-step-test.true)) c.step-item.is c.attest.ensures
+          c.loop-step.invariant.3,
     )
 
 pub returns-clause-run : goal.returns-clause-run
@@ -41,3 +45,6 @@ pub returns-clause-state : goal.returns-clause-state
 returns-clause-state c =
     let ran = run_all c.args.self.now.setup c.args.steps.now c.loop-step.replies.items c.loop-step.step-index c.loop-step.self.state c.loop-step-test.false c.loop-step.invariant.2 in
     ran.state
+
+pub returns-clause-meant : goal.returns-clause-meant
+returns-clause-meant c = meant_all c.args.steps.now c.loop-step.step-index c.loop-step-test.false c.loop-step.invariant.3

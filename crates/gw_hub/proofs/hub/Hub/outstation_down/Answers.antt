@@ -1,4 +1,6 @@
-use Rattle.std.proofs.Common.{ap, arith, rules}
+use Rattle.std.proofs.Common.{◌≡◌, ◌∙◌, length, ap, sym, arith, rules}
+use Rattle.gw_map.specs.Settings.{Setup}
+use Rattle.gw_picture.specs.Loss.{losses_of}
 use Rattle.gw_steps.specs.State.{Counts}
 use Rattle.gw_hub.proofs.Taking.{can_rise_news, news_can, sound_came}
 use Rattle.gw_hub.proofs.hub.Hub.outstation_down.Goals as goal
@@ -6,9 +8,13 @@ use Rattle.gw_hub.proofs.hub.Hub.outstation_down.Goals as goal
 pub lose_rows-requires : goal.lose_rows-requires
 lose_rows-requires c =
     let few = can_rise_news c.self.inside.counts c.losses-news.result 0 (search (rules, c.can_rise.ensures, c.if-not-can_rise.false)) in
-    news_can _ _ _ _ _ (omega (arith, few, c.losses-news.ensures)) c.self.invariant
+    let same = ap (λ (s : Setup). length (losses_of c.args.outstation s.rows c.self.inside.picture)) (c.get.ensures ∙ sym c.get-2.ensures) in
+    news_can _ _ _ _ _ (omega (arith, few, c.losses-news.ensures, same)) c.self.invariant
 
 pub invariant_of-self : goal.invariant_of-self
 invariant_of-self c =
-    sound_came _ c.self.inside.counts.steps _ c.self.inside.counts.news _ _ _ _ c.lose_rows.ensures.clients c.lose_rows.ensures.sendable
-    (omega (arith, ap (λ (counts : Counts). counts.steps) c.raise.ensures)) (omega (arith, c.losses-news.ensures, ap (λ (counts : Counts). counts.news) c.raise.ensures)) c.self.invariant
+    let same = ap (λ (s : Setup). length (losses_of c.args.outstation s.rows c.self.inside.picture)) (c.get.ensures ∙ sym c.get-2.ensures) in
+    rw (← c.get-2.ensures)
+    (sound_came _ c.self.inside.counts.steps _ c.self.inside.counts.news _ _ _ _ c.lose_rows.ensures.clients c.lose_rows.ensures.sendable
+    (omega (arith, ap (λ (counts : Counts). counts.steps) c.raise.ensures)) (omega (arith, c.losses-news.ensures, same, ap (λ (counts : Counts). counts.news) c.raise.ensures))
+    (rw (← c.get-2.ensures) at c.self.invariant))

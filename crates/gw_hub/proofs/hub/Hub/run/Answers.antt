@@ -3,12 +3,15 @@ use Rattle.gw_map.specs.Settings.{Setup}
 use Rattle.gw_steps.specs.declared.step.Step.{Step}
 use Rattle.gw_steps.specs.declared.step.Reply.{Reply}
 use Rattle.gw_steps.specs.declared.step.StepFault.{StepFault}
+use Rattle.std.specs.List.{AllByRecursion}
+use Rattle.gw_steps.specs.Carried.{IsMeant}
 use Rattle.gw_steps.specs.Runs.{history}
 use Rattle.gw_news.specs.Premises.{IsSoundRun}
 use Rattle.gw_news.proofs.EachPlace.{tells_news, confirms_taken, right_numbers}
 use Rattle.gw_mirror.proofs.EachLine.{runs_keep_line, runs_answer}
 use Rattle.gw_mirror.proofs.Judged.{runs_judge}
 use Rattle.gw_mirror.proofs.EachMirror.{runs_mirror}
+use Rattle.gw_hub.proofs.Meant.{history_meant}
 use Rattle.gw_hub.proofs.hub.Hub.run.Goals as goal
 
 -- the run of a hub that was made of settings
@@ -44,3 +47,8 @@ returns-clause-interrogations c =
 pub returns-clause-mirror : goal.returns-clause-mirror
 returns-clause-mirror c =
     runs_mirror c.args.settings _ (run_of _ _ _ c.args.steps.items c.in_ok-replies.replies.items c.in_ok-hub.ensures.setup c.deref.ensures.value c.in_ok-replies.ensures.run)
+
+pub returns-clause-meant : goal.returns-clause-meant
+returns-clause-meant c =
+    history_meant [] c.args.steps.items c.in_ok-replies.replies.items tt
+    (subst (AllByRecursion IsMeant) c.deref.ensures.value c.in_ok-replies.ensures.meant)
