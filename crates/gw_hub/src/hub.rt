@@ -5,12 +5,12 @@ ghost use Rattle.gw_entries.specs.Ranges.{IsStation};
 ghost use Rattle.gw_map.specs.Settings.{HasSingleAddresses};
 ghost use Rattle.gw_picture.specs.Loss.{losses_at, losses_of, picture_after_loss, picture_losing_at};
 ghost use Rattle.gw_picture.specs.Picture.{picture_after, picture_after_report};
-ghost use Rattle.gw_station.specs.Client.{client_with_news};
+ghost use Rattle.gw_station.specs.Client.{client_with_news, limits_of};
 ghost use Rattle.gw_answers.specs.Meaning.{IsSendable};
 ghost use Rattle.gw_station.specs.Sound.{CanTake};
 ghost use Rattle.gw_steps.specs.declared.step.Step.TheVariants as steps;
 ghost use Rattle.gw_steps.specs.declared.step.StepFault.TheVariants.{NoClient, NoOutstation, Spent};
-ghost use Rattle.gw_steps.specs.State.{at_first, limits_of};
+ghost use Rattle.gw_steps.specs.State.{at_first};
 ghost use Rattle.gw_steps.specs.Steps.{client_up, fault_unless_up, latest, one_if, outstation_up, Allowed};
 ghost use Rattle.gw_steps.specs.Runs.{history, state_after, AtEach, IsRun};
 ghost use Rattle.gw_steps.specs.Sound.{IsSound};
@@ -71,7 +71,7 @@ impl Model for Hub {
       };
     } };
 
-    ghost invariant = { λ h. IsSound h.settings.station.offset_minutes (record {
+    ghost invariant = { λ h. IsSound h.settings (record {
       outstations = h.outstations;
       picture = h.picture;
       clients = h.clients;
@@ -188,8 +188,8 @@ impl Hub {
     pub fn step(&mut self, step: &Step) -> Result<Reply, StepFault>
         ensures step { Allowed self.old.setup self.old.state step.now result self.new.state }
         ensures setup { self.new.setup ≡ self.old.setup }
-        // Whatever waits for a client can be sent.
-        ensures sound { IsSound self.new.setup.station.offset_minutes self.new.state }
+        // What every state keeps.
+        ensures sound { IsSound self.new.setup self.new.state }
     {
         let reply = match step {
             Step::OutstationUp { outstation, moment } => self.outstation_up(*outstation, *moment),
@@ -352,6 +352,8 @@ impl Hub {
             &self.settings,
             reports,
         );
+        // The contract of `rows` tells what every picture shows.
+        let _shown = self.picture.rows();
         self.outstations.take(response, moment);
         self.counts.raise(news, 0);
         self.moment = moment;

@@ -1,7 +1,6 @@
 -- A picture shows each row of the map at its address and by its type: at first, after reports, and after a loss.
 use Rattle.std.proofs.Common.{◌≡◌, ℕ, ℤ, zero, suc, ◌+◌, Bool, true, false, cond, List, [], ◌∷◌, map, Option, Some, None, refl, sym, subst, inl, inr}
 use Rattle.std.specs.Prelude.{slice_get, IsTrue}
-use Rattle.std.specs.List.{AllByRecursion}
 use Rattle.std.proofs.lemmas.Bool.{and_parts, cases_Bool}
 use Rattle.gw_model.specs.declared.point.Kind.{Kind}
 use Rattle.gw_model.specs.declared.point.Kind.TheVariants as kinds
@@ -25,7 +24,7 @@ use Rattle.gw_translate.specs.Image.{raw_image, image_of}
 use Rattle.gw_picture.specs.Opening.{opening, value_at_first}
 use Rattle.gw_picture.specs.Picture.{without_time, picture_by_row, picture_after_report, picture_after}
 use Rattle.gw_picture.specs.Loss.{lost, is_lost_with, shown_after_loss, picture_after_loss}
-use Rattle.gw_picture.specs.Shown.{is_value_of, IsShown, ShowsRow, ShowsRows}
+use Rattle.gw_picture.specs.Shown.{is_value_of, ShowsRow, ShowsRows}
 use Rattle.gw_picture.proofs.Images.{image_address}
 use Rattle.gw_picture.proofs.Logs.{pair, pair_is}
 use Rattle.gw_picture.proofs.Lists.{some_is}
