@@ -13,7 +13,7 @@ ghost use Rattle.gw_steps.specs.declared.step.StepFault.TheVariants.{NoClient, N
 ghost use Rattle.gw_steps.specs.State.{at_first};
 ghost use Rattle.gw_steps.specs.Steps.{client_up, fault_unless_up, latest, one_if, outstation_up, Allowed};
 ghost use Rattle.gw_steps.specs.Runs.{history, state_after, AtEach, IsRun};
-ghost use Rattle.gw_steps.specs.Sound.{IsSound};
+ghost use Rattle.gw_steps.specs.Sound.{IsSound, LeavesSound};
 ghost use Rattle.gw_news.specs.Confirms.{ConfirmsLast};
 ghost use Rattle.gw_news.specs.News.{Holds};
 ghost use Rattle.gw_news.specs.Numbers.{HasRightNumbers};
@@ -142,6 +142,8 @@ impl Hub {
     /// - `frames`: an I or S format is taken where it is right, and closes the connection where it isn't.
     /// - `confirms`: a confirmation was given to an outstation only with the news put into the log, or for a repeated
     ///   fragment.
+    /// - `sound`: the picture shows each row of the point map by a value of its type that an ASDU can carry, there is a
+    ///   master for each outstation, and what waits for a client can be sent and is no more than may wait.
     pub fn run(
         alloc: Global,
         settings: Settings,
@@ -160,6 +162,7 @@ impl Hub {
         ensures interrogations { IfOk result (λ run.
             AtEach (AnswersInterrogations settings) (history [] steps.items run.1.items)) }
         ensures mirror { IfOk result (λ run. AtEach (Mirrors settings) (history [] steps.items run.1.items)) }
+        ensures sound { IfOk result (λ run. AtEach (LeavesSound settings) (history [] steps.items run.1.items)) }
     {
         let mut hub = Hub::new(alloc, settings)?;
         let replies = hub.make(&steps)?;
@@ -188,9 +191,11 @@ impl Hub {
     pub fn step(&mut self, step: &Step) -> Result<Reply, StepFault>
         ensures step { Allowed self.old.setup self.old.state step.now result self.new.state }
         ensures setup { self.new.setup ≡ self.old.setup }
-        // What every state keeps.
+        // What every state keeps, before and after.
+        ensures was_sound { IsSound self.old.setup self.old.state }
         ensures sound { IsSound self.new.setup self.new.state }
     {
+        let _ = &self.clients;
         let reply = match step {
             Step::OutstationUp { outstation, moment } => self.outstation_up(*outstation, *moment),
             Step::OutstationDown { outstation, moment } => {

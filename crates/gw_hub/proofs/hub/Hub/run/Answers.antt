@@ -44,3 +44,7 @@ returns-clause-interrogations c =
 pub returns-clause-mirror : goal.returns-clause-mirror
 returns-clause-mirror c =
     runs_mirror c.args.settings _ (run_of _ _ _ c.args.steps.items c.in_ok-replies.replies.items c.in_ok-hub.ensures.setup c.deref.ensures.value c.in_ok-replies.ensures.run)
+
+pub returns-clause-sound : goal.returns-clause-sound
+returns-clause-sound c =
+    (run_of _ _ _ c.args.steps.items c.in_ok-replies.replies.items c.in_ok-hub.ensures.setup c.deref.ensures.value c.in_ok-replies.ensures.run).sound
