@@ -11,19 +11,14 @@ use Rattle.gw_station.specs.declared.event.Said.TheVariants.{Negative}
 use Rattle.gw_station.specs.Client.{Client}
 use Rattle.gw_station.specs.Frames.{event_of, client_after_apdu, HasPlace}
 use Rattle.gw_station.specs.Sound.{IsSoundClient, IsWholeEvent, CanAnswer}
-use Rattle.gw_station.proofs.Sounds.{sound_later, sound_after_apdu, sound_told}
+use Rattle.gw_station.proofs.Sounds.{all_later, sound_later, sound_after_apdu, sound_told}
 use Rattle.gw_steps.specs.Steps.{client_answered, client_after_frame}
-
--- more steps were made, and more news came
-pub sound_more : (any : Setup) (n m i j : ℕ) (cs : List Client) → n ≤ m → i ≤ j → AllByRecursion (IsSoundClient any.station n i) cs → AllByRecursion (IsSoundClient any.station m j) cs
-sound_more any n m i j [] le few all = tt
-sound_more any n m i j (c ∷ cs) le few all = (sound_later any.station n m i j c le few all.0, sound_more any n m i j cs le few all.1)
 
 -- one client is another, in a step
 pub sound_set : (any : Setup) (n i p : ℕ) (cs : List Client) (c : Client) → IsSoundClient any.station (n + 1) i c → AllByRecursion (IsSoundClient any.station n i) cs
     → AllByRecursion (IsSoundClient any.station (n + 1) i) (set cs p c)
 sound_set any n i p [] c sound all = tt
-sound_set any n i zero (x ∷ cs) c sound all = (sound, sound_more any n (n + 1) i i cs (omega arith) (omega arith) all.1)
+sound_set any n i zero (x ∷ cs) c sound all = (sound, all_later any.station n (n + 1) i i cs (omega arith) (omega arith) all.1)
 sound_set any n i (suc p) (x ∷ cs) c sound all =
     (sound_later any.station n (n + 1) i i x (omega arith) (omega arith) all.0, sound_set any n i p cs c sound all.1)
 

@@ -320,3 +320,10 @@ sound_after_pump station n i moment c sound = go (offered moment c) (offered_roo
     go (Some sendings.Receipt) room =
         let w = later.window in
         with_window station (n + 1) (n + 1) i (counts_after_sending_s c.window) c (record { limits = w.limits; waiting = w.waiting; received = w.received; sent = w.sent }) later
+
+-- ---- all clients
+
+-- more steps were made, and more news came
+pub all_later : (station : StationSetup) (n m i j : ℕ) (cs : List Client) → n ≤ m → i ≤ j → AllByRecursion (IsSoundClient station n i) cs → AllByRecursion (IsSoundClient station m j) cs
+all_later station n m i j [] le few all = tt
+all_later station n m i j (c ∷ cs) le few all = (sound_later station n m i j c le few all.0, all_later station n m i j cs le few all.1)

@@ -8,7 +8,8 @@ use Rattle.gw_station.specs.Sound.{IsSoundClient}
 use Rattle.gw_steps.specs.Steps.{client_after_frame, wanted_by}
 use Rattle.gw_parts.specs.Clients.{CanCount, reply_to_apdu}
 use Rattle.gw_parts.proofs.Places.{changed_at, changed_past}
-use Rattle.gw_parts.proofs.Sounds.{sound_more, sound_set}
+use Rattle.gw_station.proofs.Sounds.{all_later}
+use Rattle.gw_parts.proofs.Sounds.{sound_set}
 use Rattle.gw_parts.proofs.Walks.{one_found, one_of, past_none}
 use Rattle.gw_parts.proofs.clients.frame_at.Goals as goal
 
@@ -83,4 +84,4 @@ returns-else-position-stations-clause-same c = tt
 
 pub returns-else-position-stations-clause-sound : goal.returns-else-position-stations-clause-sound
 returns-else-position-stations-clause-sound c = λ any m i shown all.
-    sound_more any m (m + 1) i i c.args.stations.now (omega arith) (omega arith) all
+    all_later any.station m (m + 1) i i c.args.stations.now (omega arith) (omega arith) all

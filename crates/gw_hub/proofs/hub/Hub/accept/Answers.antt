@@ -9,17 +9,16 @@ use Rattle.gw_hub.proofs.hub.Hub.accept.Goals as goal
 pub take_reports-news-requires : goal.take_reports-news-requires
 take_reports-news-requires c =
     let few = can_rise_news c.self.inside.counts _ 0 (search (rules, c.can_rise.ensures, c.if-not-can_rise.false)) in
-    news_can c.self.inside.settings _ _ _ _ few c.self.invariant.clients
+    news_can _ _ _ _ _ few c.self.invariant.clients
 
 pub invariant_of-self : goal.invariant_of-self
 invariant_of-self c =
-    let setup = c.self.inside.settings in
     let before = c.self.invariant in
     record {
       picture = c.rows-shown.ensures.sendable;
-      rows = subst (ShowsRows setup.rows) (sym c.take_reports-news.ensures.picture) (reports_rows setup.station.offset_minutes setup.rows _ c.reports-reports.result.now before.rows);
+      rows = subst (ShowsRows _) (sym c.take_reports-news.ensures.picture) (reports_rows c.self.inside.settings.station.offset_minutes _ _ c.reports-reports.result.now before.rows);
       masters = ap length c.take.ensures ∙ (change-length _ _ _ ∙ before.masters);
       clients =
-          sound_came setup c.self.inside.counts.steps _ c.self.inside.counts.news _ _ _ _ c.take_reports-news.ensures.clients c.take_reports-news.ensures.sendable
+          sound_came _ c.self.inside.counts.steps _ c.self.inside.counts.news _ _ _ _ c.take_reports-news.ensures.clients c.take_reports-news.ensures.sendable
           (omega (arith, ap (λ (counts : Counts). counts.steps) c.raise.ensures)) (omega (arith, c.take_reports-news.ensures.count, ap (λ (counts : Counts). counts.news) c.raise.ensures)) before.clients;
     }

@@ -9,5 +9,5 @@ invariant_of-self c =
       picture = before.picture;
       rows = before.rows;
       masters = before.masters;
-      clients = sound_change_here c.self.inside.settings _ _ c.args.client _ _ _ c.go_down.ensures (sound_after_close _ _ _) before.clients;
+      clients = sound_change_here _ _ _ c.args.client _ _ _ c.go_down.ensures (sound_after_close _ _ _) before.clients;
     }

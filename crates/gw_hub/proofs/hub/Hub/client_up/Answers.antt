@@ -9,5 +9,5 @@ invariant_of-self c =
       picture = before.picture;
       rows = before.rows;
       masters = before.masters;
-      clients = sound_change_here c.self-2.inside.settings _ _ c.args.client _ _ _ c.come_up.ensures (sound_after_up _ _ _ c.self-2.inside.moment) before.clients;
+      clients = sound_change_here _ _ _ c.args.client _ _ _ c.come_up.ensures (sound_after_up _ _ _ c.self-2.inside.moment) before.clients;
     }

@@ -2,14 +2,14 @@ use Rattle.std.proofs.Common.{◌+◌, ◌≤◌, sym, ap, subst, arith, rules}
 use Rattle.std.specs.List.{AllByRecursion}
 use Rattle.gw_answers.specs.Meaning.{IsSendable}
 use Rattle.gw_steps.specs.State.{Counts}
-use Rattle.gw_parts.proofs.Sounds.{sound_more}
+use Rattle.gw_station.proofs.Sounds.{all_later}
 use Rattle.gw_hub.proofs.Taking.{can_rise_step, counts_can, sendable_shown}
 use Rattle.gw_hub.proofs.hub.Hub.frame.Goals as goal
 
 pub frame-requires : goal.frame-requires
 frame-requires c =
     let few = can_rise_step c.self.inside.counts 0 c.from-sessions.result (search (rules, c.can_rise.ensures, c.if-not-can_rise.false)) in
-    counts_can c.self.inside.settings _ _ _ few c.self.invariant.clients
+    counts_can _ _ _ _ few c.self.invariant.clients
 
 pub invariant_of-self-2 : goal.invariant_of-self-2
 invariant_of-self-2 c =
@@ -25,5 +25,5 @@ invariant_of-self-2 c =
       picture = before.picture;
       rows = before.rows;
       masters = before.masters;
-      clients = sound_more setup _ _ _ _ _ steps news (c.in-Ok.ensures.sound setup counts.steps counts.news sends before.clients);
+      clients = all_later setup.station _ _ _ _ _ steps news (c.in-Ok.ensures.sound setup counts.steps counts.news sends before.clients);
     }

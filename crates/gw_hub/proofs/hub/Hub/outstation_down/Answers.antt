@@ -11,17 +11,16 @@ use Rattle.gw_hub.proofs.hub.Hub.outstation_down.Goals as goal
 pub lose_rows-requires : goal.lose_rows-requires
 lose_rows-requires c =
     let few = can_rise_news c.self.inside.counts c.losses-news.result 0 (search (rules, c.can_rise.ensures, c.if-not-can_rise.false)) in
-    news_can c.self.inside.settings _ _ _ _ (omega (arith, few, c.losses-news.ensures)) c.self.invariant.clients
+    news_can _ _ _ _ _ (omega (arith, few, c.losses-news.ensures)) c.self.invariant.clients
 
 pub invariant_of-self : goal.invariant_of-self
 invariant_of-self c =
-    let setup = c.self.inside.settings in
     let before = c.self.invariant in
     record {
-      picture = subst (AllByRecursion IsShown) (sym c.lose_rows.ensures.picture) (loss_shown c.args.outstation setup.rows _ before.picture);
-      rows = subst (ShowsRows setup.rows) (sym c.lose_rows.ensures.picture) (loss_rows c.args.outstation setup.rows _ before.rows);
+      picture = subst (AllByRecursion IsShown) (sym c.lose_rows.ensures.picture) (loss_shown _ _ _ before.picture);
+      rows = subst (ShowsRows _) (sym c.lose_rows.ensures.picture) (loss_rows _ _ _ before.rows);
       masters = ap length c.go_down.ensures ∙ (change-length c.args.outstation _ _ ∙ before.masters);
       clients =
-          sound_came setup c.self.inside.counts.steps _ c.self.inside.counts.news _ _ _ _ c.lose_rows.ensures.clients c.lose_rows.ensures.sendable
+          sound_came _ c.self.inside.counts.steps _ c.self.inside.counts.news _ _ _ _ c.lose_rows.ensures.clients c.lose_rows.ensures.sendable
           (omega (arith, ap (λ (counts : Counts). counts.steps) c.raise.ensures)) (omega (arith, c.losses-news.ensures, ap (λ (counts : Counts). counts.news) c.raise.ensures)) before.clients;
     }

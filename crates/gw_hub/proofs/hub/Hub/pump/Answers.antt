@@ -13,7 +13,7 @@ use Rattle.gw_hub.proofs.Taking.{sound_change, pumps_can}
 use Rattle.gw_hub.proofs.hub.Hub.pump.Goals as goal
 
 pub pump-requires : goal.pump-requires
-pump-requires c = let counted = subst IsCounted (sym c.self.view_is) c.in_ok-count.ensures.counted in pumps_can c.self.inside.settings counted.before _ _ counted.few counted.sound
+pump-requires c = let counted = subst IsCounted (sym c.self.view_is) c.in_ok-count.ensures.counted in pumps_can _ counted.before _ _ counted.few counted.sound
 
 pub invariant_of-self : goal.invariant_of-self
 invariant_of-self c =
@@ -23,7 +23,7 @@ invariant_of-self c =
       picture = before.picture;
       rows = before.rows;
       masters = before.masters;
-      clients = sound_change c.self.inside.settings counted.before _ _ _ c.args.client _ _ _ c.pump.ensures.clients counted.counted (omega arith) (sound_after_pump _ _ _ c.self.inside.moment) counted.sound;
+      clients = sound_change _ counted.before _ _ _ c.args.client _ _ _ c.pump.ensures.clients counted.counted (omega arith) (sound_after_pump _ _ _ c.self.inside.moment) counted.sound;
     }
 
 same_reply : (c : ℕ) (a b : Setup) (m l : ℕ) (ks js : List Client) → a ≡ b → m ≡ l → ks ≡ js

@@ -16,7 +16,7 @@ invariant_of-self c =
       picture = before.picture;
       rows = before.rows;
       masters = ap length c.tick.ensures ∙ (length-map _ _ ∙ before.masters);
-      clients = sound_changed c.self.inside.settings _ _ _ _ _ _ c.tick-closed.ensures.clients (sound_after_tick _ _ _ c.self.inside.moment) before.clients;
+      clients = sound_changed _ _ _ _ _ _ _ c.tick-closed.ensures.clients (sound_after_tick _ _ _ c.self.inside.moment) before.clients;
     }
 
 same_bits : (m l : ℕ) (ks js : List Client) → m ≡ l → ks ≡ js → bits_of (map (is_timed_out m) ks) ≡ bits_of (map (is_timed_out l) js)
