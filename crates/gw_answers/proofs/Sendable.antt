@@ -1,8 +1,8 @@
 -- Answers can be sent, where the picture's observations can, and a command has the bits of its places.
-use Rattle.std.proofs.Common.{◌≡◌, ℕ, zero, suc, ℤ, Bool, List, [], ◌∷◌, ◌++◌, Option, Some, None, inl, inr}
-use Rattle.std.specs.Prelude.{option_map, slice_get, IfSome}
+use Rattle.std.proofs.Common.{◌≡◌, ℕ, zero, suc, ℤ, Bool, true, false, ◌==◌, List, [], ◌∷◌, ◌++◌, Option, Some, None, refl, inl, inr}
+use Rattle.std.specs.Prelude.{◌||◌, option_map, slice_get, IfSome}
 use Rattle.std.specs.List.{AllByRecursion}
-use Rattle.std.proofs.lemmas.Bool.{cases_Bool}
+use Rattle.std.proofs.lemmas.Bool.{cases_Bool, le-leb}
 use Rattle.gw_model.specs.declared.observation.Observation.{Observation}
 use Rattle.gw_entries.specs.declared.row.Row.{Row as AnyRow}
 use Rattle.gw_map.specs.Settings.{Setup, row_at_from}
@@ -16,10 +16,11 @@ use Rattle.gw_judge.specs.declared.judging.Judged.TheVariants.{Malformed, Refuse
 use Rattle.gw_judge.specs.Judging.{judged, IsWholeJudged}
 use Rattle.gw_judge.proofs.Refused.{header_whole, cause_within}
 use Rattle.gw_answers.specs.declared.answer.Part.TheVariants.{Termination}
-use Rattle.gw_answers.specs.declared.answer.Answer.TheVariants.{Shown}
+use Rattle.gw_answers.specs.declared.answer.Answer.{Answer}
+use Rattle.gw_answers.specs.declared.answer.Answer.TheVariants.{Unknown, Confirmed, Shown}
 use Rattle.gw_answers.specs.Interrogations.{is_accepted_act, is_asked_by, rows_of, answer_to}
 use Rattle.gw_answers.specs.Answers.{shown_by, refused_act, answered_action, answered}
-use Rattle.gw_answers.specs.Octets.{octets_in}
+use Rattle.gw_answers.specs.Octets.{octets_in, HasAnsweringCause}
 use Rattle.gw_answers.specs.Meaning.{IsSendable, CanSendAnswer, CanSendPart}
 
 -- ---- an answer at once
@@ -71,6 +72,27 @@ answered_can offset setup picture pending asdu (Refuse cause execute) e whole al
     (header_whole setup (octets_in asdu) cause execute e, within.0, within.1)
 answered_can offset setup picture pending asdu (Accepted c) e whole all =
     action_can offset setup picture pending c c.action whole all
+
+-- ---- causes
+
+or_true : (b : Bool) → b || true ≡ true
+or_true true = refl
+or_true false = refl
+
+-- an answer that can be sent has the cause of one
+cause_can : (offset : ℤ) (answer : Answer) → CanSendAnswer offset answer → HasAnsweringCause answer
+cause_can offset (Unknown asdu cause) can =
+    rw (le-leb 44 cause can.1, le-leb cause 47 can.2) (or_true (cause == 7 || cause == 9 || cause == 10))
+cause_can offset (Confirmed c negative) can = elim (cases_Bool (c.cause == 8)) [
+  | inl off ↦ rw off refl
+  | inr on ↦ rw on refl
+]
+cause_can offset (Shown x originator) can = tt
+
+pub causes_can : (offset : ℤ) (answers : List Answer) → AllByRecursion (CanSendAnswer offset) answers
+    → AllByRecursion HasAnsweringCause answers
+causes_can offset [] all = tt
+causes_can offset (answer ∷ answers) all = (cause_can offset answer all.0, causes_can offset answers all.1)
 
 -- ---- the answer to an interrogation
 

@@ -1,6 +1,6 @@
 -- How answers are spelled (IEC 60870-5-101, 7.2 and 7.3), where clocks are offset minutes ahead of UTC, by the station
 -- that has this common address.
-use Rattle.std.specs.Prelude.{ℕ, ℤ, ◌≤◌, Bool, true, false, ◌==◌, List, length, take, slice_set, if◌then◌else◌}
+use Rattle.std.specs.Prelude.{ℕ, ℤ, ◌≤◌, Bool, true, false, ◌==◌, ◌&&◌, ◌||◌, nat_le, IsTrue, List, length, take, slice_set, if◌then◌else◌}
 use Rattle.iec_apci.specs.declared.apdu.Asdu.{Asdu}
 use Rattle.iec_asdu.specs.Spelling.{spelling}
 use Rattle.iec_command.specs.declared.command.Command.{Command}
@@ -40,3 +40,20 @@ part_octets offset common (Termination c) = command_spelling (answering common 1
 abbrev pub IsReturnable : Answer → Type 0
 IsReturnable (Unknown asdu cause) = (6 ≤ length (octets_in asdu)) × (44 ≤ cause) × (cause ≤ 47)
 IsReturnable _ = Unit {0}
+
+-- ---- causes
+
+-- the cause of transmission that an answer has
+abbrev pub cause_of_answer : Answer → ℕ
+cause_of_answer (Unknown asdu cause) = cause
+cause_of_answer (Confirmed c negative) = confirming c.cause
+cause_of_answer (Shown x originator) = 5
+
+-- the confirmation of an activation (7) or a deactivation (9), a termination (10), or what is unknown (44 to 47)
+abbrev pub is_answering_cause : ℕ → Bool
+is_answering_cause cause = cause == 7 || cause == 9 || cause == 10 || (nat_le 44 cause && nat_le cause 47)
+
+-- an answer has one of these, but for that to a read
+abbrev pub HasAnsweringCause : Answer → Type 0
+HasAnsweringCause (Shown x originator) = Unit {0}
+HasAnsweringCause answer = IsTrue (is_answering_cause (cause_of_answer answer))

@@ -11,6 +11,7 @@ use Rattle.gw_model.specs.declared.observation.Observation.{Observation}
 use Rattle.gw_entries.specs.declared.row.Row.{Row}
 use Rattle.gw_model.specs.declared.point.Report.{Report}
 use Rattle.gw_model.specs.Places.{change}
+use Rattle.gw_entries.specs.Setup.{StationSetup}
 use Rattle.gw_picture.specs.Picture.{news_of, news_of_report, picture_after_report, picture_after}
 use Rattle.gw_picture.specs.Shown.{IsShown}
 use Rattle.gw_picture.proofs.Shows.{shown_fit}
@@ -22,9 +23,8 @@ use Rattle.gw_station.specs.Client.{Client, client_with_news}
 use Rattle.gw_answers.specs.Meaning.{IsSendable}
 use Rattle.gw_station.specs.Sound.{IsSoundClient, CanTake}
 use Rattle.gw_station.proofs.Queues.{came-nil, came-twice}
-use Rattle.gw_station.proofs.Sounds.{sendable-append, sound_later, sound_with_news}
+use Rattle.gw_station.proofs.Sounds.{all_later, sendable-append, sound_later, sound_with_news}
 use Rattle.gw_parts.specs.Clients.{CanCount, CanPump}
-use Rattle.gw_parts.proofs.Sounds.{sound_more}
 
 -- ---- news that come one after the other
 
@@ -51,40 +51,40 @@ can_fewer m n (c ∷ cs) le all = (record { count = omega (arith, le, all.0.coun
 
 -- ---- what every client keeps
 
-change_sound : (offset : ℤ) (n m i p : ℕ) (f : Client → Client) (cs : List Client) → n ≤ m → ((c : Client) → IsSoundClient offset n i c → IsSoundClient offset m i (f c))
-    → AllByRecursion (IsSoundClient offset n i) cs → AllByRecursion (IsSoundClient offset m i) (change p f cs)
-change_sound offset n m i p f [] le keeps all = tt
-change_sound offset n m i zero f (c ∷ cs) le keeps all = (keeps c all.0, sound_more offset n m i i cs le (omega arith) all.1)
-change_sound offset n m i (suc p) f (c ∷ cs) le keeps all = (sound_later offset n m i i c le (omega arith) all.0, change_sound offset n m i p f cs le keeps all.1)
+change_sound : (station : StationSetup) (n m i p : ℕ) (f : Client → Client) (cs : List Client) → n ≤ m → ((c : Client) → IsSoundClient station n i c → IsSoundClient station m i (f c))
+    → AllByRecursion (IsSoundClient station n i) cs → AllByRecursion (IsSoundClient station m i) (change p f cs)
+change_sound station n m i p f [] le keeps all = tt
+change_sound station n m i zero f (c ∷ cs) le keeps all = (keeps c all.0, all_later station n m i i cs le (omega arith) all.1)
+change_sound station n m i (suc p) f (c ∷ cs) le keeps all = (sound_later station n m i i c le (omega arith) all.0, change_sound station n m i p f cs le keeps all.1)
 
 -- one client changed
-pub sound_change_here : (offset : ℤ) (n i p : ℕ) (f : Client → Client) (cs changed : List Client) → changed ≡ change p f cs
-    → ((c : Client) → IsSoundClient offset n i c → IsSoundClient offset n i (f c)) → AllByRecursion (IsSoundClient offset n i) cs → AllByRecursion (IsSoundClient offset n i) changed
-sound_change_here offset n i p f cs changed e keeps all = subst (AllByRecursion (IsSoundClient offset n i)) (sym e) (change_sound offset n n i p f cs (omega arith) keeps all)
+pub sound_change_here : (station : StationSetup) (n i p : ℕ) (f : Client → Client) (cs changed : List Client) → changed ≡ change p f cs
+    → ((c : Client) → IsSoundClient station n i c → IsSoundClient station n i (f c)) → AllByRecursion (IsSoundClient station n i) cs → AllByRecursion (IsSoundClient station n i) changed
+sound_change_here station n i p f cs changed e keeps all = subst (AllByRecursion (IsSoundClient station n i)) (sym e) (change_sound station n n i p f cs (omega arith) keeps all)
 
 -- one client changed in a step
-pub sound_change : (offset : ℤ) (n m i j p : ℕ) (f : Client → Client) (cs changed : List Client) → changed ≡ change p f cs → m ≡ n + 1 → i ≤ j
-    → ((c : Client) → IsSoundClient offset n i c → IsSoundClient offset (n + 1) i (f c)) → AllByRecursion (IsSoundClient offset n i) cs → AllByRecursion (IsSoundClient offset m j) changed
-sound_change offset n m i j p f cs changed e one few keeps all =
-    sound_more offset (n + 1) m i j changed (omega (arith, one)) few
-    (subst (AllByRecursion (IsSoundClient offset (n + 1) i)) (sym e) (change_sound offset n (n + 1) i p f cs (omega arith) keeps all))
+pub sound_change : (station : StationSetup) (n m i j p : ℕ) (f : Client → Client) (cs changed : List Client) → changed ≡ change p f cs → m ≡ n + 1 → i ≤ j
+    → ((c : Client) → IsSoundClient station n i c → IsSoundClient station (n + 1) i (f c)) → AllByRecursion (IsSoundClient station n i) cs → AllByRecursion (IsSoundClient station m j) changed
+sound_change station n m i j p f cs changed e one few keeps all =
+    all_later station (n + 1) m i j changed (omega (arith, one)) few
+    (subst (AllByRecursion (IsSoundClient station (n + 1) i)) (sym e) (change_sound station n (n + 1) i p f cs (omega arith) keeps all))
 
-map_sound : (offset : ℤ) (n i j : ℕ) (f : Client → Client) (cs : List Client) → ((c : Client) → IsSoundClient offset n i c → IsSoundClient offset n j (f c))
-    → AllByRecursion (IsSoundClient offset n i) cs → AllByRecursion (IsSoundClient offset n j) (map f cs)
-map_sound offset n i j f [] keeps all = tt
-map_sound offset n i j f (c ∷ cs) keeps all = (keeps c all.0, map_sound offset n i j f cs keeps all.1)
+map_sound : (station : StationSetup) (n i j : ℕ) (f : Client → Client) (cs : List Client) → ((c : Client) → IsSoundClient station n i c → IsSoundClient station n j (f c))
+    → AllByRecursion (IsSoundClient station n i) cs → AllByRecursion (IsSoundClient station n j) (map f cs)
+map_sound station n i j f [] keeps all = tt
+map_sound station n i j f (c ∷ cs) keeps all = (keeps c all.0, map_sound station n i j f cs keeps all.1)
 
 -- every client changed
-pub sound_changed : (offset : ℤ) (n i j : ℕ) (f : Client → Client) (cs changed : List Client) → changed ≡ map f cs
-    → ((c : Client) → IsSoundClient offset n i c → IsSoundClient offset n j (f c)) → AllByRecursion (IsSoundClient offset n i) cs → AllByRecursion (IsSoundClient offset n j) changed
-sound_changed offset n i j f cs changed e keeps all = subst (AllByRecursion (IsSoundClient offset n j)) (sym e) (map_sound offset n i j f cs keeps all)
+pub sound_changed : (station : StationSetup) (n i j : ℕ) (f : Client → Client) (cs changed : List Client) → changed ≡ map f cs
+    → ((c : Client) → IsSoundClient station n i c → IsSoundClient station n j (f c)) → AllByRecursion (IsSoundClient station n i) cs → AllByRecursion (IsSoundClient station n j) changed
+sound_changed station n i j f cs changed e keeps all = subst (AllByRecursion (IsSoundClient station n j)) (sym e) (map_sound station n i j f cs keeps all)
 
 -- news came to every client in a step
-pub sound_came : (offset : ℤ) (n m i j : ℕ) (xs : List Observation) (cs changed : List Client) → changed ≡ map (client_with_news xs) cs → AllByRecursion (IsSendable offset) xs
-    → n ≤ m → i + length xs ≤ j → AllByRecursion (IsSoundClient offset n i) cs → AllByRecursion (IsSoundClient offset m j) changed
-sound_came offset n m i j xs cs changed e sends le few all =
-    sound_more offset n m (i + length xs) j changed le few
-    (sound_changed offset n i (i + length xs) (client_with_news xs) cs changed e (λ c sound. sound_with_news offset n i xs c sends sound) all)
+pub sound_came : (station : StationSetup) (n m i j : ℕ) (xs : List Observation) (cs changed : List Client) → changed ≡ map (client_with_news xs) cs → AllByRecursion (IsSendable station.offset_minutes) xs
+    → n ≤ m → i + length xs ≤ j → AllByRecursion (IsSoundClient station n i) cs → AllByRecursion (IsSoundClient station m j) changed
+sound_came station n m i j xs cs changed e sends le few all =
+    all_later station n m (i + length xs) j changed le few
+    (sound_changed station n i (i + length xs) (client_with_news xs) cs changed e (λ c sound. sound_with_news station n i xs c sends sound) all)
 
 -- what is shown can be sent
 pub sendable_shown : (offset : ℤ) (xs : List Observation) → AllByRecursion IsShown xs → AllByRecursion (IsSendable offset) xs
@@ -116,9 +116,9 @@ can_rise_news counts news sessions e =
     middle false b c e = absurd cc
 
 -- where one step more can be counted, each client's I formats can
-pub counts_can : (offset : ℤ) (n i : ℕ) (cs : List Client) → n + 1 < 2 ^ 64 → AllByRecursion (IsSoundClient offset n i) cs → AllByRecursion CanCount cs
-counts_can offset n i [] lt all = tt
-counts_can offset n i (c ∷ cs) lt all = (record { received = omega (arith, lt, all.0.received) }, counts_can offset n i cs lt all.1)
+pub counts_can : (station : StationSetup) (n i : ℕ) (cs : List Client) → n + 1 < 2 ^ 64 → AllByRecursion (IsSoundClient station n i) cs → AllByRecursion CanCount cs
+counts_can station n i [] lt all = tt
+counts_can station n i (c ∷ cs) lt all = (record { received = omega (arith, lt, all.0.window.received) }, counts_can station n i cs lt all.1)
 
 -- answers that can be sent can be spelled
 answers_can : (offset : ℤ) (answers : List Answer) → AllByRecursion (CanSendAnswer offset) answers → AllByRecursion IsReturnable answers
@@ -128,15 +128,15 @@ answers_can offset (Confirmed command negative ∷ answers) all = (tt, answers_c
 answers_can offset (Shown x originator ∷ answers) all = (tt, answers_can offset answers all.1)
 
 -- so what waits for each client can be put out
-pub pumps_can : (offset : ℤ) (n i : ℕ) (cs : List Client) → n + 1 < 2 ^ 64 → AllByRecursion (IsSoundClient offset n i) cs → AllByRecursion CanPump cs
-pumps_can offset n i [] lt all = tt
-pumps_can offset n i (c ∷ cs) lt all =
-    (record { sent = omega (arith, lt, all.0.sent); answers = answers_can offset c.answers all.0.answers }, pumps_can offset n i cs lt all.1)
+pub pumps_can : (station : StationSetup) (n i : ℕ) (cs : List Client) → n + 1 < 2 ^ 64 → AllByRecursion (IsSoundClient station n i) cs → AllByRecursion CanPump cs
+pumps_can station n i [] lt all = tt
+pumps_can station n i (c ∷ cs) lt all =
+    (record { sent = omega (arith, lt, all.0.window.sent); answers = answers_can station.offset_minutes c.answers all.0.answers }, pumps_can station n i cs lt all.1)
 
 -- where so many news more can be counted, each client can take them
-pub news_can : (offset : ℤ) (n i news : ℕ) (cs : List Client) → i + news < 2 ^ 64 → AllByRecursion (IsSoundClient offset n i) cs → AllByRecursion (CanTake news) cs
-news_can offset n i news [] lt all = tt
-news_can offset n i news (c ∷ cs) lt all = (record { count = omega (arith, lt, all.0.dropped); few = all.0.few }, news_can offset n i news cs lt all.1)
+pub news_can : (station : StationSetup) (n i news : ℕ) (cs : List Client) → i + news < 2 ^ 64 → AllByRecursion (IsSoundClient station n i) cs → AllByRecursion (CanTake news) cs
+news_can station n i news [] lt all = tt
+news_can station n i news (c ∷ cs) lt all = (record { count = omega (arith, lt, all.0.dropped); few = all.0.few }, news_can station n i news cs lt all.1)
 
 -- ---- what is left to take
 

@@ -53,7 +53,7 @@ pub record IsCounted (hub : Hub) : Type 0 where
   pub before : ℕ
   pub counted : hub.state.counts.steps ≡ before + 1
   pub few : before + 1 < 2 ^ 64
-  pub sound : AllByRecursion (IsSoundClient hub.setup.station.offset_minutes before hub.state.counts.news) hub.state.clients
+  pub sound : AllByRecursion (IsSoundClient hub.setup.station before hub.state.counts.news) hub.state.clients
 
 -- the state of a hub that took a response at a moment
 abbrev pub state_with_response : Hub → ℕ → Fragment → State

@@ -5,16 +5,16 @@ ghost use Rattle.gw_entries.specs.Ranges.{IsStation};
 ghost use Rattle.gw_map.specs.Settings.{HasSingleAddresses};
 ghost use Rattle.gw_picture.specs.Loss.{losses_at, losses_of, picture_after_loss, picture_losing_at};
 ghost use Rattle.gw_picture.specs.Picture.{picture_after, picture_after_report};
-ghost use Rattle.gw_station.specs.Client.{client_with_news};
+ghost use Rattle.gw_station.specs.Client.{client_with_news, limits_of};
 ghost use Rattle.gw_answers.specs.Meaning.{IsSendable};
 ghost use Rattle.gw_station.specs.Sound.{CanTake};
 ghost use Rattle.gw_steps.specs.declared.step.Step.TheVariants as steps;
 ghost use Rattle.gw_steps.specs.declared.step.StepFault.TheVariants.{NoClient, NoOutstation, Spent};
-ghost use Rattle.gw_steps.specs.State.{at_first, limits_of};
+ghost use Rattle.gw_steps.specs.State.{at_first};
 ghost use Rattle.gw_steps.specs.Steps.{client_up, fault_unless_up, latest, one_if, outstation_up, Allowed};
 ghost use Rattle.gw_steps.specs.Carried.{AreMeant, IsMeant};
 ghost use Rattle.gw_steps.specs.Runs.{history, state_after, AtEach, IsRun};
-ghost use Rattle.gw_steps.specs.Sound.{IsSound};
+ghost use Rattle.gw_steps.specs.Sound.{IsSound, LeavesSound};
 ghost use Rattle.gw_news.specs.Confirms.{ConfirmsLast};
 ghost use Rattle.gw_news.specs.News.{Holds};
 ghost use Rattle.gw_news.specs.Numbers.{HasRightNumbers};
@@ -73,7 +73,7 @@ impl Model for Hub {
       };
     } };
 
-    ghost invariant = { λ h. IsSound h.settings.station.offset_minutes (record {
+    ghost invariant = { λ h. IsSound h.settings (record {
       outstations = h.outstations;
       picture = h.picture;
       clients = h.clients;
@@ -95,13 +95,15 @@ impl Hub {
         let outstations = Outstations::new(alloc, settings.outstations())?;
         let picture = Picture::new(alloc, &settings)?;
         let clients = Clients::new(alloc, CLIENTS, &limits_of(station), station.queue)?;
+        let common = Common::new(alloc, settings)?;
+        let counts = Counts::new();
         Ok(Hub {
             alloc,
-            settings: Common::new(alloc, settings)?,
+            settings: common,
             outstations,
             picture,
             clients,
-            counts: Counts::new(),
+            counts,
             moment: 0,
         })
     }
@@ -168,6 +170,8 @@ impl Hub {
     /// - `meant`: each fragment reports what its octets mean, by the definition of responses.
     /// - `confirms`: a confirmation was given to an outstation only with the news put into the log, or for a repeated
     ///   fragment.
+    /// - `sound`: the picture shows each row of the point map by a value of its type that an ASDU can carry, there is a
+    ///   master for each outstation, and what waits for a client can be sent and is no more than may wait.
     pub fn run(
         alloc: Global,
         settings: Settings,
@@ -187,6 +191,7 @@ impl Hub {
             AtEach (AnswersInterrogations settings) (history [] steps.items run.1.items)) }
         ensures mirror { IfOk result (λ run. AtEach (Mirrors settings) (history [] steps.items run.1.items)) }
         ensures meant { IfOk result (λ run. AreMeant (history [] steps.items run.1.items)) }
+        ensures sound { IfOk result (λ run. AtEach (LeavesSound settings) (history [] steps.items run.1.items)) }
     {
         let mut hub = Hub::new(alloc, settings)?;
         let replies = hub.make(&steps)?;
@@ -217,9 +222,11 @@ impl Hub {
     pub fn step(&mut self, step: &Step) -> Result<Reply, StepFault>
         ensures step { Allowed self.old.setup self.old.state step.now result self.new.state }
         ensures setup { self.new.setup ≡ self.old.setup }
-        // Whatever waits for a client can be sent.
-        ensures sound { IsSound self.new.setup.station.offset_minutes self.new.state }
+        // What every state keeps, before and after.
+        ensures was_sound { IsSound self.old.setup self.old.state }
+        ensures sound { IsSound self.new.setup self.new.state }
     {
+        let _ = &self.clients;
         let reply = match step {
             Step::OutstationUp { outstation, moment } => self.outstation_up(*outstation, *moment),
             Step::OutstationDown { outstation, moment } => {
@@ -381,6 +388,8 @@ impl Hub {
             self.settings.get(),
             reports,
         );
+        // The contract of `rows` tells what every picture shows.
+        let _shown = self.picture.rows();
         self.outstations.take(response, moment);
         self.counts.raise(news, 0);
         self.moment = moment;

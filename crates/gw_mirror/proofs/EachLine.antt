@@ -3,14 +3,14 @@ use Rattle.std.proofs.Common.{◌≡◌, ℕ, zero, suc, ◌<◌, List, [], ◌�
 use Rattle.std.specs.Prelude.{replicate, slice_get, IfSome}
 use Rattle.gw_picture.proofs.Lists.{some_is}
 use Rattle.iec_window.specs.declared.limits.Limits.{Limits}
-use Rattle.gw_steps.specs.State.{client_limit, limits_of}
+use Rattle.gw_steps.specs.State.{client_limit}
 use Rattle.gw_map.specs.Settings.{Setup}
 use Rattle.iec_apci.specs.declared.apdu.Apdu.{Apdu}
 use Rattle.iec_apci.specs.declared.apdu.Apdu.TheVariants.{I, S, U}
 use Rattle.gw_answers.proofs.Meant.{answer_means, part_means, observations_mean}
 use Rattle.gw_station.specs.declared.sending.Sending.{Sending}
 use Rattle.gw_station.specs.declared.sending.Sending.TheVariants as sendings
-use Rattle.gw_station.specs.Client.{Client, client_down}
+use Rattle.gw_station.specs.Client.{Client, client_down, limits_of}
 use Rattle.gw_station.specs.Answers.{is_pending as is_asked}
 use Rattle.gw_station.specs.Frames.{judged_asdu, client_taking}
 use Rattle.gw_station.specs.Sound.{CanSend}

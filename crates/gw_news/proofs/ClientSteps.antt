@@ -1,9 +1,10 @@
 -- What becomes of each client in the steps of one.
-use Rattle.std.proofs.Common.{◌≡◌, ℕ, zero, suc, ℤ, List, [], ◌∷◌, Option, Some, None, Ok, refl, sym, ap, subst, ◌∙◌, inl, inr}
+use Rattle.std.proofs.Common.{◌≡◌, ℕ, zero, suc, List, [], ◌∷◌, Option, Some, None, Ok, refl, sym, ap, subst, ◌∙◌, inl, inr}
 use Rattle.std.specs.Prelude.{slice_get, option_map, IfSome}
 use Rattle.std.specs.List.{AllByRecursion}
 use Rattle.std.proofs.lemmas.Bool.{cases_eq, ne_eqb, eq-eqb}
 use Rattle.gw_model.specs.declared.observation.Observation.{Observation}
+use Rattle.gw_entries.specs.Setup.{StationSetup}
 use Rattle.gw_map.specs.Settings.{Setup}
 use Rattle.gw_model.specs.Places.{change}
 use Rattle.gw_picture.proofs.Lists.{change-here, change-there, some_is}
@@ -142,12 +143,12 @@ pump_apart setup c d m None ne = refl
 pump_apart setup c d m (Some content) ne = rw (ne_eqb c d ne) refl
 
 -- one of many
-sound_at : (offset : ℤ) (n i : ℕ) (ks : List Client) (c : ℕ) (k : Client) → slice_get ks c ≡ Some k → AllByRecursion (IsSoundClient offset n i) ks → IsSoundClient offset n i k
-sound_at offset n i [] c k at all = absurd cc
-sound_at offset n i (x ∷ ks) zero k at all = subst (IsSoundClient offset n i) (some_is x k at) all.0
-sound_at offset n i (x ∷ ks) (suc c) k at all = sound_at offset n i ks c k at all.1
+sound_at : (station : StationSetup) (n i : ℕ) (ks : List Client) (c : ℕ) (k : Client) → slice_get ks c ≡ Some k → AllByRecursion (IsSoundClient station n i) ks → IsSoundClient station n i k
+sound_at station n i [] c k at all = absurd cc
+sound_at station n i (x ∷ ks) zero k at all = subst (IsSoundClient station n i) (some_is x k at) all.0
+sound_at station n i (x ∷ ks) (suc c) k at all = sound_at station n i ks c k at all.1
 
-pub pump : (setup : Setup) (past : List Entry) (c m : ℕ) (r : Reply) (s : State) → IsSound setup.station.offset_minutes s
+pub pump : (setup : Setup) (past : List Entry) (c m : ℕ) (r : Reply) (s : State) → IsSound setup s
     → outcome setup s (steps.Pump c m) ≡ Ok r → Tied setup past s → Follows setup past (entry (steps.Pump c m) (Ok r)) s (after setup s (steps.Pump c m))
 pump setup past c m r s sound e tied =
     let step : Step = steps.Pump c m in
@@ -156,8 +157,8 @@ pump setup past c m r s sound e tied =
     let up = who_is_up (λ (k : Client). is_up k.stage) NoClient (slice_get s.clients c) told.0 in
     let content : Option Content = given setup.station.offset_minutes setup.station.common_address moment up.0 in
     let reply : reply_giving content ≡ r = sym (ap (client_reply (λ (k : Client). reply_giving (given setup.station.offset_minutes setup.station.common_address moment k))) up.1) ∙ told.2 in
-    let mine = sound_at setup.station.offset_minutes s.counts.steps s.counts.news s.clients c up.0 up.1 sound in
-    let can = offered_can setup.station.offset_minutes s.counts.steps s.counts.news moment up.0 mine in
+    let mine = sound_at setup.station s.counts.steps s.counts.news s.clients c up.0 up.1 sound.clients in
+    let can = offered_can setup.station s.counts.steps s.counts.news moment up.0 mine in
     subst (λ (x : Reply). Follows setup past (entry step (Ok x)) s (after setup s step)) reply
     (one_client setup past step (reply_giving content) s (after setup s step) c (client_after_pump moment) up.0 refl (λ o last. refl) (λ o. refl)
     (λ d ne. pump_apart setup c d m content ne) refl refl refl refl up.1

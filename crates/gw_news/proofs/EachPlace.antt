@@ -12,7 +12,7 @@ use Rattle.gw_picture.proofs.Lists.{map-get}
 use Rattle.iec_apci.specs.Apdu.{Content}
 use Rattle.gw_station.specs.declared.event.Event.{Event}
 use Rattle.gw_station.specs.declared.event.Event.TheVariants as events
-use Rattle.gw_station.specs.Client.{Client, client_down, is_up}
+use Rattle.gw_station.specs.Client.{Client, client_down, is_up, limits_of}
 use Rattle.gw_station.specs.Frames.{event_of}
 use Rattle.gw_station.specs.Pump.{given}
 use Rattle.gw_steps.specs.declared.step.Step.{Step}
@@ -20,7 +20,7 @@ use Rattle.gw_steps.specs.declared.step.Step.TheVariants as steps
 use Rattle.gw_steps.specs.declared.step.Reply.{Reply}
 use Rattle.gw_steps.specs.declared.step.StepFault.{StepFault}
 use Rattle.gw_steps.specs.declared.step.StepFault.TheVariants.{NoOutstation, NoClient}
-use Rattle.gw_steps.specs.State.{State, at_first, client_limit, limits_of}
+use Rattle.gw_steps.specs.State.{State, at_first, client_limit}
 use Rattle.gw_steps.specs.Steps.{Allowed, outcome, needs, can_rise, reply_to, fault_of, reply_of_event, reply_asking, reply_giving, latest}
 use Rattle.gw_steps.specs.Runs.{Entry, state_after, IsRun, AtEach}
 use Rattle.gw_steps.specs.Sound.{IsSound, LeavesSound}
@@ -212,7 +212,7 @@ told_more setup past e fit follows last told =
       numbered = (numbers setup (e ∷ past) fit.window tied (λ c. (goes c).numbered), told.numbered);
     }
 
-told_by : (setup : Setup) (past : List Entry) (step : Step) (reply : Result Reply StepFault) → IsSoundSetup setup → IsSound setup.station.offset_minutes (state_after setup past)
+told_by : (setup : Setup) (past : List Entry) (step : Step) (reply : Result Reply StepFault) → IsSoundSetup setup → IsSound setup (state_after setup past)
     → Allowed setup (state_after setup past) step reply (state_after setup (entry step reply ∷ past)) → Told setup past → Told setup (entry step reply ∷ past)
 told_by setup past step (Ok r) fit sound allowed told =
     told_more setup past (entry step (Ok r)) fit (step_follows setup past step r (state_after setup past) fit.addresses sound allowed.0 told.tied)

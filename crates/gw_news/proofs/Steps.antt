@@ -14,7 +14,7 @@ use Rattle.gw_news.proofs.OutstationSteps.{outstation_up, outstation_down, fragm
 use Rattle.gw_news.proofs.Tied.{Tied, Follows}
 
 pub step_follows : (setup : Setup) (past : List Entry) (step : Step) (r : Reply) (s : State) → HasSingleAddresses setup.rows setup.controls
-    → IsSound setup.station.offset_minutes s → outcome setup s step ≡ Ok r → Tied setup past s → Follows setup past (entry step (Ok r)) s (after setup s step)
+    → IsSound setup s → outcome setup s step ≡ Ok r → Tied setup past s → Follows setup past (entry step (Ok r)) s (after setup s step)
 step_follows setup past (steps.OutstationUp o m) r s single sound e tied = outstation_up setup past o m r s tied
 step_follows setup past (steps.OutstationDown o m) r s single sound e tied = outstation_down setup past o m r s single tied
 step_follows setup past (steps.Fragment f m) r s single sound e tied = fragment setup past f m r s single e tied

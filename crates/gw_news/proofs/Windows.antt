@@ -11,9 +11,9 @@ use Rattle.iec_window.specs.Counts.{Counts, sent_in_all}
 use Rattle.iec_window.specs.Sequence.{Acknowledges, new_acknowledgements, is_right_send, is_right_receive}
 use Rattle.iec_window.specs.Steps.{counts_at_start, counts_after_s, counts_after_i, counts_after_sending_i}
 use Rattle.iec_window.proofs.Numbers.{number_of-ahead}
+use Rattle.gw_station.specs.Client.{limits_of}
 use Rattle.gw_station.specs.Pump.{has_room}
 use Rattle.gw_station.proofs.Windows.{right_split, right_names, named_right, right_sent, sent_one_more}
-use Rattle.gw_steps.specs.State.{limits_of}
 use Rattle.gw_steps.specs.Runs.{Entry}
 use Rattle.gw_steps.specs.Said.{Numbered}
 use Rattle.gw_news.specs.Turns.{Connects, Takes, PutsOut, turn_of}

@@ -15,5 +15,5 @@ pub record IsSoundSetup (setup : Setup) : Type 0 where
 pub record IsSoundRun (setup : Setup) (past : List Entry) : Type 0 where
   pub settings : IsSoundSetup setup
   pub run : IsRun setup past
-  -- what is queued can be sent, at each place
+  -- each state is sound
   pub sound : AtEach (LeavesSound setup) past

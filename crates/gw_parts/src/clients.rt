@@ -1,7 +1,8 @@
 //! All clients, by their position.
-ghost use Rattle.std.specs.Prelude.{◌≡◌, ◌+◌, ◌<◌, ◌≤◌, ℕ, ℤ, [], ◌∷◌, length, map, option_map, replicate, slice_get, true, IfOk, OnErr, OnOk};
+ghost use Rattle.std.specs.Prelude.{◌≡◌, ◌+◌, ◌<◌, ◌≤◌, ℕ, [], ◌∷◌, length, map, option_map, replicate, slice_get, true, IfOk, OnErr, OnOk};
 ghost use Rattle.std.specs.List.{AllByRecursion};
 ghost use Rattle.gw_model.specs.Places.{change};
+ghost use Rattle.gw_map.specs.Settings.{Setup};
 ghost use Rattle.gw_station.specs.Client.{client_after_close, client_after_tick, client_after_up, client_down, client_with_news, is_timed_out, is_up};
 ghost use Rattle.gw_station.specs.Frames.{event_of, wants_memory};
 ghost use Rattle.gw_station.specs.Pump.{client_after_pump, given};
@@ -118,9 +119,10 @@ impl Clients {
         ensures memory { OnErr result (wanted_by settings.now apdu.now (slice_get self.old client) ≡ true) }
         ensures same { OnErr result (self.new ≡ self.old) }
         // Where the picture can be sent, all clients stay sound, one step later.
-        ensures sound { (offset : ℤ) (n i : ℕ) → AllByRecursion (IsSendable offset) picture.now
-            → AllByRecursion (IsSoundClient offset n i) self.old
-            → OnOk result (AllByRecursion (IsSoundClient offset (n + 1) i) self.new) }
+        ensures sound { (any : Setup) (n i : ℕ)
+            → AllByRecursion (IsSendable any.station.offset_minutes) picture.now
+            → AllByRecursion (IsSoundClient any.station n i) self.old
+            → OnOk result (AllByRecursion (IsSoundClient any.station (n + 1) i) self.new) }
     {
         frame_at(&mut self.stations, client, apdu, moment, settings, picture)
     }
@@ -230,9 +232,10 @@ fn frame_at(
         (stations.new ≡ change client (client_after_frame settings.now picture.now moment apdu.now) stations.old) }
     ensures memory { OnErr result (wanted_by settings.now apdu.now (slice_get stations.old client) ≡ true) }
     ensures same { OnErr result (stations.new ≡ stations.old) }
-    ensures sound { (offset : ℤ) (n i : ℕ) → AllByRecursion (IsSendable offset) picture.now
-        → AllByRecursion (IsSoundClient offset n i) stations.old
-        → OnOk result (AllByRecursion (IsSoundClient offset (n + 1) i) stations.new) }
+    ensures sound { (any : Setup) (n i : ℕ)
+        → AllByRecursion (IsSendable any.station.offset_minutes) picture.now
+        → AllByRecursion (IsSoundClient any.station n i) stations.old
+        → OnOk result (AllByRecursion (IsSoundClient any.station (n + 1) i) stations.new) }
 {
     let position = usize::from(client);
     if position < stations.len() {
@@ -255,8 +258,9 @@ fn frame_one(
         (station.new ≡ client_after_frame settings.now picture.now moment apdu.now station.old) }
     ensures memory { OnErr result (wants_memory settings.now apdu.now station.old ≡ true) }
     ensures same { OnErr result (station.new ≡ station.old) }
-    ensures sound { (offset : ℤ) (n i : ℕ) → AllByRecursion (IsSendable offset) picture.now
-        → IsSoundClient offset n i station.old → OnOk result (IsSoundClient offset (n + 1) i station.new) }
+    ensures sound { (any : Setup) (n i : ℕ)
+        → AllByRecursion (IsSendable any.station.offset_minutes) picture.now
+        → IsSoundClient any.station n i station.old → OnOk result (IsSoundClient any.station (n + 1) i station.new) }
 {
     let event = station.frame(apdu, moment, settings, picture)?;
     if let Event::Command(command) = event {

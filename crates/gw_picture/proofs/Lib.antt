@@ -6,3 +6,4 @@ pub mod Logs
 pub mod Rows
 pub mod Losses
 pub mod Shows
+pub mod ByType

@@ -58,7 +58,7 @@ row_from-get k n key (r ∷ rows) row found =
           rw more (row_from-get (k + 1) n key rows row at))
     ]
 
-row_at : (key : PointKey) (rows : List Row) (n : ℕ) (row : Row) → row_from 0 key rows ≡ Some (n, row) → slice_get rows n ≡ Some row
+pub row_at : (key : PointKey) (rows : List Row) (n : ℕ) (row : Row) → row_from 0 key rows ≡ Some (n, row) → slice_get rows n ≡ Some row
 row_at key rows n row found = let zero_off : n - 0 ≡ n = omega arith in rw zero_off at (row_from-get 0 n key rows row found)
 
 pub all_get : (P : Observation → Type 0) (xs : List Observation) (n : ℕ) (y : Observation) → AllByRecursion P xs → slice_get xs n ≡ Some y → P y

@@ -14,7 +14,7 @@ use Rattle.gw_model.specs.Fit.{is_of_element, HasWidth, IsFit, IsInWindow}
 use Rattle.gw_model.specs.Places.{change}
 use Rattle.gw_picture.specs.Opening.{opening, value_at_first, quality_at_first}
 use Rattle.gw_picture.specs.Picture.{without_time}
-use Rattle.gw_picture.specs.Loss.{quality_lost, lost, is_lost_with, losses_of_row, shown_after_loss, losses_of_both, shown_at_loss, losses_at, picture_losing_at}
+use Rattle.gw_picture.specs.Loss.{quality_lost, lost, is_lost_with, losses_of_row, shown_after_loss, losses_of_both, shown_at_loss, losses_at, picture_losing_at, picture_after_loss}
 use Rattle.gw_picture.specs.Shown.{IsShown}
 use Rattle.gw_picture.proofs.Rows.{all_get, all_change}
 
@@ -69,6 +69,12 @@ row_shown outstation row x is = go (is_lost_with outstation row x)
     go : (b : Bool) → IsShown (cond b (lost x) x)
     go true = lost_shown x is
     go false = is
+
+-- all that is shown
+pub loss_shown : (outstation : ℕ) (rows : List Row) (picture : List Observation) → AllByRecursion IsShown picture → AllByRecursion IsShown (picture_after_loss outstation rows picture)
+loss_shown outstation [] picture all = all
+loss_shown outstation (row ∷ rows) [] all = tt
+loss_shown outstation (row ∷ rows) (x ∷ picture) all = (row_shown outstation row x all.0, loss_shown outstation rows picture all.1)
 
 row_losses : (outstation : ℕ) (row : Row) (x : Observation) → IsShown x → AllByRecursion IsShown (losses_of_row outstation row x)
 row_losses outstation row x is = go (is_lost_with outstation row x)

@@ -6,3 +6,4 @@ pub mod Line
 pub mod Moves
 pub mod Answered
 pub mod Sends
+pub mod Places

@@ -1,11 +1,13 @@
 -- What is put out first is of a kind, where all that waits is; so it can be spelled, where all answers can. Behind answers
 -- and parts come news.
-use Rattle.std.proofs.Common.{◌≡◌, ◌<◌, ◌≤◌, ℕ, zero, suc, Bool, true, false, cond, List, [], ◌∷◌, ◌++◌, map, take, drop, Option, Some, None, ◌⊎◌, inl, inr, refl, sym, ap, arith}
+use Rattle.std.proofs.Common.{◌≡◌, ◌<◌, ◌≤◌, ℕ, zero, suc, Bool, true, false, cond, List, [], ◌∷◌, ◌++◌, map, take, drop, length, Option, Some, None, ◌⊎◌, inl, inr, refl, sym, ap, arith}
 use Rattle.std.specs.Prelude.{◌&&◌, is_some, option_map, slice_get, IfSome}
 use Rattle.std.specs.List.{AllByRecursion}
+use Rattle.std.proofs.lemmas.Bool.{ltb-true}
 use Rattle.gw_model.specs.First.{when, first_of}
 use Rattle.gw_model.specs.declared.observation.Observation.{Observation}
 use Rattle.iec_apci.specs.declared.apdu.Signal.{Signal}
+use Rattle.iec_window.specs.Counts.{Counts}
 use Rattle.iec_window.specs.Timers.{owes_ack, owes_test}
 use Rattle.gw_answers.specs.declared.answer.Answer.{Answer}
 use Rattle.gw_answers.specs.declared.answer.Part.{Part}
@@ -13,7 +15,7 @@ use Rattle.gw_answers.specs.Octets.{IsReturnable}
 use Rattle.gw_station.specs.declared.sending.Sending.{Sending}
 use Rattle.gw_station.specs.declared.sending.Sending.TheVariants as sendings
 use Rattle.gw_station.specs.Client.{Client, is_started}
-use Rattle.gw_station.specs.Pump.{has_room, line, information_offered, offered}
+use Rattle.gw_station.specs.Pump.{has_room, line, information_offered, offered, IsRoomy}
 use Rattle.gw_station.specs.Sound.{IsReturnableSending}
 use Rattle.gw_station.proofs.All.{all-append, all-take, all-drop, all-first, all-given, all-map}
 
@@ -59,6 +61,39 @@ offered_so P confirm test receipt moment c all = by_confirmation (slice_get c.co
         ∷ when (owes_ack moment c.window) sendings.Receipt ∷ [])) P
     by_confirmation None = by_test (owes_test moment c.window)
     by_confirmation (Some signal) = confirm signal
+
+-- ---- an I format has room
+
+roomy : (w : Counts) (sending : Sending) → length w.waiting < w.limits.k → IsRoomy w sending
+roomy w (sendings.Confirm signal) room = tt
+roomy w sendings.Test room = tt
+roomy w (sendings.Answer answer) room = room
+roomy w (sendings.News x) room = room
+roomy w (sendings.Part part) room = room
+roomy w sendings.Receipt room = tt
+
+information_roomy : (c : Client) → IfSome (information_offered c) (IsRoomy c.window)
+information_roomy c = go (is_started c.stage) (has_room c.window) refl
+  where
+    first : (x : Option Sending) → length c.window.waiting < c.window.limits.k → IfSome x (IsRoomy c.window)
+    first None room = tt
+    first (Some sending) room = roomy c.window sending room
+
+    go : (started room : Bool) → has_room c.window ≡ room → IfSome (cond (started && room) (slice_get (line c) 0) None) (IsRoomy c.window)
+    go true true e = first (slice_get (line c) 0) (ltb-true (length c.window.waiting) c.window.limits.k e)
+    go true false e = tt
+    go false room e = tt
+
+pub offered_roomy : (moment : ℕ) (c : Client) → IfSome (offered moment c) (IsRoomy c.window)
+offered_roomy moment c = go (slice_get c.confirmations 0) (owes_test moment c.window) (owes_ack moment c.window) (information_offered c) (information_roomy c)
+  where
+    go : (confirmation : Option Signal) (test ack : Bool) (information : Option Sending) → IfSome information (IsRoomy c.window)
+        → IfSome (first_of (option_map sendings.Confirm confirmation ∷ when test sendings.Test ∷ information ∷ when ack sendings.Receipt ∷ [])) (IsRoomy c.window)
+    go (Some signal) test ack information room = tt
+    go None true ack information room = tt
+    go None false ack (Some sending) room = room
+    go None false true None room = tt
+    go None false false None room = tt
 
 -- ---- it can be spelled
 

@@ -3,6 +3,7 @@ use Rattle.std.proofs.Common.{ℕ, ℤ, ◌≤◌, true, false, List, length, ar
 use Rattle.std.specs.Prelude.{slice_index, IfSome}
 use Rattle.std.proofs.lemmas.List.{length-set, length-take}
 use Rattle.gw_model.specs.Bits.{is_set}
+use Rattle.gw_entries.specs.Setup.{StationSetup}
 use Rattle.iec_apci.specs.Apdu.{Fits}
 use Rattle.iec_asdu.proofs.Lengths.{spelling_short}
 use Rattle.iec_command.specs.declared.command.Command.{Command}
@@ -24,9 +25,9 @@ use Rattle.gw_station.proofs.Line.{line_so, offered_so}
 
 -- ---- what is offered
 
-pub offered_can : (offset : ℤ) (steps news moment : ℕ) (c : Client) → IsSoundClient offset steps news c → IfSome (offered moment c) (CanSend offset)
-offered_can offset steps news moment c sound =
-    offered_so (CanSend offset) (λ signal. tt) tt tt moment c (line_so (CanSend offset) c sound.answers sound.sendable sound.rest)
+pub offered_can : (station : StationSetup) (steps news moment : ℕ) (c : Client) → IsSoundClient station steps news c → IfSome (offered moment c) (CanSend station.offset_minutes)
+offered_can station steps news moment c sound =
+    offered_so (CanSend station.offset_minutes) (λ signal. tt) tt tt moment c (line_so (CanSend station.offset_minutes) c sound.answers sound.sendable sound.rest)
 
 -- ---- how many octets it has
 

@@ -1,11 +1,11 @@
 -- What frames do to the counts of a window.
-use Rattle.std.proofs.Common.{◌≡◌, ℕ, ◌+◌, ◌<◌, ◌≤◌, Bool, true, false, leb, ltb, [], ◌∷◌, length, refl, arith, inl, inr}
+use Rattle.std.proofs.Common.{◌≡◌, ℕ, ◌+◌, ◌<◌, ◌≤◌, Bool, true, false, leb, ltb, [], ◌∷◌, length, refl, arith}
 use Rattle.std.specs.Prelude.{◌&&◌}
-use Rattle.std.proofs.lemmas.Bool.{cases_Bool, leb-true, le-leb, ltb-true, lt-ltb}
+use Rattle.std.proofs.lemmas.Bool.{leb-true, le-leb, ltb-true, lt-ltb}
 use Rattle.std.proofs.lemmas.List.{length-append, length-drop}
 use Rattle.iec_window.specs.Counts.{Counts, sent_in_all}
-use Rattle.iec_window.specs.Sequence.{Acknowledges, numbers, new_acknowledgements, is_right_send, is_right_receive}
-use Rattle.iec_window.specs.Steps.{counts_after_right_s, counts_after_s, counts_after_i, counts_after_sending_i}
+use Rattle.iec_window.specs.Sequence.{Acknowledges, numbers, new_acknowledgements, is_right_receive}
+use Rattle.iec_window.specs.Steps.{counts_after_right_s, counts_after_sending_i}
 use Rattle.iec_window.proofs.Numbers.{Acknowledges-new_acknowledgements, new_acknowledgements-within}
 
 -- ---- N(R)
@@ -34,33 +34,6 @@ named_right nr w n few a =
 -- of the I formats sent a right N(R) acknowledges some, and they stay as many
 pub right_sent : (nr moment : ℕ) (w : Counts) → is_right_receive nr w ≡ true → sent_in_all (counts_after_right_s nr moment w) ≡ sent_in_all w
 right_sent nr moment w e = let parts = right_split nr w e in omega (arith, parts.1, length-drop (new_acknowledgements nr w) w.waiting)
-
-pub sent_after_s : (nr moment : ℕ) (w : Counts) → sent_in_all (counts_after_s nr moment w) ≡ sent_in_all w
-sent_after_s nr moment w = elim (cases_Bool (is_right_receive nr w)) [
-  | inl right ↦ rw right (right_sent nr moment w right)
-  | inr wrong ↦ rw wrong refl
-]
-
-pub received_after_s : (nr moment : ℕ) (w : Counts) → (counts_after_s nr moment w).received ≡ w.received
-received_after_s nr moment w = elim (cases_Bool (is_right_receive nr w)) [ inl right ↦ rw right refl | inr wrong ↦ rw wrong refl ]
-
-pub sent_after_i : (ns nr moment : ℕ) (w : Counts) → sent_in_all (counts_after_i ns nr moment w) ≡ sent_in_all w
-sent_after_i ns nr moment w = elim (cases_Bool (is_right_send ns w)) [
-  | inl next ↦ elim (cases_Bool (is_right_receive nr w)) [
-    | inl right ↦ rw (next, right) (right_sent nr moment w right)
-    | inr wrong ↦ rw (next, wrong) refl
-  ]
-  | inr other ↦ rw other refl
-]
-
-pub received_after_i : (ns nr moment : ℕ) (w : Counts) → (counts_after_i ns nr moment w).received ≤ w.received + 1
-received_after_i ns nr moment w = elim (cases_Bool (is_right_send ns w)) [
-  | inl next ↦ elim (cases_Bool (is_right_receive nr w)) [
-    | inl right ↦ rw (next, right) (omega arith)
-    | inr wrong ↦ rw (next, wrong) (omega arith)
-  ]
-  | inr other ↦ rw other (omega arith)
-]
 
 pub sent_one_more : (moment : ℕ) (w : Counts) → sent_in_all (counts_after_sending_i moment w) ≡ sent_in_all w + 1
 sent_one_more moment w = omega (arith, length-append w.waiting (moment ∷ []))

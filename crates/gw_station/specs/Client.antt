@@ -2,6 +2,7 @@
 use Rattle.std.specs.Prelude.{ℕ, ◌+◌, ◌-◌, Bool, true, false, ◌&&◌, List, [], ◌++◌, length, if◌then◌else◌}
 use Rattle.circular_buffer.specs.Buffer.{keep_last}
 use Rattle.gw_model.specs.declared.observation.Observation.{Observation}
+use Rattle.gw_entries.specs.Setup.{StationSetup}
 use Rattle.iec_apci.specs.declared.apdu.Signal.{Signal}
 use Rattle.iec_window.specs.declared.limits.Limits.{Limits}
 use Rattle.iec_window.specs.Counts.{Counts}
@@ -39,6 +40,11 @@ abbrev pub is_started : Stage → Bool
 is_started Down = false
 is_started Stopped = false
 is_started Started = true
+
+-- the parameters of a client's connection
+abbrev pub limits_of : StationSetup → Limits
+limits_of station =
+    record { k = station.k; w = station.w; t1 = station.t1_ms; t2 = station.t2_ms; t3 = station.t3_ms }
 
 -- as at first, with the parameters k, w, t1, t2 and t3, where so many news may wait
 abbrev pub client_down : Limits → ℕ → Client

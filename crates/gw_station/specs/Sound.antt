@@ -1,16 +1,17 @@
--- What every client's part keeps: what waits can be sent, no more waits than may, and the counts of steps and of news are
--- no fewer than its I formats and what it dropped.
-use Rattle.std.specs.Prelude.{ℕ, ℤ, ◌+◌, ◌^◌, ◌<◌, ◌≤◌, length}
+-- What every client's part keeps, by the settings of the station: what waits can be sent, no more waits than may, and
+-- the counts of steps and of news are no fewer than its I formats and what it dropped.
+use Rattle.std.specs.Prelude.{◌≡◌, ℕ, ℤ, ◌+◌, ◌^◌, ◌<◌, ◌≤◌, length}
 use Rattle.std.specs.List.{AllByRecursion}
+use Rattle.gw_entries.specs.Setup.{StationSetup}
 use Rattle.iec_command.specs.Commands.{IsWhole}
-use Rattle.iec_window.specs.Counts.{sent_in_all}
-use Rattle.gw_answers.specs.Octets.{IsReturnable}
+use Rattle.iec_window.specs.Counts.{Counts, sent_in_all}
+use Rattle.gw_answers.specs.Octets.{HasAnsweringCause, IsReturnable}
 use Rattle.gw_answers.specs.Meaning.{CanSendAnswer, CanSendPart, IsSendable}
 use Rattle.gw_station.specs.declared.event.Event.{Event}
 use Rattle.gw_station.specs.declared.event.Event.TheVariants as events
 use Rattle.gw_station.specs.declared.sending.Sending.{Sending}
 use Rattle.gw_station.specs.declared.sending.Sending.TheVariants as sendings
-use Rattle.gw_station.specs.Client.{Client}
+use Rattle.gw_station.specs.Client.{Client, limits_of}
 
 -- what is put out can be spelled
 abbrev pub IsReturnableSending : Sending → Type 0
@@ -33,15 +34,28 @@ IsWholeEvent _ = Unit {0}
 abbrev pub CanAnswer : ℤ → Client → Type 0
 CanAnswer offset c = AllByRecursion (CanSendAnswer offset) c.answers × AllByRecursion (CanSendPart offset) c.rest
 
+-- after so many steps: at most k I formats wait for their acknowledgement
+pub record IsSoundWindow (station : StationSetup) (steps : ℕ) (w : Counts) : Type 0 where
+  pub limits : w.limits ≡ limits_of station
+  pub waiting : length w.waiting ≤ station.k
+  pub received : w.received ≤ steps
+  pub sent : sent_in_all w ≤ steps
+
 -- after so many steps and news
-pub record IsSoundClient (offset : ℤ) (steps news : ℕ) (c : Client) : Type 0 where
-  pub sendable : AllByRecursion (IsSendable offset) c.queue
-  pub answers : AllByRecursion (CanSendAnswer offset) c.answers
-  pub rest : AllByRecursion (CanSendPart offset) c.rest
+pub record IsSoundClient (station : StationSetup) (steps news : ℕ) (c : Client) : Type 0 where
+  pub window : IsSoundWindow station steps c.window
+  -- 32 confirmations of U formats may wait, and 32 answers
+  pub confirmations : length c.confirmations ≤ 32
+  pub places : length c.answers ≤ 32
+  pub answers : AllByRecursion (CanSendAnswer station.offset_minutes) c.answers
+  pub causes : AllByRecursion HasAnsweringCause c.answers
+  -- as many news may wait as the settings tell
+  pub limit : c.limit ≡ station.queue
   pub few : length c.queue ≤ c.limit
+  pub sendable : AllByRecursion (IsSendable station.offset_minutes) c.queue
   pub dropped : c.dropped ≤ news
-  pub received : c.window.received ≤ steps
-  pub sent : sent_in_all c.window ≤ steps
+  -- what is left of the answer to an interrogation
+  pub rest : AllByRecursion (CanSendPart station.offset_minutes) c.rest
 
 -- so many more news can come: they can be counted as dropped in 64 bits, and no more wait than may
 pub record CanTake (n : ℕ) (c : Client) : Type 0 where

@@ -1,16 +1,18 @@
 -- Runs, one step after the other.
-use Rattle.std.proofs.Common.{◌≡◌, ℕ, zero, suc, ℤ, ◌+◌, ◌<◌, ◌≤◌, List, [], ◌∷◌, ◌++◌, length, take, get_or, Result, Ok, Err, refl, sym, ap, subst, ◌∙◌, arith}
+use Rattle.std.proofs.Common.{◌≡◌, ℕ, zero, suc, ◌+◌, ◌<◌, ◌≤◌, List, [], ◌∷◌, ◌++◌, length, take, get_or, Result, Ok, Err, refl, sym, ap, subst, ◌∙◌, arith}
 use Rattle.std.specs.Prelude.{replicate}
 use Rattle.std.specs.List.{AllByRecursion}
-use Rattle.std.proofs.lemmas.List.{length-take, take_more, take_all}
+use Rattle.std.proofs.lemmas.List.{length-map, length-take, take_more, take_all}
+use Rattle.gw_entries.specs.Setup.{StationSetup}
 use Rattle.gw_map.specs.Settings.{Setup}
-use Rattle.iec_window.specs.declared.limits.Limits.{Limits}
-use Rattle.gw_station.specs.Client.{client_down}
+use Rattle.gw_picture.proofs.ByType.{opening_rows}
+use Rattle.gw_picture.proofs.Shows.{opening_shown}
+use Rattle.gw_station.specs.Client.{client_down, limits_of}
 use Rattle.gw_station.specs.Sound.{IsSoundClient}
 use Rattle.gw_steps.specs.declared.step.Step.{Step}
 use Rattle.gw_steps.specs.declared.step.Reply.{Reply}
 use Rattle.gw_steps.specs.declared.step.StepFault.{StepFault}
-use Rattle.gw_steps.specs.State.{State, at_first, client_limit, limits_of}
+use Rattle.gw_steps.specs.State.{State, at_first, client_limit}
 use Rattle.gw_steps.specs.Steps.{Allowed}
 use Rattle.gw_steps.specs.Runs.{Entry, history, state_after, IsRun, AtEach}
 use Rattle.gw_steps.specs.Sound.{IsSound, LeavesSound}
@@ -26,13 +28,31 @@ pub record Ran (setup : Setup) (past : List Entry) (s : State) : Type 0 where
 
 -- ---- at first
 
-all_down : (offset : ℤ) (limits : Limits) (queue n : ℕ) → AllByRecursion (IsSoundClient offset 0 0) (replicate n (client_down limits queue))
-all_down offset limits queue zero = tt
-all_down offset limits queue (suc n) =
-    (record { sendable = tt; answers = tt; rest = tt; few = omega arith; dropped = omega arith; received = omega arith; sent = omega arith }, all_down offset limits queue n)
+all_down : (station : StationSetup) (n : ℕ) → AllByRecursion (IsSoundClient station 0 0) (replicate n (client_down (limits_of station) station.queue))
+all_down station zero = tt
+all_down station (suc n) = (
+  record {
+    window = record { limits = refl; waiting = omega arith; received = omega arith; sent = omega arith };
+    confirmations = omega arith;
+    places = omega arith;
+    answers = tt;
+    causes = tt;
+    limit = refl;
+    few = omega arith;
+    sendable = tt;
+    dropped = omega arith;
+    rest = tt;
+  },
+  all_down station n,
+)
 
-pub sound_first : (setup : Setup) → IsSound setup.station.offset_minutes (at_first setup)
-sound_first setup = all_down setup.station.offset_minutes (limits_of setup.station) setup.station.queue client_limit
+pub sound_first : (setup : Setup) → IsSound setup (at_first setup)
+sound_first setup = record {
+  picture = opening_shown setup.rows _ refl;
+  rows = opening_rows setup.rows;
+  masters = length-map setup.outstations _;
+  clients = all_down setup.station client_limit;
+}
 
 pub ran_first : (setup : Setup) → Ran setup [] (at_first setup)
 ran_first setup = record { run = tt; state = refl; sound = sound_first setup }
@@ -40,13 +60,13 @@ ran_first setup = record { run = tt; state = refl; sound = sound_first setup }
 -- ---- one step more
 
 pub ran_step : (setup : Setup) (past : List Entry) (s new : State) (step : Step) (reply : Result Reply StepFault)
-    → Allowed setup s step reply new → IsSound setup.station.offset_minutes new → Ran setup past s → Ran setup (entry step reply ∷ past) new
+    → Allowed setup s step reply new → IsSound setup new → Ran setup past s → Ran setup (entry step reply ∷ past) new
 ran_step setup past s new step (Ok r) allowed sound so_far =
     let here : Allowed setup (state_after setup past) step (Ok r) new = subst (λ (x : State). Allowed setup x step (Ok r) new) so_far.state allowed in
-    record { run = ((here.0, refl), so_far.run); state = here.1; sound = (subst (IsSound setup.station.offset_minutes) here.1 sound, so_far.sound) }
+    record { run = ((here.0, refl), so_far.run); state = here.1; sound = (subst (IsSound setup) here.1 sound, so_far.sound) }
 ran_step setup past s new step (Err f) allowed sound so_far =
     let here : Allowed setup (state_after setup past) step (Err f) new = subst (λ (x : State). Allowed setup x step (Err f) new) so_far.state allowed in
-    record { run = ((here.0, refl), so_far.run); state = here.1; sound = (subst (IsSound setup.station.offset_minutes) here.1 sound, so_far.sound) }
+    record { run = ((here.0, refl), so_far.run); state = here.1; sound = (subst (IsSound setup) here.1 sound, so_far.sound) }
 
 history-push : (past : List Entry) (ss : List Step) (rs : List (Result Reply StepFault)) (s : Step) (r : Result Reply StepFault) → length ss ≡ length rs
     → history past (ss ++ s ∷ []) (rs ++ r ∷ []) ≡ entry s r ∷ history past ss rs
@@ -57,7 +77,7 @@ history-push past (x ∷ ss) (y ∷ rs) s r e = history-push (entry x y ∷ past
 
 -- one more step of a list of steps
 pub run_on : (setup : Setup) (ss : List Step) (rs more : List (Result Reply StepFault)) (i : ℕ) (step : Step) (reply : Result Reply StepFault) (s new : State)
-    → Allowed setup s step reply new → IsSound setup.station.offset_minutes new → i < length ss → step ≡ get_or ss i step → length rs ≡ i → more ≡ rs ++ reply ∷ []
+    → Allowed setup s step reply new → IsSound setup new → i < length ss → step ≡ get_or ss i step → length rs ≡ i → more ≡ rs ++ reply ∷ []
     → Ran setup (history [] (take i ss) rs) s → Ran setup (history [] (take (i + 1) ss) more) new
 run_on setup ss rs more i step reply s new allowed sound within is len push so_far =
     let front : List Step = take i ss in

@@ -1,12 +1,10 @@
 -- The state of the core, as its contracts see it: a value for each part.
 use Rattle.std.specs.Prelude.{ℕ, List, map, nat_lt, replicate, if◌then◌else◌}
 use Rattle.gw_model.specs.declared.observation.Observation.{Observation}
-use Rattle.gw_entries.specs.Setup.{StationSetup}
 use Rattle.gw_map.specs.Settings.{Setup}
 use Rattle.gw_picture.specs.Opening.{opening}
 use Rattle.dnp_master.specs.Master.{Master, master_down}
-use Rattle.iec_window.specs.declared.limits.Limits.{Limits}
-use Rattle.gw_station.specs.Client.{Client, client_down}
+use Rattle.gw_station.specs.Client.{Client, client_down, limits_of}
 
 -- what is counted in 64 bits: the steps without a fault, the news, and the sessions of all clients
 pub record Counts : Type 0 where
@@ -26,11 +24,6 @@ pub record State : Type 0 where
 -- how many clients there can be
 abbrev pub client_limit : ℕ
 client_limit = 8
-
--- the parameters of a client's connection
-abbrev pub limits_of : StationSetup → Limits
-limits_of station =
-    record { k = station.k; w = station.w; t1 = station.t1_ms; t2 = station.t2_ms; t3 = station.t3_ms }
 
 -- a smaller moment counts as the largest so far
 abbrev pub later : ℕ → ℕ → ℕ

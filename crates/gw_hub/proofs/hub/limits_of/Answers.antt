@@ -1,5 +1,5 @@
 use Rattle.std.proofs.Common.{ap}
-use Rattle.gw_steps.specs.State.{limits_of}
+use Rattle.gw_station.specs.Client.{limits_of}
 use Rattle.gw_hub.proofs.hub.limits_of.Goals as goal
 
 pub returns : goal.returns

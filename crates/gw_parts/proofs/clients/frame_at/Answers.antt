@@ -8,7 +8,8 @@ use Rattle.gw_station.specs.Sound.{IsSoundClient}
 use Rattle.gw_steps.specs.Steps.{client_after_frame, wanted_by}
 use Rattle.gw_parts.specs.Clients.{CanCount, reply_to_apdu}
 use Rattle.gw_parts.proofs.Places.{changed_at, changed_past}
-use Rattle.gw_parts.proofs.Sounds.{sound_more, sound_set}
+use Rattle.gw_station.proofs.Sounds.{all_later}
+use Rattle.gw_parts.proofs.Sounds.{sound_set}
 use Rattle.gw_parts.proofs.Walks.{one_found, one_of, past_none}
 use Rattle.gw_parts.proofs.clients.frame_at.Goals as goal
 
@@ -55,13 +56,13 @@ returns-then-position-stations-clause-same c =
     (λ one. ap (set clients n) one ∙ set-get_or clients n c.index-stations-position.result) c.frame_one.ensures.same
 
 pub returns-then-position-stations-clause-sound : goal.returns-then-position-stations-clause-sound
-returns-then-position-stations-clause-sound c = λ offset m i shown all.
+returns-then-position-stations-clause-sound c = λ any m i shown all.
     let clients = c.args.stations.now in
     let n = c.from-position.result in
     let within : n < length clients = omega (arith, c.if-position-stations.true) in
-    let one = one_of (IsSoundClient offset m i) n clients c.index-stations-position.result within all in
-    IfOk-weaker c.frame_one.result _ _ (λ _ sound. sound_set offset m i n clients c.frame_one.new.station sound all)
-    (c.frame_one.ensures.sound offset m i shown one)
+    let one = one_of (IsSoundClient any.station m i) n clients c.index-stations-position.result within all in
+    IfOk-weaker c.frame_one.result _ _ (λ _ sound. sound_set any m i n clients c.frame_one.new.station sound all)
+    (c.frame_one.ensures.sound any m i shown one)
 
 pub returns-else-position-stations-clause-reply : goal.returns-else-position-stations-clause-reply
 returns-else-position-stations-clause-reply c =
@@ -82,5 +83,5 @@ pub returns-else-position-stations-clause-same : goal.returns-else-position-stat
 returns-else-position-stations-clause-same c = tt
 
 pub returns-else-position-stations-clause-sound : goal.returns-else-position-stations-clause-sound
-returns-else-position-stations-clause-sound c = λ offset m i shown all.
-    sound_more offset m (m + 1) i i c.args.stations.now (omega arith) (omega arith) all
+returns-else-position-stations-clause-sound c = λ any m i shown all.
+    all_later any.station m (m + 1) i i c.args.stations.now (omega arith) (omega arith) all

@@ -3,4 +3,11 @@ use Rattle.gw_hub.proofs.Taking.{sound_change_here}
 use Rattle.gw_hub.proofs.hub.Hub.client_up.Goals as goal
 
 pub invariant_of-self : goal.invariant_of-self
-invariant_of-self c = sound_change_here _ _ _ c.args.client _ _ _ c.come_up.ensures (sound_after_up _ _ _ c.self-2.inside.moment) c.self-2.invariant
+invariant_of-self c =
+    let before = c.self-2.invariant in
+    record {
+      picture = before.picture;
+      rows = before.rows;
+      masters = before.masters;
+      clients = sound_change_here _ _ _ c.args.client _ _ _ c.come_up.ensures (sound_after_up _ _ _ c.self-2.inside.moment) before.clients;
+    }

@@ -1,6 +1,6 @@
 use Rattle.std.proofs.Common.{ap, arith, rules}
 use Rattle.gw_steps.specs.State.{Counts}
-use Rattle.gw_parts.proofs.Sounds.{sound_more}
+use Rattle.gw_station.proofs.Sounds.{all_later}
 use Rattle.gw_hub.proofs.Taking.{can_rise_step}
 use Rattle.gw_hub.proofs.hub.Hub.count.Goals as goal
 
@@ -9,5 +9,5 @@ returns-clause-counted c = record {
   before = c.self.inside.counts.steps;
   counted = ap (λ (counts : Counts). counts.steps) c.raise.ensures;
   few = can_rise_step c.self.inside.counts 0 0 (search (rules, c.can_rise.ensures, c.if-not-can_rise.false));
-  sound = sound_more _ _ _ _ _ _ (omega arith) (omega (arith, ap (λ (counts : Counts). counts.news) c.raise.ensures)) c.self.invariant;
+  sound = all_later _ _ _ _ _ _ (omega arith) (omega (arith, ap (λ (counts : Counts). counts.news) c.raise.ensures)) c.self.invariant.clients;
 }

@@ -18,7 +18,13 @@ pump-requires c = let counted = subst IsCounted (sym c.self.view_is) c.in_ok-cou
 pub invariant_of-self : goal.invariant_of-self
 invariant_of-self c =
     let counted = subst IsCounted (sym c.self.view_is) c.in_ok-count.ensures.counted in
-    sound_change _ counted.before _ _ _ c.args.client _ _ _ c.pump.ensures.clients counted.counted (omega arith) (sound_after_pump _ _ _ c.self.inside.moment) counted.sound
+    let before = c.self.invariant in
+    record {
+      picture = before.picture;
+      rows = before.rows;
+      masters = before.masters;
+      clients = sound_change _ counted.before _ _ _ c.args.client _ _ _ c.pump.ensures.clients counted.counted (omega arith) (sound_after_pump _ _ _ c.self.inside.moment) counted.sound;
+    }
 
 same_reply : (c : ℕ) (a b : Setup) (m l : ℕ) (ks js : List Client) → a ≡ b → m ≡ l → ks ≡ js
     → reply_to_pump a m (slice_get ks c) ≡ reply_to_pump b l (slice_get js c)

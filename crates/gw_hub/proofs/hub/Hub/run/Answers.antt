@@ -52,3 +52,7 @@ pub returns-clause-meant : goal.returns-clause-meant
 returns-clause-meant c =
     history_meant [] c.args.steps.items c.in_ok-replies.replies.items tt
     (subst (AllByRecursion IsMeant) c.deref.ensures.value c.in_ok-replies.ensures.meant)
+
+pub returns-clause-sound : goal.returns-clause-sound
+returns-clause-sound c =
+    (run_of _ _ _ c.args.steps.items c.in_ok-replies.replies.items c.in_ok-hub.ensures.setup c.deref.ensures.value c.in_ok-replies.ensures.run).sound

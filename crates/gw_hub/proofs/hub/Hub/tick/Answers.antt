@@ -1,4 +1,5 @@
-use Rattle.std.proofs.Common.{◌≡◌, ℕ, List, Ok, refl, sym, ap, ◌∙◌, map, rules}
+use Rattle.std.proofs.Common.{◌≡◌, ℕ, List, Ok, length, refl, sym, ap, ◌∙◌, map, rules}
+use Rattle.std.proofs.lemmas.List.{length-map}
 use Rattle.gw_station.specs.Client.{Client, is_timed_out}
 use Rattle.gw_station.proofs.Sounds.{sound_after_tick}
 use Rattle.gw_steps.specs.declared.step.Reply.TheVariants.{Ticked}
@@ -9,7 +10,14 @@ use Rattle.gw_hub.proofs.Taking.{sound_changed}
 use Rattle.gw_hub.proofs.hub.Hub.tick.Goals as goal
 
 pub invariant_of-self : goal.invariant_of-self
-invariant_of-self c = sound_changed _ _ _ _ _ _ _ c.tick-closed.ensures.clients (sound_after_tick _ _ _ c.self.inside.moment) c.self.invariant
+invariant_of-self c =
+    let before = c.self.invariant in
+    record {
+      picture = before.picture;
+      rows = before.rows;
+      masters = ap length c.tick.ensures ∙ (length-map _ _ ∙ before.masters);
+      clients = sound_changed _ _ _ _ _ _ _ c.tick-closed.ensures.clients (sound_after_tick _ _ _ c.self.inside.moment) before.clients;
+    }
 
 same_bits : (m l : ℕ) (ks js : List Client) → m ≡ l → ks ≡ js → bits_of (map (is_timed_out m) ks) ≡ bits_of (map (is_timed_out l) js)
 same_bits m l ks js em ek = rw (em, ek) refl

@@ -36,7 +36,7 @@ returns-clause-same c =
     on_err_weaker c.frame_at.result (λ e. back ∙ (e ∙ (c.deref_mut.ensures.value ∙ c.self.view_is))) c.frame_at.ensures.same
 
 pub returns-clause-sound : goal.returns-clause-sound
-returns-clause-sound c = λ offset n i shown all.
+returns-clause-sound c = λ any n i shown all.
     let back = take_at c.frame_at.new.stations _ c.self.inside.stations.len (omega (arith, c.frame_at.auto.stations, c.deref_mut.ensures.len)) in
-    let before = subst (AllByRecursion (IsSoundClient offset n i)) (sym (c.deref_mut.ensures.value ∙ c.self.view_is)) all in
-    on_ok_weaker c.frame_at.result (λ sound. subst (AllByRecursion (IsSoundClient offset (n + 1) i)) (sym back) sound) (c.frame_at.ensures.sound offset n i shown before)
+    let before = subst (AllByRecursion (IsSoundClient any.station n i)) (sym (c.deref_mut.ensures.value ∙ c.self.view_is)) all in
+    on_ok_weaker c.frame_at.result (λ sound. subst (AllByRecursion (IsSoundClient any.station (n + 1) i)) (sym back) sound) (c.frame_at.ensures.sound any n i shown before)

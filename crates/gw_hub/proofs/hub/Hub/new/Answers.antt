@@ -1,0 +1,14 @@
+use Rattle.std.proofs.Common.{◌≡◌, rules}
+use Rattle.gw_steps.specs.State.{at_first}
+use Rattle.gw_steps.proofs.Running.{sound_first}
+use Rattle.gw_hub.proofs.hub.Hub.new.Goals as goal
+
+pub invariant_of-result : goal.invariant_of-result
+invariant_of-result c =
+    let settings = c.args.settings in
+    let outstations : c.in_ok-outstations.outstations ≡ (at_first settings).outstations = search rules in
+    let picture : c.in_ok-picture.picture ≡ (at_first settings).picture = search rules in
+    let clients : c.in_ok-clients.clients ≡ (at_first settings).clients = search rules in
+    let common : c.in_ok-common.common ≡ settings = search rules in
+    let counts : c.new-counts.result ≡ (at_first settings).counts = search rules in
+    rw (outstations, picture, clients, counts, common) (sound_first settings)

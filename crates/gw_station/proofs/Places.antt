@@ -1,0 +1,106 @@
+-- Confirmations and answers find places: what finds none closes the connection.
+use Rattle.std.proofs.Common.{◌≡◌, ℕ, ◌+◌, ◌≤◌, ◌==◌, Bool, true, false, List, [], ◌∷◌, ◌++◌, length, Option, Some, None, refl, arith, inl, inr}
+use Rattle.std.specs.Prelude.{if◌then◌else◌, option_map, IfSome}
+use Rattle.std.proofs.lemmas.List.{length-append}
+use Rattle.std.proofs.lemmas.Bool.{cases_Bool, leb-false, ltb-false}
+use Rattle.gw_model.specs.First.{when, first_of}
+use Rattle.gw_model.specs.declared.observation.Observation.{Observation}
+use Rattle.gw_map.specs.Settings.{Setup}
+use Rattle.iec_apci.specs.declared.apdu.Asdu.{Asdu}
+use Rattle.iec_apci.specs.declared.apdu.Signal.{Signal}
+use Rattle.iec_apci.specs.declared.apdu.Signal.TheVariants.{StartAct, StartCon, StopAct, StopCon, TestAct, TestCon}
+use Rattle.iec_apci.specs.Apdu.{confirmation_of}
+use Rattle.iec_command.specs.declared.command.Command.{Command}
+use Rattle.iec_command.specs.declared.command.Action.{Action}
+use Rattle.iec_command.specs.declared.command.Action.TheVariants as actions
+use Rattle.gw_judge.specs.Judging.{is_execute}
+use Rattle.gw_judge.specs.declared.judging.Judged.{Judged}
+use Rattle.gw_judge.specs.declared.judging.Judged.TheVariants.{Malformed, Refuse, Accepted}
+use Rattle.gw_answers.specs.declared.answer.Answer.{Answer}
+use Rattle.gw_answers.specs.declared.answer.Answer.TheVariants.{Shown}
+use Rattle.gw_answers.specs.Interrogations.{is_accepted_act}
+use Rattle.gw_answers.specs.Answers.{places_for, refused_act, shown_at, answered_action, answered}
+use Rattle.gw_station.specs.declared.event.Why.TheVariants.{Sequence, NotStarted, Malformed as WrongForm, Flooded}
+use Rattle.gw_station.specs.Client.{Client}
+use Rattle.gw_station.specs.Answers.{is_pending, answers_with, client_judging}
+use Rattle.gw_station.specs.Frames.{floods, closes_judged, confirmations_with}
+
+-- ---- nothing closes
+
+-- a control function that is taken finds a place
+pub not_flooded : (b : Bool) → first_of (when b Flooded ∷ []) ≡ None → b ≡ false
+not_flooded true e = absurd cc
+not_flooded false e = refl
+
+last_holds_not : (a b d e : Bool) → first_of (when a NotStarted ∷ when b Sequence ∷ when d WrongForm ∷ when e Flooded ∷ []) ≡ None → e ≡ false
+last_holds_not true b d e none = absurd cc
+last_holds_not false true d e none = absurd cc
+last_holds_not false false true e none = absurd cc
+last_holds_not false false false e none = not_flooded e none
+
+-- ---- confirmations
+
+one_more_signal : (waiting : List Signal) (signal : Signal) → length waiting ≤ 31 → length (waiting ++ signal ∷ []) ≤ 32
+one_more_signal waiting signal few = omega (arith, length-append waiting (signal ∷ []))
+
+pub confirmations_few : (signal : Signal) (c : Client) → floods signal c ≡ false → length c.confirmations ≤ 32
+    → length (confirmations_with (confirmation_of signal) c.confirmations) ≤ 32
+confirmations_few StartAct c fits few = one_more_signal c.confirmations StartCon (omega (arith, leb-false 32 (length c.confirmations) fits))
+confirmations_few StopAct c fits few = one_more_signal c.confirmations StopCon (omega (arith, leb-false 32 (length c.confirmations) fits))
+confirmations_few TestAct c fits few = one_more_signal c.confirmations TestCon (omega (arith, leb-false 32 (length c.confirmations) fits))
+confirmations_few StartCon c fits few = few
+confirmations_few StopCon c fits few = few
+confirmations_few TestCon c fits few = few
+
+-- ---- answers
+
+at_least_one : (two : Bool) → 1 ≤ (if two then 2 else 1)
+at_least_one true = omega arith
+at_least_one false = omega arith
+
+-- an interrogation that isn't accepted, and so gets an answer
+refused_needs : (pending : Bool) (c : Command) → IfSome (refused_act pending c) (λ _. 1 ≤ places_for pending (Accepted c))
+refused_needs pending c = elim (cases_Bool (is_accepted_act pending c)) [
+  | inl accepted ↦ rw accepted tt
+  | inr refused ↦ rw refused (at_least_one (is_execute c))
+]
+
+-- a read is no interrogation
+read_is_none : (pending : Bool) (c : Command) → c.action ≡ actions.Read → is_accepted_act pending c ≡ false
+read_is_none pending c e = elim (cases_Bool (c.cause == 6)) [
+  | inl is ↦ rw (is, e) refl
+  | inr isnt ↦ rw isnt refl
+]
+
+read_needs : (pending : Bool) (c : Command) (shown : Option Observation) → c.action ≡ actions.Read
+    → IfSome (option_map (λ x. Shown x c.originator) shown) (λ _. 1 ≤ places_for pending (Accepted c))
+read_needs pending c None e = tt
+read_needs pending c (Some x) e = rw (read_is_none pending c e) (at_least_one (is_execute c))
+
+action_needs : (setup : Setup) (picture : List Observation) (pending : Bool) (c : Command) (action : Action) → c.action ≡ action
+    → IfSome (answered_action setup picture pending c action) (λ _. 1 ≤ places_for pending (Accepted c))
+action_needs setup picture pending c (actions.Interrogation qualifier) e = refused_needs pending c
+action_needs setup picture pending c (actions.CounterInterrogation qualifier) e = refused_needs pending c
+action_needs setup picture pending c actions.Read e = read_needs pending c (shown_at setup picture c.address) e
+action_needs setup picture pending c (actions.Single x) e = tt
+action_needs setup picture pending c (actions.Double x) e = tt
+action_needs setup picture pending c (actions.Setpoint x) e = tt
+
+-- what gets an answer needs a place
+answered_needs : (setup : Setup) (picture : List Observation) (pending : Bool) (asdu : Asdu) (j : Judged)
+    → IfSome (answered setup picture pending asdu j) (λ _. 1 ≤ places_for pending j)
+answered_needs setup picture pending asdu Malformed = tt
+answered_needs setup picture pending asdu (Refuse cause execute) = at_least_one execute
+answered_needs setup picture pending asdu (Accepted c) = action_needs setup picture pending c c.action refl
+
+answers_within : (answer : Option Answer) (waiting : List Answer) (n : ℕ) → IfSome answer (λ _. 1 ≤ n) → length (answers_with answer waiting) ≤ length waiting + n
+answers_within None waiting n needs = omega arith
+answers_within (Some answer) waiting n needs = omega (arith, needs, length-append waiting (answer ∷ []))
+
+-- an ASDU for whose answer there are places
+pub answers_few : (setup : Setup) (picture : List Observation) (ns nr : ℕ) (asdu : Asdu) (j : Judged) (c : Client) → first_of (closes_judged ns nr j c) ≡ None
+    → length (client_judging setup picture asdu j c).answers ≤ 32
+answers_few setup picture ns nr asdu j c taken =
+    let fits : length c.answers + places_for (is_pending c.rest) j ≤ 32 = ltb-false 32 (length c.answers + places_for (is_pending c.rest) j) (last_holds_not _ _ _ _ taken) in
+    let answer = answered setup picture (is_pending c.rest) asdu j in
+    omega (arith, fits, answers_within answer c.answers _ (answered_needs setup picture (is_pending c.rest) asdu j))
