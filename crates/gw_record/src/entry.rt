@@ -1,0 +1,14 @@
+//! A call that was recorded.
+
+use gw_hub::{Reply, Step, StepFault};
+
+/// A step that an actor asked for, and what it was answered.
+#[derive(Debug, Drop)]
+pub struct Entry {
+    /// Who asked, by its position.
+    pub actor: usize,
+    /// The how-manieth call of this actor it was, from 1.
+    pub ordinal: u64,
+    pub step: Step,
+    pub reply: Result<Reply, StepFault>,
+}

@@ -1,0 +1,10 @@
+//! The recorder of the core: the steps that were made on a hub, each with its actor and its reply, since a base that is
+//! the hub as it was before them. `specs/Recorded.antt` says what such a recording means.
+#![tactic(auto)]
+
+mod entry;
+mod recorder;
+mod tape;
+
+pub use entry::Entry;
+pub use recorder::{Dump, NoRoom, Recorder};

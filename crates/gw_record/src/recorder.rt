@@ -1,0 +1,136 @@
+//! The recorder.
+ghost use Rattle.std.specs.Prelude.{◌≡◌, ◌+◌, ◌<◌, ◌^◌, ◌↔◌, Some, true, false, IfOk, IfSome, IsSome, OnErr, OnOk, length, option_map, replicate, slice_index};
+ghost use Rattle.gw_record.specs.Recording.{is_tape_full, noted, recording_off, rolled, tape_on, tape_with, HasRoom};
+
+use crate::entry::Entry;
+use crate::tape::Tape;
+use gw_hub::{Hub, Reply, Step, StepFault};
+use gw_model::Memory;
+use std::alloc::Global;
+use std::marker::Model;
+
+/// Counts the calls of each actor, and keeps the last ones on a tape: a hub as it was, and the calls since. Once memory
+/// was refused for a new base it is off for good, and counts alone.
+#[derive(Debug, Drop)]
+pub struct Recorder {
+    counts: Vec<u64>,
+    tape: Option<Tape>,
+}
+
+impl Model for Recorder {
+    ghost use Rattle.gw_record.specs.Recording.{Recording, IsTapedIfOn};
+
+    ghost Value = { Recording };
+
+    ghost view = { λ r. record { counts = r.counts.items; tape = r.tape } };
+
+    ghost invariant = { λ r. IsTapedIfOn r.counts.items r.tape };
+}
+
+/// Memory was refused for a new base.
+#[derive(Debug, Drop)]
+pub struct NoRoom {
+    cause: Memory,
+}
+
+/// What a recorder keeps: a hub as it was, how many calls each actor had made then, and the calls since, the oldest first.
+#[derive(Clone, Copy)]
+pub struct Dump<'a> {
+    pub base: &'a Hub,
+    pub counts: &'a [u64],
+    pub entries: &'a [Entry],
+}
+
+impl Recorder {
+    /// A recorder that is on, for so many actors, of which none has made a call. It keeps `capacity` calls at most.
+    pub fn new(alloc: Global, hub: &Hub, actors: usize, capacity: usize) -> Result<Recorder, Memory>
+        requires { 0 < capacity }
+        ensures counts { IfOk result (λ recorder. recorder.counts ≡ replicate actors 0) }
+        ensures tape { IfOk result (λ recorder. recorder.tape ≡ Some (tape_on hub.now (replicate actors 0) capacity)) }
+    {
+        let counts = vec![in alloc; 0; actors]?;
+        let tape = Tape::new(alloc, hub, counts.as_slice(), capacity)?;
+        Ok(Recorder {
+            counts,
+            tape: Some(tape),
+        })
+    }
+
+    /// Whether no further call can be kept until it rolls or goes off.
+    pub fn is_full(&self) -> bool
+        ensures { result ≡ is_tape_full self.now.tape }
+    {
+        match &self.tape {
+            Some(tape) => tape.is_full(),
+            None => false,
+        }
+    }
+
+    /// Notes a call of an actor, and its reply. It takes no memory.
+    pub fn note(&mut self, actor: usize, step: Step, reply: Result<Reply, StepFault>)
+        requires room { is_tape_full self.old.tape ≡ false }
+        requires actor { actor < length self.old.counts }
+        requires rises { slice_index self.old.counts actor + 1 < 2 ^ 64 }
+        ensures { self.new ≡ noted self.old actor step reply }
+    {
+        step.attest();
+        let ordinal = self.counts[actor] + 1;
+        self.counts[actor] = ordinal;
+        keep(
+            &mut self.tape,
+            Entry {
+                actor,
+                ordinal,
+                step,
+                reply,
+            },
+        );
+    }
+
+    /// Begins anew at the hub as it is now, and forgets the calls. Where memory is refused nothing changes.
+    pub fn roll(&mut self, hub: &Hub) -> Result<(), NoRoom>
+        requires { is_tape_full self.old.tape ≡ true }
+        ensures ok { OnOk result (self.new ≡ rolled self.old hub.now) }
+        ensures room { OnOk result (is_tape_full self.new.tape ≡ false) }
+        ensures err { OnErr result (self.new ≡ self.old) }
+    {
+        if let Some(tape) = &mut self.tape {
+            if let Err(cause) = tape.roll(hub, self.counts.as_slice()) {
+                return Err(NoRoom { cause });
+            }
+        }
+        Ok(())
+    }
+
+    /// Keeps no calls any more, for good.
+    pub fn off(&mut self, refused: NoRoom)
+        ensures { self.new ≡ recording_off self.old }
+    {
+        let NoRoom { cause: _ } = refused;
+        self.tape = None;
+    }
+
+    /// What it keeps; none where it is off.
+    pub fn dump(&self) -> Option<Dump<'_>>
+        ensures on { IsSome result ↔ IsSome self.now.tape }
+        ensures kept { IfSome result (λ d. IfSome self.now.tape (λ t.
+            (d.base.now ≡ t.base) × (d.counts.now ≡ t.before) × (d.entries.now ≡ t.entries))) }
+    {
+        let tape = self.tape.as_ref()?;
+        Some(Dump {
+            base: tape.base(),
+            counts: tape.before(),
+            entries: tape.entries(),
+        })
+    }
+}
+
+/// Keeps a call on a tape, if there is one.
+fn keep(tape: &mut Option<Tape>, entry: Entry)
+    requires { HasRoom tape.old }
+    ensures { tape.new ≡ option_map (tape_with entry) tape.old }
+{
+    if let Some(tape) = tape {
+        tape.push(entry);
+    }
+}

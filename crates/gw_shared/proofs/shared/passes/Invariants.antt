@@ -1,0 +1,12 @@
+-- The actors so far have their passes, and the share has the parts of the others.
+use Rattle.std.proofs.Common.{◌≡◌, ◌+◌, map}
+use Rattle.std.specs.List.{range_with_len}
+use Rattle.gw_shared.specs.Turn.{unused}
+use Rattle.gw_shared.proofs.shared.passes.Given as goal
+
+abbrev pub invariant-loop-actor : goal.invariant-loop-actor
+invariant-loop-actor g l = record {
+  parts : l.share.parts + l.actor ≡ l.actors;
+  amount : l.share.amount ≡ 0;
+  cut : l.passes.items ≡ map unused (range_with_len 0 l.actor);
+}

@@ -1,0 +1,90 @@
+-- What a step under the lock does to the core, and to the pass of whoever asked for it.
+use Rattle.std.specs.Prelude.{◌≡◌, ℕ, ◌+◌, ◌-◌, ◌^◌, ◌<◌, ◌⊎◌, Bool, true, false, Option, Result, Err}
+use Rattle.gw_steps.specs.declared.step.Step.{Step}
+use Rattle.gw_steps.specs.declared.step.Reply.{Reply}
+use Rattle.gw_steps.specs.declared.step.StepFault.{StepFault}
+use Rattle.gw_steps.specs.declared.step.StepFault.TheVariants.{Spent}
+use Rattle.gw_steps.specs.State.{State}
+use Rattle.gw_steps.specs.Steps.{Allowed}
+use Rattle.gw_steps.specs.Sound.{IsSound}
+use Rattle.gw_map.specs.Settings.{Setup}
+use Rattle.gw_hub.specs.Hub.{Hub}
+use Rattle.gw_record.specs.Recording.{Recording, is_tape_full, noted, recording_off, rolled}
+
+-- the hub under the lock, what is recorded of it, and how many calls were made
+pub record Core : Type 0 where
+  pub hub : Hub
+  pub recording : Recording
+  pub made : ℕ
+
+-- who makes calls, and how many it has made
+pub record Pass : Type 0 where
+  pub actor : ℕ
+  pub made : ℕ
+
+-- the pass of an actor that has made no call
+abbrev pub unused : ℕ → Pass
+unused actor = record { actor = actor; made = 0 }
+
+-- the number of the last call that can be counted
+abbrev pub last_call : ℕ
+last_call = 2 ^ 64 - 1
+
+-- before a call a full recorder begins anew at the hub, or goes off; any other stays as it is
+abbrev pub IsMadeReady : Hub → Recording → Recording → Type 0
+IsMadeReady hub old ready =
+    (is_tape_full old.tape ≡ false → ready ≡ old)
+    × (is_tape_full old.tape ≡ true → (ready ≡ rolled old hub) ⊎ (ready ≡ recording_off old))
+
+-- the call was noted, with its reply, on a recorder that was made ready for it
+pub record IsNoted (hub : Hub) (old new : Recording) (actor : ℕ) (step : Step) (reply : Result Reply StepFault) : Type 0 where
+  pub ready : Recording
+  pub made_ready : IsMadeReady hub old ready
+  pub noted_so : new ≡ noted ready actor step reply
+
+-- one call: the step that was asked was made on a sound state, and answered as the step relation allows; call, reply and actor were
+-- noted; the call was counted under the lock and on the pass; its number is the count, which no earlier call of the pass
+-- had
+pub record IsTurn (old new : Core) (mine after : Pass) (step : Step) (number : ℕ) (reply : Result Reply StepFault) : Type 0 where
+  pub sound : IsSound old.hub.setup old.hub.state
+  pub allowed : Allowed old.hub.setup old.hub.state step reply new.hub.state
+  pub setup : new.hub.setup ≡ old.hub.setup
+  pub recorded : IsNoted old.hub old.recording new.recording mine.actor step reply
+  pub counted : new.made ≡ old.made + 1
+  pub number_is : number ≡ new.made
+  pub above : mine.made < number
+  pub pass : after ≡ record mine { made = mine.made + 1 }
+
+-- no further call can be counted: none was made
+pub record IsLast (old new : Core) (mine after : Pass) (number : ℕ) (reply : Result Reply StepFault) : Type 0 where
+  pub same : new ≡ old
+  pub pass : after ≡ mine
+  pub number_is : number ≡ last_call
+  pub refused : reply ≡ Err Spent
+
+-- a call on a core: where its count can rise it is made, otherwise refused
+abbrev pub Steps : Core → Core → Pass → Pass → Step → ℕ × Result Reply StepFault → Type 0
+Steps old new mine after step answer =
+    (old.made < last_call → IsTurn old new mine after step answer.0 answer.1)
+    × (old.made ≡ last_call → IsLast old new mine after answer.0 answer.1)
+
+-- what a caller of the lock knows of a call that was made: in some sound state the step was answered so, its number is
+-- above its earlier calls, and it was counted on its pass
+pub record IsAnswered (mine after : Pass) (step : Step) (number : ℕ) (reply : Result Reply StepFault) : Type 0 where
+  pub setup : Setup
+  pub state : State
+  pub sound : IsSound setup state
+  pub next : State
+  pub allowed : Allowed setup state step reply next
+  pub above : mine.made < number
+  pub pass : after ≡ record mine { made = mine.made + 1 }
+
+-- the call was refused, since no further one can be counted
+pub record IsRefused (mine after : Pass) (number : ℕ) (reply : Result Reply StepFault) : Type 0 where
+  pub pass : after ≡ mine
+  pub number_is : number ≡ last_call
+  pub refused : reply ≡ Err Spent
+
+abbrev pub Answers : Pass → Pass → Step → ℕ × Result Reply StepFault → Type 0
+Answers mine after step answer =
+    IsAnswered mine after step answer.0 answer.1 ⊎ IsRefused mine after answer.0 answer.1

@@ -1,0 +1,66 @@
+//! The end: all passes come back.
+ghost use Rattle.std.specs.Prelude.{◌≡◌, ◌<◌, ◌↔◌, IfErr, IfOk, IsOk, vec_len};
+ghost use Rattle.gw_shared.specs.Totals.{total_of};
+
+use crate::pass::Pass;
+use crate::shared::Shared;
+use std::sync::Wait;
+use std::sync::ledger::{Ledger, Share};
+
+/// How many calls were made.
+#[derive(Clone, Copy, Debug, PartialEq, Eq)]
+pub struct Closed {
+    pub total: u64,
+}
+
+/// Why a shared core isn't closed.
+#[derive(Clone, Copy, Debug, PartialEq, Eq)]
+pub enum CloseFault {
+    /// Not all passes were handed over.
+    Missing = 1,
+}
+
+impl<L: Ledger> Shared<L> {
+    /// Ends the counting, where all passes of this core are handed over: gives how many calls were made, which is what
+    /// they have counted together. Otherwise it gives them back.
+    pub fn close<R: Wait>(
+        &self,
+        rt: &R,
+        passes: Vec<Pass<L>>,
+    ) -> Result<Closed, (CloseFault, Vec<Pass<L>>)>
+        ensures closes { IsOk result ↔ (vec_len passes ≡ L.parts) }
+        ensures total { IfOk result (λ closed. closed.total ≡ total_of passes.items) }
+        ensures err { IfErr result (λ e. (e.0 ≡ CloseFault.Missing) × (e.1 ≡ passes)) }
+    {
+        if passes.len() != self.actors() {
+            return Err((CloseFault::Missing, passes));
+        }
+        let mut all = joined(passes);
+        Ok(Closed {
+            total: self.total(rt, &mut all),
+        })
+    }
+}
+
+/// The shares of passes, joined.
+fn joined<L: Ledger>(passes: Vec<Pass<L>>) -> Share<L>
+    requires { 0 < vec_len passes }
+    ensures parts { result.parts ≡ vec_len passes }
+    ensures amount { result.amount ≡ total_of passes.items }
+{
+    let mut passes = passes;
+    let mut all = share_of(passes.pop().unwrap());
+    while let Some(pass) = passes.pop() {
+        all.merge(share_of(pass));
+    }
+    all
+}
+
+/// The share of a pass.
+fn share_of<L: Ledger>(pass: Pass<L>) -> Share<L>
+    ensures parts { result.parts ≡ 1 }
+    ensures amount { result.amount ≡ pass.made }
+{
+    let Pass { share, actor: _ } = pass;
+    share
+}

@@ -1,0 +1,149 @@
+//! What lies under the lock.
+ghost use Rattle.std.specs.Prelude.{◌≡◌, ◌+◌, ◌<◌, ◌≤◌, false, IfOk};
+ghost use Rattle.gw_steps.specs.Sound.{IsSound};
+ghost use Rattle.gw_steps.specs.Steps.{Allowed};
+ghost use Rattle.gw_record.specs.Recording.{is_tape_full, noted};
+ghost use Rattle.gw_shared.specs.Turn.{last_call, Answers, IsMadeReady, Steps};
+
+use crate::pass::Pass;
+use gw_hub::{Hub, Reply, Step, StepFault};
+use gw_model::Memory;
+use gw_record::Recorder;
+use std::alloc::Global;
+use std::marker::Model;
+use std::sync::ledger::{Book, Ledger, Share};
+
+/// A hub with its recorder, the count of calls, and the book of all passes' counts.
+#[derive(Drop)]
+pub struct Core<L: Ledger> {
+    hub: Hub,
+    recorder: Recorder,
+    made: u64,
+    book: Book<L>,
+}
+
+impl<L: Ledger> Model for Core<L> {
+    ghost use Rattle.std.specs.Prelude.{◌≡◌, length, sum};
+    ghost use Rattle.gw_record.specs.Recording.{Replays};
+    ghost use Rattle.gw_shared.specs.Turn.{Core as Seen};
+
+    ghost Value = { Seen };
+
+    ghost view = { λ c. record { hub = c.hub; recording = c.recorder; made = c.made } };
+
+    // The hub is what the recorder's tape replays to; all calls are counted in the book, and by actor.
+    ghost invariant = { λ c. (c.made ≡ c.book.total) × (length c.recorder.counts ≡ L.parts)
+        × (sum c.recorder.counts ≡ c.made) × Replays c.recorder.tape c.hub };
+}
+
+impl<L: Ledger> Core<L> {
+    /// A core on which no call was made.
+    pub fn new(
+        alloc: Global,
+        hub: Hub,
+        book: Book<L>,
+        actors: usize,
+        capacity: usize,
+    ) -> Result<Core<L>, Memory>
+        requires fresh { book.total ≡ 0 }
+        requires actors { actors ≡ L.parts }
+        requires capacity { 0 < capacity }
+        ensures hub { IfOk result (λ core. core.hub ≡ hub) }
+        ensures made { IfOk result (λ core. core.made ≡ 0) }
+    {
+        let recorder = Recorder::new(alloc, &hub, actors, capacity)?;
+        Ok(Core {
+            hub,
+            recorder,
+            made: 0,
+            book,
+        })
+    }
+
+    /// Makes a call: the step is made on the hub and noted with its reply. Gives the call's number, counted over all
+    /// passes from 1. Where no further call can be counted nothing is made, and the answer is `Spent`.
+    pub fn step(&mut self, pass: &mut Pass<L>, step: Step) -> (u64, Result<Reply, StepFault>)
+        ensures step { Steps self.old self.new pass.old pass.new step result }
+        ensures counted { self.old.made ≤ last_call }
+    {
+        if self.made == u64::MAX {
+            return (u64::MAX, Err(StepFault::Spent));
+        }
+        self.make_ready();
+        self.make(pass, step)
+    }
+
+    /// The same call, of which the lock's taker knows what all calls keep.
+    pub(crate) fn answer(
+        &mut self,
+        pass: &mut Pass<L>,
+        step: Step,
+    ) -> (u64, Result<Reply, StepFault>)
+        ensures { Answers pass.old pass.new step result }
+    {
+        self.step(pass, step)
+    }
+
+    /// A full recorder begins anew at the hub as it is now, or goes off where there is no memory for that.
+    fn make_ready(&mut self)
+        ensures ready { IsMadeReady self.old.hub self.old.recording self.new.recording }
+        ensures room { is_tape_full self.new.recording.tape ≡ false }
+        ensures hub { self.new.hub ≡ self.old.hub }
+        ensures made { self.new.made ≡ self.old.made }
+    {
+        if self.recorder.is_full() {
+            if let Err(refused) = self.recorder.roll(&self.hub) {
+                self.recorder.off(refused);
+            }
+        }
+    }
+
+    /// Makes a call on a recorder that has room for it.
+    fn make(&mut self, pass: &mut Pass<L>, step: Step) -> (u64, Result<Reply, StepFault>)
+        requires counts { self.old.made < last_call }
+        requires room { is_tape_full self.old.recording.tape ≡ false }
+        ensures step { Allowed self.old.hub.setup self.old.hub.state step result.1 self.new.hub.state }
+        ensures sound { IsSound self.old.hub.setup self.old.hub.state }
+        ensures setup { self.new.hub.setup ≡ self.old.hub.setup }
+        ensures noted { self.new.recording ≡ noted self.old.recording pass.old.actor step result.1 }
+        ensures made { self.new.made ≡ self.old.made + 1 }
+        ensures number { result.0 ≡ self.new.made }
+        ensures above { pass.old.made < result.0 }
+        ensures pass { pass.new ≡ record pass.old { made = pass.old.made + 1 } }
+    {
+        self.book.audit(&mut pass.share);
+        self.book.add(&mut pass.share, 1);
+        let reply = self.hub.step(&step);
+        self.recorder.note(pass.actor, step, reply);
+        self.made += 1;
+        (self.made, reply)
+    }
+
+    /// Whether a client is up.
+    pub fn stands(&self, client: u8) -> bool {
+        self.hub.stands(client)
+    }
+
+    /// How many calls were made, for whoever has all passes' shares.
+    pub(crate) fn total(&mut self, all: &mut Share<L>) -> u64
+        requires { all.old.parts ≡ L.parts }
+        ensures made { result ≡ self.old.made }
+        ensures sum { result ≡ all.old.amount }
+    {
+        self.book.audit(all);
+        self.made
+    }
+
+    /// The hub and its recorder.
+    pub fn into_parts(self) -> (Hub, Recorder)
+        ensures { result ≡ record { 0 = self.hub; 1 = self.recording } }
+    {
+        let Core {
+            hub,
+            recorder,
+            made: _,
+            book: _,
+        } = self;
+        (hub, recorder)
+    }
+}

@@ -1,0 +1,209 @@
+//! The core behind its lock.
+ghost use Rattle.std.specs.Prelude.{◌≡◌, ◌<◌, IfOk, map, vec_len};
+ghost use Rattle.std.specs.List.{range_with_len};
+ghost use Rattle.gw_shared.specs.Turn.{unused, Answers};
+
+use crate::bell::Bell;
+use crate::locked::Core;
+use crate::pass::Pass;
+use crate::roused::Roused;
+use gw_hub::{Hub, Reply, Step, StepFault};
+use gw_model::Memory;
+use gw_record::Recorder;
+use std::alloc::Global;
+use std::marker::Model;
+use std::sync::atomic::{AtomicBool, Ordering};
+use std::sync::ledger::{Blank, Ledger, Share};
+use std::sync::{Mutex, Wait};
+
+/// How many outstations there can be.
+const OUTSTATIONS: u8 = 32;
+
+/// How many clients there can be.
+const CLIENTS: u8 = 8;
+
+/// A core for many threads. Each makes its calls with a pass, of which there are as many as actors.
+#[derive(Drop)]
+pub struct Shared<L: Ledger> {
+    actors: usize,
+    core: Mutex<Core<L>>,
+    outstations: Vec<Bell>,
+    clients: Vec<Bell>,
+    stopping: AtomicBool,
+}
+
+// A contract sees how many actors there are.
+impl<L: Ledger> Model for Shared<L> {
+    ghost use Rattle.std.specs.Prelude.{◌≡◌, ◌<◌, ℕ};
+
+    ghost Value = { ℕ };
+
+    ghost view = { λ s. s.actors };
+
+    ghost invariant = { λ s. (s.actors ≡ L.parts) × (0 < s.actors) };
+}
+
+/// So many bells, none of them rung.
+fn bells(alloc: Global, count: u8) -> Result<Vec<Bell>, Memory> {
+    let mut bells = Vec::with_capacity(alloc, usize::from(count))?;
+    for _ in 0..count {
+        bells.push(Bell::new())?;
+    }
+    Ok(bells)
+}
+
+/// Rings the bell at a position, if there is one.
+fn ring_at(bells: &[Bell], position: u8) {
+    if let Some(bell) = bells.get(usize::from(position)) {
+        bell.ring();
+    }
+}
+
+/// Rings all of them.
+fn ring_all(bells: &[Bell]) {
+    for bell in bells {
+        bell.ring();
+    }
+}
+
+/// A pass for each actor, cut off a share of all parts.
+fn passes<L: Ledger>(alloc: Global, share: Share<L>, actors: usize) -> Result<Vec<Pass<L>>, Memory>
+    requires parts { (share.parts ≡ L.parts) × (share.parts ≡ actors) }
+    requires amount { share.amount ≡ 0 }
+    requires some { 0 < actors }
+    ensures { IfOk result (λ passes. passes.items
+        ≡ map unused (range_with_len 0 actors)) }
+{
+    let mut share = share;
+    let mut passes = Vec::with_capacity(alloc, actors)?;
+    for actor in 0..actors - 1 {
+        passes.push(Pass {
+            share: share.split_off(1, 0),
+            actor,
+        })?;
+    }
+    passes.push(Pass {
+        share,
+        actor: actors - 1,
+    })?;
+    Ok(passes)
+}
+
+impl<L: Ledger> Shared<L> {
+    /// A hub under its lock, for so many actors; the recorder keeps `capacity` calls at most. Gives a pass for each actor
+    /// too, by their positions.
+    pub fn new(
+        alloc: Global,
+        blank: Blank,
+        hub: Hub,
+        actors: usize,
+        capacity: usize,
+    ) -> Result<(Shared<L>, Vec<Pass<L>>), Memory>
+        requires name { blank.name ≡ L.name }
+        requires parts { (blank.parts ≡ L.parts) × (blank.parts ≡ actors) }
+        requires actors { 0 < actors }
+        requires capacity { 0 < capacity }
+        ensures { IfOk result (λ made. made.1.items
+            ≡ map unused (range_with_len 0 actors)) }
+    {
+        let (book, share) = blank.open::<L>();
+        let core = Core::new(alloc, hub, book, actors, capacity)?;
+        let passes = passes(alloc, share, actors)?;
+        let shared = Shared {
+            actors,
+            core: Mutex::new(core),
+            outstations: bells(alloc, OUTSTATIONS)?,
+            clients: bells(alloc, CLIENTS)?,
+            stopping: AtomicBool::new(false),
+        };
+        Ok((shared, passes))
+    }
+
+    /// Makes a call under the lock (`Core::step`), and wakes those whom the step may serve. Gives the call's number and
+    /// its reply.
+    pub fn step<R: Wait>(
+        &self,
+        rt: &R,
+        pass: &mut Pass<L>,
+        step: Step,
+    ) -> (u64, Result<Reply, StepFault>)
+        ensures { Answers pass.old pass.new step result }
+    {
+        let roused = Roused::by(&step);
+        let answer = self.core.lock(rt).answer(pass, step);
+        self.rouse(roused.after(&answer.1));
+        answer
+    }
+
+    /// Wakes workers.
+    fn rouse(&self, roused: Roused) {
+        match roused {
+            Roused::Nobody => {}
+            Roused::Outstation(outstation) => ring_at(&self.outstations, outstation),
+            Roused::Client(client) => ring_at(&self.clients, client),
+            Roused::OutstationAndClients(outstation) => {
+                ring_at(&self.outstations, outstation);
+                ring_all(&self.clients);
+            }
+            Roused::Everybody => {
+                ring_all(&self.outstations);
+                ring_all(&self.clients);
+            }
+        }
+    }
+
+    /// The bell that rings where something may be due towards an outstation; none beyond the 32nd.
+    pub fn outstation_bell(&self, outstation: u8) -> Option<&Bell> {
+        self.outstations.get(usize::from(outstation))
+    }
+
+    /// The bell that rings where something may wait for a client; none beyond the eighth.
+    pub fn client_bell(&self, client: u8) -> Option<&Bell> {
+        self.clients.get(usize::from(client))
+    }
+
+    /// Whether a client is up.
+    pub fn stands<R: Wait>(&self, rt: &R, client: u8) -> bool {
+        self.core.lock(rt).stands(client)
+    }
+
+    /// Asks all workers to end.
+    pub fn stop(&self) {
+        self.stopping.store(true, Ordering::SeqCst);
+        self.rouse(Roused::Everybody);
+    }
+
+    /// Whether the workers were asked to end.
+    pub fn stopping(&self) -> bool {
+        self.stopping.load(Ordering::SeqCst)
+    }
+
+    /// How many actors there are.
+    pub fn actors(&self) -> usize
+        ensures actors { result ≡ self.now }
+        ensures parts { result ≡ L.parts }
+        ensures some { 0 < result }
+    {
+        self.actors
+    }
+
+    /// How many calls were made, for whoever has all passes' shares.
+    pub(crate) fn total<R: Wait>(&self, rt: &R, all: &mut Share<L>) -> u64
+        requires { all.old.parts ≡ L.parts }
+        ensures { result ≡ all.old.amount }
+    {
+        self.core.lock(rt).total(all)
+    }
+
+    /// The hub and its recorder.
+    pub fn into_parts(self) -> (Hub, Recorder) {
+        let Shared {
+            actors: _,
+            core,
+            outstations: _,
+            clients: _,
+            stopping: _,
+        } = self;
+        core.into_inner().into_parts()
+    }
+}
