@@ -1,0 +1,6 @@
+use Rattle.std.proofs.Common.{◌≡◌}
+use Rattle.gw_threads.proofs.client_reading.Reading.take.Given as goal
+
+-- the pass is the one that was given
+abbrev pub invariant-apdus : goal.invariant-apdus
+invariant-apdus g l = l.self.pass.actor ≡ l.fn.self.pass.actor

@@ -1,0 +1,167 @@
+//! The reader of a client.
+ghost use Rattle.std.specs.Prelude.{◌≡◌, IfSome};
+ghost use Rattle.gw_threads.specs.Ends.{IsOfSteps, MayEnd};
+
+use crate::ends::{Arrival, Incoming};
+use crate::gate::{Gate, Place};
+use crate::lost::lose_client;
+use crate::times::Clock;
+use crate::worker_end::WorkerEnd;
+use gw_hub::{Reply, Step, StepFault};
+use gw_shared::{Pass, Shared};
+use iec_apci::{ApciFault, Apdu, ApduFeed};
+use std::alloc::Global;
+use std::sync::Wait;
+use std::sync::ledger::Ledger;
+
+/// How many octets are read at once.
+const PIECE: usize = 4096;
+
+/// What the reader of a client works with.
+#[derive(Drop)]
+struct Reading<'a, L: Ledger, R: Wait, C: Clock, G: Gate> {
+    rt: &'a R,
+    shared: &'a Shared<L>,
+    pass: Pass<L>,
+    client: u8,
+    clock: &'a C,
+    gate: &'a G,
+}
+
+/// Makes a step of each APDU that comes from a client, until its octets end or are none, the core closes the connection,
+/// or the client isn't up any more. What ends the connection is told to the core, unless the core ended it.
+pub fn client_reader<'a, L: Ledger, R: Wait, I: Incoming, C: Clock, G: Gate>(
+    alloc: Global,
+    rt: &'a R,
+    shared: &'a Shared<L>,
+    pass: Pass<L>,
+    client: u8,
+    input: &mut I,
+    clock: &'a C,
+    gate: &'a G,
+) -> (Pass<L>, WorkerEnd)
+    ensures own { result.0.actor ≡ pass.actor }
+    ensures end { MayEnd I.can_fail result.1 }
+{
+    let mut reading = Reading {
+        rt,
+        shared,
+        pass,
+        client,
+        clock,
+        gate,
+    };
+    let mut feed = ApduFeed::new(alloc);
+    let end = reading.read_on(&mut feed, input);
+    reading.lose(end);
+    let Reading { pass, .. } = reading;
+    (pass, end)
+}
+
+impl<'a, L: Ledger, R: Wait, C: Clock, G: Gate> Reading<'a, L, R, C, G> {
+    /// Piece after piece, until the worker is to end.
+    fn read_on<I: Incoming>(&mut self, feed: &mut ApduFeed, input: &mut I) -> WorkerEnd
+        ensures own { self.new.pass.actor ≡ self.old.pass.actor }
+        ensures end { MayEnd I.can_fail result }
+    {
+        let mut buffer = [0; PIECE];
+        'pieces: for _ in self.rt.forever() {
+            if let Some(end) = self.read(feed, input, &mut buffer) {
+                return end;
+            }
+        }
+        unreachable!()
+    }
+
+    /// One piece. How the worker ends, if it does.
+    fn read<I: Incoming>(
+        &mut self,
+        feed: &mut ApduFeed,
+        input: &mut I,
+        buffer: &mut [u8],
+    ) -> Option<WorkerEnd>
+        ensures own { self.new.pass.actor ≡ self.old.pass.actor }
+        ensures end { IfSome result (MayEnd I.can_fail) }
+    {
+        match input.receive(buffer) {
+            Arrival::Octets(count) => self.take(feed, &buffer[..count]),
+            Arrival::Later => {
+                if self.shared.stands(self.rt, self.client) {
+                    None
+                } else {
+                    Some(WorkerEnd::Stopping)
+                }
+            }
+            Arrival::End => Some(WorkerEnd::EndOfInput),
+            Arrival::Fault => Some(WorkerEnd::ReadFault),
+        }
+    }
+
+    /// Tells the core that the connection is lost, unless the core closed it.
+    fn lose(&mut self, end: WorkerEnd)
+        ensures { self.new.pass.actor ≡ self.old.pass.actor }
+    {
+        if let WorkerEnd::Closed(_) = end {
+            return;
+        }
+        lose_client(
+            self.rt,
+            self.shared,
+            &mut self.pass,
+            self.client,
+            self.clock,
+        );
+    }
+
+    /// Takes a piece: a step of each APDU that is whole then. How the worker ends, if it does.
+    fn take(&mut self, feed: &mut ApduFeed, piece: &[u8]) -> Option<WorkerEnd>
+        ensures own { self.new.pass.actor ≡ self.old.pass.actor }
+        ensures end { IfSome result IsOfSteps }
+    {
+        if feed.feed(piece).is_err() {
+            return Some(WorkerEnd::Memory);
+        }
+        'apdus: for _ in 0..u32::MAX {
+            let Some(answer) = feed.next() else {
+                break;
+            };
+            if let Some(end) = self.take_answer(answer) {
+                return Some(end);
+            }
+        }
+        None
+    }
+
+    /// Takes an APDU, or the fault that was met. How the worker ends, if it does.
+    fn take_answer(&mut self, answer: Result<Apdu, ApciFault>) -> Option<WorkerEnd>
+        ensures own { self.new.pass.actor ≡ self.old.pass.actor }
+        ensures end { IfSome result IsOfSteps }
+    {
+        match answer {
+            Ok(apdu) => self.step(apdu),
+            Err(fault) => Some(WorkerEnd::Malformed(fault)),
+        }
+    }
+
+    /// Makes the step of an APDU. How the worker ends, if it does.
+    fn step(&mut self, apdu: Apdu) -> Option<WorkerEnd>
+        ensures own { self.new.pass.actor ≡ self.old.pass.actor }
+        ensures end { IfSome result IsOfSteps }
+    {
+        let actor = self.pass.actor();
+        self.gate.at(actor, Place::Decoded);
+        let step = Step::Frame {
+            client: self.client,
+            apdu,
+            moment: self.clock.moment(),
+        };
+        let (_, reply) = self.shared.step(self.rt, &mut self.pass, step);
+        self.gate.at(actor, Place::Stepped);
+        match reply {
+            Ok(Reply::Closed(why)) => Some(WorkerEnd::Closed(why)),
+            Ok(_) => None,
+            Err(StepFault::Memory) => Some(WorkerEnd::Memory),
+            Err(_) => Some(WorkerEnd::Stopping),
+        }
+    }
+}

@@ -1,0 +1,86 @@
+//! The writer of a client.
+ghost use Rattle.std.specs.Prelude.{◌≡◌};
+ghost use Rattle.gw_threads.specs.Written.{Writes, WritesIfEnded, WritesPut};
+
+use crate::ends::Outgoing;
+use crate::gate::Gate;
+use crate::putting::{Put, put_out};
+use crate::source::SharedSource;
+use crate::times::Clock;
+use crate::worker_end::WorkerEnd;
+use gw_shared::{Pass, Shared};
+use std::sync::Wait;
+use std::sync::ledger::Ledger;
+
+/// Hands over what the core puts out to a client, until the client isn't up any more, writing fails, or it is asked to end.
+/// Where nothing waits it sleeps until a step may bring something.
+pub fn client_writer<'a, L: Ledger, R: Wait, W: Outgoing, C: Clock, G: Gate>(
+    rt: &'a R,
+    shared: &'a Shared<L>,
+    pass: Pass<L>,
+    client: u8,
+    writer: &mut W,
+    clock: &'a C,
+    gate: &'a G,
+) -> (Pass<L>, WorkerEnd)
+    ensures own { result.0.actor ≡ pass.actor }
+    ensures written { Writes client (W.contents writer.old) (W.contents writer.new) result.1 }
+{
+    let mut source = SharedSource::new(rt, shared, pass, client, clock, gate);
+    let end = write_on(&mut source, writer);
+    (source.into_pass(), end)
+}
+
+/// Run after run, until the worker is to end.
+fn write_on<L: Ledger, R: Wait, W: Outgoing, C: Clock, G: Gate>(
+    source: &mut SharedSource<'_, L, R, C, G>,
+    writer: &mut W,
+) -> WorkerEnd
+    ensures same { source.new ≡ source.old }
+    ensures written { Writes source.old.client (W.contents writer.old) (W.contents writer.new) result }
+{
+    'runs: for _ in source.rt().forever() {
+        if let Some(end) = write_run(source, writer) {
+            return end;
+        }
+    }
+    unreachable!()
+}
+
+/// One run, and the sleep behind it; how the worker ends, if it does.
+fn write_run<L: Ledger, R: Wait, W: Outgoing, C: Clock, G: Gate>(
+    source: &mut SharedSource<'_, L, R, C, G>,
+    writer: &mut W,
+) -> Option<WorkerEnd>
+    ensures same { source.new ≡ source.old }
+    ensures written { WritesIfEnded source.old.client (W.contents writer.old) (W.contents writer.new) result }
+{
+    let rung = source.rung();
+    match put_run(source, writer) {
+        Put::More => None,
+        Put::Ended(None) => Some(WorkerEnd::Stopping),
+        Put::Ended(Some(Ok(_))) => {
+            source.wait(rung);
+            None
+        }
+        Put::Ended(Some(Err(_))) => {
+            source.lose();
+            Some(WorkerEnd::Stopping)
+        }
+        Put::Unwritten => {
+            source.lose();
+            Some(WorkerEnd::WriteFault)
+        }
+    }
+}
+
+/// Hands over one run of what the core puts out to the client.
+fn put_run<L: Ledger, R: Wait, W: Outgoing, C: Clock, G: Gate>(
+    source: &mut SharedSource<'_, L, R, C, G>,
+    writer: &mut W,
+) -> Put
+    ensures same { source.new ≡ source.old }
+    ensures written { WritesPut source.old.client (W.contents writer.old) (W.contents writer.new) result }
+{
+    put_out(source, writer)
+}

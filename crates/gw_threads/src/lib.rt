@@ -1,0 +1,33 @@
+//! The workers round the shared core: readers, which take octets from a peer, turn them into steps and make these; writers,
+//! which ask the core what goes to a peer and hand it over; and the clock. No lock is held while octets are decoded, encoded,
+//! read or handed to a client. Each worker gives its pass back when it ends, and tells why it ended.
+#![tactic(auto)]
+
+mod client_reading;
+mod client_writing;
+mod ends;
+mod gate;
+mod line;
+mod lost;
+mod outstation_reading;
+mod outstation_writing;
+mod putting;
+mod source;
+mod ticking;
+mod times;
+mod wire;
+mod worker_end;
+
+pub use client_reading::client_reader;
+pub use client_writing::client_writer;
+pub use ends::{Arrival, Incoming, Outgoing, Unwritten};
+pub use gate::{Gate, OpenGate, Place};
+pub use gw_shared::{Bell, CloseFault, Closed, Core, Pass, Shared};
+pub use line::Line;
+pub use outstation_reading::outstation_reader;
+pub use outstation_writing::outstation_writer;
+pub use putting::{Put, Source, put_out};
+pub use source::HubSource;
+pub use ticking::clock;
+pub use times::Clock;
+pub use worker_end::WorkerEnd;

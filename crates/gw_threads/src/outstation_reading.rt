@@ -1,0 +1,200 @@
+//! The reader of an outstation.
+ghost use Rattle.std.specs.Prelude.{◌≡◌, ◌≤◌, length};
+
+use crate::ends::{Arrival, Incoming, Outgoing};
+use crate::gate::{Gate, Place};
+use crate::line::Line;
+use crate::lost::lose_outstation;
+use crate::times::Clock;
+use crate::worker_end::WorkerEnd;
+use dnp_app::{AppFault, Response, read_response};
+use dnp_link::{Frame, LinkEvent, LinkFeed};
+use dnp_receive::Receiver;
+use gw_hub::{Reply, Step, StepFault, Verdict};
+use gw_shared::{Pass, Shared};
+use std::alloc::Global;
+use std::sync::Wait;
+use std::sync::ledger::Ledger;
+
+/// How many octets are read at once.
+const PIECE: usize = 4096;
+
+/// What the reader of an outstation works with.
+#[derive(Drop)]
+struct Reading<'a, L: Ledger, R: Wait, W: Outgoing, C: Clock, G: Gate> {
+    alloc: Global,
+    rt: &'a R,
+    shared: &'a Shared<L>,
+    pass: Pass<L>,
+    outstation: u8,
+    line: &'a Line<W>,
+    clock: &'a C,
+    gate: &'a G,
+}
+
+/// Makes a step of each response that comes from an outstation, and sends what is owed for it: the replies of the link,
+/// and confirmations. It ends where its octets end, reading or writing fails, memory runs out, or the outstation isn't up
+/// any more; that is told to the core. `own` and `peer` are the link addresses of the master and of the outstation.
+pub fn outstation_reader<'a, L: Ledger, R: Wait, I: Incoming, W: Outgoing, C: Clock, G: Gate>(
+    alloc: Global,
+    rt: &'a R,
+    shared: &'a Shared<L>,
+    pass: Pass<L>,
+    outstation: u8,
+    receiver: Receiver,
+    input: &mut I,
+    line: &'a Line<W>,
+    clock: &'a C,
+    gate: &'a G,
+) -> (Pass<L>, WorkerEnd)
+    ensures own { result.0.actor ≡ pass.actor }
+{
+    let mut reading = Reading {
+        alloc,
+        rt,
+        shared,
+        pass,
+        outstation,
+        line,
+        clock,
+        gate,
+    };
+    let mut feed = LinkFeed::new(alloc);
+    let mut receiver = receiver;
+    let end = reading.read_on(&mut feed, &mut receiver, input);
+    lose_outstation(rt, shared, &mut reading.pass, outstation, clock);
+    let Reading { pass, .. } = reading;
+    (pass, end)
+}
+
+impl<'a, L: Ledger, R: Wait, W: Outgoing, C: Clock, G: Gate> Reading<'a, L, R, W, C, G> {
+    /// Piece after piece, until the worker is to end.
+    fn read_on<I: Incoming>(
+        &mut self,
+        feed: &mut LinkFeed,
+        receiver: &mut Receiver,
+        input: &mut I,
+    ) -> WorkerEnd
+        ensures { self.new.pass.actor ≡ self.old.pass.actor }
+    {
+        let mut buffer = [0; PIECE];
+        'pieces: for _ in self.rt.forever() {
+            if let Some(end) = self.read(feed, receiver, input, &mut buffer) {
+                return end;
+            }
+        }
+        unreachable!()
+    }
+
+    /// One piece. How the worker ends, if it does.
+    fn read<I: Incoming>(
+        &mut self,
+        feed: &mut LinkFeed,
+        receiver: &mut Receiver,
+        input: &mut I,
+        buffer: &mut [u8],
+    ) -> Option<WorkerEnd>
+        ensures { self.new.pass.actor ≡ self.old.pass.actor }
+    {
+        match input.receive(buffer) {
+            Arrival::Octets(count) => self.take(feed, receiver, &buffer[..count]),
+            Arrival::Later => None,
+            Arrival::End => Some(WorkerEnd::EndOfInput),
+            Arrival::Fault => Some(WorkerEnd::ReadFault),
+        }
+    }
+
+    /// Takes a piece: each frame that is whole then. How the worker ends, if it does.
+    fn take(
+        &mut self,
+        feed: &mut LinkFeed,
+        receiver: &mut Receiver,
+        piece: &[u8],
+    ) -> Option<WorkerEnd>
+        ensures { self.new.pass.actor ≡ self.old.pass.actor }
+    {
+        if feed.feed(piece).is_err() {
+            return Some(WorkerEnd::Memory);
+        }
+        'events: while let Some(event) = feed.next() {
+            if let LinkEvent::Frame(frame) = event {
+                if let Some(end) = self.take_frame(receiver, &frame) {
+                    return Some(end);
+                }
+            }
+        }
+        None
+    }
+
+    /// Takes a frame: sends the reply that the link owes, and takes the fragment that it completes. How the worker ends,
+    /// if it does.
+    fn take_frame(&mut self, receiver: &mut Receiver, frame: &Frame) -> Option<WorkerEnd>
+        ensures { self.new.pass.actor ≡ self.old.pass.actor }
+    {
+        let Ok(received) = receiver.take(frame) else {
+            return Some(WorkerEnd::Memory);
+        };
+        if let Some(reply) = &received.reply {
+            self.gate.at(self.pass.actor(), Place::BeforeWrite);
+            if self.line.reply(self.rt, reply).is_err() {
+                return Some(WorkerEnd::WriteFault);
+            }
+        }
+        self.take_fragment(received.fragment?)
+    }
+
+    /// Takes a fragment: its response, unless it is refused. How the worker ends, if it does.
+    fn take_fragment(&mut self, octets: Vec<u8>) -> Option<WorkerEnd>
+        requires { length octets.items ≤ 2048 }
+        ensures { self.new.pass.actor ≡ self.old.pass.actor }
+    {
+        match read_response(self.alloc, self.outstation, octets) {
+            Ok(response) => self.step(response),
+            Err(AppFault::Memory) => Some(WorkerEnd::Memory),
+            Err(fault) => {
+                self.gate.refused(self.outstation, &fault);
+                None
+            }
+        }
+    }
+
+    /// Makes the step of a response, and sends its confirmation where one is owed. How the worker ends, if it does.
+    fn step(&mut self, response: Response) -> Option<WorkerEnd>
+        ensures { self.new.pass.actor ≡ self.old.pass.actor }
+    {
+        let actor = self.pass.actor();
+        let asks = response.control().con;
+        self.gate.at(actor, Place::Decoded);
+        if asks {
+            self.line.owe(self.rt);
+        }
+        let moment = self.clock.moment();
+        let (_, reply) = self.shared.step(
+            self.rt,
+            &mut self.pass,
+            Step::Fragment { response, moment },
+        );
+        self.gate.at(actor, Place::Stepped);
+        let end = self.confirm(&reply);
+        if asks {
+            self.line.settle(self.rt);
+        }
+        end
+    }
+
+    /// Sends the confirmation that a reply of the core owes, if it owes one. How the worker ends, if it does.
+    fn confirm(&self, reply: &Result<Reply, StepFault>) -> Option<WorkerEnd> {
+        let octets = match reply {
+            Ok(Reply::Verdict(Verdict::Accepted { confirm, .. } | Verdict::Repeated { confirm })) =>
+                { (*confirm)? }
+            Ok(_) => return None,
+            Err(StepFault::Memory) => return Some(WorkerEnd::Memory),
+            Err(_) => return Some(WorkerEnd::Stopping),
+        };
+        self.gate.at(self.pass.actor(), Place::BeforeWrite);
+        match self.line.confirm(self.rt, &octets) {
+            Ok(()) => None,
+            Err(_) => Some(WorkerEnd::WriteFault),
+        }
+    }
+}

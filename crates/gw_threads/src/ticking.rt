@@ -1,0 +1,48 @@
+//! The clock's ticks.
+ghost use Rattle.std.specs.Prelude.{◌≡◌};
+
+use crate::times::Clock;
+use crate::worker_end::WorkerEnd;
+use gw_hub::Step;
+use gw_shared::{Pass, Shared};
+use std::rt::Clock as Sleeps;
+use std::sync::Wait;
+use std::sync::ledger::Ledger;
+use std::thread;
+use std::time::Duration;
+
+/// The milliseconds from one tick to the next.
+const TICK_MS: u64 = 100;
+
+/// Makes a tick every 100 milliseconds, until it is asked to end or no further step can be counted.
+pub fn clock<L: Ledger, R: Wait + Sleeps, C: Clock>(
+    rt: &R,
+    shared: &Shared<L>,
+    pass: Pass<L>,
+    clock: &C,
+) -> (Pass<L>, WorkerEnd)
+    ensures own { result.0.actor ≡ pass.actor }
+    ensures end { result.1 ≡ WorkerEnd.Stopping }
+{
+    let mut pass = pass;
+    'ticks: for _ in rt.forever() {
+        if shared.stopping() || !tick(rt, shared, &mut pass, clock) {
+            break;
+        }
+        thread::sleep(rt, Duration::from_millis(TICK_MS));
+    }
+    (pass, WorkerEnd::Stopping)
+}
+
+/// Makes a tick; whether it was made.
+fn tick<L: Ledger, R: Wait, C: Clock>(
+    rt: &R,
+    shared: &Shared<L>,
+    pass: &mut Pass<L>,
+    clock: &C,
+) -> bool
+    ensures { pass.new.actor ≡ pass.old.actor }
+{
+    let moment = clock.moment();
+    shared.step(rt, pass, Step::Tick { moment }).1.is_ok()
+}
