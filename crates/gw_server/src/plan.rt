@@ -1,0 +1,52 @@
+//! What the settings say of the connections.
+
+use gw_map::Settings;
+use gw_model::Memory;
+use std::alloc::Global;
+use std::time::Duration;
+
+/// The milliseconds that connecting may take at most.
+const LONGEST_CONNECTING_MS: u64 = 5000;
+
+/// The way to an outstation.
+#[derive(Debug, Drop)]
+pub struct Plan {
+    /// Where it is reached: a host and a port.
+    pub connect: String,
+    /// The link address of the master.
+    pub own: u16,
+    /// The link address of the outstation.
+    pub peer: u16,
+    /// How long it may be silent while it is polled.
+    pub silence: Duration,
+    /// How long a response may take, and so a write.
+    pub response: Duration,
+}
+
+impl Plan {
+    /// How long connecting may take.
+    pub fn connecting(&self) -> Duration {
+        self.response
+            .min(Duration::from_millis(LONGEST_CONNECTING_MS))
+    }
+}
+
+/// The ways to the outstations of settings.
+pub fn plans_of(alloc: Global, settings: &Settings) -> Result<Vec<Plan>, Memory> {
+    let own = settings.station().master_address;
+    let mut plans = Vec::with_capacity(alloc, settings.outstations().len())?;
+    for outstation in settings.outstations() {
+        let poll = &outstation.poll;
+        let silence = poll
+            .poll_ms
+            .saturating_add(poll.response_ms.saturating_mul(3));
+        plans.push(Plan {
+            connect: outstation.connect.clone()?,
+            own,
+            peer: outstation.address,
+            silence: Duration::from_millis(silence),
+            response: Duration::from_millis(poll.response_ms),
+        })?;
+    }
+    Ok(plans)
+}

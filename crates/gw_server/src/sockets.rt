@@ -1,0 +1,144 @@
+//! TCP connections as the workers' ends.
+ghost use Rattle.std.specs.Prelude.{◌≡◌, ◌≤◌, None, IfOk, length};
+ghost use Rattle.gw_threads.specs.Ends.{IsWithin};
+
+use crate::ending::Ending;
+use gw_threads::{Arrival, Incoming, Outgoing, Unwritten};
+use std::io::{self, ErrorKind, Read, Write};
+use std::net::{Shutdown, TcpStream};
+use std::time::Duration;
+
+/// How often an interrupted call is made again.
+const TRIES: u32 = 1_000_000;
+
+/// The milliseconds that a client's reader waits before it looks whether the client still stands.
+const LOOK_MS: u64 = 250;
+
+/// A connection to a client. A read that takes long comes back, so that the reader may look whether it is to go on. That
+/// nothing more comes is noted in the connection's ending, before the reader tells it to the core.
+#[derive(Clone, Copy)]
+pub struct ClientSocket<'a> {
+    stream: &'a TcpStream,
+    ending: &'a Ending,
+}
+
+/// A connection to an outstation. A read or a write that takes too long fails. That nothing more comes is noted likewise.
+#[derive(Clone, Copy)]
+pub struct OutstationSocket<'a> {
+    stream: &'a TcpStream,
+    ending: &'a Ending,
+}
+
+impl<'a> ClientSocket<'a> {
+    /// A connection that was accepted. An option that can't be set leaves it as it is.
+    pub fn new(stream: &'a TcpStream, ending: &'a Ending) -> ClientSocket<'a> {
+        let _ = stream.set_nodelay(true);
+        let _ = stream.set_read_timeout(Some(Duration::from_millis(LOOK_MS)));
+        ClientSocket { stream, ending }
+    }
+}
+
+impl<'a> OutstationSocket<'a> {
+    /// A connection that was made; how long the outstation may be silent, and how long a write may take. An option
+    /// that can't be set leaves it as it is.
+    pub fn new(
+        stream: &'a TcpStream,
+        ending: &'a Ending,
+        silence: Duration,
+        response: Duration,
+    ) -> OutstationSocket<'a> {
+        let _ = stream.set_nodelay(true);
+        let _ = stream.set_read_timeout(Some(silence));
+        let _ = stream.set_write_timeout(Some(response));
+        OutstationSocket { stream, ending }
+    }
+}
+
+/// Ends a connection in both directions; whoever reads or writes on it comes back.
+pub fn shut(stream: &TcpStream) {
+    let _ = stream.shutdown(Shutdown::Both);
+}
+
+/// Reads once; an interrupted read is made again.
+fn read(mut stream: &TcpStream, buffer: &mut [u8]) -> io::Result<usize>
+    ensures { IfOk result (λ count. count ≤ length buffer.new) }
+{
+    for _ in 0..TRIES {
+        match stream.read(buffer) {
+            Err(error) if error.kind() == ErrorKind::Interrupted => {}
+            other => return other,
+        }
+    }
+    Err(io::Error::from(ErrorKind::Interrupted))
+}
+
+/// What a read brought; that nothing more comes is noted.
+fn arrival(read: io::Result<usize>, room: usize, ending: &Ending) -> Arrival
+    requires { IfOk read (λ count. count ≤ room) }
+    ensures { IsWithin result room }
+{
+    match read {
+        Ok(0) => {
+            ending.reader();
+            Arrival::End
+        }
+        Ok(count) => Arrival::Octets(count),
+        Err(_) => {
+            ending.reader();
+            Arrival::Fault
+        }
+    }
+}
+
+/// Whether a wait took as long as it may.
+fn is_timeout(error: &io::Error) -> bool {
+    matches!(error.kind(), ErrorKind::WouldBlock | ErrorKind::TimedOut)
+}
+
+impl<'a> Incoming for ClientSocket<'a> {
+    ghost can_fail = { λ _. Unit {0} };
+
+    fn receive(&mut self, buffer: &mut [u8]) -> Arrival {
+        match read(self.stream, buffer) {
+            Err(error) if is_timeout(&error) => Arrival::Later,
+            other => arrival(other, buffer.len(), self.ending),
+        }
+    }
+}
+
+impl<'a> Incoming for OutstationSocket<'a> {
+    ghost can_fail = { λ _. Unit {0} };
+
+    fn receive(&mut self, buffer: &mut [u8]) -> Arrival {
+        let read = read(self.stream, buffer);
+        arrival(read, buffer.len(), self.ending)
+    }
+}
+
+/// Writes all octets. A write that takes none fails, an interrupted one is made again.
+fn write(mut stream: &TcpStream, octets: &[u8]) -> Result<(), Unwritten> {
+    match stream.write_all(octets) {
+        Ok(()) => Ok(()),
+        Err(_) => Err(Unwritten),
+    }
+}
+
+impl<'a> Outgoing for ClientSocket<'a> {
+    ghost contents = { λ _. None };
+
+    ghost can_fail = { λ _. Unit {0} };
+
+    fn hand(&mut self, octets: &[u8]) -> Result<(), Unwritten> {
+        write(self.stream, octets)
+    }
+}
+
+impl<'a> Outgoing for OutstationSocket<'a> {
+    ghost contents = { λ _. None };
+
+    ghost can_fail = { λ _. Unit {0} };
+
+    fn hand(&mut self, octets: &[u8]) -> Result<(), Unwritten> {
+        write(self.stream, octets)
+    }
+}
