@@ -1,5 +1,5 @@
 //! The master towards one outstation.
-ghost use Rattle.std.specs.Prelude.{◌≡◌, IfOk, IsOk};
+ghost use Rattle.std.specs.Prelude.{◌≡◌, is_some, IfOk, IsOk};
 ghost use Rattle.dnp_master.specs.Master.{
   is_ready,
   master_after_next,
@@ -7,6 +7,7 @@ ghost use Rattle.dnp_master.specs.Master.{
   master_after_up,
   master_down,
   request_given,
+  task_given,
 };
 ghost use Rattle.dnp_master.specs.Fragments.{
   accepts,
@@ -128,6 +129,13 @@ impl Master {
         ensures { result ≡ is_ready self.now }
     {
         self.up && matches!(self.exchange, Exchange::Idle)
+    }
+
+    /// Whether `next` would give a request at a moment; the wall time makes no difference.
+    pub fn is_due(&self, moment: u64) -> bool
+        ensures { result ≡ is_some (task_given moment 0 self.now) }
+    {
+        self.ready() && self.due.first(moment, 0, &self.poll).is_some()
     }
 
     /// Gives the request of the first task that is due, at a moment and a wall time in milliseconds since 1970 in UTC.

@@ -1,6 +1,5 @@
 //! Interrogations.
-ghost use Rattle.std.specs.Prelude.{◌≡◌, ◌<◌, [], ◌∷◌, ◌++◌, length, IfOk};
-ghost use Rattle.std.specs.VecDeque.{deque_capacity};
+ghost use Rattle.std.specs.Prelude.{◌≡◌, ◌<◌, [], ◌∷◌, ◌++◌, length, vec_capacity, IfOk};
 ghost use Rattle.gw_answers.specs.Interrogations.{answer_to, cause_for, is_accepted_act, is_asked_by, is_general, rows_of};
 
 use crate::answer::Part;
@@ -8,7 +7,6 @@ use gw_model::{Memory, Observation, Value};
 use iec_command::causes::{ACTIVATION, COUNTER_INTERROGATION, STATION_INTERROGATION};
 use iec_command::{Action, Command};
 use std::alloc::Global;
-use std::collections::VecDeque;
 
 /// The qualifier of a station interrogation (IEC 60870-5-101, 7.2.6.22).
 const STATION: u8 = 20;
@@ -60,26 +58,26 @@ pub fn answer_to(
     alloc: Global,
     command: &Command,
     picture: &[Observation],
-) -> Result<VecDeque<Part>, Memory>
+) -> Result<Vec<Part>, Memory>
     ensures { IfOk result (λ parts. parts.items ≡ answer_to command.now picture.now) }
 {
-    let mut parts = VecDeque::with_capacity(alloc, picture.len() + 2)?;
-    parts.push_back_reserved(Part::Confirmation(*command));
+    let mut parts = Vec::with_capacity(alloc, picture.len() + 2)?;
+    parts.push_reserved(Part::Confirmation(*command));
     for observation in picture {
         push_row(&mut parts, command.action, *observation);
     }
-    parts.push_back_reserved(Part::Termination(*command));
+    parts.push_reserved(Part::Termination(*command));
     Ok(parts)
 }
 
 /// A row, where it answers the interrogation.
-fn push_row(parts: &mut VecDeque<Part>, action: Action, observation: Observation)
-    requires { length parts.old.items < deque_capacity parts.old }
+fn push_row(parts: &mut Vec<Part>, action: Action, observation: Observation)
+    requires { length parts.old.items < vec_capacity parts.old }
     ensures parts { parts.new.items ≡ parts.old.items ++ rows_of action (observation ∷ []) }
-    ensures room { deque_capacity parts.new ≡ deque_capacity parts.old }
+    ensures room { vec_capacity parts.new ≡ vec_capacity parts.old }
 {
     if is_asked_by(action, &observation) {
-        parts.push_back_reserved(Part::Row {
+        parts.push_reserved(Part::Row {
             cause: cause_for(action),
             observation,
         });

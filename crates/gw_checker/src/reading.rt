@@ -1,31 +1,43 @@
 //! Reading settings files.
 
 use gw_map::{Settings, SettingsFault};
+use gw_text::Plain;
 use std::alloc::{AllocError, Global};
 use std::fs::File;
 use std::io::{self, ErrorKind, Read};
 use std::rt::Files;
-use std::str;
-use thiserror::Error;
+use std::{fmt, str};
 
 /// How many octets a settings file may have. One with 20,000 controls, each with all of its keys, has some four million.
 pub const LONGEST_FILE: u64 = 16_777_216;
 
 /// Why a settings file can't be used.
-#[derive(Debug, Drop, Error)]
+#[derive(Debug, Drop)]
 pub enum Unusable {
     /// It can't be read, or is too long.
-    #[error("file")]
     File,
     /// Memory ran out while it was read.
-    #[error("memory")]
     Memory,
     /// It is no text in UTF-8.
-    #[error("1 Toml")]
     NotText,
     /// The text is refused.
-    #[error("{0}")]
     Refused(SettingsFault),
+}
+
+impl fmt::Display for Unusable {
+    fn fmt<W: fmt::Write>(&self, f: &mut fmt::Formatter<W>) -> fmt::Result {
+        match self {
+            Unusable::File => f.write_str("file"),
+            Unusable::Memory => f.write_str("memory"),
+            Unusable::NotText => f.write_str("1 Toml"),
+            Unusable::Refused(SettingsFault::Refused(fault, place)) => {
+                let (section, position) = (place.section.name(), place.position);
+                let key = Plain(place.key.as_str());
+                write!(f, "{fault} {section} {position} {key}")
+            }
+            Unusable::Refused(fault) => write!(f, "{fault}"),
+        }
+    }
 }
 
 impl From<SettingsFault> for Unusable {

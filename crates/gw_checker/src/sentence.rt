@@ -3,6 +3,7 @@
 use crate::allowed::allowed;
 use crate::reading::{Unusable, read_settings};
 use gw_map::{Fault, Place, Section, SettingsFault};
+use gw_text::Plain;
 use std::alloc::Global;
 use std::io::{self, Write};
 use std::str;
@@ -126,7 +127,7 @@ fn write_found<W: Write>(
 ) -> io::Result<()> {
     let key = place.key.as_str();
     match fault {
-        Fault::UnknownKey => write!(writer, "there is no key {key}"),
+        Fault::UnknownKey => write!(writer, "there is no key {}", Plain(key)),
         Fault::Missing => write!(writer, "{key} is missing"),
         Fault::OutOfRange if key == "count" => {
             let count = entries(top, place.section).len();
@@ -151,7 +152,7 @@ fn write_value<W: Write>(value: Option<&Value>, writer: &mut W) -> io::Result<()
         return write!(writer, "{number}");
     }
     if let Some(text) = value.as_str() {
-        return write!(writer, "\"{text}\"");
+        return write!(writer, "\"{}\"", Plain(text));
     }
     if let Some(flag) = value.as_bool() {
         return write!(writer, "{flag}");

@@ -1,6 +1,7 @@
 -- Where `clap`'s rules refuse nothing of a line, the line asks for something.
-use Rattle.std.proofs.Common.{◌≡◌, ◌∙◌, ◌&&◌, ◌⊎◌, inl, inr, ℕ, Bool, cond, codes, true, false, not, refl, sym, ap, subst, List, [], ◌∷◌, Option, Some, None, is_some, true≢false, fold}
-use Rattle.std.specs.Prelude.{⊤}
+use Rattle.std.proofs.Common.{arith, ◌≡◌, ◌∙◌, ◌&&◌, ◌⊎◌, inl, inr, ℕ, Bool, cond, codes, true, false, not, refl, sym, ap, subst, List, [], ◌∷◌, option_map, Option, Some, None, is_some, true≢false, fold}
+use Rattle.std.specs.Prelude.{⊤, ◌≤◌, nat_le, Result, Ok, Err}
+use Rattle.std.specs.Str.Parse.{ParsesUnsigned, digits_value, without_leading_plus}
 use Rattle.std.specs.Str.{bytes_eq}
 use Rattle.std.proofs.lemmas.Slice.Eq.{bytes_eq-Decides}
 use Rattle.clap.specs.Lexer.{long_of, short_of}
@@ -12,10 +13,14 @@ use Rattle.clap.specs.Values.{kind_of}
 use Rattle.clap.specs.declared.error.Error.{Error}
 use Rattle.clap.specs.declared.error.ErrorKind.{ErrorKind}
 use Rattle.clap.specs.declared.error.ErrorKind.TheVariants.{DisplayHelp, InvalidSubcommand, MissingSubcommand, OutOfMemory}
-use Rattle.clap.specs.Words.{first_of, first_value, rows_of}
+use Rattle.clap.specs.Words.{all_of, first_of, first_value, matched_of, raw_values, rows_of}
 use Rattle.clap.specs.declared.parser.matches.Found.{Found}
-use Rattle.clap.proofs.WalkLemmas.{first_value-rows}
-use Rattle.gw_command_line.specs.CommandLine.{IsRefusal, as_fault, asked_of, fault_as, gateway, spelled}
+use Rattle.clap.specs.Values.{IsUnsignedIn}
+use Rattle.clap.specs.ValueTests.{is_unsigned_in}
+use Rattle.clap.specs.declared.builder.value_parser.ValueParser.TheVariants as vp
+use Rattle.clap.proofs.ValueTestLemmas.{Accepts-accepts, accepts-Accepts}
+use Rattle.clap.proofs.WalkLemmas.{first_value-rows, raw_values-rows}
+use Rattle.gw_command_line.specs.CommandLine.{IsRefusal, as_fault, asked_of, fault_as, gateway, number_from, number_of, spelled}
 
 -- ---- a line that is not refused does not stop at `help`, for which help is the answer
 
@@ -114,21 +119,22 @@ walk_avoids s names w (word ∷ rest) enabled avoids none =
 
 -- ---- a line that is not refused asks for something
 
--- the subcommands are `check`, `translate`, `replay` and `help`
+-- the subcommands are `check`, `translate`, `replay`, `run` and `help`
 stop_asks : (stop : Option (Text × List Text)) → is_help stop ≡ false → is_some (entered (built gateway) stop) ≡ true → is_some (asked_of (entered (built gateway) stop)) ≡ true
 stop_asks None avoids has = has
 stop_asks (Some stop) avoids has =
-    go (bytes_eq (codes "check") stop.0) (bytes_eq (codes "translate") stop.0) (bytes_eq (codes "replay") stop.0) (bytes_eq (codes "help") stop.0) refl refl refl refl
+    go (bytes_eq (codes "check") stop.0) (bytes_eq (codes "translate") stop.0) (bytes_eq (codes "replay") stop.0) (bytes_eq (codes "run") stop.0) (bytes_eq (codes "help") stop.0) refl refl refl refl refl
   where
-    go : (k b d h : Bool) → bytes_eq (codes "check") stop.0 ≡ k → bytes_eq (codes "translate") stop.0 ≡ b → bytes_eq (codes "replay") stop.0 ≡ d → bytes_eq (codes "help") stop.0 ≡ h
+    go : (k b d r h : Bool) → bytes_eq (codes "check") stop.0 ≡ k → bytes_eq (codes "translate") stop.0 ≡ b → bytes_eq (codes "replay") stop.0 ≡ d → bytes_eq (codes "run") stop.0 ≡ r → bytes_eq (codes "help") stop.0 ≡ h
         → is_some (asked_of (entered (built gateway) (Some stop))) ≡ true
-    go true b d h is_check is_translate is_replay is_other = rw is_check refl
-    go false true d h is_check is_translate is_replay is_other = rw (is_check, is_translate) refl
-    go false false true h is_check is_translate is_replay is_other = rw (is_check, is_translate, is_replay) refl
-    go false false false true is_check is_translate is_replay is_other =
+    go true b d r h is_check is_translate is_replay is_run is_other = rw is_check refl
+    go false true d r h is_check is_translate is_replay is_run is_other = rw (is_check, is_translate) refl
+    go false false true r h is_check is_translate is_replay is_run is_other = rw (is_check, is_translate, is_replay) refl
+    go false false false true h is_check is_translate is_replay is_run is_other = rw (is_check, is_translate, is_replay, is_run) refl
+    go false false false false true is_check is_translate is_replay is_run is_other =
         let same : codes "help" ≡ stop.0 = (bytes_eq-Decides _ _).0 is_other in
         absurd (true≢false (rw (← same) at avoids))
-    go false false false false is_check is_translate is_replay is_other = absurd (true≢false (sym (rw (is_check, is_translate, is_replay, is_other) at has)))
+    go false false false false false is_check is_translate is_replay is_run is_other = absurd (true≢false (sym (rw (is_check, is_translate, is_replay, is_run, is_other) at has)))
 
 -- the last check wants a subcommand
 has_named : (rows : List Row) (has : Bool) → check_fault (built gateway).top rows has ≡ [] → has ≡ true
@@ -178,3 +184,51 @@ refusal_of e kinds has = go (kind_of e) refl has
 
 pub value_in_rows : (f : Found) (id : Text) → first_value f id ≡ first_of id (rows_of f)
 value_in_rows = first_value-rows
+
+pub values_in_rows : (f : Found) (id : Text) → option_map raw_values (matched_of f id) ≡ all_of id (rows_of f)
+values_in_rows = raw_values-rows
+
+-- ---- the number of an option
+
+-- a number from 1 to 1000000, by tests and by order
+in_range : (n : ℕ) → (nat_le 1 n && nat_le n 1000000) ≡ true → (1 ≤ n) × (n ≤ 1000000)
+in_range n is = grind arith
+
+not_in_range : (n : ℕ) → (nat_le 1 n && nat_le n 1000000) ≡ false → 1 ≤ n → n ≤ 1000000 → ⊥
+not_in_range n is least most = grind arith
+
+taken : (text : Text) → IsUnsignedIn 1 1000000 text → is_unsigned_in 1 1000000 text ≡ true
+taken text is = Accepts-accepts false (vp.Unsigned 1 1000000) text is
+
+is_taken : (text : Text) → is_unsigned_in 1 1000000 text ≡ true → IsUnsignedIn 1 1000000 text
+is_taken text is = accepts-Accepts false (vp.Unsigned 1 1000000) text is
+
+-- what `parse` reads of a text is the number that can be asked for by it
+pub number_parsed : {E : Type 0} (text : Text) (r : Result ℕ E) → ParsesUnsigned 32 10 text r → number_from r ≡ number_of text
+number_parsed text (Ok n) read = go (nat_le 1 n && nat_le n 1000000) (is_unsigned_in 1 1000000 text) refl refl
+  where
+    d : ℕ
+    d = digits_value 10 (without_leading_plus text)
+
+    go : (c b : Bool) → (nat_le 1 n && nat_le n 1000000) ≡ c → is_unsigned_in 1 1000000 text ≡ b
+        → cond c (Some n) None ≡ cond b (Some d) None
+    go true true is_in is_read = ap Some read.1
+    go true false is_in is_read =
+        let range = in_range n is_in in
+        let least : 1 ≤ d = subst (λ k. 1 ≤ k) read.1 range.0 in
+        let most : d ≤ 1000000 = subst (λ k. k ≤ 1000000) read.1 range.1 in
+        absurd (true≢false (sym (taken text (read.0.0, omega arith, least, most)) ∙ is_read))
+    go false true is_in is_read =
+        let is = is_taken text is_read in
+        absurd (not_in_range n is_in (subst (λ k. 1 ≤ k) (sym read.1) is.2) (subst (λ k. k ≤ 1000000) (sym read.1) is.3))
+    go false false is_in is_read = refl
+number_parsed text (Err e) none = go (is_unsigned_in 1 1000000 text) refl
+  where
+    d : ℕ
+    d = digits_value 10 (without_leading_plus text)
+
+    go : (b : Bool) → is_unsigned_in 1 1000000 text ≡ b → None ≡ cond b (Some d) None
+    go true is_read =
+        let is = is_taken text is_read in
+        absurd (none (is.0, omega arith))
+    go false is_read = refl

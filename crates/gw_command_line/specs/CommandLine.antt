@@ -1,66 +1,162 @@
 -- The program's command line by `clap`'s rules, and what each subcommand asks for.
-use Rattle.std.specs.Prelude.{⊤, Option, Some, None, List, [], codes, if◌then◌else◌, option_and_then, option_map, true, unwrap_or}
+use Rattle.std.specs.Prelude.{⊤, ℕ, Bool, ◌&&◌, nat_le, Result, Ok, Err, Option, Some, None, List, [], ◌∷◌, codes, fold, if◌then◌else◌, map, option_and_then, option_map, pos, false, true, unwrap_or}
 use Rattle.std.specs.Str.{bytes_eq}
-use Rattle.clap.specs.Words.{App, IsAmong, Row, Rule, Text, first_of, kind_of, new_app, new_rule, subcommand_of, with_rule, with_subcommand}
+use Rattle.std.specs.Str.Parse.{digits_value, without_leading_plus}
+use Rattle.clap.specs.Words.{App, IsAmong, Row, Rule, Text, all_of, first_of, kind_of, new_app, new_rule, subcommand_of, with_rule, with_subcommand}
 use Rattle.clap.specs.Kinds.{Kinds}
 use Rattle.clap.specs.Simple.{on_top}
-use Rattle.clap.specs.declared.builder.action.ArgAction.TheVariants.{Set}
+use Rattle.clap.specs.ValueTests.{is_unsigned_in}
+use Rattle.clap.specs.declared.builder.action.ArgAction.TheVariants.{Append, Set, SetTrue}
+use Rattle.clap.specs.declared.builder.value_parser.ValueParser.TheVariants as vp
 use Rattle.clap.specs.declared.error.Error.{Error}
 use Rattle.clap.specs.declared.error.kind.ErrorKind.{ErrorKind}
 use Rattle.clap.specs.declared.error.kind.ErrorKind.TheVariants.{OutOfMemory}
 use Rattle.gw_command_line.specs.declared.reading.Asked.{Asked}
-use Rattle.gw_command_line.specs.declared.reading.Asked.TheVariants.{Check, Translate, Replay}
+use Rattle.gw_command_line.specs.declared.reading.Asked.TheVariants.{Check, Translate, Replay, Run}
+use Rattle.gw_command_line.specs.declared.reading.RunOptions.{RunOptions}
 use Rattle.gw_command_line.specs.declared.reading.LineFault.{LineFault}
 use Rattle.gw_command_line.specs.declared.reading.LineFault.TheVariants.{Clap, Memory}
 
 -- ---- the program
 
--- FILE, which has to be named; and --settings FILE, which may be
+-- FILE, which has to be named
 abbrev pub file_rule : Rule
 file_rule = record (new_rule (codes "file")) { required = true; action = Some Set; value_names = 1 }
 
-abbrev pub settings_rule : Rule
-settings_rule =
-    record (new_rule (codes "settings")) { long = Some (codes "settings"); action = Some Set; value_names = 1 }
+-- `--NAME VALUE`, which may be used once
+abbrev pub text_rule : Text → Rule
+text_rule name = record (new_rule name) { long = Some name; action = Some Set; value_names = 1 }
+
+-- the same, several times
+abbrev pub texts_rule : Text → Rule
+texts_rule name = record (text_rule name) { action = Some Append }
+
+-- the same, once, with a number from 1 to 1000000
+abbrev pub number_rule : Text → Rule
+number_rule name = record (text_rule name) { parser = Some (vp.Signed (pos 1) (pos 1000000)) }
+
+-- `--NAME`, which may be used once
+abbrev pub flag_rule : Text → Rule
+flag_rule name = record (new_rule name) { long = Some name; action = Some SetTrue }
+
+-- `gateway NAME FILE`
+abbrev pub file_app : Text → App
+file_app name = with_rule (new_app name) file_rule
 
 -- `gateway check FILE`
 abbrev pub check : App
-check = with_rule (new_app (codes "check")) file_rule
+check = file_app (codes "check")
 
 -- `gateway translate [--settings FILE]`
 abbrev pub translate : App
-translate = with_rule (new_app (codes "translate")) settings_rule
+translate = with_rule (new_app (codes "translate")) (text_rule (codes "settings"))
 
 -- `gateway replay FILE`
 abbrev pub replay : App
-replay = with_rule (new_app (codes "replay")) file_rule
+replay = file_app (codes "replay")
+
+-- `gateway run FILE [--sessions N] [--allow ADDRESS]... [--until-eof]`
+abbrev pub serve : App
+serve =
+    fold with_rule (file_app (codes "run")) (number_rule (codes "sessions") ∷ texts_rule (codes "allow") ∷ flag_rule (codes "until-eof") ∷ [])
+
+-- the same with `[--status ADDRESS:PORT] [--record FILE] [--record-size MB]`
+abbrev pub run : App
+run =
+    fold with_rule serve (text_rule (codes "status") ∷ text_rule (codes "record") ∷ number_rule (codes "record-size") ∷ [])
 
 -- the program: a subcommand has to be named
 abbrev pub alone : App
 alone = on_top (λ top. record top { subcommand_required = true }) (new_app (codes "gateway"))
 
 abbrev pub gateway : App
-gateway = with_subcommand (with_subcommand (with_subcommand alone check.top) translate.top) replay.top
+gateway =
+    with_subcommand (with_subcommand (with_subcommand (with_subcommand alone check.top) translate.top) replay.top) run.top
 
 -- ---- what it asks for
 
--- what is asked for, with the words that name files
+-- what the options of `gateway run` ask for, but for `--sessions`
+pub record Options : Type 0 where
+  pub allow : List Text
+  pub until_eof : Bool
+  pub status : Option Text
+  pub «record» : Option Text
+  pub record_size : ℕ
+
+-- the same where none of them is used
+abbrev pub no_options : Options
+no_options =
+    record { allow = []; until_eof = false; status = None; «record» = None; record_size = 256 }
+
+abbrev pub options_of : RunOptions → Options
+options_of options = record {
+  allow = map (λ address. address.now) options.allow.items;
+  until_eof = options.until_eof;
+  status = option_map (λ address. address.now) options.status;
+  «record» = option_map (λ file. file.now) options.record;
+  record_size = options.record_size;
+}
+
+-- what is asked for, with the words that name files and addresses
 pub data Request : Type 0 where
   to_check : Text → Request
   to_translate : Option Text → Request
   to_replay : Text → Request
+  to_run : Text → Option ℕ → Options → Request
 
 abbrev pub request_of : Asked → Request
 request_of (Check file) = to_check file.now
 request_of (Translate settings) = to_translate (option_map (λ file. file.now) settings)
 request_of (Replay file) = to_replay file.now
+request_of (Run file sessions options) = to_run file.now sessions (options_of options)
+
+-- the number that a text says, from 1 to 1000000
+abbrev pub number_of : Text → Option ℕ
+number_of text = if is_unsigned_in 1 1000000 text then Some (digits_value 10 (without_leading_plus text)) else None
+
+-- the same of what `parse` read of it
+abbrev pub number_from : {E : Type 0} → Result ℕ E → Option ℕ
+number_from (Ok n) = if nat_le 1 n && nat_le n 1000000 then Some n else None
+number_from (Err e) = None
+
+-- the flag was used, by the text that `clap` has for it
+abbrev pub is_set : Option Text → Bool
+is_set (Some text) = bytes_eq text (codes "true")
+is_set None = false
+
+-- what was found for an argument, by its kind
+abbrev pub file_in : List Row → Text
+file_in rows = unwrap_or (first_of (codes "file") rows) []
+
+abbrev pub texts_in : Text → List Row → List Text
+texts_in name rows = unwrap_or (all_of name rows) []
+
+abbrev pub number_in : Text → List Row → Option ℕ
+number_in name rows = option_and_then number_of (first_of name rows)
+
+abbrev pub is_used : Text → List Row → Bool
+is_used name rows = is_set (first_of name rows)
+
+-- what the options of `gateway run` ask for, and all that it asks for, by what was found for its arguments
+abbrev pub options_in : List Row → Options
+options_in rows = record {
+  allow = texts_in (codes "allow") rows;
+  until_eof = is_used (codes "until-eof") rows;
+  status = first_of (codes "status") rows;
+  «record» = first_of (codes "record") rows;
+  record_size = unwrap_or (number_in (codes "record-size") rows) 256;
+}
+
+abbrev pub run_in : List Row → Request
+run_in rows = to_run (file_in rows) (number_in (codes "sessions") rows) (options_in rows)
 
 -- what a subcommand asks for, by its name and what was found for its arguments
 abbrev pub asked_as : Text → List Row → Option Request
 asked_as name rows =
-    if bytes_eq name (codes "check") then Some (to_check (unwrap_or (first_of (codes "file") rows) []))
+    if bytes_eq name (codes "check") then Some (to_check (file_in rows))
     else if bytes_eq name (codes "translate") then Some (to_translate (first_of (codes "settings") rows))
-    else if bytes_eq name (codes "replay") then Some (to_replay (unwrap_or (first_of (codes "file") rows) []))
+    else if bytes_eq name (codes "replay") then Some (to_replay (file_in rows))
+    else if bytes_eq name (codes "run") then Some (run_in rows)
     else None
 
 -- what the subcommand that a line named asks for

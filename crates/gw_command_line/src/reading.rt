@@ -3,29 +3,65 @@
 //! `clap` reads the words. Its rules for them stand in `specs/CommandLine.antt`: the program and
 //! its subcommands as values, and what each subcommand asks for.
 
-ghost use Rattle.std.specs.Prelude.{◌≡◌, [], IfErr, IfOk, Some, codes, false, option_map, unwrap_or};
+ghost use Rattle.std.specs.Prelude.{◌≡◌, [], IfErr, IfOk, Some, false, map, option_map};
 ghost use Rattle.clap.specs.Words.{app_of, fault_of, first_of, found_of, rows_of, rule_of, subcommand_rows_of};
 ghost use Rattle.clap.specs.Walk.{texts};
 ghost use Rattle.clap.specs.declared.builder.command.Command.TheViews.{out-Command as fields_of};
-ghost use Rattle.gw_command_line.specs.CommandLine.{IsRefusal, alone, as_fault, asked_of, check, file_rule, gateway, replay, request_of, settings_rule, spelled, translate};
+ghost use Rattle.gw_command_line.specs.CommandLine.{IsRefusal, alone, as_fault, asked_of, file_app, file_in, file_rule, flag_rule, gateway, is_used, number_from, number_in, number_of, number_rule, options_in, options_of, request_of, run, run_in, serve, spelled, text_rule, texts_in, texts_rule, translate};
 ghost use Rattle.gw_command_line.specs.declared.reading.LineFault.TheVariants.{Memory};
 
 use clap::error::ErrorKind;
-use clap::{Arg, ArgAction, ArgMatches, Command, Error};
+use clap::{Arg, ArgAction, ArgMatches, Command, Error, value_parser};
 use std::alloc::{AllocError, Global};
+use std::num::ParseIntError;
 
 pub mod examples;
 
+/// The most that an option with a number may ask for: connections of control centres, or megabytes.
+const LARGEST_NUMBER: u32 = 1_000_000;
+
+/// The most megabytes that the file of `--record` may have, where none are said.
+const DEFAULT_RECORD_SIZE: u32 = 256;
+
 /// What a command line asks for.
-#[derive(Clone, Copy, Debug)]
+#[derive(Debug, Drop)]
 pub enum Asked<'a> {
     /// `gateway check FILE`: tells what a settings file means, or what is wrong with it.
-    Check { file: &'a str },
+    Check {
+        file: &'a str,
+    },
     /// `gateway translate [--settings FILE]`: reads DNP3 fragments in hexadecimal, one a line, and
     /// writes what they bring as ASDUs.
-    Translate { settings: Option<&'a str> },
+    Translate {
+        settings: Option<&'a str>,
+    },
     /// `gateway replay FILE`: makes the steps that lines ask for, and writes the replies.
-    Replay { file: &'a str },
+    Replay {
+        file: &'a str,
+    },
+    /// `gateway run FILE [--sessions N] [OPTIONS]`: serves control centres and outstations as the options say, until N
+    /// connections of control centres have ended, where N is given.
+    Run {
+        file: &'a str,
+        sessions: Option<u32>,
+        options: RunOptions<'a>,
+    },
+}
+
+/// How `gateway run` serves.
+#[derive(Debug, Drop)]
+pub struct RunOptions<'a> {
+    /// `--allow ADDRESS`, as often as it is used, in this order: only clients from these addresses are served. Where
+    /// it isn't used, any client is.
+    pub allow: Vec<&'a str>,
+    /// `--until-eof`: the gateway ends in order when standard input ends.
+    pub until_eof: bool,
+    /// `--status ADDRESS:PORT`: where a status page is served.
+    pub status: Option<&'a str>,
+    /// `--record FILE`: the file to which the run is written as lines of a replay.
+    pub record: Option<&'a str>,
+    /// `--record-size MB`: the most megabytes that this file may have.
+    pub record_size: u32,
 }
 
 /// Why a command line asks for nothing.
@@ -69,7 +105,8 @@ pub fn command_line<'a>(alloc: Global, words: &'a [&'a str]) -> Result<Asked<'a>
     ensures refused { IfErr result (IsRefusal (fault_of gateway (texts words.now))) }
 {
     let matches = gateway_command(alloc)?.try_get_matches_from(words)?;
-    Ok(asked_by(&matches).unwrap())
+    let asked = asked_by(alloc, &matches)?;
+    Ok(asked.unwrap())
 }
 
 /// The program without its subcommands, of which one has to be named.
@@ -86,9 +123,89 @@ fn gateway_command<'a>(alloc: Global) -> Result<Command<'a>, AllocError>
     ensures { IfOk result (λ command. app_of command ≡ gateway) }
 {
     gateway_alone(alloc)
-        .subcommand(check_command(alloc)?)?
+        .subcommand(file_command(
+            alloc,
+            "check",
+            "Tells what a settings file means, or what is wrong with it",
+        )?)?
         .subcommand(translate_command(alloc)?)?
-        .subcommand(replay_command(alloc)?)
+        .subcommand(file_command(
+            alloc,
+            "replay",
+            "Makes steps of the core, and writes its replies",
+        )?)?
+        .subcommand(run_command(alloc)?)
+}
+
+/// `gateway NAME FILE`.
+fn file_command<'a>(alloc: Global, name: &'a str, about: &'a str) -> Result<Command<'a>, AllocError>
+    ensures app { IfOk result (λ command. app_of command ≡ file_app name.now) }
+    ensures local { IfOk result (λ command. (fields_of command).has_globals ≡ false) }
+{
+    Command::new(alloc, name)
+        .about(about)
+        .arg(file_argument(alloc))
+}
+
+/// `gateway translate`.
+fn translate_command<'a>(alloc: Global) -> Result<Command<'a>, AllocError>
+    ensures app { IfOk result (λ command. app_of command ≡ translate) }
+    ensures local { IfOk result (λ command. (fields_of command).has_globals ≡ false) }
+{
+    Command::new(alloc, "translate")
+        .about("Reads DNP3 fragments in hexadecimal, and writes what they bring as ASDUs")
+        .arg(text_argument(alloc, "settings", "FILE", "The settings file"))
+}
+
+/// `gateway run`, with the options that say whom it serves, and how long.
+fn serve_command<'a>(alloc: Global) -> Result<Command<'a>, AllocError>
+    ensures app { IfOk result (λ command. app_of command ≡ serve) }
+    ensures local { IfOk result (λ command. (fields_of command).has_globals ≡ false) }
+{
+    file_command(
+        alloc,
+        "run",
+        "Serves control centres, and outstations for them",
+    )?
+    .arg(number_argument(
+        alloc,
+        "sessions",
+        "N",
+        "Ends after so many connections of control centres, 1 to 1000000",
+    ))?
+    .arg(texts_argument(
+        alloc,
+        "allow",
+        "ADDRESS",
+        "Serves only clients from this IP address, or from ADDRESS/BITS; may be used several times",
+    ))?
+    .arg(flag_argument(alloc, "until-eof", "Ends in order when standard input ends"))
+}
+
+/// `gateway run`.
+fn run_command<'a>(alloc: Global) -> Result<Command<'a>, AllocError>
+    ensures app { IfOk result (λ command. app_of command ≡ run) }
+    ensures local { IfOk result (λ command. (fields_of command).has_globals ≡ false) }
+{
+    serve_command(alloc)?
+        .arg(text_argument(
+            alloc,
+            "status",
+            "ADDRESS:PORT",
+            "Serves a status page there",
+        ))?
+        .arg(text_argument(
+            alloc,
+            "record",
+            "FILE",
+            "Writes the run to this file, as lines of a replay",
+        ))?
+        .arg(number_argument(
+            alloc,
+            "record-size",
+            "MB",
+            "The most megabytes that the file of --record may have, 1 to 1000000; 256 where none are said",
+        ))
 }
 
 /// The settings file that has to be named.
@@ -103,82 +220,157 @@ fn file_argument<'a>(alloc: Global) -> Arg<'a>
         .action(ArgAction::Set)
 }
 
-/// The settings file that may be named.
-fn settings_argument<'a>(alloc: Global) -> Arg<'a>
-    ensures rule { rule_of result ≡ settings_rule }
+/// `--NAME VALUE`, which may be used once.
+fn text_argument<'a>(alloc: Global, name: &'a str, value_name: &'a str, help: &'a str) -> Arg<'a>
+    ensures rule { rule_of result ≡ text_rule name.now }
     ensures local { result.global ≡ false }
 {
-    Arg::new(alloc, "settings")
-        .help("The settings file")
-        .long("settings")
-        .value_name("FILE")
+    Arg::new(alloc, name)
+        .help(help)
+        .long(name)
+        .value_name(value_name)
         .action(ArgAction::Set)
 }
 
-/// `gateway check`.
-fn check_command<'a>(alloc: Global) -> Result<Command<'a>, AllocError>
-    ensures app { IfOk result (λ command. app_of command ≡ check) }
-    ensures local { IfOk result (λ command. (fields_of command).has_globals ≡ false) }
+/// `--NAME VALUE`, which may be used several times.
+fn texts_argument<'a>(alloc: Global, name: &'a str, value_name: &'a str, help: &'a str) -> Arg<'a>
+    ensures rule { rule_of result ≡ texts_rule name.now }
+    ensures local { result.global ≡ false }
 {
-    Command::new(alloc, "check")
-        .about("Tells what a settings file means, or what is wrong with it")
-        .arg(file_argument(alloc))
+    text_argument(alloc, name, value_name, help).action(ArgAction::Append)
 }
 
-/// `gateway translate`.
-fn translate_command<'a>(alloc: Global) -> Result<Command<'a>, AllocError>
-    ensures app { IfOk result (λ command. app_of command ≡ translate) }
-    ensures local { IfOk result (λ command. (fields_of command).has_globals ≡ false) }
+/// `--NAME VALUE`, which may be used once, with a number from 1 to 1000000.
+fn number_argument<'a>(alloc: Global, name: &'a str, value_name: &'a str, help: &'a str) -> Arg<'a>
+    ensures rule { rule_of result ≡ number_rule name.now }
+    ensures local { result.global ≡ false }
 {
-    Command::new(alloc, "translate")
-        .about("Reads DNP3 fragments in hexadecimal, and writes what they bring as ASDUs")
-        .arg(settings_argument(alloc))
+    text_argument(alloc, name, value_name, help).value_parser(value_parser!(u32).range(
+        1..=i64::from(LARGEST_NUMBER),
+    ))
 }
 
-/// `gateway replay`.
-fn replay_command<'a>(alloc: Global) -> Result<Command<'a>, AllocError>
-    ensures app { IfOk result (λ command. app_of command ≡ replay) }
-    ensures local { IfOk result (λ command. (fields_of command).has_globals ≡ false) }
+/// `--NAME`, which may be used once.
+fn flag_argument<'a>(alloc: Global, name: &'a str, help: &'a str) -> Arg<'a>
+    ensures rule { rule_of result ≡ flag_rule name.now }
+    ensures local { result.global ≡ false }
 {
-    Command::new(alloc, "replay")
-        .about("Makes steps of the core, and writes its replies")
-        .arg(file_argument(alloc))
+    Arg::new(alloc, name)
+        .help(help)
+        .long(name)
+        .action(ArgAction::SetTrue)
 }
 
 /// The file that was named; `clap` sees to it that there is one.
-#[tactic(auto, using(crate::proofs::LineLemmas::value_in_rows))]
 fn file_named<'a>(matches: &ArgMatches<'a>) -> &'a str
-    ensures { result.now ≡ unwrap_or (first_of (codes "file") (rows_of (found_of matches.now))) [] }
+    ensures { result.now ≡ file_in (rows_of (found_of matches.now)) }
 {
-    match matches.get_str("file") {
+    match text_named(matches, "file") {
         Some(file) => file,
         None => "",
     }
 }
 
-/// The settings file that was named, if any.
+/// The text that was named for an option, if any.
 #[tactic(auto, using(crate::proofs::LineLemmas::value_in_rows))]
-fn settings_named<'a>(matches: &ArgMatches<'a>) -> Option<&'a str>
-    ensures { option_map (λ file. file.now) result ≡ first_of (codes "settings") (rows_of (found_of matches.now)) }
+fn text_named<'a>(matches: &ArgMatches<'a>, name: &str) -> Option<&'a str>
+    ensures { option_map (λ text. text.now) result ≡ first_of name.now (rows_of (found_of matches.now)) }
 {
-    matches.get_str("settings")
+    matches.get_str(name)
+}
+
+/// The texts that were named for an option, in their order.
+#[tactic(auto, using(crate::proofs::LineLemmas::values_in_rows))]
+fn texts_named<'a>(
+    alloc: Global,
+    matches: &ArgMatches<'a>,
+    name: &str,
+) -> Result<Vec<&'a str>, AllocError>
+    ensures { IfOk result (λ named. map (λ text. text.now) named.items ≡ texts_in name.now (rows_of (found_of matches.now))) }
+{
+    match matches.get_strs(name) {
+        Some(named) => Vec::from_slice(alloc, named),
+        None => Ok(Vec::new(alloc)),
+    }
+}
+
+/// The number that was named for an option, if any.
+fn number_named(matches: &ArgMatches, name: &str) -> Option<u32>
+    ensures { result ≡ number_in name.now (rows_of (found_of matches.now)) }
+{
+    number_of(text_named(matches, name)?)
+}
+
+/// The number that a text says, if it is one that an option may ask for; `clap` takes no other.
+#[tactic(auto, using(crate::proofs::LineLemmas::number_parsed))]
+fn number_of(text: &str) -> Option<u32>
+    ensures { result ≡ number_of text.now }
+{
+    within_bounds(text.parse())
+}
+
+/// The number that was read, if it is one that an option may ask for.
+fn within_bounds(read: Result<u32, ParseIntError>) -> Option<u32>
+    ensures { result ≡ number_from read }
+{
+    match read {
+        Ok(number) if 1 <= number && number <= LARGEST_NUMBER => Some(number),
+        _ => None,
+    }
+}
+
+/// Whether a flag was used: `clap` has the text "true" for it then, and "false" else.
+fn flag_named(matches: &ArgMatches, name: &str) -> bool
+    ensures { result ≡ is_used name.now (rows_of (found_of matches.now)) }
+{
+    match text_named(matches, name) {
+        Some(text) => text == "true",
+        None => false,
+    }
+}
+
+/// The options of `gateway run` that were used.
+fn options_named<'a>(alloc: Global, matches: &ArgMatches<'a>) -> Result<RunOptions<'a>, AllocError>
+    ensures { IfOk result (λ options. options_of options ≡ options_in (rows_of (found_of matches.now))) }
+{
+    Ok(RunOptions {
+        allow: texts_named(alloc, matches, "allow")?,
+        until_eof: flag_named(matches, "until-eof"),
+        status: text_named(matches, "status"),
+        record: text_named(matches, "record"),
+        record_size: number_named(matches, "record-size").unwrap_or(DEFAULT_RECORD_SIZE),
+    })
+}
+
+/// What `gateway run` asks for.
+fn run_named<'a>(alloc: Global, matches: &ArgMatches<'a>) -> Result<Asked<'a>, AllocError>
+    ensures { IfOk result (λ asked. request_of asked ≡ run_in (rows_of (found_of matches.now))) }
+{
+    Ok(Asked::Run {
+        file: file_named(matches),
+        sessions: number_named(matches, "sessions"),
+        options: options_named(alloc, matches)?,
+    })
 }
 
 /// What the matches ask for, if they met a subcommand.
-fn asked_by<'a>(matches: &ArgMatches<'a>) -> Option<Asked<'a>>
-    ensures { option_map request_of result ≡ asked_of (subcommand_rows_of matches.now) }
+fn asked_by<'a>(alloc: Global, matches: &ArgMatches<'a>) -> Result<Option<Asked<'a>>, AllocError>
+    ensures { IfOk result (λ asked. option_map request_of asked ≡ asked_of (subcommand_rows_of matches.now)) }
 {
-    let (name, found) = matches.subcommand()?;
+    let Some((name, found)) = matches.subcommand() else {
+        return Ok(None);
+    };
     match name {
-        "check" => Some(Asked::Check {
+        "check" => Ok(Some(Asked::Check {
             file: file_named(found),
-        }),
-        "translate" => Some(Asked::Translate {
-            settings: settings_named(found),
-        }),
-        "replay" => Some(Asked::Replay {
+        })),
+        "translate" => Ok(Some(Asked::Translate {
+            settings: text_named(found, "settings"),
+        })),
+        "replay" => Ok(Some(Asked::Replay {
             file: file_named(found),
-        }),
-        _ => None,
+        })),
+        "run" => Ok(Some(run_named(alloc, found)?)),
+        _ => Ok(None),
     }
 }

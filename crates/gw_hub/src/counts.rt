@@ -44,6 +44,13 @@ impl Counts {
         }
     }
 
+    /// How many news there were.
+    pub fn news(&self) -> u64
+        ensures { result ≡ self.now.news }
+    {
+        self.news
+    }
+
     /// Whether the counts can rise by a step with so many news and sessions that begin.
     pub fn can_rise(&self, news: u64, sessions: u64) -> bool
         ensures { result ≡ can_rise self.now (step_with news sessions) }

@@ -23,7 +23,8 @@ ghost use Rattle.gw_mirror.specs.Interrogations.{AnswersInterrogations};
 ghost use Rattle.gw_mirror.specs.Line.{KeepsLine};
 ghost use Rattle.gw_mirror.specs.Mirror.{Mirrors};
 ghost use Rattle.gw_mirror.specs.Right.{JudgesLast};
-ghost use Rattle.gw_parts.specs.Clients.{dropped_at, queued_at};
+ghost use Rattle.gw_parts.specs.Clients.{dropped_at, has_offer, queued_at, unacknowledged_at};
+ghost use Rattle.gw_parts.specs.Outstations.{is_due};
 ghost use Rattle.gw_hub.specs.Hub.{can_count, can_take, news_of_all, news_of_one, state_counting, state_with_response, unless, Answers, IsCounted};
 
 use crate::common::Common;
@@ -124,6 +125,21 @@ impl Hub {
         })
     }
 
+    /// The same, in the memory of a hub that isn't needed any more, so that little is asked for where that suffices.
+    pub fn copy_over(&self, spare: Hub) -> Result<Hub, Memory>
+        ensures { IfOk result (λ hub. hub ≡ self.now) }
+    {
+        Ok(Hub {
+            alloc: self.alloc,
+            settings: self.settings.copy()?,
+            outstations: self.outstations.copy_over(spare.outstations)?,
+            picture: self.picture.copy_over(spare.picture)?,
+            clients: self.clients.copy_over(spare.clients)?,
+            counts: self.counts.copy(),
+            moment: self.moment,
+        })
+    }
+
     /// For each row of the point map its value and quality as last shown.
     pub fn picture(&self) -> &[Observation]
         ensures { result.now ≡ self.now.state.picture }
@@ -145,11 +161,39 @@ impl Hub {
         self.clients.dropped(client)
     }
 
+    /// How many I formats sent to a client are not acknowledged; 0 where there is no such client.
+    pub fn unacknowledged(&self, client: u8) -> usize
+        ensures { result ≡ unacknowledged_at (slice_get self.now.state.clients client) }
+    {
+        self.clients.unacknowledged(client)
+    }
+
+    /// How many observations were news since the hub began.
+    pub fn news(&self) -> u64
+        ensures { result ≡ self.now.state.counts.news }
+    {
+        self.counts.news()
+    }
+
     /// Whether a client is up.
     pub fn stands(&self, client: u8) -> bool
         ensures { IsTrue result ↔ (client_up self.now.state client ≡ Some true) }
     {
         self.clients.presence(client) == Some(true)
+    }
+
+    /// Whether a poll of an outstation would give a request at the largest moment so far.
+    pub fn is_poll_due(&self, outstation: u8) -> bool
+        ensures { result ≡ is_due self.now.state.moment (slice_get self.now.state.outstations outstation) }
+    {
+        self.outstations.is_due(outstation, self.moment)
+    }
+
+    /// Whether a pump for a client would give an APDU at the largest moment so far.
+    pub fn is_pump_due(&self, client: u8) -> bool
+        ensures { result ≡ has_offer self.now.state.moment (slice_get self.now.state.clients client) }
+    {
+        self.clients.has_offer(client, self.moment)
     }
 
     /// Makes steps one after the other on a new hub; gives it with a reply for each of them.

@@ -1,13 +1,13 @@
 -- What is asked of the clients.
-use Rattle.std.specs.Prelude.{ℕ, ◌+◌, ◌^◌, ◌<◌, length, Option, Some, None}
+use Rattle.std.specs.Prelude.{ℕ, ◌+◌, ◌^◌, ◌<◌, Bool, false, ◌&&◌, is_some, length, Option, Some, None}
 use Rattle.std.specs.List.{AllByRecursion}
 use Rattle.gw_map.specs.Settings.{Setup}
 use Rattle.iec_apci.specs.declared.apdu.Apdu.{Apdu}
 use Rattle.iec_window.specs.Counts.{sent_in_all}
 use Rattle.gw_answers.specs.Octets.{IsReturnable}
-use Rattle.gw_station.specs.Client.{Client}
+use Rattle.gw_station.specs.Client.{Client, is_up}
 use Rattle.gw_station.specs.Frames.{event_of}
-use Rattle.gw_station.specs.Pump.{given}
+use Rattle.gw_station.specs.Pump.{given, offered}
 use Rattle.gw_steps.specs.declared.step.Reply.{Reply}
 use Rattle.gw_steps.specs.Steps.{client_reply, reply_giving, reply_of_event}
 
@@ -19,6 +19,11 @@ reply_to_apdu setup apdu = client_reply (λ k. reply_of_event (event_of setup ap
 abbrev pub reply_to_pump : Setup → ℕ → Option Client → Reply
 reply_to_pump setup moment =
     client_reply (λ k. reply_giving (given setup.station.offset_minutes setup.station.common_address moment k))
+
+-- a pump at a moment would be answered with an APDU
+abbrev pub has_offer : ℕ → Option Client → Bool
+has_offer moment None = false
+has_offer moment (Some k) = is_up k.stage && is_some (offered moment k)
 
 -- one more I format that is received can be counted in 64 bits
 pub record CanCount (k : Client) : Type 0 where
@@ -37,3 +42,8 @@ queued_at (Some k) = length k.queue
 abbrev pub dropped_at : Option Client → ℕ
 dropped_at None = 0
 dropped_at (Some k) = k.dropped
+
+-- how many I formats sent to a client are not acknowledged
+abbrev pub unacknowledged_at : Option Client → ℕ
+unacknowledged_at None = 0
+unacknowledged_at (Some k) = length k.window.waiting

@@ -9,7 +9,7 @@ ghost use Rattle.gw_station.specs.Pump.{client_after_pump, given};
 ghost use Rattle.gw_answers.specs.Meaning.{IsSendable};
 ghost use Rattle.gw_station.specs.Sound.{CanTake, IsSoundClient};
 ghost use Rattle.gw_steps.specs.Steps.{begun_by, bits_of, client_after_frame, reply_giving, reply_of_event, wanted_by};
-ghost use Rattle.gw_parts.specs.Clients.{dropped_at, queued_at, reply_to_apdu, reply_to_pump, CanCount, CanPump};
+ghost use Rattle.gw_parts.specs.Clients.{dropped_at, has_offer, queued_at, reply_to_apdu, reply_to_pump, unacknowledged_at, CanCount, CanPump};
 
 use gw_map::Settings;
 use gw_model::{Memory, Observation};
@@ -55,7 +55,16 @@ impl Clients {
     pub fn copy(&self) -> Result<Clients, Memory>
         ensures { IfOk result (λ copy. copy ≡ self.now) }
     {
-        let stations = copied(*self.stations.allocator(), &self.stations)?;
+        let alloc = *self.stations.allocator();
+        let stations = copied(alloc, &self.stations, Vec::new(alloc))?;
+        Ok(Clients { stations })
+    }
+
+    /// The same, in the memory of what isn't needed any more, so that little is asked for where that suffices.
+    pub fn copy_over(&self, spare: Clients) -> Result<Clients, Memory>
+        ensures { IfOk result (λ copy. copy ≡ self.now) }
+    {
+        let stations = copied(*self.stations.allocator(), &self.stations, spare.stations)?;
         Ok(Clients { stations })
     }
 
@@ -78,6 +87,13 @@ impl Clients {
         ensures { result ≡ dropped_at (slice_get self.now client) }
     {
         dropped_at(&self.stations, client)
+    }
+
+    /// How many I formats sent to a client are not acknowledged; 0 where there is no such client.
+    pub fn unacknowledged(&self, client: u8) -> usize
+        ensures { result ≡ unacknowledged_at (slice_get self.now client) }
+    {
+        unacknowledged_at(&self.stations, client)
     }
 
     /// A client comes up at a moment.
@@ -127,6 +143,13 @@ impl Clients {
         frame_at(&mut self.stations, client, apdu, moment, settings, picture)
     }
 
+    /// Whether a client is up, and a pump at a moment would give it an APDU.
+    pub fn has_offer(&self, client: u8, moment: u64) -> bool
+        ensures { result ≡ has_offer moment (slice_get self.now client) }
+    {
+        has_offer_at(&self.stations, client, moment)
+    }
+
     /// The next APDU for a client.
     pub fn pump(&mut self, client: u8, settings: &Settings, moment: u64) -> Reply
         requires { AllByRecursion CanPump self.old }
@@ -154,15 +177,25 @@ impl Clients {
     }
 }
 
-/// The same stations.
-fn copied(alloc: Global, stations: &[Station]) -> Result<Vec<Station>, Memory>
+/// The same stations, each in the memory of a spare one, as far as there are such.
+fn copied(alloc: Global, stations: &[Station], spares: Vec<Station>) -> Result<Vec<Station>, Memory>
     ensures { IfOk result (λ copy. copy.items ≡ stations.now) }
 {
     let mut copy = Vec::with_capacity(alloc, stations.len())?;
+    let mut spares = spares.into_iter();
     for station in stations {
-        copy.push(station.copy()?)?;
+        copy.push(copied_one(station, spares.next())?)?;
     }
     Ok(copy)
+}
+
+fn copied_one(station: &Station, spare: Option<Station>) -> Result<Station, Memory>
+    ensures { IfOk result (λ copy. copy ≡ station.now) }
+{
+    match spare {
+        Some(spare) => station.copy_over(spare),
+        None => station.copy(),
+    }
 }
 
 fn presence_at(stations: &[Station], client: u8) -> Option<bool>
@@ -186,6 +219,15 @@ fn dropped_at(stations: &[Station], client: u8) -> u64
 {
     match stations.get(usize::from(client)) {
         Some(station) => station.dropped(),
+        None => 0,
+    }
+}
+
+fn unacknowledged_at(stations: &[Station], client: u8) -> usize
+    ensures { result ≡ unacknowledged_at (slice_get stations.now client) }
+{
+    match stations.get(usize::from(client)) {
+        Some(station) => station.unacknowledged(),
         None => 0,
     }
 }
@@ -276,6 +318,15 @@ fn reply_to(event: Event) -> Reply
     match event {
         Event::Taken | Event::Command(_) => Reply::Taken,
         Event::Closed(why) => Reply::Closed(why),
+    }
+}
+
+fn has_offer_at(stations: &[Station], client: u8, moment: u64) -> bool
+    ensures { result ≡ has_offer moment (slice_get stations.now client) }
+{
+    match stations.get(usize::from(client)) {
+        Some(station) => station.has_offer(moment),
+        None => false,
     }
 }
 

@@ -4,7 +4,7 @@ ghost use Rattle.gw_model.specs.Places.{change};
 ghost use Rattle.dnp_master.specs.Master.{master_after_next, master_after_tick, master_after_up, master_down, request_given};
 ghost use Rattle.dnp_master.specs.Fragments.{master_after_fragment};
 ghost use Rattle.gw_steps.specs.Steps.{reply_asking};
-ghost use Rattle.gw_parts.specs.Outstations.{reply_to_poll};
+ghost use Rattle.gw_parts.specs.Outstations.{is_due, reply_to_poll};
 
 use dnp_app::Response;
 use dnp_master::Master;
@@ -45,7 +45,16 @@ impl Outstations {
     pub fn copy(&self) -> Result<Outstations, Memory>
         ensures { IfOk result (λ copy. copy ≡ self.now) }
     {
-        let masters = copied(*self.masters.allocator(), &self.masters)?;
+        let none = Vec::new(*self.masters.allocator());
+        let masters = refilled(none, &self.masters)?;
+        Ok(Outstations { masters })
+    }
+
+    /// The same, in the memory of what isn't needed any more, so that none is asked for where that suffices.
+    pub fn copy_over(&self, spare: Outstations) -> Result<Outstations, Memory>
+        ensures { IfOk result (λ copy. copy ≡ self.now) }
+    {
+        let masters = refilled(spare.masters, &self.masters)?;
         Ok(Outstations { masters })
     }
 
@@ -54,6 +63,13 @@ impl Outstations {
         ensures { option_map (λ master. master.now) result ≡ slice_get self.now outstation }
     {
         self.masters.get(usize::from(outstation))
+    }
+
+    /// Whether a poll of an outstation at a moment would give a request.
+    pub fn is_due(&self, outstation: u8, moment: u64) -> bool
+        ensures { result ≡ is_due moment (slice_get self.now outstation) }
+    {
+        is_due_at(&self.masters, outstation, moment)
     }
 
     /// An outstation comes up at a moment.
@@ -93,15 +109,25 @@ impl Outstations {
     }
 }
 
-/// The same masters.
-fn copied(alloc: Global, masters: &[Master]) -> Result<Vec<Master>, Memory>
+/// The same masters, in the memory of spare ones where that suffices.
+fn refilled(mut copy: Vec<Master>, masters: &[Master]) -> Result<Vec<Master>, Memory>
     ensures { IfOk result (λ copy. copy.items ≡ masters.now) }
 {
-    let mut copy = Vec::with_capacity(alloc, masters.len())?;
+    copy.clear();
+    copy.reserve(masters.len())?;
     for master in masters {
         copy.push(master.copy()?)?;
     }
     Ok(copy)
+}
+
+fn is_due_at(masters: &[Master], outstation: u8, moment: u64) -> bool
+    ensures { result ≡ is_due moment (slice_get masters.now outstation) }
+{
+    match masters.get(usize::from(outstation)) {
+        Some(master) => master.is_due(moment),
+        None => false,
+    }
 }
 
 fn come_up_at(masters: &mut [Master], outstation: u8, moment: u64)

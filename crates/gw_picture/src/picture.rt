@@ -54,6 +54,16 @@ impl Picture {
         Ok(Picture { shown })
     }
 
+    /// The same, in the memory of a picture that isn't needed any more, so that none is asked for where that suffices.
+    pub fn copy_over(&self, spare: Picture) -> Result<Picture, Memory>
+        ensures { IfOk result (λ copy. copy ≡ self.now) }
+    {
+        let Picture { mut shown } = spare;
+        shown.clear();
+        shown.extend_from_slice(self.shown.as_slice())?;
+        Ok(Picture { shown })
+    }
+
     /// What is shown, in the order of the rows: observations without time that an ASDU can carry.
     pub fn rows(&self) -> &[Observation]
         ensures shown { result.now ≡ self.now }

@@ -1,14 +1,23 @@
 //! The gateway's programs.
 #![tactic(auto)]
 
+mod recording;
+mod running;
+
+use crate::running::run;
 use gw_checker::{Unusable, check_settings, explain, read_file, read_settings};
 use gw_command_line::{Asked, LineFault, command_line as read_words};
 use gw_map::{DEFAULT_SETTINGS, Settings};
 use gw_replay::replay;
+use gw_server::Host;
 use gw_translator::translate;
 use std::env;
 use std::io::{self, BufReader, BufWriter, Printer, StdinLock, Write};
+use std::net::{Net, TcpListener, TcpStream};
 use std::process::ExitCode;
+use std::rt::Clock;
+use std::sync::Wait;
+use std::thread::Threads;
 
 /// The status of a program that was refused something.
 const REFUSED: u8 = 1;
@@ -17,25 +26,28 @@ const REFUSED: u8 = 1;
 const USAGE: u8 = 2;
 
 fn main(rt: HostRuntime) -> io::Result<ExitCode> {
-    let arguments: Vec<String> = env::args(&rt)?.collect(rt.alloc())?;
+    let status = program(&rt, &rt)?;
+    Ok(ExitCode::from(status))
+}
+
+/// Does what the words of the command line ask for; gives the status. `host` is the same system, as what serves on it sees
+/// it: `main` alone has its threads and sockets. (Its bounds are those of `Host`, spelled out for `main`'s proof.)
+fn program<
+    H: Net<Listener = TcpListener, Stream = TcpStream> + Threads + Wait + Clock + Eprint + Sync,
+>(rt: &HostRuntime, host: &H) -> io::Result<u8> {
+    let arguments: Vec<String> = env::args(rt)?.collect(rt.alloc())?;
     let mut words = Vec::new(rt.alloc());
     for argument in &arguments {
         words.push(argument.as_str())?;
     }
-    let status = obey(&rt, words.as_slice())?;
-    Ok(ExitCode::from(status))
-}
-
-/// Does what the words of a command line ask for; gives the status.
-fn obey(rt: &HostRuntime, words: &[&str]) -> io::Result<u8> {
-    match read_words(rt.alloc(), words) {
-        Ok(asked) => answer(rt, asked),
+    match read_words(rt.alloc(), words.as_slice()) {
+        Ok(asked) => answer(rt, host, asked),
         Err(fault) => tell(rt, &fault),
     }
 }
 
 /// Does what a command line asks for; gives the status.
-fn answer(rt: &HostRuntime, asked: Asked) -> io::Result<u8> {
+fn answer<H: Host>(rt: &HostRuntime, host: &H, asked: Asked) -> io::Result<u8> {
     match asked {
         Asked::Check { file } => check(rt, file),
         Asked::Translate { settings } => match settings_given(rt, settings) {
@@ -46,6 +58,11 @@ fn answer(rt: &HostRuntime, asked: Asked) -> io::Result<u8> {
             Ok(settings) => replay_input(rt, settings),
             Err(why) => refuse(rt, &why),
         },
+        Asked::Run {
+            file,
+            sessions,
+            options,
+        } => run(rt, host, file, sessions, &options),
     }
 }
 
@@ -56,10 +73,7 @@ fn tell(rt: &HostRuntime, fault: &LineFault) -> io::Result<u8> {
             eprint!(rt; "{error}")?;
             Ok(USAGE)
         }
-        LineFault::Memory => {
-            println!(rt; "refused memory")?;
-            Ok(REFUSED)
-        }
+        LineFault::Memory => refuse_for(rt, "memory"),
     }
 }
 
@@ -97,6 +111,12 @@ fn settings_given(rt: &HostRuntime, file: Option<&str>) -> Result<Settings, Unus
         }
         None => read_settings(rt.alloc(), DEFAULT_SETTINGS.as_bytes()),
     }
+}
+
+/// Writes what was refused; gives the status.
+fn refuse_for(rt: &HostRuntime, what: &str) -> io::Result<u8> {
+    println!(rt; "refused {what}")?;
+    Ok(REFUSED)
 }
 
 /// Writes why a settings file can't be used; gives the status.

@@ -1,5 +1,5 @@
 -- One more call on a hub that a tape replays to.
-use Rattle.std.proofs.Common.{◌≡◌, ℕ, List, [], ◌∷◌, ◌++◌, Option, Some, None, Result, Ok, Err, refl, sym, ap, subst, ◌∙◌}
+use Rattle.std.proofs.Common.{◌≡◌, ℕ, List, [], ◌∷◌, ◌++◌, Option, Some, None, Result, Ok, Err, refl, sym, subst, ◌∙◌}
 use Rattle.std.specs.Prelude.{option_map}
 use Rattle.gw_map.specs.Settings.{Setup}
 use Rattle.gw_steps.specs.declared.step.Step.{Step}
@@ -10,7 +10,7 @@ use Rattle.gw_steps.specs.Steps.{Allowed}
 use Rattle.gw_hub.specs.Hub.{Hub}
 use Rattle.gw_record.specs.declared.entry.Entry.{Entry}
 use Rattle.gw_record.specs.Recorded.{replayed, state_following, IsReplay}
-use Rattle.gw_record.specs.Recording.{Recording, Replays, Tape, noted, rolled, call_of, tape_on, tape_with}
+use Rattle.gw_record.specs.Recording.{Recording, Replays, Tape, rolled, call_of, tape_on, tape_with}
 
 -- what a step leads to
 pub following : (setup : Setup) (s : State) (step : Step) (reply : Result Reply StepFault) (new : State)

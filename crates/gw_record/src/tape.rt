@@ -7,6 +7,7 @@ use gw_hub::Hub;
 use gw_model::Memory;
 use std::alloc::Global;
 use std::marker::Model;
+use std::mem;
 
 /// A hub as it was, how many calls each actor had made then, and the calls since.
 #[derive(Debug, Drop)]
@@ -15,6 +16,8 @@ pub struct Tape {
     capacity: usize,
     base: Hub,
     before: Vec<u64>,
+    /// The base before this one, whose memory the next one takes over.
+    spare: Option<Hub>,
     /// The calls, of which the first `used` count. What stands behind them is from before the last roll, and is let go
     /// one by one as it is written over, so that a roll takes no longer the more calls it forgets.
     slots: Vec<Entry>,
@@ -48,6 +51,7 @@ impl Tape {
             capacity,
             base: hub.copy()?,
             before: Vec::from_slice(alloc, counts)?,
+            spare: None,
             slots: Vec::with_capacity(alloc, capacity)?,
             used: 0,
         })
@@ -78,9 +82,12 @@ impl Tape {
         ensures ok { OnOk result (self.new ≡ tape_on hub.now counts.now self.old.capacity) }
         ensures err { OnErr result (self.new ≡ self.old) }
     {
-        let base = hub.copy()?;
+        let base = match self.spare.take() {
+            Some(spare) => hub.copy_over(spare)?,
+            None => hub.copy()?,
+        };
         self.before = Vec::from_slice(self.alloc, counts)?;
-        self.base = base;
+        self.spare = Some(mem::replace(&mut self.base, base));
         self.used = 0;
         Ok(())
     }

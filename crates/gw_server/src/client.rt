@@ -1,13 +1,14 @@
 //! One place for clients: its workers, client after client.
 
+use crate::board::ClientCard;
 use crate::ending::Ending;
-use crate::event::Event;
 use crate::host::Host;
+use crate::house::House;
 use crate::lobby::{Lobby, Visit};
-use crate::serving::House;
 use crate::sockets::{ClientSocket, shut};
 use gw_hub::{Step, Why};
-use gw_threads::{Clock, Gate, Pass, WorkerEnd, client_reader, client_writer};
+use gw_journal::{Cause, Event};
+use gw_threads::{Clock, Gate, Pass, WorkerEnd, client_reader, client_writer, make_call};
 use std::net::TcpStream;
 use std::sync::ledger::Ledger;
 use std::thread;
@@ -27,11 +28,17 @@ pub fn serve_place<L: Ledger + Send + Sync, R: Host, C: Clock + Sync, G: Gate + 
     passes: Passes<L>,
 ) -> Passes<L> {
     let mut passes = passes;
+    let Some(card) = house.board.client(place) else {
+        return passes;
+    };
     for _ in house.rt.forever() {
         let Some(visit) = lobby.next(house.rt, place) else {
             break;
         };
-        passes = serve_visit(house, place, passes, visit);
+        passes = serve_visit(house, card, place, passes, visit);
+        if lobby.free(house.rt, place) {
+            house.tell(Event::PlaceFree);
+        }
     }
     passes
 }
@@ -39,6 +46,7 @@ pub fn serve_place<L: Ledger + Send + Sync, R: Host, C: Clock + Sync, G: Gate + 
 /// Serves one client.
 fn serve_visit<L: Ledger + Send + Sync, R: Host, C: Clock + Sync, G: Gate + Sync>(
     house: &House<'_, L, R, C, G>,
+    card: &ClientCard,
     client: u8,
     passes: Passes<L>,
     visit: Visit,
@@ -47,13 +55,29 @@ fn serve_visit<L: Ledger + Send + Sync, R: Host, C: Clock + Sync, G: Gate + Sync
     let Visit { stream, address } = visit;
     let moment = house.clock.moment();
     let up = Step::ClientUp { client, moment };
-    let (_, answer) = house.shared.step(house.rt, &mut passes.reader, up);
-    if answer.is_err() {
+    let watched = house.watched();
+    if make_call(house.rt, house.shared, &mut passes.reader, up, &watched).is_err() {
         shut(&stream);
+        card.free(house.rt);
         return passes;
     }
+    card.figures
+        .lock(house.rt)
+        .connected(address, house.clock.wall());
     house.tell(Event::ClientConnected { client, address });
     let (passes, cause) = exchange(house, client, passes, &stream);
+    let cause = told_as(house, card, cause);
+    let dropped = house.shared.figures(house.rt).dropped;
+    let total = dropped.get(usize::from(client)).copied().unwrap_or(0);
+    if let Some(count) = card.dropped_in_all(house.rt, total) {
+        house.tell(Event::NewsDropped {
+            client,
+            address,
+            count,
+        });
+    }
+    card.figures.lock(house.rt).ended(&cause);
+    card.free(house.rt);
     house.tell(Event::ClientLost {
         client,
         address,
@@ -62,13 +86,30 @@ fn serve_visit<L: Ledger + Send + Sync, R: Host, C: Clock + Sync, G: Gate + Sync
     passes
 }
 
+/// Why a connection ended, by what its workers met.
+fn told_as<L: Ledger, R: Host, C: Clock, G: Gate>(
+    house: &House<'_, L, R, C, G>,
+    card: &ClientCard,
+    met: Cause,
+) -> Cause {
+    match met {
+        _ if house.shared.stopping() => Cause::GatewayEnds,
+        // While the server goes on, the core lets go of a client by itself at a tick alone.
+        Cause::GatewayEnds => Cause::Closed(Why::Timer),
+        Cause::EndOfInput | Cause::NotRead(_) | Cause::NotWritten(_) if card.leaves(house.rt) => {
+            Cause::GaveWay
+        }
+        other => other,
+    }
+}
+
 /// Both workers of a connection, until both have ended; why it ended.
 fn exchange<L: Ledger + Send + Sync, R: Host, C: Clock + Sync, G: Gate + Sync>(
     house: &House<'_, L, R, C, G>,
     client: u8,
     passes: Passes<L>,
     stream: &TcpStream,
-) -> (Passes<L>, WorkerEnd) {
+) -> (Passes<L>, Cause) {
     let Passes { reader, writer } = passes;
     let ending = Ending::new();
     let ended = &ending;
@@ -77,11 +118,7 @@ fn exchange<L: Ledger + Send + Sync, R: Host, C: Clock + Sync, G: Gate + Sync>(
         move || write(house, client, writer, stream, ended),
         move || read_from(house, client, reader, stream, ended),
     );
-    let cause = match ending.cause(read, written) {
-        // While the server goes on, the core lets go of a client by itself at a tick alone.
-        WorkerEnd::Stopping if !house.shared.stopping() => WorkerEnd::Closed(Why::Timer),
-        other => other,
-    };
+    let cause = ending.cause(read, written);
     (Passes { reader, writer }, cause)
 }
 

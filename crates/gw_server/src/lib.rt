@@ -2,20 +2,31 @@
 //! core, each in a thread of its own.
 #![tactic(auto)]
 
+mod accepting;
+mod board;
 mod client;
+mod duty;
 mod ending;
-mod event;
+mod hold;
 mod host;
-mod journal;
+mod house;
+mod input;
 mod lobby;
+mod lookout;
+mod network;
+mod options;
 mod outstation;
 mod plan;
 mod serving;
 mod sockets;
+mod status;
 mod system_clock;
 mod watched;
 
+pub use gw_journal::{Event, Journal};
 pub use gw_threads::{Clock, Closed, Gate, OpenGate, Place};
 pub use host::Host;
-pub use serving::{open, serve};
+pub use network::Network;
+pub use options::Options;
+pub use serving::{journal_of, open, serve, serve_as};
 pub use system_clock::SystemClock;

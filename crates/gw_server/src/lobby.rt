@@ -15,9 +15,9 @@ pub struct Visit {
 /// One place.
 #[derive(Drop)]
 enum Seat {
-    /// Its workers haven't come back from their last client, or have never come.
+    /// Its workers haven't come back from their last client.
     Taken,
-    /// Its workers wait.
+    /// No client has it.
     Free,
     /// Its workers are to serve this client.
     Given(Visit),
@@ -27,6 +27,9 @@ enum Seat {
 #[derive(Drop)]
 struct Seats {
     seats: Vec<Seat>,
+    /// No further client is accepted.
+    ended: bool,
+    /// No further client comes.
     closed: bool,
 }
 
@@ -39,32 +42,51 @@ pub struct Lobby {
 }
 
 impl Lobby {
-    /// So many places, all taken until their workers come.
+    /// So many places, all free: their workers come before anybody is accepted, or find whom they were given.
     pub fn new(alloc: Global, places: u8) -> Result<Lobby, Memory> {
         let mut seats = Vec::with_capacity(alloc, usize::from(places))?;
         for _ in 0..places {
-            seats.push(Seat::Taken)?;
+            seats.push(Seat::Free)?;
         }
         Ok(Lobby {
             seats: Mutex::new(Seats {
                 seats,
+                ended: false,
                 closed: false,
             }),
             changed: Condvar::new(),
         })
     }
 
-    /// Waits until a place is free.
-    pub fn wait_for_seat<R: Wait>(&self, rt: &R) {
-        let _seats = self
+    /// Waits until a place is free; whether a client is to be accepted for it.
+    pub fn wait_for_seat<R: Wait>(&self, rt: &R) -> bool {
+        let seats = self
             .changed
-            .wait_while(rt, self.seats.lock(rt), |seats| !seats.has_free());
+            .wait_while(rt, self.seats.lock(rt), |seats| seats.is_full());
+        !seats.ended
     }
 
-    /// Gives a client the lowest place that is free.
-    pub fn seat<R: Wait>(&self, rt: &R, visit: Visit) {
-        self.seats.lock(rt).give(visit);
+    /// The lowest place that is free. It stays so until it is given.
+    pub fn free_place<R: Wait>(&self, rt: &R) -> Option<u8> {
+        self.seats.lock(rt).free_place()
+    }
+
+    /// Gives a client a place that is free; whether none is then.
+    pub fn seat<R: Wait>(&self, rt: &R, place: u8, visit: Visit) -> bool {
+        let was_last = self.seats.lock(rt).give(place, visit);
         self.changed.notify_all();
+        was_last
+    }
+
+    /// No further client is accepted.
+    pub fn end<R: Wait>(&self, rt: &R) {
+        self.seats.lock(rt).ended = true;
+        self.changed.notify_all();
+    }
+
+    /// Whether no further client is accepted.
+    pub fn has_ended<R: Wait>(&self, rt: &R) -> bool {
+        self.seats.lock(rt).ended
     }
 
     /// No further client comes.
@@ -73,10 +95,15 @@ impl Lobby {
         self.changed.notify_all();
     }
 
+    /// The workers of a place are there again; whether no place was free before.
+    pub fn free<R: Wait>(&self, rt: &R, place: u8) -> bool {
+        let was_full = self.seats.lock(rt).free(place);
+        self.changed.notify_all();
+        was_full
+    }
+
     /// The workers of a place wait for their next client; none where no further one comes.
     pub fn next<R: Wait>(&self, rt: &R, place: u8) -> Option<Visit> {
-        self.seats.lock(rt).free(place);
-        self.changed.notify_all();
         let mut seats = self
             .changed
             .wait_while(rt, self.seats.lock(rt), |seats| seats.is_idle(place));
@@ -89,22 +116,38 @@ impl Seats {
         self.seats.iter().any(|seat| matches!(seat, Seat::Free))
     }
 
-    /// The workers of a place are there.
-    fn free(&mut self, place: u8) {
-        if let Some(seat) = self.seats.get_mut(usize::from(place)) {
-            *seat = Seat::Free;
+    /// Whether it makes no sense to go on: no place is free, and clients may still be accepted.
+    fn is_full(&self) -> bool {
+        !self.ended && !self.has_free()
+    }
+
+    /// The workers of a place are there; a client that it was given already stays. Whether no place was free before.
+    fn free(&mut self, place: u8) -> bool {
+        let was_full = !self.closed && !self.has_free();
+        match self.seats.get_mut(usize::from(place)) {
+            Some(seat) if matches!(seat, Seat::Taken) => {
+                *seat = Seat::Free;
+                was_full
+            }
+            _ => false,
         }
     }
 
-    /// Gives a client the lowest place that is free. Where there is none, which nobody does, it is let go.
-    fn give(&mut self, visit: Visit) {
+    /// The lowest place that is free.
+    fn free_place(&self) -> Option<u8> {
         let place = self
             .seats
             .iter()
-            .position(|seat| matches!(seat, Seat::Free));
-        if let Some(place) = place {
-            self.seats[place] = Seat::Given(visit);
+            .position(|seat| matches!(seat, Seat::Free))?;
+        u8::try_from(place).ok()
+    }
+
+    /// Gives a client a place; whether none is free then.
+    fn give(&mut self, place: u8, visit: Visit) -> bool {
+        if let Some(seat) = self.seats.get_mut(usize::from(place)) {
+            *seat = Seat::Given(visit);
         }
+        !self.has_free()
     }
 
     /// Whether the workers of a place have nothing to do yet.

@@ -2,25 +2,23 @@
 
 use crate::client::Passes;
 use crate::ending::Ending;
-use crate::event::Event;
 use crate::host::Host;
+use crate::house::House;
+use crate::lookout::pause;
 use crate::plan::Plan;
-use crate::serving::House;
 use crate::sockets::{OutstationSocket, shut};
 use dnp_receive::Receiver;
 use gw_hub::Step;
-use gw_threads::{Clock, Gate, Line, Pass, WorkerEnd, outstation_reader, outstation_writer};
-use std::io::{self, ErrorKind};
+use gw_journal::{Cause, Event, Failure};
+use gw_threads::{
+    Clock, Gate, Line, Pass, WorkerEnd, make_call, outstation_reader, outstation_writer,
+};
 use std::net::{TcpStream, ToSocketAddrs};
 use std::sync::ledger::Ledger;
 use std::thread;
-use std::time::Duration;
 
-/// The milliseconds of a piece of a pause, after each of which the server may end.
-const PIECE_MS: u64 = 100;
-
-/// How many pieces lie between two connections.
-const PIECES: u32 = 10;
+/// The milliseconds behind which it is told again that no connection could be made, though for the same reason.
+const AGAIN_MS: u64 = 3_600_000;
 
 /// Keeps a connection to an outstation, until the server ends.
 pub fn serve_outstation<L: Ledger + Send + Sync, R: Host, C: Clock + Sync, G: Gate + Sync>(
@@ -41,8 +39,9 @@ pub fn serve_outstation<L: Ledger + Send + Sync, R: Host, C: Clock + Sync, G: Ga
                 passes = serve_connection(house, outstation, plan, passes, stream);
             }
             Err(cause) => {
-                if told != Some(cause) {
-                    told = Some(cause);
+                let wall = house.clock.wall();
+                if is_news(told, cause, wall) {
+                    told = Some((cause, wall));
                     house.tell(Event::OutstationUnreachable { outstation, cause });
                 }
             }
@@ -52,33 +51,28 @@ pub fn serve_outstation<L: Ledger + Send + Sync, R: Host, C: Clock + Sync, G: Ga
     passes
 }
 
-/// Connects to an outstation: to the first of its addresses that answers.
-fn connect<R: Host>(rt: &R, plan: &Plan) -> Result<TcpStream, ErrorKind> {
-    match connect_to(rt, plan) {
-        Ok(stream) => Ok(stream),
-        Err(error) => Err(error.kind()),
+/// Whether it is to be told that no connection could be made: for another reason than it was told, or an hour later.
+fn is_news(told: Option<(Failure, u64)>, cause: Failure, wall: u64) -> bool {
+    match told {
+        Some((before, at)) => before != cause || wall.saturating_sub(at) >= AGAIN_MS,
+        None => true,
     }
 }
 
-fn connect_to<R: Host>(rt: &R, plan: &Plan) -> io::Result<TcpStream> {
-    let mut last = io::Error::from(ErrorKind::NotFound);
-    for address in plan.connect.as_str().to_socket_addrs(rt)? {
+/// Connects to an outstation: to the first of its addresses that answers.
+fn connect<R: Host>(rt: &R, plan: &Plan) -> Result<TcpStream, Failure> {
+    let addresses = match plan.connect.as_str().to_socket_addrs(rt) {
+        Ok(addresses) => addresses,
+        Err(error) => return Err(Failure::of_look_up(error.kind())),
+    };
+    let mut last = Failure::NoSuchHost;
+    for address in addresses {
         match TcpStream::connect_timeout(rt, &address, plan.connecting()) {
             Ok(stream) => return Ok(stream),
-            Err(error) => last = error,
+            Err(error) => last = Failure::from(error.kind()),
         }
     }
     Err(last)
-}
-
-/// Lets a second pass, or less where the server ends.
-fn pause<L: Ledger, R: Host, C: Clock, G: Gate>(house: &House<'_, L, R, C, G>) {
-    for _ in 0..PIECES {
-        if house.shared.stopping() {
-            return;
-        }
-        thread::sleep(house.rt, Duration::from_millis(PIECE_MS));
-    }
 }
 
 /// One connection, from its up step to its end.
@@ -92,13 +86,19 @@ fn serve_connection<L: Ledger + Send + Sync, R: Host, C: Clock + Sync, G: Gate +
     let mut passes = passes;
     let moment = house.clock.moment();
     let up = Step::OutstationUp { outstation, moment };
-    let (_, answer) = house.shared.step(house.rt, &mut passes.reader, up);
-    if answer.is_err() {
+    let watched = house.watched();
+    if make_call(house.rt, house.shared, &mut passes.reader, up, &watched).is_err() {
         shut(&stream);
         return passes;
     }
+    if let Some(card) = house.board.outstation(outstation) {
+        card.figures.lock(house.rt).connected(house.clock.wall());
+    }
     house.tell(Event::OutstationConnected { outstation });
     let (passes, cause) = exchange(house, outstation, plan, passes, &stream);
+    if let Some(card) = house.board.outstation(outstation) {
+        card.figures.lock(house.rt).lost();
+    }
     house.tell(Event::OutstationLost { outstation, cause });
     passes
 }
@@ -110,7 +110,7 @@ fn exchange<L: Ledger + Send + Sync, R: Host, C: Clock + Sync, G: Gate + Sync>(
     plan: &Plan,
     passes: Passes<L>,
     stream: &TcpStream,
-) -> (Passes<L>, WorkerEnd) {
+) -> (Passes<L>, Cause) {
     let Passes { reader, writer } = passes;
     let ending = Ending::new();
     let socket = OutstationSocket::new(stream, &ending, plan.silence, plan.response);
@@ -121,7 +121,11 @@ fn exchange<L: Ledger + Send + Sync, R: Host, C: Clock + Sync, G: Gate + Sync>(
         move || write(house, outstation, writer, shared_line, stream, ended),
         move || read_from(house, outstation, plan, reader, shared_line, stream, ended),
     );
-    let cause = ending.cause(read, written);
+    let cause = if house.shared.stopping() {
+        Cause::GatewayEnds
+    } else {
+        plan.in_words(ending.cause(read, written))
+    };
     (Passes { reader, writer }, cause)
 }
 

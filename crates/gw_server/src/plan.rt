@@ -1,5 +1,6 @@
 //! What the settings say of the connections.
 
+use gw_journal::{Cause, Failure};
 use gw_map::Settings;
 use gw_model::Memory;
 use std::alloc::Global;
@@ -28,6 +29,19 @@ impl Plan {
     pub fn connecting(&self) -> Duration {
         self.response
             .min(Duration::from_millis(LONGEST_CONNECTING_MS))
+    }
+
+    /// Why a connection ended: where a wait took too long, how long it was.
+    pub fn in_words(&self, cause: Cause) -> Cause {
+        match cause {
+            Cause::NotRead(Failure::NoAnswer) => Cause::Silent {
+                seconds: self.silence.as_secs(),
+            },
+            Cause::NotWritten(Failure::NoAnswer) => Cause::Slow {
+                milliseconds: u64::try_from(self.response.as_millis()).unwrap_or(u64::MAX),
+            },
+            other => other,
+        }
     }
 }
 

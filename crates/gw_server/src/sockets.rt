@@ -83,8 +83,8 @@ fn arrival(read: io::Result<usize>, room: usize, ending: &Ending) -> Arrival
             Arrival::End
         }
         Ok(count) => Arrival::Octets(count),
-        Err(_) => {
-            ending.reader();
+        Err(error) => {
+            ending.not_read(error.kind());
             Arrival::Fault
         }
     }
@@ -116,10 +116,13 @@ impl<'a> Incoming for OutstationSocket<'a> {
 }
 
 /// Writes all octets. A write that takes none fails, an interrupted one is made again.
-fn write(mut stream: &TcpStream, octets: &[u8]) -> Result<(), Unwritten> {
+fn write(mut stream: &TcpStream, octets: &[u8], ending: &Ending) -> Result<(), Unwritten> {
     match stream.write_all(octets) {
         Ok(()) => Ok(()),
-        Err(_) => Err(Unwritten),
+        Err(error) => {
+            ending.not_written(error.kind());
+            Err(Unwritten)
+        }
     }
 }
 
@@ -129,7 +132,7 @@ impl<'a> Outgoing for ClientSocket<'a> {
     ghost can_fail = { λ _. Unit {0} };
 
     fn hand(&mut self, octets: &[u8]) -> Result<(), Unwritten> {
-        write(self.stream, octets)
+        write(self.stream, octets, self.ending)
     }
 }
 
@@ -139,6 +142,6 @@ impl<'a> Outgoing for OutstationSocket<'a> {
     ghost can_fail = { λ _. Unit {0} };
 
     fn hand(&mut self, octets: &[u8]) -> Result<(), Unwritten> {
-        write(self.stream, octets)
+        write(self.stream, octets, self.ending)
     }
 }

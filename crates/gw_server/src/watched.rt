@@ -1,18 +1,81 @@
-//! The server's gate: it tells the journal of refused fragments, and hands on to the gate that it was given.
+//! The server's gate: it keeps what is known of each peer, tells the journal what an operator should know, and hands on to the
+//! gate that it was given. No lock of the core is held here.
 
-use crate::event::Event;
-use crate::journal::Journal;
+use crate::board::Board;
 use dnp_app::AppFault;
-use gw_threads::{Clock, Gate, Place};
+use gw_hub::{Reply, Step, Verdict};
+use gw_journal::{Event, Journal, Noticed, Unreadable};
+use gw_threads::{About, Call, Clock, Gate, Place, Run};
+use iec_apci::{Apdu, Signal};
 use std::sync::Wait;
 
-/// A gate with the journal beside it.
+/// WRITE (IEEE Std 1815, 4.4.3).
+const WRITE: u8 = 2;
+
+/// The group of times.
+const TIMES: u8 = 50;
+
+/// A gate with the journal and the board beside it.
 #[derive(Clone, Copy)]
 pub struct Watched<'a, R, C, G> {
     pub rt: &'a R,
     pub journal: &'a Journal,
+    pub board: &'a Board,
     pub clock: &'a C,
     pub gate: &'a G,
+}
+
+impl<'a, R: Wait, C: Clock, G: Gate> Watched<'a, R, C, G> {
+    /// Tells an operator what happened just now.
+    fn tell(&self, event: Event) {
+        self.journal.tell(self.rt, self.clock.wall(), event);
+    }
+
+    /// A fragment of an outstation was taken.
+    fn answered(&self, step: u64, outstation: u8, indications: [u8; 2], ended: bool, events: u32) {
+        let Some(card) = self.board.outstation(outstation) else {
+            return;
+        };
+        let wall = self.clock.wall();
+        let noticed = card
+            .figures
+            .lock(self.rt)
+            .answered(step, wall, indications, ended, u64::from(events));
+        self.tell_noticed(outstation, noticed);
+    }
+
+    /// Tells what was noticed of an outstation.
+    fn tell_noticed(&self, outstation: u8, noticed: Noticed) {
+        if noticed.restarted {
+            self.tell(Event::OutstationRestarted { outstation });
+        }
+        if noticed.overflowed {
+            self.tell(Event::EventsOverflowed { outstation });
+        }
+        if noticed.clock_not_set {
+            self.tell(Event::ClockNotSet { outstation });
+        }
+    }
+
+    /// A client sent the act of a U format.
+    fn signalled(&self, client: u8, signal: Signal) {
+        let Some(card) = self.board.client(client) else {
+            return;
+        };
+        match signal {
+            Signal::StartAct => {
+                if let Some(address) = card.transfers(self.rt, true) {
+                    self.tell(Event::TransferStarted { client, address });
+                }
+            }
+            Signal::StopAct => {
+                if let Some(address) = card.transfers(self.rt, false) {
+                    self.tell(Event::TransferStopped { client, address });
+                }
+            }
+            Signal::TestAct | Signal::StartCon | Signal::StopCon | Signal::TestCon => {}
+        }
+    }
 }
 
 impl<'a, R: Wait, C: Clock, G: Gate> Gate for Watched<'a, R, C, G> {
@@ -20,12 +83,81 @@ impl<'a, R: Wait, C: Clock, G: Gate> Gate for Watched<'a, R, C, G> {
         self.gate.at(actor, place);
     }
 
-    fn refused(&self, outstation: u8, fault: &AppFault) {
-        self.gate.refused(outstation, fault);
-        let event = Event::FragmentRefused {
-            outstation,
-            fault: *fault,
+    fn refused(&self, outstation: u8, octets: &[u8], fault: &AppFault) {
+        self.gate.refused(outstation, octets, fault);
+        let Some(card) = self.board.outstation(outstation) else {
+            return;
         };
-        self.journal.tell(self.rt, self.clock.wall(), event);
+        let (wall, fault) = (self.clock.wall(), Unreadable::of(fault, octets));
+        let told = card.figures.lock(self.rt).refused(wall, fault);
+        if let Some(left_out) = told {
+            self.tell(Event::FragmentRefused {
+                outstation,
+                fault,
+                left_out,
+            });
+        }
     }
+
+    fn skipped(&self, outstation: u8, octets: u32) {
+        self.gate.skipped(outstation, octets);
+        if let Some(card) = self.board.outstation(outstation) {
+            card.figures.lock(self.rt).skipped(u64::from(octets));
+        }
+    }
+
+    fn line_of(&self, step: &Step) -> Option<Vec<u8>> {
+        if let Step::Frame {
+            client,
+            apdu: Apdu::U(Signal::StartAct),
+            ..
+        } = step
+        {
+            if let Some(card) = self.board.client(*client) {
+                card.keeps_place(self.rt);
+            }
+        }
+        self.gate.line_of(step)
+    }
+
+    fn made(&self, call: Call<'_>) {
+        match (call.about, call.reply) {
+            (
+                About::Fragment {
+                    outstation,
+                    indications,
+                    events,
+                    ..
+                },
+                Ok(Reply::Verdict(Verdict::Accepted { end, .. })),
+            ) => self.answered(call.number, outstation, indications, *end, events),
+            (About::Poll(outstation), Ok(Reply::Request(request))) => {
+                if let Some(card) = self.board.outstation(outstation) {
+                    let writes_time = writes_time(request.as_slice());
+                    card.figures
+                        .lock(self.rt)
+                        .asked(call.number, true, writes_time);
+                }
+            }
+            (
+                About::Frame {
+                    client,
+                    signal: Some(signal),
+                    ..
+                },
+                Ok(Reply::Taken),
+            ) => self.signalled(client, signal),
+            _ => {}
+        }
+        self.gate.made(call);
+    }
+
+    fn pumped(&self, run: &Run<'_>) {
+        self.gate.pumped(run);
+    }
+}
+
+/// Whether a request writes the time: function WRITE, and an object of group 50.
+fn writes_time(request: &[u8]) -> bool {
+    request.get(1) == Some(&WRITE) && request.get(2) == Some(&TIMES)
 }

@@ -1,3 +1,4 @@
 pub mod Counting
 pub mod Passes
 pub mod Turns
+pub mod Pumping

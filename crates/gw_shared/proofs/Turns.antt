@@ -1,10 +1,9 @@
 -- What a call on the core tells whoever takes the lock.
-use Rattle.std.proofs.Common.{◌≡◌, ◌⊎◌, inl, inr, ℕ, ◌+◌, ◌<◌, ◌≤◌, Result, arith}
+use Rattle.std.proofs.Common.{◌≡◌, ◌⊎◌, inl, inr, ℕ, ◌<◌, ◌≤◌, Result, arith}
 use Rattle.gw_steps.specs.declared.step.Step.{Step}
 use Rattle.gw_steps.specs.declared.step.Reply.{Reply}
 use Rattle.gw_steps.specs.declared.step.StepFault.{StepFault}
-use Rattle.gw_hub.specs.Hub.{Hub}
-use Rattle.gw_shared.specs.Turn.{Answers, Core, IsAnswered, IsLast, IsRefused, IsTurn, Pass, Steps, last_call}
+use Rattle.gw_shared.specs.Turn.{Answers, Core, Pass, Steps, last_call}
 
 -- a core whose state is sound answers so
 pub answered : (old new : Core) (mine after : Pass) (step : Step) (answer : ℕ × Result Reply StepFault)

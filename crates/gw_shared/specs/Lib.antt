@@ -1,2 +1,3 @@
 pub mod Turn
 pub mod Totals
+pub mod Pumping

@@ -2,15 +2,21 @@
 //! the lock alike, so that whoever has all passes again knows how many steps were made.
 #![tactic(auto)]
 
+mod batch;
 mod bell;
 mod close;
+mod figures;
 mod locked;
 mod pass;
+mod pumped;
 mod roused;
 mod shared;
 
+pub use batch::{Batch, LONGEST_APDU};
 pub use bell::Bell;
 pub use close::{CloseFault, Closed};
+pub use figures::Figures;
 pub use locked::Core;
 pub use pass::Pass;
+pub use pumped::{Pumped, apdu_in};
 pub use shared::Shared;

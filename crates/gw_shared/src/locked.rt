@@ -3,15 +3,23 @@ ghost use Rattle.std.specs.Prelude.{◌≡◌, ◌+◌, ◌<◌, ◌≤◌, fals
 ghost use Rattle.gw_steps.specs.Sound.{IsSound};
 ghost use Rattle.gw_steps.specs.Steps.{Allowed};
 ghost use Rattle.gw_record.specs.Recording.{is_tape_full, noted};
+ghost use Rattle.gw_shared.specs.Pumping.{IsPumpedNext, IsPumpedRun};
 ghost use Rattle.gw_shared.specs.Turn.{last_call, Answers, IsMadeReady, Steps};
 
+use crate::batch::{Batch, LONGEST_APDU};
+use crate::figures::Figures;
 use crate::pass::Pass;
+use crate::pumped::{Pumped, apdu_in};
+use crate::roused::{Roused, Topic};
 use gw_hub::{Hub, Reply, Step, StepFault};
 use gw_model::Memory;
 use gw_record::Recorder;
 use std::alloc::Global;
 use std::marker::Model;
 use std::sync::ledger::{Book, Ledger, Share};
+
+/// How many pumps are made at most before others may take the lock.
+const MOST_PUMPS: u32 = 64;
 
 /// A hub with its recorder, the count of calls, and the book of all passes' counts.
 #[derive(Drop)]
@@ -73,15 +81,58 @@ impl<L: Ledger> Core<L> {
         self.make(pass, step)
     }
 
-    /// The same call, of which the lock's taker knows what all calls keep.
+    /// The same call, of which the lock's taker knows what all calls keep; and whom it serves.
     pub(crate) fn answer(
         &mut self,
         pass: &mut Pass<L>,
         step: Step,
-    ) -> (u64, Result<Reply, StepFault>)
-        ensures { Answers pass.old pass.new step result }
+    ) -> ((u64, Result<Reply, StepFault>), Roused)
+        ensures { Answers pass.old pass.new step result.0 }
     {
-        self.step(pass, step)
+        let topic = Topic::of(&step);
+        let answer = self.step(pass, step);
+        let roused = Roused::by(topic, &answer.1, &self.hub);
+        (answer, roused)
+    }
+
+    /// Pumps for a client at a moment, one call after another, and puts the APDUs into a batch: until an answer is none, or
+    /// there is no room for one more.
+    pub fn pump(&mut self, pass: &mut Pass<L>, client: u8, moment: u64, batch: &mut Batch) -> Pumped
+        ensures run { IsPumpedRun client batch.old batch.new result }
+        ensures own { pass.new.actor ≡ pass.old.actor }
+    {
+        'pumps: for _ in 0..MOST_PUMPS {
+            if let Some(pumped) = self.pump_next(pass, client, moment, batch) {
+                return pumped;
+            }
+        }
+        Pumped::More
+    }
+
+    /// Pumps once; how the run ended, if it did.
+    #[tactic(auto, using(crate::proofs::Pumping::given_pumped, crate::proofs::Pumping::same_actor, crate::proofs::Pumping::pumped_apdu))]
+    fn pump_next(
+        &mut self,
+        pass: &mut Pass<L>,
+        client: u8,
+        moment: u64,
+        batch: &mut Batch,
+    ) -> Option<Pumped>
+        ensures run { IsPumpedNext client batch.old batch.new result }
+        ensures own { pass.new.actor ≡ pass.old.actor }
+    {
+        if !batch.has_room(LONGEST_APDU) {
+            return Some(Pumped::More);
+        }
+        let ((number, answer), _) = self.answer(pass, Step::Pump { client, moment });
+        batch.number(number);
+        match apdu_in(answer) {
+            Some(apdu) => {
+                batch.add(apdu.as_slice());
+                None
+            }
+            None => Some(Pumped::Ended(answer)),
+        }
     }
 
     /// A full recorder begins anew at the hub as it is now, or goes off where there is no memory for that.
@@ -122,6 +173,11 @@ impl<L: Ledger> Core<L> {
     /// Whether a client is up.
     pub fn stands(&self, client: u8) -> bool {
         self.hub.stands(client)
+    }
+
+    /// What is counted.
+    pub fn figures(&self) -> Figures {
+        Figures::of(self.made, &self.hub)
     }
 
     /// How many calls were made, for whoever has all passes' shares.

@@ -1,43 +1,150 @@
 //! Whom a step may serve.
 
-use gw_hub::{Reply, Step, StepFault, Verdict};
+use gw_hub::{Hub, Reply, Step, StepFault, Verdict};
 
-/// The workers that a step may bring something to: those that put out. A poll, a pump, and a step with a fault bring
-/// nobody anything.
+/// How many outstations there can be.
+pub const OUTSTATIONS: u8 = 32;
+
+/// How many clients there can be.
+pub const CLIENTS: u8 = 8;
+
+/// What a step is about.
 #[derive(Clone, Copy, Debug, PartialEq, Eq)]
-pub enum Roused {
-    Nobody,
-    /// The writer towards an outstation.
-    Outstation(u8),
-    /// The writer of a client.
+pub enum Topic {
+    /// A poll or a pump, which changes nothing that another waits for.
+    Question,
+    /// A fragment of an outstation.
+    Fragment(u8),
+    /// An outstation comes up.
+    Up(u8),
+    /// An outstation is lost.
+    Loss(u8),
+    /// An APDU of a client, or a client that comes up or is lost.
     Client(u8),
-    /// The writer towards an outstation, and those of all clients.
-    OutstationAndClients(u8),
-    Everybody,
+    /// Time.
+    Tick,
+}
+
+impl Topic {
+    /// What a step is about.
+    pub fn of(step: &Step) -> Topic {
+        match step {
+            Step::OutstationUp { outstation, .. } => Topic::Up(*outstation),
+            Step::OutstationDown { outstation, .. } => Topic::Loss(*outstation),
+            Step::Fragment { response, .. } => Topic::Fragment(response.outstation()),
+            Step::ClientUp { client, .. }
+            | Step::ClientDown { client, .. }
+            | Step::Frame { client, .. } => Topic::Client(*client),
+            Step::Tick { .. } => Topic::Tick,
+            Step::Poll { .. } | Step::Pump { .. } => Topic::Question,
+        }
+    }
+}
+
+/// The workers that a step serves: the writers towards outstations, and those of clients, a bit for each.
+#[derive(Clone, Copy, Debug, PartialEq, Eq)]
+pub struct Roused {
+    outstations: u32,
+    clients: u8,
 }
 
 impl Roused {
-    /// Whom a step serves where it is answered without a fault.
-    pub fn by(step: &Step) -> Roused {
-        match step {
-            Step::OutstationUp { outstation, .. } => Roused::Outstation(*outstation),
-            Step::OutstationDown { outstation, .. } => Roused::OutstationAndClients(*outstation),
-            Step::Fragment { response, .. } => Roused::OutstationAndClients(response.outstation()),
-            Step::ClientUp { client, .. }
-            | Step::ClientDown { client, .. }
-            | Step::Frame { client, .. } => Roused::Client(*client),
-            Step::Tick { .. } => Roused::Everybody,
-            Step::Poll { .. } | Step::Pump { .. } => Roused::Nobody,
+    /// No worker.
+    pub fn nobody() -> Roused {
+        Roused {
+            outstations: 0,
+            clients: 0,
         }
     }
 
-    /// Whom it serves with this reply: a fragment that wasn't accepted brings nothing.
-    pub fn after(self, reply: &Result<Reply, StepFault>) -> Roused {
-        match reply {
-            Err(_) | Ok(Reply::Verdict(Verdict::Repeated { .. } | Verdict::Ignored(_))) => {
-                Roused::Nobody
-            }
-            Ok(_) => self,
+    /// All workers.
+    pub fn everybody() -> Roused {
+        Roused {
+            outstations: u32::MAX,
+            clients: u8::MAX,
         }
     }
+
+    /// Whom a step serves that left the hub so with this reply: a peer that came, went or sent something finds its own
+    /// writer awake; besides these, whoever has something to hand over now. A step with a fault, and a fragment that wasn't
+    /// accepted, serve nobody.
+    pub fn by(topic: Topic, reply: &Result<Reply, StepFault>, hub: &Hub) -> Roused {
+        match (topic, reply) {
+            (_, Err(_) | Ok(Reply::Verdict(Verdict::Repeated { .. } | Verdict::Ignored(_)))) => {
+                Roused::nobody()
+            }
+            (_, Ok(Reply::Ticked { closed })) => Roused {
+                outstations: due_outstations(hub),
+                clients: closed | due_clients(hub),
+            },
+            (Topic::Fragment(outstation), Ok(_)) => Roused {
+                outstations: if hub.is_poll_due(outstation) {
+                    outstation_bit(outstation)
+                } else {
+                    0
+                },
+                clients: due_clients(hub),
+            },
+            (Topic::Up(outstation) | Topic::Loss(outstation), Ok(_)) => Roused {
+                outstations: outstation_bit(outstation),
+                clients: due_clients(hub),
+            },
+            (Topic::Client(client), Ok(_)) => Roused {
+                outstations: 0,
+                clients: client_bit(client),
+            },
+            (Topic::Question | Topic::Tick, Ok(_)) => Roused::nobody(),
+        }
+    }
+
+    /// Whether the writer towards an outstation is among them.
+    pub fn has_outstation(self, outstation: u8) -> bool {
+        self.outstations & outstation_bit(outstation) != 0
+    }
+
+    /// Whether the writer of a client is.
+    pub fn has_client(self, client: u8) -> bool {
+        self.clients & client_bit(client) != 0
+    }
+
+    /// Whether nobody is.
+    pub fn is_nobody(self) -> bool {
+        self.outstations == 0 && self.clients == 0
+    }
+}
+
+/// The bit of an outstation; none beyond the 32nd.
+fn outstation_bit(outstation: u8) -> u32 {
+    if outstation < OUTSTATIONS {
+        1 << outstation
+    } else {
+        0
+    }
+}
+
+/// The bit of a client; none beyond the eighth.
+fn client_bit(client: u8) -> u8 {
+    if client < CLIENTS { 1 << client } else { 0 }
+}
+
+/// The outstations towards which a request is due.
+fn due_outstations(hub: &Hub) -> u32 {
+    let mut due = 0;
+    for outstation in 0..OUTSTATIONS {
+        if hub.is_poll_due(outstation) {
+            due |= outstation_bit(outstation);
+        }
+    }
+    due
+}
+
+/// The clients for which something is to be handed over.
+fn due_clients(hub: &Hub) -> u8 {
+    let mut due = 0;
+    for client in 0..CLIENTS {
+        if hub.is_pump_due(client) {
+            due |= client_bit(client);
+        }
+    }
+    due
 }

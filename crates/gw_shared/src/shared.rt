@@ -1,12 +1,16 @@
 //! The core behind its lock.
 ghost use Rattle.std.specs.Prelude.{◌≡◌, ◌<◌, IfOk, map, vec_len};
 ghost use Rattle.std.specs.List.{range_with_len};
+ghost use Rattle.gw_shared.specs.Pumping.{IsPumpedRun};
 ghost use Rattle.gw_shared.specs.Turn.{unused, Answers};
 
+use crate::batch::Batch;
 use crate::bell::Bell;
+use crate::figures::Figures;
 use crate::locked::Core;
 use crate::pass::Pass;
-use crate::roused::Roused;
+use crate::pumped::Pumped;
+use crate::roused::{CLIENTS, OUTSTATIONS, Roused};
 use gw_hub::{Hub, Reply, Step, StepFault};
 use gw_model::Memory;
 use gw_record::Recorder;
@@ -15,12 +19,6 @@ use std::marker::Model;
 use std::sync::atomic::{AtomicBool, Ordering};
 use std::sync::ledger::{Blank, Ledger, Share};
 use std::sync::{Mutex, Wait};
-
-/// How many outstations there can be.
-const OUTSTATIONS: u8 = 32;
-
-/// How many clients there can be.
-const CLIENTS: u8 = 8;
 
 /// A core for many threads. Each makes its calls with a pass, of which there are as many as actors.
 #[derive(Drop)]
@@ -50,20 +48,6 @@ fn bells(alloc: Global, count: u8) -> Result<Vec<Bell>, Memory> {
         bells.push(Bell::new())?;
     }
     Ok(bells)
-}
-
-/// Rings the bell at a position, if there is one.
-fn ring_at(bells: &[Bell], position: u8) {
-    if let Some(bell) = bells.get(usize::from(position)) {
-        bell.ring();
-    }
-}
-
-/// Rings all of them.
-fn ring_all(bells: &[Bell]) {
-    for bell in bells {
-        bell.ring();
-    }
 }
 
 /// A pass for each actor, cut off a share of all parts.
@@ -129,25 +113,39 @@ impl<L: Ledger> Shared<L> {
     ) -> (u64, Result<Reply, StepFault>)
         ensures { Answers pass.old pass.new step result }
     {
-        let roused = Roused::by(&step);
-        let answer = self.core.lock(rt).answer(pass, step);
-        self.rouse(roused.after(&answer.1));
+        let (answer, roused) = self.core.lock(rt).answer(pass, step);
+        self.rouse(roused);
         answer
+    }
+
+    /// Pumps for a client under one hold of the lock (`Core::pump`), which serves nobody else.
+    pub fn pump<R: Wait>(
+        &self,
+        rt: &R,
+        pass: &mut Pass<L>,
+        client: u8,
+        moment: u64,
+        batch: &mut Batch,
+    ) -> Pumped
+        ensures run { IsPumpedRun client batch.old batch.new result }
+        ensures own { pass.new.actor ≡ pass.old.actor }
+    {
+        self.core.lock(rt).pump(pass, client, moment, batch)
     }
 
     /// Wakes workers.
     fn rouse(&self, roused: Roused) {
-        match roused {
-            Roused::Nobody => {}
-            Roused::Outstation(outstation) => ring_at(&self.outstations, outstation),
-            Roused::Client(client) => ring_at(&self.clients, client),
-            Roused::OutstationAndClients(outstation) => {
-                ring_at(&self.outstations, outstation);
-                ring_all(&self.clients);
+        if roused.is_nobody() {
+            return;
+        }
+        for (outstation, bell) in (0..OUTSTATIONS).zip(&self.outstations) {
+            if roused.has_outstation(outstation) {
+                bell.ring();
             }
-            Roused::Everybody => {
-                ring_all(&self.outstations);
-                ring_all(&self.clients);
+        }
+        for (client, bell) in (0..CLIENTS).zip(&self.clients) {
+            if roused.has_client(client) {
+                bell.ring();
             }
         }
     }
@@ -167,10 +165,15 @@ impl<L: Ledger> Shared<L> {
         self.core.lock(rt).stands(client)
     }
 
+    /// What is counted.
+    pub fn figures<R: Wait>(&self, rt: &R) -> Figures {
+        self.core.lock(rt).figures()
+    }
+
     /// Asks all workers to end.
     pub fn stop(&self) {
         self.stopping.store(true, Ordering::SeqCst);
-        self.rouse(Roused::Everybody);
+        self.rouse(Roused::everybody());
     }
 
     /// Whether the workers were asked to end.

@@ -7,3 +7,4 @@ pub mod Moves
 pub mod Answered
 pub mod Sends
 pub mod Places
+pub mod Rests

@@ -1,5 +1,5 @@
 //! What is known of one client.
-ghost use Rattle.std.specs.Prelude.{◌≡◌, ◌<◌, ◌≤◌, ◌-◌, ◌+◌, ◌^◌, ℕ, ℤ, true, false, None, [], ◌∷◌, drop, length, nat_le, option_map, slice_get, take, IfOk, IfSome, OnErr, OnOk};
+ghost use Rattle.std.specs.Prelude.{◌≡◌, ◌<◌, ◌≤◌, ◌-◌, ◌+◌, ◌^◌, ℕ, ℤ, true, false, None, [], ◌∷◌, ◌&&◌, drop, is_some, length, nat_le, option_map, slice_get, take, IfOk, IfSome, OnErr, OnOk};
 ghost use Rattle.std.specs.List.{AllByRecursion};
 ghost use Rattle.std.specs.VecDeque.{deque_capacity};
 ghost use Rattle.iec_apci.specs.Apdu.{Information};
@@ -10,6 +10,7 @@ ghost use Rattle.iec_window.specs.Steps.{counts_after_sending_i};
 ghost use Rattle.gw_station.specs.Answers.{client_judging, client_told, is_asking, is_pending};
 ghost use Rattle.gw_station.specs.Client.{client_after_close, client_after_tick, client_after_up, client_anew, client_down, client_with_news, is_started, is_timed_out, is_up};
 ghost use Rattle.gw_station.specs.Frames.{asks, begins, client_after_apdu, client_with_session, client_with_signal, closes_judged, event_of, floods, given_command, overfills, wants_memory, HasPlace};
+ghost use Rattle.circular_buffer.specs.Buffer.{buffer};
 ghost use Rattle.gw_station.specs.Kept.{items_in, IsQueue};
 ghost use Rattle.gw_station.specs.Pump.{client_after_pump, client_with_sent, content_of, given, information_offered, line, offered, IsRoomy};
 ghost use Rattle.gw_station.specs.Sound.{CanAnswer, CanTake, IsReturnableSending, IsWholeEvent};
@@ -22,6 +23,7 @@ ghost use Rattle.iec_apci.specs.declared.apdu.Signal.TheVariants as signals;
 
 use crate::client::Stage;
 use crate::event::{Event, Said, Why};
+use crate::rest::Rest;
 use crate::sending::Sending;
 use circular_buffer::HeapCircularBuffer;
 use gw_answers::{
@@ -64,7 +66,7 @@ pub struct Station {
     /// How many of the queue came before the interrogation that is pending.
     older: usize,
     /// What is left of its answer.
-    rest: VecDeque<Part>,
+    rest: Rest,
 }
 
 impl Model for Station {
@@ -84,7 +86,7 @@ impl Model for Station {
       queue = items_in s.queue;
       dropped = s.dropped;
       older = s.older;
-      rest = s.rest.items;
+      rest = s.rest;
     } };
 
     // There is room for 32 confirmations and 32 answers, and in a session for the news that may wait.
@@ -112,7 +114,7 @@ impl Station {
             queue: None,
             dropped: 0,
             older: 0,
-            rest: VecDeque::new(alloc),
+            rest: Rest::none(),
         })
     }
 
@@ -121,13 +123,31 @@ impl Station {
         ensures { IfOk result (λ copy. copy ≡ self.now) }
     {
         let window = self.window.copy()?;
-        let confirmations = copied(&self.confirmations, MOST_CONFIRMATIONS)?;
-        let answers = copied(&self.answers, MOST_ANSWERS)?;
-        let queue = match &self.queue {
-            None => None,
-            Some(news) => Some(copied_news(news)?),
-        };
-        let rest = copied(&self.rest, self.rest.len())?;
+        let none = VecDeque::new(self.alloc);
+        let confirmations = refilled(none, &self.confirmations, MOST_CONFIRMATIONS)?;
+        let none = VecDeque::new(self.alloc);
+        let answers = refilled(none, &self.answers, MOST_ANSWERS)?;
+        let queue = queue_like(None, &self.queue)?;
+        let rest = self.rest.copy()?;
+        Ok(Station {
+            window,
+            confirmations,
+            answers,
+            queue,
+            rest,
+            ..*self
+        })
+    }
+
+    /// The same, in the memory of a station that isn't needed any more, so that none is asked for where that suffices.
+    pub fn copy_over(&self, spare: Station) -> Result<Station, Memory>
+        ensures { IfOk result (λ copy. copy ≡ self.now) }
+    {
+        let window = self.window.copy_over(spare.window)?;
+        let confirmations = refilled(spare.confirmations, &self.confirmations, MOST_CONFIRMATIONS)?;
+        let answers = refilled(spare.answers, &self.answers, MOST_ANSWERS)?;
+        let queue = queue_like(spare.queue, &self.queue)?;
+        let rest = self.rest.copy()?;
         Ok(Station {
             window,
             confirmations,
@@ -153,6 +173,13 @@ impl Station {
             Some(queue) => queue.len(),
             None => 0,
         }
+    }
+
+    /// How many I formats sent are not acknowledged.
+    pub fn unacknowledged(&self) -> usize
+        ensures { result ≡ length self.now.window.waiting }
+    {
+        self.window.unacknowledged()
     }
 
     /// How many news of the session were dropped.
@@ -189,7 +216,7 @@ impl Station {
         self.answers.clear();
         self.dropped = 0;
         self.older = 0;
-        self.rest = VecDeque::new(self.alloc);
+        self.rest = Rest::none();
     }
 
     /// Whether a session would begin by an APDU.
@@ -293,6 +320,13 @@ impl Station {
         }
     }
 
+    /// Whether the client is up, and `pump` would give an APDU at a moment.
+    pub fn has_offer(&self, moment: u64) -> bool
+        ensures { result ≡ (is_up self.now.stage && is_some (offered moment self.now)) }
+    {
+        self.is_up() && self.offered(moment).is_some()
+    }
+
     /// The next APDU for the client at a moment: a confirmation that waits; TESTFR act where t3 has passed; where a
     /// session stands and fewer than k I formats wait for their acknowledgement, an answer to an ASDU, the oldest news
     /// that came before the interrogation that is pending, the next part of its answer, or later news; an S format
@@ -363,7 +397,7 @@ impl Station {
     fn is_pending(&self) -> bool
         ensures { result ≡ is_pending self.now.rest }
     {
-        !self.rest.is_empty()
+        self.rest.is_pending()
     }
 
     /// Takes an I format, or closes the connection.
@@ -420,7 +454,7 @@ impl Station {
         let pending = self.is_pending();
         if let Judged::Accepted(command) = judged {
             if is_accepted_act(command, pending) {
-                self.rest = answer_to(self.alloc, command, picture)?;
+                self.rest = Rest::of(answer_to(self.alloc, command, picture)?)?;
                 self.older = self.queued();
                 return Ok(());
             }
@@ -508,8 +542,8 @@ impl Station {
         if news.is_some() && self.older > 0 {
             return news;
         }
-        if let Some(part) = self.rest.front() {
-            return Some(Sending::Part(*part));
+        if let Some(part) = self.rest.first() {
+            return Some(Sending::Part(part));
         }
         news
     }
@@ -584,38 +618,71 @@ impl Station {
         self.older = self.older.saturating_sub(1);
     }
 
-    /// The next part of the answer doesn't wait any more; behind the last one its memory is given back.
+    /// The next part of the answer doesn't wait any more.
     fn forget_part(&mut self)
         ensures { self.new ≡ record self.old { rest = drop 1 self.old.rest } }
     {
-        self.rest.pop_front();
-        if self.rest.is_empty() {
-            self.rest = VecDeque::new(self.alloc);
-        }
+        self.rest.forget_first();
     }
 }
 
-/// The same elements, with room for so many at least.
-fn copied<T: Copy>(elements: &VecDeque<T>, room: usize) -> Result<VecDeque<T>, Memory>
+/// The same elements, with room for so many at least, in the memory of a spare queue where that suffices.
+fn refilled<T: Copy>(
+    mut spare: VecDeque<T>,
+    elements: &VecDeque<T>,
+    room: usize,
+) -> Result<VecDeque<T>, Memory>
     ensures items { IfOk result (λ copy. copy.items ≡ elements.now.items) }
     ensures room { IfOk result (λ copy. room ≤ deque_capacity copy) }
 {
+    spare.clear();
+    let mut copy = spare.into_vec();
+    copy.reserve(room)?;
     let (front, back) = elements.as_slices();
-    let mut copy = Vec::with_capacity(*elements.allocator(), room)?;
     copy.extend_from_slice(front)?;
     copy.extend_from_slice(back)?;
     Ok(VecDeque::from_vec(copy))
 }
 
-/// The same news, with the same room.
-fn copied_news(
+/// The same queue, in the memory of a spare one with the same room.
+fn queue_like(
+    spare: Option<HeapCircularBuffer<Observation>>,
+    queue: &Option<HeapCircularBuffer<Observation>>,
+) -> Result<Option<HeapCircularBuffer<Observation>>, Memory>
+    ensures { IfOk result (λ copy. copy ≡ queue.now) }
+{
+    match queue {
+        None => Ok(None),
+        Some(news) => Ok(Some(news_like(spare, news)?)),
+    }
+}
+
+fn news_like(
+    spare: Option<HeapCircularBuffer<Observation>>,
     news: &HeapCircularBuffer<Observation>,
 ) -> Result<HeapCircularBuffer<Observation>, Memory>
     ensures { IfOk result (λ copy. copy ≡ news.now) }
 {
+    let mut copy = room_for_news(spare, *news.allocator(), news.capacity())?;
     let (front, back) = news.as_slices();
-    let mut copy = HeapCircularBuffer::with_capacity(*news.allocator(), news.capacity())?;
     copy.extend_from_slice(front);
     copy.extend_from_slice(back);
     Ok(copy)
+}
+
+/// A queue without news and with this room: the spare one where it has it.
+fn room_for_news(
+    spare: Option<HeapCircularBuffer<Observation>>,
+    alloc: Global,
+    room: usize,
+) -> Result<HeapCircularBuffer<Observation>, Memory>
+    ensures { IfOk result (λ queue. queue ≡ buffer [] room) }
+{
+    if let Some(mut spare) = spare {
+        if spare.capacity() == room {
+            spare.clear();
+            return Ok(spare);
+        }
+    }
+    Ok(HeapCircularBuffer::with_capacity(alloc, room)?)
 }

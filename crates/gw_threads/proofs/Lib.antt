@@ -1,2 +1,4 @@
+pub mod Framing
 pub mod Runs
-pub mod Pumped
+pub mod Gathering
+pub mod Carried

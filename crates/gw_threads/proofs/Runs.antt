@@ -1,18 +1,16 @@
 -- Runs of APDUs, one after the other.
-use Rattle.std.proofs.Common.{◌≡◌, ℕ, ◌+◌, Bool, false, List, [], ◌∷◌, ◌++◌, length, take, Option, Some, None, Result, Ok, refl, sym, ap, subst, ◌∙◌, append_assoc}
+use Rattle.std.proofs.Common.{◌≡◌, inl, inr, ℕ, ◌+◌, List, [], ◌∷◌, ◌++◌, length, take, Option, Some, None, Ok, refl, sym, ap, subst, ◌∙◌, append_assoc}
 use Rattle.std.specs.Io.KnownBytes.{Appends}
 use Rattle.std.proofs.lemmas.List.{append-nil}
 use Rattle.std.proofs.Math.Seq.{take-append-add}
 use Rattle.iec_apci.specs.declared.buffer.ApduBuf.{ApduBuf}
 use Rattle.gw_steps.specs.declared.step.Reply.TheVariants.{Apdu}
-use Rattle.gw_threads.specs.PutOut.{Given, GivesAll, Handed, HandedFront, IsPut, is_apdu, joined, octets_in}
+use Rattle.gw_threads.specs.PutOut.{Gave, Given, GivesAll, Handed, HandedFront, IsGathered, IsPut, joined, octets_in}
+use Rattle.gw_shared.proofs.Pumping.{joined-append}
+use Rattle.gw_threads.specs.declared.putting.Gathered.{Gathered}
+use Rattle.gw_threads.specs.declared.putting.Gathered.TheVariants as gathering
 use Rattle.gw_threads.specs.declared.putting.Put.{Put}
 use Rattle.gw_threads.specs.declared.putting.Put.TheVariants.{Ended, Unwritten, More}
-
-pub joined-append : (a b : List ApduBuf) → joined (a ++ b) ≡ joined a ++ joined b
-joined-append [] b = refl
-joined-append (x ∷ a) b =
-    ap (λ (octets : List ℕ). octets_in x ++ octets) (joined-append a b) ∙ sym (append_assoc (octets_in x) (joined a) (joined b))
 
 gives-append : {S : Type 0} (gives : S → Given → S → Type 0) (old mid new : S) (a b : List ApduBuf)
     → GivesAll gives old a mid → GivesAll gives mid b new → GivesAll gives old (a ++ b) new
@@ -46,23 +44,49 @@ handed-then gives old mid new x y z first more = record {
       (appends-more x y z (joined first.apdus) (joined more.apdus) first.taken more.taken);
 }
 
--- one APDU
-pub handed-one : {S : Type 0} (gives : S → Given → S → Type 0) (old new : S) (x y : Option (List ℕ)) (apdu : ApduBuf)
-    → gives old (Some (Ok (Apdu apdu))) new → Appends x y (octets_in apdu) → Handed gives old new x y
-handed-one gives old new x y apdu given taken = record {
-  apdus = apdu ∷ [];
-  given = (new, (given, refl));
-  taken = subst (Appends x y) (sym (append-nil (octets_in apdu))) taken;
+-- what was gathered into an empty batch, once its octets were taken
+pub handed-gave : {S : Type 0} (gives : S → Given → S → Type 0) (old new : S) (x y : Option (List ℕ)) (octets : List ℕ)
+    → Gave gives old new [] octets → Appends x y octets → Handed gives old new x y
+handed-gave gives old new x y octets gave taken =
+    record { apdus = gave.apdus; given = gave.given; taken = subst (Appends x y) gave.octets taken }
+
+-- once the front of them was taken
+pub front-gathered : {S : Type 0} (gives : S → Given → S → Type 0) (old new : S) (x y : Option (List ℕ)) (octets : List ℕ) (n : ℕ) (how : Gathered)
+    → IsGathered gives old new [] octets how → Appends x y (take n octets) → HandedFront gives old new x y
+front-gathered gives old new x y octets n (gathering.Ended last) gathered taken = record {
+  apdus = gathered.1.0.apdus;
+  mid = gathered.0;
+  given = gathered.1.0.given;
+  ended = inr (last, (gathered.1.1, gathered.1.2));
+  count = n;
+  taken = subst (λ (known : List ℕ). Appends x y (take n known)) gathered.1.0.octets taken;
+}
+front-gathered gives old new x y octets n gathering.More gathered taken = record {
+  apdus = gathered.apdus;
+  mid = new;
+  given = gathered.given;
+  ended = inl refl;
+  count = n;
+  taken = subst (λ (known : List ℕ). Appends x y (take n known)) gathered.octets taken;
 }
 
--- the front of one APDU
-pub front-of-one : {S : Type 0} (gives : S → Given → S → Type 0) (old new : S) (x y : Option (List ℕ)) (apdu : ApduBuf) (n : ℕ)
-    → gives old (Some (Ok (Apdu apdu))) new → Appends x y (take n (octets_in apdu)) → HandedFront gives old new x y
-front-of-one gives old new x y apdu n given taken = record {
+-- once they were taken whole, and the run ended
+pub put-gathered : {S : Type 0} (gives : S → Given → S → Type 0) (old new : S) (x y : Option (List ℕ)) (octets : List ℕ) (last : Given)
+    → IsGathered gives old new [] octets (gathering.Ended last) → Appends x y octets → IsPut gives old new x y (Ended last)
+put-gathered gives old new x y octets last gathered taken =
+    (gathered.0, (handed-gave gives old gathered.0 x y octets gathered.1.0 taken, gathered.1.1, gathered.1.2))
+
+-- nothing was gathered
+pub gave-none : {S : Type 0} (gives : S → Given → S → Type 0) (old : S) (octets : List ℕ) → Gave gives old old octets octets
+gave-none gives old octets = record { apdus = []; given = refl; octets = sym (append-nil octets) }
+
+-- one APDU was
+pub gave-one : {S : Type 0} (gives : S → Given → S → Type 0) (old new : S) (x y : List ℕ) (apdu : ApduBuf)
+    → gives old (Some (Ok (Apdu apdu))) new → y ≡ x ++ octets_in apdu → Gave gives old new x y
+gave-one gives old new x y apdu given octets = record {
   apdus = apdu ∷ [];
   given = (new, (given, refl));
-  count = n;
-  taken = subst (λ (octets : List ℕ). Appends x y (take n octets)) (sym (append-nil (octets_in apdu))) taken;
+  octets = octets ∙ ap (λ (known : List ℕ). x ++ known) (sym (append-nil (octets_in apdu)));
 }
 
 -- one run, and then what ends it
@@ -72,7 +96,9 @@ put-then gives old mid new x y z (Ended last) first more =
     (more.0, (handed-then gives old mid more.0 x y z first more.1.0, more.1.1, more.1.2))
 put-then gives old mid new x y z Unwritten first more = record {
   apdus = first.apdus ++ more.apdus;
-  given = gives-append gives old mid new first.apdus more.apdus first.given more.given;
+  mid = more.mid;
+  given = gives-append gives old mid more.mid first.apdus more.apdus first.given more.given;
+  ended = more.ended;
   count = length (joined first.apdus) + more.count;
   taken =
       subst (Appends x z)
@@ -81,8 +107,3 @@ put-then gives old mid new x y z Unwritten first more = record {
       (appends-more x y z (joined first.apdus) (take more.count (joined more.apdus)) first.taken more.taken);
 }
 put-then gives old mid new x y z More first more = handed-then gives old mid new x y z first more
-
--- the run ended at once
-pub put-ended : {S : Type 0} (gives : S → Given → S → Type 0) (old new : S) (x : Option (List ℕ)) (last : Given)
-    → gives old last new → is_apdu last ≡ false → IsPut gives old new x x (Ended last)
-put-ended gives old new x last given other = (old, (handed-first gives old x, given, other))

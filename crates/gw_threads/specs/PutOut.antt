@@ -1,10 +1,15 @@
 -- One run of APDUs that a source of replies gives, and what of it a writer took.
-use Rattle.std.specs.Prelude.{◌≡◌, ℕ, Bool, true, false, List, [], ◌∷◌, ◌++◌, take, Option, Some, None, Result, Ok, Err}
+use Rattle.std.specs.Prelude.{◌≡◌, ◌⊎◌, ℕ, Bool, false, List, [], ◌∷◌, ◌++◌, take, Option, Some, None, Result, Ok}
 use Rattle.std.specs.Io.KnownBytes.{Appends}
 use Rattle.iec_apci.specs.declared.buffer.ApduBuf.{ApduBuf}
 use Rattle.gw_steps.specs.declared.step.Reply.{Reply}
 use Rattle.gw_steps.specs.declared.step.Reply.TheVariants.{Apdu}
 use Rattle.gw_steps.specs.declared.step.StepFault.{StepFault}
+pub use Rattle.gw_shared.specs.Pumping.{joined, octets_in}
+use Rattle.gw_shared.specs.Pumping.{is_apdu as is_apdu_reply}
+use Rattle.gw_threads.specs.Ends.{CanFail}
+use Rattle.gw_threads.specs.declared.putting.Gathered.{Gathered}
+use Rattle.gw_threads.specs.declared.putting.Gathered.TheVariants as gathering
 use Rattle.gw_threads.specs.declared.putting.Put.{Put}
 use Rattle.gw_threads.specs.declared.putting.Put.TheVariants.{Ended, Unwritten, More}
 
@@ -12,19 +17,10 @@ use Rattle.gw_threads.specs.declared.putting.Put.TheVariants.{Ended, Unwritten, 
 abbrev pub Given : Type 0
 Given = Option (Result Reply StepFault)
 
--- the octets of an APDU, without the zeros behind them
-abbrev pub octets_in : ApduBuf → List ℕ
-octets_in apdu = take apdu.len apdu.octets
-
--- the octets of APDUs, one after another
-abbrev pub joined : List ApduBuf → List ℕ
-joined [] = []
-joined (apdu ∷ more) = octets_in apdu ++ joined more
-
 -- an APDU was given
 abbrev pub is_apdu : Given → Bool
-is_apdu (Some (Ok (Apdu apdu))) = true
-is_apdu _ = false
+is_apdu None = false
+is_apdu (Some reply) = is_apdu_reply reply
 
 -- a source goes from one of its states to another by giving these APDUs, one after another
 abbrev pub GivesAll : {S : Type 0} → (S → Given → S → Type 0) → S → List ApduBuf → S → Type 0
@@ -32,16 +28,34 @@ GivesAll gives old [] new = old ≡ new
 GivesAll {S} gives old (apdu ∷ more) new =
     (mid : S) × (gives old (Some (Ok (Apdu apdu))) mid × GivesAll gives mid more new)
 
+-- the source gave these APDUs, whose octets came behind others
+pub record Gave {S : Type 0} (gives : S → Given → S → Type 0) (old new : S) (before after : List ℕ) : Type 0 where
+  pub apdus : List ApduBuf
+  pub given : GivesAll gives old apdus new
+  pub octets : after ≡ before ++ joined apdus
+
+-- and then the first that is no APDU, unless there may be more
+abbrev pub IsGathered : {S : Type 0} → (S → Given → S → Type 0) → S → S → List ℕ → List ℕ → Gathered → Type 0
+IsGathered {S} gives old new before after (gathering.Ended last) =
+    (mid : S) × (Gave gives old mid before after × gives mid last new × (is_apdu last ≡ false))
+IsGathered gives old new before after gathering.More = Gave gives old new before after
+
 -- the source gave these APDUs, and the writer took their octets
 pub record Handed {S : Type 0} (gives : S → Given → S → Type 0) (old new : S) (before after : Option (List ℕ)) : Type 0 where
   pub apdus : List ApduBuf
   pub given : GivesAll gives old apdus new
   pub taken : Appends before after (joined apdus)
 
+-- nothing more was given, or one that is no APDU
+abbrev pub MayHaveEnded : {S : Type 0} → (S → Given → S → Type 0) → S → S → Type 0
+MayHaveEnded gives mid new = (mid ≡ new) ⊎ ((last : Given) × (gives mid last new × (is_apdu last ≡ false)))
+
 -- the source gave these APDUs, and the writer took the front of their octets
 pub record HandedFront {S : Type 0} (gives : S → Given → S → Type 0) (old new : S) (before after : Option (List ℕ)) : Type 0 where
   pub apdus : List ApduBuf
-  pub given : GivesAll gives old apdus new
+  pub mid : S
+  pub given : GivesAll gives old apdus mid
+  pub ended : MayHaveEnded gives mid new
   pub count : ℕ
   pub taken : Appends before after (take count (joined apdus))
 
@@ -52,8 +66,13 @@ IsPut {S} gives old new before after (Ended last) =
 IsPut gives old new before after Unwritten = HandedFront gives old new before after
 IsPut gives old new before after More = Handed gives old new before after
 
--- where nothing ended the run, one APDU was given and taken
+-- a run ends by a failed write only where the writer can fail
+abbrev pub MayBePut : {W : Type 0} → (W → Type 0) → Put → Type 0
+MayBePut writer_fails (Ended last) = Unit {0}
+MayBePut writer_fails Unwritten = CanFail writer_fails
+MayBePut writer_fails More = Unit {0}
+
+-- where nothing ended the run, the APDUs that were given were taken
 abbrev pub IsPutNext : {S : Type 0} → (S → Given → S → Type 0) → S → S → Option (List ℕ) → Option (List ℕ) → Option Put → Type 0
 IsPutNext gives old new before after (Some put) = IsPut gives old new before after put
-IsPutNext gives old new before after None =
-    (apdu : ApduBuf) × (gives old (Some (Ok (Apdu apdu))) new × Appends before after (octets_in apdu))
+IsPutNext gives old new before after None = Handed gives old new before after

@@ -1,37 +1,27 @@
 -- What a client's writer hands over.
-use Rattle.std.specs.Prelude.{◌≡◌, ◌⊎◌, ℕ, List, take, Option, Some, None, Result, Ok, Err}
+use Rattle.std.specs.Prelude.{◌≡◌, ℕ, List, take, Option, Some, None, Ok}
 use Rattle.std.specs.List.{AllByRecursion}
 use Rattle.std.specs.Io.KnownBytes.{Appends}
 use Rattle.iec_apci.specs.declared.buffer.ApduBuf.{ApduBuf}
-use Rattle.gw_map.specs.Settings.{Setup}
-use Rattle.gw_steps.specs.declared.step.Step.TheVariants.{Pump}
-use Rattle.gw_steps.specs.declared.step.Reply.{Reply}
 use Rattle.gw_steps.specs.declared.step.Reply.TheVariants.{Apdu}
-use Rattle.gw_steps.specs.declared.step.StepFault.{StepFault}
-use Rattle.gw_steps.specs.declared.step.StepFault.TheVariants.{Spent}
-use Rattle.gw_steps.specs.State.{State}
-use Rattle.gw_steps.specs.Steps.{Allowed}
-use Rattle.gw_steps.specs.Sound.{IsSound}
+pub use Rattle.gw_shared.specs.Pumping.{IsPumped}
+use Rattle.gw_shared.specs.Pumping.{IsGivenTo as IsAnswerTo}
+use Rattle.gw_shared.specs.declared.pumped.Pumped.{Pumped}
+use Rattle.gw_shared.specs.declared.pumped.Pumped.TheVariants as pumps
+use Rattle.gw_threads.specs.Carries.{CarriesFit}
 use Rattle.gw_threads.specs.PutOut.{Given, joined}
+use Rattle.gw_threads.specs.declared.putting.Gathered.{Gathered}
+use Rattle.gw_threads.specs.declared.putting.Gathered.TheVariants as gathering
 use Rattle.gw_threads.specs.declared.putting.Put.{Put}
 use Rattle.gw_threads.specs.declared.putting.Put.TheVariants as puts
 use Rattle.gw_threads.specs.declared.worker_end.WorkerEnd.{WorkerEnd}
 use Rattle.gw_threads.specs.declared.worker_end.WorkerEnd.TheVariants as ends
 
--- in some sound state a pump of the client is answered so
-pub record IsPumped (client : ℕ) (reply : Result Reply StepFault) : Type 0 where
-  pub setup : Setup
-  pub state : State
-  pub sound : IsSound setup state
-  pub moment : ℕ
-  pub next : State
-  pub allowed : Allowed setup state (Pump client moment) reply next
-
 -- what the writer of a client is given of the shared core: nothing where it is asked to end; an answer to a pump; or
 -- that no further call can be counted
 abbrev pub IsGivenTo : ℕ → Given → Type 0
 IsGivenTo client None = Unit {0}
-IsGivenTo client (Some reply) = IsPumped client reply ⊎ (reply ≡ Err Spent)
+IsGivenTo client (Some reply) = IsAnswerTo client reply
 
 -- a worker that asks for one client, as one of the actors
 pub record Asking : Type 0 where
@@ -42,16 +32,27 @@ pub record Asking : Type 0 where
 abbrev pub GivesTo : Asking → Given → Asking → Type 0
 GivesTo old given new = (new ≡ old) × IsGivenTo old.client given
 
--- the writer took the octets of APDUs, each one that a pump of the client is answered with in some sound state
+-- how gathering ended, by how a run of pumps did
+abbrev pub gathered_by : Pumped → Gathered
+gathered_by (pumps.Ended reply) = gathering.Ended (Some reply)
+gathered_by pumps.More = gathering.More
+
+-- an APDU that a pump of the client is answered with in some sound state; it tells of fit observations, by the settings
+-- there
+pub record IsPutOut (client : ℕ) (apdu : ApduBuf) : Type 0 where
+  pub pumped : IsPumped client (Ok (Apdu apdu))
+  pub fit : CarriesFit pumped.setup.station.offset_minutes apdu
+
+-- the writer took the octets of APDUs, each one that is put out so
 pub record Wrote (client : ℕ) (before after : Option (List ℕ)) : Type 0 where
   pub apdus : List ApduBuf
-  pub pumped : AllByRecursion (λ (apdu : ApduBuf). IsPumped client (Ok (Apdu apdu))) apdus
+  pub each : AllByRecursion (IsPutOut client) apdus
   pub taken : Appends before after (joined apdus)
 
 -- it took the front of such octets
 pub record WroteFront (client : ℕ) (before after : Option (List ℕ)) : Type 0 where
   pub apdus : List ApduBuf
-  pub pumped : AllByRecursion (λ (apdu : ApduBuf). IsPumped client (Ok (Apdu apdu))) apdus
+  pub each : AllByRecursion (IsPutOut client) apdus
   pub count : ℕ
   pub taken : Appends before after (take count (joined apdus))
 

@@ -2,6 +2,7 @@
 ghost use Rattle.std.specs.Prelude.{◌≡◌, IfSome};
 ghost use Rattle.gw_threads.specs.Ends.{IsOfSteps, MayEnd};
 
+use crate::call::make_call;
 use crate::ends::{Arrival, Incoming};
 use crate::gate::{Gate, Place};
 use crate::lost::lose_client;
@@ -110,6 +111,7 @@ impl<'a, L: Ledger, R: Wait, C: Clock, G: Gate> Reading<'a, L, R, C, G> {
             &mut self.pass,
             self.client,
             self.clock,
+            self.gate,
         );
     }
 
@@ -155,7 +157,7 @@ impl<'a, L: Ledger, R: Wait, C: Clock, G: Gate> Reading<'a, L, R, C, G> {
             apdu,
             moment: self.clock.moment(),
         };
-        let (_, reply) = self.shared.step(self.rt, &mut self.pass, step);
+        let reply = make_call(self.rt, self.shared, &mut self.pass, step, self.gate);
         self.gate.at(actor, Place::Stepped);
         match reply {
             Ok(Reply::Closed(why)) => Some(WorkerEnd::Closed(why)),

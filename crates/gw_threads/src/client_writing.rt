@@ -1,5 +1,7 @@
 //! The writer of a client.
-ghost use Rattle.std.specs.Prelude.{◌≡◌};
+ghost use Rattle.std.specs.Prelude.{◌≡◌, IfSome};
+ghost use Rattle.gw_threads.specs.Ends.{MayEndWriting};
+ghost use Rattle.gw_threads.specs.PutOut.{MayBePut};
 ghost use Rattle.gw_threads.specs.Written.{Writes, WritesIfEnded, WritesPut};
 
 use crate::ends::Outgoing;
@@ -8,7 +10,7 @@ use crate::putting::{Put, put_out};
 use crate::source::SharedSource;
 use crate::times::Clock;
 use crate::worker_end::WorkerEnd;
-use gw_shared::{Pass, Shared};
+use gw_shared::{Batch, Pass, Shared};
 use std::sync::Wait;
 use std::sync::ledger::Ledger;
 
@@ -25,9 +27,11 @@ pub fn client_writer<'a, L: Ledger, R: Wait, W: Outgoing, C: Clock, G: Gate>(
 ) -> (Pass<L>, WorkerEnd)
     ensures own { result.0.actor ≡ pass.actor }
     ensures written { Writes client (W.contents writer.old) (W.contents writer.new) result.1 }
+    ensures end { MayEndWriting W.can_fail result.1 }
 {
     let mut source = SharedSource::new(rt, shared, pass, client, clock, gate);
-    let end = write_on(&mut source, writer);
+    let mut batch = Batch::new();
+    let end = write_on(&mut source, writer, &mut batch);
     (source.into_pass(), end)
 }
 
@@ -35,12 +39,14 @@ pub fn client_writer<'a, L: Ledger, R: Wait, W: Outgoing, C: Clock, G: Gate>(
 fn write_on<L: Ledger, R: Wait, W: Outgoing, C: Clock, G: Gate>(
     source: &mut SharedSource<'_, L, R, C, G>,
     writer: &mut W,
+    batch: &mut Batch,
 ) -> WorkerEnd
     ensures same { source.new ≡ source.old }
     ensures written { Writes source.old.client (W.contents writer.old) (W.contents writer.new) result }
+    ensures end { MayEndWriting W.can_fail result }
 {
     'runs: for _ in source.rt().forever() {
-        if let Some(end) = write_run(source, writer) {
+        if let Some(end) = write_run(source, writer, batch) {
             return end;
         }
     }
@@ -51,12 +57,14 @@ fn write_on<L: Ledger, R: Wait, W: Outgoing, C: Clock, G: Gate>(
 fn write_run<L: Ledger, R: Wait, W: Outgoing, C: Clock, G: Gate>(
     source: &mut SharedSource<'_, L, R, C, G>,
     writer: &mut W,
+    batch: &mut Batch,
 ) -> Option<WorkerEnd>
     ensures same { source.new ≡ source.old }
     ensures written { WritesIfEnded source.old.client (W.contents writer.old) (W.contents writer.new) result }
+    ensures end { IfSome result (MayEndWriting W.can_fail) }
 {
     let rung = source.rung();
-    match put_run(source, writer) {
+    match put_run(source, writer, batch) {
         Put::More => None,
         Put::Ended(None) => Some(WorkerEnd::Stopping),
         Put::Ended(Some(Ok(_))) => {
@@ -78,9 +86,11 @@ fn write_run<L: Ledger, R: Wait, W: Outgoing, C: Clock, G: Gate>(
 fn put_run<L: Ledger, R: Wait, W: Outgoing, C: Clock, G: Gate>(
     source: &mut SharedSource<'_, L, R, C, G>,
     writer: &mut W,
+    batch: &mut Batch,
 ) -> Put
     ensures same { source.new ≡ source.old }
     ensures written { WritesPut source.old.client (W.contents writer.old) (W.contents writer.new) result }
+    ensures fault { MayBePut W.can_fail result }
 {
-    put_out(source, writer)
+    put_out(source, writer, batch)
 }

@@ -1,6 +1,8 @@
 //! Where workers can be watched, and held.
 
+use crate::call::{Call, Run};
 use dnp_app::AppFault;
+use gw_hub::Step;
 
 /// A place on the way of a worker.
 #[derive(Clone, Copy, Debug, PartialEq, Eq)]
@@ -13,13 +15,28 @@ pub enum Place {
     BeforeWrite,
 }
 
-/// What is told of the workers' ways. A call that takes its time holds the worker.
+/// What is told of the workers' ways, where no lock is held. A call that takes its time holds the worker. All but `at` may be
+/// left out.
 pub trait Gate {
     /// An actor has come to a place.
     fn at(&self, actor: usize, place: Place);
 
-    /// A fragment of an outstation was refused, and no step was made.
-    fn refused(&self, outstation: u8, fault: &AppFault);
+    /// A fragment of an outstation, with these octets, was refused, and no step was made.
+    fn refused(&self, _outstation: u8, _octets: &[u8], _fault: &AppFault) {}
+
+    /// The link dropped so many octets of an outstation, at which no frame begins.
+    fn skipped(&self, _outstation: u8, _octets: u32) {}
+
+    /// A step is about to be made: the line that is kept of it, where steps are taken down.
+    fn line_of(&self, _step: &Step) -> Option<Vec<u8>> {
+        None
+    }
+
+    /// A step was made, other than those of a run of pumps.
+    fn made(&self, _call: Call<'_>) {}
+
+    /// A run of pumps was made.
+    fn pumped(&self, _run: &Run<'_>) {}
 }
 
 /// A gate that holds nobody.
@@ -28,6 +45,4 @@ pub struct OpenGate;
 
 impl Gate for OpenGate {
     fn at(&self, _actor: usize, _place: Place) {}
-
-    fn refused(&self, _outstation: u8, _fault: &AppFault) {}
 }

@@ -3,6 +3,7 @@
 //! read or handed to a client. Each worker gives its pass back when it ends, and tells why it ended.
 #![tactic(auto)]
 
+mod call;
 mod client_reading;
 mod client_writing;
 mod ends;
@@ -12,21 +13,23 @@ mod lost;
 mod outstation_reading;
 mod outstation_writing;
 mod putting;
+mod row;
 mod source;
 mod ticking;
 mod times;
 mod wire;
 mod worker_end;
 
+pub use call::{About, Call, Run, make_call};
 pub use client_reading::client_reader;
 pub use client_writing::client_writer;
 pub use ends::{Arrival, Incoming, Outgoing, Unwritten};
 pub use gate::{Gate, OpenGate, Place};
-pub use gw_shared::{Bell, CloseFault, Closed, Core, Pass, Shared};
+pub use gw_shared::{Batch, Bell, CloseFault, Closed, Core, Figures, Pass, Pumped, Shared};
 pub use line::Line;
 pub use outstation_reading::outstation_reader;
 pub use outstation_writing::outstation_writer;
-pub use putting::{Put, Source, put_out};
+pub use putting::{Gathered, Put, Source, put_out};
 pub use source::HubSource;
 pub use ticking::clock;
 pub use times::Clock;

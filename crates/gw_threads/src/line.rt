@@ -1,5 +1,6 @@
 //! The line to an outstation, which its reader and its writer share.
-ghost use Rattle.std.specs.Prelude.{◌≡◌, ◌≤◌, length};
+ghost use Rattle.std.specs.Prelude.{◌≡◌, ◌≤◌, length, OnErr};
+ghost use Rattle.gw_threads.specs.Ends.{CanFail};
 
 use crate::ends::{Outgoing, Unwritten};
 use crate::wire::{ONE_SEGMENT, Wire};
@@ -35,7 +36,9 @@ impl<W: Outgoing> Line<W> {
     }
 
     /// Sends a reply of the link.
-    pub fn reply<R: Wait>(&self, rt: &R, frame: &[u8; 10]) -> Result<(), Unwritten> {
+    pub fn reply<R: Wait>(&self, rt: &R, frame: &[u8; 10]) -> Result<(), Unwritten>
+        ensures { OnErr result (CanFail W.can_fail) }
+    {
         self.held.lock(rt).wire.answer(frame)
     }
 
@@ -51,12 +54,16 @@ impl<W: Outgoing> Line<W> {
     }
 
     /// Sends a confirmation.
-    pub fn confirm<R: Wait>(&self, rt: &R, octets: &[u8; 2]) -> Result<(), Unwritten> {
+    pub fn confirm<R: Wait>(&self, rt: &R, octets: &[u8; 2]) -> Result<(), Unwritten>
+        ensures { OnErr result (CanFail W.can_fail) }
+    {
         self.held.lock(rt).wire.send(octets)
     }
 
     /// Sends a request, once no confirmation is owed.
-    pub fn request<R: Wait>(&self, rt: &R, request: &Request) -> Result<(), Unwritten> {
+    pub fn request<R: Wait>(&self, rt: &R, request: &Request) -> Result<(), Unwritten>
+        ensures { OnErr result (CanFail W.can_fail) }
+    {
         let mut held = self
             .settled
             .wait_while(rt, self.held.lock(rt), |held| held.owed);

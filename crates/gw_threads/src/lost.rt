@@ -1,6 +1,8 @@
 //! The steps of a loss.
 ghost use Rattle.std.specs.Prelude.{◌≡◌};
 
+use crate::call::make_call;
+use crate::gate::Gate;
 use crate::times::Clock;
 use gw_hub::Step;
 use gw_shared::{Pass, Shared};
@@ -8,29 +10,37 @@ use std::sync::Wait;
 use std::sync::ledger::Ledger;
 
 /// The connection to a client is lost. Where it was lost before, nothing changes.
-pub fn lose_client<L: Ledger, R: Wait, C: Clock>(
+pub fn lose_client<L: Ledger, R: Wait, C: Clock, G: Gate>(
     rt: &R,
     shared: &Shared<L>,
     pass: &mut Pass<L>,
     client: u8,
     clock: &C,
+    gate: &G,
 )
     ensures { pass.new.actor ≡ pass.old.actor }
 {
     let moment = clock.moment();
-    let _ = shared.step(rt, pass, Step::ClientDown { client, moment });
+    let _ = make_call(rt, shared, pass, Step::ClientDown { client, moment }, gate);
 }
 
 /// The connection to an outstation is lost. Where it was lost before, nothing changes.
-pub fn lose_outstation<L: Ledger, R: Wait, C: Clock>(
+pub fn lose_outstation<L: Ledger, R: Wait, C: Clock, G: Gate>(
     rt: &R,
     shared: &Shared<L>,
     pass: &mut Pass<L>,
     outstation: u8,
     clock: &C,
+    gate: &G,
 )
     ensures { pass.new.actor ≡ pass.old.actor }
 {
     let moment = clock.moment();
-    let _ = shared.step(rt, pass, Step::OutstationDown { outstation, moment });
+    let _ = make_call(
+        rt,
+        shared,
+        pass,
+        Step::OutstationDown { outstation, moment },
+        gate,
+    );
 }

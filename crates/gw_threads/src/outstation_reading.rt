@@ -1,6 +1,8 @@
 //! The reader of an outstation.
-ghost use Rattle.std.specs.Prelude.{◌≡◌, ◌≤◌, length};
+ghost use Rattle.std.specs.Prelude.{◌≡◌, ◌≤◌, length, IfSome};
+ghost use Rattle.gw_threads.specs.Ends.{IsOfFrames, MayEndBetween};
 
+use crate::call::make_call;
 use crate::ends::{Arrival, Incoming, Outgoing};
 use crate::gate::{Gate, Place};
 use crate::line::Line;
@@ -19,23 +21,28 @@ use std::sync::ledger::Ledger;
 /// How many octets are read at once.
 const PIECE: usize = 4096;
 
+/// The most octets of a fragment.
+const LONGEST_FRAGMENT: usize = 2048;
+
 /// What the reader of an outstation works with.
 #[derive(Drop)]
-struct Reading<'a, L: Ledger, R: Wait, W: Outgoing, C: Clock, G: Gate> {
+struct Reading<'a, 'b, L: Ledger, R: Wait, W: Outgoing, C: Clock, G: Gate> {
     alloc: Global,
     rt: &'a R,
     shared: &'a Shared<L>,
     pass: Pass<L>,
     outstation: u8,
-    line: &'a Line<W>,
+    line: &'b Line<W>,
     clock: &'a C,
     gate: &'a G,
+    /// The octets of the last fragment, at the front.
+    recent: [u8; LONGEST_FRAGMENT],
 }
 
 /// Makes a step of each response that comes from an outstation, and sends what is owed for it: the replies of the link,
 /// and confirmations. It ends where its octets end, reading or writing fails, memory runs out, or the outstation isn't up
 /// any more; that is told to the core. `own` and `peer` are the link addresses of the master and of the outstation.
-pub fn outstation_reader<'a, L: Ledger, R: Wait, I: Incoming, W: Outgoing, C: Clock, G: Gate>(
+pub fn outstation_reader<'a, 'b, L: Ledger, R: Wait, I: Incoming, W: Outgoing, C: Clock, G: Gate>(
     alloc: Global,
     rt: &'a R,
     shared: &'a Shared<L>,
@@ -43,11 +50,12 @@ pub fn outstation_reader<'a, L: Ledger, R: Wait, I: Incoming, W: Outgoing, C: Cl
     outstation: u8,
     receiver: Receiver,
     input: &mut I,
-    line: &'a Line<W>,
+    line: &'b Line<W>,
     clock: &'a C,
     gate: &'a G,
 ) -> (Pass<L>, WorkerEnd)
     ensures own { result.0.actor ≡ pass.actor }
+    ensures end { MayEndBetween I.can_fail W.can_fail result.1 }
 {
     let mut reading = Reading {
         alloc,
@@ -58,16 +66,17 @@ pub fn outstation_reader<'a, L: Ledger, R: Wait, I: Incoming, W: Outgoing, C: Cl
         line,
         clock,
         gate,
+        recent: [0; LONGEST_FRAGMENT],
     };
     let mut feed = LinkFeed::new(alloc);
     let mut receiver = receiver;
     let end = reading.read_on(&mut feed, &mut receiver, input);
-    lose_outstation(rt, shared, &mut reading.pass, outstation, clock);
+    lose_outstation(rt, shared, &mut reading.pass, outstation, clock, gate);
     let Reading { pass, .. } = reading;
     (pass, end)
 }
 
-impl<'a, L: Ledger, R: Wait, W: Outgoing, C: Clock, G: Gate> Reading<'a, L, R, W, C, G> {
+impl<'a, 'b, L: Ledger, R: Wait, W: Outgoing, C: Clock, G: Gate> Reading<'a, 'b, L, R, W, C, G> {
     /// Piece after piece, until the worker is to end.
     fn read_on<I: Incoming>(
         &mut self,
@@ -75,7 +84,8 @@ impl<'a, L: Ledger, R: Wait, W: Outgoing, C: Clock, G: Gate> Reading<'a, L, R, W
         receiver: &mut Receiver,
         input: &mut I,
     ) -> WorkerEnd
-        ensures { self.new.pass.actor ≡ self.old.pass.actor }
+        ensures own { self.new.pass.actor ≡ self.old.pass.actor }
+        ensures end { MayEndBetween I.can_fail W.can_fail result }
     {
         let mut buffer = [0; PIECE];
         'pieces: for _ in self.rt.forever() {
@@ -94,7 +104,8 @@ impl<'a, L: Ledger, R: Wait, W: Outgoing, C: Clock, G: Gate> Reading<'a, L, R, W
         input: &mut I,
         buffer: &mut [u8],
     ) -> Option<WorkerEnd>
-        ensures { self.new.pass.actor ≡ self.old.pass.actor }
+        ensures own { self.new.pass.actor ≡ self.old.pass.actor }
+        ensures end { IfSome result (MayEndBetween I.can_fail W.can_fail) }
     {
         match input.receive(buffer) {
             Arrival::Octets(count) => self.take(feed, receiver, &buffer[..count]),
@@ -111,17 +122,25 @@ impl<'a, L: Ledger, R: Wait, W: Outgoing, C: Clock, G: Gate> Reading<'a, L, R, W
         receiver: &mut Receiver,
         piece: &[u8],
     ) -> Option<WorkerEnd>
-        ensures { self.new.pass.actor ≡ self.old.pass.actor }
+        ensures own { self.new.pass.actor ≡ self.old.pass.actor }
+        ensures end { IfSome result (IsOfFrames W.can_fail) }
     {
         if feed.feed(piece).is_err() {
             return Some(WorkerEnd::Memory);
         }
+        let mut skipped: u32 = 0;
         'events: while let Some(event) = feed.next() {
-            if let LinkEvent::Frame(frame) = event {
-                if let Some(end) = self.take_frame(receiver, &frame) {
-                    return Some(end);
+            match event {
+                LinkEvent::Frame(frame) => {
+                    if let Some(end) = self.take_frame(receiver, &frame) {
+                        return Some(end);
+                    }
                 }
+                LinkEvent::Skipped(_) => skipped = skipped.saturating_add(1),
             }
+        }
+        if skipped > 0 {
+            self.gate.skipped(self.outstation, skipped);
         }
         None
     }
@@ -129,7 +148,8 @@ impl<'a, L: Ledger, R: Wait, W: Outgoing, C: Clock, G: Gate> Reading<'a, L, R, W
     /// Takes a frame: sends the reply that the link owes, and takes the fragment that it completes. How the worker ends,
     /// if it does.
     fn take_frame(&mut self, receiver: &mut Receiver, frame: &Frame) -> Option<WorkerEnd>
-        ensures { self.new.pass.actor ≡ self.old.pass.actor }
+        ensures own { self.new.pass.actor ≡ self.old.pass.actor }
+        ensures end { IfSome result (IsOfFrames W.can_fail) }
     {
         let Ok(received) = receiver.take(frame) else {
             return Some(WorkerEnd::Memory);
@@ -146,13 +166,17 @@ impl<'a, L: Ledger, R: Wait, W: Outgoing, C: Clock, G: Gate> Reading<'a, L, R, W
     /// Takes a fragment: its response, unless it is refused. How the worker ends, if it does.
     fn take_fragment(&mut self, octets: Vec<u8>) -> Option<WorkerEnd>
         requires { length octets.items ≤ 2048 }
-        ensures { self.new.pass.actor ≡ self.old.pass.actor }
+        ensures own { self.new.pass.actor ≡ self.old.pass.actor }
+        ensures end { IfSome result (IsOfFrames W.can_fail) }
     {
+        let count = octets.len();
+        self.recent[..count].copy_from_slice(octets.as_slice());
         match read_response(self.alloc, self.outstation, octets) {
             Ok(response) => self.step(response),
             Err(AppFault::Memory) => Some(WorkerEnd::Memory),
             Err(fault) => {
-                self.gate.refused(self.outstation, &fault);
+                let octets = &self.recent[..count];
+                self.gate.refused(self.outstation, octets, &fault);
                 None
             }
         }
@@ -160,7 +184,8 @@ impl<'a, L: Ledger, R: Wait, W: Outgoing, C: Clock, G: Gate> Reading<'a, L, R, W
 
     /// Makes the step of a response, and sends its confirmation where one is owed. How the worker ends, if it does.
     fn step(&mut self, response: Response) -> Option<WorkerEnd>
-        ensures { self.new.pass.actor ≡ self.old.pass.actor }
+        ensures own { self.new.pass.actor ≡ self.old.pass.actor }
+        ensures end { IfSome result (IsOfFrames W.can_fail) }
     {
         let actor = self.pass.actor();
         let asks = response.control().con;
@@ -169,11 +194,8 @@ impl<'a, L: Ledger, R: Wait, W: Outgoing, C: Clock, G: Gate> Reading<'a, L, R, W
             self.line.owe(self.rt);
         }
         let moment = self.clock.moment();
-        let (_, reply) = self.shared.step(
-            self.rt,
-            &mut self.pass,
-            Step::Fragment { response, moment },
-        );
+        let step = Step::Fragment { response, moment };
+        let reply = make_call(self.rt, self.shared, &mut self.pass, step, self.gate);
         self.gate.at(actor, Place::Stepped);
         let end = self.confirm(&reply);
         if asks {
@@ -183,7 +205,9 @@ impl<'a, L: Ledger, R: Wait, W: Outgoing, C: Clock, G: Gate> Reading<'a, L, R, W
     }
 
     /// Sends the confirmation that a reply of the core owes, if it owes one. How the worker ends, if it does.
-    fn confirm(&self, reply: &Result<Reply, StepFault>) -> Option<WorkerEnd> {
+    fn confirm(&self, reply: &Result<Reply, StepFault>) -> Option<WorkerEnd>
+        ensures { IfSome result (IsOfFrames W.can_fail) }
+    {
         let octets = match reply {
             Ok(Reply::Verdict(Verdict::Accepted { confirm, .. } | Verdict::Repeated { confirm })) =>
                 { (*confirm)? }

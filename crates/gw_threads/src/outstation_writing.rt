@@ -1,20 +1,26 @@
 //! The writer towards an outstation.
 ghost use Rattle.std.specs.Prelude.{◌≡◌};
+ghost use Rattle.gw_threads.specs.Ends.{MayEndWriting};
 
+use crate::call::make_call;
 use crate::ends::Outgoing;
 use crate::gate::{Gate, Place};
 use crate::line::Line;
 use crate::lost::lose_outstation;
+use crate::row::{REST_MS, Row};
 use crate::times::Clock;
 use crate::worker_end::WorkerEnd;
 use gw_hub::{Reply, Step, StepFault};
 use gw_shared::{Pass, Shared};
+use std::rt::Clock as Sleeps;
 use std::sync::Wait;
 use std::sync::ledger::Ledger;
+use std::thread;
+use std::time::Duration;
 
 /// Sends an outstation the requests that the core gives, until it isn't up any more, writing fails, or the worker is asked
-/// to end. Where none is due it sleeps until a step may bring one.
-pub fn outstation_writer<L: Ledger, R: Wait, W: Outgoing, C: Clock, G: Gate>(
+/// to end. Where none is due it sleeps until a step may bring one; behind 100 requests in a row it rests for 20 milliseconds.
+pub fn outstation_writer<L: Ledger, R: Wait + Sleeps, W: Outgoing, C: Clock, G: Gate>(
     rt: &R,
     shared: &Shared<L>,
     pass: Pass<L>,
@@ -23,21 +29,26 @@ pub fn outstation_writer<L: Ledger, R: Wait, W: Outgoing, C: Clock, G: Gate>(
     clock: &C,
     gate: &G,
 ) -> (Pass<L>, WorkerEnd)
-    ensures { result.0.actor ≡ pass.actor }
+    ensures own { result.0.actor ≡ pass.actor }
+    ensures end { MayEndWriting W.can_fail result.1 }
 {
     let mut pass = pass;
+    let mut row = Row::new();
     'requests: for _ in rt.forever() {
         // Read before all that a ring may tell of.
         let rung = rung(shared, outstation);
         if shared.stopping() {
             break;
         }
-        match poll(rt, shared, &mut pass, outstation, clock) {
+        match poll(rt, shared, &mut pass, outstation, clock, gate) {
             Ok(Reply::Request(request)) => {
                 gate.at(pass.actor(), Place::BeforeWrite);
                 if line.request(rt, &request).is_err() {
-                    lose_outstation(rt, shared, &mut pass, outstation, clock);
+                    lose_outstation(rt, shared, &mut pass, outstation, clock, gate);
                     return (pass, WorkerEnd::WriteFault);
+                }
+                if row.add(clock.moment()) {
+                    thread::sleep(rt, Duration::from_millis(REST_MS));
                 }
             }
             Ok(_) => {
@@ -46,7 +57,7 @@ pub fn outstation_writer<L: Ledger, R: Wait, W: Outgoing, C: Clock, G: Gate>(
                 }
             }
             Err(_) => {
-                lose_outstation(rt, shared, &mut pass, outstation, clock);
+                lose_outstation(rt, shared, &mut pass, outstation, clock, gate);
                 break;
             }
         }
@@ -63,12 +74,13 @@ fn rung<L: Ledger>(shared: &Shared<L>, outstation: u8) -> u64 {
 }
 
 /// Asks the core for the next request.
-fn poll<L: Ledger, R: Wait, C: Clock>(
+fn poll<L: Ledger, R: Wait, C: Clock, G: Gate>(
     rt: &R,
     shared: &Shared<L>,
     pass: &mut Pass<L>,
     outstation: u8,
     clock: &C,
+    gate: &G,
 ) -> Result<Reply, StepFault>
     ensures { pass.new.actor ≡ pass.old.actor }
 {
@@ -77,5 +89,5 @@ fn poll<L: Ledger, R: Wait, C: Clock>(
         moment: clock.moment(),
         wall: clock.wall(),
     };
-    shared.step(rt, pass, step).1
+    make_call(rt, shared, pass, step, gate)
 }

@@ -1,22 +1,35 @@
 //! Handing over what a source of replies gives.
-ghost use Rattle.std.specs.Prelude.{◌≡◌, false, MatchOption, Option, Result};
+ghost use Rattle.std.specs.Prelude.{◌≡◌, ℕ, IfSome, OnErr, OnOk, Option, Result, take};
+ghost use Rattle.std.specs.Io.KnownBytes.{Appends};
 ghost use Rattle.gw_steps.specs.declared.step.Reply.{Reply as ReplySeen};
 ghost use Rattle.gw_steps.specs.declared.step.StepFault.{StepFault as FaultSeen};
-ghost use Rattle.gw_threads.specs.PutOut.{is_apdu, IsPut, IsPutNext};
+ghost use Rattle.gw_threads.specs.Ends.{CanFail};
+ghost use Rattle.gw_threads.specs.PutOut.{IsGathered, IsPut, IsPutNext, MayBePut};
 
-use crate::ends::Outgoing;
-use gw_hub::{ApduBuf, Reply, StepFault};
+use crate::ends::{Outgoing, Unwritten};
+use gw_hub::{Reply, StepFault};
+use gw_shared::Batch;
+
+/// How it ended that a source was asked for replies.
+#[derive(Clone, Copy, Debug, PartialEq, Eq)]
+pub enum Gathered {
+    /// With this, which is no APDU: a reply, or nothing where the source isn't to go on.
+    Ended(Option<Result<Reply, StepFault>>),
+    /// There may be more.
+    More,
+}
 
 /// What gives replies of the core, one after another.
 pub trait Source {
     /// From this state to that, what was given: a reply, or nothing where it isn't to go on.
     ghost Gives: { Self → Option (Result ReplySeen FaultSeen) → Self → Type 0 };
 
-    /// Asks for the next reply.
-    fn ask(&mut self) -> Option<Result<Reply, StepFault>>
-        ensures { Gives self.old result self.new };
+    /// Asks for replies, and puts the octets of APDUs into a batch, until one is none, or there is no room, or it is time
+    /// to hand them over.
+    fn gather(&mut self, batch: &mut Batch) -> Gathered
+        ensures { IsGathered Gives self.old self.new batch.old batch.new result };
 
-    /// An APDU is about to be handed over.
+    /// A batch is about to be handed over.
     fn before_write(&self);
 }
 
@@ -31,51 +44,52 @@ pub enum Put {
     More,
 }
 
-/// Hands one run of APDUs to a writer, each as its source gives it, up to the first reply that is none.
-pub fn put_out<S: Source, W: Outgoing>(source: &mut S, writer: &mut W) -> Put
-    ensures { IsPut S.Gives source.old source.new (W.contents writer.old) (W.contents writer.new) result }
+/// Hands one run of APDUs to a writer, as many together as the source gives at once, up to the first reply that is none.
+pub fn put_out<S: Source, W: Outgoing>(source: &mut S, writer: &mut W, batch: &mut Batch) -> Put
+    ensures put { IsPut S.Gives source.old source.new (W.contents writer.old) (W.contents writer.new) result }
+    ensures fault { MayBePut W.can_fail result }
 {
-    'apdus: for _ in 0..u32::MAX {
-        if let Some(put) = put_next(source, writer) {
+    'batches: for _ in 0..u32::MAX {
+        if let Some(put) = put_next(source, writer, batch) {
             return put;
         }
     }
     Put::More
 }
 
-/// Hands the next APDU to a writer; how the run ended, if it did.
-fn put_next<S: Source, W: Outgoing>(source: &mut S, writer: &mut W) -> Option<Put>
-    ensures { IsPutNext S.Gives source.old source.new (W.contents writer.old) (W.contents writer.new) result }
+/// Hands the next APDUs to a writer, together; how the run ended, if it did.
+fn put_next<S: Source, W: Outgoing>(
+    source: &mut S,
+    writer: &mut W,
+    batch: &mut Batch,
+) -> Option<Put>
+    ensures put { IsPutNext S.Gives source.old source.new (W.contents writer.old) (W.contents writer.new) result }
+    ensures fault { IfSome result (MayBePut W.can_fail) }
 {
-    let given = source.ask();
-    let Some(apdu) = apdu_in(given) else {
-        return Some(Put::Ended(given));
-    };
-    source.before_write();
-    match writer.hand(apdu.as_slice()) {
-        Ok(()) => None,
-        Err(_) => Some(Put::Unwritten),
+    batch.clear();
+    let gathered = source.gather(batch);
+    if hand_over(source, writer, batch.as_slice()).is_err() {
+        return Some(Put::Unwritten);
+    }
+    match gathered {
+        Gathered::Ended(last) => Some(Put::Ended(last)),
+        Gathered::More => None,
     }
 }
 
-/// The APDU that was given, if one was.
-fn apdu_in(given: Option<Result<Reply, StepFault>>) -> Option<ApduBuf>
-    ensures { MatchOption result (is_apdu given ≡ false) (λ apdu. given ≡ Some (Ok (Reply.Apdu apdu))) }
+/// Hands octets to a writer, if there are any.
+fn hand_over<S: Source, W: Outgoing>(
+    source: &S,
+    writer: &mut W,
+    octets: &[u8],
+) -> Result<(), Unwritten>
+    ensures ok { OnOk result (Appends (W.contents writer.old) (W.contents writer.new) octets.now) }
+    ensures front { OnErr result ((n : ℕ) × Appends (W.contents writer.old) (W.contents writer.new) (take n octets.now)) }
+    ensures fault { OnErr result (CanFail W.can_fail) }
 {
-    match given {
-        Some(Ok(Reply::Apdu(apdu))) => Some(apdu),
-        Some(
-            Ok(
-                Reply::Done
-                | Reply::Verdict(_)
-                | Reply::Request(_)
-                | Reply::Taken
-                | Reply::Closed(_)
-                | Reply::Nothing
-                | Reply::Ticked { .. },
-            )
-            | Err(_),
-        )
-        | None => None,
+    if octets.is_empty() {
+        return Ok(());
     }
+    source.before_write();
+    writer.hand(octets)
 }

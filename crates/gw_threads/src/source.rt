@@ -2,14 +2,15 @@
 ghost use Rattle.std.specs.Prelude.{◌≡◌, IfSome, ℕ, Option, Result};
 ghost use Rattle.gw_steps.specs.declared.step.Step.TheVariants as steps;
 ghost use Rattle.gw_steps.specs.Steps.{Allowed};
-ghost use Rattle.gw_threads.specs.Written.{GivesTo};
+ghost use Rattle.gw_threads.specs.Written.{gathered_by, GivesTo};
 
+use crate::call::Run;
 use crate::gate::{Gate, Place};
 use crate::lost::lose_client;
-use crate::putting::Source;
+use crate::putting::{Gathered, Source};
 use crate::times::Clock;
-use gw_hub::{Hub, Reply, Step, StepFault};
-use gw_shared::{Pass, Shared};
+use gw_hub::{Hub, Step};
+use gw_shared::{Batch, LONGEST_APDU, Pass, Pumped, Shared, apdu_in};
 use std::marker::Model;
 use std::sync::Wait;
 use std::sync::ledger::Ledger;
@@ -26,9 +27,19 @@ impl Source for HubSource {
     ghost Gives = { λ old given new. (new.client ≡ old.client) × (new.moment ≡ old.moment) × IfSome given (λ reply.
         Allowed old.hub.setup old.hub.state (steps.Pump old.client old.moment) reply new.hub.state) };
 
-    fn ask(&mut self) -> Option<Result<Reply, StepFault>> {
+    fn gather(&mut self, batch: &mut Batch) -> Gathered {
+        if !batch.has_room(LONGEST_APDU) {
+            return Gathered::More;
+        }
         let (client, moment) = (self.client, self.moment);
-        Some(self.hub.step(&Step::Pump { client, moment }))
+        let reply = self.hub.step(&Step::Pump { client, moment });
+        match apdu_in(reply) {
+            Some(apdu) => {
+                batch.add(apdu.as_slice());
+                Gathered::More
+            }
+            None => Gathered::Ended(Some(reply)),
+        }
     }
 
     fn before_write(&self) {}
@@ -113,6 +124,7 @@ impl<'a, L: Ledger, R: Wait, C: Clock, G: Gate> SharedSource<'a, L, R, C, G> {
             &mut self.pass,
             self.client,
             self.clock,
+            self.gate,
         );
     }
 }
@@ -120,19 +132,35 @@ impl<'a, L: Ledger, R: Wait, C: Clock, G: Gate> SharedSource<'a, L, R, C, G> {
 impl<'a, L: Ledger, R: Wait, C: Clock, G: Gate> Source for SharedSource<'a, L, R, C, G> {
     ghost Gives = { GivesTo };
 
-    fn ask(&mut self) -> Option<Result<Reply, StepFault>> {
+    fn gather(&mut self, batch: &mut Batch) -> Gathered {
         if self.shared.stopping() {
-            return None;
+            return Gathered::Ended(None);
         }
-        let client = self.client;
         let moment = self.clock.moment();
-        let (_, reply) = self
+        let pumped = self
             .shared
-            .step(self.rt, &mut self.pass, Step::Pump { client, moment });
-        Some(reply)
+            .pump(self.rt, &mut self.pass, self.client, moment, batch);
+        self.gate.pumped(&Run {
+            first: batch.first_call(),
+            client: self.client,
+            moment,
+            octets: batch.as_slice(),
+            ended: &pumped,
+        });
+        gathered_by(pumped)
     }
 
     fn before_write(&self) {
         self.gate.at(self.pass.actor(), Place::BeforeWrite);
+    }
+}
+
+/// How gathering ended, by how the run of pumps did.
+fn gathered_by(pumped: Pumped) -> Gathered
+    ensures { result ≡ gathered_by pumped }
+{
+    match pumped {
+        Pumped::Ended(reply) => Gathered::Ended(Some(reply)),
+        Pumped::More => Gathered::More,
     }
 }

@@ -1,6 +1,8 @@
 //! The clock's ticks.
 ghost use Rattle.std.specs.Prelude.{◌≡◌};
 
+use crate::call::make_call;
+use crate::gate::Gate;
 use crate::times::Clock;
 use crate::worker_end::WorkerEnd;
 use gw_hub::Step;
@@ -15,18 +17,19 @@ use std::time::Duration;
 const TICK_MS: u64 = 100;
 
 /// Makes a tick every 100 milliseconds, until it is asked to end or no further step can be counted.
-pub fn clock<L: Ledger, R: Wait + Sleeps, C: Clock>(
+pub fn clock<L: Ledger, R: Wait + Sleeps, C: Clock, G: Gate>(
     rt: &R,
     shared: &Shared<L>,
     pass: Pass<L>,
     clock: &C,
+    gate: &G,
 ) -> (Pass<L>, WorkerEnd)
     ensures own { result.0.actor ≡ pass.actor }
     ensures end { result.1 ≡ WorkerEnd.Stopping }
 {
     let mut pass = pass;
     'ticks: for _ in rt.forever() {
-        if shared.stopping() || !tick(rt, shared, &mut pass, clock) {
+        if shared.stopping() || !tick(rt, shared, &mut pass, clock, gate) {
             break;
         }
         thread::sleep(rt, Duration::from_millis(TICK_MS));
@@ -35,14 +38,15 @@ pub fn clock<L: Ledger, R: Wait + Sleeps, C: Clock>(
 }
 
 /// Makes a tick; whether it was made.
-fn tick<L: Ledger, R: Wait, C: Clock>(
+fn tick<L: Ledger, R: Wait, C: Clock, G: Gate>(
     rt: &R,
     shared: &Shared<L>,
     pass: &mut Pass<L>,
     clock: &C,
+    gate: &G,
 ) -> bool
     ensures { pass.new.actor ≡ pass.old.actor }
 {
     let moment = clock.moment();
-    shared.step(rt, pass, Step::Tick { moment }).1.is_ok()
+    make_call(rt, shared, pass, Step::Tick { moment }, gate).is_ok()
 }

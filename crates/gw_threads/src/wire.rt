@@ -1,6 +1,9 @@
 //! Fragments on the link to an outstation.
 ghost use Rattle.std.specs.Prelude.{◌≡◌, ◌≤◌, ◌<◌, ◌+◌, ◌%◌, length, take, ℕ, OnErr, OnOk};
 ghost use Rattle.std.specs.Io.KnownBytes.{Appends};
+ghost use Rattle.dnp_transport.specs.Cut.{segments_of};
+ghost use Rattle.gw_threads.specs.Ends.{CanFail};
+ghost use Rattle.gw_threads.specs.Framed.{framed};
 
 use crate::ends::{Outgoing, Unwritten};
 use dnp_link::write_frame;
@@ -38,8 +41,11 @@ impl<W: Outgoing> Wire<W> {
     /// Sends a fragment of at most 2,048 octets, a frame for each segment: one where it has at most 249.
     pub fn send(&mut self, fragment: &[u8]) -> Result<(), Unwritten>
         requires { length fragment.now ≤ 2048 }
+        ensures ok { OnOk result (Appends (W.contents self.old.writer) (W.contents self.new.writer)
+            (framed self.old.own self.old.peer (segments_of fragment.now (self.old.sequence % 64)))) }
+        ensures err { OnErr result (CanFail W.can_fail) }
     {
-        for segment in segments(fragment, self.sequence % 64) {
+        'segments: for segment in segments(fragment, self.sequence % 64) {
             let mut frame = [0; 292];
             let end = write_frame(USER_DATA, self.peer, self.own, segment.octets(), &mut frame);
             self.writer.hand(&frame[..end])?;
@@ -50,7 +56,8 @@ impl<W: Outgoing> Wire<W> {
 
     /// Sends a frame of the link as it is.
     pub fn answer(&mut self, frame: &[u8]) -> Result<(), Unwritten>
-        ensures { OnOk result (Appends (W.contents self.old.writer) (W.contents self.new.writer) frame.now) }
+        ensures ok { OnOk result (Appends (W.contents self.old.writer) (W.contents self.new.writer) frame.now) }
+        ensures err { OnErr result (CanFail W.can_fail) }
     {
         self.writer.hand(frame)
     }

@@ -74,7 +74,17 @@ impl Window {
     pub fn copy(&self) -> Result<Window, Memory>
         ensures { IfOk result (λ copy. copy ≡ self.now) }
     {
-        let waiting = copied(&self.waiting, usize::from(self.limits.k))?;
+        let none = VecDeque::new(*self.waiting.allocator());
+        let waiting = refilled(none, &self.waiting, usize::from(self.limits.k))?;
+        Ok(Window { waiting, ..*self })
+    }
+
+    /// The same, in the memory of a window that isn't needed any more, so that none is asked for where that suffices.
+    pub fn copy_over(&self, spare: Window) -> Result<Window, Memory>
+        ensures { IfOk result (λ copy. copy ≡ self.now) }
+    {
+        let Window { waiting: spare, .. } = spare;
+        let waiting = refilled(spare, &self.waiting, usize::from(self.limits.k))?;
         Ok(Window { waiting, ..*self })
     }
 
@@ -148,6 +158,13 @@ impl Window {
         self.acknowledged += count;
         self.heard(moment);
         Ok(())
+    }
+
+    /// How many I formats sent are not acknowledged.
+    pub fn unacknowledged(&self) -> usize
+        ensures { result ≡ length self.now.waiting }
+    {
+        self.waiting.len()
     }
 
     /// Whether fewer than k I formats sent are not acknowledged.
@@ -261,13 +278,19 @@ fn oldest(waiting: &VecDeque<u64>) -> Option<u64>
     waiting.front().copied()
 }
 
-/// The same moments, with room for so many at least.
-fn copied(waiting: &VecDeque<u64>, room: usize) -> Result<VecDeque<u64>, Memory>
+/// The same moments, with room for so many at least, in the memory of a spare queue where that suffices.
+fn refilled(
+    mut spare: VecDeque<u64>,
+    waiting: &VecDeque<u64>,
+    room: usize,
+) -> Result<VecDeque<u64>, Memory>
     ensures items { IfOk result (λ copy. copy.items ≡ waiting.now.items) }
     ensures room { IfOk result (λ copy. room ≤ deque_capacity copy) }
 {
+    spare.clear();
+    let mut moments = spare.into_vec();
+    moments.reserve(room)?;
     let (front, back) = waiting.as_slices();
-    let mut moments = Vec::with_capacity(*waiting.allocator(), room)?;
     moments.extend_from_slice(front)?;
     moments.extend_from_slice(back)?;
     Ok(VecDeque::from_vec(moments))

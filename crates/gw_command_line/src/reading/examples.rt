@@ -1,10 +1,10 @@
 //! What some lines come to by the definitions alone: `clap`'s rules for the program, as a function
 //! of the words.
 
-ghost use Rattle.std.specs.Prelude.{◌≡◌, [], ◌∷◌, codes, None, Some};
+ghost use Rattle.std.specs.Prelude.{◌≡◌, [], ◌∷◌, codes, None, Some, true};
 ghost use Rattle.clap.specs.Words.{fault_of};
-ghost use Rattle.clap.specs.declared.error.ErrorKind.TheVariants.{DisplayHelp, InvalidSubcommand, MissingRequiredArgument, MissingSubcommand, UnknownArgument};
-ghost use Rattle.gw_command_line.specs.CommandLine.{gateway, spelled, to_check, to_replay, to_translate};
+ghost use Rattle.clap.specs.declared.error.ErrorKind.TheVariants.{DisplayHelp, InvalidSubcommand, MissingRequiredArgument, MissingSubcommand, UnknownArgument, ValueValidation};
+ghost use Rattle.gw_command_line.specs.CommandLine.{gateway, no_options, spelled, to_check, to_replay, to_run, to_translate};
 
 /// Four lines that ask for something, and five that are refused, with the kinds of error that may
 /// say so. A word that is no subcommand may be called an unknown argument too.
@@ -27,4 +27,38 @@ pub fn lines()
     ensures extra { fault_of gateway (codes "gateway" ∷ codes "translate" ∷ codes "extra" ∷ [])
         ≡ UnknownArgument ∷ [] }
     ensures help { fault_of gateway (codes "gateway" ∷ codes "--help" ∷ []) ≡ DisplayHelp ∷ [] }
+{}
+
+/// Lines of `gateway run`: two that ask for something, and two that are refused.
+#[tactic(auto, unfolding(clap::proofs::OnLiterals::clap_on_literals))]
+pub fn run_lines()
+    ensures taken { fault_of gateway (codes "gateway" ∷ codes "run" ∷ codes "a" ∷ []) ≡ [] }
+    ensures spelled { spelled (codes "gateway" ∷ codes "run" ∷ codes "a" ∷ []) ≡ Some (to_run (codes "a") None no_options) }
+    ensures sessions_taken { fault_of gateway (codes "gateway" ∷ codes "run" ∷ codes "a" ∷ codes "--sessions" ∷ codes "1000000" ∷ [])
+        ≡ [] }
+    ensures sessions_spelled { spelled (codes "gateway" ∷ codes "run" ∷ codes "a" ∷ codes "--sessions" ∷ codes "1000000" ∷ [])
+        ≡ Some (to_run (codes "a") (Some 1000000) no_options) }
+    ensures no_sessions { fault_of gateway (codes "gateway" ∷ codes "run" ∷ codes "a" ∷ codes "--sessions" ∷ codes "0" ∷ [])
+        ≡ ValueValidation ∷ [] }
+    ensures many_sessions { fault_of gateway (codes "gateway" ∷ codes "run" ∷ codes "a" ∷ codes "--sessions" ∷ codes "1000001" ∷ [])
+        ≡ ValueValidation ∷ [] }
+{}
+
+/// Lines of `gateway run` with its options: two addresses in their order, the end by standard input alone, and where a
+/// status page and a record go, with the record's size; and a size that is refused.
+#[tactic(auto, unfolding(clap::proofs::OnLiterals::clap_on_literals))]
+pub fn option_lines()
+    ensures allow_taken { fault_of gateway (codes "gateway" ∷ codes "run" ∷ codes "--allow" ∷ codes "::1" ∷ codes "a" ∷ codes "--allow" ∷ codes "10.0.0.0/8" ∷ [])
+        ≡ [] }
+    ensures allow_spelled { spelled (codes "gateway" ∷ codes "run" ∷ codes "--allow" ∷ codes "::1" ∷ codes "a" ∷ codes "--allow" ∷ codes "10.0.0.0/8" ∷ [])
+        ≡ Some (to_run (codes "a") None (record no_options { allow = codes "::1" ∷ codes "10.0.0.0/8" ∷ [] })) }
+    ensures until_eof_taken { fault_of gateway (codes "gateway" ∷ codes "run" ∷ codes "a" ∷ codes "--until-eof" ∷ []) ≡ [] }
+    ensures until_eof_spelled { spelled (codes "gateway" ∷ codes "run" ∷ codes "a" ∷ codes "--until-eof" ∷ [])
+        ≡ Some (to_run (codes "a") None (record no_options { until_eof = true })) }
+    ensures record_taken { fault_of gateway (codes "gateway" ∷ codes "run" ∷ codes "a" ∷ codes "--status" ∷ codes "b" ∷ codes "--record" ∷ codes "c" ∷ codes "--record-size" ∷ codes "1" ∷ [])
+        ≡ [] }
+    ensures record_spelled { spelled (codes "gateway" ∷ codes "run" ∷ codes "a" ∷ codes "--status" ∷ codes "b" ∷ codes "--record" ∷ codes "c" ∷ codes "--record-size" ∷ codes "1" ∷ [])
+        ≡ Some (to_run (codes "a") None (record no_options { status = Some (codes "b"); «record» = Some (codes "c"); record_size = 1 })) }
+    ensures no_size { fault_of gateway (codes "gateway" ∷ codes "run" ∷ codes "a" ∷ codes "--record-size" ∷ codes "0" ∷ [])
+        ≡ ValueValidation ∷ [] }
 {}

@@ -1,4 +1,4 @@
-use Rattle.std.proofs.Common.{◌≡◌, ◌∙◌, [], ap, refl}
+use Rattle.std.proofs.Common.{◌≡◌, ◌∙◌, [], ap, option_map, refl, sym}
 use Rattle.std.proofs.lemmas.Result.{err_from_is_err_and}
 use Rattle.clap.specs.Words.{App, HasMatchesOf, fault_of}
 use Rattle.clap.specs.Kinds.{HasKind}
@@ -21,7 +21,13 @@ unwrap-requires c =
     let words = texts c.args.words.now in
     let none = as_gateway (λ (a : App). fault_of a words ≡ []) _ c.in_ok-gateway_command.ensures c.in_ok-matches.ensures.kinds in
     let met = as_gateway (λ (a : App). HasMatchesOf a words c.in_ok-matches.matches) _ c.in_ok-gateway_command.ensures (λ _. c.in_ok-matches.ensures.matches) in
-    some_of_text request_of c.asked_by.result (spelled words) (c.asked_by.ensures ∙ ap asked_of (met refl).1) (line_asks words none)
+    some_of_text request_of c.in_ok-asked.asked (spelled words) (c.in_ok-asked.ensures ∙ ap asked_of (met refl).1) (line_asks words none)
+
+pub returns-clause-spelled : goal.returns-clause-spelled
+returns-clause-spelled c =
+    let words = texts c.args.words.now in
+    let met = as_gateway (λ (a : App). HasMatchesOf a words c.in_ok-matches.matches) _ c.in_ok-gateway_command.ensures (λ _. c.in_ok-matches.ensures.matches) in
+    ap asked_of (sym (met refl).1) ∙ sym c.in_ok-asked.ensures ∙ ap (option_map request_of) c.unwrap.ensures
 
 pub returns-clause-taken : goal.returns-clause-taken
 returns-clause-taken c =

@@ -1,6 +1,6 @@
 use Rattle.std.proofs.Common.{◌∙◌, subst}
 use Rattle.gw_threads.specs.Written.{Asking, Writes, Wrote}
-use Rattle.gw_threads.proofs.Pumped.{wrote-then, writes-then}
+use Rattle.gw_threads.proofs.Gathering.{wrote-then, writes-then}
 use Rattle.gw_threads.proofs.client_writing.write_on.Goals as goal
 
 pub returns-in-Some-write_run-clause-written : goal.returns-in-Some-write_run-clause-written

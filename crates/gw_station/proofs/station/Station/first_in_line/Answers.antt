@@ -1,7 +1,8 @@
-use Rattle.std.proofs.Common.{◌≡◌, ℕ, ◌<◌, ◌≤◌, ◌⊎◌, true, false, List, [], ◌∷◌, length, Some, inl, inr, refl, sym, ap, subst, ◌∙◌, arith, rules}
+use Rattle.std.proofs.Common.{◌≡◌, ℕ, ◌<◌, ◌≤◌, ◌⊎◌, true, false, List, [], ◌∷◌, length, Some, None, inl, inr, refl, sym, ap, subst, ◌∙◌, arith, rules}
 use Rattle.std.specs.Prelude.{is_some, option_map, slice_get}
 use Rattle.std.proofs.lemmas.Option.{slice_get_read}
 use Rattle.std.proofs.lemmas.Bool.{false≢true}
+use Rattle.std.proofs.lemmas.Option.{none-some}
 use Rattle.gw_station.specs.declared.sending.Sending.TheVariants as sendings
 use Rattle.gw_station.specs.Client.{Client}
 use Rattle.gw_station.proofs.Line.{first_answer, first_older, first_part, first_news}
@@ -11,6 +12,10 @@ use Rattle.gw_station.proofs.station.Station.first_in_line.Goals.{else-is_some-v
 nothing : {A : Type 0} (xs : List A) (n : ℕ) → n ≡ length xs → (0 < n → false ≡ true) → xs ≡ []
 nothing [] n all some = refl
 nothing (x ∷ xs) n all some = absurd (false≢true (some (omega (arith, all))))
+
+without_first : {A : Type 0} (xs : List A) → slice_get xs 0 ≡ None → xs ≡ []
+without_first [] none = refl
+without_first (x ∷ xs) none = absurd (none-some x (sym none))
 
 pub returns-in-Some : goal.returns-in-Some
 returns-in-Some c =
@@ -28,26 +33,24 @@ returns-then-self-gt0 c =
     let waits = queued ∙ (sym c.is_some.ensures ∙ c.if-is_some.true) in
     news ∙ first_older c.args.self.now none (subst (λ (k : Client). 0 < k.older) c.self.view_is c.if-self-gt0.true) waits
 
-pub returns-in-Some-front : goal.returns-in-Some-front
-returns-in-Some-front c =
+pub returns-in-Some-first : goal.returns-in-Some-first
+returns-in-Some-first c =
     let s = c.args.self.now in
     let answers = c.self.inside.answers in
-    let rest = c.self.inside.rest in
-    let part = c.in-Some-front.part.now in
+    let part = c.in-Some-first.part in
     let none = sym (ap (λ (k : Client). k.answers) c.self.view_is) ∙ nothing answers.items answers.len answers.ok.0 c.in_default.ensures.variant.1 in
-    let first = slice_get_read rest.items rest.len 0 part rest.ok.0 (c.in-Some-front.ensures.variant.0 refl) c.in-Some-front.ensures.lookup in
     let queued = sym (c.map-news.ensures.variant ∙ ap is_some c.oldest_news.ensures) in
     let no_news : (s.older ≤ 0) ⊎ (is_some (slice_get s.queue 0) ≡ false) = elim c.else-is_some.branch [
       | else-is_some-via-then-is_some+else-self-gt0 w ↦ inl (subst (λ (k : Client). k.older ≤ 0) c.self.view_is w.if-self-gt0.false)
       | else-is_some-via-else-is_some w ↦ inr (queued ∙ (sym c.is_some.ensures ∙ w.if-is_some.false))
     ] in
-    first_part s part none no_news (subst (λ (k : Client). slice_get k.rest 0 ≡ Some part) c.self.view_is first)
+    let first : slice_get s.rest 0 ≡ Some part = search rules in
+    first_part s part none no_news first
 
 pub returns : goal.returns
 returns c =
     let answers = c.self.inside.answers in
-    let rest = c.self.inside.rest in
     let none = sym (ap (λ (k : Client). k.answers) c.self.view_is) ∙ nothing answers.items answers.len answers.ok.0 c.in_default.ensures.variant.1 in
-    let empty = sym (ap (λ (k : Client). k.rest) c.self.view_is) ∙ nothing rest.items rest.len rest.ok.0 c.in_default-front.ensures.variant.1 in
+    let first : slice_get c.args.self.now.rest 0 ≡ None = search rules in
     let news : c.map-news.result ≡ option_map sendings.News (slice_get c.args.self.now.queue 0) = search rules in
-    news ∙ first_news c.args.self.now none empty
+    news ∙ first_news c.args.self.now none (without_first c.args.self.now.rest first)

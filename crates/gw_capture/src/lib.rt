@@ -1,0 +1,23 @@
+//! What a running gateway steps, captured as lines of a replay in one file, and the lines of the replies in another.
+//!
+//! A worker keeps the line of a step before it is made, and hands it over with the number and the reply that the core gave.
+//! One thread puts what all workers handed over in the order of the numbers, and writes it.
+#![tactic(auto)]
+
+mod capture;
+mod ended;
+mod files;
+mod kept;
+mod lines;
+mod pumps;
+mod sorter;
+mod step_line;
+#[cfg(test)]
+mod tests;
+mod waiting;
+
+pub use capture::Capture;
+pub use ended::{Cause, Ended};
+pub use kept::Kept;
+pub use pumps::Pumps;
+pub use step_line::push_step;

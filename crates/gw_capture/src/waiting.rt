@@ -1,0 +1,132 @@
+//! What waits to be written.
+
+use crate::ended::Cause;
+use crate::lines::Lines;
+use std::alloc::Global;
+use std::mem;
+
+/// How many batches of lines may wait.
+const MOST_BATCHES: usize = 65_536;
+
+/// How many octets may wait.
+const MOST_OCTETS: usize = 16_000_000;
+
+/// How much lines are.
+#[derive(Clone, Copy, Debug, PartialEq, Eq)]
+pub struct Amount {
+    pub batches: usize,
+    pub octets: usize,
+}
+
+impl Amount {
+    /// No lines.
+    pub const NONE: Amount = Amount {
+        batches: 0,
+        octets: 0,
+    };
+
+    /// That of lines that were handed over together.
+    pub fn of(lines: &Lines) -> Amount {
+        Amount {
+            batches: 1,
+            octets: lines.steps.len().saturating_add(lines.answers.len()),
+        }
+    }
+
+    /// With so much more.
+    pub fn with(self, more: Amount) -> Amount {
+        Amount {
+            batches: self.batches.saturating_add(more.batches),
+            octets: self.octets.saturating_add(more.octets),
+        }
+    }
+
+    /// With so much less.
+    fn without(self, less: Amount) -> Amount {
+        Amount {
+            batches: self.batches.saturating_sub(less.batches),
+            octets: self.octets.saturating_sub(less.octets),
+        }
+    }
+
+    /// Whether so much may wait.
+    fn may_wait(self) -> bool {
+        self.batches <= MOST_BATCHES && self.octets <= MOST_OCTETS
+    }
+}
+
+/// What the thread that writes is to do.
+#[derive(Clone, Copy, Debug, PartialEq, Eq)]
+pub enum Turn {
+    /// To write what it was given.
+    Write,
+    /// To wait.
+    Wait,
+    /// To end.
+    End(Cause),
+}
+
+/// What was handed over and isn't written yet.
+#[derive(Drop)]
+pub struct Waiting {
+    lines: Vec<Lines>,
+    /// How much isn't written yet, with what the thread that writes has taken.
+    amount: Amount,
+    /// Why nothing more is taken.
+    ended: Option<Cause>,
+}
+
+impl Waiting {
+    /// Nothing yet.
+    pub fn new(alloc: Global) -> Waiting {
+        Waiting {
+            lines: Vec::new(alloc),
+            amount: Amount::NONE,
+            ended: None,
+        }
+    }
+
+    /// Takes lines; whether they, and more, can be taken.
+    pub fn add(&mut self, lines: Lines) -> bool {
+        if self.ended.is_some() {
+            return false;
+        }
+        let amount = self.amount.with(Amount::of(&lines));
+        if !amount.may_wait() {
+            self.end(Cause::QueueFull);
+            return false;
+        }
+        if self.lines.push(lines).is_err() {
+            self.end(Cause::Memory);
+            return false;
+        }
+        self.amount = amount;
+        true
+    }
+
+    /// Takes nothing more.
+    pub fn end(&mut self, cause: Cause) {
+        if self.ended.is_none() {
+            self.ended = Some(cause);
+        }
+    }
+
+    /// Forgets what waits.
+    pub fn clear(&mut self) {
+        self.lines.clear();
+    }
+
+    /// What is to be done by the thread that has written so much since it asked last. What is to be written is put into an
+    /// empty batch.
+    pub fn turn(&mut self, written: Amount, batch: &mut Vec<Lines>) -> Turn {
+        self.amount = self.amount.without(written);
+        if !self.lines.is_empty() {
+            mem::swap(&mut self.lines, batch);
+            return Turn::Write;
+        }
+        match self.ended {
+            Some(cause) => Turn::End(cause),
+            None => Turn::Wait,
+        }
+    }
+}

@@ -1,0 +1,129 @@
+//! The figures of a place for a client.
+
+use crate::cause::Cause;
+use crate::throttle::Throttle;
+use gw_hub::Why;
+use gw_status::Closes;
+use std::net::SocketAddr;
+
+/// The milliseconds between two tellings of dropped observations.
+const MINUTE_MS: u64 = 60_000;
+
+/// How it is with a place for a client, as the journal and the status tell. The counts go on from one client to the next.
+#[derive(Drop)]
+pub struct ClientFigures {
+    /// Who is connected; nobody where the place is free.
+    pub address: Option<SocketAddr>,
+    /// Since when the connection stands, if one does, in milliseconds since 1970 in UTC.
+    pub connected_since: Option<u64>,
+    /// Whether data transfer is started (STARTDT).
+    pub started: bool,
+    /// Why connections of this place ended.
+    pub closes: Closes,
+    /// The observations that were dropped since too many waited.
+    pub dropped: u64,
+    /// Those of this session.
+    dropped_of_session: u64,
+    dropped_told: Throttle,
+}
+
+/// One more.
+fn add_one(count: &mut u64) {
+    *count = count.saturating_add(1);
+}
+
+impl ClientFigures {
+    /// Of a place that no client had yet.
+    pub fn new() -> ClientFigures {
+        ClientFigures {
+            address: None,
+            connected_since: None,
+            started: false,
+            closes: Closes {
+                timer: 0,
+                sequence: 0,
+                not_started: 0,
+                malformed: 0,
+                flooded: 0,
+                lost: 0,
+            },
+            dropped: 0,
+            dropped_of_session: 0,
+            dropped_told: Throttle::new(MINUTE_MS),
+        }
+    }
+
+    /// A client has the place since now.
+    pub fn connected(&mut self, address: SocketAddr, wall: u64) {
+        self.address = Some(address);
+        self.connected_since = Some(wall);
+        self.started = false;
+        self.dropped_of_session = 0;
+        self.dropped_told = Throttle::new(MINUTE_MS);
+    }
+
+    /// It starts data transfer, unless it has: a session begins.
+    pub fn started(&mut self) {
+        if !self.started {
+            self.started = true;
+            self.dropped_of_session = 0;
+        }
+    }
+
+    /// It stops data transfer.
+    pub fn stopped(&mut self) {
+        self.started = false;
+    }
+
+    /// Its connection ended.
+    pub fn ended(&mut self, cause: &Cause) {
+        self.address = None;
+        self.connected_since = None;
+        self.started = false;
+        self.count(cause);
+    }
+
+    /// Counts why a connection ended.
+    fn count(&mut self, cause: &Cause) {
+        match *cause {
+            Cause::Closed(Why::Timer) => add_one(&mut self.closes.timer),
+            Cause::Closed(Why::Sequence) => add_one(&mut self.closes.sequence),
+            Cause::Closed(Why::NotStarted) => add_one(&mut self.closes.not_started),
+            Cause::Closed(Why::Malformed) => add_one(&mut self.closes.malformed),
+            Cause::Closed(Why::Flooded) => add_one(&mut self.closes.flooded),
+            Cause::EndOfInput
+            | Cause::Silent { .. }
+            | Cause::Slow { .. }
+            | Cause::NotRead(_)
+            | Cause::NotWritten(_)
+            | Cause::NotApdus(_)
+            | Cause::Memory
+            | Cause::GaveWay
+            | Cause::GatewayEnds => add_one(&mut self.closes.lost),
+        }
+    }
+
+    /// So many observations of its session were dropped by now. Where that is to be told, how many weren't told yet.
+    pub fn dropped(&mut self, wall: u64, total: u64) -> Option<u64> {
+        self.count_dropped(total);
+        self.dropped_told.pending(wall)
+    }
+
+    /// So many were dropped in all, and the session ends; how many weren't told yet, if some weren't.
+    pub fn dropped_in_all(&mut self, total: u64) -> Option<u64> {
+        self.count_dropped(total);
+        self.dropped_told.pending(u64::MAX)
+    }
+
+    /// So many observations of its session were dropped by now.
+    fn count_dropped(&mut self, total: u64) {
+        let more = match total.checked_sub(self.dropped_of_session) {
+            Some(more) => more,
+            // Another session has begun.
+            None => total,
+        };
+        self.dropped_of_session = total;
+        self.dropped = self.dropped.saturating_add(more);
+        self.dropped_told.add(more);
+    }
+}

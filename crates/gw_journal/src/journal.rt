@@ -1,0 +1,73 @@
+//! What an operator is told, written by a thread of its own.
+
+use crate::event::Event;
+use crate::note_line::{Note, NoteLine};
+use crate::waiting::{Next, Waiting};
+use gw_model::Memory;
+use gw_shared::Bell;
+use std::alloc::Global;
+use std::sync::{Mutex, Wait};
+
+/// Notes on their way to standard error. Whoever tells something doesn't wait for it to be written: at most 1,024 notes
+/// wait, and of more the newest are left out and counted. How many is told before the next note that finds room.
+#[derive(Drop)]
+pub struct Journal {
+    waiting: Mutex<Waiting>,
+    bell: Bell,
+    /// Where the outstations are reached.
+    places: Vec<String>,
+    /// Whether each line has its priority in front.
+    with_priority: bool,
+}
+
+impl Journal {
+    /// An empty journal: where the outstations are reached, in the order of the settings, and whether each line has its
+    /// priority in front, as journald reads it.
+    pub fn new(alloc: Global, places: Vec<String>, with_priority: bool) -> Result<Journal, Memory> {
+        Ok(Journal {
+            waiting: Mutex::new(Waiting::new(alloc)?),
+            bell: Bell::new(),
+            places,
+            with_priority,
+        })
+    }
+
+    /// Tells what happened, and when, in milliseconds since 1970 in UTC.
+    pub fn tell<R: Wait>(&self, rt: &R, wall: u64, event: Event) {
+        self.waiting.lock(rt).add(Note { wall, event });
+        self.bell.ring();
+    }
+
+    /// Nothing more is told.
+    pub fn close<R: Wait>(&self, rt: &R) {
+        self.waiting.lock(rt).close();
+        self.bell.ring();
+    }
+
+    /// Writes notes to standard error as they come, until the journal is closed and all are written.
+    pub fn write_on<R: Wait + Eprint>(&self, rt: &R) {
+        for _ in rt.forever() {
+            let rung = self.bell.rung();
+            match self.next(rt) {
+                Next::Note(note) => self.write(rt, &note),
+                Next::Nothing => self.bell.wait(rt, rung),
+                Next::End => return,
+            }
+        }
+    }
+
+    /// The next note.
+    fn next<R: Wait>(&self, rt: &R) -> Next {
+        self.waiting.lock(rt).next()
+    }
+
+    /// Writes a note. Where standard error can't be written there is nobody to tell.
+    fn write<R: Eprint>(&self, rt: &R, note: &Note) {
+        let line = NoteLine {
+            note,
+            places: &self.places,
+            with_priority: self.with_priority,
+        };
+        let _ = eprintln!(rt; "{line}");
+    }
+}

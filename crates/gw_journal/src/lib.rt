@@ -1,0 +1,29 @@
+//! What an operator is told of the gateway: events as lines of the journal, which a thread of its own writes to standard
+//! error; and the figures of outstations and clients, from which some of the events come.
+#![tactic(auto)]
+
+mod cause;
+mod client_figures;
+mod counted;
+mod doubt;
+mod event;
+mod failure;
+mod journal;
+mod note_line;
+mod outstation_figures;
+#[cfg(test)]
+mod tests;
+mod throttle;
+mod unreadable;
+mod waiting;
+
+pub use cause::Cause;
+pub use client_figures::ClientFigures;
+pub use doubt::Doubt;
+pub use event::{Event, Priority, RecordingEnd};
+pub use failure::Failure;
+pub use journal::Journal;
+pub use note_line::{Note, NoteLine};
+pub use outstation_figures::{Due, Noticed, OutstationFigures, Refused};
+pub use throttle::Throttle;
+pub use unreadable::Unreadable;

@@ -1,0 +1,249 @@
+//! The figures of an outstation.
+
+use crate::throttle::Throttle;
+use crate::unreadable::Unreadable;
+
+/// The milliseconds between two tellings of unanswered requests, and of skipped octets.
+const MINUTE_MS: u64 = 60_000;
+
+/// The milliseconds between two tellings of refused fragments.
+const SECOND_MS: u64 = 1000;
+
+/// IIN1.4: the outstation asks for the time.
+const NEED_TIME: u16 = 1 << 4;
+
+/// IIN1.7: the outstation restarted.
+const RESTART: u16 = 1 << 7;
+
+/// IIN2.3: an event buffer of the outstation overflowed.
+const OVERFLOW: u16 = 1 << 11;
+
+/// How it is with an outstation, as the journal and the status tell. Times are milliseconds since 1970 in UTC. The counts
+/// go on from one connection to the next.
+#[derive(Drop)]
+pub struct OutstationFigures {
+    /// Since when a connection stands, if one does.
+    pub connected_since: Option<u64>,
+    /// When a fragment of it was taken last, if one was.
+    pub last_answer: Option<u64>,
+    /// The requests sent to it.
+    pub requests: u64,
+    /// Those after which the next was sent before their answer had ended.
+    pub unanswered: u64,
+    /// The fragments of it that were refused.
+    pub refused: u64,
+    /// The octets of it that the link skipped.
+    pub skipped: u64,
+    /// The internal indications of its last response, IIN1 in the low octet and IIN2 in the high one.
+    pub indications: u16,
+    /// The events that it reported.
+    pub events: u64,
+    /// The internal indications of its last response on this connection.
+    before: u16,
+    /// The last request awaits its answer.
+    is_awaited: bool,
+    /// The number of the step that gave it.
+    asked_by: u64,
+    setting: Setting,
+    unanswered_told: Throttle,
+    skipped_told: Throttle,
+    refused_told: Throttle,
+    /// Why the last fragment was refused that wasn't told.
+    last_refused: Option<Unreadable>,
+}
+
+/// How far the setting of the outstation's clock has come.
+#[derive(Clone, Copy)]
+enum Setting {
+    /// The last request wasn't the writing of the time.
+    Idle,
+    /// The last request writes the time, and awaits its answer.
+    Written,
+    /// It was told that the clock isn't set, and the outstation asks for the time since.
+    Told,
+}
+
+/// What a response of an outstation has that it didn't have before.
+#[derive(Clone, Copy, Debug, PartialEq, Eq)]
+pub struct Noticed {
+    /// The outstation restarted.
+    pub restarted: bool,
+    /// An event buffer of it overflowed.
+    pub overflowed: bool,
+    /// It still asks for the time after it was written.
+    pub clock_not_set: bool,
+}
+
+/// What is due to be told of an outstation.
+#[derive(Clone, Copy, Debug, PartialEq, Eq)]
+pub struct Due {
+    /// So many requests weren't answered.
+    pub unanswered: Option<u64>,
+    /// So many octets were skipped.
+    pub skipped: Option<u64>,
+    /// Fragments were refused and not told.
+    pub refused: Option<Refused>,
+}
+
+/// Fragments that were refused.
+#[derive(Clone, Copy, Debug, PartialEq, Eq)]
+pub struct Refused {
+    /// Why the last one was.
+    pub fault: Unreadable,
+    /// How many came before it and weren't told.
+    pub left_out: u64,
+}
+
+/// Whether an internal indication is set now, and wasn't before.
+fn rises(indication: u16, before: u16, now: u16) -> bool {
+    now & indication != 0 && before & indication == 0
+}
+
+impl OutstationFigures {
+    /// Of an outstation that was never connected.
+    pub fn new() -> OutstationFigures {
+        OutstationFigures {
+            connected_since: None,
+            last_answer: None,
+            requests: 0,
+            unanswered: 0,
+            refused: 0,
+            skipped: 0,
+            indications: 0,
+            events: 0,
+            before: 0,
+            is_awaited: false,
+            asked_by: 0,
+            setting: Setting::Idle,
+            unanswered_told: Throttle::new(MINUTE_MS),
+            skipped_told: Throttle::new(MINUTE_MS),
+            refused_told: Throttle::new(SECOND_MS),
+            last_refused: None,
+        }
+    }
+
+    /// A connection stands since now. What the outstation indicated on an earlier one counts as new again.
+    pub fn connected(&mut self, wall: u64) {
+        self.lost();
+        self.connected_since = Some(wall);
+    }
+
+    /// The connection is lost. A request that awaited its answer counts as none that wasn't answered in time.
+    pub fn lost(&mut self) {
+        self.connected_since = None;
+        self.before = 0;
+        self.is_awaited = false;
+        self.setting = Setting::Idle;
+    }
+
+    /// A request is sent, which the step of this number gave: whether it awaits an answer, and whether it writes the time.
+    pub fn asked(&mut self, step: u64, awaits_answer: bool, writes_time: bool) {
+        self.requests = self.requests.saturating_add(1);
+        if self.is_awaited {
+            self.unanswered = self.unanswered.saturating_add(1);
+            self.unanswered_told.add(1);
+        }
+        self.is_awaited = awaits_answer;
+        self.asked_by = step;
+        self.setting = self.setting.once_asked(writes_time);
+    }
+
+    /// A fragment was taken by the step of this number: its internal indications, whether it ends the answer to a request,
+    /// and how many events it reports. Gives what is new.
+    pub fn answered(
+        &mut self,
+        step: u64,
+        wall: u64,
+        indications: [u8; 2],
+        solicited_end: bool,
+        events: u64,
+    ) -> Noticed {
+        let now = u16::from_le_bytes(indications);
+        let before = self.before;
+        let clock_not_set = self.ends(step, now, solicited_end);
+        self.last_answer = Some(wall);
+        self.indications = now;
+        self.events = self.events.saturating_add(events);
+        self.before = now;
+        Noticed {
+            restarted: rises(RESTART, before, now),
+            overflowed: rises(OVERFLOW, before, now),
+            clock_not_set,
+        }
+    }
+
+    /// What a fragment means for the last request; whether it is to be told that the clock isn't set. Where the next request
+    /// was told first, the fragment is of the one before, which counted as unanswered then.
+    fn ends(&mut self, step: u64, indications: u16, solicited_end: bool) -> bool {
+        if step < self.asked_by {
+            if solicited_end {
+                self.unanswered = self.unanswered.saturating_sub(1);
+                self.unanswered_told.take_back(1);
+            }
+            return false;
+        }
+        let (setting, clock_not_set) = self.setting.once_answered(indications, solicited_end);
+        self.setting = setting;
+        self.is_awaited = self.is_awaited && !solicited_end;
+        clock_not_set
+    }
+
+    /// A fragment was refused. Where that may be told now, how many more were refused and not told.
+    pub fn refused(&mut self, wall: u64, fault: Unreadable) -> Option<u64> {
+        self.refused = self.refused.saturating_add(1);
+        let told = self.refused_told.ask(wall);
+        self.last_refused = match told {
+            Some(_) => None,
+            None => Some(fault),
+        };
+        told
+    }
+
+    /// The link skipped octets.
+    pub fn skipped(&mut self, octets: u64) {
+        self.skipped = self.skipped.saturating_add(octets);
+        self.skipped_told.add(octets);
+    }
+
+    /// What is due to be told, which counts as told then.
+    pub fn due(&mut self, wall: u64) -> Due {
+        Due {
+            unanswered: self.unanswered_told.pending(wall),
+            skipped: self.skipped_told.pending(wall),
+            refused: self.refused_due(wall),
+        }
+    }
+
+    /// The refused fragments that are due to be told.
+    fn refused_due(&mut self, wall: u64) -> Option<Refused> {
+        let fault = self.last_refused?;
+        let count = self.refused_told.pending(wall)?;
+        self.last_refused = None;
+        Some(Refused {
+            fault,
+            left_out: count.saturating_sub(1),
+        })
+    }
+}
+
+impl Setting {
+    /// Once a request is sent, which writes the time or doesn't.
+    fn once_asked(self, writes_time: bool) -> Setting {
+        match self {
+            Setting::Told => Setting::Told,
+            Setting::Idle | Setting::Written if writes_time => Setting::Written,
+            Setting::Idle | Setting::Written => Setting::Idle,
+        }
+    }
+
+    /// Once a fragment with these internal indications was taken, and whether it is to be told that the clock isn't set.
+    fn once_answered(self, indications: u16, solicited_end: bool) -> (Setting, bool) {
+        if indications & NEED_TIME == 0 {
+            return (Setting::Idle, false);
+        }
+        match self {
+            Setting::Written if solicited_end => (Setting::Told, true),
+            Setting::Idle | Setting::Written | Setting::Told => (self, false),
+        }
+    }
+}

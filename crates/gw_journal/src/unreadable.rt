@@ -1,0 +1,111 @@
+//! Why a fragment of an outstation couldn't be read.
+
+use dnp_app::AppFault;
+use dnp_objects::{ObjectFault, Why};
+use std::fmt;
+
+/// How many octets stand before the object part of a response.
+const BEFORE_OBJECTS: usize = 4;
+
+/// Why a fragment couldn't be read, with what of its octets tells an operator where. Places are counted in its object
+/// part, from 0.
+#[derive(Clone, Copy, Debug, PartialEq, Eq)]
+pub enum Unreadable {
+    /// It has fewer than four octets.
+    Short,
+    /// Its function is neither 129 (response) nor 130 (unsolicited response).
+    NotResponse {
+        /// Its function.
+        function: u8,
+    },
+    /// An object header is too short to name an object and a qualifier.
+    ShortHeader {
+        /// Where the header begins.
+        place: usize,
+    },
+    /// An object header, or its objects, can't be read.
+    Object {
+        /// The object group.
+        group: u8,
+        /// The variation of the group.
+        variation: u8,
+        /// The qualifier.
+        qualifier: u8,
+        /// Where the header begins.
+        place: usize,
+        /// What is wrong.
+        why: Why,
+    },
+    /// Memory ran out.
+    Memory,
+}
+
+impl Unreadable {
+    /// Why a fragment of these octets was refused.
+    pub fn of(fault: &AppFault, octets: &[u8]) -> Unreadable {
+        match *fault {
+            AppFault::Short => Unreadable::Short,
+            AppFault::NotResponse => match octets.get(1) {
+                Some(function) => Unreadable::NotResponse {
+                    function: *function,
+                },
+                None => Unreadable::Short,
+            },
+            AppFault::Object(fault) => Unreadable::of_object(fault, octets),
+            AppFault::Memory => Unreadable::Memory,
+        }
+    }
+
+    /// Why the object part of a fragment of these octets was refused.
+    fn of_object(fault: ObjectFault, octets: &[u8]) -> Unreadable {
+        let place = fault.place;
+        match octets.get(place.saturating_add(BEFORE_OBJECTS)..) {
+            Some([group, variation, qualifier, ..]) => Unreadable::Object {
+                group: *group,
+                variation: *variation,
+                qualifier: *qualifier,
+                place,
+                why: fault.why,
+            },
+            _ => Unreadable::ShortHeader { place },
+        }
+    }
+}
+
+impl fmt::Display for Unreadable {
+    fn fmt<W: fmt::Write>(&self, f: &mut fmt::Formatter<W>) -> fmt::Result {
+        match *self {
+            Unreadable::Short => f.write_str("fewer than four octets"),
+            Unreadable::NotResponse { function } => {
+                write!(f, "function {function}, which is no response")
+            }
+            Unreadable::ShortHeader { place } => {
+                write!(f, "a header of fewer than three octets at {place}")
+            }
+            Unreadable::Object {
+                group,
+                variation,
+                qualifier,
+                place,
+                why,
+            } => {
+                write!(f, "group {group} variation {variation} at {place}")?;
+                write_why(f, why, qualifier)
+            }
+            Unreadable::Memory => f.write_str("no memory"),
+        }
+    }
+}
+
+/// Writes what is wrong with an object header, or its objects.
+fn write_why<W: fmt::Write>(f: &mut fmt::Formatter<W>, why: Why, qualifier: u8) -> fmt::Result {
+    match why {
+        Why::UnknownObject => f.write_str(" is unknown"),
+        Why::UnknownQualifier => write!(f, " has qualifier 0x{qualifier:02X}"),
+        Why::ShortRange => f.write_str(" is cut off in its range"),
+        Why::StopBeforeStart => f.write_str(" stops before it starts"),
+        Why::ShortData => f.write_str(" is cut off in its objects"),
+        Why::TooMany => f.write_str(" comes after 512 other headers"),
+        Why::Memory => f.write_str(" finds no memory"),
+    }
+}

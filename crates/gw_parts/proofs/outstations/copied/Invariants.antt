@@ -1,6 +1,0 @@
--- Those before this one are copied already.
-use Rattle.std.proofs.Common.{◌≡◌, ◌++◌, drop}
-use Rattle.gw_parts.proofs.outstations.copied.Given as goal
-
-abbrev pub invariant-loop-master : goal.invariant-loop-master
-invariant-loop-master l = l.copy.items ++ drop l.master-index l.masters ≡ l.masters

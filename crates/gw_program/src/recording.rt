@@ -1,0 +1,73 @@
+//! `gateway run --record`: a run that is taken down as lines of a replay.
+
+use gw_capture::{Capture, Cause, Ended, Kept, Pumps};
+use gw_hub::{Step, StepFault};
+use gw_journal::{Event, Journal, RecordingEnd};
+use gw_server::{Gate, Place};
+use gw_threads::{Call, Pumped, Run};
+use std::sync::Wait;
+
+/// A gate that holds nobody, and takes down each step.
+#[derive(Clone, Copy)]
+pub struct Recording<'a, R> {
+    pub rt: &'a R,
+    pub capture: &'a Capture,
+}
+
+impl<'a, R: Wait> Gate for Recording<'a, R> {
+    fn at(&self, _actor: usize, _place: Place) {}
+
+    fn line_of(&self, step: &Step) -> Option<Vec<u8>> {
+        match self.capture.keep(step) {
+            Kept::Line(line) => Some(line),
+            Kept::Nothing => None,
+            lost => {
+                // The capture ends by that.
+                self.capture
+                    .put_step(self.rt, lost, 0, Err(StepFault::Memory));
+                None
+            }
+        }
+    }
+
+    fn made(&self, call: Call<'_>) {
+        let Call {
+            number,
+            line,
+            reply,
+            ..
+        } = call;
+        if let Some(line) = line {
+            self.capture
+                .put_step(self.rt, Kept::Line(line), number, *reply);
+        }
+    }
+
+    fn pumped(&self, run: &Run<'_>) {
+        let end = match run.ended {
+            Pumped::Ended(reply) => Some(*reply),
+            Pumped::More => None,
+        };
+        let pumps = Pumps {
+            first: run.first,
+            client: run.client,
+            moment: run.moment,
+            apdus: run.octets,
+            end,
+        };
+        self.capture.put_pumps(self.rt, &pumps);
+    }
+}
+
+/// Tells the journal that a recording ended before the gateway did.
+pub fn tell_end<R: Wait>(rt: &R, journal: &Journal, wall: u64, ended: Ended) {
+    let cause = match ended.cause {
+        Cause::QueueFull => RecordingEnd::QueueFull,
+        Cause::NotWritten => RecordingEnd::NotWritten,
+        Cause::Full { megabytes } => RecordingEnd::Full { megabytes },
+        Cause::Memory => RecordingEnd::Memory,
+        Cause::Closed => return,
+    };
+    let step = ended.step;
+    journal.tell(rt, wall, Event::RecordingEnded { step, cause });
+}

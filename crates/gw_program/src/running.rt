@@ -1,0 +1,300 @@
+//! `gateway run`.
+
+use crate::recording::{Recording, tell_end};
+use crate::{USAGE, refuse, refuse_for};
+use gw_capture::Capture;
+use gw_checker::{Unusable, read_file, read_settings};
+use gw_command_line::RunOptions;
+use gw_journal::{Doubt, Event, Journal};
+use gw_map::{Outstation, Settings};
+use gw_model::Memory;
+use gw_server::{
+    Clock, Closed, Gate, Host, Network, OpenGate, Options, SystemClock, journal_of, open, serve_as,
+};
+use sha2::{Digest, Sha256};
+use std::alloc::{AllocError, AllocFailed, Global};
+use std::fs::File;
+use std::net::TcpListener;
+use std::sync::Wait;
+use std::{env, io, thread};
+
+/// The gateway's version.
+const VERSION: &str = "0.1.0";
+
+/// Why nothing is served.
+#[derive(Drop)]
+enum Unserved {
+    /// The settings can't be used.
+    Settings(Unusable),
+    /// What is behind `--allow` is no address.
+    Allow,
+    /// The status can't be served where it is to be.
+    Status,
+    /// Nobody can listen where the settings say.
+    Listen,
+    /// The files of the record can't be made.
+    Record,
+    /// Memory, or a thread, was refused.
+    Memory,
+}
+
+impl From<Unusable> for Unserved {
+    fn from(why: Unusable) -> Unserved {
+        Unserved::Settings(why)
+    }
+}
+
+impl From<Memory> for Unserved {
+    fn from(_memory: Memory) -> Unserved {
+        Unserved::Memory
+    }
+}
+
+impl From<AllocError> for Unserved {
+    fn from(_error: AllocError) -> Unserved {
+        Unserved::Memory
+    }
+}
+
+impl<T: Drop> From<AllocFailed<T>> for Unserved {
+    fn from(_failed: AllocFailed<T>) -> Unserved {
+        Unserved::Memory
+    }
+}
+
+/// Serves control centres and outstations as a settings file says, until so many connections of control centres have ended,
+/// or standard input has, or for ever; gives the status.
+pub fn run<H: Host>(
+    rt: &HostRuntime,
+    host: &H,
+    file: &str,
+    sessions: Option<u32>,
+    asked: &RunOptions,
+) -> io::Result<u8> {
+    match serve_file(rt, host, file, sessions, asked) {
+        Ok(closed) => {
+            println!(rt; "steps {}", closed.total)?;
+            Ok(0)
+        }
+        Err(Unserved::Settings(why)) => refuse(rt, &why),
+        Err(Unserved::Allow) => {
+            eprint!(rt;
+                "error: --allow takes an address, or an address, / and a number of bits\n"
+            )?;
+            Ok(USAGE)
+        }
+        Err(Unserved::Status) => refuse_for(rt, "status"),
+        Err(Unserved::Listen) => refuse_for(rt, "listen"),
+        Err(Unserved::Record) => refuse_for(rt, "record"),
+        Err(Unserved::Memory) => refuse_for(rt, "memory"),
+    }
+}
+
+/// Reads the settings file, listens, and serves.
+fn serve_file<H: Host>(
+    rt: &HostRuntime,
+    host: &H,
+    file: &str,
+    sessions: Option<u32>,
+    asked: &RunOptions,
+) -> Result<Closed, Unserved> {
+    let octets = read_file(rt.alloc(), rt, file)?;
+    let settings = read_settings(rt.alloc(), octets.as_slice())?;
+    let allow = networks_of(rt.alloc(), &asked.allow)?;
+    let status = status_listener(host, asked.status)?;
+    let Ok(listener) = open(host, &settings) else {
+        return Err(Unserved::Listen);
+    };
+    let options = Options {
+        version: VERSION,
+        sessions,
+        allow: &allow,
+        until_eof: asked.until_eof.then_some(rt.stdin()),
+        status: status.as_ref(),
+    };
+    let journal = journal_of(rt.alloc(), &settings, is_journal(rt))?;
+    let clock = SystemClock::new(host);
+    let wall = clock.wall();
+    journal.tell(
+        host,
+        wall,
+        started(rt.alloc(), file, octets.as_slice(), &settings)?,
+    );
+    tell_doubts(host, &journal, wall, &settings);
+    let site = Site {
+        alloc: rt.alloc(),
+        host,
+        listener: &listener,
+        options,
+        journal: &journal,
+        clock: &clock,
+    };
+    match asked.record {
+        Some(path) => {
+            let files = record_files(rt, path)?;
+            site.serve_recorded(settings, files, u64::from(asked.record_size))
+        }
+        None => Ok(site.serve(settings, &OpenGate)?),
+    }
+}
+
+/// The files of a record: that of the steps, and that of the replies.
+fn record_files(rt: &HostRuntime, path: &str) -> Result<(File, File), Unserved> {
+    let answers = format!(in rt.alloc(); "{path}.answers")?;
+    match (File::create(rt, path), File::create(rt, answers.as_str())) {
+        (Ok(steps), Ok(answers)) => Ok((steps, answers)),
+        _ => Err(Unserved::Record),
+    }
+}
+
+/// What is served, and what is told of it.
+#[derive(Clone, Copy)]
+struct Site<'a, H> {
+    alloc: Global,
+    host: &'a H,
+    listener: &'a TcpListener,
+    options: Options<'a>,
+    journal: &'a Journal,
+    clock: &'a SystemClock<'a, H>,
+}
+
+impl<'a, H: Host> Site<'a, H> {
+    /// Serves, with a gate.
+    fn serve<G: Gate + Sync>(&self, settings: Settings, gate: &G) -> Result<Closed, Memory> {
+        serve_as(
+            self.alloc,
+            self.host,
+            settings,
+            self.listener,
+            self.options,
+            self.journal,
+            self.clock,
+            gate,
+        )
+    }
+
+    /// Serves, and takes each step down in files of so many megabytes at most.
+    fn serve_recorded(
+        &self,
+        settings: Settings,
+        files: (File, File),
+        megabytes: u64,
+    ) -> Result<Closed, Unserved> {
+        let capture = Capture::new(self.alloc, megabytes);
+        let kept = &capture;
+        let (_, closed) = thread::join(
+            self.host,
+            move || self.write_record(kept, files),
+            move || self.serve_into(kept, settings),
+        );
+        Ok(closed?)
+    }
+
+    /// Serves, and hands each step to a capture, which is closed behind the last one.
+    fn serve_into(&self, capture: &Capture, settings: Settings) -> Result<Closed, Memory> {
+        let gate = Recording {
+            rt: self.host,
+            capture,
+        };
+        let closed = self.serve(settings, &gate);
+        capture.close(self.host);
+        closed
+    }
+
+    /// Writes what is captured, and tells where that ends before the gateway does.
+    fn write_record(&self, capture: &Capture, files: (File, File)) {
+        let (mut steps, mut answers) = files;
+        let ended = capture.write_on(self.host, &mut steps, &mut answers);
+        tell_end(self.host, self.journal, self.clock.wall(), ended);
+    }
+}
+
+/// The networks that are allowed.
+fn networks_of(alloc: Global, texts: &[&str]) -> Result<Vec<Network>, Unserved> {
+    let mut networks = Vec::with_capacity(alloc, texts.len())?;
+    for text in texts {
+        match Network::read(text) {
+            Some(network) => networks.push(network)?,
+            None => return Err(Unserved::Allow),
+        }
+    }
+    Ok(networks)
+}
+
+/// Listens where the status is to be served, if it is.
+fn status_listener<H: Host>(
+    host: &H,
+    place: Option<&str>,
+) -> Result<Option<TcpListener>, Unserved> {
+    match place {
+        Some(place) => match TcpListener::bind(host, place) {
+            Ok(listener) => Ok(Some(listener)),
+            Err(_) => Err(Unserved::Status),
+        },
+        None => Ok(None),
+    }
+}
+
+/// Whether standard error goes to journald, which takes a priority in front of a line.
+fn is_journal(rt: &HostRuntime) -> bool {
+    env::var(rt, "JOURNAL_STREAM").is_ok()
+}
+
+/// That the gateway starts, with this settings file and its octets.
+fn started(
+    alloc: Global,
+    file: &str,
+    octets: &[u8],
+    settings: &Settings,
+) -> Result<Event, AllocError> {
+    Ok(Event::Started {
+        version: VERSION,
+        file: String::from_str(alloc, file)?,
+        digest: Sha256::digest(octets),
+        rows: settings.rows().len(),
+        controls: settings.controls().len(),
+        outstations: settings.outstations().len(),
+    })
+}
+
+/// Tells what reads like a slip in the settings, or isn't served yet.
+fn tell_doubts<W: Wait>(rt: &W, journal: &Journal, wall: u64, settings: &Settings) {
+    let controls = settings.controls().len();
+    if controls > 0 {
+        journal.tell(rt, wall, Event::Doubtful(Doubt::Controls(controls)));
+    }
+    let outstations = settings.outstations();
+    for (position, outstation) in (0u8..).zip(outstations) {
+        if !has_port(outstation.connect.as_str()) {
+            let doubt = Doubt::ConnectWithoutPort {
+                outstation: position,
+            };
+            journal.tell(rt, wall, Event::Doubtful(doubt));
+        }
+        if let Some(first) = first_like(outstations, outstation) {
+            if first < position {
+                let doubt = Doubt::SamePlace {
+                    first,
+                    second: position,
+                };
+                journal.tell(rt, wall, Event::Doubtful(doubt));
+            }
+        }
+    }
+}
+
+/// The first outstation with the same address of connection and the same link address.
+fn first_like(outstations: &[Outstation], outstation: &Outstation) -> Option<u8> {
+    let position = outstations.iter().position(|other| {
+        other.address == outstation.address && other.connect.as_str() == outstation.connect.as_str()
+    })?;
+    u8::try_from(position).ok()
+}
+
+/// Whether a place ends with a colon and digits.
+fn has_port(place: &str) -> bool {
+    match place.rsplit_once(':') {
+        Some((_, port)) => port.parse::<u16>().is_ok(),
+        None => false,
+    }
+}

@@ -1,0 +1,157 @@
+//! What is known of each peer, outside the core's lock.
+
+use crate::hold::Hold;
+use gw_journal::{ClientFigures, OutstationFigures};
+use gw_model::Memory;
+use std::alloc::Global;
+use std::net::{IpAddr, SocketAddr};
+use std::sync::{Mutex, Wait};
+
+/// What is known of an outstation.
+#[derive(Drop)]
+pub struct OutstationCard {
+    pub figures: Mutex<OutstationFigures>,
+}
+
+/// What is known of a place for clients.
+#[derive(Drop)]
+pub struct ClientCard {
+    pub figures: Mutex<ClientFigures>,
+    hold: Mutex<Hold>,
+}
+
+impl ClientCard {
+    /// A client is given the place.
+    pub fn seat<R: Wait>(&self, rt: &R, hold: Hold) {
+        *self.hold.lock(rt) = hold;
+    }
+
+    /// Nobody has the place any more.
+    pub fn free<R: Wait>(&self, rt: &R) {
+        *self.hold.lock(rt) = Hold::nobody();
+    }
+
+    /// The client asks for data transfer: it keeps its place from now on.
+    pub fn keeps_place<R: Wait>(&self, rt: &R) {
+        self.hold.lock(rt).transfers(true);
+    }
+
+    /// Whether the client was made to leave.
+    pub fn leaves<R: Wait>(&self, rt: &R) -> bool {
+        self.hold.lock(rt).leaves()
+    }
+
+    /// So many news of the client's session were dropped by now. Where that is to be told, where it connects from, and how many
+    /// weren't told yet.
+    pub fn dropped<R: Wait>(&self, rt: &R, wall: u64, total: u64) -> Option<(SocketAddr, u64)> {
+        let mut figures = self.figures.lock(rt);
+        let address = figures.address?;
+        let count = figures.dropped(wall, total)?;
+        Some((address, count))
+    }
+
+    /// So many were dropped in all, and the session ends; how many weren't told yet, if some weren't.
+    pub fn dropped_in_all<R: Wait>(&self, rt: &R, total: u64) -> Option<u64> {
+        self.figures.lock(rt).dropped_in_all(total)
+    }
+
+    /// The client has started or stopped data transfer; where it connects from, if it hadn't before.
+    pub fn transfers<R: Wait>(&self, rt: &R, starts: bool) -> Option<SocketAddr> {
+        self.hold.lock(rt).transfers(starts);
+        let mut figures = self.figures.lock(rt);
+        if figures.started == starts {
+            return None;
+        }
+        if starts {
+            figures.started();
+        } else {
+            figures.stopped();
+        }
+        figures.address
+    }
+}
+
+/// What is known of all.
+#[derive(Drop)]
+pub struct Board {
+    outstations: Vec<OutstationCard>,
+    clients: Vec<ClientCard>,
+}
+
+impl Board {
+    /// Nothing is known of so many outstations and clients.
+    pub fn new(alloc: Global, outstations: usize, clients: u8) -> Result<Board, Memory> {
+        let mut cards = Vec::with_capacity(alloc, outstations)?;
+        for _ in 0..outstations {
+            cards.push(OutstationCard {
+                figures: Mutex::new(OutstationFigures::new()),
+            })?;
+        }
+        Ok(Board {
+            outstations: cards,
+            clients: client_cards(alloc, clients)?,
+        })
+    }
+
+    /// The outstations, by their positions.
+    pub fn outstations(&self) -> &[OutstationCard] {
+        &self.outstations
+    }
+
+    /// The places for clients, by their positions.
+    pub fn clients(&self) -> &[ClientCard] {
+        &self.clients
+    }
+
+    /// An outstation.
+    pub fn outstation(&self, outstation: u8) -> Option<&OutstationCard> {
+        self.outstations.get(usize::from(outstation))
+    }
+
+    /// A place for clients.
+    pub fn client(&self, client: u8) -> Option<&ClientCard> {
+        self.clients.get(usize::from(client))
+    }
+
+    /// All clients are made to leave.
+    pub fn dismiss_all<R: Wait>(&self, rt: &R) {
+        for card in &self.clients {
+            card.hold.lock(rt).leave();
+        }
+    }
+
+    /// Of the clients from an address that don't transfer data though they connected a second before a moment or earlier, but
+    /// for the newcomer, the one that connected first is made to leave its place.
+    pub fn make_room<R: Wait>(&self, rt: &R, address: IpAddr, newcomer: u8, moment: u64) {
+        let mut oldest: Option<(u64, &ClientCard)> = None;
+        for (client, card) in (0u8..).zip(&self.clients) {
+            if client == newcomer {
+                continue;
+            }
+            if let Some(order) = card.hold.lock(rt).idle_since(address, moment) {
+                match oldest {
+                    Some((before, _)) if before < order => {}
+                    _ => oldest = Some((order, card)),
+                }
+            }
+        }
+        if let Some((_, card)) = oldest {
+            let mut hold = card.hold.lock(rt);
+            if hold.idle_since(address, moment).is_some() {
+                hold.leave();
+            }
+        }
+    }
+}
+
+/// So many places of which nothing is known.
+fn client_cards(alloc: Global, count: u8) -> Result<Vec<ClientCard>, Memory> {
+    let mut cards = Vec::with_capacity(alloc, usize::from(count))?;
+    for _ in 0..count {
+        cards.push(ClientCard {
+            figures: Mutex::new(ClientFigures::new()),
+            hold: Mutex::new(Hold::nobody()),
+        })?;
+    }
+    Ok(cards)
+}

@@ -1,0 +1,189 @@
+//! The status, served on an address of its own.
+ghost use Rattle.std.specs.Prelude.{None};
+
+use crate::accepting::look_up_from_accept;
+use crate::host::Host;
+use crate::house::{House, Site};
+use crate::lookout::pause;
+use crate::sockets::shut;
+use gw_model::Memory;
+use gw_status::{ClientStatus, OutstationStatus, Request, Status, answer, receive, refuse};
+use gw_threads::{Clock, Figures, Gate};
+use std::io::{self, ErrorKind, Read, Write};
+use std::net::{TcpListener, TcpStream};
+use std::sync::ledger::Ledger;
+use std::time::Duration;
+
+/// The milliseconds that a request may take to come, and those of one write of its answer.
+const LONGEST_MS: u64 = 2000;
+
+/// The milliseconds of one wait for octets of a request.
+const LOOK_MS: u64 = 200;
+
+/// How many such waits a read has at most.
+const LOOKS: u32 = 10;
+
+/// The milliseconds in which the first octets of a request have to come: browsers also connect without a request.
+const FIRST_MS: u64 = 500;
+
+/// A connection that gives octets up to a moment.
+#[derive(Clone, Copy)]
+struct Punctual<'a, C> {
+    stream: &'a TcpStream,
+    clock: &'a C,
+    began: u64,
+    has_begun: bool,
+}
+
+impl<'a, C: Clock> Punctual<'a, C> {
+    /// Whether it may be waited for more octets.
+    fn is_in_time(&self) -> bool {
+        let passed = self.clock.moment().saturating_sub(self.began);
+        passed < if self.has_begun { LONGEST_MS } else { FIRST_MS }
+    }
+}
+
+impl<'a, C: Clock> Read for Punctual<'a, C> {
+    ghost remaining = { λ _. None };
+
+    fn read(&mut self, buffer: &mut [u8]) -> io::Result<usize> {
+        let mut stream = self.stream;
+        for _ in 0..LOOKS {
+            if !self.is_in_time() {
+                break;
+            }
+            match stream.read(buffer) {
+                Err(error) if error.kind() == ErrorKind::WouldBlock => {}
+                other => {
+                    self.has_begun = true;
+                    return other;
+                }
+            }
+        }
+        Err(io::Error::from(ErrorKind::TimedOut))
+    }
+}
+
+/// Answers requests, one after another, until the server ends.
+pub fn serve_status<L: Ledger, R: Host, C: Clock, G: Gate>(
+    house: &House<'_, L, R, C, G>,
+    site: Site<'_>,
+    listener: &TcpListener,
+) {
+    look_up_from_accept(listener);
+    for _ in house.rt.forever() {
+        if house.shared.stopping() {
+            return;
+        }
+        match listener.accept() {
+            Ok((stream, _)) => serve_request(house, site, &stream),
+            Err(error) if error.kind() == ErrorKind::WouldBlock => {}
+            Err(_) => pause(house),
+        }
+    }
+}
+
+/// Answers the request that comes on a connection, if one comes in time.
+fn serve_request<L: Ledger, R: Host, C: Clock, G: Gate>(
+    house: &House<'_, L, R, C, G>,
+    site: Site<'_>,
+    stream: &TcpStream,
+) {
+    let _ = stream.set_read_timeout(Some(Duration::from_millis(LOOK_MS)));
+    let _ = stream.set_write_timeout(Some(Duration::from_millis(LONGEST_MS)));
+    let mut reader = Punctual {
+        stream,
+        clock: house.clock,
+        began: house.clock.moment(),
+        has_begun: false,
+    };
+    if let Some(request) = receive(&mut reader) {
+        if let Ok(text) = answer_to(house, site, request) {
+            let mut writer = stream;
+            let _ = writer.write_all(text.as_bytes());
+        }
+    }
+    shut(stream);
+}
+
+/// The answer to a request.
+fn answer_to<L: Ledger, R: Host, C: Clock, G: Gate>(
+    house: &House<'_, L, R, C, G>,
+    site: Site<'_>,
+    request: Request,
+) -> Result<String, Memory> {
+    match request.asked {
+        Ok(asked) => {
+            let status = status_of(house, site)?;
+            answer(house.alloc, asked, request.is_head, &status)
+        }
+        Err(refusal) => refuse(house.alloc, refusal, request.is_head),
+    }
+}
+
+/// How the gateway is now.
+fn status_of<L: Ledger, R: Host, C: Clock, G: Gate>(
+    house: &House<'_, L, R, C, G>,
+    site: Site<'_>,
+) -> Result<Status, Memory> {
+    let figures = house.shared.figures(house.rt);
+    Ok(Status {
+        version: site.options.version,
+        now: house.clock.wall(),
+        started: site.started,
+        steps: figures.calls,
+        news: figures.news,
+        outstations: outstations_of(house, site)?,
+        clients: clients_of(house, &figures)?,
+    })
+}
+
+/// How it is with each outstation.
+fn outstations_of<L: Ledger, R: Host, C: Clock, G: Gate>(
+    house: &House<'_, L, R, C, G>,
+    site: Site<'_>,
+) -> Result<Vec<OutstationStatus>, Memory> {
+    let cards = house.board.outstations();
+    let mut outstations = Vec::with_capacity(house.alloc, cards.len())?;
+    for (card, plan) in cards.iter().zip(site.plans) {
+        let place = plan.connect.clone()?;
+        let figures = card.figures.lock(house.rt);
+        outstations.push(OutstationStatus {
+            place,
+            connected_since: figures.connected_since,
+            last_answer: figures.last_answer,
+            requests: figures.requests,
+            unanswered: figures.unanswered,
+            refused: figures.refused,
+            skipped: figures.skipped,
+            indications: figures.indications,
+            events: figures.events,
+        })?;
+    }
+    Ok(outstations)
+}
+
+/// How it is with each place for a client.
+fn clients_of<L: Ledger, R: Host, C: Clock, G: Gate>(
+    house: &House<'_, L, R, C, G>,
+    counted: &Figures,
+) -> Result<Vec<ClientStatus>, Memory> {
+    let cards = house.board.clients();
+    let mut clients = Vec::with_capacity(house.alloc, cards.len())?;
+    for (card, (queued, unacknowledged)) in cards
+        .iter()
+        .zip(counted.queued.iter().zip(&counted.unacknowledged))
+    {
+        let figures = card.figures.lock(house.rt);
+        clients.push(ClientStatus {
+            address: figures.address,
+            connected_since: figures.connected_since,
+            session: figures.started,
+            unacknowledged: *unacknowledged as u64,
+            queued: *queued as u64,
+            dropped: figures.dropped,
+            closes: figures.closes,
+        })?;
+    }
+    Ok(clients)
+}

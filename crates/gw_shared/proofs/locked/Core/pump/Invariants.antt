@@ -1,0 +1,10 @@
+-- The APDUs so far are answers to pumps.
+use Rattle.std.proofs.Common.{◌≡◌}
+use Rattle.gw_shared.specs.Pumping.{ArePumped}
+use Rattle.gw_shared.proofs.locked.Core.pump.Given as goal
+
+abbrev pub invariant-pumps : goal.invariant-pumps
+invariant-pumps g l = record {
+  pumped : ArePumped l.client l.initial.batch l.batch;
+  own : l.pass.actor ≡ l.initial.pass.actor;
+}

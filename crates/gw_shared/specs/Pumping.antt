@@ -1,0 +1,58 @@
+-- What pumps for a client are answered with, and the octets of the APDUs among it.
+use Rattle.std.specs.Prelude.{◌≡◌, ◌⊎◌, ℕ, Bool, true, false, List, [], ◌∷◌, ◌++◌, take, Option, Some, None, Result, Ok, Err}
+use Rattle.std.specs.List.{AllByRecursion}
+use Rattle.iec_apci.specs.declared.buffer.ApduBuf.{ApduBuf}
+use Rattle.gw_map.specs.Settings.{Setup}
+use Rattle.gw_steps.specs.declared.step.Step.TheVariants.{Pump}
+use Rattle.gw_steps.specs.declared.step.Reply.{Reply}
+use Rattle.gw_steps.specs.declared.step.Reply.TheVariants.{Apdu}
+use Rattle.gw_steps.specs.declared.step.StepFault.{StepFault}
+use Rattle.gw_steps.specs.declared.step.StepFault.TheVariants.{Spent}
+use Rattle.gw_steps.specs.State.{State}
+use Rattle.gw_steps.specs.Steps.{Allowed}
+use Rattle.gw_steps.specs.Sound.{IsSound}
+use Rattle.gw_shared.specs.declared.pumped.Pumped.{Pumped}
+use Rattle.gw_shared.specs.declared.pumped.Pumped.TheVariants.{Ended, More}
+
+-- the octets of an APDU, without the zeros behind them
+abbrev pub octets_in : ApduBuf → List ℕ
+octets_in apdu = take apdu.len apdu.octets
+
+-- the octets of APDUs, one after another
+abbrev pub joined : List ApduBuf → List ℕ
+joined [] = []
+joined (apdu ∷ more) = octets_in apdu ++ joined more
+
+-- in some sound state a pump of the client is answered so
+pub record IsPumped (client : ℕ) (reply : Result Reply StepFault) : Type 0 where
+  pub setup : Setup
+  pub state : State
+  pub sound : IsSound setup state
+  pub moment : ℕ
+  pub next : State
+  pub allowed : Allowed setup state (Pump client moment) reply next
+
+-- what a pump of the client gives: an answer, or that no further call can be counted
+abbrev pub IsGivenTo : ℕ → Result Reply StepFault → Type 0
+IsGivenTo client reply = IsPumped client reply ⊎ (reply ≡ Err Spent)
+
+abbrev pub is_apdu : Result Reply StepFault → Bool
+is_apdu (Ok (Apdu apdu)) = true
+is_apdu _ = false
+
+-- APDUs, each the answer to a pump of the client, came behind other octets
+pub record ArePumped (client : ℕ) (before after : List ℕ) : Type 0 where
+  pub apdus : List ApduBuf
+  pub pumped : AllByRecursion (λ (apdu : ApduBuf). IsPumped client (Ok (Apdu apdu))) apdus
+  pub octets : after ≡ before ++ joined apdus
+
+-- and behind them, where the run ended, an answer that is none
+abbrev pub IsPumpedRun : ℕ → List ℕ → List ℕ → Pumped → Type 0
+IsPumpedRun client before after (Ended last) = ArePumped client before after × IsGivenTo client last × (is_apdu last ≡ false)
+IsPumpedRun client before after More = ArePumped client before after
+
+-- where nothing ended the run, one APDU came
+abbrev pub IsPumpedNext : ℕ → List ℕ → List ℕ → Option Pumped → Type 0
+IsPumpedNext client before after (Some pumped) = IsPumpedRun client before after pumped
+IsPumpedNext client before after None =
+    (apdu : ApduBuf) × (IsPumped client (Ok (Apdu apdu)) × (after ≡ before ++ octets_in apdu))

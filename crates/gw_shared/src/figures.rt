@@ -1,0 +1,40 @@
+//! What is counted under the lock.
+
+use crate::roused::CLIENTS;
+use gw_hub::Hub;
+
+/// How many calls were made, how many observations were news, and what waits for clients.
+#[derive(Clone, Copy, Debug, PartialEq, Eq)]
+pub struct Figures {
+    /// The calls.
+    pub calls: u64,
+    /// The observations that were news.
+    pub news: u64,
+    /// For each client the news that wait.
+    pub queued: [usize; 8],
+    /// For each client the I formats sent that are not acknowledged.
+    pub unacknowledged: [usize; 8],
+    /// For each client the news of its session that were dropped.
+    pub dropped: [u64; 8],
+}
+
+impl Figures {
+    /// Those of a hub on which so many calls were made.
+    pub(crate) fn of(calls: u64, hub: &Hub) -> Figures {
+        let mut queued = [0; 8];
+        let mut unacknowledged = [0; 8];
+        let mut dropped = [0; 8];
+        for client in 0..CLIENTS {
+            queued[usize::from(client)] = hub.queued(client);
+            unacknowledged[usize::from(client)] = hub.unacknowledged(client);
+            dropped[usize::from(client)] = hub.dropped(client);
+        }
+        Figures {
+            calls,
+            news: hub.news(),
+            queued,
+            unacknowledged,
+            dropped,
+        }
+    }
+}

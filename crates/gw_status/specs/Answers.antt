@@ -1,0 +1,50 @@
+-- The octets of an answer (RFC 9112, 2.1).
+use Rattle.std.specs.Prelude.{ℕ, Bool, List, [], ◌∷◌, ◌++◌, codes, if◌then◌else◌, length}
+use Rattle.std.specs.Fmt.{decimal}
+use Rattle.gw_status.specs.declared.request.Asked.{Asked}
+use Rattle.gw_status.specs.declared.request.Asked.TheVariants.{Metrics, Page}
+use Rattle.gw_status.specs.declared.request.Refusal.{Refusal}
+use Rattle.gw_status.specs.declared.request.Refusal.TheVariants.{Malformed, NotAllowed, NotFound, TooLong}
+
+-- the end of a line
+abbrev pub line_end : List ℕ
+line_end = 13 ∷ 10 ∷ []
+
+-- what is sent of a body: to a HEAD nothing
+abbrev pub sent_of : List ℕ → Bool → List ℕ
+sent_of body is_head = if is_head then [] else body
+
+-- an answer of this status and content, with further fields
+abbrev pub message : (status content fields body : List ℕ) → Bool → List ℕ
+message status content fields body is_head =
+    codes "HTTP/1.1 " ++ (status ++ (line_end
+    ++ (codes "Content-Type: " ++ (content ++ (line_end
+    ++ (codes "Content-Length: " ++ (decimal (length body) ++ (line_end
+    ++ (codes "Cache-Control: no-store" ++ (line_end
+    ++ (fields
+    ++ (codes "Connection: close" ++ (line_end
+    ++ (line_end
+    ++ sent_of body is_head))))))))))))))
+
+-- the content type of what is asked for
+abbrev pub content_of : Asked → List ℕ
+content_of Page = codes "text/html; charset=utf-8"
+content_of Metrics = codes "text/plain; version=0.0.4; charset=utf-8"
+
+-- the status code of a refusal, with its words
+abbrev pub line_of : Refusal → List ℕ
+line_of Malformed = codes "400 Bad Request"
+line_of NotFound = codes "404 Not Found"
+line_of NotAllowed = codes "405 Method Not Allowed"
+line_of TooLong = codes "431 Request Header Fields Too Large"
+
+-- the fields that a refusal has alone
+abbrev pub fields_of : Refusal → List ℕ
+fields_of NotAllowed = codes "Allow: GET, HEAD" ++ line_end
+fields_of _ = []
+
+-- the octets of a refusal
+abbrev pub refused_by : Refusal → Bool → List ℕ
+refused_by refusal is_head =
+    message (line_of refusal) (codes "text/plain; charset=utf-8") (fields_of refusal)
+    (line_of refusal ++ 10 ∷ []) is_head

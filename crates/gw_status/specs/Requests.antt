@@ -1,0 +1,73 @@
+-- What is answered to a request.
+use Rattle.std.specs.Prelude.{◌≡◌, ◌≤◌, ◌⊎◌, ◌++◌, ℕ, Bool, ◌||◌, ◌==◌, Result, Ok, Err, Option, Some, None, List, codes, false, if◌then◌else◌, length, position, take}
+use Rattle.std.specs.Io.KnownBytes.{Consumes}
+use Rattle.std.specs.Str.{bytes_eq}
+use Rattle.httparse.specs.Grammar.{HasNoRequest, MayBecomeRequest, NeverHasRequest, ReadsRequest, RequestHead}
+use Rattle.httparse.specs.Spans.{RequestOverflows}
+use Rattle.gw_status.specs.declared.request.Asked.{Asked}
+use Rattle.gw_status.specs.declared.request.Asked.TheVariants.{Metrics, Page}
+use Rattle.gw_status.specs.declared.request.Refusal.{Refusal}
+use Rattle.gw_status.specs.declared.request.Refusal.TheVariants.{Malformed, NotAllowed, NotFound, TooLong}
+use Rattle.gw_status.specs.declared.request.Request.{Request}
+
+-- the front before a place, or all
+abbrev pub before : List ℕ → Option ℕ → List ℕ
+before target None = target
+before target (Some i) = take i target
+
+-- where the query of a target begins: at the first question mark
+abbrev pub query_in : List ℕ → Option ℕ
+query_in = position (λ x. x == 63)
+
+-- the path of a target: what stands before its query
+abbrev pub path_of : List ℕ → List ℕ
+path_of target = before target (query_in target)
+
+-- what lies at a path
+abbrev pub found_at : List ℕ → Result Asked Refusal
+found_at path =
+    if bytes_eq path (codes "/") then Ok Page
+    else if bytes_eq path (codes "/metrics") then Ok Metrics
+    else Err NotFound
+
+abbrev pub is_head : List ℕ → Bool
+is_head method = bytes_eq method (codes "HEAD")
+
+-- what is asked for where the method may be either of two
+abbrev pub allowed : Result Asked Refusal → Bool → Result Asked Refusal
+allowed (Ok asked) may_be = if may_be then Ok asked else Err NotAllowed
+allowed (Err refusal) may_be = Err refusal
+
+-- what a request is answered, by its method and its target
+abbrev pub request_of : List ℕ → List ℕ → Request
+request_of method target = record {
+  asked = allowed (found_at (path_of target)) (bytes_eq method (codes "GET") || is_head method);
+  is_head = is_head method;
+}
+
+-- one that is refused before it is known
+abbrev pub refused : Refusal → Request
+refused refusal = record { asked = Err refusal; is_head = false }
+
+-- what the octets that came so far are answered: nothing while more of them may make a head
+pub record IsAnswered (octets : List ℕ) (answered : Option Request) : Type 0 where
+  -- a whole head with at most 64 fields, by its method and its target
+  pub whole : (head : RequestHead) (rest : List ℕ) → ReadsRequest octets head rest → length head.fields ≤ 64
+      → answered ≡ Some (request_of head.method head.target)
+  pub nothing : answered ≡ None → HasNoRequest octets × MayBecomeRequest octets
+  pub malformed : answered ≡ Some (refused Malformed) → NeverHasRequest octets
+  pub too_long : answered ≡ Some (refused TooLong)
+      → RequestOverflows 64 octets ⊎ ((4096 ≤ length octets) × HasNoRequest octets)
+
+-- a reader gave a piece more
+pub record ReadsOn (old new : Option (List ℕ)) (before after : List ℕ) : Type 0 where
+  pub piece : List ℕ
+  pub consumed : Consumes old new piece
+  pub after_is : after ≡ before ++ piece
+
+-- the octets that a reader gave are at most 4,096, and are answered by this request
+pub record IsReceived (old new : Option (List ℕ)) (request : Request) : Type 0 where
+  pub octets : List ℕ
+  pub consumed : Consumes old new octets
+  pub few : length octets ≤ 4096
+  pub answered : IsAnswered octets (Some request)

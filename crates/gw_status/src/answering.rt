@@ -1,0 +1,104 @@
+//! Answers to requests.
+ghost use Rattle.std.specs.Prelude.{◌≡◌, IfOk, List, [], codes, string_bytes, ℕ};
+ghost use Rattle.gw_status.specs.Answers.{content_of, fields_of, line_of, message, refused_by, sent_of};
+
+use crate::metrics::Metrics;
+use crate::page::Page;
+use crate::request::{Asked, Refusal};
+use crate::status::Status;
+use gw_model::Memory;
+use std::alloc::Global;
+
+/// The octets that answer a request with what it asks for.
+pub fn answer(alloc: Global, asked: Asked, is_head: bool, status: &Status) -> Result<String, Memory>
+    ensures { IfOk result (λ text. (body : List ℕ) × (string_bytes text
+        ≡ message (codes "200 OK") (content_of asked) [] body is_head)) }
+{
+    let content = content_of(asked);
+    let body = body_of(alloc, asked, status)?;
+    message(alloc, "200 OK", content, "", body.as_str(), is_head)
+}
+
+/// The content type of what is asked for.
+fn content_of(asked: Asked) -> &'static str
+    ensures { result.now ≡ content_of asked }
+{
+    match asked {
+        Asked::Page => "text/html; charset=utf-8",
+        Asked::Metrics => "text/plain; version=0.0.4; charset=utf-8",
+    }
+}
+
+/// What is asked for.
+fn body_of(alloc: Global, asked: Asked, status: &Status) -> Result<String, Memory> {
+    let body = match asked {
+        Asked::Page => format!(in alloc; "{}", Page(status))?,
+        Asked::Metrics => format!(in alloc; "{}", Metrics(status))?,
+    };
+    Ok(body)
+}
+
+/// The octets that refuse a request.
+pub fn refuse(alloc: Global, refusal: Refusal, is_head: bool) -> Result<String, Memory>
+    ensures { IfOk result (λ text. string_bytes text ≡ refused_by refusal is_head) }
+{
+    let (line, fields) = (line_of(refusal), fields_of(refusal));
+    let body = format!(in alloc; "{line}\n")?;
+    message(
+        alloc,
+        line,
+        "text/plain; charset=utf-8",
+        fields,
+        body.as_str(),
+        is_head,
+    )
+}
+
+/// The status code of a refusal, with its words (RFC 9110, 15.5; RFC 6585, 5).
+fn line_of(refusal: Refusal) -> &'static str
+    ensures { result.now ≡ line_of refusal }
+{
+    match refusal {
+        Refusal::Malformed => "400 Bad Request",
+        Refusal::NotFound => "404 Not Found",
+        Refusal::NotAllowed => "405 Method Not Allowed",
+        Refusal::TooLong => "431 Request Header Fields Too Large",
+    }
+}
+
+/// The fields that a refusal has alone.
+fn fields_of(refusal: Refusal) -> &'static str
+    ensures { result.now ≡ fields_of refusal }
+{
+    match refusal {
+        Refusal::NotAllowed => "Allow: GET, HEAD\r\n",
+        _ => "",
+    }
+}
+
+/// A response of HTTP/1.1, after which the connection ends.
+fn message(
+    alloc: Global,
+    line: &str,
+    content: &str,
+    fields: &str,
+    body: &str,
+    is_head: bool,
+) -> Result<String, Memory>
+    ensures { IfOk result (λ text. string_bytes text ≡ message line.now content.now fields.now body.now is_head) }
+{
+    let length = body.len();
+    let sent = sent_of(body, is_head);
+    let text = format!(in alloc;
+        "HTTP/1.1 {line}\r\nContent-Type: {content}\r\nContent-Length: {length}\r\n\
+        Cache-Control: no-store\r\n{fields}Connection: close\r\n\r\n{sent}"
+    )?;
+    Ok(text)
+}
+
+/// What is sent of a body.
+fn sent_of(body: &str, is_head: bool) -> &str
+    ensures { result.now ≡ sent_of body.now is_head }
+{
+    if is_head { "" } else { body }
+}

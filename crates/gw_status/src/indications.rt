@@ -1,0 +1,64 @@
+//! Internal indications (IEEE Std 1815, 4.2.2.6), by bit: IIN1.0 is bit 0 and IIN2.0 is bit 8.
+ghost use Rattle.std.specs.Prelude.{◌<◌};
+
+use std::fmt;
+
+/// How many bits have a meaning: IIN1.0 to IIN2.5.
+pub const MEANINGS: u32 = 14;
+
+/// Those that tell of something that is wrong: IIN1.6, IIN2.0 to IIN2.3 and IIN2.5.
+const TROUBLES: u16 = 0x2F40;
+
+/// The name of a bit.
+pub fn name_of(bit: u32) -> &'static str {
+    match bit {
+        0 => "ALL_STATIONS",
+        1 => "CLASS_1",
+        2 => "CLASS_2",
+        3 => "CLASS_3",
+        4 => "NEED_TIME",
+        5 => "LOCAL_CONTROL",
+        6 => "TROUBLE",
+        7 => "RESTART",
+        8 => "NO_FUNCTION",
+        9 => "OBJECT_UNKNOWN",
+        10 => "PARAMETER_ERROR",
+        11 => "OVERFLOW",
+        12 => "ALREADY_EXECUTING",
+        13 => "CONFIGURATION_CORRUPT",
+        _ => "RESERVED",
+    }
+}
+
+/// Whether a bit is set.
+pub fn is_set(indications: u16, bit: u32) -> bool
+    requires { bit < 16 }
+{
+    indications >> bit & 1 == 1
+}
+
+/// Whether they tell of something that is wrong.
+pub fn tell_of_trouble(indications: u16) -> bool {
+    indications & TROUBLES != 0
+}
+
+/// The names of those that are set, as `NEED_TIME, RESTART`; `none` where none is.
+#[derive(Clone, Copy)]
+pub struct Names(pub u16);
+
+impl fmt::Display for Names {
+    fn fmt<W: fmt::Write>(&self, f: &mut fmt::Formatter<W>) -> fmt::Result {
+        if self.0 == 0 {
+            return f.write_str("none");
+        }
+        let mut separator = "";
+        for bit in 0..16u32 {
+            if is_set(self.0, bit) {
+                f.write_str(separator)?;
+                f.write_str(name_of(bit))?;
+                separator = ", ";
+            }
+        }
+        Ok(())
+    }
+}

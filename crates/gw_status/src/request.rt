@@ -1,0 +1,86 @@
+//! What a request asks for.
+ghost use Rattle.std.specs.Prelude.{◌≡◌};
+ghost use Rattle.gw_status.specs.Requests.{found_at, path_of, query_in, refused, request_of};
+
+/// What is told of the gateway.
+#[derive(Clone, Copy)]
+pub enum Asked {
+    /// `/`: a page for people.
+    Page,
+    /// `/metrics`: the figures as Prometheus reads them.
+    Metrics,
+}
+
+/// Why nothing is told.
+#[derive(Clone, Copy)]
+pub enum Refusal {
+    /// What came is no request of HTTP/1.0 or HTTP/1.1.
+    Malformed,
+    /// There is nothing at this path.
+    NotFound,
+    /// The method is neither GET nor HEAD.
+    NotAllowed,
+    /// The head of the request has more than 4,096 octets or more than 64 fields.
+    TooLong,
+}
+
+/// A request: what is asked for, or why that is refused, and whether it is one for a head alone.
+#[derive(Clone, Copy)]
+pub struct Request {
+    pub asked: Result<Asked, Refusal>,
+    pub is_head: bool,
+}
+
+impl Request {
+    /// That of a method and a target.
+    pub fn of(method: &[u8], target: &[u8]) -> Request
+        ensures { result ≡ request_of method.now target.now }
+    {
+        let is_head = method == b"HEAD".as_slice();
+        let asked = match found_at(path_of(target)) {
+            Ok(_) if method != b"GET".as_slice() && !is_head => Err(Refusal::NotAllowed),
+            found => found,
+        };
+        Request { asked, is_head }
+    }
+
+    /// One that is refused before it is known.
+    pub fn refused(refusal: Refusal) -> Request
+        ensures { result ≡ refused refusal }
+    {
+        Request {
+            asked: Err(refusal),
+            is_head: false,
+        }
+    }
+}
+
+/// The path of a target, to which a query does not belong.
+fn path_of(target: &[u8]) -> &[u8]
+    ensures { result.now ≡ path_of target.now }
+{
+    match query_in(target) {
+        Some(end) => &target[..end],
+        None => target,
+    }
+}
+
+/// Where the query of a target begins, if it has one.
+fn query_in(target: &[u8]) -> Option<usize>
+    ensures { result ≡ query_in target.now }
+{
+    target.iter().position(|octet| *octet == b'?')
+}
+
+/// What lies at a path.
+fn found_at(path: &[u8]) -> Result<Asked, Refusal>
+    ensures { result ≡ found_at path.now }
+{
+    if path == b"/".as_slice() {
+        Ok(Asked::Page)
+    } else if path == b"/metrics".as_slice() {
+        Ok(Asked::Metrics)
+    } else {
+        Err(Refusal::NotFound)
+    }
+}

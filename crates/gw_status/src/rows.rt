@@ -1,0 +1,155 @@
+//! The rows of the page's tables. Each cell has the words above its column, which a narrow screen shows beside it.
+
+use crate::escaped::Html;
+use crate::indications::{Names, tell_of_trouble};
+use crate::status::{ClientStatus, Closes, OutstationStatus};
+use crate::time::{Moment, Span};
+use std::fmt;
+
+/// Writes the row of an outstation.
+pub fn write_outstation<W: fmt::Write>(
+    f: &mut fmt::Formatter<W>,
+    number: usize,
+    outstation: &OutstationStatus,
+    now: u64,
+) -> fmt::Result {
+    let place = Html(outstation.place.as_str());
+    write!(f, "<tr><th scope=row><i>{number}</i> {place}</th>")?;
+    write_connection(f, outstation.connected_since, now)?;
+    write_last_answer(f, outstation, now)?;
+    write_counts(f, outstation)
+}
+
+/// Writes whether an outstation is connected, and since when.
+fn write_connection<W: fmt::Write>(
+    f: &mut fmt::Formatter<W>,
+    since: Option<u64>,
+    now: u64,
+) -> fmt::Result {
+    match since {
+        Some(since) => {
+            let (span, since) = (Span(now.saturating_sub(since)), Moment(since));
+            write!(
+                f,
+                "<td data-column=State>connected <small>for {span}</small> <small>since {since}</small></td>"
+            )
+        }
+        None => f.write_str("<td data-column=State><strong>NOT CONNECTED</strong></td>"),
+    }
+}
+
+/// Writes when an outstation answered last, and what it indicated.
+fn write_last_answer<W: fmt::Write>(
+    f: &mut fmt::Formatter<W>,
+    outstation: &OutstationStatus,
+    now: u64,
+) -> fmt::Result {
+    match outstation.last_answer {
+        Some(answer) => {
+            let (span, answer) = (Span(now.saturating_sub(answer)), Moment(answer));
+            write!(
+                f,
+                "<td data-column=\"Last answer\">{span} ago <small>{answer}</small></td>"
+            )?;
+            write_indications(f, outstation.indications)
+        }
+        None => f.write_str(
+            "<td data-column=\"Last answer\">never</td><td data-column=Indications>none</td>",
+        ),
+    }
+}
+
+/// Writes what an outstation indicated.
+fn write_indications<W: fmt::Write>(f: &mut fmt::Formatter<W>, indications: u16) -> fmt::Result {
+    let trouble = if tell_of_trouble(indications) {
+        "<strong>TROUBLE:</strong> "
+    } else {
+        ""
+    };
+    let names = Names(indications);
+    write!(
+        f,
+        "<td data-column=Indications>{trouble}{names} <small>0x{indications:04X}</small></td>"
+    )
+}
+
+/// Writes what was counted of an outstation.
+fn write_counts<W: fmt::Write>(
+    f: &mut fmt::Formatter<W>,
+    outstation: &OutstationStatus,
+) -> fmt::Result {
+    write_count(f, "Events", outstation.events)?;
+    write_count(f, "Requests", outstation.requests)?;
+    write_count(f, "Unanswered", outstation.unanswered)?;
+    write_count(f, "Refused fragments", outstation.refused)?;
+    write_count(f, "Skipped octets", outstation.skipped)?;
+    f.write_str("</tr>\n")
+}
+
+/// Writes a cell with a number.
+fn write_count<W: fmt::Write>(
+    f: &mut fmt::Formatter<W>,
+    column: &'static str,
+    count: u64,
+) -> fmt::Result {
+    write!(f, "<td class=number data-column=\"{column}\">{count}</td>")
+}
+
+/// Writes the row of a place for a client.
+pub fn write_client<W: fmt::Write>(
+    f: &mut fmt::Formatter<W>,
+    number: usize,
+    client: &ClientStatus,
+    now: u64,
+) -> fmt::Result {
+    match client.address {
+        Some(address) => write!(f, "<tr><th scope=row><i>{number}</i> {address}</th>")?,
+        None => write!(f, "<tr class=free><th scope=row><i>{number}</i></th>")?,
+    }
+    write_session(f, client, now)?;
+    write_count(f, "Not acknowledged", client.unacknowledged)?;
+    write_count(f, "Queued", client.queued)?;
+    write_count(f, "Dropped", client.dropped)?;
+    write_closes(f, client.closes)
+}
+
+/// Writes whether a client gets what is reported, and since when it is connected.
+fn write_session<W: fmt::Write>(
+    f: &mut fmt::Formatter<W>,
+    client: &ClientStatus,
+    now: u64,
+) -> fmt::Result {
+    match client.connected_since {
+        Some(since) => {
+            let state = if client.session {
+                "data transfer"
+            } else {
+                "connected, no data transfer"
+            };
+            let (span, since) = (Span(now.saturating_sub(since)), Moment(since));
+            write!(
+                f,
+                "<td data-column=State>{state}</td>\
+                <td data-column=Connected>for {span} <small>since {since}</small></td>"
+            )
+        }
+        None => f.write_str("<td data-column=State>free</td><td data-column=Connected>no</td>"),
+    }
+}
+
+/// Writes why connections ended, as `2 t1, 1 lost`, and the end of the row.
+fn write_closes<W: fmt::Write>(f: &mut fmt::Formatter<W>, closes: Closes) -> fmt::Result {
+    f.write_str("<td data-column=Ended>")?;
+    let mut separator = "";
+    for (cause, count) in closes.by_cause() {
+        if count != 0 {
+            write!(f, "{separator}{count} {cause}")?;
+            separator = ", ";
+        }
+    }
+    f.write_str(if separator.is_empty() {
+        "none</td></tr>\n"
+    } else {
+        "</td></tr>\n"
+    })
+}

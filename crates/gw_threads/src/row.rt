@@ -1,0 +1,36 @@
+//! Requests in a row.
+
+/// How many requests may go to an outstation in a row.
+const MOST: u32 = 100;
+
+/// The milliseconds behind which the next request begins a row of its own, and so the rest behind a whole row.
+pub const REST_MS: u64 = 20;
+
+/// How many requests went to an outstation, each soon behind the one before. Indications of events that never clear would
+/// have them follow each other as fast as the outstation answers.
+#[derive(Clone, Copy, Debug)]
+pub struct Row {
+    count: u32,
+    last: u64,
+}
+
+impl Row {
+    /// No request yet.
+    pub fn new() -> Row {
+        Row { count: 0, last: 0 }
+    }
+
+    /// One more request goes at a moment; whether a rest is due behind it.
+    pub fn add(&mut self, moment: u64) -> bool {
+        if moment.saturating_sub(self.last) >= REST_MS {
+            self.count = 0;
+        }
+        self.last = moment;
+        self.count = self.count.saturating_add(1);
+        if self.count < MOST {
+            return false;
+        }
+        self.count = 0;
+        true
+    }
+}

@@ -1,0 +1,100 @@
+//! A gate that holds workers until clients have taken an interrogation's termination.
+
+use gw_threads::{Gate, Place};
+use std::rt::Clock;
+use std::sync::atomic::{AtomicBool, AtomicU64, Ordering};
+use std::thread;
+use std::time::Duration;
+
+/// How often a worker that is held looks whether it may go on, a millisecond apart.
+const LOOKS: u16 = 10_000;
+
+/// The actors, by their positions.
+pub const OUTSTATION_0_READER: usize = 0;
+
+pub const OUTSTATION_1_READER: usize = 2;
+
+pub const CLIENT_0_READER: usize = 4;
+
+pub const CLIENT_0_WRITER: usize = 5;
+
+pub const CLIENT_1_READER: usize = 6;
+
+pub const CLIENT_1_WRITER: usize = 7;
+
+/// How many APDUs each client sends.
+const APDUS: u64 = 2;
+
+/// Holds the reader of outstation 0 before its first step, the writer of client 0 before its first write, and the reader
+/// of client 1 behind the step of its last APDU, until client 1 has taken an interrogation's termination; and the reader of
+/// client 0 behind the step of its last APDU, until client 0 has taken one.
+#[derive(Drop)]
+pub struct Held<'a, R> {
+    pub rt: &'a R,
+    /// Whether each client has taken it.
+    pub is_served_0: &'a AtomicBool,
+    pub is_served_1: &'a AtomicBool,
+    /// How many APDUs of each client were stepped.
+    pub stepped_0: AtomicU64,
+    pub stepped_1: AtomicU64,
+    /// Whether one of them was held for too long.
+    pub is_late: AtomicBool,
+}
+
+impl<'a, R: Clock> Held<'a, R> {
+    /// A gate that was reached by nobody.
+    pub fn new(rt: &'a R, is_served_0: &'a AtomicBool, is_served_1: &'a AtomicBool) -> Held<'a, R> {
+        Held {
+            rt,
+            is_served_0,
+            is_served_1,
+            stepped_0: AtomicU64::new(0),
+            stepped_1: AtomicU64::new(0),
+            is_late: AtomicBool::new(false),
+        }
+    }
+
+    /// What a worker has to wait for that has made a step.
+    fn awaited_behind_step(&self, actor: usize) -> Option<&'a AtomicBool> {
+        match actor {
+            CLIENT_0_READER if is_last(&self.stepped_0) => Some(self.is_served_0),
+            CLIENT_1_READER if is_last(&self.stepped_1) => Some(self.is_served_1),
+            _ => None,
+        }
+    }
+
+    /// What a worker has to wait for at a place.
+    fn awaited(&self, actor: usize, place: Place) -> Option<&'a AtomicBool> {
+        match (place, actor) {
+            (Place::Decoded, OUTSTATION_0_READER) | (Place::BeforeWrite, CLIENT_0_WRITER) => {
+                Some(self.is_served_1)
+            }
+            (Place::Stepped, _) => self.awaited_behind_step(actor),
+            _ => None,
+        }
+    }
+
+    /// Waits for something, but not for ever.
+    fn wait(&self, awaited: &AtomicBool) {
+        for _ in 0..LOOKS {
+            if awaited.load(Ordering::SeqCst) {
+                return;
+            }
+            thread::sleep(self.rt, Duration::from_millis(1));
+        }
+        self.is_late.store(true, Ordering::SeqCst);
+    }
+}
+
+/// Counts an APDU; whether it is the last.
+fn is_last(stepped: &AtomicU64) -> bool {
+    stepped.fetch_add(1, Ordering::SeqCst) == APDUS - 1
+}
+
+impl<'a, R: Clock> Gate for Held<'a, R> {
+    fn at(&self, actor: usize, place: Place) {
+        if let Some(awaited) = self.awaited(actor, place) {
+            self.wait(awaited);
+        }
+    }
+}

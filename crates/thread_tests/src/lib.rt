@@ -1,0 +1,33 @@
+//! Tests of the shared core, its recorder, the workers round it and the server, through their public calls: that these
+//! end, what they hand over, and that they go on beside one another, of which no contract tells. `.ci/serve` has what the
+//! built program does.
+#![tactic(auto)]
+
+#[cfg(test)]
+mod asking;
+#[cfg(test)]
+mod conversations;
+#[cfg(test)]
+mod held;
+#[cfg(test)]
+mod kept;
+#[cfg(test)]
+mod loopback;
+#[cfg(test)]
+mod memory;
+#[cfg(test)]
+mod opening;
+#[cfg(test)]
+mod peers;
+#[cfg(test)]
+mod putting;
+#[cfg(test)]
+mod reading_ends;
+#[cfg(test)]
+mod recording;
+#[cfg(test)]
+mod seen;
+#[cfg(test)]
+mod telling;
+#[cfg(test)]
+mod workers;

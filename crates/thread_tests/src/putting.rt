@@ -1,0 +1,111 @@
+//! Tests of put_out over a hub alone: what a writer takes of the replies to pumps, and where it fails.
+ghost use Rattle.std.specs.Prelude.{None};
+
+use crate::asking::step_of;
+use crate::opening::{copy_of, hub_on};
+use crate::telling::answer_of;
+use gw_hub::{Hub, Reply};
+use gw_map::DEFAULT_SETTINGS;
+use gw_shared::{Batch, apdu_in};
+use gw_threads::{HubSource, Outgoing, Put, Unwritten, put_out};
+use std::process::Abort;
+
+/// What comes before the run: a client that interrogates the station.
+const STEPS: &[&str] = &[
+    "open 0 0",
+    "frame 0 0 68 04 07 00 00 00",
+    "frame 0 0 68 0E 00 00 00 00 64 01 06 00 01 00 00 00 00 14",
+];
+
+/// STARTDT con, the confirmation, two points and the termination.
+const RUN: &[u8] = &[
+    0x68, 0x04, 0x0B, 0x00, 0x00, 0x00, //
+    0x68, 0x0E, 0x00, 0x00, 0x02, 0x00, 0x64, 0x01, 0x07, 0x00, 0x01, 0x00, 0x00, 0x00, 0x00, 0x14, //
+    0x68, 0x0E, 0x02, 0x00, 0x02, 0x00, 0x01, 0x01, 0x14, 0x00, 0x01, 0x00, 0x05, 0x10, 0x00, 0xC0, //
+    0x68, 0x10, 0x04, 0x00, 0x02, 0x00, 0x0B, 0x01, 0x14, 0x00, 0x01, 0x00, 0x69, 0x10, 0x00, 0x00,
+    0x00, 0xC0, //
+    0x68, 0x0E, 0x06, 0x00, 0x02, 0x00, 0x64, 0x01, 0x0A, 0x00, 0x01, 0x00, 0x00, 0x00, 0x00, 0x14,
+];
+
+/// A writer that takes so many octets, and fails at the next one.
+#[derive(Drop)]
+struct Narrow {
+    octets: Vec<u8>,
+    left: usize,
+}
+
+impl Outgoing for Narrow {
+    ghost contents = { λ _. None };
+
+    ghost can_fail = { λ _. Unit {0} };
+
+    fn hand(&mut self, octets: &[u8]) -> Result<(), Unwritten> {
+        let count = octets.len().min(self.left);
+        self.left -= count;
+        if self.octets.extend_from_slice(&octets[..count]).is_err() || count < octets.len() {
+            return Err(Unwritten);
+        }
+        Ok(())
+    }
+}
+
+#[test]
+fn puts_out(rt: HostRuntime) {
+    let hub = hub_after(&rt);
+    assert_eq!(rt; replies_to_pumps(&rt, copy_of(&rt, &hub)).as_slice(), RUN);
+    let ended = Put::Ended(Some(Ok(Reply::Nothing)));
+    check_put(&rt, &hub, RUN.len(), ended);
+    for room in [0, 5, 6, 21, 30, RUN.len() - 1] {
+        check_put(&rt, &hub, room, Put::Unwritten);
+    }
+}
+
+/// A hub on which the steps were made.
+fn hub_after<R: Abort + AllocGlobal>(rt: &R) -> Hub {
+    let mut hub = hub_on(rt, DEFAULT_SETTINGS);
+    for line in STEPS {
+        let answer = answer_of(&mut hub, &step_of(rt, line));
+        assert!(rt; answer.is_ok());
+    }
+    hub
+}
+
+/// The octets of the APDUs that pumps give, up to the first answer that is none.
+fn replies_to_pumps<R: Abort + AllocGlobal>(rt: &R, hub: Hub) -> Vec<u8> {
+    let mut hub = hub;
+    let mut octets = Vec::new(rt.alloc());
+    let pump = step_of(rt, "pump 0 0");
+    for _ in 0..99u8 {
+        match apdu_in(answer_of(&mut hub, &pump)) {
+            Some(apdu) => octets
+                .extend_from_slice(apdu.as_slice())
+                .expect(rt, "memory"),
+            None => break,
+        }
+    }
+    octets
+}
+
+/// A writer with room for so many octets takes the front of the run, which ends so.
+fn check_put<R: Abort + AllocGlobal>(rt: &R, hub: &Hub, room: usize, end: Put) {
+    let mut writer = Narrow {
+        octets: Vec::new(rt.alloc()),
+        left: room,
+    };
+    assert_eq!(rt; put(copy_of(rt, hub), &mut writer), end, "room for {room}");
+    assert_eq!(rt;
+        Some(writer.octets.as_slice()),
+        RUN.get(..room),
+        "room for {room}"
+    );
+}
+
+/// Hands a run over to a writer.
+fn put(hub: Hub, writer: &mut Narrow) -> Put {
+    let mut source = HubSource {
+        hub,
+        client: 0,
+        moment: 0,
+    };
+    put_out(&mut source, writer, &mut Batch::new())
+}

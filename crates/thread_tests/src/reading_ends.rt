@@ -1,0 +1,88 @@
+//! Tests of client_reader: why it ends where a client's octets are wrong.
+ghost use Rattle.std.specs.Prelude.{◌≡◌};
+
+use crate::asking::{ask, check_answer, step_of};
+use crate::memory::Sent;
+use crate::opening::{hub_on, last_of, open, total_of};
+use crate::peers::Still;
+use gw_hub::{Hub, Why};
+use gw_map::DEFAULT_SETTINGS;
+use gw_shared::{Pass, Shared};
+use gw_threads::{OpenGate, WorkerEnd, client_reader};
+use iec_apci::ApciFault;
+use std::marker::Brand;
+use std::process::Abort;
+use std::sync::Wait;
+use std::sync::ledger::{Blank, Ledger};
+
+/// An interrogation, which is an I format.
+const I_FORMAT: &[u8] = &[
+    0x68, 0x0E, 0x00, 0x00, 0x00, 0x00, 0x64, 0x01, 0x06, 0x00, 0x01, 0x00, 0x00, 0x00, 0x00, 0x14,
+];
+
+/// What a client sends that has sent no STARTDT act, and why its reader ends. Behind the client's coming up each makes one
+/// step: the I format, which closes the connection; or the loss, behind octets that are no APDU.
+const ENDS: &[(&[u8], WorkerEnd)] = &[
+    (I_FORMAT, WorkerEnd::Closed(Why::NotStarted)),
+    (&[0x68, 0x03], WorkerEnd::Malformed(ApciFault::Length)),
+];
+
+#[test]
+fn reading_ends(rt: HostRuntime) {
+    for (octets, end) in ENDS {
+        let hub = hub_on(&rt, DEFAULT_SETTINGS);
+        read::<Brand, _>(&rt, Blank::new(1), hub, octets, *end);
+    }
+}
+
+/// A client comes up and sends these octets; its reader ends so, and the client is down.
+fn read<L: Ledger, R: Wait + Abort + AllocGlobal>(
+    rt: &R,
+    blank: Blank,
+    hub: Hub,
+    octets: &[u8],
+    wanted: WorkerEnd,
+)
+    requires name { blank.name ≡ L.name }
+    requires parts { (blank.parts ≡ L.parts) × (blank.parts ≡ 1) }
+{
+    let (shared, mut passes) = open::<L, R>(rt, blank, hub, 1, 8);
+    bring_up(rt, &shared, &mut passes);
+    let pass = last_of(rt, &mut passes);
+    let pass = check_end(rt, &shared, pass, octets, wanted);
+    passes.push(pass).expect(rt, "memory");
+    assert!(rt; !shared.stands(rt, 0));
+    assert_eq!(rt; total_of(rt, &shared, passes), 2);
+}
+
+fn bring_up<L: Ledger, R: Wait + Abort + AllocGlobal>(
+    rt: &R,
+    shared: &Shared<L>,
+    passes: &mut [Pass<L>],
+) {
+    let (_, answer) = ask(rt, shared, passes, 0, step_of(rt, "open 0 0"));
+    check_answer(rt, answer, "ok\n");
+    assert!(rt; shared.stands(rt, 0));
+}
+
+fn check_end<L: Ledger, R: Wait + Abort + AllocGlobal>(
+    rt: &R,
+    shared: &Shared<L>,
+    pass: Pass<L>,
+    octets: &[u8],
+    wanted: WorkerEnd,
+) -> Pass<L> {
+    let mut input = Sent { rest: octets };
+    let (pass, end) = client_reader(
+        rt.alloc(),
+        rt,
+        shared,
+        pass,
+        0,
+        &mut input,
+        &Still,
+        &OpenGate,
+    );
+    assert_eq!(rt; end, wanted);
+    pass
+}

@@ -1,0 +1,66 @@
+//! A gate that holds nobody, and counts what the server is about to write.
+
+use gw_server::{Gate, Place};
+use std::rt::Clock;
+use std::sync::atomic::{AtomicBool, AtomicU64, Ordering};
+use std::thread;
+use std::time::Duration;
+
+/// How often a peer looks at the gate, a millisecond apart.
+const LOOKS: u16 = 10_000;
+
+/// The actors of a server with one outstation, by their positions.
+const OUTSTATION_READER: usize = 0;
+
+const OUTSTATION_WRITER: usize = 1;
+
+const CLIENT_WRITER: usize = 3;
+
+/// What was seen: how often the server was about to write to the outstation and to the client, and had made a step of a
+/// response.
+#[derive(Drop)]
+pub struct Seen {
+    pub requests: AtomicU64,
+    pub apdus: AtomicU64,
+    pub responses: AtomicU64,
+    /// Whether each peer was answered as it wants.
+    pub is_right: AtomicBool,
+}
+
+impl Seen {
+    /// Nothing was seen.
+    pub fn nothing() -> Seen {
+        Seen {
+            requests: AtomicU64::new(0),
+            apdus: AtomicU64::new(0),
+            responses: AtomicU64::new(0),
+            is_right: AtomicBool::new(true),
+        }
+    }
+}
+
+impl Gate for Seen {
+    fn at(&self, actor: usize, place: Place) {
+        match (actor, place) {
+            (OUTSTATION_WRITER, Place::BeforeWrite) => count(&self.requests),
+            (CLIENT_WRITER, Place::BeforeWrite) => count(&self.apdus),
+            (OUTSTATION_READER, Place::Stepped) => count(&self.responses),
+            _ => {}
+        }
+    }
+}
+
+fn count(times: &AtomicU64) {
+    times.fetch_add(1, Ordering::SeqCst);
+}
+
+/// Looks until something was seen so often; whether it was in time.
+pub fn is_seen<R: Clock>(rt: &R, times: &AtomicU64, wanted: u64) -> bool {
+    for _ in 0..LOOKS {
+        if times.load(Ordering::SeqCst) >= wanted {
+            return true;
+        }
+        thread::sleep(rt, Duration::from_millis(1));
+    }
+    false
+}
