@@ -2,6 +2,8 @@
  * tells at the end, on standard error, how many there were. */
 #include <stdio.h>
 #include <stdlib.h>
+#include <sys/syscall.h>
+#include <unistd.h>
 
 extern void *__libc_malloc(size_t);
 extern void *__libc_realloc(void *, size_t);
@@ -18,6 +20,14 @@ __attribute__((constructor)) static void begin(void)
 __attribute__((destructor)) static void end(void)
 {
     fprintf(stderr, "allocations %ld\n", count);
+}
+
+/* So ends a program that may have threads; it runs no destructors. */
+void _exit(int status)
+{
+    end();
+    syscall(SYS_exit_group, status);
+    abort();
 }
 
 void *malloc(size_t size)

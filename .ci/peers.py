@@ -1,0 +1,375 @@
+"""The gateway's peers over the loopback: outstations of IEEE Std 1815 and control centres of IEC 60870-5-104.
+
+They judge each octet that comes, and raise `Difference` where it isn't what is wanted.
+"""
+import queue
+import select
+import socket
+import struct
+from contextlib import suppress
+import threading
+import time
+
+HOST = "127.0.0.1"
+# The link address of the master.
+MASTER = 1024
+# How many seconds a peer waits for what it wants.
+PATIENCE = 5
+# The octets of a fragment in a segment, of user data in a block, and of small segments of TCP.
+SEGMENT, BLOCK, SMALL_SEGMENT = 249, 16, 400
+
+# CONTROL of user data without confirmation, from an outstation and from a master.
+USER_DATA, MASTER_USER_DATA = 0x44, 0xC4
+# Requests behind their control octet.
+EVENTS = bytes.fromhex("01 3C 02 06 3C 03 06 3C 04 06")
+INTEGRITY = EVENTS + bytes.fromhex("3C 01 06")
+DISABLE, ENABLE = (bytes([function]) + EVENTS[1:] for function in (0x15, 0x14))
+
+START, START_CON = "68 04 07 00 00 00", "68 04 0B 00 00 00"
+STOP, STOP_CON = "68 04 13 00 00 00", "68 04 23 00 00 00"
+TEST, TEST_CON = "68 04 43 00 00 00", "68 04 83 00 00 00"
+
+# Causes of transmission.
+NEWS, REQUESTED, ACTIVATION, CONFIRMATION, TERMINATION, INTERROGATED, COUNTERS = 3, 5, 6, 7, 10, 20, 37
+# The front of the witness's events, of analog input 9; where this point is, the seconds between events, and how many
+# I formats it acknowledges at once.
+WITNESS_EVENT = bytes.fromhex("20 01 17 01 09 01")
+WITNESSED, WITNESS_EVERY, WITNESS_W = 9001, 0.05, 4
+
+
+class Difference(Exception):
+    """Something isn't as it is wanted."""
+
+
+class Ended(Difference):
+    """The end of input came where octets are wanted."""
+
+
+def spelled(octets):
+    return octets.hex(" ").upper()
+
+
+def same(what, got, wanted):
+    if got != wanted:
+        raise Difference(f"{what}: wanted {wanted}, got {got}")
+
+
+def same_octets(what, got, wanted):
+    same(what, spelled(got), spelled(wanted))
+
+
+def narrow(socket_of_peer, room):
+    """Gives a peer a receive buffer of this room, and small segments, which keep the gateway's buffer small too."""
+    socket_of_peer.setsockopt(socket.SOL_SOCKET, socket.SO_RCVBUF, room)
+    socket_of_peer.setsockopt(socket.IPPROTO_TCP, socket.TCP_MAXSEG, SMALL_SEGMENT)
+
+
+class Line:
+    """A connection, whose octets are wanted by their number."""
+
+    def __init__(self, connection):
+        connection.settimeout(PATIENCE)
+        connection.setsockopt(socket.IPPROTO_TCP, socket.TCP_NODELAY, 1)
+        self.connection = connection
+
+    def write(self, octets, apart=None):
+        """Sends octets: in one piece, or one by one, so many seconds apart."""
+        for piece in [octets] if apart is None else [bytes([it]) for it in octets]:
+            self.connection.sendall(piece)
+            time.sleep(apart or 0)
+
+    def read(self, count):
+        octets = b""
+        while len(octets) < count:
+            try:
+                piece = self.connection.recv(count - len(octets))
+            except TimeoutError:
+                raise Difference(f"wanted {count} octets, got {spelled(octets) or 'none'} in {PATIENCE} s") from None
+            if not piece:
+                raise Ended(f"wanted {count} octets, got {spelled(octets) or 'none'} and the end of input")
+            octets += piece
+        return octets
+
+    def quiet(self, seconds):
+        """Nothing comes for so long."""
+        if select.select([self.connection], [], [], seconds)[0]:
+            raise Difference(f"wanted nothing, got {spelled(self.connection.recv(99)) or 'the end of input'}")
+
+    def rest(self):
+        """What comes up to the end of input."""
+        octets = bytearray()
+        while piece := self.connection.recv(65536):
+            octets += piece
+        return bytes(octets)
+
+    def leave(self):
+        """Sends nothing more, and closes once the other end has closed."""
+        self.connection.shutdown(socket.SHUT_WR)
+        self.rest()
+        self.connection.close()
+
+    def reset(self):
+        self.connection.setsockopt(socket.SOL_SOCKET, socket.SO_LINGER, struct.pack("ii", 1, 0))
+        self.connection.close()
+
+
+def crc(octets):
+    """The CRC of a block: x^16 + x^13 + x^12 + x^11 + x^10 + x^8 + x^6 + x^5 + x^2 + 1, least bits first, inverted."""
+    register = 0
+    for octet in octets:
+        register ^= octet
+        for _ in range(8):
+            register = (register >> 1) ^ (0xA6BC if register & 1 else 0)
+    return (register ^ 0xFFFF).to_bytes(2, "little")
+
+
+def frame(user, control=USER_DATA, destination=MASTER, source=1):
+    header = struct.pack("<BBBBHH", 0x05, 0x64, 5 + len(user), control, destination, source)
+    blocks = [header] + [user[begin : begin + BLOCK] for begin in range(0, len(user), BLOCK)]
+    return b"".join(block + crc(block) for block in blocks)
+
+
+def segments(fragment, first):
+    """The segments of a fragment, whose numbers begin with this one."""
+    pieces = [fragment[begin : begin + SEGMENT] for begin in range(0, len(fragment), SEGMENT)]
+    bits = lambda place: (0x40 if place == 0 else 0) | (0x80 if place == len(pieces) - 1 else 0)
+    return [bytes([bits(place) | (first + place) % 64]) + piece for place, piece in enumerate(pieces)]
+
+
+def response(number, objects=b"", con=False, iin=0, iin2=0):
+    """The answer to the request of this number; `iin` and `iin2` are its indications."""
+    return bytes([0xC0 | (0x20 if con else 0) | number % 16, 0x81, iin, iin2]) + objects
+
+
+def unsolicited(number, objects):
+    """An unsolicited response that asks for a confirmation."""
+    return bytes([0xF0 | number % 16, 0x82, 0, 0]) + objects
+
+
+def confirmation(fragment):
+    return bytes([0xC0 | fragment[0] & 0x1F, 0])
+
+
+class Link(Line):
+    """The master's connection to an outstation."""
+
+    def __init__(self, connection, address):
+        super().__init__(connection)
+        self.address, self.came, self.sent = address, 0, 0
+
+    def frame(self):
+        """The control octet and the user data of the next frame. All its other octets are what they have to be."""
+        header = self.read(10)
+        length = max(header[2] - 5, 0)
+        body = self.read(length + 2 * ((length + BLOCK - 1) // BLOCK))
+        blocks = [body[begin : begin + BLOCK + 2] for begin in range(0, len(body), BLOCK + 2)]
+        user = b"".join(block[:-2] for block in blocks)
+        same_octets("a frame", header + body, frame(user, header[3], self.address, MASTER))
+        return header[3], user
+
+    def fragment(self):
+        """The next fragment. All that the master sends is one segment, and they are numbered from 0."""
+        control, user = self.frame()
+        front = bytes([MASTER_USER_DATA, 0xC0 | self.came % 64])
+        same_octets("CONTROL and the transport header", bytes([control]) + user[:1], front)
+        self.came += 1
+        return user[1:]
+
+    def wants(self, octets):
+        same_octets("a fragment of the master", self.fragment(), octets)
+
+    def request(self, number, request):
+        """The next fragment is this request, of this number."""
+        self.wants(bytes([0xC0 | number % 16]) + request)
+
+    def frames(self, fragment):
+        """The frames of the next fragment that is sent."""
+        carried = segments(fragment, self.sent)
+        self.sent += len(carried)
+        return [frame(segment, source=self.address) for segment in carried]
+
+    def send(self, fragment, apart=None):
+        self.write(b"".join(self.frames(fragment)), apart)
+
+    def confirmed(self, fragment):
+        """Sends a fragment, which is confirmed."""
+        self.send(fragment)
+        self.wants(confirmation(fragment))
+
+    def answer_all(self):
+        """Answers each request with no object, until the master closes the connection."""
+        self.connection.settimeout(None)
+        with suppress(Ended, OSError):
+            while True:
+                self.send(response(self.fragment()[0] & 0x0F))
+
+
+class Outstation:
+    """Where the outstation of this number is reached. It listens from the beginning, or when it is told to; `room` is
+    that of its receive buffer."""
+
+    def __init__(self, number, listens=True, room=None):
+        self.number, self.address, self.listener = number, number + 1, socket.socket()
+        if room:
+            narrow(self.listener, room)
+        self.listener.bind((HOST, 0))
+        self.listener.settimeout(PATIENCE)
+        self.place = f"{HOST}:{self.listener.getsockname()[1]}"
+        if listens:
+            self.listener.listen()
+
+    @property
+    def name(self):
+        """What standard error calls it."""
+        return f"outstation {self.number} {self.place}"
+
+    @property
+    def labels(self):
+        """What its figures have in the status."""
+        return f'outstation="{self.number}",place="{self.place}"'
+
+    def accept(self):
+        return Link(self.listener.accept()[0], self.address)
+
+
+def asdu(kind, cause, address, element):
+    """An ASDU of one object."""
+    return bytes([kind, 1, cause, 0, 1, 0]) + address.to_bytes(3, "little") + bytes.fromhex(element)
+
+
+def general(cause):
+    return asdu(100, cause, 0, "14")
+
+
+def i_format(sent, got, octets):
+    return bytes([0x68, 4 + len(octets)]) + struct.pack("<HH", sent * 2 & 0xFFFF, got * 2 & 0xFFFF) + octets
+
+
+class Centre(Line):
+    """A control centre, which connects from this host; `room` is that of its receive buffer."""
+
+    def __init__(self, port, host=HOST, room=None):
+        connection = socket.socket()
+        if host != HOST:
+            connection.bind((host, 0))
+        if room:
+            narrow(connection, room)
+        connection.settimeout(PATIENCE)
+        connection.connect((HOST, port))
+        super().__init__(connection)
+        self.address = f"{host}:{connection.getsockname()[1]}"
+        self.sent, self.got, self.acknowledged, self.writing = 0, 0, 0, threading.Lock()
+
+    def send(self, text):
+        self.write(bytes.fromhex(text))
+
+    def apdu(self):
+        front = self.read(2)
+        return front + self.read(front[1])
+
+    def wants(self, text):
+        same("an APDU", spelled(self.apdu()), text)
+
+    def start(self):
+        self.send(START)
+        self.wants(START_CON)
+
+    def ask(self, octets, apart=None, got=None):
+        """Sends an I format, which acknowledges all that came, or as much as this."""
+        with self.writing:
+            self.sent += 1
+            self.write(i_format(self.sent - 1, self.got if got is None else got, octets), apart)
+
+    def acknowledge(self):
+        with self.writing:
+            self.write(bytes([0x68, 4, 1, 0]) + struct.pack("<H", self.got * 2 & 0xFFFF))
+
+    def asdu(self):
+        """The ASDU of the next APDU, an I format with the next N(S), and an N(R) that can be."""
+        apdu = self.apdu()
+        sent, got = struct.unpack_from("<HH", apdu, 2)
+        same(f"N(S) of {spelled(apdu)}", sent, self.got * 2 & 0xFFFF)
+        if got & 1 or not self.acknowledged <= got // 2 <= self.sent:
+            raise Difference(f"N(R) of {spelled(apdu)}: wanted {self.acknowledged} to {self.sent}")
+        self.acknowledged = got // 2
+        self.got += 1
+        return apdu[6:]
+
+    def takes(self, *asdus):
+        """The next I formats have these ASDUs and acknowledge all that was sent."""
+        for octets in asdus:
+            same_octets("an APDU", self.apdu(), i_format(self.got, self.sent, octets))
+            self.got += 1
+
+    def interrogate(self, *rows, apart=None):
+        """A station interrogation is answered with these rows."""
+        self.ask(general(ACTIVATION), apart)
+        self.takes(general(CONFIRMATION), *rows, general(TERMINATION))
+        self.acknowledge()
+
+
+class Witness:
+    """An outstation and a control centre that are served all the while: the one tells events, the other gets each of
+    them, in order. What else it gets waits for whoever wants it."""
+
+    def __init__(self, link, centre):
+        self.link, self.centre, self.others = link, centre, queue.SimpleQueue()
+        self.times, self.seen, self.last, self.slowest, self.fault = [], 0, None, 0.0, None
+        self.ending = threading.Event()
+        self.threads = [threading.Thread(target=self.watch, args=[it], daemon=True) for it in (self.tell, self.listen)]
+        for thread in self.threads:
+            thread.start()
+
+    def watch(self, work):
+        """Does the work of a thread, and keeps what goes wrong there."""
+        try:
+            work()
+        except (Difference, OSError) as fault:
+            self.fault = self.fault or fault
+
+    def tell(self):
+        while self.last is None:
+            is_last = self.ending.wait(WITNESS_EVERY)
+            self.times.append(time.monotonic())
+            self.last = len(self.times) if is_last else None
+            event = unsolicited(len(self.times), WITNESS_EVENT + len(self.times).to_bytes(4, "little"))
+            self.link.send(event)
+            while (fragment := self.link.fragment()) != confirmation(event):
+                self.link.send(response(fragment[0] & 0x0F))
+
+    def listen(self):
+        while self.seen != self.last:
+            octets = self.centre.asdu()
+            if self.centre.got % WITNESS_W == 0:
+                self.centre.acknowledge()
+            if octets[6:9] != WITNESSED.to_bytes(3, "little"):
+                self.others.put(octets)
+            elif octets[2] == NEWS:
+                value = (self.seen + 1).to_bytes(4, "little")
+                same_octets("news of the witness", octets, asdu(7, NEWS, WITNESSED, spelled(value) + "00"))
+                self.slowest = max(self.slowest, time.monotonic() - self.times[self.seen])
+                self.seen += 1
+
+    def takes(self, *asdus):
+        """These are the next ASDUs of other points."""
+        for octets in asdus:
+            try:
+                same_octets("an ASDU", self.others.get(timeout=PATIENCE), octets)
+            except queue.Empty:
+                raise self.fault or Difference(f"wanted an ASDU {spelled(octets)}, got none in {PATIENCE} s") from None
+
+    def interrogate(self, *rows):
+        self.centre.ask(general(ACTIVATION))
+        self.takes(general(CONFIRMATION), *rows, general(TERMINATION))
+
+    def finish(self, limit):
+        """Each event came, within so many seconds, and nothing else is left."""
+        self.ending.set()
+        for thread in self.threads:
+            thread.join(PATIENCE)
+        if self.fault:
+            raise self.fault
+        same("events that the witness got", self.seen, len(self.times))
+        if not self.seen or self.slowest > limit:
+            raise Difference(f"the slowest event of the witness: wanted {limit} s, got {self.slowest:.3f} s")
+        same("ASDUs that nobody wanted", self.others.qsize(), 0)
