@@ -90,7 +90,7 @@ pub fn run<H: Host>(
     }
 }
 
-/// Reads the settings file, listens, and serves.
+/// Reads the settings file, and serves.
 fn serve_file<H: Host>(
     rt: &HostRuntime,
     host: &H,
@@ -100,6 +100,19 @@ fn serve_file<H: Host>(
 ) -> Result<Closed, Unserved> {
     let octets = read_file(rt.alloc(), rt, file)?;
     let settings = read_settings(rt.alloc(), octets.as_slice())?;
+    let started = started(rt.alloc(), file, octets.as_slice(), &settings)?;
+    serve_settings(rt, host, settings, started, sessions, asked)
+}
+
+/// Listens, and serves.
+fn serve_settings<H: Host>(
+    rt: &HostRuntime,
+    host: &H,
+    settings: Settings,
+    started: Event,
+    sessions: Option<u32>,
+    asked: &RunOptions,
+) -> Result<Closed, Unserved> {
     let allow = networks_of(rt.alloc(), &asked.allow)?;
     let status = status_listener(host, asked.status)?;
     let Ok(listener) = open(host, &settings) else {
@@ -112,19 +125,28 @@ fn serve_file<H: Host>(
         until_eof: asked.until_eof.then_some(rt.stdin()),
         status: status.as_ref(),
     };
+    serve_on(rt, host, settings, started, &listener, options, asked)
+}
+
+/// Tells that the gateway starts, and serves on a listener.
+fn serve_on<H: Host>(
+    rt: &HostRuntime,
+    host: &H,
+    settings: Settings,
+    started: Event,
+    listener: &TcpListener,
+    options: Options<'_>,
+    asked: &RunOptions,
+) -> Result<Closed, Unserved> {
     let journal = journal_of(rt.alloc(), &settings, is_journal(rt))?;
     let clock = SystemClock::new(host);
     let wall = clock.wall();
-    journal.tell(
-        host,
-        wall,
-        started(rt.alloc(), file, octets.as_slice(), &settings)?,
-    );
+    journal.tell(host, wall, started);
     tell_doubts(host, &journal, wall, &settings);
     let site = Site {
         alloc: rt.alloc(),
         host,
-        listener: &listener,
+        listener,
         options,
         journal: &journal,
         clock: &clock,

@@ -4,7 +4,7 @@ ghost use Rattle.std.specs.Thread.{IsSend, IsSync};
 
 use crate::accepting::accept;
 use crate::board::Board;
-use crate::duty::{Duty, duties_of};
+use crate::duty::{Duty, Returned, duties_of};
 use crate::host::Host;
 use crate::house::{CLIENTS, House, OUTSTATIONS, Site};
 use crate::lobby::Lobby;
@@ -16,10 +16,11 @@ use gw_map::Settings;
 use gw_model::Memory;
 use gw_threads::{Clock, Closed, Gate, Pass, Shared};
 use std::alloc::Global;
+use std::io;
 use std::marker::Brand;
 use std::net::TcpListener;
 use std::sync::ledger::{Blank, Ledger};
-use std::{io, thread};
+use std::thread::{self, JoinHandle, Threads};
 
 /// Listens where the settings say.
 pub fn open<R: Host>(rt: &R, settings: &Settings) -> io::Result<TcpListener> {
@@ -184,30 +185,45 @@ fn perform_all<L: Ledger + Send + Sync, R: Host, C: Clock + Sync, G: Gate + Sync
                 house.journal.close(house.rt);
             }
             lobby.close(house.rt);
-            // The thread that reads standard input was started last, behind those of the places, and the journal's first.
-            if site.options.until_eof.is_some() {
-                if let Some(thread) = threads.pop() {
-                    thread.join(house.rt).give(&mut passes);
-                }
-                house.shared.stop();
-                house.board.dismiss_all(house.rt);
-            }
-            for _ in 0..CLIENTS {
-                if let Some(thread) = threads.pop() {
-                    thread.join(house.rt).give(&mut passes);
-                }
-            }
-            house.shared.stop();
-            for _ in 0..threads.len() {
-                if threads.len() == 1 {
-                    house.tell(Event::Stopped);
-                    house.journal.close(house.rt);
-                }
-                if let Some(thread) = threads.pop() {
-                    thread.join(house.rt).give(&mut passes);
-                }
-            }
+            end_all(house, site, &mut threads, &mut passes);
             if is_complete { Ok(passes) } else { Err(Memory) }
         },
     )
+}
+
+/// Lets the threads end once no further client is accepted: those of the places, then the others, and the journal's behind all.
+/// The passes come back. The thread that reads standard input was started last, behind those of the places, and the journal's
+/// first.
+fn end_all<L: Ledger, R: Host, C: Clock, G: Gate>(
+    house: &House<'_, L, R, C, G>,
+    site: Site<'_>,
+    threads: &mut Vec<JoinHandle<Returned<L>>>,
+    passes: &mut Vec<Pass<L>>,
+) {
+    if site.options.until_eof.is_some() {
+        join_last(house.rt, threads, 1, passes);
+        house.shared.stop();
+        house.board.dismiss_all(house.rt);
+    }
+    join_last(house.rt, threads, usize::from(CLIENTS), passes);
+    house.shared.stop();
+    let others = threads.len().saturating_sub(1);
+    join_last(house.rt, threads, others, passes);
+    house.tell(Event::Stopped);
+    house.journal.close(house.rt);
+    join_last(house.rt, threads, 1, passes);
+}
+
+/// Waits for the ends of those threads that were started last, so many of them; their passes come back.
+fn join_last<L: Ledger, R: Threads>(
+    rt: &R,
+    threads: &mut Vec<JoinHandle<Returned<L>>>,
+    count: usize,
+    passes: &mut Vec<Pass<L>>,
+) {
+    for _ in 0..count {
+        if let Some(thread) = threads.pop() {
+            thread.join(rt).give(passes);
+        }
+    }
 }
