@@ -12,12 +12,11 @@ mod lines;
 mod pumps;
 mod sorter;
 mod step_line;
-#[cfg(test)]
-mod tests;
 mod waiting;
 
 pub use capture::Capture;
 pub use ended::{Cause, Ended};
 pub use kept::Kept;
+pub use lines::Lines;
 pub use pumps::Pumps;
 pub use step_line::push_step;

@@ -11,8 +11,6 @@ mod failure;
 mod journal;
 mod note_line;
 mod outstation_figures;
-#[cfg(test)]
-mod tests;
 mod throttle;
 mod unreadable;
 mod waiting;
@@ -27,3 +25,4 @@ pub use note_line::{Note, NoteLine};
 pub use outstation_figures::{Due, Noticed, OutstationFigures, Refused};
 pub use throttle::Throttle;
 pub use unreadable::Unreadable;
+pub use waiting::{MOST, Next, Waiting};

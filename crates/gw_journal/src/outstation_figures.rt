@@ -44,7 +44,11 @@ pub struct OutstationFigures {
     is_awaited: bool,
     /// The number of the step that gave it.
     asked_by: u64,
+    /// Whether it writes the time.
+    writes_time: bool,
+    /// How far the setting of the clock has come, and how far it had before the last request.
     setting: Setting,
+    earlier_setting: Setting,
     unanswered_told: Throttle,
     skipped_told: Throttle,
     refused_told: Throttle,
@@ -114,7 +118,9 @@ impl OutstationFigures {
             before: 0,
             is_awaited: false,
             asked_by: 0,
+            writes_time: false,
             setting: Setting::Idle,
+            earlier_setting: Setting::Idle,
             unanswered_told: Throttle::new(MINUTE_MS),
             skipped_told: Throttle::new(MINUTE_MS),
             refused_told: Throttle::new(SECOND_MS),
@@ -134,6 +140,7 @@ impl OutstationFigures {
         self.before = 0;
         self.is_awaited = false;
         self.setting = Setting::Idle;
+        self.earlier_setting = Setting::Idle;
     }
 
     /// A request is sent, which the step of this number gave: whether it awaits an answer, and whether it writes the time.
@@ -145,6 +152,8 @@ impl OutstationFigures {
         }
         self.is_awaited = awaits_answer;
         self.asked_by = step;
+        self.writes_time = writes_time;
+        self.earlier_setting = self.setting;
         self.setting = self.setting.once_asked(writes_time);
     }
 
@@ -172,19 +181,29 @@ impl OutstationFigures {
         }
     }
 
-    /// What a fragment means for the last request; whether it is to be told that the clock isn't set. Where the next request
-    /// was told first, the fragment is of the one before, which counted as unanswered then.
+    /// What a fragment means for the request that it may answer; whether it is to be told that the clock isn't set. Where
+    /// the next request was told first, the fragment is of the one before, which counted as unanswered then.
     fn ends(&mut self, step: u64, indications: u16, solicited_end: bool) -> bool {
         if step < self.asked_by {
-            if solicited_end {
-                self.unanswered = self.unanswered.saturating_sub(1);
-                self.unanswered_told.take_back(1);
-            }
-            return false;
+            return self.ends_earlier(indications, solicited_end);
         }
         let (setting, clock_not_set) = self.setting.once_answered(indications, solicited_end);
         self.setting = setting;
         self.is_awaited = self.is_awaited && !solicited_end;
+        clock_not_set
+    }
+
+    /// What a fragment means that may answer the request before the last one, as if it had been told before the last one was.
+    fn ends_earlier(&mut self, indications: u16, solicited_end: bool) -> bool {
+        if solicited_end {
+            self.unanswered = self.unanswered.saturating_sub(1);
+            self.unanswered_told.take_back(1);
+        }
+        let (earlier, clock_not_set) = self
+            .earlier_setting
+            .once_answered(indications, solicited_end);
+        self.earlier_setting = earlier;
+        self.setting = earlier.once_asked(self.writes_time);
         clock_not_set
     }
 

@@ -15,8 +15,6 @@ mod request;
 mod rows;
 mod status;
 mod summary;
-#[cfg(test)]
-mod tests;
 mod time;
 
 pub use answering::{answer, refuse};

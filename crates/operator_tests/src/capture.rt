@@ -1,7 +1,6 @@
 //! Tests of what is written, and of how a capture ends.
 
-use crate::lines::Lines;
-use crate::{Capture, Cause, Ended, Kept, Pumps, push_step};
+use gw_capture::{Capture, Cause, Ended, Kept, Lines, Pumps, push_step};
 use gw_hub::{Apdu, Reply, Step, StepFault};
 use gw_replay::{Instruction, read_instruction};
 use std::alloc::{AllocError, Global};

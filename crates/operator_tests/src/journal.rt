@@ -1,12 +1,11 @@
 //! Tests of printed lines, of figures by example, and of a journal that overflows.
 
-use crate::waiting::{MOST, Next, Waiting};
-use crate::{
-    Cause, ClientFigures, Doubt, Due, Event, Failure, Journal, Note, NoteLine, Noticed,
-    OutstationFigures, RecordingEnd, Refused, Throttle, Unreadable,
-};
 use dnp_app::read_response;
 use gw_hub::Why;
+use gw_journal::{
+    Cause, ClientFigures, Doubt, Due, Event, Failure, Journal, MOST, Next, Note, NoteLine, Noticed,
+    OutstationFigures, RecordingEnd, Refused, Throttle, Unreadable, Waiting,
+};
 use iec_apci::ApciFault;
 use std::alloc::{AllocError, Global};
 use std::fmt::Display;
@@ -652,6 +651,34 @@ fn overtaken_answer(rt: HostRuntime) {
         figures.answered(7, WALL, [0x10, 0], true, 0),
         CLOCK_NOT_SET
     );
+}
+
+/// The number of the step that an answer is of, the first octet of its internal indications, and what is new then. Before
+/// each the next request is told, by the step behind it, which writes the time where there is a `true`.
+const OVERTAKEN: &[(u64, bool, u8, Noticed)] = &[
+    (2, true, 0x10, NOTHING),
+    (4, false, 0x10, CLOCK_NOT_SET),
+    (6, true, 0x10, NOTHING),
+    (8, false, 0x10, NOTHING),
+    (10, true, 0x00, NOTHING),
+    (12, false, 0x10, CLOCK_NOT_SET),
+];
+
+/// Nor is it forgotten that the answer to the writing of the time still asks for it.
+#[test]
+fn overtaken_setting_of_the_clock(rt: HostRuntime) {
+    let mut figures = OutstationFigures::new();
+    figures.connected(WALL);
+    figures.asked(1, true, false);
+    for (step, writes_time, indications, noticed) in OVERTAKEN {
+        figures.asked(*step + 1, true, *writes_time);
+        assert_eq!(rt;
+            figures.answered(*step, WALL, [*indications, 0], true, 0),
+            *noticed,
+            "at step {step}"
+        );
+    }
+    assert_eq!(rt; (figures.requests, figures.unanswered), (7, 0));
 }
 
 /// Nothing is due.

@@ -1,6 +1,6 @@
 //! Tests of printed texts and worked requests.
 
-use crate::{
+use gw_status::{
     Asked, ClientStatus, Closes, MOST_FIELDS, MOST_OCTETS, OutstationStatus, Refusal, Request,
     Status, answer, receive, refuse,
 };

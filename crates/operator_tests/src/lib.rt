@@ -1,0 +1,10 @@
+//! Tests of what an operator sees, through the public calls of its crates: the journal's lines and figures, the status and
+//! its answers, and what a run is captured as.
+#![tactic(auto)]
+
+#[cfg(test)]
+mod capture;
+#[cfg(test)]
+mod journal;
+#[cfg(test)]
+mod status;
