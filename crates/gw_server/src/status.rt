@@ -6,9 +6,11 @@ use crate::host::Host;
 use crate::house::{House, Site};
 use crate::lookout::pause;
 use crate::sockets::shut;
+use gw_http::{Asked, Request, answer, receive, refuse};
 use gw_model::Memory;
-use gw_status::{ClientStatus, OutstationStatus, Request, Status, answer, receive, refuse};
+use gw_status::{ClientStatus, Metrics, OutstationStatus, Page, Status};
 use gw_threads::{Clock, Figures, Gate};
+use std::alloc::Global;
 use std::io::{self, ErrorKind, Read, Write};
 use std::net::{TcpListener, TcpStream};
 use std::sync::ledger::Ledger;
@@ -114,11 +116,20 @@ fn answer_to<L: Ledger, R: Host, C: Clock, G: Gate>(
 ) -> Result<String, Memory> {
     match request.asked {
         Ok(asked) => {
-            let status = status_of(house, site)?;
-            answer(house.alloc, asked, request.is_head, &status)
+            let body = body_of(house.alloc, asked, &status_of(house, site)?)?;
+            answer(house.alloc, asked, request.is_head, body.as_str())
         }
         Err(refusal) => refuse(house.alloc, refusal, request.is_head),
     }
+}
+
+/// What is asked for.
+fn body_of(alloc: Global, asked: Asked, status: &Status) -> Result<String, Memory> {
+    let body = match asked {
+        Asked::Page => format!(in alloc; "{}", Page(status))?,
+        Asked::Metrics => format!(in alloc; "{}", Metrics(status))?,
+    };
+    Ok(body)
 }
 
 /// How the gateway is now.

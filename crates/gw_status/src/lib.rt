@@ -1,8 +1,7 @@
-//! How the gateway can be watched: the figures of its outstations and clients as Prometheus reads them and as a page
-//! for people, the reading of one HTTP request for either, and its answer.
+//! What can be told of a running gateway: the figures of its outstations and clients, as Prometheus reads them and as a
+//! page for people.
 #![tactic(auto)]
 
-mod answering;
 mod client_figure;
 mod escaped;
 mod family;
@@ -10,14 +9,11 @@ mod indications;
 mod metrics;
 mod outstation_figure;
 mod page;
-mod receiving;
-mod request;
 mod rows;
 mod status;
 mod summary;
 mod time;
 
-pub use answering::{answer, refuse};
-pub use receiving::{MOST_FIELDS, MOST_OCTETS, receive};
-pub use request::{Asked, Refusal, Request};
+pub use metrics::Metrics;
+pub use page::Page;
 pub use status::{ClientStatus, Closes, OutstationStatus, Status};

@@ -1,22 +1,17 @@
 //! Answers to requests.
-ghost use Rattle.std.specs.Prelude.{◌≡◌, IfOk, List, [], codes, string_bytes, ℕ};
-ghost use Rattle.gw_status.specs.Answers.{content_of, fields_of, line_of, message, refused_by, sent_of};
+ghost use Rattle.std.specs.Prelude.{◌≡◌, IfOk, [], codes, string_bytes};
+ghost use Rattle.gw_http.specs.Answers.{content_of, fields_of, line_of, message, refused_by, sent_of};
 
-use crate::metrics::Metrics;
-use crate::page::Page;
 use crate::request::{Asked, Refusal};
-use crate::status::Status;
 use gw_model::Memory;
 use std::alloc::Global;
 
-/// The octets that answer a request with what it asks for.
-pub fn answer(alloc: Global, asked: Asked, is_head: bool, status: &Status) -> Result<String, Memory>
-    ensures { IfOk result (λ text. (body : List ℕ) × (string_bytes text
-        ≡ message (codes "200 OK") (content_of asked) [] body is_head)) }
+/// The octets that answer a request with the body that it asks for.
+pub fn answer(alloc: Global, asked: Asked, is_head: bool, body: &str) -> Result<String, Memory>
+    ensures { IfOk result (λ text. string_bytes text
+        ≡ message (codes "200 OK") (content_of asked) [] body.now is_head) }
 {
-    let content = content_of(asked);
-    let body = body_of(alloc, asked, status)?;
-    message(alloc, "200 OK", content, "", body.as_str(), is_head)
+    message(alloc, "200 OK", content_of(asked), "", body, is_head)
 }
 
 /// The content type of what is asked for.
@@ -27,15 +22,6 @@ fn content_of(asked: Asked) -> &'static str
         Asked::Page => "text/html; charset=utf-8",
         Asked::Metrics => "text/plain; version=0.0.4; charset=utf-8",
     }
-}
-
-/// What is asked for.
-fn body_of(alloc: Global, asked: Asked, status: &Status) -> Result<String, Memory> {
-    let body = match asked {
-        Asked::Page => format!(in alloc; "{}", Page(status))?,
-        Asked::Metrics => format!(in alloc; "{}", Metrics(status))?,
-    };
-    Ok(body)
 }
 
 /// The octets that refuse a request.

@@ -1,6 +1,6 @@
 //! Reading a request.
 ghost use Rattle.std.specs.Prelude.{◌≤◌, IfSome, length, take};
-ghost use Rattle.gw_status.specs.Requests.{IsAnswered, IsReceived, ReadsOn};
+ghost use Rattle.gw_http.specs.Requests.{IsAnswered, IsReceived, ReadsOn};
 
 use crate::request::{Refusal, Request};
 use httparse::spans::{EMPTY_HEADER_SPAN, parse_request};

@@ -1,6 +1,6 @@
 use Rattle.std.proofs.Common.{take}
-use Rattle.gw_status.proofs.ReadingLemmas.{front-replaced}
-use Rattle.gw_status.proofs.receiving.read_more.Goals as goal
+use Rattle.gw_http.proofs.ReadingLemmas.{front-replaced}
+use Rattle.gw_http.proofs.receiving.read_more.Goals as goal
 
 pub returns-in-Ok-clause-more : goal.returns-in-Ok-clause-more
 returns-in-Ok-clause-more g c = record {

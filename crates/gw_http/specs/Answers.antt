@@ -1,10 +1,10 @@
 -- The octets of an answer (RFC 9112, 2.1).
 use Rattle.std.specs.Prelude.{ℕ, Bool, List, [], ◌∷◌, ◌++◌, codes, if◌then◌else◌, length}
 use Rattle.std.specs.Fmt.{decimal}
-use Rattle.gw_status.specs.declared.request.Asked.{Asked}
-use Rattle.gw_status.specs.declared.request.Asked.TheVariants.{Metrics, Page}
-use Rattle.gw_status.specs.declared.request.Refusal.{Refusal}
-use Rattle.gw_status.specs.declared.request.Refusal.TheVariants.{Malformed, NotAllowed, NotFound, TooLong}
+use Rattle.gw_http.specs.declared.request.Asked.{Asked}
+use Rattle.gw_http.specs.declared.request.Asked.TheVariants.{Metrics, Page}
+use Rattle.gw_http.specs.declared.request.Refusal.{Refusal}
+use Rattle.gw_http.specs.declared.request.Refusal.TheVariants.{Malformed, NotAllowed, NotFound, TooLong}
 
 -- the end of a line
 abbrev pub line_end : List ℕ

@@ -1,6 +1,6 @@
 //! What a request asks for.
 ghost use Rattle.std.specs.Prelude.{◌≡◌};
-ghost use Rattle.gw_status.specs.Requests.{found_at, path_of, query_in, refused, request_of};
+ghost use Rattle.gw_http.specs.Requests.{found_at, path_of, query_in, refused, request_of};
 
 /// What is told of the gateway.
 #[derive(Clone, Copy)]

@@ -1,6 +1,6 @@
 use Rattle.std.proofs.Common.{◌≤◌, [], take}
-use Rattle.gw_status.specs.Requests.{ReadsOn}
-use Rattle.gw_status.proofs.receiving.receive.Given as goal
+use Rattle.gw_http.specs.Requests.{ReadsOn}
+use Rattle.gw_http.proofs.receiving.receive.Given as goal
 
 abbrev pub invariant-loop-read : goal.invariant-loop-read
 invariant-loop-read g l =

@@ -4,11 +4,11 @@ use Rattle.std.specs.Io.KnownBytes.{Consumes}
 use Rattle.std.specs.Str.{bytes_eq}
 use Rattle.httparse.specs.Grammar.{HasNoRequest, MayBecomeRequest, NeverHasRequest, ReadsRequest, RequestHead}
 use Rattle.httparse.specs.Spans.{RequestOverflows}
-use Rattle.gw_status.specs.declared.request.Asked.{Asked}
-use Rattle.gw_status.specs.declared.request.Asked.TheVariants.{Metrics, Page}
-use Rattle.gw_status.specs.declared.request.Refusal.{Refusal}
-use Rattle.gw_status.specs.declared.request.Refusal.TheVariants.{Malformed, NotAllowed, NotFound, TooLong}
-use Rattle.gw_status.specs.declared.request.Request.{Request}
+use Rattle.gw_http.specs.declared.request.Asked.{Asked}
+use Rattle.gw_http.specs.declared.request.Asked.TheVariants.{Metrics, Page}
+use Rattle.gw_http.specs.declared.request.Refusal.{Refusal}
+use Rattle.gw_http.specs.declared.request.Refusal.TheVariants.{Malformed, NotAllowed, NotFound, TooLong}
+use Rattle.gw_http.specs.declared.request.Request.{Request}
 
 -- the front before a place, or all
 abbrev pub before : List ℕ → Option ℕ → List ℕ

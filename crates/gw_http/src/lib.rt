@@ -1,0 +1,10 @@
+//! Requests of HTTP for the status: reading one, and the octets that answer it (RFC 9110, RFC 9112).
+#![tactic(auto)]
+
+mod answering;
+mod receiving;
+mod request;
+
+pub use answering::{answer, refuse};
+pub use receiving::{MOST_FIELDS, MOST_OCTETS, receive};
+pub use request::{Asked, Refusal, Request};
