@@ -1,133 +1,171 @@
 #!/usr/bin/env python3
 """An IEC 60870-5-104 control centre to try the gateway with: it prints what it is told, in words.
 
-    examples/centre.py [HOST:PORT]
-
-It connects to 127.0.0.1:2404, or where it is told to, starts data transfer, interrogates the station, and prints each
-object that comes, with its address, its value, its quality and its time.
+It connects, starts data transfer, interrogates the station and then its counters, and prints a line for each
+information object that comes: when it came, its address, its type, its value, the cause of transmission, its quality
+where that isn't good, and its time tag where it has one. When it came is in UTC. Ctrl-C ends it.
 """
+import argparse
 import socket
 import struct
 import sys
 from contextlib import suppress
-from datetime import datetime
+from datetime import datetime, timezone
 
-START, START_CON, TEST, TEST_CON = 0x07, 0x0B, 0x43, 0x83
-# C_IC_NA_1 with cause 6 (activation) for the station with common address 1: QOI 20 (60870-5-101, 7.3.4.1).
-INTERROGATION = bytes([100, 1, 6, 0, 1, 0, 0, 0, 0, 20])
+# Control functions of the U format (IEC 60870-5-104, 5.2 and 5.3).
+STARTDT, STARTDT_CON, TESTFR, TESTFR_CON = 0x07, 0x0B, 0x43, 0x83
+# The common address of all stations (IEC 60870-5-101, 7.2.4): the answers have the station's own.
+ALL_STATIONS = 65535
+# Type identifications (7.2.1), causes, and what asks for all: QOI 20, QCC 5.
+INTERROGATION, COUNTERS, ACTIVATION, TERMINATION = 100, 101, 6, 10
+WHOLE = {INTERROGATION: 20, COUNTERS: 5}
+COMMANDS = {INTERROGATION: "station interrogation", COUNTERS: "counter interrogation", 70: "end of initialization"}
 # Causes of transmission (7.2.3).
-CAUSES = {3: "spontaneous", 5: "requested", 7: "activation confirmed", 10: "activation terminated", 20: "interrogated",
-          37: "counters interrogated", 44: "unknown type", 45: "unknown cause", 46: "unknown common address",
-          47: "unknown object address"}
-# Bits of a quality descriptor (7.2.6.3), but for the lowest, which is OV of a measured value.
+CAUSES = {1: "periodic", 2: "background scan", 3: "spontaneous", 4: "initialized", 5: "requested", 6: "activation",
+          7: "activation confirmation", 10: "activation termination", 20: "interrogated by station interrogation",
+          37: "requested by counter interrogation", 44: "unknown type identification",
+          45: "unknown cause of transmission", 46: "unknown common address", 47: "unknown information object address"}
+# Bits of a quality descriptor (7.2.6.3); of a binary counter reading (7.2.6.9).
 QUALITIES = {0x10: "blocked", 0x20: "substituted", 0x40: "not topical", 0x80: "invalid"}
-DOUBLE = ("intermediate", "off", "on", "indeterminate")
+NOTES = {0x20: "carry", 0x40: "counter was adjusted", 0x80: "invalid"}
+STATES = ("intermediate", "off", "on", "indeterminate")
 
 
-def told(text):
-    print(datetime.now().strftime("%H:%M:%S"), text, flush=True)
+def tell(text):
+    print(f"{datetime.now(timezone.utc):%H:%M:%S}Z {text}", flush=True)
 
 
-def quality(octet):
-    return [name for bit, name in QUALITIES.items() if octet & bit]
+def named(bits, names):
+    return [name for bit, name in names.items() if bits & bit]
 
 
-def single(element):
-    return "on" if element[0] & 1 else "off", quality(element[0])
+# Each reads an information element (7.2.6): its value in words, and what is wrong with its quality.
 
 
-def double(element):
-    return DOUBLE[element[0] & 3], quality(element[0])
+def single_point(element):
+    return "on" if element[0] & 1 else "off", named(element[0], QUALITIES)
 
 
-def bits(element):
-    return f"bits {struct.unpack_from('<I', element)[0]:032b}", quality(element[4])
+def double_point(element):
+    return STATES[element[0] & 3], named(element[0], QUALITIES)
 
 
-def scaled(element):
-    overflow = ["overflow"] if element[2] & 1 else []
-    return str(struct.unpack_from("<h", element)[0]), overflow + quality(element[2])
+def bit_string(element):
+    return element[3::-1].hex(), named(element[4], {1: "overflow", **QUALITIES})
 
 
-def total(element):
-    count, notes = struct.unpack_from("<iB", element)
-    return str(count), [name for bit, name in ((0x20, "carry"), (0x40, "adjusted"), (0x80, "invalid")) if notes & bit]
+def scaled_value(element):
+    return str(struct.unpack_from("<h", element)[0]), named(element[2], {1: "overflow", **QUALITIES})
 
 
-# Each type of process information: its name, the octets of an element, and how it is read; with time three to seven more.
-TYPES = {1: ("single point", 1, single), 3: ("double point", 1, double), 7: ("bit string", 5, bits),
-         11: ("scaled value", 3, scaled), 15: ("integrated total", 5, total)}
-WITH_TIME = {30: 1, 31: 3, 33: 7, 35: 11, 37: 15}
+def integrated_total(element):
+    return str(struct.unpack_from("<i", element)[0]), named(element[4], NOTES)
 
 
-def moment(octets):
+# Types of process information (7.3.1): the octets of an element, what reads it, whether seven octets of time follow.
+TYPES = {1: (1, single_point, False), 3: (1, double_point, False), 7: (5, bit_string, False),
+         11: (3, scaled_value, False), 15: (5, integrated_total, False), 30: (1, single_point, True),
+         31: (1, double_point, True), 33: (5, bit_string, True), 35: (3, scaled_value, True),
+         37: (5, integrated_total, True)}
+
+
+def time_tag(octets):
     """A time of seven octets, CP56Time2a (7.2.6.18)."""
     milliseconds, minute, hour, day, month, year = struct.unpack("<HBBBBB", octets)
-    clock = f"{hour & 31:02}:{minute & 63:02}:{milliseconds / 1000:06.3f}"
-    doubt = " (in doubt)" if minute & 0x80 else ""
-    return f"at 20{year & 127:02}-{month & 15:02}-{day & 31:02} {clock} UTC{doubt}"
+    clock = f"{hour & 31:02}:{minute & 63:02}:{milliseconds // 1000:02}.{milliseconds % 1000:03}"
+    return f"20{year & 127:02}-{month & 15:02}-{day & 31:02} {clock}" + (" (in doubt)" if minute & 0x80 else "")
 
 
-def explain(asdu):
-    """Prints an ASDU: a line for each object."""
-    kind, qualifier, cause, _, common = struct.unpack_from("<BBBBH", asdu)
+def tell_asdu(asdu):
+    """Prints a line for each information object of an ASDU, or what the ASDU says of a command."""
+    kind, qualifier, cause, _, station = struct.unpack_from("<BBBBH", asdu)
     why = CAUSES.get(cause & 63, f"cause {cause & 63}") + (", negative" if cause & 64 else "")
-    plain = WITH_TIME.get(kind, kind)
-    if plain not in TYPES:
-        told(f"{'interrogation' if kind == 100 else f'type {kind}'}: {why}")
+    if kind not in TYPES:
+        tell(f"{COMMANDS.get(kind, f'type {kind}')} of station {station}: {why}")
         return
-    name, size, read = TYPES[plain]
-    size += 7 if kind in WITH_TIME else 0
-    rest = asdu[6:]
-    for place in range(qualifier & 127):
-        if place == 0 or not qualifier & 128:
+    size, read, has_time = TYPES[kind]
+    name, rest, address = read.__name__.replace("_", " "), asdu[6:], None
+    for _ in range(qualifier & 127):
+        # With SQ the first object alone has an address, and those behind it follow on (7.2.2).
+        if address is None or not qualifier & 128:
             address, rest = int.from_bytes(rest[:3], "little"), rest[3:]
-        value, doubts = read(rest)
-        when = " " + moment(rest[size - 7 : size]) if kind in WITH_TIME else ""
-        told(f"{name} {address} of station {common}: {value}{when} ({', '.join([why, *doubts])})")
-        rest, address = rest[size:], address + 1
+        else:
+            address += 1
+        value, doubts = read(rest[:size])
+        tag = [time_tag(rest[size : size + 7])] if has_time else []
+        tell(f"{address:8}  {name:16}  {value:>8}  {', '.join([why, *doubts, *tag])}")
+        rest = rest[size + 7 * has_time :]
 
 
-def taken(connection, count):
-    octets = b""
-    while len(octets) < count:
-        piece = connection.recv(count - len(octets))
-        if not piece:
-            raise EOFError
-        octets += piece
-    return octets
+class Connection:
+    """A connection to a station: APDUs (IEC 60870-5-104, clause 5), with the numbers of those sent and received."""
 
+    def __init__(self, connection):
+        self.connection, self.sent, self.received = connection, 0, 0
 
-def control(function):
-    return bytes([0x68, 4, function, 0, 0, 0])
+    def take(self, count):
+        octets = b""
+        while len(octets) < count:
+            piece = self.connection.recv(count - len(octets))
+            if not piece:
+                raise EOFError
+            octets += piece
+        return octets
 
+    def send(self, control, asdu=b""):
+        self.connection.sendall(bytes([0x68, 4 + len(asdu)]) + control + asdu)
 
-def talk(connection):
-    """Starts data transfer, interrogates, and prints what comes until the station closes the connection."""
-    got = 0
-    connection.sendall(control(START))
-    while True:
-        length = taken(connection, 2)[1]
-        apdu = taken(connection, length)
-        if apdu[0] == START_CON:
-            told("data transfer is started; the station is interrogated")
-            connection.sendall(bytes([0x68, 4 + len(INTERROGATION), 0, 0, 0, 0]) + INTERROGATION)
-        elif apdu[0] == TEST:
-            connection.sendall(control(TEST_CON))
-        elif apdu[0] & 1 == 0:
-            got = (got + 1) % 32768
-            explain(apdu[4:])
-            # An S format acknowledges it. A busy centre would do so for up to w of them at once, or after t2.
-            connection.sendall(bytes([0x68, 4, 1, 0]) + struct.pack("<H", got * 2))
+    def send_function(self, function):
+        self.send(bytes([function, 0, 0, 0]))
+
+    def activate(self, kind):
+        """Asks for all that the station has of a kind: C_IC_NA_1 or C_CI_NA_1 (7.3.4)."""
+        asdu = struct.pack("<BBBBH4B", kind, 1, ACTIVATION, 0, ALL_STATIONS, 0, 0, 0, WHOLE[kind])
+        self.send(struct.pack("<HH", self.sent * 2, self.received * 2), asdu)
+        self.sent = (self.sent + 1) % 32768
+
+    def run(self):
+        """Prints what comes until the station ends the connection."""
+        self.send_function(STARTDT)
+        while True:
+            start, length = self.take(2)
+            if start != 0x68 or length < 4:
+                tell("this isn't IEC 60870-5-104, and the connection is ended")
+                return
+            control, asdu = self.take(4), self.take(length - 4)
+            if control[0] == STARTDT_CON:
+                tell("data transfer is started (STARTDT)")
+                self.activate(INTERROGATION)
+            elif control[0] == TESTFR:
+                self.send_function(TESTFR_CON)
+            elif control[0] & 1 == 0:
+                self.received = (self.received + 1) % 32768
+                tell_asdu(asdu)
+                # An S format acknowledges it. A busy centre would do so for up to w of them at once, or after t2.
+                self.send(struct.pack("<HH", 1, self.received * 2))
+                if asdu[0] == INTERROGATION and asdu[2] == TERMINATION:
+                    self.activate(COUNTERS)
 
 
 def main():
-    host, port = (sys.argv[1] if len(sys.argv) > 1 else "127.0.0.1:2404").rsplit(":", 1)
-    with socket.create_connection((host, int(port))) as connection:
-        told(f"connected to {host}:{port}")
-        with suppress(EOFError, ConnectionError):
-            talk(connection)
-    told("the station has closed the connection")
+    parser = argparse.ArgumentParser(description=__doc__, formatter_class=argparse.RawDescriptionHelpFormatter)
+    parser.add_argument("station", nargs="?", default="127.0.0.1:2404", metavar="HOST:PORT",
+                        help="where the station listens; 127.0.0.1:2404 by default")
+    place = parser.parse_args().station
+    host, _, port = place.rpartition(":")
+    if not host or not port.isdecimal() or int(port) > 65535:
+        parser.error(f"{place} is no HOST:PORT")
+    try:
+        connection = socket.create_connection((host.strip("[]"), int(port)), timeout=5)
+    except ConnectionRefusedError:
+        sys.exit(f"centre.py: nobody listens on {place}")
+    except OSError as why:
+        sys.exit(f"centre.py: {place} can't be reached: {why.strerror or why}")
+    with connection, suppress(EOFError, ConnectionError):
+        connection.settimeout(None)
+        tell(f"connected to {place}")
+        Connection(connection).run()
+    tell("the station has ended the connection")
 
 
 if __name__ == "__main__":

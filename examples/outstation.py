@@ -1,70 +1,124 @@
 #!/usr/bin/env python3
-"""A DNP3 outstation (IEEE Std 1815) to try the gateway with: a breaker that opens and closes, a current and a counter.
+"""A DNP3 outstation (IEEE Std 1815-2012) to try the gateway with: a breaker that closes and opens.
 
-    examples/outstation.py [PORT]
-
-It listens on 127.0.0.1, for one master at a time, and prints what the master asks for and what it is told. Its points are
-those of examples/first.toml: binary input 5 is the breaker, analog input 0 the current in amperes, counter 0 how often the
-breaker has moved. It answers reads of all classes, and reports each move as an event, until that is confirmed.
+Its points are those of examples/first.toml: binary input 5 is the breaker (1 is closed), analog input 0 the current in
+amperes, counter 0 how often the breaker has moved. The breaker moves every five seconds once a master has connected;
+each move is an event of class 1 of all three points, which is kept until the master confirms it. The outstation
+listens on 127.0.0.1, for one master at a time, and prints what the master asks for; polls that find no event aren't
+printed. Times are in UTC. Ctrl-C ends it.
 """
+import argparse
+import errno
 import socket
 import struct
 import sys
 import threading
 import time
 from contextlib import suppress
-from datetime import datetime
+from datetime import datetime, timezone
 
-ADDRESS, MASTER = 1, 1024
-# How many seconds the breaker rests, and how many events are kept.
-REST, ROOM = 5, 100
-# Functions of requests (4.4), and those that get an answer without objects.
-CONFIRM, READ, WRITE, ENABLE, DISABLE, RECORD_TIME = 0, 1, 2, 20, 21, 24
-NAMES = {READ: "read", WRITE: "write", ENABLE: "enable unsolicited responses", DISABLE: "disable unsolicited responses",
-         RECORD_TIME: "record the current time"}
-# What a read asks for: all points (class 0: group 60, variation 1), and events of class 1 (variation 2).
-POINTS, EVENTS = bytes([60, 1, 6]), bytes([60, 2, 6])
-# Internal indications (4.2.6): events of class 1 wait, the outstation has restarted, a function isn't supported.
-WAITING, RESTART, UNSUPPORTED = 0x0002, 0x0080, 0x0100
+# The link address; seconds from a move to the next; how many moves are kept, which fit into one fragment.
+ADDRESS, REST, ROOM = 1, 5, 40
+# Function codes (4.4).
+CONFIRM, READ, WRITE, RESPONSE = 0, 1, 2, 129
+# Object headers of reads: events of class 1 and all points (class 0), group 60; the front of a write of IIN, group 80.
+CLASS_1, CLASS_0, INDICATIONS = bytes([60, 2, 6]), bytes([60, 1, 6]), bytes([80, 1])
+# Each point's object header as a static value and as an event (Annex A): values with flags, events with time too.
+POINTS = (
+    (bytes([1, 2, 0, 5, 5]), bytes([2, 2, 0x17, 1, 5])),
+    (bytes([30, 2, 0, 0, 0]), bytes([32, 4, 0x17, 1, 0])),
+    (bytes([20, 1, 0, 0, 0]), bytes([22, 5, 0x17, 1, 0])),
+)
+# Flags of a point.
+ONLINE, STATE = 0x01, 0x80
+# Internal indications IIN1.1, IIN1.7, IIN2.0, IIN2.1 and IIN2.3 (4.2.2.6), IIN1 first.
+WAITING, RESTARTED, NO_FUNCTION, NO_OBJECT, OVERFLOW = 0x0002, 0x0080, 0x0100, 0x0200, 0x0800
 
 
-def told(text):
-    print(datetime.now().strftime("%H:%M:%S"), text, flush=True)
+def tell(text):
+    print(f"{datetime.now(timezone.utc):%H:%M:%S}Z {text}", flush=True)
 
 
 class Breaker:
-    """The points and the events that weren't confirmed, oldest first."""
+    """The points, and the events that no master has confirmed, oldest first."""
 
     def __init__(self):
         self.is_closed, self.moves, self.events = False, 0, []
-        self.has_restarted, self.lock = True, threading.Lock()
+        self.has_restarted, self.has_overflowed = True, False
+        self.lock, self.begun = threading.Lock(), threading.Event()
+        # The events of the last response, and the control octet of the confirmation that it asks for.
+        self.reported, self.awaited = [], None
+
+    def values(self):
+        """The flags and value of each point, in the order of POINTS."""
+        binary = bytes([ONLINE | (STATE if self.is_closed else 0)])
+        current = 312 if self.is_closed else 0
+        return binary, struct.pack("<Bh", ONLINE, current), struct.pack("<BI", ONLINE, self.moves)
+
+    def move(self):
+        with self.lock:
+            self.is_closed, self.moves = not self.is_closed, self.moves + 1
+            # Milliseconds since 1970 in UTC, in 48 bits.
+            moment = int(time.time() * 1000).to_bytes(6, "little")
+            event = b"".join(head + value + moment for (_, head), value in zip(POINTS, self.values()))
+            self.has_overflowed = self.has_overflowed or len(self.events) == ROOM
+            self.events = [*self.events, event][-ROOM:]
+            tell(f"the breaker {'closes' if self.is_closed else 'opens'}")
 
     def move_on(self):
+        self.begun.wait()
         while True:
             time.sleep(REST)
-            with self.lock:
-                self.is_closed = not self.is_closed
-                self.moves += 1
-                # Group 2 variation 2: flags and the milliseconds since 1970 in UTC.
-                at = int(time.time() * 1000)
-                self.events = [*self.events, bytes([5, self.flags()]) + at.to_bytes(6, "little")][-ROOM:]
-            told(f"the breaker {'closes' if self.is_closed else 'opens'}")
+            self.move()
 
-    def flags(self):
-        return 0x81 if self.is_closed else 0x01
+    def answer(self, request):
+        """The response to a request (clause 4), or nothing for a confirmation."""
+        control, function, objects = request[0], request[1], request[2:]
+        with self.lock:
+            if function == CONFIRM:
+                self.confirm(control)
+                return b""
+            self.reported, points, indications = [], [], 0
+            if function == READ:
+                points = self.read(objects)
+            elif function == WRITE and objects.startswith(INDICATIONS):
+                self.has_restarted = False
+                tell("the master clears the indication of a restart (IIN1.7)")
+            else:
+                indications = NO_OBJECT if function == WRITE else NO_FUNCTION
+                tell(f"a request with function {function} isn't supported")
+            indications |= RESTARTED if self.has_restarted else 0
+            indications |= OVERFLOW if self.has_overflowed else 0
+            indications |= WAITING if len(self.events) > len(self.reported) else 0
+            # FIR, FIN and the sequence number of the request; CON where events are to be confirmed (4.2.2.4).
+            control = 0xC0 | control & 0x0F
+            self.awaited = control if self.reported else None
+            head = struct.pack("<BBH", control | (0x20 if self.reported else 0), RESPONSE, indications)
+            return head + b"".join(self.reported + points)
 
-    def indications(self):
-        return (WAITING if self.events else 0) | (RESTART if self.has_restarted else 0)
+    def read(self, objects):
+        """The points that a read asks for; the events that it asks for are reported."""
+        points = []
+        if CLASS_1 in objects:
+            self.reported = self.events
+        if CLASS_0 in objects:
+            points = [head + value for (head, _), value in zip(POINTS, self.values())]
+        sent = [f"{len(points)} points"] if points else []
+        if self.reported:
+            sent.append(f"{len(self.reported) * len(POINTS)} events")
+        if sent:
+            tell(f"{'integrity' if points else 'event'} poll: {' and '.join(sent)} sent")
+        return points
 
-    def points(self):
-        """Binary input 5, analog input 0 and counter 0, each with its flags: groups 1, 30 and 20."""
-        binary = bytes([1, 2, 0, 5, 5, self.flags()])
-        analog = bytes([30, 2, 0, 0, 0, 1]) + struct.pack("<h", 312 if self.is_closed else 0)
-        return binary + analog + bytes([20, 1, 0, 0, 0, 1]) + struct.pack("<I", self.moves)
+    def confirm(self, control):
+        if control == self.awaited:
+            self.events = [event for event in self.events if event not in self.reported]
+            self.has_overflowed, self.awaited = False, None
+            tell("the master confirms the events")
 
 
 def crc(octets):
-    """The CRC of a block (9.2.4.3)."""
+    """The CRC of a block (clause 9)."""
     register = 0
     for octet in octets:
         register ^= octet
@@ -73,83 +127,85 @@ def crc(octets):
     return struct.pack("<H", register ^ 0xFFFF)
 
 
-def frame(user):
-    """A frame with user data that wants no confirmation."""
-    header = struct.pack("<BBBBHH", 0x05, 0x64, 5 + len(user), 0x44, MASTER, ADDRESS)
-    blocks = [header, *(user[at : at + 16] for at in range(0, len(user), 16))]
-    return b"".join(block + crc(block) for block in blocks)
+class Link:
+    """The connection to a master: the link layer (clause 9) and the transport function (clause 8)."""
 
+    def __init__(self, connection):
+        self.connection, self.master, self.sequence = connection, 0, 0
 
-def taken(connection, count):
-    octets = b""
-    while len(octets) < count:
-        piece = connection.recv(count - len(octets))
-        if not piece:
-            raise EOFError
-        octets += piece
-    return octets
+    def take_block(self, size):
+        octets = b""
+        while len(octets) < size + 2:
+            piece = self.connection.recv(size + 2 - len(octets))
+            if not piece:
+                raise EOFError("the master ends the connection")
+            octets += piece
+        if crc(octets[:size]) != octets[size:]:
+            raise EOFError("a wrong CRC, or no DNP3: the connection is ended")
+        return octets[:size]
 
+    def take_fragment(self):
+        """The next request: what a master asks for fits into one segment and one frame."""
+        while True:
+            # Behind the two start octets: the length, the control octet, and both addresses.
+            length, control, destination, source = struct.unpack_from("<BBHH", self.take_block(8), 2)
+            user = b"".join(self.take_block(min(rest, 16)) for rest in range(length - 5, 0, -16))
+            if destination != ADDRESS:
+                tell(f"a frame for link address {destination} is ignored; this is outstation {ADDRESS}")
+            # PRM and UNCONFIRMED_USER_DATA, behind the transport octet a fragment with control and function.
+            elif control & 0x4F == 0x44 and len(user) > 2:
+                self.master = source
+                return user[1:]
 
-def fragment(connection):
-    """The next request: all that a master sends to this outstation is one frame."""
-    length = taken(connection, 10)[2] - 5
-    blocks = taken(connection, length + 2 * ((length + 15) // 16))
-    return b"".join(blocks[at : at + 18][:-2] for at in range(0, len(blocks), 18))[1:]
+    def send_fragment(self, fragment):
+        segments = [fragment[at : at + 249] for at in range(0, len(fragment), 249)]
+        for place, segment in enumerate(segments):
+            # FIR of the first segment, FIN of the last.
+            bits = (0x40 if place == 0 else 0) | (0x80 if place == len(segments) - 1 else 0)
+            self.send_frame(bytes([bits | self.sequence]) + segment)
+            self.sequence = (self.sequence + 1) % 64
 
-
-def answer(breaker, request, reported):
-    """The answer to a request, and the events that it reports; the request confirms those reported before."""
-    control, function, objects = request[0], request[1], request[2:]
-    with breaker.lock:
-        if function == CONFIRM:
-            breaker.events = [it for it in breaker.events if it not in reported]
-            return None, []
-        events, points, iin = [], b"", 0
-        if function == READ:
-            events = breaker.events[:] if EVENTS in objects else []
-            points = breaker.points() if POINTS in objects else b""
-        elif function == WRITE and objects[:1] == b"\x50":
-            breaker.has_restarted = False
-        elif function not in NAMES:
-            iin = UNSUPPORTED
-        front = bytes([2, 2, 0x17, len(events)]) + b"".join(events) if events else b""
-        # FIR and FIN, and CON where events are to be confirmed.
-        head = bytes([0xC0 | (0x20 if events else 0) | control & 0x0F, 0x81])
-        return head + struct.pack("<H", breaker.indications() | iin) + front + points, events
+    def send_frame(self, user):
+        header = struct.pack("<BBBBHH", 0x05, 0x64, 5 + len(user), 0x44, self.master, ADDRESS)
+        blocks = [header, *(user[at : at + 16] for at in range(0, len(user), 16))]
+        self.connection.sendall(b"".join(block + crc(block) for block in blocks))
 
 
 def serve(connection, breaker):
-    reported, number = [], 0
-    while True:
-        request = fragment(connection)
-        response, events = answer(breaker, request, reported)
-        if response is None:
-            told(f"the master confirms {len(reported)} event(s)")
-            reported = []
-            continue
-        reported = events
-        name = NAMES.get(request[1], f"function {request[1]}")
-        told(f"the master asks: {name}; {len(events)} event(s) and {len(response)} octets are sent")
-        # Longer answers than one segment of 249 octets are sent as several (8.2).
-        pieces = [response[at : at + 249] for at in range(0, len(response), 249)]
-        for place, piece in enumerate(pieces):
-            bits = (0x40 if place == 0 else 0) | (0x80 if place == len(pieces) - 1 else 0)
-            connection.sendall(frame(bytes([bits | number]) + piece))
-            number = (number + 1) % 64
+    link = Link(connection)
+    try:
+        while True:
+            response = breaker.answer(link.take_fragment())
+            if response:
+                link.send_fragment(response)
+    except EOFError as why:
+        tell(why)
+    except OSError as why:
+        tell(f"the connection is lost: {why.strerror}")
 
 
 def main():
-    port = int(sys.argv[1]) if len(sys.argv) > 1 else 20000
+    parser = argparse.ArgumentParser(description=__doc__, formatter_class=argparse.RawDescriptionHelpFormatter)
+    parser.add_argument("port", nargs="?", type=int, default=20000, help="where it listens; 20000 by default")
+    port = parser.parse_args().port
+    if port not in range(1, 65536):
+        parser.error(f"{port} is no port: 1 to 65535")
+    try:
+        listener = socket.create_server(("127.0.0.1", port))
+    except OSError as why:
+        is_taken = why.errno == errno.EADDRINUSE
+        sys.exit(f"outstation.py: 127.0.0.1:{port} "
+                 + ("is in use by another program" if is_taken else f"can't be listened on: {why.strerror}"))
     breaker = Breaker()
     threading.Thread(target=breaker.move_on, daemon=True).start()
-    with socket.create_server(("127.0.0.1", port)) as listener:
-        told(f"outstation {ADDRESS} listens on 127.0.0.1:{port}")
+    with listener:
+        tell(f"outstation {ADDRESS} listens on 127.0.0.1:{port}")
         while True:
-            connection, place = listener.accept()
-            told(f"a master connects from {place[0]}:{place[1]}")
-            with connection, suppress(EOFError, OSError):
+            connection, (host, its_port) = listener.accept()
+            tell(f"a master connects from {host}:{its_port}")
+            breaker.begun.set()
+            with connection:
                 serve(connection, breaker)
-            told("the master has left")
 
 
 if __name__ == "__main__":
