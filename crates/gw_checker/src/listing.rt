@@ -5,7 +5,7 @@ use gw_model::Kind;
 use std::io::{self, Write};
 
 /// Writes a line for each point and each control, in the order of the file, and how many there are.
-pub fn write_listing<W: Write>(settings: &Settings, writer: &mut W) -> io::Result<()> {
+pub(crate) fn write_listing<W: Write>(settings: &Settings, writer: &mut W) -> io::Result<()> {
     for row in settings.rows() {
         write_row(row, writer)?;
     }
@@ -66,7 +66,8 @@ fn control_word(operates: Operates) -> &'static str {
     }
 }
 
-fn mode_word(mode: Mode) -> &'static str {
+/// How an outstation is asked, as in the settings.
+pub(crate) fn mode_word(mode: Mode) -> &'static str {
     match mode {
         Mode::Direct => "direct",
         Mode::Sbo => "sbo",
