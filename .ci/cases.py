@@ -12,14 +12,17 @@ ESCAPES = {b"t": b"\t", b"r": b"\r", b"0": b"\0", b"\\": b"\\", b"c": b""}
 
 @dataclass
 class Case:
-    """Words of a command line, what is given on standard input, and what is wanted of both outputs and the status."""
+    """Words of a command line, what is given on standard input, and what is wanted of both outputs and the status.
+
+    Standard error is compared only where a line tells of it.
+    """
 
     title: str
     place: str
     words: list = field(default_factory=list)
     given: bytearray = field(default_factory=bytearray)
     wanted: bytearray = field(default_factory=bytearray)
-    complaint: bytearray = field(default_factory=bytearray)
+    complaint: bytes | None = None
     status: int = 0
     each: list = field(default_factory=list)
 
@@ -41,7 +44,7 @@ def add(case, line, where):
     elif line == b">" or line.startswith(b"> "):
         case.given += octets_of(line[2:])
     elif line.startswith(b"! "):
-        case.complaint += octets_of(line[2:])
+        case.complaint = (case.complaint or b"") + octets_of(line[2:])
     elif match := re.fullmatch(rb"status (\d+)", line):
         case.status = int(match[1])
     else:

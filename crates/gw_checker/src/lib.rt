@@ -1,12 +1,18 @@
-//! `gateway check`: what a settings file means, or what is wrong with it.
+//! `gateway check`: what a settings file means, or what is wrong with it, and what reads like a slip; the
+//! interoperability list and the signals of its station.
 #![tactic(auto)]
 
 mod allowed;
-mod check;
 mod listing;
+mod profile;
 mod reading;
+mod report;
 mod sentence;
+mod warning;
+mod warnings;
 
-pub use check::check_settings;
 pub use reading::{LONGEST_FILE, Unusable, read_file, read_settings};
+pub use report::Report;
 pub use sentence::explain;
+pub use warning::Warning;
+pub use warnings::{warnings_of, write_warnings};

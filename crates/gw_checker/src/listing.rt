@@ -66,7 +66,8 @@ fn control_word(operates: Operates) -> &'static str {
     }
 }
 
-fn mode_word(mode: Mode) -> &'static str {
+/// How an outstation is asked, as in the settings.
+pub(crate) fn mode_word(mode: Mode) -> &'static str {
     match mode {
         Mode::Direct => "direct",
         Mode::Sbo => "sbo",

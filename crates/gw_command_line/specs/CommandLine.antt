@@ -43,9 +43,9 @@ flag_rule name = record (new_rule name) { long = Some name; action = Some SetTru
 abbrev pub file_app : Text → App
 file_app name = with_rule (new_app name) file_rule
 
--- `gateway check FILE`
+-- `gateway check FILE [--profile]`
 abbrev pub check : App
-check = file_app (codes "check")
+check = with_rule (file_app (codes "check")) (flag_rule (codes "profile"))
 
 -- `gateway translate [--settings FILE]`
 abbrev pub translate : App
@@ -97,15 +97,15 @@ options_of options = record {
   record_size = options.record_size;
 }
 
--- what is asked for, with the words that name files and addresses
+-- what is asked for, with the words that name files and addresses, and whether the profile is
 pub data Request : Type 0 where
-  to_check : Text → Request
+  to_check : Text → Bool → Request
   to_translate : Option Text → Request
   to_replay : Text → Request
   to_run : Text → Option ℕ → Options → Request
 
 abbrev pub request_of : Asked → Request
-request_of (Check file) = to_check file.now
+request_of (Check file profile) = to_check file.now profile
 request_of (Translate settings) = to_translate (option_map (λ file. file.now) settings)
 request_of (Replay file) = to_replay file.now
 request_of (Run file sessions options) = to_run file.now sessions (options_of options)
@@ -153,7 +153,7 @@ run_in rows = to_run (file_in rows) (number_in (codes "sessions") rows) (options
 -- what a subcommand asks for, by its name and what was found for its arguments
 abbrev pub asked_as : Text → List Row → Option Request
 asked_as name rows =
-    if bytes_eq name (codes "check") then Some (to_check (file_in rows))
+    if bytes_eq name (codes "check") then Some (to_check (file_in rows) (is_used (codes "profile") rows))
     else if bytes_eq name (codes "translate") then Some (to_translate (first_of (codes "settings") rows))
     else if bytes_eq name (codes "replay") then Some (to_replay (file_in rows))
     else if bytes_eq name (codes "run") then Some (run_in rows)

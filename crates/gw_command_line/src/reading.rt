@@ -7,7 +7,7 @@ ghost use Rattle.std.specs.Prelude.{◌≡◌, [], IfErr, IfOk, Some, false, map
 ghost use Rattle.clap.specs.Words.{app_of, fault_of, first_of, found_of, rows_of, rule_of, subcommand_rows_of};
 ghost use Rattle.clap.specs.Walk.{texts};
 ghost use Rattle.clap.specs.declared.builder.command.Command.TheViews.{out-Command as fields_of};
-ghost use Rattle.gw_command_line.specs.CommandLine.{IsRefusal, alone, as_fault, asked_of, file_app, file_in, file_rule, flag_rule, gateway, is_used, number_from, number_in, number_of, number_rule, options_in, options_of, request_of, run, run_in, serve, spelled, text_rule, texts_in, texts_rule, translate};
+ghost use Rattle.gw_command_line.specs.CommandLine.{IsRefusal, alone, as_fault, asked_of, check, file_app, file_in, file_rule, flag_rule, gateway, is_used, number_from, number_in, number_of, number_rule, options_in, options_of, request_of, run, run_in, serve, spelled, text_rule, texts_in, texts_rule, translate};
 ghost use Rattle.gw_command_line.specs.declared.reading.LineFault.TheVariants.{Memory};
 
 use clap::error::ErrorKind;
@@ -26,9 +26,11 @@ const DEFAULT_RECORD_SIZE: u32 = 256;
 /// What a command line asks for.
 #[derive(Debug, Drop)]
 pub enum Asked<'a> {
-    /// `gateway check FILE`: tells what a settings file means, or what is wrong with it.
+    /// `gateway check FILE [--profile]`: tells what a settings file means, or what is wrong with it; with `--profile`
+    /// as the interoperability list and the signals of the station.
     Check {
         file: &'a str,
+        profile: bool,
     },
     /// `gateway translate [--settings FILE]`: reads DNP3 fragments in hexadecimal, one a line, and
     /// writes what they bring as ASDUs.
@@ -123,11 +125,7 @@ fn gateway_command<'a>(alloc: Global) -> Result<Command<'a>, AllocError>
     ensures { IfOk result (λ command. app_of command ≡ gateway) }
 {
     gateway_alone(alloc)
-        .subcommand(file_command(
-            alloc,
-            "check",
-            "Tells what a settings file means, or what is wrong with it",
-        )?)?
+        .subcommand(check_command(alloc)?)?
         .subcommand(translate_command(alloc)?)?
         .subcommand(file_command(
             alloc,
@@ -145,6 +143,23 @@ fn file_command<'a>(alloc: Global, name: &'a str, about: &'a str) -> Result<Comm
     Command::new(alloc, name)
         .about(about)
         .arg(file_argument(alloc))
+}
+
+/// `gateway check`.
+fn check_command<'a>(alloc: Global) -> Result<Command<'a>, AllocError>
+    ensures app { IfOk result (λ command. app_of command ≡ check) }
+    ensures local { IfOk result (λ command. (fields_of command).has_globals ≡ false) }
+{
+    file_command(
+        alloc,
+        "check",
+        "Tells what a settings file means, or what is wrong with it",
+    )?
+    .arg(flag_argument(
+        alloc,
+        "profile",
+        "Writes the interoperability list of the station and its signals instead",
+    ))
 }
 
 /// `gateway translate`.
@@ -363,6 +378,7 @@ fn asked_by<'a>(alloc: Global, matches: &ArgMatches<'a>) -> Result<Option<Asked<
     match name {
         "check" => Ok(Some(Asked::Check {
             file: file_named(found),
+            profile: flag_named(found, "profile"),
         })),
         "translate" => Ok(Some(Asked::Translate {
             settings: text_named(found, "settings"),

@@ -5,7 +5,7 @@ mod recording;
 mod running;
 
 use crate::running::run;
-use gw_checker::{Unusable, check_settings, explain, read_file, read_settings};
+use gw_checker::{Report, Unusable, explain, read_file, read_settings, write_warnings};
 use gw_command_line::{Asked, LineFault, command_line as read_words};
 use gw_map::{DEFAULT_SETTINGS, Settings};
 use gw_replay::replay;
@@ -49,7 +49,14 @@ fn program<
 /// Does what a command line asks for; gives the status.
 fn answer<H: Host>(rt: &HostRuntime, host: &H, asked: Asked) -> io::Result<u8> {
     match asked {
-        Asked::Check { file } => check(rt, file),
+        Asked::Check { file, profile } => {
+            let report = if profile {
+                Report::Profile
+            } else {
+                Report::Listing
+            };
+            check(rt, file, report)
+        }
         Asked::Translate { settings } => match settings_given(rt, settings) {
             Ok(settings) => translate_input(rt, settings),
             Err(why) => refuse(rt, &why),
@@ -126,21 +133,38 @@ fn refuse(rt: &HostRuntime, why: &Unusable) -> io::Result<u8> {
 }
 
 /// `gateway check`: what a settings file means, or what is wrong with it; gives the status.
-fn check(rt: &HostRuntime, path: &str) -> io::Result<u8> {
+fn check(rt: &HostRuntime, path: &str, report: Report) -> io::Result<u8> {
     match read_file(rt.alloc(), rt, path) {
-        Ok(octets) => check_octets(rt, octets.as_slice()),
+        Ok(octets) => check_octets(rt, octets.as_slice(), report),
         Err(why) => refuse(rt, &why),
     }
 }
 
 /// What the octets of a settings file mean, or what is wrong with them; gives the status.
-fn check_octets(rt: &HostRuntime, octets: &[u8]) -> io::Result<u8> {
-    let writer = BufWriter::new(rt.alloc(), io::writer(rt))?;
-    if check_settings(rt.alloc(), octets, writer) {
-        return Ok(0);
+fn check_octets(rt: &HostRuntime, octets: &[u8], report: Report) -> io::Result<u8> {
+    match read_settings(rt.alloc(), octets) {
+        Ok(settings) => write_report(rt, &settings, report),
+        Err(why) => refuse_octets(rt, octets, &why),
     }
+}
+
+/// Writes what settings mean, and on standard error what reads like a slip in them; gives the status.
+fn write_report(rt: &HostRuntime, settings: &Settings, report: Report) -> io::Result<u8> {
+    let mut writer = BufWriter::new(rt.alloc(), io::writer(rt))?;
+    report.write(settings, &mut writer)?;
+    writer.flush()?;
+    let mut warnings = Vec::new(rt.alloc());
+    write_warnings(rt.alloc(), settings, &mut warnings)?;
+    // The settings are right, also where nobody can be warned.
+    let _ = rt.stderr().write_all(warnings.as_slice());
+    Ok(0)
+}
+
+/// Writes why the octets of a settings file can't be used, and a sentence on it on standard error; gives the status.
+fn refuse_octets(rt: &HostRuntime, octets: &[u8], why: &Unusable) -> io::Result<u8> {
+    let status = refuse(rt, why)?;
     let mut sentence = Vec::new(rt.alloc());
     explain(rt.alloc(), octets, &mut sentence)?;
     rt.stderr().write_all(sentence.as_slice())?;
-    Ok(REFUSED)
+    Ok(status)
 }

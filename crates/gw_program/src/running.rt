@@ -3,10 +3,10 @@
 use crate::recording::{Recording, tell_end};
 use crate::{USAGE, refuse, refuse_for};
 use gw_capture::Capture;
-use gw_checker::{Unusable, read_file, read_settings};
+use gw_checker::{Unusable, Warning, read_file, read_settings, warnings_of};
 use gw_command_line::RunOptions;
 use gw_journal::{Doubt, Event, Journal};
-use gw_map::{Outstation, Settings};
+use gw_map::Settings;
 use gw_model::Memory;
 use gw_server::{
     Clock, Closed, Gate, Host, Network, OpenGate, Options, SystemClock, journal_of, open, serve_as,
@@ -142,7 +142,7 @@ fn serve_on<H: Host>(
     let clock = SystemClock::new(host);
     let wall = clock.wall();
     journal.tell(host, wall, started);
-    tell_doubts(host, &journal, wall, &settings);
+    tell_doubts(rt.alloc(), host, &journal, wall, &settings)?;
     let site = Site {
         alloc: rt.alloc(),
         host,
@@ -280,43 +280,32 @@ fn started(
 }
 
 /// Tells what reads like a slip in the settings, or isn't served yet.
-fn tell_doubts<W: Wait>(rt: &W, journal: &Journal, wall: u64, settings: &Settings) {
+fn tell_doubts<W: Wait>(
+    alloc: Global,
+    rt: &W,
+    journal: &Journal,
+    wall: u64,
+    settings: &Settings,
+) -> Result<(), AllocError> {
     let controls = settings.controls().len();
     if controls > 0 {
         journal.tell(rt, wall, Event::Doubtful(Doubt::Controls(controls)));
     }
-    let outstations = settings.outstations();
-    for (position, outstation) in (0u8..).zip(outstations) {
-        if !has_port(outstation.connect.as_str()) {
-            let doubt = Doubt::ConnectWithoutPort {
-                outstation: position,
-            };
+    for warning in &warnings_of(alloc, settings)? {
+        if let Some(doubt) = doubt_of(*warning) {
             journal.tell(rt, wall, Event::Doubtful(doubt));
         }
-        if let Some(first) = first_like(outstations, outstation) {
-            if first < position {
-                let doubt = Doubt::SamePlace {
-                    first,
-                    second: position,
-                };
-                journal.tell(rt, wall, Event::Doubtful(doubt));
-            }
-        }
     }
+    Ok(())
 }
 
-/// The first outstation with the same address of connection and the same link address.
-fn first_like(outstations: &[Outstation], outstation: &Outstation) -> Option<u8> {
-    let position = outstations.iter().position(|other| {
-        other.address == outstation.address && other.connect.as_str() == outstation.connect.as_str()
-    })?;
-    u8::try_from(position).ok()
-}
-
-/// Whether a place ends with a colon and digits.
-fn has_port(place: &str) -> bool {
-    match place.rsplit_once(':') {
-        Some((_, port)) => port.parse::<u16>().is_ok(),
-        None => false,
+/// What is told of a warning when the gateway starts, if anything.
+fn doubt_of(warning: Warning) -> Option<Doubt> {
+    match warning {
+        Warning::ConnectWithoutPort { outstation, .. } => {
+            Some(Doubt::ConnectWithoutPort { outstation })
+        }
+        Warning::SamePlace { first, second } => Some(Doubt::SamePlace { first, second }),
+        _ => None,
     }
 }

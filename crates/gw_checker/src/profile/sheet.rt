@@ -1,0 +1,222 @@
+//! The interoperability list of IEC 60870-5-104, clause 9, in its order: `[x]` is used, `[ ]` isn't.
+
+use crate::profile::types::point_types;
+use gw_map::{Settings, Show, Station};
+use gw_text::Plain;
+use std::io::{self, Write};
+
+const DEVICE: &str = "Interoperability of the controlled station, IEC 60870-5-104, clause 9
+[x] is used with these settings, [ ] isn't
+
+9.1 System or device
+[ ] system definition
+[ ] controlling station definition (master)
+[x] controlled station definition (slave)
+
+9.2 Network configuration, 9.3 physical layer, 9.4 link layer
+[ ] serial lines of IEC 60870-5-101: not applicable
+
+9.5 Application layer
+[x] transmission mode 1: least significant octet first
+[ ] common address of ASDU: one octet
+";
+
+const ADDRESSES: &str = "[ ] information object address: one or two octets; structured
+[x] information object address: three octets, unstructured
+[ ] cause of transmission: one octet
+[x] cause of transmission: two octets, with originator address
+[x] length of APDU: 253 at most, in both directions
+";
+
+/// A way to show a point, at its place among the types.
+#[derive(Clone, Copy)]
+struct Listed {
+    show: Show,
+    /// The lines of the types behind it that no point has.
+    unused_behind: &'static str,
+}
+
+const WITHOUT_TIME: [Listed; 5] = [
+    Listed {
+        show: Show::Single,
+        unused_behind: "",
+    },
+    Listed {
+        show: Show::Double,
+        unused_behind: "[ ] 5 M_ST_NA_1 step position information\n",
+    },
+    Listed {
+        show: Show::Word,
+        unused_behind: "[ ] 9 M_ME_NA_1 measured value, normalized\n",
+    },
+    Listed {
+        show: Show::Scaled,
+        unused_behind: "[ ] 13 M_ME_NC_1 measured value, short floating point\n",
+    },
+    Listed {
+        show: Show::Total,
+        unused_behind: "[ ] 20 M_PS_NA_1 packed single-point information with status change detection
+[ ] 21 M_ME_ND_1 measured value, normalized, without quality
+[ ] 2, 4, 6, 8, 10, 12, 14, 16 to 19: with CP24Time2a
+",
+    },
+];
+
+const WITH_TIME: [Listed; 5] = [
+    Listed {
+        show: Show::Single,
+        unused_behind: "",
+    },
+    Listed {
+        show: Show::Double,
+        unused_behind: "[ ] 32 M_ST_TB_1 step position information, with CP56Time2a\n",
+    },
+    Listed {
+        show: Show::Word,
+        unused_behind: "[ ] 34 M_ME_TD_1 measured value, normalized, with CP56Time2a\n",
+    },
+    Listed {
+        show: Show::Scaled,
+        unused_behind: "[ ] 36 M_ME_TF_1 measured value, short floating point, with CP56Time2a\n",
+    },
+    Listed {
+        show: Show::Total,
+        unused_behind: "[ ] 38 M_EP_TD_1, 39 M_EP_TE_1, 40 M_EP_TF_1 protection equipment, with CP56Time2a\n",
+    },
+];
+
+const COMMANDS: &str = "
+Process information in control direction
+[ ] 45 C_SC_NA_1 single command: judged, and confirmed negatively
+[ ] 46 C_DC_NA_1 double command: judged, and confirmed negatively
+[ ] 47 C_RC_NA_1 regulating step command
+[ ] 48 C_SE_NA_1 set-point command, normalized
+[ ] 49 C_SE_NB_1 set-point command, scaled: judged, and confirmed negatively
+[ ] 50 C_SE_NC_1 set-point command, short floating point
+[ ] 51 C_BO_NA_1 bitstring of 32 bits
+[ ] 58 to 64: these seven with CP56Time2a
+";
+
+const SYSTEM: &str = "
+System information, parameters and file transfer
+[ ] 70 M_EI_NA_1 end of initialization
+[x] 100 C_IC_NA_1 interrogation command: QOI 20 (station)
+[x] 101 C_CI_NA_1 counter interrogation command: QCC 5 (request general, no freeze)
+[x] 102 C_RD_NA_1 read command
+[ ] 103 C_CS_NA_1 clock synchronization command
+[ ] 104 C_TS_NA_1, 107 C_TS_TA_1 test command
+[ ] 105 C_RP_NA_1 reset process command
+[ ] 106 C_CD_NA_1 delay acquisition command
+[ ] 110 to 113: parameters; 120 to 127: file transfer
+";
+
+const CAUSES: &str = "
+Type identification and cause of transmission
+1, 3, 7, 11: 3 spontaneous, 5 requested, 20 interrogated by station interrogation
+15: 3 spontaneous, 37 requested by general counter request
+30, 31, 33, 35, 37: 3 spontaneous
+45, 46, 49: 6 and 8 are taken; 7, 9, 45, 46 and 47 are sent with P/N 1
+100, 101: 6 and 8 are taken; 7 and 10 are sent, and 7, 9, 45, 46 and 47 with P/N 1
+102: 5 is taken; 45, 46 and 47 are sent with P/N 1
+any other that a client sends: 44 is sent with P/N 1
+";
+
+const FUNCTIONS: &str = "
+9.6 Basic application functions
+[ ] station initialization: remote initialization
+[ ] cyclic data transmission
+[x] read procedure
+[x] spontaneous transmission
+[ ] double transmission; background scan; acquisition of transmission delay; test procedure
+[ ] parameter loading and activation; file transfer
+[x] station interrogation: global
+[ ] station interrogation: groups 1 to 16
+[ ] integrated totals: modes A, B, C and D; freeze, reset; groups 1 to 4
+[x] integrated totals: counter read, general request counter
+[ ] clock synchronization
+";
+
+const NETWORK: &str =
+    "[x] connections of clients at a time: 8, each with its own session, windows, timers and queue
+[ ] redundancy groups; serial X.21 interface; other selections from RFC 2200
+[ ] TLS (IEC 62351-3), secure authentication
+";
+
+/// Writes the list with the values of settings.
+pub(crate) fn write_sheet<W: Write>(settings: &Settings, writer: &mut W) -> io::Result<()> {
+    let station = settings.station();
+    let common_address = station.common_address;
+    writer.write_all(DEVICE.as_bytes())?;
+    writeln!(
+        writer,
+        "[x] common address of ASDU: two octets: {common_address}"
+    )?;
+    writer.write_all(ADDRESSES.as_bytes())?;
+    write_point_types(settings, writer)?;
+    for text in [COMMANDS, SYSTEM, CAUSES, FUNCTIONS] {
+        writer.write_all(text.as_bytes())?;
+    }
+    write_limits(station, writer)?;
+    write_network(station, writer)
+}
+
+/// Writes the types of process information in monitor direction, of which those are used that a point has.
+fn write_point_types<W: Write>(settings: &Settings, writer: &mut W) -> io::Result<()> {
+    writeln!(writer, "\nProcess information in monitor direction")?;
+    for listed in WITHOUT_TIME {
+        let mark = mark_of(settings, listed.show);
+        let types = point_types(listed.show);
+        let (untimed, about) = (types.untimed, types.about);
+        writeln!(writer, "[{mark}] {untimed} {about}")?;
+        writer.write_all(listed.unused_behind.as_bytes())?;
+    }
+    for listed in WITH_TIME {
+        let mark = mark_of(settings, listed.show);
+        let types = point_types(listed.show);
+        let (timed, about) = (types.timed, types.about);
+        writeln!(writer, "[{mark}] {timed} {about}, with CP56Time2a")?;
+        writer.write_all(listed.unused_behind.as_bytes())?;
+    }
+    Ok(())
+}
+
+/// What stands in the brackets at the types of a way to show a point.
+fn mark_of(settings: &Settings, show: Show) -> char {
+    if settings.rows().iter().any(|row| row.show == show) {
+        'x'
+    } else {
+        ' '
+    }
+}
+
+/// Writes the offset of the clocks, the time-outs and the windows.
+fn write_limits<W: Write>(station: &Station, writer: &mut W) -> io::Result<()> {
+    let offset = station.offset_minutes;
+    let (t1, t2, t3) = (station.t1_ms, station.t2_ms, station.t3_ms);
+    let (k, w) = (station.k, station.w);
+    writeln!(
+        writer,
+        "[x] time tags CP56Time2a: {offset} minutes ahead of UTC, the whole year round"
+    )?;
+    writeln!(writer, "[ ] command transmission")?;
+    writeln!(writer, "\nTime-outs and windows")?;
+    writeln!(writer, "[ ] t0: clients open the connections")?;
+    writeln!(writer, "[x] t1: {t1} ms (15 s in the standard)")?;
+    writeln!(writer, "[x] t2: {t2} ms (10 s in the standard)")?;
+    writeln!(writer, "[x] t3: {t3} ms (20 s in the standard)")?;
+    writeln!(writer, "[x] k: {k} (12 in the standard)")?;
+    writeln!(writer, "[x] w: {w} (8 in the standard)")
+}
+
+/// Writes where the station listens, and what it keeps for each client.
+fn write_network<W: Write>(station: &Station, writer: &mut W) -> io::Result<()> {
+    let listen = Plain(station.listen.as_str());
+    let queue = station.queue;
+    writeln!(writer, "\nPorts, redundancy and networks")?;
+    writeln!(
+        writer,
+        "[x] listening over TCP: {listen} (port 2404 in the standard)"
+    )?;
+    writeln!(writer, "[x] news kept for each client: {queue}")?;
+    writer.write_all(NETWORK.as_bytes())
+}
