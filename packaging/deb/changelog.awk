@@ -1,4 +1,5 @@
-# The items of one version of CHANGELOG.md as a Debian changelog has them: of at most 78 columns. Needs -v version=VERSION.
+# The items of one version of CHANGELOG.md as a Debian changelog has them, in at most 78 columns.
+# The version is given by -v version=VERSION.
 
 /^## / { inside = index($0, "## [" version "]") == 1 }
 !inside { next }
