@@ -65,9 +65,9 @@ abbrev pub run : App
 run =
     fold with_rule serve (text_rule (codes "status") ∷ text_rule (codes "record") ∷ number_rule (codes "record-size") ∷ [])
 
--- the program: a subcommand has to be named
+-- the program: a subcommand has to be named, and it has a version
 abbrev pub alone : App
-alone = on_top (λ top. record top { subcommand_required = true }) (new_app (codes "gateway"))
+alone = on_top (λ top. record top { subcommand_required = true; has_version = true }) (new_app (codes "gateway"))
 
 abbrev pub gateway : App
 gateway =

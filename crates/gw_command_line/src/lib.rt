@@ -3,4 +3,4 @@
 
 mod reading;
 
-pub use reading::{Asked, LineFault, RunOptions, command_line};
+pub use reading::{Asked, LineFault, RunOptions, VERSION, command_line};

@@ -17,6 +17,9 @@ use std::num::ParseIntError;
 
 pub mod examples;
 
+/// The gateway's version, as the file VERSION has it.
+pub const VERSION: &str = "0.1.0";
+
 /// The most that an option with a number may ask for: connections of control centres, or megabytes.
 const LARGEST_NUMBER: u32 = 1_000_000;
 
@@ -116,6 +119,7 @@ fn gateway_alone<'a>(alloc: Global) -> Command<'a>
     ensures { app_of result ≡ alone }
 {
     Command::new(alloc, "gateway")
+        .version(VERSION)
         .about("Carries points of DNP3 outstations to IEC 60870-5-104 clients")
         .subcommand_required(true)
 }

@@ -5,6 +5,7 @@ mod recording;
 mod running;
 
 use crate::running::run;
+use clap::error::ErrorKind;
 use gw_checker::{Report, Unusable, explain, read_file, read_settings, write_warnings};
 use gw_command_line::{Asked, LineFault, command_line as read_words};
 use gw_map::{DEFAULT_SETTINGS, Settings};
@@ -73,9 +74,13 @@ fn answer<H: Host>(rt: &HostRuntime, host: &H, asked: Asked) -> io::Result<u8> {
     }
 }
 
-/// Writes why a command line asks for nothing; gives the status.
+/// Writes the version where a command line asks for it, or why it asks for nothing; gives the status.
 fn tell(rt: &HostRuntime, fault: &LineFault) -> io::Result<u8> {
     match fault {
+        LineFault::Clap(error) if error.kind() == ErrorKind::DisplayVersion => {
+            print!(rt; "{error}")?;
+            Ok(0)
+        }
         LineFault::Clap(error) => {
             eprint!(rt; "{error}")?;
             Ok(USAGE)

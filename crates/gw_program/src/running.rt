@@ -4,7 +4,7 @@ use crate::recording::{Recording, tell_end};
 use crate::{USAGE, refuse, refuse_for};
 use gw_capture::Capture;
 use gw_checker::{Unusable, Warning, read_file, read_settings, warnings_of};
-use gw_command_line::RunOptions;
+use gw_command_line::{RunOptions, VERSION};
 use gw_journal::{Doubt, Event, Journal};
 use gw_map::Settings;
 use gw_model::Memory;
@@ -17,9 +17,6 @@ use std::fs::File;
 use std::net::TcpListener;
 use std::sync::Wait;
 use std::{env, io, thread};
-
-/// The gateway's version.
-const VERSION: &str = "0.1.0";
 
 /// Why nothing is served.
 #[derive(Drop)]
