@@ -59,54 +59,64 @@ pub enum Warning<'a> {
 
 impl<'a> fmt::Display for Warning<'a> {
     fn fmt<W: fmt::Write>(&self, f: &mut fmt::Formatter<W>) -> fmt::Result {
+        self.write_entry(f)?;
+        f.write_str(": ")?;
+        self.write_slip(f)
+    }
+}
+
+impl<'a> Warning<'a> {
+    /// Writes the section, and the position of the entry in it.
+    fn write_entry<W: fmt::Write>(&self, f: &mut fmt::Formatter<W>) -> fmt::Result {
+        match self {
+            Warning::ListenWithoutPort { .. }
+            | Warning::ListenEverywhere { .. }
+            | Warning::WideWindow { .. } => f.write_str("station"),
+            Warning::ConnectWithoutPort { outstation, .. }
+            | Warning::SlowPoll { outstation, .. }
+            | Warning::SamePlace {
+                second: outstation,
+                ..
+            } => write!(f, "outstation {outstation}"),
+            Warning::SameOutput { second, .. } => write!(f, "control {second}"),
+        }
+    }
+
+    /// Writes the key, and what is wrong there.
+    fn write_slip<W: fmt::Write>(&self, f: &mut fmt::Formatter<W>) -> fmt::Result {
         match self {
             Warning::ListenWithoutPort { listen } => {
-                write!(f, "station: listen = \"{}\" has no port", Plain(*listen))
+                write!(f, "listen = \"{}\" has no port", Plain(*listen))
             }
             Warning::ListenEverywhere { listen } => {
                 let listen = Plain(*listen);
                 write!(
                     f,
-                    "station: listen = \"{listen}\" listens on all interfaces while controls are configured"
+                    "listen = \"{listen}\" listens on all interfaces while controls are configured"
                 )
             }
-            Warning::WideWindow { w, k } => {
-                write!(f, "station: w = {w} is above two thirds of k = {k}")
+            Warning::WideWindow { w, k } => write!(f, "w = {w} is above two thirds of k = {k}"),
+            Warning::ConnectWithoutPort { connect, .. } => {
+                write!(f, "connect = \"{}\" has no port", Plain(*connect))
             }
-            Warning::ConnectWithoutPort {
-                outstation,
-                connect,
-            } => {
-                let connect = Plain(*connect);
+            Warning::SamePlace { first, .. } => {
+                write!(f, "address and connect are those of outstation {first}")
+            }
+            Warning::SlowPoll { poll_ms, .. } => {
                 write!(
                     f,
-                    "outstation {outstation}: connect = \"{connect}\" has no port"
-                )
-            }
-            Warning::SamePlace { first, second } => {
-                write!(
-                    f,
-                    "outstation {second}: address and connect are those of outstation {first}"
-                )
-            }
-            Warning::SlowPoll {
-                outstation,
-                poll_ms,
-            } => {
-                write!(
-                    f,
-                    "outstation {outstation}: poll_ms = {poll_ms} is above 60000 while unsolicited is false"
+                    "poll_ms = {poll_ms} is above 60000 while unsolicited is false"
                 )
             }
             Warning::SameOutput {
                 first,
-                second,
                 outstation,
                 index,
+                ..
             } => {
                 write!(
                     f,
-                    "control {second}: index = {index} of outstation {outstation} is operated by control {first} too"
+                    "index = {index} of outstation {outstation} is operated by control {first} too"
                 )
             }
         }

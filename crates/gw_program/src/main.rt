@@ -156,8 +156,9 @@ fn check_octets(rt: &HostRuntime, octets: &[u8], report: Report) -> io::Result<u
 /// Writes what settings mean, and on standard error what reads like a slip in them; gives the status.
 fn write_report(rt: &HostRuntime, settings: &Settings, report: Report) -> io::Result<u8> {
     let mut writer = BufWriter::new(rt.alloc(), io::writer(rt))?;
-    report.write(settings, &mut writer)?;
-    writer.flush()?;
+    if report.write(settings, &mut writer).is_err() || writer.flush().is_err() {
+        return Ok(REFUSED);
+    }
     let mut warnings = Vec::new(rt.alloc());
     write_warnings(rt.alloc(), settings, &mut warnings)?;
     // The settings are right, also where nobody can be warned.
