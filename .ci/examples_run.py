@@ -18,6 +18,7 @@ import subprocess
 import sys
 import tempfile
 import time
+from contextlib import suppress
 from pathlib import Path
 
 ROOT = Path(__file__).resolve().parent.parent
@@ -41,19 +42,17 @@ class Command:
 
     def start(self, folder):
         words = re.sub(r"(?<!\S)\./gateway(?!\S)", lambda _: os.environ.get("GATEWAY", "./gateway"), self.words)
-        self.output = tempfile.TemporaryFile("w+")
+        self.output = tempfile.NamedTemporaryFile()
         self.process = subprocess.Popen(["bash", "-c", words], cwd=folder, stdin=subprocess.DEVNULL, stdout=self.output,
                                         stderr=subprocess.STDOUT, start_new_session=True)
 
-    def got(self):
-        self.output.seek(0)
-        lines = [VARIES.sub("~", line) for line in self.output.read().splitlines()]
-        return lines[: len(self.wanted)] if self.goes_on else lines
+    def written(self):
+        return Path(self.output.name).read_text(errors="replace")
 
     def wait(self, count):
         """Waits until the command ends or, where it goes on, has written so many lines; past the limit it is ended."""
         end = time.monotonic() + LIMIT
-        while self.process.poll() is None and not (self.goes_on and len(self.got()) >= count):
+        while self.process.poll() is None and not (self.goes_on and self.written().count("\n") >= count):
             if time.monotonic() > end:
                 print(f"examples: {self.place}: ended after {LIMIT} s: $ {self.words}")
                 self.end()
@@ -61,16 +60,16 @@ class Command:
             time.sleep(0.05)
 
     def end(self):
-        """Ends the command, and whatever it has started."""
+        """Ends the command and whatever it has started, unless it has ended."""
         for number in (signal.SIGTERM, signal.SIGKILL):
-            try:
+            if self.process.poll() is None:
                 os.killpg(self.process.pid, number)
-                self.process.wait(2)
-            except (ProcessLookupError, subprocess.TimeoutExpired):
-                pass
+                with suppress(subprocess.TimeoutExpired):
+                    self.process.wait(2)
 
     def differs(self):
-        got = self.got()
+        lines = self.written().splitlines()
+        got = [VARIES.sub("~", line) for line in (lines[: len(self.wanted)] if self.goes_on else lines)]
         has_times = any(re.match("~", line) for line in self.wanted)
         if got == self.wanted or has_times and sorted(got) == sorted(self.wanted):
             return False
