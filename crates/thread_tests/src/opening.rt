@@ -40,11 +40,6 @@ pub fn open<L: Ledger, R: Abort + AllocGlobal>(
     Shared::<L>::new(rt.alloc(), blank, hub, actors, capacity).expect(rt, "a shared core")
 }
 
-/// The last pass of those that are left.
-pub fn last_of<L: Ledger, R: Abort>(rt: &R, passes: &mut Vec<Pass<L>>) -> Pass<L> {
-    passes.pop().expect(rt, "a pass")
-}
-
 /// How many calls were made on a core, of which all passes are there.
 pub fn total_of<L: Ledger, R: Wait + Abort>(
     rt: &R,
