@@ -61,6 +61,19 @@ fn ask<L: Ledger, R: Wait + Abort>(
     }
 }
 
+/// The same, where these lines are the answers.
+pub fn bring_up<L: Ledger, R: Wait + Abort + AllocGlobal>(
+    rt: &R,
+    shared: &Shared<L>,
+    passes: &mut [Pass<L>],
+    turns: &[Turn],
+    lines: &str,
+    replies: &str,
+) {
+    let answers = answers_of(rt, shared, passes, turns, lines);
+    check_answers(rt, &answers, replies);
+}
+
 /// Answers have these lines.
 pub fn check_answers<R: Abort + AllocGlobal>(rt: &R, answers: &[Answer], wanted: &str) {
     let mut text = Vec::new(rt.alloc());

@@ -2,7 +2,7 @@
 ghost use Rattle.std.specs.Prelude.{◌≡◌};
 
 use crate::asking::{Answer, Turn, answers_of, check_answers, steps_of};
-use crate::opening::{hub_on, open, settings_of, total_of};
+use crate::opening::{end, hub_on, open, settings_of};
 use crate::telling::{entries_since, push_call};
 use gw_hub::Hub;
 use gw_map::DEFAULT_SETTINGS;
@@ -177,42 +177,84 @@ const THIRD: Recording = Recording {
     counts: [2, 0],
 };
 
-/// The lines of each conversation, those of its answers, and how it is recorded.
-const CONVERSATIONS: &[(&str, &str, Recording)] = &[
-    (UNSOLICITED, UNSOLICITED_REPLIES, WHOLE),
-    (INTERROGATION, INTERROGATION_REPLIES, WHOLE),
-    (COMMAND, COMMAND_REPLIES, WHOLE),
-    (LOSS, LOSS_REPLIES, WHOLE),
-    (START, START_REPLIES, THIRD),
+/// A conversation.
+#[derive(Clone, Copy)]
+struct Conversation {
+    /// The lines of its steps, and those of their answers.
+    lines: &'static str,
+    replies: &'static str,
+    recording: &'static Recording,
+}
+
+const CONVERSATIONS: &[Conversation] = &[
+    Conversation {
+        lines: UNSOLICITED,
+        replies: UNSOLICITED_REPLIES,
+        recording: &WHOLE,
+    },
+    Conversation {
+        lines: INTERROGATION,
+        replies: INTERROGATION_REPLIES,
+        recording: &WHOLE,
+    },
+    Conversation {
+        lines: COMMAND,
+        replies: COMMAND_REPLIES,
+        recording: &WHOLE,
+    },
+    Conversation {
+        lines: LOSS,
+        replies: LOSS_REPLIES,
+        recording: &WHOLE,
+    },
+    Conversation {
+        lines: START,
+        replies: START_REPLIES,
+        recording: &THIRD,
+    },
 ];
 
 #[test]
 fn as_one_thread(rt: HostRuntime) {
-    for (lines, replies, recording) in CONVERSATIONS {
+    for conversation in CONVERSATIONS {
         let hub = hub_on(&rt, DEFAULT_SETTINGS);
-        converse::<Brand, _>(&rt, Blank::new(2), hub, lines, replies, recording);
+        converse::<Brand, _>(&rt, Blank::new(2), hub, conversation);
     }
 }
 
-/// The steps of a conversation are answered by its replies, as by a hub alone, and recorded.
+/// Makes a conversation on a core that is new.
 fn converse<L: Ledger, R: Wait + Abort + AllocGlobal>(
     rt: &R,
     blank: Blank,
     hub: Hub,
-    lines: &str,
-    replies: &str,
-    recording: &Recording,
+    conversation: &Conversation,
 )
     requires name { blank.name ≡ L.name }
     requires parts { (blank.parts ≡ L.parts) × (blank.parts ≡ 2) }
 {
-    let (shared, mut passes) = open::<L, R>(rt, blank, hub, 2, recording.room.max(1));
-    let answers = answers_of(rt, &shared, &mut passes, recording.turns, lines);
-    check_answers(rt, &answers, replies);
-    assert_eq!(rt; answers.as_slice(), answers_alone(rt, lines).as_slice());
-    assert_eq!(rt; total_of(rt, &shared, passes), answers.len() as u64);
-    let (_hub, recorder) = shared.into_parts();
-    check_recorder(rt, &recorder, recording, lines, &answers);
+    let Recording { room, turns, .. } = conversation.recording;
+    let (shared, mut passes) = open::<L, R>(rt, blank, hub, 2, (*room).max(1));
+    let answers = answers_of(rt, &shared, &mut passes, turns, conversation.lines);
+    let (total, recorder) = end(rt, shared, passes);
+    assert_eq!(rt; total, answers.len() as u64);
+    check(rt, conversation, &answers, &recorder);
+}
+
+/// The answers are the replies, and those of a hub alone; and the calls are recorded.
+fn check<R: Abort + AllocGlobal>(
+    rt: &R,
+    conversation: &Conversation,
+    answers: &[Answer],
+    recorder: &Recorder,
+) {
+    let Conversation {
+        lines,
+        replies,
+        recording,
+    } = *conversation;
+    check_answers(rt, answers, replies);
+    assert_eq!(rt; answers, answers_alone(rt, lines).as_slice());
+    check_recorder(rt, recorder, recording, lines, answers);
 }
 
 /// What a hub alone answers the steps of these lines.

@@ -3,6 +3,7 @@ ghost use Rattle.std.specs.Prelude.{◌≡◌, ◌<◌};
 
 use gw_hub::Hub;
 use gw_map::Settings;
+use gw_record::Recorder;
 use gw_shared::{Pass, Shared};
 use std::alloc::Global;
 use std::process::Abort;
@@ -50,4 +51,15 @@ pub fn total_of<L: Ledger, R: Wait + Abort>(
         Ok(closed) => closed.total,
         Err((fault, _)) => rt.panic(format_args!("not closed: {fault:?}")),
     }
+}
+
+/// Ends a core, of which all passes are there: how many calls were made, and what was recorded.
+pub fn end<L: Ledger, R: Wait + Abort>(
+    rt: &R,
+    shared: Shared<L>,
+    passes: Vec<Pass<L>>,
+) -> (u64, Recorder) {
+    let total = total_of(rt, &shared, passes);
+    let (_hub, recorder) = shared.into_parts();
+    (total, recorder)
 }

@@ -1,11 +1,12 @@
 //! Tests of client_reader: why it ends where a client's octets are wrong.
 ghost use Rattle.std.specs.Prelude.{◌≡◌};
 
-use crate::asking::{answers_of, check_answers};
+use crate::asking::bring_up;
 use crate::memory::read_client;
 use crate::opening::{hub_on, open, total_of};
 use gw_hub::{Hub, Why};
 use gw_map::DEFAULT_SETTINGS;
+use gw_shared::{Pass, Shared};
 use gw_threads::{OpenGate, WorkerEnd};
 use iec_apci::ApciFault;
 use std::marker::Brand;
@@ -45,13 +46,22 @@ fn read<L: Ledger, R: Wait + Abort + AllocGlobal>(
     requires parts { (blank.parts ≡ L.parts) × (blank.parts ≡ 1) }
 {
     let (shared, mut passes) = open::<L, R>(rt, blank, hub, 1, 8);
-    let answers = answers_of(rt, &shared, &mut passes, &[(0, 1)], "open 0 0");
-    check_answers(rt, &answers, "ok\n");
+    bring_up(rt, &shared, &mut passes, &[(0, 1)], "open 0 0", "ok\n");
     assert!(rt; shared.stands(rt, 0));
-    let pass = passes.pop().expect(rt, "a pass");
-    let (pass, end) = read_client(rt, &shared, pass, 0, octets, &OpenGate);
-    assert_eq!(rt; end, wanted);
-    passes.push(pass).expect(rt, "memory");
+    assert_eq!(rt; end_of_reading(rt, &shared, &mut passes, octets), wanted);
     assert!(rt; !shared.stands(rt, 0));
     assert_eq!(rt; total_of(rt, &shared, passes), 2);
+}
+
+/// Why the reader ends, which works with the last pass.
+fn end_of_reading<L: Ledger, R: Wait + Abort + AllocGlobal>(
+    rt: &R,
+    shared: &Shared<L>,
+    passes: &mut Vec<Pass<L>>,
+    octets: &[u8],
+) -> WorkerEnd {
+    let pass = passes.pop().expect(rt, "a pass");
+    let (pass, end) = read_client(rt, shared, pass, 0, octets, &OpenGate);
+    passes.push(pass).expect(rt, "memory");
+    end
 }

@@ -2,14 +2,14 @@
 //! others go on.
 ghost use Rattle.std.specs.Prelude.{◌≡◌};
 
-use crate::asking::{Turn, answers_of, check_answers};
+use crate::asking::{Turn, bring_up};
 use crate::held::{
     CLIENT_0_READER, CLIENT_0_WRITER, CLIENT_1_READER, CLIENT_1_WRITER, Held, OUTSTATION_0_READER,
     OUTSTATION_1_READER,
 };
 use crate::kept::{check_client, check_outstations, is_answered_first};
 use crate::memory::{Client, Outstation, Sent, read_client};
-use crate::opening::{hub_on, open, total_of};
+use crate::opening::{end, hub_on, open};
 use crate::peers::{FROM_CLIENT, FROM_OUTSTATION_0, FROM_OUTSTATION_1, Still, TWO_OUTSTATIONS};
 use crate::telling::entries_since;
 use dnp_receive::Receiver;
@@ -114,12 +114,11 @@ fn work<L: Ledger + Send + Sync, R: Host>(rt: &R, blank: Blank, hub: Hub)
     requires parts { (blank.parts ≡ L.parts) × (blank.parts ≡ 9) }
 {
     let (shared, mut passes) = open::<L, R>(rt, blank, hub, 9, ROOM);
-    let answers = answers_of(rt, &shared, &mut passes, UP_TURNS, UPS);
-    check_answers(rt, &answers, "ok\nok\nok\nok\n");
+    bring_up(rt, &shared, &mut passes, UP_TURNS, UPS, "ok\nok\nok\nok\n");
     let taken = [Taken::nothing(rt), Taken::nothing(rt)];
     let passes = serve(rt, &shared, &taken, passes);
-    let total = close(rt, &shared, passes);
-    let (_hub, recorder) = shared.into_parts();
+    let passes = check_refusal(rt, &shared, passes);
+    let (total, recorder) = end(rt, shared, passes);
     check(rt, &recorder, &taken, total);
 }
 
@@ -284,14 +283,18 @@ fn write_client<L: Ledger, R: Host>(
     ended
 }
 
-/// Closes the core, first with a pass missing, which gives the others back, and then with all; how many calls were made.
-fn close<L: Ledger, R: Host>(rt: &R, shared: &Shared<L>, passes: Vec<Pass<L>>) -> u64 {
+/// The core isn't closed with a pass missing, which gives the others back. Gives all.
+fn check_refusal<L: Ledger, R: Host>(
+    rt: &R,
+    shared: &Shared<L>,
+    passes: Vec<Pass<L>>,
+) -> Vec<Pass<L>> {
     let mut passes = passes;
     let missing = passes.pop().expect(rt, "a pass");
     let mut passes = refused(rt, shared, passes);
     assert_eq!(rt; passes.len(), 8);
     passes.push(missing).expect(rt, "memory");
-    total_of(rt, shared, passes)
+    passes
 }
 
 /// The passes that are given back where one is missing.
