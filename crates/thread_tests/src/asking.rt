@@ -1,4 +1,4 @@
-//! Steps and answers as the lines of a replay, and calls of them on a shared core.
+//! Steps as the lines of a replay, and calls of them on a shared core.
 
 use gw_hub::{Reply, Step, StepFault};
 use gw_replay::{Instruction, push_reply, read_instruction};
@@ -9,6 +9,9 @@ use std::sync::ledger::Ledger;
 
 /// What a step was answered.
 pub type Answer = Result<Reply, StepFault>;
+
+/// A call: the actor, and the how-manieth of its calls it is, from 1.
+pub type Turn = (usize, u64);
 
 /// The step that a line asks for.
 pub fn step_of<R: Abort + AllocGlobal>(rt: &R, line: &str) -> Step {
@@ -27,8 +30,25 @@ pub fn steps_of<R: Abort + AllocGlobal>(rt: &R, lines: &str) -> Vec<Step> {
     steps
 }
 
+/// Makes the steps of these lines on a new core, each as the actor whose turn it is. Gives what they were answered.
+pub fn answers_of<L: Ledger, R: Wait + Abort + AllocGlobal>(
+    rt: &R,
+    shared: &Shared<L>,
+    passes: &mut [Pass<L>],
+    turns: &[Turn],
+    lines: &str,
+) -> Vec<Answer> {
+    let mut answers = Vec::new(rt.alloc());
+    for ((wanted, line), (actor, _)) in (1..u64::MAX).zip(lines.lines()).zip(turns) {
+        let (number, answer) = ask(rt, shared, passes, *actor, step_of(rt, line));
+        assert_eq!(rt; number, wanted);
+        answers.push(answer).expect(rt, "memory");
+    }
+    answers
+}
+
 /// Makes a step as an actor. Gives the call's number and its answer.
-pub fn ask<L: Ledger, R: Wait + Abort>(
+fn ask<L: Ledger, R: Wait + Abort>(
     rt: &R,
     shared: &Shared<L>,
     passes: &mut [Pass<L>],
@@ -41,14 +61,24 @@ pub fn ask<L: Ledger, R: Wait + Abort>(
     }
 }
 
-/// Adds the line of an answer to a text.
-pub fn tell<R: Abort>(rt: &R, text: &mut Vec<u8>, answer: Answer) {
-    push_reply(text, answer).expect(rt, "memory");
+/// The same, where these lines are the answers.
+pub fn bring_up<L: Ledger, R: Wait + Abort + AllocGlobal>(
+    rt: &R,
+    shared: &Shared<L>,
+    passes: &mut [Pass<L>],
+    turns: &[Turn],
+    lines: &str,
+    replies: &str,
+) {
+    let answers = answers_of(rt, shared, passes, turns, lines);
+    check_answers(rt, &answers, replies);
 }
 
-/// An answer has this line.
-pub fn check_answer<R: Abort + AllocGlobal>(rt: &R, answer: Answer, wanted: &str) {
+/// Answers have these lines.
+pub fn check_answers<R: Abort + AllocGlobal>(rt: &R, answers: &[Answer], wanted: &str) {
     let mut text = Vec::new(rt.alloc());
-    tell(rt, &mut text, answer);
+    for answer in answers {
+        push_reply(&mut text, *answer).expect(rt, "memory");
+    }
     assert_eq!(rt; text.as_slice(), wanted.as_bytes());
 }

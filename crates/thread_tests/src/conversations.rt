@@ -1,20 +1,16 @@
-//! Tests of gw_shared: steps that two actors make in turn are answered as those of a hub alone.
+//! Tests of gw_shared and gw_record: steps that two actors make in turn are answered as those of a hub alone, and recorded.
 ghost use Rattle.std.specs.Prelude.{◌≡◌};
 
-use crate::asking::{Answer, ask, steps_of, tell};
-use crate::opening::{hub_on, open, settings_of, total_of};
-use crate::telling::{are_calls_in_turn, check_replay, dump_of};
-use gw_hub::{Hub, Step};
+use crate::asking::{Answer, Turn, answers_of, check_answers, steps_of};
+use crate::opening::{end, hub_on, open, settings_of};
+use crate::telling::{entries_since, push_call};
+use gw_hub::Hub;
 use gw_map::DEFAULT_SETTINGS;
-use gw_record::{Dump, Recorder};
-use gw_shared::{Pass, Shared};
+use gw_record::Recorder;
 use std::marker::Brand;
 use std::process::Abort;
 use std::sync::Wait;
 use std::sync::ledger::{Blank, Ledger};
-
-/// How many calls the recorder keeps: more than any conversation has.
-const ROOM: usize = 64;
 
 /// An unsolicited response that is repeated, and one that nobody asked for.
 const UNSOLICITED: &str = "open 0 0
@@ -126,87 +122,177 @@ ticked
 ok
 ";
 
-/// The lines of each conversation, and those of its answers.
-const CONVERSATIONS: &[(&str, &str)] = &[
-    (UNSOLICITED, UNSOLICITED_REPLIES),
-    (INTERROGATION, INTERROGATION_REPLIES),
-    (COMMAND, COMMAND_REPLIES),
-    (LOSS, LOSS_REPLIES),
+/// STARTDT act and con.
+const START: &str = "open 0 0
+frame 0 0 68 04 07 00 00 00
+pump 0 0";
+
+const START_REPLIES: &str = "ok
+taken
+apdu 68 04 0B 00 00 00
+";
+
+/// How a conversation is recorded.
+#[derive(Clone, Copy)]
+struct Recording {
+    /// How many calls the recorder keeps.
+    room: usize,
+    /// The calls that are made, and perhaps more.
+    turns: &'static [Turn],
+    /// How many of them the recorder has forgotten, and how many those were of each actor.
+    forgotten: usize,
+    counts: [u64; 2],
+}
+
+/// By actors 0 and 1 in turn, with room for all.
+const WHOLE: Recording = Recording {
+    room: 64,
+    turns: &[
+        (0, 1),
+        (1, 1),
+        (0, 2),
+        (1, 2),
+        (0, 3),
+        (1, 3),
+        (0, 4),
+        (1, 4),
+        (0, 5),
+        (1, 5),
+        (0, 6),
+        (1, 6),
+        (0, 7),
+        (1, 7),
+        (0, 8),
+        (1, 8),
+    ],
+    forgotten: 0,
+    counts: [0, 0],
+};
+
+/// With room for two calls: the recorder begins anew at the third, the first of actor 1.
+const THIRD: Recording = Recording {
+    room: 2,
+    turns: &[(0, 1), (0, 2), (1, 1)],
+    forgotten: 2,
+    counts: [2, 0],
+};
+
+/// A conversation.
+#[derive(Clone, Copy)]
+struct Conversation {
+    /// The lines of its steps, and those of their answers.
+    lines: &'static str,
+    replies: &'static str,
+    recording: &'static Recording,
+}
+
+const CONVERSATIONS: &[Conversation] = &[
+    Conversation {
+        lines: UNSOLICITED,
+        replies: UNSOLICITED_REPLIES,
+        recording: &WHOLE,
+    },
+    Conversation {
+        lines: INTERROGATION,
+        replies: INTERROGATION_REPLIES,
+        recording: &WHOLE,
+    },
+    Conversation {
+        lines: COMMAND,
+        replies: COMMAND_REPLIES,
+        recording: &WHOLE,
+    },
+    Conversation {
+        lines: LOSS,
+        replies: LOSS_REPLIES,
+        recording: &WHOLE,
+    },
+    Conversation {
+        lines: START,
+        replies: START_REPLIES,
+        recording: &THIRD,
+    },
 ];
 
 #[test]
 fn as_one_thread(rt: HostRuntime) {
-    for place in 0..CONVERSATIONS.len() {
+    for conversation in CONVERSATIONS {
         let hub = hub_on(&rt, DEFAULT_SETTINGS);
-        check_at::<Brand, _>(&rt, Blank::new(2), hub, place);
+        converse::<Brand, _>(&rt, Blank::new(2), hub, conversation);
     }
 }
 
-/// The steps of a conversation are answered by its replies, as by a hub alone.
-fn check_at<L: Ledger, R: Wait + Abort + AllocGlobal>(rt: &R, blank: Blank, hub: Hub, place: usize)
+/// Makes a conversation on a core that is new.
+fn converse<L: Ledger, R: Wait + Abort + AllocGlobal>(
+    rt: &R,
+    blank: Blank,
+    hub: Hub,
+    conversation: &Conversation,
+)
     requires name { blank.name ≡ L.name }
     requires parts { (blank.parts ≡ L.parts) × (blank.parts ≡ 2) }
 {
-    let (lines, replies) = conversation_at(rt, place);
-    let (shared, mut passes) = open::<L, R>(rt, blank, hub, 2, ROOM);
-    check_replies(rt, &shared, &mut passes, lines, replies);
-    let total = total_of(rt, &shared, passes);
-    let (_hub, recorder) = shared.into_parts();
-    check_recorder(rt, &recorder, lines, total);
+    let Recording { room, turns, .. } = conversation.recording;
+    let (shared, mut passes) = open::<L, R>(rt, blank, hub, 2, (*room).max(1));
+    let answers = answers_of(rt, &shared, &mut passes, turns, conversation.lines);
+    let (total, recorder) = end(rt, shared, passes);
+    assert_eq!(rt; total, answers.len() as u64);
+    check(rt, conversation, &answers, &recorder);
 }
 
-/// The lines of a conversation, and those of its answers.
-fn conversation_at<R: Abort>(rt: &R, place: usize) -> (&'static str, &'static str) {
-    *CONVERSATIONS.get(place).expect(rt, "a conversation")
-}
-
-/// The steps of these lines, made in turn, are answered by these lines.
-fn check_replies<L: Ledger, R: Wait + Abort + AllocGlobal>(
+/// The answers are the replies, and those of a hub alone; and the calls are recorded.
+fn check<R: Abort + AllocGlobal>(
     rt: &R,
-    shared: &Shared<L>,
-    passes: &mut [Pass<L>],
-    lines: &str,
-    replies: &str,
+    conversation: &Conversation,
+    answers: &[Answer],
+    recorder: &Recorder,
 ) {
-    let text = replies_in_turn(rt, shared, passes, steps_of(rt, lines));
-    assert_eq!(rt; text.as_slice(), replies.as_bytes());
+    let Conversation {
+        lines,
+        replies,
+        recording,
+    } = *conversation;
+    check_answers(rt, answers, replies);
+    assert_eq!(rt; answers, answers_alone(rt, lines).as_slice());
+    check_recorder(rt, recorder, recording, lines, answers);
 }
 
-/// Makes steps as actors 0 and 1 in turn; the lines of their answers.
-fn replies_in_turn<L: Ledger, R: Wait + Abort + AllocGlobal>(
+/// What a hub alone answers the steps of these lines.
+fn answers_alone<R: Abort + AllocGlobal>(rt: &R, lines: &str) -> Vec<Answer> {
+    let settings = settings_of(rt, DEFAULT_SETTINGS);
+    let (_hub, answers) = Hub::run(rt.alloc(), settings, steps_of(rt, lines)).expect(rt, "a run");
+    answers
+}
+
+/// The recorder has kept the calls that were made, but for those that it has forgotten.
+fn check_recorder<R: Abort + AllocGlobal>(
     rt: &R,
-    shared: &Shared<L>,
-    passes: &mut [Pass<L>],
-    steps: Vec<Step>,
-) -> Vec<u8> {
-    let mut text = Vec::new(rt.alloc());
-    let mut actor = 0;
-    for step in steps {
-        let (_, answer) = ask(rt, shared, passes, actor, step);
-        tell(rt, &mut text, answer);
-        actor = 1 - actor.min(1);
+    recorder: &Recorder,
+    recording: &Recording,
+    lines: &str,
+    answers: &[Answer],
+) {
+    let mut kept = String::new(rt.alloc());
+    for entry in entries_since(rt, recorder, &recording.counts) {
+        let turn = (entry.actor, entry.ordinal);
+        push_call(rt, &mut kept, turn, &entry.step, &entry.reply);
+    }
+    let made = text_of_calls(rt, recording, lines, answers);
+    assert_eq!(rt; kept.as_str(), made.as_str());
+}
+
+/// The lines of the calls that the recorder is to keep.
+fn text_of_calls<R: Abort + AllocGlobal>(
+    rt: &R,
+    recording: &Recording,
+    lines: &str,
+    answers: &[Answer],
+) -> String {
+    let steps = steps_of(rt, lines);
+    let calls = steps.iter().zip(answers).zip(recording.turns);
+    let mut text = String::new(rt.alloc());
+    for ((step, answer), turn) in calls.skip(recording.forgotten) {
+        push_call(rt, &mut text, *turn, step, answer);
     }
     text
-}
-
-/// The recorder has kept all these steps, answered as by a hub alone.
-fn check_recorder<R: Abort + AllocGlobal>(rt: &R, recorder: &Recorder, lines: &str, total: u64) {
-    let dump = dump_of(rt, recorder);
-    assert_eq!(rt; dump.counts, [0, 0].as_slice());
-    assert_eq!(rt; dump.entries.len() as u64, total);
-    check_calls(rt, &dump, lines);
-    check_replay(rt, &dump);
-}
-
-fn check_calls<R: Abort + AllocGlobal>(rt: &R, dump: &Dump<'_>, lines: &str) {
-    let steps = steps_of(rt, lines);
-    let replies = replies_of_run(rt, steps_of(rt, lines));
-    assert!(rt; are_calls_in_turn(dump.entries, &steps, &replies));
-}
-
-/// What a hub alone answers.
-fn replies_of_run<R: Abort + AllocGlobal>(rt: &R, steps: Vec<Step>) -> Vec<Answer> {
-    let settings = settings_of(rt, DEFAULT_SETTINGS);
-    let (_hub, replies) = Hub::run(rt.alloc(), settings, steps).expect(rt, "a run");
-    replies
 }

@@ -22,8 +22,8 @@ pub const CLIENT_1_READER: usize = 6;
 
 pub const CLIENT_1_WRITER: usize = 7;
 
-/// How many APDUs each client sends.
-const APDUS: u64 = 2;
+/// The position among a client's APDUs of the last one.
+const LAST: u64 = 1;
 
 /// Holds the reader of outstation 0 before its first step, the writer of client 0 before its first write, and the reader
 /// of client 1 behind the step of its last APDU, until client 1 has taken an interrogation's termination; and the reader of
@@ -41,60 +41,34 @@ pub struct Held<'a, R> {
     pub is_late: AtomicBool,
 }
 
-impl<'a, R: Clock> Held<'a, R> {
-    /// A gate that was reached by nobody.
-    pub fn new(rt: &'a R, is_served_0: &'a AtomicBool, is_served_1: &'a AtomicBool) -> Held<'a, R> {
-        Held {
-            rt,
-            is_served_0,
-            is_served_1,
-            stepped_0: AtomicU64::new(0),
-            stepped_1: AtomicU64::new(0),
-            is_late: AtomicBool::new(false),
-        }
-    }
-
-    /// What a worker has to wait for that has made a step.
-    fn awaited_behind_step(&self, actor: usize) -> Option<&'a AtomicBool> {
-        match actor {
-            CLIENT_0_READER if is_last(&self.stepped_0) => Some(self.is_served_0),
-            CLIENT_1_READER if is_last(&self.stepped_1) => Some(self.is_served_1),
-            _ => None,
-        }
-    }
-
-    /// What a worker has to wait for at a place.
-    fn awaited(&self, actor: usize, place: Place) -> Option<&'a AtomicBool> {
-        match (place, actor) {
+impl<'a, R: Clock> Gate for Held<'a, R> {
+    fn at(&self, actor: usize, place: Place) {
+        let awaited = match (place, actor) {
             (Place::Decoded, OUTSTATION_0_READER) | (Place::BeforeWrite, CLIENT_0_WRITER) => {
-                Some(self.is_served_1)
+                self.is_served_1
             }
-            (Place::Stepped, _) => self.awaited_behind_step(actor),
-            _ => None,
+            (Place::Stepped, CLIENT_0_READER) if is_last(&self.stepped_0) => self.is_served_0,
+            (Place::Stepped, CLIENT_1_READER) if is_last(&self.stepped_1) => self.is_served_1,
+            _ => return,
+        };
+        if !is_set(self.rt, awaited) {
+            self.is_late.store(true, Ordering::SeqCst);
         }
-    }
-
-    /// Waits for something, but not for ever.
-    fn wait(&self, awaited: &AtomicBool) {
-        for _ in 0..LOOKS {
-            if awaited.load(Ordering::SeqCst) {
-                return;
-            }
-            thread::sleep(self.rt, Duration::from_millis(1));
-        }
-        self.is_late.store(true, Ordering::SeqCst);
     }
 }
 
 /// Counts an APDU; whether it is the last.
 fn is_last(stepped: &AtomicU64) -> bool {
-    stepped.fetch_add(1, Ordering::SeqCst) == APDUS - 1
+    stepped.fetch_add(1, Ordering::SeqCst) == LAST
 }
 
-impl<'a, R: Clock> Gate for Held<'a, R> {
-    fn at(&self, actor: usize, place: Place) {
-        if let Some(awaited) = self.awaited(actor, place) {
-            self.wait(awaited);
+/// Waits until a flag is set, but not for ever; whether it is.
+fn is_set<R: Clock>(rt: &R, flag: &AtomicBool) -> bool {
+    for _ in 0..LOOKS {
+        if flag.load(Ordering::SeqCst) {
+            return true;
         }
+        thread::sleep(rt, Duration::from_millis(1));
     }
+    false
 }

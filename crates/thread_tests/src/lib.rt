@@ -1,6 +1,6 @@
-//! Tests of the shared core, its recorder, the workers round it and the server, through their public calls: that these
-//! end, what they hand over, and that they go on beside one another, of which no contract tells. `.ci/serve` has what the
-//! built program does.
+//! Tests of the shared core, its recorder and the workers round it, through their public calls: that these end, what they
+//! hand over, and that they go on beside one another, of which no contract tells. `server_tests` has the server, and
+//! `.ci/serve` what the built program does.
 #![tactic(auto)]
 
 #[cfg(test)]
@@ -12,8 +12,6 @@ mod held;
 #[cfg(test)]
 mod kept;
 #[cfg(test)]
-mod loopback;
-#[cfg(test)]
 mod memory;
 #[cfg(test)]
 mod opening;
@@ -23,10 +21,6 @@ mod peers;
 mod putting;
 #[cfg(test)]
 mod reading_ends;
-#[cfg(test)]
-mod recording;
-#[cfg(test)]
-mod seen;
 #[cfg(test)]
 mod telling;
 #[cfg(test)]

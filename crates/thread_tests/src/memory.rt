@@ -1,9 +1,12 @@
 //! Ends of connections in memory.
 ghost use Rattle.std.specs.Prelude.{None};
 
-use gw_threads::{Arrival, Incoming, Outgoing, Unwritten};
+use crate::peers::Still;
+use gw_shared::{Pass, Shared};
+use gw_threads::{Arrival, Gate, Incoming, Outgoing, Unwritten, WorkerEnd, client_reader};
+use std::sync::Wait;
 use std::sync::atomic::{AtomicBool, Ordering};
-use std::sync::{Mutex, Wait};
+use std::sync::ledger::Ledger;
 
 /// How many octets come at once at most, so that frames and APDUs come in pieces.
 const PIECE: usize = 7;
@@ -29,57 +32,75 @@ impl<'a> Incoming for Sent<'a> {
     }
 }
 
-/// What a peer took, and whether an interrogation's termination was among it.
+/// A client that takes so many octets, and fails at the next one.
 #[derive(Drop)]
-pub struct Taken {
-    pub octets: Mutex<Vec<u8>>,
-    pub has_ended: AtomicBool,
+pub struct Client<'a> {
+    pub octets: Vec<u8>,
+    pub room: usize,
+    /// Whether an interrogation's termination was among them.
+    pub has_ended: &'a AtomicBool,
 }
 
-impl Taken {
-    /// Nothing was taken.
-    pub fn nothing<R: AllocGlobal>(rt: &R) -> Taken {
-        Taken {
-            octets: Mutex::new(Vec::new(rt.alloc())),
-            has_ended: AtomicBool::new(false),
+impl<'a> Outgoing for Client<'a> {
+    ghost contents = { λ _. None };
+
+    ghost can_fail = { λ _. Unit {0} };
+
+    fn hand(&mut self, octets: &[u8]) -> Result<(), Unwritten> {
+        let count = octets.len().min(self.room);
+        self.room -= count;
+        if self.octets.extend_from_slice(&octets[..count]).is_err() || count < octets.len() {
+            return Err(Unwritten);
         }
+        if has_termination(octets) {
+            self.has_ended.store(true, Ordering::SeqCst);
+        }
+        Ok(())
+    }
+}
+
+/// An outstation that takes all octets.
+#[derive(Clone, Copy)]
+pub struct Outstation;
+
+impl Outgoing for Outstation {
+    ghost contents = { λ _. None };
+
+    ghost can_fail = { λ _. Unit {0} };
+
+    fn hand(&mut self, _octets: &[u8]) -> Result<(), Unwritten> {
+        Ok(())
     }
 }
 
 /// The termination of a station interrogation of common address 1.
 const TERMINATION: &[u8] = &[0x64, 0x01, 0x0A, 0x00, 0x01, 0x00, 0x00, 0x00, 0x00, 0x14];
 
-/// The way to a peer that takes all.
-#[derive(Drop)]
-pub struct Way<'a, R> {
-    pub rt: &'a R,
-    pub taken: &'a Taken,
-}
-
-impl<'a, R: Wait> Outgoing for Way<'a, R> {
-    ghost contents = { λ _. None };
-
-    ghost can_fail = { λ _. Unit {0} };
-
-    fn hand(&mut self, octets: &[u8]) -> Result<(), Unwritten> {
-        if !keep(self.rt, &self.taken.octets, octets) {
-            return Err(Unwritten);
-        }
-        if has_termination(octets) {
-            self.taken.has_ended.store(true, Ordering::SeqCst);
-        }
-        Ok(())
-    }
-}
-
-/// Puts octets behind others; whether there was memory for that.
-fn keep<R: Wait>(rt: &R, kept: &Mutex<Vec<u8>>, octets: &[u8]) -> bool {
-    kept.lock(rt).extend_from_slice(octets).is_ok()
-}
-
 /// Whether an interrogation's termination is among octets.
 pub fn has_termination(octets: &[u8]) -> bool {
     octets
         .windows(TERMINATION.len())
         .any(|front| front == TERMINATION)
+}
+
+/// Reads what a client sends.
+pub fn read_client<L: Ledger, R: Wait + AllocGlobal, G: Gate>(
+    rt: &R,
+    shared: &Shared<L>,
+    pass: Pass<L>,
+    client: u8,
+    octets: &[u8],
+    gate: &G,
+) -> (Pass<L>, WorkerEnd) {
+    let mut input = Sent { rest: octets };
+    client_reader(
+        rt.alloc(),
+        rt,
+        shared,
+        pass,
+        client,
+        &mut input,
+        &Still,
+        gate,
+    )
 }

@@ -3,6 +3,7 @@ ghost use Rattle.std.specs.Prelude.{◌≡◌, ◌<◌};
 
 use gw_hub::Hub;
 use gw_map::Settings;
+use gw_record::Recorder;
 use gw_shared::{Pass, Shared};
 use std::alloc::Global;
 use std::process::Abort;
@@ -40,11 +41,6 @@ pub fn open<L: Ledger, R: Abort + AllocGlobal>(
     Shared::<L>::new(rt.alloc(), blank, hub, actors, capacity).expect(rt, "a shared core")
 }
 
-/// The last pass of those that are left.
-pub fn last_of<L: Ledger, R: Abort>(rt: &R, passes: &mut Vec<Pass<L>>) -> Pass<L> {
-    passes.pop().expect(rt, "a pass")
-}
-
 /// How many calls were made on a core, of which all passes are there.
 pub fn total_of<L: Ledger, R: Wait + Abort>(
     rt: &R,
@@ -55,4 +51,15 @@ pub fn total_of<L: Ledger, R: Wait + Abort>(
         Ok(closed) => closed.total,
         Err((fault, _)) => rt.panic(format_args!("not closed: {fault:?}")),
     }
+}
+
+/// Ends a core, of which all passes are there: how many calls were made, and what was recorded.
+pub fn end<L: Ledger, R: Wait + Abort>(
+    rt: &R,
+    shared: Shared<L>,
+    passes: Vec<Pass<L>>,
+) -> (u64, Recorder) {
+    let total = total_of(rt, &shared, passes);
+    let (_hub, recorder) = shared.into_parts();
+    (total, recorder)
 }

@@ -1,21 +1,20 @@
 //! Tests of put_out over a hub alone: what a writer takes of the replies to pumps, and where it fails.
-ghost use Rattle.std.specs.Prelude.{None};
 
-use crate::asking::step_of;
+use crate::asking::{step_of, steps_of};
+use crate::memory::Client;
 use crate::opening::{copy_of, hub_on};
 use crate::telling::answer_of;
 use gw_hub::{Hub, Reply};
 use gw_map::DEFAULT_SETTINGS;
 use gw_shared::{Batch, apdu_in};
-use gw_threads::{HubSource, Outgoing, Put, Unwritten, put_out};
+use gw_threads::{HubSource, Put, put_out};
 use std::process::Abort;
+use std::sync::atomic::AtomicBool;
 
 /// What comes before the run: a client that interrogates the station.
-const STEPS: &[&str] = &[
-    "open 0 0",
-    "frame 0 0 68 04 07 00 00 00",
-    "frame 0 0 68 0E 00 00 00 00 64 01 06 00 01 00 00 00 00 14",
-];
+const STEPS: &str = "open 0 0
+frame 0 0 68 04 07 00 00 00
+frame 0 0 68 0E 00 00 00 00 64 01 06 00 01 00 00 00 00 14";
 
 /// STARTDT con, the confirmation, two points and the termination.
 const RUN: &[u8] = &[
@@ -27,32 +26,10 @@ const RUN: &[u8] = &[
     0x68, 0x0E, 0x06, 0x00, 0x02, 0x00, 0x64, 0x01, 0x0A, 0x00, 0x01, 0x00, 0x00, 0x00, 0x00, 0x14,
 ];
 
-/// A writer that takes so many octets, and fails at the next one.
-#[derive(Drop)]
-struct Narrow {
-    octets: Vec<u8>,
-    left: usize,
-}
-
-impl Outgoing for Narrow {
-    ghost contents = { λ _. None };
-
-    ghost can_fail = { λ _. Unit {0} };
-
-    fn hand(&mut self, octets: &[u8]) -> Result<(), Unwritten> {
-        let count = octets.len().min(self.left);
-        self.left -= count;
-        if self.octets.extend_from_slice(&octets[..count]).is_err() || count < octets.len() {
-            return Err(Unwritten);
-        }
-        Ok(())
-    }
-}
-
 #[test]
 fn puts_out(rt: HostRuntime) {
     let hub = hub_after(&rt);
-    assert_eq!(rt; replies_to_pumps(&rt, copy_of(&rt, &hub)).as_slice(), RUN);
+    assert_eq!(rt; replies_to_pumps(&rt, &hub).as_slice(), RUN);
     let ended = Put::Ended(Some(Ok(Reply::Nothing)));
     check_put(&rt, &hub, RUN.len(), ended);
     for room in [0, 5, 6, 21, 30, RUN.len() - 1] {
@@ -63,16 +40,16 @@ fn puts_out(rt: HostRuntime) {
 /// A hub on which the steps were made.
 fn hub_after<R: Abort + AllocGlobal>(rt: &R) -> Hub {
     let mut hub = hub_on(rt, DEFAULT_SETTINGS);
-    for line in STEPS {
-        let answer = answer_of(&mut hub, &step_of(rt, line));
+    for step in steps_of(rt, STEPS) {
+        let answer = answer_of(&mut hub, &step);
         assert!(rt; answer.is_ok());
     }
     hub
 }
 
 /// The octets of the APDUs that pumps give, up to the first answer that is none.
-fn replies_to_pumps<R: Abort + AllocGlobal>(rt: &R, hub: Hub) -> Vec<u8> {
-    let mut hub = hub;
+fn replies_to_pumps<R: Abort + AllocGlobal>(rt: &R, hub: &Hub) -> Vec<u8> {
+    let mut hub = copy_of(rt, hub);
     let mut octets = Vec::new(rt.alloc());
     let pump = step_of(rt, "pump 0 0");
     for _ in 0..99u8 {
@@ -88,9 +65,11 @@ fn replies_to_pumps<R: Abort + AllocGlobal>(rt: &R, hub: Hub) -> Vec<u8> {
 
 /// A writer with room for so many octets takes the front of the run, which ends so.
 fn check_put<R: Abort + AllocGlobal>(rt: &R, hub: &Hub, room: usize, end: Put) {
-    let mut writer = Narrow {
+    let has_ended = AtomicBool::new(false);
+    let mut writer = Client {
         octets: Vec::new(rt.alloc()),
-        left: room,
+        room,
+        has_ended: &has_ended,
     };
     assert_eq!(rt; put(copy_of(rt, hub), &mut writer), end, "room for {room}");
     assert_eq!(rt;
@@ -101,7 +80,7 @@ fn check_put<R: Abort + AllocGlobal>(rt: &R, hub: &Hub, room: usize, end: Put) {
 }
 
 /// Hands a run over to a writer.
-fn put(hub: Hub, writer: &mut Narrow) -> Put {
+fn put(hub: Hub, writer: &mut Client<'_>) -> Put {
     let mut source = HubSource {
         hub,
         client: 0,

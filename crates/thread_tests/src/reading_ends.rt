@@ -1,14 +1,13 @@
 //! Tests of client_reader: why it ends where a client's octets are wrong.
 ghost use Rattle.std.specs.Prelude.{◌≡◌};
 
-use crate::asking::{ask, check_answer, step_of};
-use crate::memory::Sent;
-use crate::opening::{hub_on, last_of, open, total_of};
-use crate::peers::Still;
+use crate::asking::bring_up;
+use crate::memory::read_client;
+use crate::opening::{hub_on, open, total_of};
 use gw_hub::{Hub, Why};
 use gw_map::DEFAULT_SETTINGS;
 use gw_shared::{Pass, Shared};
-use gw_threads::{OpenGate, WorkerEnd, client_reader};
+use gw_threads::{OpenGate, WorkerEnd};
 use iec_apci::ApciFault;
 use std::marker::Brand;
 use std::process::Abort;
@@ -47,42 +46,22 @@ fn read<L: Ledger, R: Wait + Abort + AllocGlobal>(
     requires parts { (blank.parts ≡ L.parts) × (blank.parts ≡ 1) }
 {
     let (shared, mut passes) = open::<L, R>(rt, blank, hub, 1, 8);
-    bring_up(rt, &shared, &mut passes);
-    let pass = last_of(rt, &mut passes);
-    let pass = check_end(rt, &shared, pass, octets, wanted);
-    passes.push(pass).expect(rt, "memory");
+    bring_up(rt, &shared, &mut passes, &[(0, 1)], "open 0 0", "ok\n");
+    assert!(rt; shared.stands(rt, 0));
+    assert_eq!(rt; end_of_reading(rt, &shared, &mut passes, octets), wanted);
     assert!(rt; !shared.stands(rt, 0));
     assert_eq!(rt; total_of(rt, &shared, passes), 2);
 }
 
-fn bring_up<L: Ledger, R: Wait + Abort + AllocGlobal>(
+/// Why the reader ends, which works with the last pass.
+fn end_of_reading<L: Ledger, R: Wait + Abort + AllocGlobal>(
     rt: &R,
     shared: &Shared<L>,
-    passes: &mut [Pass<L>],
-) {
-    let (_, answer) = ask(rt, shared, passes, 0, step_of(rt, "open 0 0"));
-    check_answer(rt, answer, "ok\n");
-    assert!(rt; shared.stands(rt, 0));
-}
-
-fn check_end<L: Ledger, R: Wait + Abort + AllocGlobal>(
-    rt: &R,
-    shared: &Shared<L>,
-    pass: Pass<L>,
+    passes: &mut Vec<Pass<L>>,
     octets: &[u8],
-    wanted: WorkerEnd,
-) -> Pass<L> {
-    let mut input = Sent { rest: octets };
-    let (pass, end) = client_reader(
-        rt.alloc(),
-        rt,
-        shared,
-        pass,
-        0,
-        &mut input,
-        &Still,
-        &OpenGate,
-    );
-    assert_eq!(rt; end, wanted);
-    pass
+) -> WorkerEnd {
+    let pass = passes.pop().expect(rt, "a pass");
+    let (pass, end) = read_client(rt, shared, pass, 0, octets, &OpenGate);
+    passes.push(pass).expect(rt, "memory");
+    end
 }

@@ -2,27 +2,25 @@
 //! others go on.
 ghost use Rattle.std.specs.Prelude.{◌≡◌};
 
-use crate::asking::{ask, check_answer, step_of};
+use crate::asking::{Turn, bring_up};
 use crate::held::{
     CLIENT_0_READER, CLIENT_0_WRITER, CLIENT_1_READER, CLIENT_1_WRITER, Held, OUTSTATION_0_READER,
     OUTSTATION_1_READER,
 };
-use crate::kept::{check_clients, check_order, check_outstations};
-use crate::memory::{Sent, Taken, Way};
-use crate::opening::{hub_on, last_of, open, total_of};
+use crate::kept::{check_client, check_outstations, is_answered_first};
+use crate::memory::{Client, Outstation, Sent, read_client};
+use crate::opening::{end, hub_on, open};
 use crate::peers::{FROM_CLIENT, FROM_OUTSTATION_0, FROM_OUTSTATION_1, Still, TWO_OUTSTATIONS};
-use crate::telling::{check_replay, dump_of};
+use crate::telling::entries_since;
 use dnp_receive::Receiver;
 use gw_hub::Hub;
 use gw_record::Recorder;
 use gw_shared::{CloseFault, Pass, Shared};
-use gw_threads::{
-    Line, WorkerEnd, client_reader, client_writer, clock, outstation_reader, outstation_writer,
-};
+use gw_threads::{Line, WorkerEnd, client_writer, clock, outstation_reader, outstation_writer};
 use std::marker::Brand;
 use std::process::Abort;
 use std::rt::Clock as Sleeps;
-use std::sync::atomic::Ordering;
+use std::sync::atomic::{AtomicBool, AtomicU64, Ordering};
 use std::sync::ledger::{Blank, Ledger};
 use std::sync::{Mutex, Wait};
 use std::thread::{self, Threads};
@@ -33,19 +31,35 @@ const ROOM: usize = 4096;
 /// The link addresses of the master and of the outstations.
 const MASTER: u16 = 1024;
 
+const ADDRESSES: [u16; 2] = [1, 2];
+
 /// What workers wait, sleep and end with.
 trait Host: Threads + Wait + Sleeps + Abort + AllocGlobal + Sync {}
 
 impl<R: Threads + Wait + Sleeps + Abort + AllocGlobal + Sync> Host for R {}
 
-/// What the peers took.
-#[derive(Drop)]
-struct Peers {
-    outstation_0: Taken,
-    outstation_1: Taken,
-    client_0: Taken,
-    client_1: Taken,
+/// What a worker does: for a peer, by its position among the outstations or clients; or the ticks.
+#[derive(Clone, Copy)]
+enum Role {
+    ReadOutstation(u8),
+    WriteOutstation(u8),
+    ReadClient(u8),
+    WriteClient(u8),
+    Tick,
 }
+
+/// The workers, by the positions of their actors, and how they end.
+const WORKERS: &[(Role, WorkerEnd)] = &[
+    (Role::ReadOutstation(0), WorkerEnd::EndOfInput),
+    (Role::WriteOutstation(0), WorkerEnd::Stopping),
+    (Role::ReadOutstation(1), WorkerEnd::EndOfInput),
+    (Role::WriteOutstation(1), WorkerEnd::Stopping),
+    (Role::ReadClient(0), WorkerEnd::EndOfInput),
+    (Role::WriteClient(0), WorkerEnd::Stopping),
+    (Role::ReadClient(1), WorkerEnd::EndOfInput),
+    (Role::WriteClient(1), WorkerEnd::Stopping),
+    (Role::Tick, WorkerEnd::Stopping),
+];
 
 /// What all workers share.
 #[derive(Drop)]
@@ -53,22 +67,40 @@ struct Scene<'a, L: Ledger, R> {
     rt: &'a R,
     shared: &'a Shared<L>,
     gate: &'a Held<'a, R>,
-    peers: &'a Peers,
+    lines: &'a [Line<Outstation>],
+    taken: &'a [Taken],
+    /// How many workers of peers have not ended.
+    at_work: AtomicU64,
 }
 
-/// The passes of a peer's workers.
+/// What a client took, and whether an interrogation's termination was among it.
 #[derive(Drop)]
-struct Both<L: Ledger> {
-    reader: Pass<L>,
-    writer: Pass<L>,
+struct Taken {
+    octets: Mutex<Vec<u8>>,
+    has_ended: AtomicBool,
 }
 
-/// The passes of two peers' workers.
-#[derive(Drop)]
-struct Pairs<L: Ledger> {
-    first: Both<L>,
-    second: Both<L>,
+impl Taken {
+    fn nothing<R: AllocGlobal>(rt: &R) -> Taken {
+        Taken {
+            octets: Mutex::new(Vec::new(rt.alloc())),
+            has_ended: AtomicBool::new(false),
+        }
+    }
 }
+
+/// The steps by which peers come up, and who makes them.
+const UPS: &str = "up 0 0
+up 1 0
+open 0 0
+open 1 0";
+
+const UP_TURNS: &[Turn] = &[
+    (OUTSTATION_0_READER, 1),
+    (OUTSTATION_1_READER, 1),
+    (CLIENT_0_READER, 1),
+    (CLIENT_1_READER, 1),
+];
 
 #[test]
 fn workers(rt: HostRuntime) {
@@ -82,53 +114,42 @@ fn work<L: Ledger + Send + Sync, R: Host>(rt: &R, blank: Blank, hub: Hub)
     requires parts { (blank.parts ≡ L.parts) × (blank.parts ≡ 9) }
 {
     let (shared, mut passes) = open::<L, R>(rt, blank, hub, 9, ROOM);
-    let peers = silent_peers(rt);
-    bring_up(rt, &shared, &mut passes);
-    let passes = serve(rt, &shared, &peers, passes);
-    let total = close(rt, &shared, passes);
-    let (_hub, recorder) = shared.into_parts();
-    check(rt, &recorder, &peers, total);
-}
-
-fn silent_peers<R: AllocGlobal>(rt: &R) -> Peers {
-    Peers {
-        outstation_0: Taken::nothing(rt),
-        outstation_1: Taken::nothing(rt),
-        client_0: Taken::nothing(rt),
-        client_1: Taken::nothing(rt),
-    }
-}
-
-/// The steps by which peers come up, and who makes them.
-const UPS: &[(usize, &str)] = &[
-    (OUTSTATION_0_READER, "up 0 0"),
-    (OUTSTATION_1_READER, "up 1 0"),
-    (CLIENT_0_READER, "open 0 0"),
-    (CLIENT_1_READER, "open 1 0"),
-];
-
-fn bring_up<L: Ledger, R: Host>(rt: &R, shared: &Shared<L>, passes: &mut [Pass<L>]) {
-    for (actor, line) in UPS {
-        let (_, answer) = ask(rt, shared, passes, *actor, step_of(rt, line));
-        check_answer(rt, answer, "ok\n");
-    }
+    bring_up(rt, &shared, &mut passes, UP_TURNS, UPS, "ok\nok\nok\nok\n");
+    let taken = [Taken::nothing(rt), Taken::nothing(rt)];
+    let passes = serve(rt, &shared, &taken, passes);
+    let passes = check_refusal(rt, &shared, passes);
+    let (total, recorder) = end(rt, shared, passes);
+    check(rt, &recorder, &taken, total);
 }
 
 /// Serves the peers with these passes, which are those that come back. None of the held workers is held for too long.
 fn serve<L: Ledger + Send + Sync, R: Host>(
     rt: &R,
     shared: &Shared<L>,
-    peers: &Peers,
+    taken: &[Taken; 2],
     passes: Vec<Pass<L>>,
 ) -> Vec<Pass<L>> {
-    let gate = Held::new(rt, &peers.client_0.has_ended, &peers.client_1.has_ended);
+    let gate = Held {
+        rt,
+        is_served_0: &taken[0].has_ended,
+        is_served_1: &taken[1].has_ended,
+        stepped_0: AtomicU64::new(0),
+        stepped_1: AtomicU64::new(0),
+        is_late: AtomicBool::new(false),
+    };
+    let [first, second] = ADDRESSES;
     let scene = Scene {
         rt,
         shared,
         gate: &gate,
-        peers,
+        lines: &[
+            Line::new(Outstation, MASTER, first),
+            Line::new(Outstation, MASTER, second),
+        ],
+        taken,
+        at_work: AtomicU64::new(8),
     };
-    let passes = serve_all(&scene, passes);
+    let passes = perform_all(&scene, passes);
     assert!(rt;
         !gate.is_late.load(Ordering::SeqCst),
         "a worker was held for 10 seconds"
@@ -136,169 +157,94 @@ fn serve<L: Ledger + Send + Sync, R: Host>(
     passes
 }
 
-/// Serves the peers, and ticks.
-fn serve_all<L: Ledger + Send + Sync, R: Host>(
+/// Runs each worker in a thread of its own.
+fn perform_all<L: Ledger + Send + Sync, R: Host>(
     scene: &Scene<'_, L, R>,
     passes: Vec<Pass<L>>,
 ) -> Vec<Pass<L>> {
-    let mut passes = passes;
-    let own = last_of(scene.rt, &mut passes);
-    let clients = last_pairs(scene.rt, &mut passes);
-    let outstations = last_pairs(scene.rt, &mut passes);
-    let (own, (outstations, clients)) = thread::join(
-        scene.rt,
-        move || tick(scene, own),
-        move || serve_peers(scene, outstations, clients),
-    );
-    give_pairs(scene.rt, &mut passes, outstations);
-    give_pairs(scene.rt, &mut passes, clients);
-    give(scene.rt, &mut passes, own);
-    passes
+    thread::map_vec(scene.rt, passes, &|pass| perform(scene, pass)).expect(scene.rt, "memory")
 }
 
-/// The last four passes: a reader's and a writer's for each of two peers.
-fn last_pairs<L: Ledger, R: Host>(rt: &R, passes: &mut Vec<Pass<L>>) -> Pairs<L> {
-    let second = last_two(rt, passes);
-    let first = last_two(rt, passes);
-    Pairs { first, second }
+/// Works with a pass until the worker ends, as it is to end. The last one of the peers' workers asks the clock to end.
+fn perform<L: Ledger, R: Host>(scene: &Scene<'_, L, R>, pass: Pass<L>) -> Pass<L> {
+    let (role, wanted) = *WORKERS.get(pass.actor()).expect(scene.rt, "a worker");
+    let (pass, end) = perform_as(scene, role, pass);
+    assert_eq!(scene.rt; end, wanted);
+    if scene.at_work.fetch_sub(1, Ordering::SeqCst) == 1 {
+        assert!(scene.rt; !scene.shared.stopping());
+        scene.shared.stop();
+        assert!(scene.rt; scene.shared.stopping());
+    }
+    pass
 }
 
-fn last_two<L: Ledger, R: Host>(rt: &R, passes: &mut Vec<Pass<L>>) -> Both<L> {
-    let writer = last_of(rt, passes);
-    let reader = last_of(rt, passes);
-    Both { reader, writer }
-}
-
-fn give_pairs<L: Ledger, R: Host>(rt: &R, passes: &mut Vec<Pass<L>>, pairs: Pairs<L>) {
-    let Pairs { first, second } = pairs;
-    give_both(rt, passes, first);
-    give_both(rt, passes, second);
-}
-
-fn give_both<L: Ledger, R: Host>(rt: &R, passes: &mut Vec<Pass<L>>, both: Both<L>) {
-    let Both { reader, writer } = both;
-    give(rt, passes, reader);
-    give(rt, passes, writer);
-}
-
-fn give<L: Ledger, R: Host>(rt: &R, passes: &mut Vec<Pass<L>>, pass: Pass<L>) {
-    passes.push(pass).expect(rt, "memory");
-}
-
-/// Serves all peers, and asks the clock to end.
-fn serve_peers<L: Ledger + Send + Sync, R: Host>(
+/// Works in a role.
+fn perform_as<L: Ledger, R: Host>(
     scene: &Scene<'_, L, R>,
-    outstations: Pairs<L>,
-    clients: Pairs<L>,
-) -> (Pairs<L>, Pairs<L>) {
-    let pairs = thread::join(
-        scene.rt,
-        move || serve_outstations(scene, outstations),
-        move || serve_clients(scene, clients),
-    );
-    assert!(scene.rt; !scene.shared.stopping());
-    scene.shared.stop();
-    assert!(scene.rt; scene.shared.stopping());
-    pairs
+    role: Role,
+    pass: Pass<L>,
+) -> (Pass<L>, WorkerEnd) {
+    match role {
+        Role::ReadOutstation(outstation) => read_outstation(scene, outstation, pass),
+        Role::WriteOutstation(outstation) => write_outstation(scene, outstation, pass),
+        Role::ReadClient(client) => {
+            read_client(
+                scene.rt,
+                scene.shared,
+                pass,
+                client,
+                FROM_CLIENT,
+                scene.gate,
+            )
+        }
+        Role::WriteClient(client) => write_client(scene, client, pass),
+        Role::Tick => clock(scene.rt, scene.shared, pass, &Still, scene.gate),
+    }
 }
 
-fn serve_outstations<L: Ledger + Send + Sync, R: Host>(
-    scene: &Scene<'_, L, R>,
-    pairs: Pairs<L>,
-) -> Pairs<L> {
-    let Pairs { first, second } = pairs;
-    let (first, second) = thread::join(
-        scene.rt,
-        move || serve_outstation(
-            scene,
-            0,
-            FROM_OUTSTATION_0,
-            &scene.peers.outstation_0,
-            first,
-        ),
-        move || serve_outstation(
-            scene,
-            1,
-            FROM_OUTSTATION_1,
-            &scene.peers.outstation_1,
-            second,
-        ),
-    );
-    Pairs { first, second }
-}
-
-fn serve_clients<L: Ledger + Send + Sync, R: Host>(
-    scene: &Scene<'_, L, R>,
-    pairs: Pairs<L>,
-) -> Pairs<L> {
-    let Pairs { first, second } = pairs;
-    let (first, second) = thread::join(
-        scene.rt,
-        move || serve_client(scene, 0, &scene.peers.client_0, first),
-        move || serve_client(scene, 1, &scene.peers.client_1, second),
-    );
-    Pairs { first, second }
-}
-
-/// Both workers of an outstation, which sends these octets.
-fn serve_outstation<L: Ledger + Send + Sync, R: Host>(
-    scene: &Scene<'_, L, R>,
-    outstation: u8,
-    octets: &[u8],
-    taken: &Taken,
-    both: Both<L>,
-) -> Both<L> {
-    let Both { reader, writer } = both;
-    let way = Way {
-        rt: scene.rt,
-        taken,
-    };
-    let line = Line::new(way, MASTER, address_of(outstation));
-    let line = &line;
-    let (reader, writer) = thread::join(
-        scene.rt,
-        move || read_outstation(scene, outstation, octets, line, reader),
-        move || write_outstation(scene, outstation, line, writer),
-    );
-    Both { reader, writer }
-}
-
-/// The link address of an outstation.
-fn address_of(outstation: u8) -> u16 {
-    u16::from(outstation) + 1
-}
+/// An outstation's link address, and what it sends.
+const OUTSTATIONS: &[(u16, &[u8])] = &[(1, FROM_OUTSTATION_0), (2, FROM_OUTSTATION_1)];
 
 fn read_outstation<L: Ledger, R: Host>(
     scene: &Scene<'_, L, R>,
     outstation: u8,
-    octets: &[u8],
-    line: &Line<Way<'_, R>>,
     pass: Pass<L>,
-) -> Pass<L> {
+) -> (Pass<L>, WorkerEnd) {
+    let (address, octets) = *OUTSTATIONS
+        .get(usize::from(outstation))
+        .expect(scene.rt, "an outstation");
     let mut input = Sent { rest: octets };
-    let (pass, end) = outstation_reader(
+    outstation_reader(
         scene.rt.alloc(),
         scene.rt,
         scene.shared,
         pass,
         outstation,
-        Receiver::new(scene.rt.alloc(), MASTER, address_of(outstation)),
+        Receiver::new(scene.rt.alloc(), MASTER, address),
         &mut input,
-        line,
+        line_of(scene, outstation),
         &Still,
         scene.gate,
-    );
-    assert_eq!(scene.rt; end, WorkerEnd::EndOfInput);
-    pass
+    )
+}
+
+fn line_of<'a, L: Ledger, R: Host>(
+    scene: &Scene<'a, L, R>,
+    outstation: u8,
+) -> &'a Line<Outstation> {
+    scene
+        .lines
+        .get(usize::from(outstation))
+        .expect(scene.rt, "a line")
 }
 
 fn write_outstation<L: Ledger, R: Host>(
     scene: &Scene<'_, L, R>,
     outstation: u8,
-    line: &Line<Way<'_, R>>,
     pass: Pass<L>,
-) -> Pass<L> {
-    let (pass, end) = outstation_writer(
+) -> (Pass<L>, WorkerEnd) {
+    let line = line_of(scene, outstation);
+    outstation_writer(
         scene.rt,
         scene.shared,
         pass,
@@ -306,54 +252,24 @@ fn write_outstation<L: Ledger, R: Host>(
         line,
         &Still,
         scene.gate,
-    );
-    assert_eq!(scene.rt; end, WorkerEnd::Stopping);
-    pass
-}
-
-/// Both workers of a client.
-fn serve_client<L: Ledger + Send + Sync, R: Host>(
-    scene: &Scene<'_, L, R>,
-    client: u8,
-    taken: &Taken,
-    both: Both<L>,
-) -> Both<L> {
-    let Both { reader, writer } = both;
-    let (reader, writer) = thread::join(
-        scene.rt,
-        move || read_client(scene, client, reader),
-        move || write_client(scene, client, taken, writer),
-    );
-    Both { reader, writer }
-}
-
-fn read_client<L: Ledger, R: Host>(scene: &Scene<'_, L, R>, client: u8, pass: Pass<L>) -> Pass<L> {
-    let mut input = Sent { rest: FROM_CLIENT };
-    let (pass, end) = client_reader(
-        scene.rt.alloc(),
-        scene.rt,
-        scene.shared,
-        pass,
-        client,
-        &mut input,
-        &Still,
-        scene.gate,
-    );
-    assert_eq!(scene.rt; end, WorkerEnd::EndOfInput);
-    pass
+    )
 }
 
 fn write_client<L: Ledger, R: Host>(
     scene: &Scene<'_, L, R>,
     client: u8,
-    taken: &Taken,
     pass: Pass<L>,
-) -> Pass<L> {
-    let mut writer = Way {
-        rt: scene.rt,
-        taken,
+) -> (Pass<L>, WorkerEnd) {
+    let taken = scene
+        .taken
+        .get(usize::from(client))
+        .expect(scene.rt, "a client");
+    let mut writer = Client {
+        octets: Vec::new(scene.rt.alloc()),
+        room: usize::MAX,
+        has_ended: &taken.has_ended,
     };
-    let (pass, end) = client_writer(
+    let ended = client_writer(
         scene.rt,
         scene.shared,
         pass,
@@ -362,24 +278,23 @@ fn write_client<L: Ledger, R: Host>(
         &Still,
         scene.gate,
     );
-    assert_eq!(scene.rt; end, WorkerEnd::Stopping);
-    pass
+    let Client { octets, .. } = writer;
+    *taken.octets.lock(scene.rt) = octets;
+    ended
 }
 
-fn tick<L: Ledger, R: Host>(scene: &Scene<'_, L, R>, pass: Pass<L>) -> Pass<L> {
-    let (pass, end) = clock(scene.rt, scene.shared, pass, &Still, scene.gate);
-    assert_eq!(scene.rt; end, WorkerEnd::Stopping);
-    pass
-}
-
-/// Closes the core, first with a pass missing, which gives the others back, and then with all; how many calls were made.
-fn close<L: Ledger, R: Host>(rt: &R, shared: &Shared<L>, passes: Vec<Pass<L>>) -> u64 {
+/// The core isn't closed with a pass missing, which gives the others back. Gives all.
+fn check_refusal<L: Ledger, R: Host>(
+    rt: &R,
+    shared: &Shared<L>,
+    passes: Vec<Pass<L>>,
+) -> Vec<Pass<L>> {
     let mut passes = passes;
-    let missing = last_of(rt, &mut passes);
+    let missing = passes.pop().expect(rt, "a pass");
     let mut passes = refused(rt, shared, passes);
     assert_eq!(rt; passes.len(), 8);
-    give(rt, &mut passes, missing);
-    total_of(rt, shared, passes)
+    passes.push(missing).expect(rt, "memory");
+    passes
 }
 
 /// The passes that are given back where one is missing.
@@ -391,13 +306,12 @@ fn refused<L: Ledger, R: Host>(rt: &R, shared: &Shared<L>, passes: Vec<Pass<L>>)
 }
 
 /// All calls were kept, and the peers' workers took and gave what was stepped.
-fn check<R: Host>(rt: &R, recorder: &Recorder, peers: &Peers, total: u64) {
-    let dump = dump_of(rt, recorder);
-    assert_eq!(rt; dump.counts, [0; 9].as_slice());
-    assert_eq!(rt; dump.entries.len() as u64, total);
-    check_replay(rt, &dump);
-    check_order(rt, dump.entries);
-    check_outstations(rt, dump.entries);
-    check_clients(rt, dump.entries, CLIENT_0_WRITER, &peers.client_0);
-    check_clients(rt, dump.entries, CLIENT_1_WRITER, &peers.client_1);
+fn check<R: Host>(rt: &R, recorder: &Recorder, taken: &[Taken; 2], total: u64) {
+    let entries = entries_since(rt, recorder, &[0; 9]);
+    assert_eq!(rt; entries.len() as u64, total);
+    assert!(rt; is_answered_first(entries));
+    check_outstations(rt, entries);
+    let [first, second] = taken;
+    check_client(rt, entries, CLIENT_0_WRITER, &first.octets.lock(rt));
+    check_client(rt, entries, CLIENT_1_WRITER, &second.octets.lock(rt));
 }

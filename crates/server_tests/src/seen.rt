@@ -2,7 +2,7 @@
 
 use gw_server::{Gate, Place};
 use std::rt::Clock;
-use std::sync::atomic::{AtomicBool, AtomicU64, Ordering};
+use std::sync::atomic::{AtomicU64, Ordering};
 use std::thread;
 use std::time::Duration;
 
@@ -23,35 +23,18 @@ pub struct Seen {
     pub requests: AtomicU64,
     pub apdus: AtomicU64,
     pub responses: AtomicU64,
-    /// Whether each peer was answered as it wants.
-    pub is_right: AtomicBool,
-}
-
-impl Seen {
-    /// Nothing was seen.
-    pub fn nothing() -> Seen {
-        Seen {
-            requests: AtomicU64::new(0),
-            apdus: AtomicU64::new(0),
-            responses: AtomicU64::new(0),
-            is_right: AtomicBool::new(true),
-        }
-    }
 }
 
 impl Gate for Seen {
     fn at(&self, actor: usize, place: Place) {
-        match (actor, place) {
-            (OUTSTATION_WRITER, Place::BeforeWrite) => count(&self.requests),
-            (CLIENT_WRITER, Place::BeforeWrite) => count(&self.apdus),
-            (OUTSTATION_READER, Place::Stepped) => count(&self.responses),
-            _ => {}
-        }
+        let times = match (actor, place) {
+            (OUTSTATION_WRITER, Place::BeforeWrite) => &self.requests,
+            (CLIENT_WRITER, Place::BeforeWrite) => &self.apdus,
+            (OUTSTATION_READER, Place::Stepped) => &self.responses,
+            _ => return,
+        };
+        times.fetch_add(1, Ordering::SeqCst);
     }
-}
-
-fn count(times: &AtomicU64) {
-    times.fetch_add(1, Ordering::SeqCst);
 }
 
 /// Looks until something was seen so often; whether it was in time.
