@@ -75,11 +75,16 @@ fn meet<
         apdus: AtomicU64::new(0),
         responses: AtomicU64::new(0),
     };
-    let are_right = thread::map_indices(rt, rt.alloc(), 3, &|part| match part {
-        0 => serve_one(rt, outstation, server, &seen),
-        1 => answer(rt, outstation, &seen),
-        _ => interrogate(rt, server, &seen),
-    })
+    let are_right = thread::map_indices(
+        rt,
+        rt.alloc(),
+        3,
+        &|part| match part {
+            0 => serve_one(rt, outstation, server, &seen),
+            1 => answer(rt, outstation, &seen),
+            _ => interrogate(rt, server, &seen),
+        },
+    )
     .expect(rt, "memory");
     assert_eq!(rt; are_right.as_slice(), [true; 3].as_slice());
 }
@@ -144,7 +149,8 @@ fn interrogate<R: Host + Abort>(rt: &R, server: &TcpListener, seen: &Seen) -> bo
     let is_known = is_seen(rt, &seen.responses, 1);
     let patience = Duration::from_secs(PATIENCE);
     let stream = TcpStream::connect_timeout(rt, &address_of(rt, server), patience).expect(
-        rt, "the server accepts",
+        rt,
+        "the server accepts",
     );
     let is_right = is_known
         && writes(&stream, STARTDT_ACT)
