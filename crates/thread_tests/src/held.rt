@@ -47,19 +47,16 @@ impl<'a, R: Clock> Gate for Held<'a, R> {
             (Place::Decoded, OUTSTATION_0_READER) | (Place::BeforeWrite, CLIENT_0_WRITER) => {
                 self.is_served_1
             }
-            (Place::Stepped, CLIENT_0_READER) if is_last(&self.stepped_0) => self.is_served_0,
-            (Place::Stepped, CLIENT_1_READER) if is_last(&self.stepped_1) => self.is_served_1,
+            (Place::Stepped, CLIENT_0_READER)
+                if self.stepped_0.fetch_add(1, Ordering::SeqCst) == LAST => self.is_served_0,
+            (Place::Stepped, CLIENT_1_READER)
+                if self.stepped_1.fetch_add(1, Ordering::SeqCst) == LAST => self.is_served_1,
             _ => return,
         };
         if !is_set(self.rt, awaited) {
             self.is_late.store(true, Ordering::SeqCst);
         }
     }
-}
-
-/// Counts an APDU; whether it is the last.
-fn is_last(stepped: &AtomicU64) -> bool {
-    stepped.fetch_add(1, Ordering::SeqCst) == LAST
 }
 
 /// Waits until a flag is set, but not for ever; whether it is.

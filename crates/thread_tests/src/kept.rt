@@ -1,29 +1,30 @@
 //! What workers gave and took, beside the calls that a recorder has kept of them.
 
-use crate::held::{CLIENT_1_WRITER, OUTSTATION_0_READER, OUTSTATION_1_READER};
+use crate::held::{CLIENT_1_WRITER, OUTSTATION_0_READER};
 use crate::memory::has_termination;
-use crate::peers::{FROM_OUTSTATION_0, FROM_OUTSTATION_1};
+use crate::peers::{MASTER, SOURCES, Source};
 use dnp_app::Response;
 use dnp_receive::responses_of;
 use gw_hub::{Reply, Step};
 use gw_record::Entry;
 use std::process::Abort;
-
-/// Where octets come from: the outstation, the actor that read them, the link address, and the octets.
-const SOURCES: &[(u8, usize, u16, &[u8])] = &[
-    (0, OUTSTATION_0_READER, 1, FROM_OUTSTATION_0),
-    (1, OUTSTATION_1_READER, 2, FROM_OUTSTATION_1),
-];
+use std::sync::{Mutex, Wait};
 
 /// The readers of outstations made a step of each response in their octets.
 pub fn check_outstations<R: Abort + AllocGlobal>(rt: &R, entries: &[Entry]) {
-    for (outstation, actor, address, octets) in SOURCES {
-        let responses = responses_of(rt.alloc(), *outstation, &[octets], 1024, *address).expect(
+    for source in SOURCES {
+        let Source {
+            outstation,
+            address,
+            octets,
+            ..
+        } = *source;
+        let responses = responses_of(rt.alloc(), outstation, &[octets], MASTER, address).expect(
             rt, "memory",
         );
         assert_eq!(rt; responses.len(), 2);
         assert!(rt;
-            are_stepped(entries, *actor, &responses),
+            are_stepped(entries, source.reader, &responses),
             "outstation {outstation}"
         );
     }
@@ -35,7 +36,9 @@ fn are_stepped(entries: &[Entry], actor: usize, responses: &[Response]) -> bool 
     for entry in entries {
         if let (true, Step::Fragment { response, .. }) = (entry.actor == actor, &entry.step) {
             match rest.split_first() {
-                Some((first, others)) if is_same(first, response) => rest = others,
+                Some((first, others))
+                    if first.octets() == response.octets()
+                        && first.outstation() == response.outstation() => rest = others,
                 _ => return false,
             }
         }
@@ -43,22 +46,18 @@ fn are_stepped(entries: &[Entry], actor: usize, responses: &[Response]) -> bool 
     rest.is_empty()
 }
 
-/// Whether two responses have the same octets, of the same outstation.
-fn is_same(response: &Response, other: &Response) -> bool {
-    response.octets() == other.octets() && response.outstation() == other.outstation()
-}
-
 /// A client took the very APDUs that its writer's pumps were answered with, among them an interrogation's termination.
-pub fn check_client<R: Abort + AllocGlobal>(
+pub fn check_client<R: Wait + Abort + AllocGlobal>(
     rt: &R,
     entries: &[Entry],
     actor: usize,
-    octets: &[u8],
+    taken: &Mutex<Vec<u8>>,
 ) {
-    assert!(rt; has_termination(octets), "actor {actor}");
+    let given = octets_given(rt, entries, actor);
+    assert!(rt; has_termination(given.as_slice()), "actor {actor}");
     assert_eq!(rt;
-        octets_given(rt, entries, actor).as_slice(),
-        octets,
+        taken.lock(rt).as_slice(),
+        given.as_slice(),
         "actor {actor}"
     );
 }

@@ -78,9 +78,12 @@ const TERMINATION: &[u8] = &[0x64, 0x01, 0x0A, 0x00, 0x01, 0x00, 0x00, 0x00, 0x0
 
 /// Whether an interrogation's termination is among octets.
 pub fn has_termination(octets: &[u8]) -> bool {
-    octets
-        .windows(TERMINATION.len())
-        .any(|front| front == TERMINATION)
+    for front in octets.windows(TERMINATION.len()) {
+        if front == TERMINATION {
+            return true;
+        }
+    }
+    false
 }
 
 /// Reads what a client sends.

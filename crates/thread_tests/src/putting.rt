@@ -71,10 +71,10 @@ fn check_put<R: Abort + AllocGlobal>(rt: &R, hub: &Hub, room: usize, end: Put) {
         room,
         has_ended: &has_ended,
     };
-    assert_eq!(rt; put(copy_of(rt, hub), &mut writer), end, "room for {room}");
+    let ended = put(copy_of(rt, hub), &mut writer);
     assert_eq!(rt;
-        Some(writer.octets.as_slice()),
-        RUN.get(..room),
+        (ended, Some(writer.octets.as_slice())),
+        (end, RUN.get(..room)),
         "room for {room}"
     );
 }

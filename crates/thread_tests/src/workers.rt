@@ -10,7 +10,7 @@ use crate::held::{
 use crate::kept::{check_client, check_outstations, is_answered_first};
 use crate::memory::{Client, Outstation, Sent, read_client};
 use crate::opening::{end, hub_on, open};
-use crate::peers::{FROM_CLIENT, FROM_OUTSTATION_0, FROM_OUTSTATION_1, Still, TWO_OUTSTATIONS};
+use crate::peers::{FROM_CLIENT, MASTER, SOURCES, Still, TWO_OUTSTATIONS};
 use crate::telling::entries_since;
 use dnp_receive::Receiver;
 use gw_hub::Hub;
@@ -27,11 +27,6 @@ use std::thread::{self, Threads};
 
 /// How many calls the recorder keeps: more than the workers make.
 const ROOM: usize = 4096;
-
-/// The link addresses of the master and of the outstations.
-const MASTER: u16 = 1024;
-
-const ADDRESSES: [u16; 2] = [1, 2];
 
 /// What workers wait, sleep and end with.
 trait Host: Threads + Wait + Sleeps + Abort + AllocGlobal + Sync {}
@@ -137,15 +132,16 @@ fn serve<L: Ledger + Send + Sync, R: Host>(
         stepped_1: AtomicU64::new(0),
         is_late: AtomicBool::new(false),
     };
-    let [first, second] = ADDRESSES;
+    let [first, second] = SOURCES;
+    let lines = [
+        Line::new(Outstation, MASTER, first.address),
+        Line::new(Outstation, MASTER, second.address),
+    ];
     let scene = Scene {
         rt,
         shared,
         gate: &gate,
-        lines: &[
-            Line::new(Outstation, MASTER, first),
-            Line::new(Outstation, MASTER, second),
-        ],
+        lines: &lines,
         taken,
         at_work: AtomicU64::new(8),
     };
@@ -202,25 +198,24 @@ fn perform_as<L: Ledger, R: Host>(
     }
 }
 
-/// An outstation's link address, and what it sends.
-const OUTSTATIONS: &[(u16, &[u8])] = &[(1, FROM_OUTSTATION_0), (2, FROM_OUTSTATION_1)];
-
 fn read_outstation<L: Ledger, R: Host>(
     scene: &Scene<'_, L, R>,
     outstation: u8,
     pass: Pass<L>,
 ) -> (Pass<L>, WorkerEnd) {
-    let (address, octets) = *OUTSTATIONS
+    let source = SOURCES
         .get(usize::from(outstation))
         .expect(scene.rt, "an outstation");
-    let mut input = Sent { rest: octets };
+    let mut input = Sent {
+        rest: source.octets,
+    };
     outstation_reader(
         scene.rt.alloc(),
         scene.rt,
         scene.shared,
         pass,
         outstation,
-        Receiver::new(scene.rt.alloc(), MASTER, address),
+        Receiver::new(scene.rt.alloc(), MASTER, source.address),
         &mut input,
         line_of(scene, outstation),
         &Still,
@@ -312,6 +307,6 @@ fn check<R: Host>(rt: &R, recorder: &Recorder, taken: &[Taken; 2], total: u64) {
     assert!(rt; is_answered_first(entries));
     check_outstations(rt, entries);
     let [first, second] = taken;
-    check_client(rt, entries, CLIENT_0_WRITER, &first.octets.lock(rt));
-    check_client(rt, entries, CLIENT_1_WRITER, &second.octets.lock(rt));
+    check_client(rt, entries, CLIENT_0_WRITER, &first.octets);
+    check_client(rt, entries, CLIENT_1_WRITER, &second.octets);
 }
