@@ -236,8 +236,7 @@ fn converse<L: Ledger, R: Wait + Abort + AllocGlobal>(
     let (shared, mut passes) = open::<L, R>(rt, blank, hub, 2, (*room).max(1));
     let answers = answers_of(rt, &shared, &mut passes, turns, conversation.lines);
     let (total, recorder) = end(rt, shared, passes);
-    assert_eq!(rt; total, answers.len() as u64);
-    check(rt, conversation, &answers, &recorder);
+    check(rt, conversation, &answers, total, &recorder);
 }
 
 /// The answers are the replies, and those of a hub alone; and the calls are recorded.
@@ -245,8 +244,10 @@ fn check<R: Abort + AllocGlobal>(
     rt: &R,
     conversation: &Conversation,
     answers: &[Answer],
+    total: u64,
     recorder: &Recorder,
 ) {
+    assert_eq!(rt; total, answers.len() as u64);
     let Conversation {
         lines,
         replies,

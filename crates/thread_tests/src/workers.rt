@@ -64,7 +64,7 @@ struct Scene<'a, L: Ledger, R> {
     gate: &'a Held<'a, R>,
     lines: &'a [Line<Outstation>],
     taken: &'a [Taken],
-    /// How many workers of peers have not ended.
+    /// How many workers have not ended.
     at_work: AtomicU64,
 }
 
@@ -143,7 +143,7 @@ fn serve<L: Ledger + Send + Sync, R: Host>(
         gate: &gate,
         lines: &lines,
         taken,
-        at_work: AtomicU64::new(8),
+        at_work: AtomicU64::new(9),
     };
     let passes = perform_all(&scene, passes);
     assert!(rt;
@@ -166,7 +166,8 @@ fn perform<L: Ledger, R: Host>(scene: &Scene<'_, L, R>, pass: Pass<L>) -> Pass<L
     let (role, wanted) = *WORKERS.get(pass.actor()).expect(scene.rt, "a worker");
     let (pass, end) = perform_as(scene, role, pass);
     assert_eq!(scene.rt; end, wanted);
-    if scene.at_work.fetch_sub(1, Ordering::SeqCst) == 1 {
+    // The clock and this one were at work.
+    if scene.at_work.fetch_sub(1, Ordering::SeqCst) == 2 {
         assert!(scene.rt; !scene.shared.stopping());
         scene.shared.stop();
         assert!(scene.rt; scene.shared.stopping());
