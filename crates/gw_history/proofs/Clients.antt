@@ -59,7 +59,8 @@ abbrev pub AllGo : Setup → List Entry → Entry → State → State → Type 0
 AllGo setup past e s new = (d : ℕ) → SlotGoes setup (turn_of setup d past e) (slice_get s.clients d) (slice_get new.clients d)
 
 -- one of many
-sound_at : (station : StationSetup) (n i : ℕ) (ks : List Client) (c : ℕ) (k : Client) → slice_get ks c ≡ Some k → AllByRecursion (IsSoundClient station n i) ks → IsSoundClient station n i k
+sound_at : (station : StationSetup) (n i : ℕ) (ks : List Client) (c : ℕ) (k : Client) → slice_get ks c ≡ Some k
+    → AllByRecursion (IsSoundClient station n i) ks → IsSoundClient station n i k
 sound_at station n i [] c k at all = absurd cc
 sound_at station n i (x ∷ ks) zero k at all = subst (IsSoundClient station n i) (some_is x k at) all.0
 sound_at station n i (x ∷ ks) (suc c) k at all = sound_at station n i ks c k at all.1
@@ -75,12 +76,14 @@ idle_slot setup s d turn sound idle = by (slice_get s.clients d) refl
         let mine = sound_at setup.station s.counts.steps s.counts.news s.clients d k at sound.clients in
         (k, refl, subst (λ (t : Option Turn). Goes setup t k k) (sym idle) (sym (came-nil k mine.few)))
 
-nothing_goes : (setup : Setup) (past : List Entry) (e : Entry) (s new : State) → IsSound setup s → new.clients ≡ s.clients
+nothing_goes : (setup : Setup) (past : List Entry) (e : Entry) (s new : State) → IsSound setup s
+    → new.clients ≡ s.clients
     → ((d : ℕ) → turn_of setup d past e ≡ Some (bringing [])) → AllGo setup past e s new
 nothing_goes setup past e s new sound same idle d = rw same (idle_slot setup s d (turn_of setup d past e) sound (idle d))
 
 -- news come to all
-all_come : (setup : Setup) (past : List Entry) (e : Entry) (s new : State) (xs : List Observation) → new.clients ≡ map (client_with_news xs) s.clients
+all_come : (setup : Setup) (past : List Entry) (e : Entry) (s new : State) (xs : List Observation)
+    → new.clients ≡ map (client_with_news xs) s.clients
     → ((d : ℕ) → turn_of setup d past e ≡ Some (bringing xs)) → AllGo setup past e s new
 all_come setup past e s new xs clients turn d = rw (clients, turn d, map-get (client_with_news xs) s.clients d) (come (slice_get s.clients d))
   where
@@ -89,8 +92,10 @@ all_come setup past e s new xs clients turn d = rw (clients, turn d, map-get (cl
     come (Some k) = (client_with_news xs k, refl, refl)
 
 -- the other clients idle
-one_client : (setup : Setup) (past : List Entry) (e : Entry) (s new : State) (c : ℕ) (f : Client → Client) (k : Client) → IsSound setup s
-    → slice_get s.clients c ≡ Some k → new.clients ≡ change c f s.clients → ((d : ℕ) → (c ≡ d → ⊥) → turn_of setup d past e ≡ Some (bringing []))
+one_client : (setup : Setup) (past : List Entry) (e : Entry) (s new : State) (c : ℕ) (f : Client → Client)
+    (k : Client) → IsSound setup s
+    → slice_get s.clients c ≡ Some k → new.clients ≡ change c f s.clients
+    → ((d : ℕ) → (c ≡ d → ⊥) → turn_of setup d past e ≡ Some (bringing []))
     → Goes setup (turn_of setup c past e) k (f k) → AllGo setup past e s new
 one_client setup past e s new c f k sound at changed idle own d = rw changed (elim (cases_eq c d) [
   | inl same ↦ subst (λ (x : ℕ). SlotGoes setup (turn_of setup x past e) (slice_get s.clients x) (slice_get (change c f s.clients) x)) same
@@ -106,8 +111,10 @@ outstation_down setup past o m r s tied =
     all_come setup past (entry (steps.OutstationDown o m) (Ok r)) s (after setup s (steps.OutstationDown o m)) (losses_of o setup.rows (picture_of setup.rows (log_of setup past)))
     (ap (λ (p : List Observation). map (client_with_news (losses_of o setup.rows p)) s.clients) tied.picture) (λ d. refl)
 
-fragment : (setup : Setup) (past : List Entry) (f : Fragment) (m : ℕ) (r : Reply) (s : State) → HasSingleAddresses setup.rows setup.controls → IsSound setup s
-    → outcome setup s (steps.Fragment f m) ≡ Ok r → Tied setup past s → AllGo setup past (entry (steps.Fragment f m) (Ok r)) s (after setup s (steps.Fragment f m))
+fragment : (setup : Setup) (past : List Entry) (f : Fragment) (m : ℕ) (r : Reply) (s : State)
+    → HasSingleAddresses setup.rows setup.controls → IsSound setup s
+    → outcome setup s (steps.Fragment f m) ≡ Ok r → Tied setup past s
+    → AllGo setup past (entry (steps.Fragment f m) (Ok r)) s (after setup s (steps.Fragment f m))
 fragment setup past f m r s single sound e tied =
     let step : Step = steps.Fragment f m in
     let here : Entry = entry step (Ok r) in
@@ -126,7 +133,8 @@ fragment setup past f m r s single sound e tied =
 
 -- ---- ClientUp and ClientDown
 
-client_up : (setup : Setup) (past : List Entry) (c m : ℕ) (r : Reply) (s : State) → IsSound setup s → outcome setup s (steps.ClientUp c m) ≡ Ok r
+client_up : (setup : Setup) (past : List Entry) (c m : ℕ) (r : Reply) (s : State) → IsSound setup s
+    → outcome setup s (steps.ClientUp c m) ≡ Ok r
     → AllGo setup past (entry (steps.ClientUp c m) (Ok r)) s (after setup s (steps.ClientUp c m))
 client_up setup past c m r s sound e =
     let step : Step = steps.ClientUp c m in
@@ -137,7 +145,8 @@ client_up setup past c m r s sound e =
     (λ d ne. rw (ne_eqb c d ne) refl)
     (rw (eq-eqb c c refl) (fresh_up setup s.counts.steps s.counts.news (latest s m) down.0 (sound_at setup.station s.counts.steps s.counts.news s.clients c down.0 down.1 sound.clients))))
 
-client_down : (setup : Setup) (past : List Entry) (c m : ℕ) (r : Reply) (s : State) → IsSound setup s → outcome setup s (steps.ClientDown c m) ≡ Ok r
+client_down : (setup : Setup) (past : List Entry) (c m : ℕ) (r : Reply) (s : State) → IsSound setup s
+    → outcome setup s (steps.ClientDown c m) ≡ Ok r
     → AllGo setup past (entry (steps.ClientDown c m) (Ok r)) s (after setup s (steps.ClientDown c m))
 client_down setup past c m r s sound e =
     let step : Step = steps.ClientDown c m in
@@ -155,21 +164,25 @@ taken_reply None = refl
 taken_reply (Some command) = refl
 
 -- what becomes of its client, by why it closes
-frame_own : (setup : Setup) (past : List Entry) (c m moment : ℕ) (a : Apdu) (k : Client) (why : Option Why) → close_of setup a k ≡ why
+frame_own : (setup : Setup) (past : List Entry) (c m moment : ℕ) (a : Apdu) (k : Client) (why : Option Why)
+    → close_of setup a k ≡ why
     → Goes setup (turn_of setup c past (entry (steps.Frame c a m) (Ok (reply_of_event (event_by why (command_in setup a)))))) k
     (client_answered (event_by why (command_in setup a)) (client_by why k (client_taking setup (picture_of setup.rows (log_of setup past)) moment a k)))
 frame_own setup past c m moment a k None opens =
     rw (taken_reply (command_in setup a), eq-eqb c c refl) (record { moment = moment; opens = opens; becomes = refl })
 frame_own setup past c m moment a k (Some why) closes = rw (eq-eqb c c refl) refl
 
-frame_apart : (setup : Setup) (past : List Entry) (c d m : ℕ) (a : Apdu) (why : Option Why) (command : Option Command) → (c ≡ d → ⊥)
+frame_apart : (setup : Setup) (past : List Entry) (c d m : ℕ) (a : Apdu) (why : Option Why) (command : Option Command)
+    → (c ≡ d → ⊥)
     → turn_of setup d past (entry (steps.Frame c a m) (Ok (reply_of_event (event_by why command)))) ≡ Some (bringing [])
 frame_apart setup past c d m a None None ne = rw (ne_eqb c d ne) refl
 frame_apart setup past c d m a None (Some command) ne = rw (ne_eqb c d ne) refl
 frame_apart setup past c d m a (Some why) command ne = rw (ne_eqb c d ne) refl
 
-frame : (setup : Setup) (past : List Entry) (c m : ℕ) (a : Apdu) (r : Reply) (s : State) → IsSound setup s → outcome setup s (steps.Frame c a m) ≡ Ok r
-    → s.picture ≡ picture_of setup.rows (log_of setup past) → AllGo setup past (entry (steps.Frame c a m) (Ok r)) s (after setup s (steps.Frame c a m))
+frame : (setup : Setup) (past : List Entry) (c m : ℕ) (a : Apdu) (r : Reply) (s : State) → IsSound setup s
+    → outcome setup s (steps.Frame c a m) ≡ Ok r
+    → s.picture ≡ picture_of setup.rows (log_of setup past)
+    → AllGo setup past (entry (steps.Frame c a m) (Ok r)) s (after setup s (steps.Frame c a m))
 frame setup past c m a r s sound e picture =
     let step : Step = steps.Frame c a m in
     let told = answered (fault_of s step) (can_rise s.counts (needs setup s step).counts) (reply_to setup s step) r e in
@@ -187,7 +200,8 @@ frame setup past c m a r s sound e picture =
 -- ---- Pump
 
 -- what becomes of its client, by what is offered
-pump_own : (setup : Setup) (past : List Entry) (c m moment : ℕ) (k : Client) (x : Option Sending) → length k.queue ≤ k.limit → offered moment k ≡ x
+pump_own : (setup : Setup) (past : List Entry) (c m moment : ℕ) (k : Client) (x : Option Sending)
+    → length k.queue ≤ k.limit → offered moment k ≡ x
     → IfSome x (CanSend setup.station.offset_minutes)
     → let e : Entry = entry (steps.Pump c m) (Ok (reply_giving (option_map (content_of setup.station.offset_minutes setup.station.common_address k.window) x))) in
     Goes setup (turn_of setup c past e) k (client_by_offer moment x k)
@@ -204,7 +218,8 @@ pump_apart setup past c d m None ne = rw (ne_eqb c d ne) refl
 pump_apart setup past c d m (Some content) ne = rw (ne_eqb c d ne) refl
 
 pump : (setup : Setup) (past : List Entry) (c m : ℕ) (r : Reply) (s : State) → IsSound setup s
-    → outcome setup s (steps.Pump c m) ≡ Ok r → AllGo setup past (entry (steps.Pump c m) (Ok r)) s (after setup s (steps.Pump c m))
+    → outcome setup s (steps.Pump c m) ≡ Ok r
+    → AllGo setup past (entry (steps.Pump c m) (Ok r)) s (after setup s (steps.Pump c m))
 pump setup past c m r s sound e =
     let step : Step = steps.Pump c m in
     let moment : ℕ = latest s m in
@@ -229,7 +244,8 @@ abbrev late_at : ℕ → Option Client → Bool
 late_at moment None = false
 late_at moment (Some k) = is_timed_out moment k
 
-bit_told : (moment : ℕ) (ks : List Client) (c : ℕ) → has_bit c (bits_of (map (is_timed_out moment) ks)) ≡ late_at moment (slice_get ks c)
+bit_told : (moment : ℕ) (ks : List Client) (c : ℕ)
+    → has_bit c (bits_of (map (is_timed_out moment) ks)) ≡ late_at moment (slice_get ks c)
 bit_told moment [] c = bit_zero c
 bit_told moment (k ∷ ks) zero = lowest (is_timed_out moment k)
   where
@@ -238,12 +254,14 @@ bit_told moment (k ∷ ks) zero = lowest (is_timed_out moment k)
     lowest false = ne_eqb ((0 + 2 * bits_of (map (is_timed_out moment) ks)) % 2) 1 (λ (e : (0 + 2 * bits_of (map (is_timed_out moment) ks)) % 2 ≡ 1). omega (arith, e))
 bit_told moment (k ∷ ks) (suc c) = ap (has_bit c) (others (is_timed_out moment k)) ∙ bit_told moment ks c
   where
-    others : (b : Bool) → (one_if b + 2 * bits_of (map (is_timed_out moment) ks)) / 2 ≡ bits_of (map (is_timed_out moment) ks)
+    others : (b : Bool)
+        → (one_if b + 2 * bits_of (map (is_timed_out moment) ks)) / 2 ≡ bits_of (map (is_timed_out moment) ks)
     others true = omega arith
     others false = omega arith
 
 tick : (setup : Setup) (past : List Entry) (m : ℕ) (r : Reply) (s : State) → IsSound setup s
-    → outcome setup s (steps.Tick m) ≡ Ok r → AllGo setup past (entry (steps.Tick m) (Ok r)) s (after setup s (steps.Tick m))
+    → outcome setup s (steps.Tick m) ≡ Ok r
+    → AllGo setup past (entry (steps.Tick m) (Ok r)) s (after setup s (steps.Tick m))
 tick setup past m r s sound e d =
     let step : Step = steps.Tick m in
     let moment : ℕ = latest s m in
@@ -254,7 +272,8 @@ tick setup past m r s sound e d =
     bits : ℕ
     bits = bits_of (map (is_timed_out (latest s m)) s.clients)
 
-    by : (x : Option Client) → slice_get s.clients d ≡ x → SlotGoes setup (turn_of setup d past (entry (steps.Tick m) (Ok (replies.Ticked bits)))) x (option_map (client_after_tick (latest s m)) x)
+    by : (x : Option Client) → slice_get s.clients d ≡ x
+        → SlotGoes setup (turn_of setup d past (entry (steps.Tick m) (Ok (replies.Ticked bits)))) x (option_map (client_after_tick (latest s m)) x)
     by None at = refl
     by (Some k) at =
         let bit : has_bit d bits ≡ is_timed_out (latest s m) k = bit_told (latest s m) s.clients d ∙ ap (late_at (latest s m)) at in
@@ -266,7 +285,8 @@ tick setup past m r s sound e d =
 
 -- ---- each step
 
-step_goes : (setup : Setup) (past : List Entry) (step : Step) (r : Reply) (s : State) → HasSingleAddresses setup.rows setup.controls → IsSound setup s
+step_goes : (setup : Setup) (past : List Entry) (step : Step) (r : Reply) (s : State)
+    → HasSingleAddresses setup.rows setup.controls → IsSound setup s
     → outcome setup s step ≡ Ok r → Tied setup past s → AllGo setup past (entry step (Ok r)) s (after setup s step)
 step_goes setup past (steps.OutstationUp o m) r s single sound e tied =
     nothing_goes setup past (entry (steps.OutstationUp o m) (Ok r)) s (after setup s (steps.OutstationUp o m)) sound refl (λ d. refl)
@@ -280,8 +300,10 @@ step_goes setup past (steps.Frame c apdu m) r s single sound e tied = frame setu
 step_goes setup past (steps.Pump c m) r s single sound e tied = pump setup past c m r s sound e
 step_goes setup past (steps.Tick m) r s single sound e tied = tick setup past m r s sound e
 
-pub all_go : (setup : Setup) (past : List Entry) (step : Step) (reply : Result Reply StepFault) → HasSingleAddresses setup.rows setup.controls → LeavesSound setup past
-    → Allowed setup (state_after setup past) step reply (state_after setup (entry step reply ∷ past)) → Tied setup past (state_after setup past)
+pub all_go : (setup : Setup) (past : List Entry) (step : Step) (reply : Result Reply StepFault)
+    → HasSingleAddresses setup.rows setup.controls → LeavesSound setup past
+    → Allowed setup (state_after setup past) step reply (state_after setup (entry step reply ∷ past))
+    → Tied setup past (state_after setup past)
     → AllGo setup past (entry step reply) (state_after setup past) (state_after setup (entry step reply ∷ past))
 all_go setup past step (Ok r) single sound allowed tied = step_goes setup past step r (state_after setup past) single sound allowed.0 tied
 all_go setup past step (Err f) single sound allowed tied = nothing_goes setup past (entry step (Err f)) (state_after setup past) (state_after setup past) sound refl (λ d. refl)

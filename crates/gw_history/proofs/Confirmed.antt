@@ -28,11 +28,14 @@ use Rattle.gw_history.proofs.Masters.{MasterIs, MasterTied, verdict_is}
 use Rattle.gw_history.proofs.Tied.{Tied}
 use Rattle.gw_history.proofs.Places.{Place}
 
-answer_confirms : (asked : Option Asked) (f : Fragment) → confirmation_in (Some (verdict_due_to_answer asked f)) ≡ cond (is_answer asked f) (confirm_of f.octets) None
+answer_confirms : (asked : Option Asked) (f : Fragment)
+    → confirmation_in (Some (verdict_due_to_answer asked f)) ≡ cond (is_answer asked f) (confirm_of f.octets) None
 answer_confirms None f = refl
 answer_confirms (Some a) f = go (is_in_sequence a f) (is_in_place a f) refl refl
   where
-    go : (s p : Bool) → is_in_sequence a f ≡ s → is_in_place a f ≡ p → confirmation_in (Some (verdict_due_to_answer (Some a) f)) ≡ cond (is_answer (Some a) f) (confirm_of f.octets) None
+    go : (s p : Bool) → is_in_sequence a f ≡ s → is_in_place a f ≡ p
+        → confirmation_in (Some (verdict_due_to_answer (Some a) f)) ≡ cond (is_answer (Some a) f)
+        (confirm_of f.octets) None
     go true true es ep = rw (es, ep) refl
     go true false es ep = rw (es, ep) refl
     go false p es ep = rw es refl
@@ -42,7 +45,8 @@ or_false true = refl
 or_false false = refl
 
 -- the confirmation in what is to be said of a fragment is the one that is due
-due_confirms : (setup : Setup) (past : List Entry) (f : Fragment) (m : ℕ) → confirmation_in (Some (verdict_due setup past f)) ≡ confirmation_due setup past (steps.Fragment f m)
+due_confirms : (setup : Setup) (past : List Entry) (f : Fragment) (m : ℕ)
+    → confirmation_in (Some (verdict_due setup past f)) ≡ confirmation_due setup past (steps.Fragment f m)
 due_confirms setup past f m = go (is_unsolicited f) (is_text (last_text f.outstation past) f.octets) refl refl
   where
     go : (b text : Bool) → is_unsolicited f ≡ b → is_text (last_text f.outstation past) f.octets ≡ text
@@ -52,7 +56,8 @@ due_confirms setup past f m = go (is_unsolicited f) (is_text (last_text f.outsta
     go false text e et =
         rw (e, or_false (is_answer (asked_of setup f.outstation past) f)) (answer_confirms (asked_of setup f.outstation past) f)
 
-confirms : (setup : Setup) (past : List Entry) (step : Step) (r : Reply) (s : State) → outcome setup s step ≡ Ok r → Tied setup past s → Confirms setup past step r
+confirms : (setup : Setup) (past : List Entry) (step : Step) (r : Reply) (s : State) → outcome setup s step ≡ Ok r
+    → Tied setup past s → Confirms setup past step r
 confirms setup past step r s e tied =
     let told = answered (fault_of s step) (can_rise s.counts (needs setup s step).counts) (reply_to setup s step) r e in
     subst (Confirms setup past step) told.2 (by step told.0)
@@ -96,7 +101,8 @@ confirms setup past step r s e tied =
 
 -- ---- the law
 
-by_reply : (setup : Setup) (past : List Entry) (step : Step) (reply : Result Reply StepFault) (new : State) → Allowed setup (state_after setup past) step reply new
+by_reply : (setup : Setup) (past : List Entry) (step : Step) (reply : Result Reply StepFault) (new : State)
+    → Allowed setup (state_after setup past) step reply new
     → Tied setup past (state_after setup past) → ConfirmsBy setup past step reply
 by_reply setup past step (Ok r) new allowed tied = confirms setup past step r (state_after setup past) allowed.0 tied
 by_reply setup past step (Err f) new allowed tied = tt

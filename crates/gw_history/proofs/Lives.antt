@@ -15,7 +15,8 @@ use Rattle.gw_history.specs.Life.{Taking, Turn, Idle, Takes, PutsOut, Ends}
 pub record Took (setup : Setup) (a : Apdu) (taking : Taking) (k new : Client) : Type 0 where
   pub moment : ℕ
   pub opens : close_of setup a k ≡ None
-  pub becomes : new ≡ client_answered (event_taking (command_in setup a)) (client_taking setup taking.picture moment a k)
+  pub becomes : new ≡ client_answered (event_taking (command_in setup a))
+      (client_taking setup taking.picture moment a k)
 
 -- what is offered at a moment was put out, and said this
 pub record Gave (setup : Setup) (said : Said) (k new : Client) : Type 0 where
@@ -46,7 +47,8 @@ pub record IsFresh (setup : Setup) (k : Client) : Type 0 where
   pub rest : k.rest ≡ []
 
 -- a client that comes up, is so
-pub fresh_up : (setup : Setup) (steps news moment : ℕ) (k : Client) → IsSoundClient setup.station steps news k → IsFresh setup (client_after_up moment k)
+pub fresh_up : (setup : Setup) (steps news moment : ℕ) (k : Client) → IsSoundClient setup.station steps news k
+    → IsFresh setup (client_after_up moment k)
 fresh_up setup steps news moment k sound = record {
   stage = refl;
   limits = sound.window.limits;

@@ -32,7 +32,8 @@ IsQuiet setup log t = (ts : List Turn) → IsLogged setup log ts → IsLogged se
 idle : (setup : Setup) (log : List Observation) → IsQuiet setup log (bringing [])
 idle setup log ts logged = (log, sym (append-nil log), logged)
 
-taking : (setup : Setup) (log : List Observation) (a : Apdu) (r : Reply) → IsQuiet setup log (turn_taking a (picture_of setup.rows log) r)
+taking : (setup : Setup) (log : List Observation) (a : Apdu) (r : Reply)
+    → IsQuiet setup log (turn_taking a (picture_of setup.rows log) r)
 taking setup log a replies.Done ts logged = (refl, logged)
 taking setup log a (replies.Verdict v) ts logged = (refl, logged)
 taking setup log a (replies.Request x) ts logged = (refl, logged)
@@ -57,23 +58,27 @@ giving setup log replies.Nothing = idle setup log
 giving setup log (replies.Ticked bits) = idle setup log
 
 -- one turn more, where the log stays
-quiet : (setup : Setup) (log : List Observation) (ts : List Turn) (here : Bool) (t : Turn) → IsQuiet setup log t → IsLogged setup log ts
+quiet : (setup : Setup) (log : List Observation) (ts : List Turn) (here : Bool) (t : Turn) → IsQuiet setup log t
+    → IsLogged setup log ts
     → IsLogged setup (log ++ []) ((if here then t else bringing []) ∷ ts)
 quiet setup log ts true t is logged = subst (λ (l : List Observation). IsLogged setup l (t ∷ ts)) (sym (append-nil log)) (is ts logged)
 quiet setup log ts false t is logged = subst (λ (l : List Observation). IsLogged setup l (bringing [] ∷ ts)) (sym (append-nil log)) (idle setup log ts logged)
 
-begins : (setup : Setup) (log : List Observation) (ts : List Turn) (here : Bool) → IsLogged setup log ts → IsLogged setup (log ++ []) (lived (if here then None else Some (bringing [])) ts)
+begins : (setup : Setup) (log : List Observation) (ts : List Turn) (here : Bool) → IsLogged setup log ts
+    → IsLogged setup (log ++ []) (lived (if here then None else Some (bringing [])) ts)
 begins setup log ts true logged = tt
 begins setup log ts false logged = (log, refl, logged)
 
-pub logged_more : (setup : Setup) (c : ℕ) (past : List Entry) (e : Entry) (ts : List Turn) → IsLogged setup (log_of setup past) ts
+pub logged_more : (setup : Setup) (c : ℕ) (past : List Entry) (e : Entry) (ts : List Turn)
+    → IsLogged setup (log_of setup past) ts
     → IsLogged setup (log_of setup (e ∷ past)) (lived (turn_of setup c past e) ts)
 logged_more setup c past e ts logged = by e.step e.reply
   where
     log : List Observation
     log = log_of setup past
 
-    by : (step : Step) (reply : Result Reply StepFault) → IsLogged setup (log_of setup (entry step reply ∷ past)) (lived (turn_of setup c past (entry step reply)) ts)
+    by : (step : Step) (reply : Result Reply StepFault) → IsLogged setup (log_of setup (entry step reply ∷ past))
+        (lived (turn_of setup c past (entry step reply)) ts)
     by step (Err f) = (log, refl, logged)
     by (steps.OutstationUp o m) (Ok r) = (log, refl, logged)
     by (steps.OutstationDown o m) (Ok r) = (log, refl, logged)

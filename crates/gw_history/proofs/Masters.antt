@@ -50,7 +50,8 @@ MasterTied setup o past None = Unit {0}
 MasterTied setup o past (Some m) = MasterIs setup o past m
 
 -- an outstation of which the history tells nothing new
-pub same_is : (setup : Setup) (o : ℕ) (past : List Entry) (e : Entry) (m : Master) → last_text o (e ∷ past) ≡ last_text o past
+pub same_is : (setup : Setup) (o : ℕ) (past : List Entry) (e : Entry) (m : Master)
+    → last_text o (e ∷ past) ≡ last_text o past
     → asked_of setup o (e ∷ past) ≡ asked_of setup o past → MasterIs setup o past m → MasterIs setup o (e ∷ past) m
 same_is setup o past e m last asked tied = record {
   poll = tied.poll;
@@ -59,7 +60,8 @@ same_is setup o past e m last asked tied = record {
   awaits = subst (λ (x : Option Asked). AwaitsAs m.exchange x) (sym asked) tied.awaits;
 }
 
-pub same_master : (setup : Setup) (o : ℕ) (past : List Entry) (e : Entry) (x : Option Master) → last_text o (e ∷ past) ≡ last_text o past
+pub same_master : (setup : Setup) (o : ℕ) (past : List Entry) (e : Entry) (x : Option Master)
+    → last_text o (e ∷ past) ≡ last_text o past
     → asked_of setup o (e ∷ past) ≡ asked_of setup o past → MasterTied setup o past x → MasterTied setup o (e ∷ past) x
 same_master setup o past e None last asked tied = tt
 same_master setup o past e (Some m) last asked tied = same_is setup o past e m last asked tied
@@ -67,8 +69,10 @@ same_master setup o past e (Some m) last asked tied = same_is setup o past e m l
 -- ---- coming up and going down
 
 -- nothing is remembered and nothing awaits
-fresh_is : (setup : Setup) (o : ℕ) (past : List Entry) (e : Entry) (m new : Master) → last_text o (e ∷ past) ≡ None → asked_of setup o (e ∷ past) ≡ None
-    → new.poll ≡ m.poll → new.last ≡ None → new.sequence ≡ 0 → new.exchange ≡ Idle → MasterIs setup o past m → MasterIs setup o (e ∷ past) new
+fresh_is : (setup : Setup) (o : ℕ) (past : List Entry) (e : Entry) (m new : Master) → last_text o (e ∷ past) ≡ None
+    → asked_of setup o (e ∷ past) ≡ None
+    → new.poll ≡ m.poll → new.last ≡ None → new.sequence ≡ 0 → new.exchange ≡ Idle → MasterIs setup o past m
+    → MasterIs setup o (e ∷ past) new
 fresh_is setup o past e m new last asked poll none zero idle tied = record {
   poll = tied.poll ∙ ap (λ (x : Poll). Some x) (sym poll);
   last = none ∙ sym last;
@@ -76,14 +80,17 @@ fresh_is setup o past e m new last asked poll none zero idle tied = record {
   awaits = subst (λ (x : Exchange). AwaitsAs x (asked_of setup o (e ∷ past))) (sym idle) (subst (λ (x : Option Asked). AwaitsAs Idle x) (sym asked) tt);
 }
 
-pub master_up : (setup : Setup) (o m moment : ℕ) (r : Reply) (past : List Entry) (x : Option Master) → MasterTied setup o past x
+pub master_up : (setup : Setup) (o m moment : ℕ) (r : Reply) (past : List Entry) (x : Option Master)
+    → MasterTied setup o past x
     → MasterTied setup o (entry (steps.OutstationUp o m) (Ok r) ∷ past) (option_map (master_after_up moment) x)
 master_up setup o m moment r past None tied = tt
 master_up setup o m moment r past (Some x) tied =
     fresh_is setup o past (entry (steps.OutstationUp o m) (Ok r)) x (master_after_up moment x) (rw (eq-eqb o o refl) refl) (rw (eq-eqb o o refl) refl) refl refl refl refl tied
 
-pub master_lost : (setup : Setup) (o m : ℕ) (r : Reply) (past : List Entry) (x : Option Master) → MasterTied setup o past x
-    → MasterTied setup o (entry (steps.OutstationDown o m) (Ok r) ∷ past) (option_map (λ (y : Master). master_down y.poll) x)
+pub master_lost : (setup : Setup) (o m : ℕ) (r : Reply) (past : List Entry) (x : Option Master)
+    → MasterTied setup o past x
+    → MasterTied setup o (entry (steps.OutstationDown o m) (Ok r) ∷ past)
+    (option_map (λ (y : Master). master_down y.poll) x)
 master_lost setup o m r past None tied = tt
 master_lost setup o m r past (Some x) tied =
     fresh_is setup o past (entry (steps.OutstationDown o m) (Ok r)) x (master_down x.poll) (rw (eq-eqb o o refl) refl) (rw (eq-eqb o o refl) refl) refl refl refl refl tied
@@ -107,9 +114,11 @@ poll_asks : (setup : Setup) (o m wall : ℕ) (r : Request) (past : List Entry)
     → asked_of setup o (entry (steps.Poll o m wall) (Ok (replies.Request r)) ∷ past) ≡ Some (asked_by r (later (moment_after past) m))
 poll_asks setup o m wall r past = rw (eq-eqb o o refl) refl
 
-pub master_polled : (setup : Setup) (o m wall moment : ℕ) (past : List Entry) (x : Master) (task : Option Task) → task_given moment wall x ≡ task
+pub master_polled : (setup : Setup) (o m wall moment : ℕ) (past : List Entry) (x : Master) (task : Option Task)
+    → task_given moment wall x ≡ task
     → moment ≡ later (moment_after past) m → MasterIs setup o past x
-    → MasterIs setup o (entry (steps.Poll o m wall) (Ok (reply_asking (request_given moment wall x))) ∷ past) (master_after_next moment wall x)
+    → MasterIs setup o (entry (steps.Poll o m wall) (Ok (reply_asking (request_given moment wall x))) ∷ past)
+    (master_after_next moment wall x)
 master_polled setup o m wall moment past x None given at tied =
     rw given (same_is setup o past (entry (steps.Poll o m wall) (Ok replies.Nothing)) x refl refl tied)
 master_polled setup o m wall moment past x (Some task) given at tied =
@@ -131,7 +140,8 @@ ticked : (setup : Setup) (o moment : ℕ) (poll : Poll) (w : Awaited) (a : Asked
     → is_late moment poll w.since ≡ is_late moment poll a.since
 ticked setup o moment poll w a alike = ap (is_late moment poll) alike.since
 
-pub master_ticked : (setup : Setup) (o m moment : ℕ) (r : Reply) (past : List Entry) (x : Option Master) → moment ≡ later (moment_after past) m → MasterTied setup o past x
+pub master_ticked : (setup : Setup) (o m moment : ℕ) (r : Reply) (past : List Entry) (x : Option Master)
+    → moment ≡ later (moment_after past) m → MasterTied setup o past x
     → MasterTied setup o (entry (steps.Tick m) (Ok r) ∷ past) (option_map (master_after_tick moment) x)
 master_ticked setup o m moment r past None at tied = tt
 master_ticked setup o m moment r past (Some x) at tied = go x.exchange (asked_of setup o past) refl tied.awaits
@@ -170,7 +180,8 @@ in_place : (first fir : Bool) → is_begun_rightly (not first) fir ≡ cond firs
 in_place true fir = refl
 in_place false fir = refl
 
-pub verdict_to_answer : (exchange : Exchange) (asked : Option Asked) (f : Fragment) → AwaitsAs exchange asked → verdict_of_answer exchange f ≡ verdict_due_to_answer asked f
+pub verdict_to_answer : (exchange : Exchange) (asked : Option Asked) (f : Fragment) → AwaitsAs exchange asked
+    → verdict_of_answer exchange f ≡ verdict_due_to_answer asked f
 verdict_to_answer Idle None f alike = refl
 verdict_to_answer Idle (Some a) f alike = absurd alike
 verdict_to_answer (Waiting w) None f alike = absurd alike
@@ -183,27 +194,32 @@ unsolicited_verdict : (past : List Entry) (f : Fragment) (m : Master) → m.last
 unsolicited_verdict past f m same = text_is_last m.last f.octets ∙ ap (λ (last : Option (List ℕ)). is_text last f.octets) same
 
 -- a fragment is judged as the history tells
-pub verdict_is : (setup : Setup) (past : List Entry) (f : Fragment) (m : Master) → MasterIs setup f.outstation past m → verdict_of m f ≡ verdict_due setup past f
+pub verdict_is : (setup : Setup) (past : List Entry) (f : Fragment) (m : Master) → MasterIs setup f.outstation past m
+    → verdict_of m f ≡ verdict_due setup past f
 verdict_is setup past f m tied = go (is_unsolicited f) refl
   where
     go : (b : Bool) → is_unsolicited f ≡ b → verdict_of m f ≡ verdict_due setup past f
     go true e = rw (e, unsolicited_verdict past f m tied.last) refl
     go false e = rw e (verdict_to_answer m.exchange (asked_of setup f.outstation past) f tied.awaits)
 
-answer_accepted : (asked : Option Asked) (f : Fragment) → is_acceptance (verdict_due_to_answer asked f) ≡ is_answer asked f
+answer_accepted : (asked : Option Asked) (f : Fragment)
+    → is_acceptance (verdict_due_to_answer asked f) ≡ is_answer asked f
 answer_accepted None f = refl
 answer_accepted (Some a) f = go (is_in_sequence a f) (is_in_place a f) refl refl
   where
-    go : (s p : Bool) → is_in_sequence a f ≡ s → is_in_place a f ≡ p → is_acceptance (verdict_due_to_answer (Some a) f) ≡ is_answer (Some a) f
+    go : (s p : Bool) → is_in_sequence a f ≡ s → is_in_place a f ≡ p
+        → is_acceptance (verdict_due_to_answer (Some a) f) ≡ is_answer (Some a) f
     go true true es ep = rw (es, ep) refl
     go true false es ep = rw (es, ep) refl
     go false p es ep = rw es refl
 
 -- and accepted as the history tells
-pub same_accepted : (setup : Setup) (past : List Entry) (f : Fragment) (m : Master) → MasterIs setup f.outstation past m → accepts m f ≡ is_accepted setup past f
+pub same_accepted : (setup : Setup) (past : List Entry) (f : Fragment) (m : Master)
+    → MasterIs setup f.outstation past m → accepts m f ≡ is_accepted setup past f
 same_accepted setup past f m tied = go (is_unsolicited f) (is_text (last_text f.outstation past) f.octets) refl refl
   where
-    go : (b last : Bool) → is_unsolicited f ≡ b → is_text (last_text f.outstation past) f.octets ≡ last → accepts m f ≡ is_accepted setup past f
+    go : (b last : Bool) → is_unsolicited f ≡ b → is_text (last_text f.outstation past) f.octets ≡ last
+        → accepts m f ≡ is_accepted setup past f
     go true true e el = rw (e, unsolicited_verdict past f m tied.last, el) refl
     go true false e el = rw (e, unsolicited_verdict past f m tied.last, el) refl
     go false last e el =
@@ -214,24 +230,28 @@ is_last-true None octets e = absurd cc
 is_last-true (Some l) octets e = ap (λ (x : List ℕ). Some x) ((bytes_eq-Decides l octets).0 e)
 
 -- what the history tells of the outstation of a fragment then
-own_last : (past : List Entry) (f : Fragment) (m : ℕ) (r : Reply) → is_unsolicited f ≡ true → last_text f.outstation (entry (steps.Fragment f m) (Ok r) ∷ past) ≡ Some f.octets
+own_last : (past : List Entry) (f : Fragment) (m : ℕ) (r : Reply) → is_unsolicited f ≡ true
+    → last_text f.outstation (entry (steps.Fragment f m) (Ok r) ∷ past) ≡ Some f.octets
 own_last past f m r e = rw (eq-eqb f.outstation f.outstation refl, e) refl
 
-kept_last : (past : List Entry) (f : Fragment) (m : ℕ) (r : Reply) → is_unsolicited f ≡ false → last_text f.outstation (entry (steps.Fragment f m) (Ok r) ∷ past) ≡ last_text f.outstation past
+kept_last : (past : List Entry) (f : Fragment) (m : ℕ) (r : Reply) → is_unsolicited f ≡ false
+    → last_text f.outstation (entry (steps.Fragment f m) (Ok r) ∷ past) ≡ last_text f.outstation past
 kept_last past f m r e = rw (eq-eqb f.outstation f.outstation refl, e) refl
 
 kept_asked : (setup : Setup) (past : List Entry) (f : Fragment) (m : ℕ) (r : Reply) → is_unsolicited f ≡ true
     → asked_of setup f.outstation (entry (steps.Fragment f m) (Ok r) ∷ past) ≡ asked_of setup f.outstation past
 kept_asked setup past f m r e = rw (eq-eqb f.outstation f.outstation refl, e) refl
 
-own_asked : (setup : Setup) (past : List Entry) (f : Fragment) (m : ℕ) (r : Reply) (answers : Bool) → is_unsolicited f ≡ false → is_answer (asked_of setup f.outstation past) f ≡ answers
+own_asked : (setup : Setup) (past : List Entry) (f : Fragment) (m : ℕ) (r : Reply) (answers : Bool)
+    → is_unsolicited f ≡ false → is_answer (asked_of setup f.outstation past) f ≡ answers
     → asked_of setup f.outstation (entry (steps.Fragment f m) (Ok r) ∷ past)
     ≡ cond answers (asked_with (later (moment_after past) m) f (asked_of setup f.outstation past)) (asked_of setup f.outstation past)
 own_asked setup past f m r true e ea = rw (eq-eqb f.outstation f.outstation refl, e, ea) refl
 own_asked setup past f m r false e ea = rw (eq-eqb f.outstation f.outstation refl, e, ea) refl
 
 -- and of the others
-pub other_last : (past : List Entry) (f : Fragment) (p m : ℕ) (r : Reply) → (f.outstation ≡ p → ⊥) → last_text p (entry (steps.Fragment f m) (Ok r) ∷ past) ≡ last_text p past
+pub other_last : (past : List Entry) (f : Fragment) (p m : ℕ) (r : Reply) → (f.outstation ≡ p → ⊥)
+    → last_text p (entry (steps.Fragment f m) (Ok r) ∷ past) ≡ last_text p past
 other_last past f p m r ne = rw (ne_eqb f.outstation p ne) refl
 
 pub other_asked : (setup : Setup) (past : List Entry) (f : Fragment) (p m : ℕ) (r : Reply) → (f.outstation ≡ p → ⊥)
@@ -239,7 +259,8 @@ pub other_asked : (setup : Setup) (past : List Entry) (f : Fragment) (p m : ℕ)
 other_asked setup past f p m r ne = rw (ne_eqb f.outstation p ne) refl
 
 -- one fragment more of an answer
-awaits_more : (moment : ℕ) (f : Fragment) (exchange : Exchange) (asked : Option Asked) (m : Master) → m.sequence < 16 → is_answer asked f ≡ true → AwaitsAs exchange asked
+awaits_more : (moment : ℕ) (f : Fragment) (exchange : Exchange) (asked : Option Asked) (m : Master) → m.sequence < 16
+    → is_answer asked f ≡ true → AwaitsAs exchange asked
     → AwaitsAs (master_after_answer moment f exchange m).exchange (asked_with moment f asked) × ((master_after_answer moment f exchange m).sequence < 16)
 awaits_more moment f Idle None m small answers alike = absurd cc
 awaits_more moment f Idle (Some a) m small answers alike = absurd alike
@@ -256,17 +277,21 @@ awaits_more moment f (Waiting w) (Some a) m small answers alike = (go (control_i
     go true = tt
     go false = record { expected = next; begun = begun; since = refl }
 
-after_answer_poll : (moment : ℕ) (f : Fragment) (exchange : Exchange) (m : Master) → (master_after_answer moment f exchange m).poll ≡ m.poll
+after_answer_poll : (moment : ℕ) (f : Fragment) (exchange : Exchange) (m : Master)
+    → (master_after_answer moment f exchange m).poll ≡ m.poll
 after_answer_poll moment f Idle m = refl
 after_answer_poll moment f (Waiting w) m = refl
 
-after_answer_last : (moment : ℕ) (f : Fragment) (exchange : Exchange) (m : Master) → (master_after_answer moment f exchange m).last ≡ m.last
+after_answer_last : (moment : ℕ) (f : Fragment) (exchange : Exchange) (m : Master)
+    → (master_after_answer moment f exchange m).last ≡ m.last
 after_answer_last moment f Idle m = refl
 after_answer_last moment f (Waiting w) m = refl
 
 -- an accepted fragment
-pub master_accepted : (setup : Setup) (past : List Entry) (f : Fragment) (m moment : ℕ) (r : Reply) (x : Master) → moment ≡ later (moment_after past) m → accepts x f ≡ true
-    → MasterIs setup f.outstation past x → MasterIs setup f.outstation (entry (steps.Fragment f m) (Ok r) ∷ past) (master_after_fragment moment f x)
+pub master_accepted : (setup : Setup) (past : List Entry) (f : Fragment) (m moment : ℕ) (r : Reply) (x : Master)
+    → moment ≡ later (moment_after past) m → accepts x f ≡ true
+    → MasterIs setup f.outstation past x → MasterIs setup f.outstation (entry (steps.Fragment f m) (Ok r) ∷ past)
+    (master_after_fragment moment f x)
 master_accepted setup past f m moment r x at takes tied = rw takes (go (is_unsolicited f) refl)
   where
     e : Entry
@@ -292,7 +317,8 @@ master_accepted setup past f m moment r x at takes tied = rw takes (go (is_unsol
         })
 
 -- a fragment that isn't accepted
-pub master_left : (setup : Setup) (past : List Entry) (f : Fragment) (m : ℕ) (r : Reply) (x : Master) → accepts x f ≡ false
+pub master_left : (setup : Setup) (past : List Entry) (f : Fragment) (m : ℕ) (r : Reply) (x : Master)
+    → accepts x f ≡ false
     → MasterIs setup f.outstation past x → MasterIs setup f.outstation (entry (steps.Fragment f m) (Ok r) ∷ past) x
 master_left setup past f m r x left tied = go (is_unsolicited f) refl
   where

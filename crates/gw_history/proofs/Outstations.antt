@@ -33,7 +33,8 @@ use Rattle.gw_history.proofs.Tied.{Tied, told_moment, brought, same_log, quiet_t
 
 -- one outstation changes, and the others as the history tells of them
 changed_outstations : (setup : Setup) (past : List Entry) (e : Entry) (s : State) (o : ℕ) (f : Master → Master)
-    → ((p : ℕ) → (o ≡ p → ⊥) → last_text p (e ∷ past) ≡ last_text p past) → ((p : ℕ) → (o ≡ p → ⊥) → asked_of setup p (e ∷ past) ≡ asked_of setup p past)
+    → ((p : ℕ) → (o ≡ p → ⊥) → last_text p (e ∷ past) ≡ last_text p past)
+    → ((p : ℕ) → (o ≡ p → ⊥) → asked_of setup p (e ∷ past) ≡ asked_of setup p past)
     → MasterTied setup o (e ∷ past) (option_map f (slice_get s.outstations o)) → Tied setup past s
     → (p : ℕ) → MasterTied setup p (e ∷ past) (slice_get (change o f s.outstations) p)
 changed_outstations setup past e s o f lasts asks own tied p = elim (cases_eq o p) [
@@ -54,7 +55,8 @@ outstation_up setup past o m r s tied =
 
 -- ---- OutstationDown
 
-pub outstation_down : (setup : Setup) (past : List Entry) (o m : ℕ) (r : Reply) (s : State) → HasSingleAddresses setup.rows setup.controls → Tied setup past s
+pub outstation_down : (setup : Setup) (past : List Entry) (o m : ℕ) (r : Reply) (s : State)
+    → HasSingleAddresses setup.rows setup.controls → Tied setup past s
     → Tied setup (entry (steps.OutstationDown o m) (Ok r) ∷ past) (after setup s (steps.OutstationDown o m))
 outstation_down setup past o m r s single tied =
     let e : Entry = entry (steps.OutstationDown o m) (Ok r) in
@@ -74,7 +76,8 @@ other_polled : (setup : Setup) (past : List Entry) (o p m wall : ℕ) (given : O
 other_polled setup past o p m wall None ne = refl
 other_polled setup past o p m wall (Some request) ne = rw (ne_eqb o p ne) refl
 
-pub poll : (setup : Setup) (past : List Entry) (o m wall : ℕ) (r : Reply) (s : State) → outcome setup s (steps.Poll o m wall) ≡ Ok r → Tied setup past s
+pub poll : (setup : Setup) (past : List Entry) (o m wall : ℕ) (r : Reply) (s : State)
+    → outcome setup s (steps.Poll o m wall) ≡ Ok r → Tied setup past s
     → Tied setup (entry (steps.Poll o m wall) (Ok r) ∷ past) (after setup s (steps.Poll o m wall))
 poll setup past o m wall r s e tied =
     let step : Step = steps.Poll o m wall in
@@ -106,7 +109,8 @@ tick setup past m r s tied =
 
 -- ---- Fragment
 
-fragment_taken : (setup : Setup) (past : List Entry) (f : Fragment) (m : ℕ) (r : Reply) (s : State) (x : Master) → HasSingleAddresses setup.rows setup.controls
+fragment_taken : (setup : Setup) (past : List Entry) (f : Fragment) (m : ℕ) (r : Reply) (s : State) (x : Master)
+    → HasSingleAddresses setup.rows setup.controls
     → slice_get s.outstations f.outstation ≡ Some x → MasterIs setup f.outstation past x → accepts x f ≡ true
     → Tied setup past s → Tied setup (entry (steps.Fragment f m) (Ok r) ∷ past) (after setup s (steps.Fragment f m))
 fragment_taken setup past f m r s x single at is takes tied =
@@ -127,8 +131,10 @@ fragment_taken setup past f m r s x single at is takes tied =
       moment = told_moment setup past s m tied;
     })
 
-fragment_left : (setup : Setup) (past : List Entry) (f : Fragment) (m : ℕ) (r : Reply) (s : State) (x : Master) → slice_get s.outstations f.outstation ≡ Some x
-    → MasterIs setup f.outstation past x → accepts x f ≡ false → Tied setup past s → Tied setup (entry (steps.Fragment f m) (Ok r) ∷ past) (after setup s (steps.Fragment f m))
+fragment_left : (setup : Setup) (past : List Entry) (f : Fragment) (m : ℕ) (r : Reply) (s : State) (x : Master)
+    → slice_get s.outstations f.outstation ≡ Some x
+    → MasterIs setup f.outstation past x → accepts x f ≡ false → Tied setup past s
+    → Tied setup (entry (steps.Fragment f m) (Ok r) ∷ past) (after setup s (steps.Fragment f m))
 fragment_left setup past f m r s x at is left tied =
     let e : Entry = entry (steps.Fragment f m) (Ok r) in
     let none : brought setup past e ≡ [] = rw (sym (same_accepted setup past f x is) ∙ left) refl in
@@ -142,8 +148,10 @@ fragment_left setup past f m r s x at is left tied =
       moment = told_moment setup past s m tied;
     })
 
-pub fragment : (setup : Setup) (past : List Entry) (f : Fragment) (m : ℕ) (r : Reply) (s : State) → HasSingleAddresses setup.rows setup.controls
-    → outcome setup s (steps.Fragment f m) ≡ Ok r → Tied setup past s → Tied setup (entry (steps.Fragment f m) (Ok r) ∷ past) (after setup s (steps.Fragment f m))
+pub fragment : (setup : Setup) (past : List Entry) (f : Fragment) (m : ℕ) (r : Reply) (s : State)
+    → HasSingleAddresses setup.rows setup.controls
+    → outcome setup s (steps.Fragment f m) ≡ Ok r → Tied setup past s
+    → Tied setup (entry (steps.Fragment f m) (Ok r) ∷ past) (after setup s (steps.Fragment f m))
 fragment setup past f m r s single e tied =
     let step : Step = steps.Fragment f m in
     let told = answered (fault_of s step) (can_rise s.counts (needs setup s step).counts) (reply_to setup s step) r e in

@@ -9,7 +9,8 @@ use Rattle.gw_picture.specs.Picture.{news_of_report, picture_after_report, news_
 use Rattle.gw_picture.proofs.Logs.{report_in_log}
 use Rattle.gw_history.specs.Log.{news_after_log}
 
-pub news_same : (setup : Setup) (log : List Observation) (rs : List Report) → HasSingleAddresses setup.rows setup.controls
+pub news_same : (setup : Setup) (log : List Observation) (rs : List Report)
+    → HasSingleAddresses setup.rows setup.controls
     → (news_of setup.station.offset_minutes setup.rows (picture_of setup.rows log) rs ≡ news_after_log setup log rs)
     × (picture_after setup.station.offset_minutes setup.rows (picture_of setup.rows log) rs ≡ picture_of setup.rows (log ++ news_after_log setup log rs))
 news_same setup log [] single = (refl, ap (picture_of setup.rows) (sym (append-nil log)))

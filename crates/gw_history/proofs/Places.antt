@@ -36,7 +36,8 @@ pub record Place (setup : Setup) (past : List Entry) : Type 0 where
 
 -- ---- at first
 
-down_lives : (setup : Setup) (n d c : ℕ) → client_limit ≤ n + (c - d) → d ≤ c → SlotLives setup c [] (slice_get (replicate n (client_down (limits_of setup.station) setup.station.queue)) d)
+down_lives : (setup : Setup) (n d c : ℕ) → client_limit ≤ n + (c - d) → d ≤ c
+    → SlotLives setup c [] (slice_get (replicate n (client_down (limits_of setup.station) setup.station.queue)) d)
 down_lives setup zero d c few is = omega (arith, few, is)
 down_lives setup (suc n) zero c few is = record {
   stage = refl;
@@ -54,11 +55,13 @@ down_lives setup (suc n) (suc d) c few is = down_lives setup n d c (omega (arith
 
 -- ---- one turn more
 
-goes_on : (setup : Setup) (turn : Option Turn) (ts : List Turn) (k new : Client) → Goes setup turn k new → Lives setup ts k → Lives setup (lived turn ts) new
+goes_on : (setup : Setup) (turn : Option Turn) (ts : List Turn) (k new : Client) → Goes setup turn k new
+    → Lives setup ts k → Lives setup (lived turn ts) new
 goes_on setup None ts k new goes lives = goes
 goes_on setup (Some t) ts k new goes lives = (k, lives, goes)
 
-slot_lives : (setup : Setup) (c : ℕ) (turn : Option Turn) (ts : List Turn) (x new : Option Client) → SlotGoes setup turn x new → SlotLives setup c ts x → SlotLives setup c (lived turn ts) new
+slot_lives : (setup : Setup) (c : ℕ) (turn : Option Turn) (ts : List Turn) (x new : Option Client)
+    → SlotGoes setup turn x new → SlotLives setup c ts x → SlotLives setup c (lived turn ts) new
 slot_lives setup c turn ts None new goes lives = subst (SlotLives setup c (lived turn ts)) (sym goes) lives
 slot_lives setup c turn ts (Some k) new goes lives = subst (SlotLives setup c (lived turn ts)) (sym goes.1) (goes_on setup turn ts k goes.0 goes.2 lives)
 
@@ -68,7 +71,8 @@ last_place : (P : List Entry → Type 0) (past : List Entry) → AtEach P past �
 last_place P [] at = at
 last_place P (e ∷ past) at = at.0
 
-run_places : (setup : Setup) (past : List Entry) → IsSoundSetup setup → IsRun setup past → AtEach (LeavesSound setup) past → AtEach (Place setup) past
+run_places : (setup : Setup) (past : List Entry) → IsSoundSetup setup → IsRun setup past
+    → AtEach (LeavesSound setup) past → AtEach (Place setup) past
 run_places setup [] fit run sound = record {
   settings = fit;
   known = record { sound = sound; tied = first_tied setup; lives = λ c. down_lives setup client_limit c c (omega arith) (omega arith) };
@@ -94,7 +98,8 @@ pub places : (setup : Setup) (past : List Entry) → IsSoundRun setup past → A
 places setup past given = run_places setup past given.settings given.run given.sound
 
 -- what holds of lives holds of each client's
-pub of_each : (setup : Setup) (Law : List Turn → Type 0) → ((ts : List Turn) (k : Client) → Lives setup ts k → Law ts) → (past : List Entry) → Place setup past → OfEachLife Law setup past
+pub of_each : (setup : Setup) (Law : List Turn → Type 0) → ((ts : List Turn) (k : Client) → Lives setup ts k → Law ts)
+    → (past : List Entry) → Place setup past → OfEachLife Law setup past
 of_each setup Law law past place c within = by (client_at setup c past) (place.known.lives c)
   where
     by : (x : Option Client) → SlotLives setup c (life setup c past) x → Law (life setup c past)

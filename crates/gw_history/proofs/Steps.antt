@@ -36,15 +36,18 @@ first_tied setup = record {
 -- ---- one entry more
 
 -- a step of a client
-client_tied : (setup : Setup) (past : List Entry) (step : Step) (r : Reply) (s : State) → brought setup past (entry step (Ok r)) ≡ []
+client_tied : (setup : Setup) (past : List Entry) (step : Step) (r : Reply) (s : State)
+    → brought setup past (entry step (Ok r)) ≡ []
     → (after setup s step).picture ≡ s.picture → (after setup s step).outstations ≡ s.outstations
-    → ((o : ℕ) → last_text o (entry step (Ok r) ∷ past) ≡ last_text o past) → ((o : ℕ) → asked_of setup o (entry step (Ok r) ∷ past) ≡ asked_of setup o past)
+    → ((o : ℕ) → last_text o (entry step (Ok r) ∷ past) ≡ last_text o past)
+    → ((o : ℕ) → asked_of setup o (entry step (Ok r) ∷ past) ≡ asked_of setup o past)
     → Tied setup past s → Tied setup (entry step (Ok r) ∷ past) (after setup s step)
 client_tied setup past step r s none picture outstations lasts asks tied =
     quiet_tied setup past step r s none picture
     (λ o. rw outstations (same_master setup o past (entry step (Ok r)) (slice_get s.outstations o) (lasts o) (asks o) (tied.outstations o))) tied
 
-step_tied : (setup : Setup) (past : List Entry) (step : Step) (r : Reply) (s : State) → HasSingleAddresses setup.rows setup.controls
+step_tied : (setup : Setup) (past : List Entry) (step : Step) (r : Reply) (s : State)
+    → HasSingleAddresses setup.rows setup.controls
     → outcome setup s step ≡ Ok r → Tied setup past s → Tied setup (entry step (Ok r) ∷ past) (after setup s step)
 step_tied setup past (steps.OutstationUp o m) r s single e tied = outstation_up setup past o m r s tied
 step_tied setup past (steps.OutstationDown o m) r s single e tied = outstation_down setup past o m r s single tied
@@ -56,8 +59,10 @@ step_tied setup past (steps.Frame c apdu m) r s single e tied = client_tied setu
 step_tied setup past (steps.Pump c m) r s single e tied = client_tied setup past (steps.Pump c m) r s refl refl refl (λ o. refl) (λ o. refl) tied
 step_tied setup past (steps.Tick m) r s single e tied = tick setup past m r s tied
 
-pub tied_more : (setup : Setup) (past : List Entry) (step : Step) (reply : Result Reply StepFault) → HasSingleAddresses setup.rows setup.controls
-    → Allowed setup (state_after setup past) step reply (state_after setup (entry step reply ∷ past)) → Tied setup past (state_after setup past)
+pub tied_more : (setup : Setup) (past : List Entry) (step : Step) (reply : Result Reply StepFault)
+    → HasSingleAddresses setup.rows setup.controls
+    → Allowed setup (state_after setup past) step reply (state_after setup (entry step reply ∷ past))
+    → Tied setup past (state_after setup past)
     → Tied setup (entry step reply ∷ past) (state_after setup (entry step reply ∷ past))
 tied_more setup past step (Ok r) single allowed tied = step_tied setup past step r (state_after setup past) single allowed.0 tied
 tied_more setup past step (Err f) single allowed tied = fault_tied setup past step f (state_after setup past) tied

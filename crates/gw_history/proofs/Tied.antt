@@ -22,7 +22,8 @@ pub record Tied (setup : Setup) (past : List Entry) (s : State) : Type 0 where
   pub moment : s.moment ≡ moment_after past
 
 -- the moment that the history tells
-pub told_moment : (setup : Setup) (past : List Entry) (s : State) (m : ℕ) → Tied setup past s → latest s m ≡ later (moment_after past) m
+pub told_moment : (setup : Setup) (past : List Entry) (s : State) (m : ℕ) → Tied setup past s
+    → latest s m ≡ later (moment_after past) m
 told_moment setup past s m tied = ap (λ (n : ℕ). later n m) tied.moment
 
 -- what an entry brings to the log
@@ -37,8 +38,10 @@ same_log setup past e picture none tied =
     tied ∙ sym (ap (λ (xs : List Observation). picture_of setup.rows (log ++ xs)) none ∙ ap (picture_of setup.rows) (append-nil log))
 
 -- a step that brings no news
-pub quiet_tied : (setup : Setup) (past : List Entry) (step : Step) (r : Reply) (s : State) → brought setup past (entry step (Ok r)) ≡ [] → (after setup s step).picture ≡ s.picture
-    → ((o : ℕ) → MasterTied setup o (entry step (Ok r) ∷ past) (slice_get (after setup s step).outstations o)) → Tied setup past s → Tied setup (entry step (Ok r) ∷ past) (after setup s step)
+pub quiet_tied : (setup : Setup) (past : List Entry) (step : Step) (r : Reply) (s : State)
+    → brought setup past (entry step (Ok r)) ≡ [] → (after setup s step).picture ≡ s.picture
+    → ((o : ℕ) → MasterTied setup o (entry step (Ok r) ∷ past) (slice_get (after setup s step).outstations o))
+    → Tied setup past s → Tied setup (entry step (Ok r) ∷ past) (after setup s step)
 quiet_tied setup past step r s none picture outstations tied = record {
   picture = picture ∙ same_log setup past (entry step (Ok r)) s.picture none tied.picture;
   outstations = outstations;
@@ -46,7 +49,8 @@ quiet_tied setup past step r s none picture outstations tied = record {
 }
 
 -- a fault
-pub fault_tied : (setup : Setup) (past : List Entry) (step : Step) (f : StepFault) (s : State) → Tied setup past s → Tied setup (entry step (Err f) ∷ past) s
+pub fault_tied : (setup : Setup) (past : List Entry) (step : Step) (f : StepFault) (s : State) → Tied setup past s
+    → Tied setup (entry step (Err f) ∷ past) s
 fault_tied setup past step f s tied = record {
   picture = same_log setup past (entry step (Err f)) s.picture refl tied.picture;
   outstations = λ o. same_master setup o past (entry step (Err f)) (slice_get s.outstations o) refl refl (tied.outstations o);

@@ -48,8 +48,8 @@ is_repeated past f = is_unsolicited f && is_text (last_text f.outstation past) f
 
 -- ---- requests and their answers
 
--- a request that awaits its answer: its sequence number, how many fragments of the answer were accepted, and when it was
--- given or the last of these came
+-- a request that awaits its answer: its sequence number, how many fragments of the answer were accepted, and when it
+-- was given or the last of these came
 pub record Asked : Type 0 where
   pub sequence : ℕ
   pub fragments : ℕ
@@ -93,7 +93,8 @@ abbrev pub asked_after : Setup → ℕ → ℕ → Step → Reply → Option Ask
 asked_after setup o moment (steps.OutstationUp p _) reply asked = if p == o then None else asked
 asked_after setup o moment (steps.OutstationDown p _) reply asked = if p == o then None else asked
 asked_after setup o moment (steps.Poll p _ wall) (replies.Request request) asked =
-    if p == o then Some (record { sequence = slice_index request.octets 0 % 16; fragments = 0; since = moment }) else asked
+    if p == o then Some (record { sequence = slice_index request.octets 0 % 16; fragments = 0; since = moment })
+    else asked
 asked_after setup o moment (steps.Fragment f _) reply asked =
     if (f.outstation == o) && (not (is_unsolicited f) && is_answer asked f) then asked_with moment f asked else asked
 asked_after setup o moment (steps.Tick _) reply asked = asked_at moment (poll_at setup o) asked

@@ -38,7 +38,8 @@ abbrev pub verdict_due_to_answer : Option Asked → Fragment → Verdict
 verdict_due_to_answer None f = verdicts.Ignored NoRequest
 verdict_due_to_answer (Some a) f =
     if is_in_sequence a f then
-    (if is_in_place a f then verdicts.Accepted (confirm_of f.octets) (control_in f).fin else verdicts.Ignored WrongFirst)
+    (if is_in_place a f then verdicts.Accepted (confirm_of f.octets) (control_in f).fin
+    else verdicts.Ignored WrongFirst)
     else verdicts.Ignored WrongSequence
 
 -- what is to be said of a fragment after a history

@@ -5,8 +5,8 @@ use Rattle.gw_station.specs.Client.{Client}
 use Rattle.gw_steps.specs.Runs.{Entry, state_after, IsRun, AtEach}
 use Rattle.gw_steps.specs.Sound.{LeavesSound}
 
--- no two rows have one address, the common address has 16 bits, the window k is smaller than the sequence numbers, and
--- some news may wait for a client
+-- no two rows or controls have one address, the common address has 16 bits, the window k is smaller than the sequence
+-- numbers, and some news may wait for a client
 pub record IsSoundSetup (setup : Setup) : Type 0 where
   pub addresses : HasSingleAddresses setup.rows setup.controls
   pub station : setup.station.common_address < 65536

@@ -22,13 +22,15 @@ use Rattle.gw_laws.specs.Apdus.{ReadsAsOne, Apdus}
 
 -- what is made of an offer reads as one
 given_reads : (setup : Setup) (c m : ℕ) (k : Client) (x : Option Sending)
-    → ReadsAsOne setup (steps.Pump c m) (Ok (reply_giving (option_map (content_of setup.station.offset_minutes setup.station.common_address k.window) x)))
+    → ReadsAsOne setup (steps.Pump c m)
+    (Ok (reply_giving (option_map (content_of setup.station.offset_minutes setup.station.common_address k.window) x)))
 given_reads setup c m k None = tt
 given_reads setup c m k (Some sending) =
     let content : Content = content_of setup.station.offset_minutes setup.station.common_address k.window sending in
     rw (said-content setup.station.offset_minutes content (content_fits setup.station.offset_minutes setup.station.common_address k.window sending)) refl
 
-pump_reads : (setup : Setup) (c m : ℕ) (r : Reply) (s : State) → outcome setup s (steps.Pump c m) ≡ Ok r → ReadsAsOne setup (steps.Pump c m) (Ok r)
+pump_reads : (setup : Setup) (c m : ℕ) (r : Reply) (s : State) → outcome setup s (steps.Pump c m) ≡ Ok r
+    → ReadsAsOne setup (steps.Pump c m) (Ok r)
 pump_reads setup c m r s e =
     let step : Step = steps.Pump c m in
     let told = answered (fault_of s step) (can_rise s.counts (needs setup s step).counts) (reply_to setup s step) r e in
@@ -37,7 +39,8 @@ pump_reads setup c m r s e =
     sym (ap (client_reply (λ (k : Client). reply_giving (given setup.station.offset_minutes setup.station.common_address (latest s m) k))) up.1) ∙ told.2 in
     subst (λ (x : Reply). ReadsAsOne setup step (Ok x)) reply (given_reads setup c m up.0 (offered (latest s m) up.0))
 
-by_reply : (setup : Setup) (s : State) (step : Step) (reply : Result Reply StepFault) (new : State) → Allowed setup s step reply new → ReadsAsOne setup step reply
+by_reply : (setup : Setup) (s : State) (step : Step) (reply : Result Reply StepFault) (new : State)
+    → Allowed setup s step reply new → ReadsAsOne setup step reply
 by_reply setup s (steps.Pump c m) (Ok r) new allowed = pump_reads setup c m r s allowed.0
 by_reply setup s (steps.Pump c m) (Err f) new allowed = tt
 by_reply setup s (steps.OutstationUp o m) reply new allowed = tt

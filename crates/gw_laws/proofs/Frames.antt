@@ -49,14 +49,16 @@ record Ties (setup : Setup) (ts : List Turn) (k : Client) : Type 0 where
   line : LineTied setup (session ts) k
 
 -- the places that the life tells are those of the client
-same_places : (setup : Setup) (s : Option (List Turn)) (k : Client) (j : Judged) → NewsTied setup s k → LineTied setup s k
+same_places : (setup : Setup) (s : Option (List Turn)) (k : Client) (j : Judged) → NewsTied setup s k
+    → LineTied setup s k
     → length (owed setup (turns_in s)) + places_for (is_pending (interrogation setup (turns_in s))) j ≡ length k.answers + places_for (is_asked k.rest) j
 same_places setup None k j news tied = rw (news.answers, news.rest) refl
 same_places setup (Some hs) k j news tied =
     ap (λ (b : Bool). length (owed setup hs) + places_for b j) (pending_told setup.station.common_address (owed setup hs) (interrogation setup hs) (length (fates setup.station hs)) k tied)
     ∙ ap (λ (n : ℕ). n + places_for (is_asked k.rest) j) (ap length (sym tied.answers))
 
-taken_right : (setup : Setup) (ts : List Turn) (a : Apdu) (k : Client) → setup.station.k < 32768 → Ties setup ts k → close_of setup a k ≡ None → IsRight setup ts a
+taken_right : (setup : Setup) (ts : List Turn) (a : Apdu) (k : Client) → setup.station.k < 32768 → Ties setup ts k
+    → close_of setup a k ≡ None → IsRight setup ts a
 taken_right setup ts (I ns nr asdu) k small mine e =
     let j : Judged = judged_asdu setup asdu in
     let told : IsOpen ns nr j k = open_i ns nr j k e in
@@ -74,7 +76,8 @@ taken_right setup ts (U signal) k small mine e = tt
 
 -- ---- what is right doesn't close
 
-right_open_s : (setup : Setup) (ts : List Turn) (nr : ℕ) (k : Client) → setup.station.k < 32768 → Ties setup ts k → IsRight setup ts (S nr) → close_of setup (S nr) k ≡ None
+right_open_s : (setup : Setup) (ts : List Turn) (nr : ℕ) (k : Client) → setup.station.k < 32768 → Ties setup ts k
+    → IsRight setup ts (S nr) → close_of setup (S nr) k ≡ None
 right_open_s setup ts nr k small mine right = rw (right_receive_is setup ts nr k.window small mine.counts.window right) refl
 
 whole_judged : (j : Judged) → (j ≡ judgements.Malformed → ⊥) → is_malformed j ≡ false
@@ -82,7 +85,8 @@ whole_judged judgements.Malformed is = absurd (is refl)
 whole_judged (judgements.Refuse cause execute) is = refl
 whole_judged (judgements.Accepted command) is = refl
 
-right_open_i : (setup : Setup) (ts : List Turn) (ns nr : ℕ) (asdu : AsduOctets) (k : Client) → setup.station.k < 32768 → Ties setup ts k
+right_open_i : (setup : Setup) (ts : List Turn) (ns nr : ℕ) (asdu : AsduOctets) (k : Client) → setup.station.k < 32768
+    → Ties setup ts k
     → IsRight setup ts (I ns nr asdu) → close_of setup (I ns nr asdu) k ≡ None
 right_open_i setup ts ns nr asdu k small mine right =
     let j : Judged = judged_asdu setup asdu in
@@ -93,7 +97,8 @@ right_open_i setup ts ns nr asdu k small mine right =
     let places : overfills j k ≡ false = le-ltb 32 (length k.answers + places_for (is_asked k.rest) j) within in
     rw (stands setup (session ts) k mine.news ∙ right.started, send, receive, whole, places) refl
 
-closed_wrong : (setup : Setup) (ts : List Turn) (a : Apdu) (k : Client) (why : Why) → setup.station.k < 32768 → Ties setup ts k
+closed_wrong : (setup : Setup) (ts : List Turn) (a : Apdu) (k : Client) (why : Why) → setup.station.k < 32768
+    → Ties setup ts k
     → close_of setup a k ≡ Some why → IsWrong setup ts a
 closed_wrong setup ts (I ns nr asdu) k why small mine e = λ right. let told : Some why ≡ None = sym e ∙ right_open_i setup ts ns nr asdu k small mine right in absurd cc
 closed_wrong setup ts (S nr) k why small mine e = λ right. let told : Some why ≡ None = sym e ∙ right_open_s setup ts nr k small mine right in absurd cc
@@ -101,13 +106,15 @@ closed_wrong setup ts (U signal) k why small mine e = tt
 
 -- ---- each step
 
-judged : (setup : Setup) (past : List Entry) (c m : ℕ) (a : Apdu) (k : Client) (why : Option Why) (command : Option Command) → setup.station.k < 32768 → Ties setup (life setup c past) k
+judged : (setup : Setup) (past : List Entry) (c m : ℕ) (a : Apdu) (k : Client) (why : Option Why)
+    (command : Option Command) → setup.station.k < 32768 → Ties setup (life setup c past) k
     → close_of setup a k ≡ why → JudgesBy setup past (steps.Frame c a m) (Ok (reply_of_event (event_by why command)))
 judged setup past c m a k None None small mine e = taken_right setup (life setup c past) a k small mine e
 judged setup past c m a k None (Some command) small mine e = taken_right setup (life setup c past) a k small mine e
 judged setup past c m a k (Some why) command small mine e = closed_wrong setup (life setup c past) a k why small mine e
 
-judges : (setup : Setup) (past : List Entry) (step : Step) (r : Reply) → IsSoundSetup setup → outcome setup (state_after setup past) step ≡ Ok r → Known setup past → JudgesBy setup past step (Ok r)
+judges : (setup : Setup) (past : List Entry) (step : Step) (r : Reply) → IsSoundSetup setup
+    → outcome setup (state_after setup past) step ≡ Ok r → Known setup past → JudgesBy setup past step (Ok r)
 judges setup past (steps.Frame c a m) r fit e known =
     let step : Step = steps.Frame c a m in
     let s : State = state_after setup past in
@@ -138,7 +145,8 @@ unjudged setup past (steps.ClientDown c m) f = tt
 unjudged setup past (steps.Pump c m) f = tt
 unjudged setup past (steps.Tick m) f = tt
 
-by_reply : (setup : Setup) (past : List Entry) (step : Step) (reply : Result Reply StepFault) (new : State) → IsSoundSetup setup → Allowed setup (state_after setup past) step reply new
+by_reply : (setup : Setup) (past : List Entry) (step : Step) (reply : Result Reply StepFault) (new : State)
+    → IsSoundSetup setup → Allowed setup (state_after setup past) step reply new
     → Known setup past → JudgesBy setup past step reply
 by_reply setup past step (Ok r) new fit allowed known = judges setup past step r fit allowed.0 known
 by_reply setup past step (Err f) new fit allowed known = unjudged setup past step f

@@ -15,7 +15,8 @@ spared Queued x xs e = absurd cc
 spared PutOut x xs e = (refl, e)
 spared Dropped x xs e = absurd cc
 
-settled : (f : Fate) (x : Observation) (xs : List Observation) → cond (is_queued f) (x ∷ xs) xs ≡ [] → (dropped_fate f ≡ f) × (xs ≡ [])
+settled : (f : Fate) (x : Observation) (xs : List Observation) → cond (is_queued f) (x ∷ xs) xs ≡ []
+    → (dropped_fate f ≡ f) × (xs ≡ [])
 settled Queued x xs e = absurd cc
 settled PutOut x xs e = (refl, e)
 settled Dropped x xs e = (refl, e)
@@ -33,7 +34,8 @@ all_stay (suc n) (e ∷ es) none =
     as_it_is e (lapse_first n es) es parts.0 (all_stay n es parts.1)
 
 -- so they do where those before the mark aren't queued
-settled_stay : (n since : ℕ) (es : List Element) → items_of is_queued (take since es) ≡ [] → items_of is_dropped (drop since (lapse_first n es)) ≡ []
+settled_stay : (n since : ℕ) (es : List Element) → items_of is_queued (take since es) ≡ []
+    → items_of is_dropped (drop since (lapse_first n es)) ≡ []
     → lapse_first n es ≡ es
 settled_stay n zero es front none = all_stay n es none
 settled_stay zero (suc since) es front none = refl
@@ -42,7 +44,8 @@ settled_stay (suc n) (suc since) (e ∷ es) front none =
     let parts = settled e.fate e.item (items_of is_queued (take since es)) front in
     as_it_is e (lapse_first n es) es parts.0 (settled_stay n since es parts.1 none)
 
-lapsed_behind : (n since k : ℕ) (es : List Element) → k ≡ n - since → drop since (lapse_first n es) ≡ lapse_first k (drop since es)
+lapsed_behind : (n since k : ℕ) (es : List Element) → k ≡ n - since
+    → drop since (lapse_first n es) ≡ lapse_first k (drop since es)
 lapsed_behind n zero k es e = let same : n ≡ k = omega (arith, e) in ap (λ (i : ℕ). lapse_first i es) same
 lapsed_behind zero (suc since) k es e = let none : 0 ≡ k = omega (arith, e) in ap (λ (i : ℕ). lapse_first i (drop (suc since) es)) none
 lapsed_behind (suc n) (suc since) zero [] e = refl
@@ -68,7 +71,8 @@ one_more_behind : (limit since : ℕ) (es : List Element) (x : Observation) → 
 one_more_behind limit since es x within =
     drop-append-le since (lapse limit es) (queued x ∷ []) (omega (arith, within, length-lapse (length es + 1 - limit) es))
 
-one_more_within : (limit since : ℕ) (es : List Element) (x : Observation) → since ≤ length es → since ≤ length (one_more limit es x)
+one_more_within : (limit since : ℕ) (es : List Element) (x : Observation) → since ≤ length es
+    → since ≤ length (one_more limit es x)
 one_more_within limit since es x within =
     omega (arith, within, length-append (lapse limit es) (queued x ∷ []), length-lapse (length es + 1 - limit) es)
 
@@ -98,8 +102,10 @@ none_before limit since es xs within none =
     front_none (drop since es) (map queued xs) (ap (items_of is_dropped) (sym (joins_behind limit since es xs within none)) ∙ none)
 
 -- so they join the whole, where those before the mark aren't queued
-pub joins : (limit since : ℕ) (es : List Element) (xs : List Observation) → since ≤ length es → items_of is_queued (take since es) ≡ []
-    → items_of is_dropped (drop since (fates_with_news limit es xs)) ≡ [] → fates_with_news limit es xs ≡ es ++ map queued xs
+pub joins : (limit since : ℕ) (es : List Element) (xs : List Observation) → since ≤ length es
+    → items_of is_queued (take since es) ≡ []
+    → items_of is_dropped (drop since (fates_with_news limit es xs)) ≡ []
+    → fates_with_news limit es xs ≡ es ++ map queued xs
 joins limit since es [] within front none = sym (append-nil es)
 joins limit since es (x ∷ xs) within front none =
     let more : List Element = one_more limit es x in
@@ -131,7 +137,8 @@ lapsed_front (suc n) (suc since) (e ∷ es) front =
     let parts = settled e.fate e.item (items_of is_queued (take since es)) front in
     rw (never_queued e.fate) (lapsed_front n since es parts.1)
 
-pub came_front : (limit since : ℕ) (es : List Element) (xs : List Observation) → since ≤ length es → items_of is_queued (take since es) ≡ []
+pub came_front : (limit since : ℕ) (es : List Element) (xs : List Observation) → since ≤ length es
+    → items_of is_queued (take since es) ≡ []
     → items_of is_queued (take since (fates_with_news limit es xs)) ≡ []
 came_front limit since es [] within front = front
 came_front limit since es (x ∷ xs) within front =

@@ -52,7 +52,8 @@ abbrev AgreesWith : ℕ → Known → Observation → Type 0
 AgreesWith address known x = x.address ≡ address → known_of x ≡ known
 
 -- what is known in the end is so too where it was known before
-known_before : (address : ℕ) (known : Known) (before : Option Known) (xs : List Observation) → last_known address before xs ≡ Some known
+known_before : (address : ℕ) (known : Known) (before : Option Known) (xs : List Observation)
+    → last_known address before xs ≡ Some known
     → last_known address (Some known) xs ≡ Some known
 known_before address known before [] e = refl
 known_before address known before (x ∷ xs) e = by (eqb x.address address) (known_before address known before xs) e
@@ -64,13 +65,15 @@ known_before address known before (x ∷ xs) e = by (eqb x.address address) (kno
     by false behind e = behind e
 
 -- what agrees with it may come before
-known_inserted : (address : ℕ) (known : Known) (before : Option Known) (rs xs : List Observation) → AllByRecursion (AgreesWith address known) rs
+known_inserted : (address : ℕ) (known : Known) (before : Option Known) (rs xs : List Observation)
+    → AllByRecursion (AgreesWith address known) rs
     → last_known address before xs ≡ Some known → last_known address before (rs ++ xs) ≡ Some known
 known_inserted address known before [] xs all e = e
 known_inserted address known before (r ∷ rs) xs all e =
     known_inserted address known (cond (eqb r.address address) (Some (known_of r)) before) rs xs all.1 (by (eqb r.address address) refl)
   where
-    by : (here : Bool) → eqb r.address address ≡ here → last_known address (cond here (Some (known_of r)) before) xs ≡ Some known
+    by : (here : Bool) → eqb r.address address ≡ here
+        → last_known address (cond here (Some (known_of r)) before) xs ≡ Some known
     by true is =
         ap (λ (k : Known). last_known address (Some k) xs) (all.0 (eqb-true r.address address is)) ∙ known_before address known before xs e
     by false is = e
@@ -87,7 +90,8 @@ shown_address address shown (x ∷ log) e =
     by true is = eqb-true x.address address is
     by false is = e
 
-fresh_get : (address : ℕ) (rows : List Row) (n : ℕ) (row : Row) → is_fresh address rows ≡ true → slice_get rows n ≡ Some row
+fresh_get : (address : ℕ) (rows : List Row) (n : ℕ) (row : Row) → is_fresh address rows ≡ true
+    → slice_get rows n ≡ Some row
     → row.address ≡ address → ⊥
 fresh_get address [] n row fresh get same = absurd cc
 fresh_get address (r ∷ rows) zero row fresh get same =
@@ -97,7 +101,8 @@ fresh_get address (r ∷ rows) (suc n) row fresh get same =
     fresh_get address rows n row (and_parts (not (eqb address r.address)) (is_fresh address rows) fresh).1 get same
 
 -- no two rows have one address
-same_row : (rows : List Row) (m n : ℕ) (r row : Row) → is_single rows ≡ true → slice_get rows m ≡ Some r → slice_get rows n ≡ Some row
+same_row : (rows : List Row) (m n : ℕ) (r row : Row) → is_single rows ≡ true → slice_get rows m ≡ Some r
+    → slice_get rows n ≡ Some row
     → r.address ≡ row.address → r ≡ row
 same_row [] m n r row single gm gn same = absurd cc
 same_row (x ∷ rows) zero zero r row single gm gn same = sym (some_is x r gm) ∙ some_is x row gn
@@ -119,7 +124,8 @@ pub shown_is : (rows : List Row) (log : List Observation) (m : ℕ) (x : Observa
     → slice_get (picture_of rows log) m ≡ Some x → IsShown rows log x
 shown_is rows log m x single get n row at same = by (slice_get rows m) refl (sym (map-get (shown_by log) rows m) ∙ get)
   where
-    by : (found : Option Row) → slice_get rows m ≡ found → option_map (shown_by log) found ≡ Some x → x ≡ shown_by log row
+    by : (found : Option Row) → slice_get rows m ≡ found → option_map (shown_by log) found ≡ Some x
+        → x ≡ shown_by log row
     by None gm e = absurd cc
     by (Some r) gm e =
         let is : shown_by log r ≡ x = some_is (shown_by log r) x e in
@@ -164,7 +170,8 @@ elsewhere address (r ∷ rows) log p known fresh =
     ]
 
 -- a row that passes a test is known by all those that do
-pub shown_last : (rows : List Row) (log : List Observation) (p : Observation → Bool) (n : ℕ) (row : Row) (known : Option Known)
+pub shown_last : (rows : List Row) (log : List Observation) (p : Observation → Bool) (n : ℕ) (row : Row)
+    (known : Option Known)
     → is_single rows ≡ true → slice_get rows n ≡ Some row → p (shown_by log row) ≡ true
     → last_known row.address known (filter p (picture_of rows log)) ≡ Some (known_of (shown_by log row))
 shown_last [] log p n row known single get passes = absurd cc
@@ -172,7 +179,8 @@ shown_last (r ∷ rows) log p zero row known single get passes =
     subst (λ (x : Row). p (shown_by log x) ≡ true
     → last_known x.address known (filter p (picture_of (r ∷ rows) log)) ≡ Some (known_of (shown_by log x))) (some_is r row get) here passes
   where
-    here : p (shown_by log r) ≡ true → last_known r.address known (filter p (picture_of (r ∷ rows) log)) ≡ Some (known_of (shown_by log r))
+    here : p (shown_by log r) ≡ true
+        → last_known r.address known (filter p (picture_of (r ∷ rows) log)) ≡ Some (known_of (shown_by log r))
     here is =
         let x : Observation = shown_by log r in
         let at : eqb x.address r.address ≡ true = eq-eqb x.address r.address (shown_address r.address (opening r) log refl) in
@@ -192,14 +200,16 @@ shown_last (r ∷ rows) log p (suc n) row known single get passes =
 abbrev pub Knows : List Row → List Observation → List Observation → Type 0
 Knows rows log known = (n : ℕ) (row : Row) → slice_get rows n ≡ Some row → IsKnown (shown_by log row) (last_value row.address known)
 
-pub knows_news : (rows : List Row) (log known xs : List Observation) → Knows rows log known → Knows rows (log ++ xs) (known ++ xs)
+pub knows_news : (rows : List Row) (log known xs : List Observation) → Knows rows log known
+    → Knows rows (log ++ xs) (known ++ xs)
 knows_news rows log known xs knows n row get =
     let before = last_observation-append row.address (opening row) log xs in
     rw (before, last_known-append row.address None known xs)
     (known_more row.address (shown_by log row) (last_value row.address known) xs (knows n row get))
 
 -- what the picture shows may come in between
-pub knows_inserted : (rows : List Row) (log front rs back : List Observation) → AllByRecursion (IsShown rows log) rs → Knows rows log (front ++ back)
+pub knows_inserted : (rows : List Row) (log front rs back : List Observation) → AllByRecursion (IsShown rows log) rs
+    → Knows rows log (front ++ back)
     → Knows rows log (front ++ (rs ++ back))
 knows_inserted rows log front rs back all knows n row get whole =
     let address : ℕ = row.address in

@@ -68,17 +68,20 @@ LineTied setup (Some hs) k = LineIs setup.station.common_address (owed setup hs)
 
 -- ---- what it tells
 
-pub pending_told : (common : ℕ) (owes : List Answer) (q : Option Interrogation) (n : ℕ) (k : Client) → LineIs common owes q n k → is_pending q ≡ is_asked k.rest
+pub pending_told : (common : ℕ) (owes : List Answer) (q : Option Interrogation) (n : ℕ) (k : Client)
+    → LineIs common owes q n k → is_pending q ≡ is_asked k.rest
 pending_told common owes None n k tied = ap is_asked (sym tied.rest)
 pending_told common owes (Some q) n k tied = pending_is common q k.rest tied.said
 
 -- where nothing stands between, it doesn't matter where a queue is split
-split_anywhere : (n : ℕ) (queue : List Observation) → map sendings.News (take n queue) ++ map sendings.News (drop n queue) ≡ map sendings.News queue
+split_anywhere : (n : ℕ) (queue : List Observation)
+    → map sendings.News (take n queue) ++ map sendings.News (drop n queue) ≡ map sendings.News queue
 split_anywhere zero queue = refl
 split_anywhere (suc n) [] = refl
 split_anywhere (suc n) (x ∷ queue) = ap (λ (s : List Sending). sendings.News x ∷ s) (split_anywhere n queue)
 
-same_split : (pending : Bool) (n m : ℕ) (queue : List Observation) (rest : List Part) → is_asked rest ≡ pending → (pending ≡ true → n ≡ m)
+same_split : (pending : Bool) (n m : ℕ) (queue : List Observation) (rest : List Part) → is_asked rest ≡ pending
+    → (pending ≡ true → n ≡ m)
     → map sendings.News (take n queue) ++ (map sendings.Part rest ++ map sendings.News (drop n queue)) ≡ map sendings.News (take m queue) ++ (map sendings.Part rest ++ map sendings.News (drop m queue))
 same_split true n m queue rest is same = ap (λ (i : ℕ). map sendings.News (take i queue) ++ (map sendings.Part rest ++ map sendings.News (drop i queue))) (same refl)
 same_split false n m queue rest is same = rw (nothing_asked rest is) (split_anywhere n queue ∙ sym (split_anywhere m queue))
@@ -88,10 +91,12 @@ length-queued [] = refl
 length-queued (x ∷ queue) = ap suc (length-queued queue)
 
 -- settled ones and the queue are all
-pub settled_is : (setup : Setup) (hs : List Turn) (k : Client) (tied : InSession setup hs k) → length (fates setup.station hs) ≡ length tied.settled + length k.queue
+pub settled_is : (setup : Setup) (hs : List Turn) (k : Client) (tied : InSession setup hs k)
+    → length (fates setup.station hs) ≡ length tied.settled + length k.queue
 settled_is setup hs k tied = ap length tied.told ∙ omega (arith, length-append tied.settled (map queued k.queue), length-queued k.queue)
 
-pub line_is : (setup : Setup) (hs : List Turn) (k : Client) → InSession setup hs k → LineTied setup (Some hs) k → line_in k ≡ line setup hs
+pub line_is : (setup : Setup) (hs : List Turn) (k : Client) → InSession setup hs k → LineTied setup (Some hs) k
+    → line_in k ≡ line setup hs
 line_is setup hs k news tied =
     let since : ℕ = since_of (interrogation setup hs) in
     let m : ℕ = since - length news.settled in
@@ -109,7 +114,8 @@ record Waits (k new : Client) : Type 0 where
   older : new.older ≡ k.older
   queue : new.queue ≡ k.queue
 
-waits_on : (common : ℕ) (owes : List Answer) (q : Option Interrogation) (n : ℕ) (k new : Client) → Waits k new → LineIs common owes q n k → LineIs common owes q n new
+waits_on : (common : ℕ) (owes : List Answer) (q : Option Interrogation) (n : ℕ) (k new : Client) → Waits k new
+    → LineIs common owes q n k → LineIs common owes q n new
 waits_on common owes q n k new same tied = record {
   answers = same.answers ∙ tied.answers;
   apart = subst (AllByRecursion IsApart) (sym same.answers) tied.apart;
@@ -121,7 +127,8 @@ waits_on common owes q n k new same tied = record {
 }
 
 -- news come
-came : (setup : Setup) (brought : Brought) (s : Option (List Turn)) (k : Client) → NewsTied setup s k → LineTied setup s k → LineTied setup (session_with (Idle brought) s) (client_with_news brought.news k)
+came : (setup : Setup) (brought : Brought) (s : Option (List Turn)) (k : Client) → NewsTied setup s k
+    → LineTied setup s k → LineTied setup (session_with (Idle brought) s) (client_with_news brought.news k)
 came setup brought None k news tied = tt
 came setup brought (Some hs) k news tied =
     let xs : List Observation = brought.news in
@@ -142,7 +149,8 @@ came setup brought (Some hs) k news tied =
 
 -- a control function
 signal_taken : (setup : Setup) (taking : Taking) (moment : ℕ) (signal : Signal) (s : Option (List Turn)) (k : Client)
-    → NewsTied setup s k → LineTied setup s k → LineTied setup (session_with (Takes (U signal) taking) s) (client_with_signal moment signal k)
+    → NewsTied setup s k → LineTied setup s k → LineTied setup (session_with (Takes (U signal) taking) s)
+    (client_with_signal moment signal k)
 signal_taken setup taking moment StartAct None k news tied = record {
   answers = rw news.stopped refl;
   apart = rw news.stopped tt;
@@ -171,14 +179,17 @@ and_false : (b : Bool) → b && false ≡ false
 and_false true = refl
 and_false false = refl
 
-all_joined : (xs ys : List Answer) → AllByRecursion IsApart xs → AllByRecursion IsApart ys → AllByRecursion IsApart (xs ++ ys)
+all_joined : (xs ys : List Answer) → AllByRecursion IsApart xs → AllByRecursion IsApart ys
+    → AllByRecursion IsApart (xs ++ ys)
 all_joined [] ys ax ay = ay
 all_joined (x ∷ xs) ys ax ay = (ax.0, all_joined xs ys ax.1 ay)
 
-refused_apart : (pending : Bool) (command : Command) → AllByRecursion IsApart (option_to_list (refused_act pending command))
+refused_apart : (pending : Bool) (command : Command)
+    → AllByRecursion IsApart (option_to_list (refused_act pending command))
 refused_apart pending command = elim (cases_Bool (is_accepted_act pending command)) [ inl is ↦ rw is tt | inr isnt ↦ rw isnt (and_false _, tt) ]
 
-shown_apart : (x : Option Observation) (originator : ℕ) → AllByRecursion IsApart (option_to_list (option_map (λ y. Shown y originator) x))
+shown_apart : (x : Option Observation) (originator : ℕ)
+    → AllByRecursion IsApart (option_to_list (option_map (λ y. Shown y originator) x))
 shown_apart None originator = tt
 shown_apart (Some x) originator = (tt, tt)
 
@@ -191,24 +202,28 @@ action_apart setup picture pending command (actions.Single x) = tt
 action_apart setup picture pending command (actions.Double x) = tt
 action_apart setup picture pending command (actions.Setpoint x) = tt
 
-at_once_apart : (setup : Setup) (picture : List Observation) (pending : Bool) (asdu : AsduOctets) (j : Judged) → AllByRecursion IsApart (option_to_list (answered setup picture pending asdu j))
+at_once_apart : (setup : Setup) (picture : List Observation) (pending : Bool) (asdu : AsduOctets) (j : Judged)
+    → AllByRecursion IsApart (option_to_list (answered setup picture pending asdu j))
 at_once_apart setup picture pending asdu judgements.Malformed = tt
 at_once_apart setup picture pending asdu (judgements.Refuse cause execute) = (tt, tt)
 at_once_apart setup picture pending asdu (judgements.Accepted command) = action_apart setup picture pending command command.action
 
-command_apart : (command : Option Command) → AllByRecursion IsApart (map (λ x. Confirmed x true) (option_to_list command))
+command_apart : (command : Option Command)
+    → AllByRecursion IsApart (map (λ x. Confirmed x true) (option_to_list command))
 command_apart None = tt
 command_apart (Some command) = (and_false _, tt)
 
 -- a command for a control is answered
-joined : (answer : Option Answer) (command : Option Command) (k : Client) (xs : List Answer) → k.answers ≡ answers_with answer xs
+joined : (answer : Option Answer) (command : Option Command) (k : Client) (xs : List Answer)
+    → k.answers ≡ answers_with answer xs
     → (client_answered (event_taking command) k).answers ≡ xs ++ (option_to_list answer ++ map (λ x. Confirmed x true) (option_to_list command))
 joined None None k xs e = e ∙ sym (append-nil xs)
 joined (Some answer) None k xs e = e
 joined None (Some command) k xs e = ap (λ (l : List Answer). l ++ Confirmed command true ∷ []) e
 joined (Some answer) (Some command) k xs e = ap (λ (l : List Answer). l ++ Confirmed command true ∷ []) e ∙ append_assoc xs (answer ∷ []) (Confirmed command true ∷ [])
 
-answered_waits : (event : Event) (k : Client) → ((client_answered event k).rest ≡ k.rest) × ((client_answered event k).older ≡ k.older) × ((client_answered event k).queue ≡ k.queue)
+answered_waits : (event : Event) (k : Client)
+    → ((client_answered event k).rest ≡ k.rest) × ((client_answered event k).older ≡ k.older) × ((client_answered event k).queue ≡ k.queue)
 answered_waits events.Taken k = (refl, refl, refl)
 answered_waits (events.Command command) k = (refl, refl, refl)
 answered_waits (events.Closed why) k = (refl, refl, refl)
@@ -221,11 +236,14 @@ record Asks (common : ℕ) (q : Option Interrogation) (n : ℕ) (queue : List Ob
   since : since_of q ≤ n
   older : is_asked rest ≡ true → mark ≡ since_of q - (n - length queue)
 
-as_before : (common : ℕ) (owes : List Answer) (q : Option Interrogation) (n : ℕ) (k : Client) → LineIs common owes q n k → Asks common q n k.queue k.rest k.older
+as_before : (common : ℕ) (owes : List Answer) (q : Option Interrogation) (n : ℕ) (k : Client)
+    → LineIs common owes q n k → Asks common q n k.queue k.rest k.older
 as_before common owes q n k tied = record { is = tied.rest; asked = tied.asked; said = tied.said; since = tied.since; older = tied.older }
 
-asks : (common : ℕ) (picture : List Observation) (owes : List Answer) (q : Option Interrogation) (n : ℕ) (k : Client) (j : Judged) → length k.queue ≤ n → LineIs common owes q n k
-    → Asks common (begun n picture j q) n k.queue (rest_with picture j (is_asking j k) k) (older_with j (is_asking j k) k)
+asks : (common : ℕ) (picture : List Observation) (owes : List Answer) (q : Option Interrogation) (n : ℕ) (k : Client)
+    (j : Judged) → length k.queue ≤ n → LineIs common owes q n k
+    → Asks common (begun n picture j q) n k.queue (rest_with picture j (is_asking j k) k)
+    (older_with j (is_asking j k) k)
 asks common picture owes q n k judgements.Malformed few tied = as_before common owes q n k tied
 asks common picture owes q n k (judgements.Refuse cause execute) few tied = as_before common owes q n k tied
 asks common picture owes q n k (judgements.Accepted command) few tied = elim (cases_Bool (is_accepted_act (is_asked k.rest) command)) [
@@ -239,8 +257,10 @@ asks common picture owes q n k (judgements.Accepted command) few tied = elim (ca
   | inr refused ↦ rw (pending_told common owes q n k tied, refused) (as_before common owes q n k tied)
 ]
 
-asdu_taken : (setup : Setup) (taking : Taking) (moment ns nr : ℕ) (asdu : AsduOctets) (hs : List Turn) (k : Client) → InSession setup hs k → LineTied setup (Some hs) k
-    → LineTied setup (Some (Takes (I ns nr asdu) taking ∷ hs)) (client_answered (event_taking (command_in setup (I ns nr asdu))) (client_taking setup taking.picture moment (I ns nr asdu) k))
+asdu_taken : (setup : Setup) (taking : Taking) (moment ns nr : ℕ) (asdu : AsduOctets) (hs : List Turn) (k : Client)
+    → InSession setup hs k → LineTied setup (Some hs) k
+    → LineTied setup (Some (Takes (I ns nr asdu) taking ∷ hs))
+    (client_answered (event_taking (command_in setup (I ns nr asdu))) (client_taking setup taking.picture moment (I ns nr asdu) k))
 asdu_taken setup taking moment ns nr asdu hs k news tied =
     let picture : List Observation = taking.picture in
     let common : ℕ = setup.station.common_address in
@@ -266,8 +286,10 @@ asdu_taken setup taking moment ns nr asdu hs k news tied =
       older = λ asked. omega (arith, waits.1, is.older (ap is_asked (sym waits.0) ∙ asked), ap length waits.2);
     }
 
-took : (setup : Setup) (a : Apdu) (taking : Taking) (moment : ℕ) (s : Option (List Turn)) (k : Client) → close_of setup a k ≡ None → NewsTied setup s k → LineTied setup s k
-    → LineTied setup (session_with (Takes a taking) s) (client_answered (event_taking (command_in setup a)) (client_taking setup taking.picture moment a k))
+took : (setup : Setup) (a : Apdu) (taking : Taking) (moment : ℕ) (s : Option (List Turn)) (k : Client)
+    → close_of setup a k ≡ None → NewsTied setup s k → LineTied setup s k
+    → LineTied setup (session_with (Takes a taking) s)
+    (client_answered (event_taking (command_in setup a)) (client_taking setup taking.picture moment a k))
 took setup (I ns nr asdu) taking moment None k opens news tied = tt
 took setup (I ns nr asdu) taking moment (Some hs) k opens news tied = asdu_taken setup taking moment ns nr asdu hs k news tied
 took setup (S nr) taking moment None k opens news tied = tt
@@ -292,7 +314,8 @@ front answers older queue rest =
     map sendings.Answer answers ++ (map sendings.News (take older queue) ++ (map sendings.Part rest ++ map sendings.News (drop older queue)))
 
 -- no answer is behind news or a part
-news_before : (older : ℕ) (queue : List Observation) (rest : List Part) (answer : Answer) → slice_get (front [] older queue rest) 0 ≡ Some (sendings.Answer answer) → ⊥
+news_before : (older : ℕ) (queue : List Observation) (rest : List Part) (answer : Answer)
+    → slice_get (front [] older queue rest) 0 ≡ Some (sendings.Answer answer) → ⊥
 news_before zero queue (part ∷ rest) answer e = absurd cc
 news_before zero (y ∷ queue) [] answer e = absurd cc
 news_before zero [] [] answer e = absurd cc
@@ -300,10 +323,12 @@ news_before (suc n) (y ∷ queue) rest answer e = absurd cc
 news_before (suc n) [] (part ∷ rest) answer e = absurd cc
 news_before (suc n) [] [] answer e = absurd cc
 
-answer_first : (k : Client) (answer : Answer) → slice_get (line_in k) 0 ≡ Some (sendings.Answer answer) → (more : List Answer) × (k.answers ≡ answer ∷ more)
+answer_first : (k : Client) (answer : Answer) → slice_get (line_in k) 0 ≡ Some (sendings.Answer answer)
+    → (more : List Answer) × (k.answers ≡ answer ∷ more)
 answer_first k answer e = go k.answers e
   where
-    go : (answers : List Answer) → slice_get (front answers k.older k.queue k.rest) 0 ≡ Some (sendings.Answer answer) → (more : List Answer) × (answers ≡ answer ∷ more)
+    go : (answers : List Answer) → slice_get (front answers k.older k.queue k.rest) 0 ≡ Some (sendings.Answer answer)
+        → (more : List Answer) × (answers ≡ answer ∷ more)
     go [] e = absurd (news_before k.older k.queue k.rest answer e)
     go (a ∷ answers) e = (answers, ap (λ (x : Answer). x ∷ answers) (answer_is_first a answer e))
 
@@ -313,7 +338,8 @@ record More (common : ℕ) (k : Client) (q next : Option Interrogation) : Type 0
   said : IfSome next (λ i. i.said ++ map (as_told common) (drop 1 k.rest) ≡ answer_told common i)
   since : since_of next ≡ since_of q
 
-told_more : (common : ℕ) (k : Client) (q : Option Interrogation) (meant : Meant) (part : Part) (rest : List Part) → k.rest ≡ part ∷ rest
+told_more : (common : ℕ) (k : Client) (q : Option Interrogation) (meant : Meant) (part : Part) (rest : List Part)
+    → k.rest ≡ part ∷ rest
     → parts_in meant ≡ as_told common part ∷ [] → k.rest ≡ left_of q
     → IfSome q (λ i. i.said ++ map (as_told common) k.rest ≡ answer_told common i)
     → More common k q (option_map (interrogation_telling meant) q)
@@ -328,13 +354,16 @@ told_more common k (Some q) meant part rest is told left said =
     }
 
 -- an answer, or older news: nothing was put out of an interrogation
-same_asked : (common : ℕ) (owes : List Answer) (q : Option Interrogation) (n m : ℕ) (meant : Meant) (k : Client) → parts_in meant ≡ [] → n ≡ m → LineIs common owes q n k
+same_asked : (common : ℕ) (owes : List Answer) (q : Option Interrogation) (n m : ℕ) (meant : Meant) (k : Client)
+    → parts_in meant ≡ [] → n ≡ m → LineIs common owes q n k
     → LineIs common owes (option_map (interrogation_telling meant) q) m k
 same_asked common owes q n m meant k none same tied =
     subst (λ (x : Option Interrogation). LineIs common owes x m k) (sym (told_nothing meant q none)) (subst (λ (i : ℕ). LineIs common owes q i k) same tied)
 
-gave : (setup : Setup) (moment : ℕ) (x : Sending) (s : Option (List Turn)) (k : Client) → setup.station.common_address < 65536 → IsOffered k x → CanSend setup.station.offset_minutes x
-    → NewsTied setup s k → LineTied setup s k → LineTied setup (session_with (PutsOut (says setup k x)) s) (client_with_sent moment x k)
+gave : (setup : Setup) (moment : ℕ) (x : Sending) (s : Option (List Turn)) (k : Client)
+    → setup.station.common_address < 65536 → IsOffered k x → CanSend setup.station.offset_minutes x
+    → NewsTied setup s k → LineTied setup s k → LineTied setup (session_with (PutsOut (says setup k x)) s)
+    (client_with_sent moment x k)
 gave setup moment x None k small is can news tied = tt
 gave setup moment (sendings.Confirm signal) (Some hs) k small is can news tied =
     waits_on _ _ _ _ k (client_with_sent moment (sendings.Confirm signal) k) (record { answers = refl; rest = refl; older = refl; queue = refl }) tied
@@ -406,7 +435,8 @@ gave setup moment (sendings.Part part) (Some hs) k small is can news tied =
 
 -- ---- lives
 
-line_more : (setup : Setup) → 0 < setup.station.queue → setup.station.common_address < 65536 → (t : Turn) (ts : List Turn) (k new : Client) → Lives setup ts k → Becomes setup t k new
+line_more : (setup : Setup) → 0 < setup.station.queue → setup.station.common_address < 65536
+    → (t : Turn) (ts : List Turn) (k new : Client) → Lives setup ts k → Becomes setup t k new
     → LineTied setup (session ts) k → LineTied setup (session (t ∷ ts)) new
 line_more setup some small (Idle brought) ts k new lives is tied =
     subst (LineTied setup (session (Idle brought ∷ ts))) (sym is) (came setup brought (session ts) k (news_tied setup some small ts k lives) tied)
@@ -418,13 +448,15 @@ line_more setup some small (PutsOut said) ts k new lives is tied =
     (subst (λ (x : Said). LineTied setup (session (PutsOut x ∷ ts)) (client_with_sent is.moment is.sending k)) (sym is.says)
     (gave setup is.moment is.sending (session ts) k small (offered_is is.moment k is.sending is.first) is.can (news_tied setup some small ts k lives) tied))
 
-pub line_tied : (setup : Setup) → 0 < setup.station.queue → setup.station.common_address < 65536 → (ts : List Turn) (k : Client) → Lives setup ts k → LineTied setup (session ts) k
+pub line_tied : (setup : Setup) → 0 < setup.station.queue → setup.station.common_address < 65536
+    → (ts : List Turn) (k : Client) → Lives setup ts k → LineTied setup (session ts) k
 line_tied setup some small = lives_all setup (λ ts k. LineTied setup (session ts) k) (λ k is. tt) (line_more setup some small)
 
 -- ---- the laws
 
 -- what is put out in an I format is the first in line
-says_first : (setup : Setup) (x : Sending) (s : Option (List Turn)) (k : Client) → setup.station.common_address < 65536 → IsOffered k x → CanSend setup.station.offset_minutes x
+says_first : (setup : Setup) (x : Sending) (s : Option (List Turn)) (k : Client)
+    → setup.station.common_address < 65536 → IsOffered k x → CanSend setup.station.offset_minutes x
     → NewsTied setup s k → LineTied setup s k → SaysFirst setup (line setup (turns_in s)) (says setup k x)
 says_first setup (sendings.Confirm signal) s k small is can news tied = tt
 says_first setup sendings.Test s k small is can news tied = tt
@@ -448,7 +480,8 @@ says_first setup (sendings.Part part) (Some hs) k small is can news tied = recor
   means = part_means setup.station.offset_minutes setup.station.common_address part small can;
 }
 
-pub keeps_line : (setup : Setup) → 0 < setup.station.queue → setup.station.common_address < 65536 → (ts : List Turn) (k : Client) → Lives setup ts k → KeepsLine setup ts
+pub keeps_line : (setup : Setup) → 0 < setup.station.queue → setup.station.common_address < 65536
+    → (ts : List Turn) (k : Client) → Lives setup ts k → KeepsLine setup ts
 keeps_line setup some small [] k lives = tt
 keeps_line setup some small (Idle brought ∷ ts) k lives = tt
 keeps_line setup some small (Takes a taking ∷ ts) k lives = tt
@@ -459,11 +492,13 @@ keeps_line setup some small (PutsOut said ∷ ts) k lives =
     (says_first setup gave.sending (session ts) lives.0 small (offered_is gave.moment lives.0 gave.sending gave.first) gave.can
     (news_tied setup some small ts lives.0 lives.1) (line_tied setup some small ts lives.0 lives.1))
 
-answered_so : (setup : Setup) (s : Option (List Turn)) (k : Client) → LineTied setup s k → IfSome (interrogation setup (turns_in s)) (IsAnswered setup)
+answered_so : (setup : Setup) (s : Option (List Turn)) (k : Client) → LineTied setup s k
+    → IfSome (interrogation setup (turns_in s)) (IsAnswered setup)
 answered_so setup None k tied = tt
 answered_so setup (Some hs) k tied = by (interrogation setup hs) (owed setup hs) (length (fates setup.station hs)) tied
   where
-    by : (q : Option Interrogation) (owes : List Answer) (n : ℕ) → LineIs setup.station.common_address owes q n k → IfSome q (IsAnswered setup)
+    by : (q : Option Interrogation) (owes : List Answer) (n : ℕ) → LineIs setup.station.common_address owes q n k
+        → IfSome q (IsAnswered setup)
     by None owes n is = tt
     by (Some q) owes n is = record {
       rest = map (as_told setup.station.common_address) k.rest;
@@ -471,5 +506,6 @@ answered_so setup (Some hs) k tied = by (interrogation setup hs) (owed setup hs)
       whole = λ over. ap (map (as_told setup.station.common_address)) (nothing_asked k.rest (sym (pending_told setup.station.common_address owes (Some q) n k is) ∙ over));
     }
 
-pub answers_interrogation : (setup : Setup) → 0 < setup.station.queue → setup.station.common_address < 65536 → (ts : List Turn) (k : Client) → Lives setup ts k → AnswersInterrogation setup ts
+pub answers_interrogation : (setup : Setup) → 0 < setup.station.queue → setup.station.common_address < 65536
+    → (ts : List Turn) (k : Client) → Lives setup ts k → AnswersInterrogation setup ts
 answers_interrogation setup some small ts k lives = answered_so setup (session ts) k (line_tied setup some small ts k lives)

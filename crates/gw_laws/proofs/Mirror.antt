@@ -66,14 +66,16 @@ view setup log hs = record { log = log; elements = fates setup.station hs; asked
 abbrev IsOfPicture : List AnyRow → List Observation → Answer → Type 0
 IsOfPicture rows log answer = AllByRecursion (IsShown rows log) (observations_of (sendings.Answer answer))
 
-answers_shown : (rows : List AnyRow) (log : List Observation) (answers : List Answer) → AllByRecursion (IsOfPicture rows log) answers
+answers_shown : (rows : List AnyRow) (log : List Observation) (answers : List Answer)
+    → AllByRecursion (IsOfPicture rows log) answers
     → AllByRecursion (IsShown rows log) (waiting_in (map sendings.Answer answers))
 answers_shown rows log [] all = tt
 answers_shown rows log (answer ∷ answers) all =
     all-append (IsShown rows log) (observations_of (sendings.Answer answer)) (waiting_in (map sendings.Answer answers)) all.0
     (answers_shown rows log answers all.1)
 
-one_shown : (rows : List AnyRow) (log : List Observation) (answer : Option Answer) → IfSome answer (IsOfPicture rows log)
+one_shown : (rows : List AnyRow) (log : List Observation) (answer : Option Answer)
+    → IfSome answer (IsOfPicture rows log)
     → AllByRecursion (IsOfPicture rows log) (option_to_list answer)
 one_shown rows log None is = tt
 one_shown rows log (Some answer) is = (is, tt)
@@ -90,7 +92,8 @@ refused_shown rows log pending c = elim (cases_Bool (is_accepted_act pending c))
   | inr refused ↦ rw refused tt
 ]
 
-read_shown : (rows : List AnyRow) (log : List Observation) (originator : ℕ) (found : Option (ℕ × AnyRow)) → is_single rows ≡ true
+read_shown : (rows : List AnyRow) (log : List Observation) (originator : ℕ) (found : Option (ℕ × AnyRow))
+    → is_single rows ≡ true
     → IfSome (option_map (λ x. Shown x originator) (shown_by (picture_of rows log) found)) (IsOfPicture rows log)
 read_shown rows log originator None single = tt
 read_shown rows log originator (Some found) single = go (slice_get (picture_of rows log) found.0) refl
@@ -100,7 +103,8 @@ read_shown rows log originator (Some found) single = go (slice_get (picture_of r
     go None get = tt
     go (Some x) get = (shown_is rows log found.0 x single get, tt)
 
-action_shown : (setup : Setup) (log : List Observation) (pending : Bool) (c : Command) (action : Action) → is_single setup.rows ≡ true
+action_shown : (setup : Setup) (log : List Observation) (pending : Bool) (c : Command) (action : Action)
+    → is_single setup.rows ≡ true
     → IfSome (answered_action setup (picture_of setup.rows log) pending c action) (IsOfPicture setup.rows log)
 action_shown setup log pending c (actions.Interrogation qualifier) single = refused_shown setup.rows log pending c
 action_shown setup log pending c (actions.CounterInterrogation qualifier) single = refused_shown setup.rows log pending c
@@ -109,14 +113,17 @@ action_shown setup log pending c (actions.Single x) single = tt
 action_shown setup log pending c (actions.Double x) single = tt
 action_shown setup log pending c (actions.Setpoint x) single = tt
 
-at_once_shown : (setup : Setup) (log : List Observation) (pending : Bool) (asdu : Asdu) (j : Judged) → is_single setup.rows ≡ true
+at_once_shown : (setup : Setup) (log : List Observation) (pending : Bool) (asdu : Asdu) (j : Judged)
+    → is_single setup.rows ≡ true
     → IfSome (answered setup (picture_of setup.rows log) pending asdu j) (IsOfPicture setup.rows log)
 at_once_shown setup log pending asdu Malformed single = tt
 at_once_shown setup log pending asdu (Refuse cause execute) single = tt
 at_once_shown setup log pending asdu (Accepted c) single = action_shown setup log pending c c.action single
 
-all_shown : (setup : Setup) (log : List Observation) (pending : Bool) (asdu : Asdu) (j : Judged) → is_single setup.rows ≡ true
-    → AllByRecursion (IsShown setup.rows log) (waiting_in (map sendings.Answer (answers_to setup (picture_of setup.rows log) pending asdu j)))
+all_shown : (setup : Setup) (log : List Observation) (pending : Bool) (asdu : Asdu) (j : Judged)
+    → is_single setup.rows ≡ true
+    → AllByRecursion (IsShown setup.rows log)
+    (waiting_in (map sendings.Answer (answers_to setup (picture_of setup.rows log) pending asdu j)))
 all_shown setup log pending asdu j single =
     let picture : List Observation = picture_of setup.rows log in
     answers_shown setup.rows log (answers_to setup picture pending asdu j)
@@ -136,7 +143,8 @@ not_pending true command act = absurd (never (eqb command.cause 6) (is_general c
     never false b e = absurd cc
 
 -- one that is watched was confirmed before another begins
-kept_begun : (rows : List AnyRow) (since : ℕ) (heard : Option (List Observation)) (v : View) (q : Interrogation) → is_single rows ≡ true
+kept_begun : (rows : List AnyRow) (since : ℕ) (heard : Option (List Observation)) (v : View) (q : Interrogation)
+    → is_single rows ≡ true
     → since_of v.asked ≤ length v.elements → is_pending v.asked ≡ false → left_of v.asked ≡ [] → IsNew rows v q
     → IsKept rows v since heard → IsKept rows (watched q v) since heard
 kept_begun rows since (Some heard) v q single within quiet left is kept = heard_begun rows since heard v q single within left is kept
@@ -148,19 +156,24 @@ kept_begun rows since None v q single within quiet left is kept =
 -- ---- what the ties tell
 
 -- nothing is left of an answer where no interrogation is pending
-none_left : (setup : Setup) (hs : List Turn) (k : Client) → LineTied setup (Some hs) k → is_pending (interrogation setup hs) ≡ false → left_of (interrogation setup hs) ≡ []
+none_left : (setup : Setup) (hs : List Turn) (k : Client) → LineTied setup (Some hs) k
+    → is_pending (interrogation setup hs) ≡ false → left_of (interrogation setup hs) ≡ []
 none_left setup hs k lined quiet =
     sym lined.rest ∙ nothing_asked k.rest (sym (pending_told setup.station.common_address (owed setup hs) (interrogation setup hs) (length (fates setup.station hs)) k lined) ∙ quiet)
 
-first_plain : (setup : Setup) (hs : List Turn) (k : Client) (s : Sending) → InSession setup hs k → LineTied setup (Some hs) k → slice_get (line_of k) 0 ≡ Some s → IsPlain s
+first_plain : (setup : Setup) (hs : List Turn) (k : Client) (s : Sending) → InSession setup hs k
+    → LineTied setup (Some hs) k → slice_get (line_of k) 0 ≡ Some s → IsPlain s
 first_plain setup hs k s news lined first =
     let each_news = all-given (λ (x : Observation). IsPlain (sendings.News x)) (λ x. tt) k.queue in
     subst (λ (x : Option Sending). IfSome x IsPlain) first (all-first IsPlain (line_of k) (line_so IsPlain k lined.apart each_news news.parts))
 
-puts_first : (setup : Setup) (log : List Observation) (moment : ℕ) (x : Sending) (hs : List Turn) (meant : Meant) (k : Client) → slice_get (line_of k) 0 ≡ Some x → CanSend setup.station.offset_minutes x
-    → MeansSending setup.station.offset_minutes setup.station.common_address x meant → InSession setup hs k → LineTied setup (Some hs) k
+puts_first : (setup : Setup) (log : List Observation) (moment : ℕ) (x : Sending) (hs : List Turn) (meant : Meant)
+    (k : Client) → slice_get (line_of k) 0 ≡ Some x → CanSend setup.station.offset_minutes x
+    → MeansSending setup.station.offset_minutes setup.station.common_address x meant → InSession setup hs k
+    → LineTied setup (Some hs) k
     → line_of (client_with_sent moment x k) ≡ line_in (put_out meant (spontaneous_of setup.station.common_address meant) (view setup log hs))
-    → PutsFirst setup.station.offset_minutes setup.station.common_address (view setup log hs) (put_out meant (spontaneous_of setup.station.common_address meant) (view setup log hs)) meant
+    → PutsFirst setup.station.offset_minutes setup.station.common_address (view setup log hs)
+    (put_out meant (spontaneous_of setup.station.common_address meant) (view setup log hs)) meant
 puts_first setup log moment x hs meant k first can means news lined now =
     let same : line_of k ≡ line setup hs = line_is setup hs k news lined in
     record {
@@ -186,7 +199,8 @@ SessionMirrored setup log (Some hs) = MirrorTied setup log hs
 -- what an act begins is kept, and what is kept goes on being so
 record Keeps (setup : Setup) (log new : List Observation) (t : Turn) (hs : List Turn) : Type 0 where
   begins : is_act setup t hs ≡ true → IsKept setup.rows (view setup new (t ∷ hs)) (length (fates setup.station hs)) None
-  goes : (since : ℕ) (newer : List Turn) → IsKept setup.rows (view setup log hs) since (told newer) → IsKept setup.rows (view setup new (t ∷ hs)) since (told (t ∷ newer))
+  goes : (since : ℕ) (newer : List Turn) → IsKept setup.rows (view setup log hs) since (told newer)
+      → IsKept setup.rows (view setup new (t ∷ hs)) since (told (t ∷ newer))
 
 tail_is : (x y : Turn) (xs ys : List Turn) → x ∷ xs ≡ y ∷ ys → (x ≡ y) × (xs ≡ ys)
 tail_is x y xs ys e = (ap (λ (l : List Turn). first l) e, ap (drop 1) e)
@@ -195,7 +209,8 @@ tail_is x y xs ys e = (ap (λ (l : List Turn). first l) e, ap (drop 1) e)
     first [] = x
     first (z ∷ zs) = z
 
-mirrored : (setup : Setup) (log new : List Observation) (t : Turn) (hs : List Turn) → Keeps setup log new t hs → MirrorTied setup log hs → MirrorTied setup new (t ∷ hs)
+mirrored : (setup : Setup) (log new : List Observation) (t : Turn) (hs : List Turn) → Keeps setup log new t hs
+    → MirrorTied setup log hs → MirrorTied setup new (t ∷ hs)
 mirrored setup log new t hs keeps tied [] older act same is =
     let parts = tail_is t act hs older same in
     subst (λ (l : List Turn). IsKept setup.rows (view setup new (t ∷ hs)) (length (fates setup.station l)) None) parts.1
@@ -208,7 +223,8 @@ mirrored setup log new t hs keeps tied (n ∷ newer) older act same is =
 -- ---- turns
 
 -- an ASDU is taken
-asdu_keeps : (setup : Setup) (log : List Observation) (taking : Taking) (ns nr : ℕ) (asdu : Asdu) (hs : List Turn) (k : Client) → is_single setup.rows ≡ true → LineTied setup (Some hs) k
+asdu_keeps : (setup : Setup) (log : List Observation) (taking : Taking) (ns nr : ℕ) (asdu : Asdu) (hs : List Turn)
+    (k : Client) → is_single setup.rows ≡ true → LineTied setup (Some hs) k
     → Keeps setup log log (Takes (I ns nr asdu) (record taking { picture = picture_of setup.rows log })) hs
 asdu_keeps setup log taking ns nr asdu hs k single lined = record { begins = λ act. begins (judged_asdu setup asdu) act; goes = λ since newer kept. goes since (told newer) (judged_asdu setup asdu) kept }
   where
@@ -227,14 +243,16 @@ asdu_keeps setup log taking ns nr asdu hs k single lined = record { begins = λ 
     is_new : (j : Judged) (command : Command) → IsNew setup.rows (taken (more j) v) (new_one command)
     is_new j command = record { since = refl; rows_are = refl; said = refl }
 
-    begins : (j : Judged) → is_station_act (is_pending v.asked) j ≡ true → IsKept setup.rows (next j) (length v.elements) None
+    begins : (j : Judged) → is_station_act (is_pending v.asked) j ≡ true
+        → IsKept setup.rows (next j) (length v.elements) None
     begins Malformed act = absurd cc
     begins (Refuse cause execute) act = absurd cc
     begins (Accepted command) act =
         let parts = and_parts (is_accepted_act (is_pending v.asked) command) (is_station_interrogation command.action) act in
         rw parts.0 (unheard_begun setup.rows (taken (more (Accepted command)) v) (new_one command) single (is_new (Accepted command) command) parts.1)
 
-    goes : (since : ℕ) (before : Option (List Observation)) (j : Judged) → IsKept setup.rows v since before → IsKept setup.rows (next j) since before
+    goes : (since : ℕ) (before : Option (List Observation)) (j : Judged) → IsKept setup.rows v since before
+        → IsKept setup.rows (next j) since before
     goes since before j kept = by j
       where
         joined : (j : Judged) → IsKept setup.rows (taken (more j) v) since before
@@ -252,10 +270,12 @@ asdu_keeps setup log taking ns nr asdu hs k single lined = record { begins = λ 
         ]
 
 -- nothing changes that is seen
-same_view : (setup : Setup) (log : List Observation) (taking : Taking) (signal : Signal) (hs : List Turn) → Keeps setup log log (Takes (U signal) taking) hs
+same_view : (setup : Setup) (log : List Observation) (taking : Taking) (signal : Signal) (hs : List Turn)
+    → Keeps setup log log (Takes (U signal) taking) hs
 same_view setup log taking signal hs = record { begins = λ act. absurd (true≢false (sym act)); goes = λ since newer kept. kept }
 
-takes : (setup : Setup) (log : List Observation) (taking : Taking) (a : Apdu) (s : Option (List Turn)) (k : Client) → is_single setup.rows ≡ true → taking.picture ≡ picture_of setup.rows log → LineTied setup s k
+takes : (setup : Setup) (log : List Observation) (taking : Taking) (a : Apdu) (s : Option (List Turn)) (k : Client)
+    → is_single setup.rows ≡ true → taking.picture ≡ picture_of setup.rows log → LineTied setup s k
     → SessionMirrored setup log s → SessionMirrored setup log (session_with (Takes a taking) s)
 takes setup log taking (I ns nr asdu) None k single shown lined tied = tt
 takes setup log taking (I ns nr asdu) (Some hs) k single shown lined tied =
@@ -282,7 +302,8 @@ takes setup log taking (U signals.TestCon) (Some hs) k single shown lined tied =
 
 -- something is put out
 numbered : (setup : Setup) (log : List Observation) (ns nr : ℕ) (meant : Meant) (hs : List Turn)
-    → PutsFirst setup.station.offset_minutes setup.station.common_address (view setup log hs) (put_out meant (spontaneous_of setup.station.common_address meant) (view setup log hs)) meant
+    → PutsFirst setup.station.offset_minutes setup.station.common_address (view setup log hs)
+    (put_out meant (spontaneous_of setup.station.common_address meant) (view setup log hs)) meant
     → Keeps setup log log (PutsOut (Numbered ns nr meant)) hs
 numbered setup log ns nr meant hs puts = record {
   begins = λ act. absurd (true≢false (sym act));
@@ -290,9 +311,12 @@ numbered setup log ns nr meant hs puts = record {
       kept_put_out setup.rows setup.station.offset_minutes setup.station.common_address since (told newer) meant (spontaneous_of setup.station.common_address meant) (view setup log hs) puts kept;
 }
 
-puts : (setup : Setup) (log : List Observation) (moment : ℕ) (x : Sending) (s : Option (List Turn)) (k : Client) → setup.station.common_address < 65536 → IsOffered k x → CanSend setup.station.offset_minutes x
-    → NewsTied setup s k → LineTied setup s k → NewsTied setup (session_with (PutsOut (says setup k x)) s) (client_with_sent moment x k)
-    → LineTied setup (session_with (PutsOut (says setup k x)) s) (client_with_sent moment x k) → SessionMirrored setup log s → SessionMirrored setup log (session_with (PutsOut (says setup k x)) s)
+puts : (setup : Setup) (log : List Observation) (moment : ℕ) (x : Sending) (s : Option (List Turn)) (k : Client)
+    → setup.station.common_address < 65536 → IsOffered k x → CanSend setup.station.offset_minutes x
+    → NewsTied setup s k → LineTied setup s k → NewsTied setup (session_with (PutsOut (says setup k x)) s)
+    (client_with_sent moment x k)
+    → LineTied setup (session_with (PutsOut (says setup k x)) s) (client_with_sent moment x k)
+    → SessionMirrored setup log s → SessionMirrored setup log (session_with (PutsOut (says setup k x)) s)
 puts setup log moment x None k small is can news lined news_then then tied = tt
 puts setup log moment (sendings.Confirm signal) (Some hs) k small is can news lined news_then then tied =
     mirrored setup log log (PutsOut (says setup k (sendings.Confirm signal))) hs (record { begins = λ act. absurd (true≢false (sym act)); goes = λ since newer kept. kept }) tied
@@ -320,7 +344,8 @@ puts setup log moment (sendings.Part part) (Some hs) k small is can news lined n
     (puts_first setup log moment x hs _ k is.first can (part_means setup.station.offset_minutes setup.station.common_address part small can) news lined now)) tied
 
 -- news come
-comes : (setup : Setup) (before : List Observation) (brought : Brought) (s : Option (List Turn)) (k : Client) → LineTied setup s k → SessionMirrored setup before s
+comes : (setup : Setup) (before : List Observation) (brought : Brought) (s : Option (List Turn)) (k : Client)
+    → LineTied setup s k → SessionMirrored setup before s
     → SessionMirrored setup (before ++ brought.news) (session_with (Idle brought) s)
 comes setup before brought None k lined tied = tt
 comes setup before brought (Some hs) k lined tied =
@@ -331,7 +356,8 @@ comes setup before brought (Some hs) k lined tied =
 
 -- ---- lives
 
-session_mirrored : (setup : Setup) → IsSoundSetup setup → (log : List Observation) (ts : List Turn) (k : Client) → Lives setup ts k → IsLogged setup log ts → SessionMirrored setup log (session ts)
+session_mirrored : (setup : Setup) → IsSoundSetup setup → (log : List Observation) (ts : List Turn) (k : Client)
+    → Lives setup ts k → IsLogged setup log ts → SessionMirrored setup log (session ts)
 session_mirrored setup fit log [] k lives logged = tt
 session_mirrored setup fit log (Ends ∷ ts) k lives logged = tt
 session_mirrored setup fit log (Idle brought ∷ ts) k lives logged =
@@ -354,11 +380,13 @@ session_mirrored setup fit log (PutsOut said ∷ ts) k lives logged =
 
 -- ---- the law
 
-tells_mirror : (setup : Setup) (log : List Observation) (s : Option (List Turn)) → SessionMirrored setup log s → IfSome s (Mirrors setup log)
+tells_mirror : (setup : Setup) (log : List Observation) (s : Option (List Turn)) → SessionMirrored setup log s
+    → IfSome s (Mirrors setup log)
 tells_mirror setup log None tied = tt
 tells_mirror setup log (Some hs) tied = λ newer older act same is. by (length (fates setup.station older)) (told newer) (tied newer older act same is)
   where
-    by : (since : ℕ) (heard : Option (List Observation)) → IsKept setup.rows (view setup log hs) since heard → IfSome heard (MirrorsPicture setup log hs since)
+    by : (since : ℕ) (heard : Option (List Observation)) → IsKept setup.rows (view setup log hs) since heard
+        → IfSome heard (MirrorsPicture setup log hs since)
     by since None kept = tt
     by since (Some xs) kept = record { knows = λ none. knows_picture setup log (xs ++ waiting_in (line setup hs)) (kept.knows none) }
 
@@ -366,7 +394,8 @@ tells_mirror setup log (Some hs) tied = λ newer older act same is. by (length (
 pub mirrors : (setup : Setup) (past : List Entry) → Place setup past → Mirror setup past
 mirrors setup past place c within = by (client_at setup c past) (place.known.lives c)
   where
-    by : (x : Option Client) → SlotLives setup c (life setup c past) x → IfSome (session (life setup c past)) (Mirrors setup (log_of setup past))
+    by : (x : Option Client) → SlotLives setup c (life setup c past) x
+        → IfSome (session (life setup c past)) (Mirrors setup (log_of setup past))
     by None lives = absurd (omega (arith, lives, within))
     by (Some k) lives =
         tells_mirror setup (log_of setup past) (session (life setup c past)) (session_mirrored setup place.settings (log_of setup past) (life setup c past) k lives (logged setup c past))

@@ -76,23 +76,27 @@ NewsTied setup (Some hs) k = InSession setup hs k
 
 -- ---- what an I format says
 
-confirming_is : (common : ℕ) (negative : Bool) (c : Command) → IsOfStation common (Commands (answering common (confirming c.cause) negative c))
+confirming_is : (common : ℕ) (negative : Bool) (c : Command)
+    → IsOfStation common (Commands (answering common (confirming c.cause) negative c))
 confirming_is common negative c = elim (cases_Bool (eqb c.cause 8)) [ inl is ↦ rw is (inl (refl, refl)) | inr isnt ↦ rw isnt (inl (refl, refl)) ]
 
-answer_of_station : (offset : ℤ) (common : ℕ) (answer : Answer) (meant : Meant) → CanSendAnswer offset answer → MeansAnswer offset common answer meant → IsOfStation common meant
+answer_of_station : (offset : ℤ) (common : ℕ) (answer : Answer) (meant : Meant) → CanSendAnswer offset answer
+    → MeansAnswer offset common answer meant → IsOfStation common meant
 answer_of_station offset common (Unknown asdu cause) (Tells told) can means = inr (cause, can.1, can.2, means)
 answer_of_station offset common (Unknown asdu cause) (Commands c) can means = inr (cause, can.1, can.2, means)
 answer_of_station offset common (Unknown asdu cause) (Unread octets) can means = (cause, can.1, can.2, means)
 answer_of_station offset common (Confirmed c negative) meant can means = subst (IsOfStation common) (sym means) (confirming_is common negative c)
 answer_of_station offset common (Shown x originator) meant can means = subst (IsOfStation common) (sym means) (inl (refl, refl))
 
-part_of_station : (offset : ℤ) (common : ℕ) (part : Part) (meant : Meant) → IsRequested part → MeansPart offset common part meant → IsOfStation common meant
+part_of_station : (offset : ℤ) (common : ℕ) (part : Part) (meant : Meant) → IsRequested part
+    → MeansPart offset common part meant → IsOfStation common meant
 part_of_station offset common (Confirmation c) meant is means = subst (IsOfStation common) (sym means) (inl (refl, refl))
 part_of_station offset common (Row cause x) meant (inl is) means = subst (IsOfStation common) (sym means) (subst (λ (n : ℕ). IsOfStation common (Tells (asdu_of offset common n 0 x))) (sym is) (inl (refl, refl)))
 part_of_station offset common (Row cause x) meant (inr is) means = subst (IsOfStation common) (sym means) (subst (λ (n : ℕ). IsOfStation common (Tells (asdu_of offset common n 0 x))) (sym is) (inl (refl, refl)))
 part_of_station offset common (Termination c) meant is means = subst (IsOfStation common) (sym means) (inl (refl, refl))
 
-own_news : (offset : ℤ) (common : ℕ) (x : Observation) → spontaneous_of common (Tells (asdu_of offset common 3 0 x)) ≡ x ∷ []
+own_news : (offset : ℤ) (common : ℕ) (x : Observation)
+    → spontaneous_of common (Tells (asdu_of offset common 3 0 x)) ≡ x ∷ []
 own_news offset common x = rw (eq-eqb common common refl) refl
 
 -- ---- parts of an answer
@@ -112,11 +116,13 @@ rows_requested action (x ∷ xs) = elim (cases_Bool (is_asked_by action x)) [
     cause_is (actions.CounterInterrogation qualifier) = inr refl
     cause_is actions.Read = inl refl
 
-and_termination : (parts : List Part) (c : Command) → AllByRecursion IsRequested parts → AllByRecursion IsRequested (parts ++ Termination c ∷ [])
+and_termination : (parts : List Part) (c : Command) → AllByRecursion IsRequested parts
+    → AllByRecursion IsRequested (parts ++ Termination c ∷ [])
 and_termination [] c all = (tt, tt)
 and_termination (part ∷ parts) c all = (all.0, and_termination parts c all.1)
 
-parts_with : (picture : List Observation) (j : Judged) (asks : Bool) (k : Client) → AllByRecursion IsRequested k.rest → AllByRecursion IsRequested (rest_with picture j asks k)
+parts_with : (picture : List Observation) (j : Judged) (asks : Bool) (k : Client) → AllByRecursion IsRequested k.rest
+    → AllByRecursion IsRequested (rest_with picture j asks k)
 parts_with picture (judgements.Accepted c) true k all = (tt, and_termination (rows_of c.action picture) c (rows_requested c.action picture))
 parts_with picture (judgements.Accepted c) false k all = all
 parts_with picture judgements.Malformed asks k all = all
@@ -135,7 +141,8 @@ record Alike (k new : Client) : Type 0 where
   queue : new.queue ≡ k.queue
   dropped : new.dropped ≡ k.dropped
 
-still : (setup : Setup) (hs us : List Turn) (k new : Client) → fates setup.station us ≡ fates setup.station hs → gone setup.station us ≡ gone setup.station hs → Alike k new
+still : (setup : Setup) (hs us : List Turn) (k new : Client) → fates setup.station us ≡ fates setup.station hs
+    → gone setup.station us ≡ gone setup.station hs → Alike k new
     → AllByRecursion IsRequested new.rest → InSession setup hs k → InSession setup us new
 still setup hs us k new same_fates same_gone alike parts tied = record {
   started = ap is_started alike.stage ∙ tied.started;
@@ -148,12 +155,14 @@ still setup hs us k new same_fates same_gone alike parts tied = record {
   parts = parts;
 }
 
-no_session : (k new : Client) → new.stage ≡ k.stage → new.queue ≡ k.queue → new.dropped ≡ k.dropped → new.answers ≡ k.answers → new.rest ≡ k.rest → NoSession k → NoSession new
+no_session : (k new : Client) → new.stage ≡ k.stage → new.queue ≡ k.queue → new.dropped ≡ k.dropped
+    → new.answers ≡ k.answers → new.rest ≡ k.rest → NoSession k → NoSession new
 no_session k new stage queue dropped answers rest tied =
     record { stopped = ap is_started stage ∙ tied.stopped; queue = queue ∙ tied.queue; dropped = dropped ∙ tied.dropped; answers = answers ∙ tied.answers; rest = rest ∙ tied.rest }
 
 -- news come
-came : (setup : Setup) (brought : Brought) (s : Option (List Turn)) (k : Client) → 0 < setup.station.queue → k.limit ≡ setup.station.queue
+came : (setup : Setup) (brought : Brought) (s : Option (List Turn)) (k : Client) → 0 < setup.station.queue
+    → k.limit ≡ setup.station.queue
     → NewsTied setup s k → NewsTied setup (session_with (Idle brought) s) (client_with_news brought.news k)
 came setup brought None k some limit tied =
     record { stopped = tied.stopped; queue = rw tied.stopped tied.queue; dropped = rw tied.stopped (omega (arith, tied.dropped)); answers = tied.answers; rest = tied.rest }
@@ -175,7 +184,8 @@ came setup brought (Some hs) k some limit tied =
 
 -- a control function is taken
 signal_taken : (setup : Setup) (taking : Taking) (moment : ℕ) (signal : Signal) (s : Option (List Turn)) (k : Client)
-    → NewsTied setup s k → NewsTied setup (session_with (Takes (U signal) taking) s) (client_with_signal moment signal k)
+    → NewsTied setup s k → NewsTied setup (session_with (Takes (U signal) taking) s)
+    (client_with_signal moment signal k)
 signal_taken setup taking moment StartAct None k tied = record {
   started = rw tied.stopped refl;
   settled = [];
@@ -207,13 +217,16 @@ signal_taken setup taking moment StopCon (Some hs) k tied =
     still setup hs (Takes (U StopCon) taking ∷ hs) k _ refl refl (record { stage = refl; limit = refl; queue = refl; dropped = refl }) tied.parts tied
 
 -- an answer to a command changes nothing of a session's news
-answered_alike : (event : Event) (k : Client) → Alike k (client_answered event k) × ((client_answered event k).rest ≡ k.rest)
+answered_alike : (event : Event) (k : Client)
+    → Alike k (client_answered event k) × ((client_answered event k).rest ≡ k.rest)
 answered_alike events.Taken k = (record { stage = refl; limit = refl; queue = refl; dropped = refl }, refl)
 answered_alike (events.Command command) k = (record { stage = refl; limit = refl; queue = refl; dropped = refl }, refl)
 answered_alike (events.Closed why) k = (record { stage = refl; limit = refl; queue = refl; dropped = refl }, refl)
 
-took : (setup : Setup) (a : Apdu) (taking : Taking) (moment : ℕ) (s : Option (List Turn)) (k : Client) → close_of setup a k ≡ None → NewsTied setup s k
-    → NewsTied setup (session_with (Takes a taking) s) (client_answered (event_taking (command_in setup a)) (client_taking setup taking.picture moment a k))
+took : (setup : Setup) (a : Apdu) (taking : Taking) (moment : ℕ) (s : Option (List Turn)) (k : Client)
+    → close_of setup a k ≡ None → NewsTied setup s k
+    → NewsTied setup (session_with (Takes a taking) s)
+    (client_answered (event_taking (command_in setup a)) (client_taking setup taking.picture moment a k))
 took setup (I ns nr asdu) taking moment None k opens tied =
     absurd (true≢false (sym (open_i ns nr (judged_asdu setup asdu) k opens).started ∙ tied.stopped))
 took setup (I ns nr asdu) taking moment (Some hs) k opens tied =
@@ -229,13 +242,15 @@ took setup (S nr) taking moment (Some hs) k opens tied =
 took setup (U signal) taking moment s k opens tied = signal_taken setup taking moment signal s k tied
 
 -- something is put out that is no news
-put_still : (setup : Setup) (said : Said) (hs : List Turn) (k new : Client) → spontaneous_in setup.station.common_address said ≡ [] → Alike k new
+put_still : (setup : Setup) (said : Said) (hs : List Turn) (k new : Client)
+    → spontaneous_in setup.station.common_address said ≡ [] → Alike k new
     → AllByRecursion IsRequested new.rest → InSession setup hs k → InSession setup (PutsOut said ∷ hs) new
 put_still setup said hs k new none alike parts tied =
     still setup hs (PutsOut said ∷ hs) k new (ap (λ (xs : List Observation). fates_with_put_out (fates setup.station hs) xs) none)
     (ap (λ (xs : List Observation). gone setup.station hs ++ xs) none ∙ append-nil (gone setup.station hs)) alike parts tied
 
-gave : (setup : Setup) (moment : ℕ) (x : Sending) (s : Option (List Turn)) (k : Client) → setup.station.common_address < 65536 → IsOffered k x → CanSend setup.station.offset_minutes x
+gave : (setup : Setup) (moment : ℕ) (x : Sending) (s : Option (List Turn)) (k : Client)
+    → setup.station.common_address < 65536 → IsOffered k x → CanSend setup.station.offset_minutes x
     → NewsTied setup s k → NewsTied setup (session_with (PutsOut (says setup k x)) s) (client_with_sent moment x k)
 gave setup moment (sendings.Confirm signal) None k small is can tied = no_session k _ refl refl refl refl refl tied
 gave setup moment sendings.Test None k small is can tied = no_session k _ refl refl refl refl refl tied
@@ -288,7 +303,8 @@ gave setup moment (sendings.News x) (Some hs) k small is can tied =
 news_first_tied : (setup : Setup) (k : Client) → IsFresh setup k → NewsTied setup None k
 news_first_tied setup k is = record { stopped = is.stage; queue = is.queue; dropped = is.dropped; answers = is.answers; rest = is.rest }
 
-pub news_more : (setup : Setup) → 0 < setup.station.queue → setup.station.common_address < 65536 → (t : Turn) (ts : List Turn) (k new : Client) → Lives setup ts k → Becomes setup t k new
+pub news_more : (setup : Setup) → 0 < setup.station.queue → setup.station.common_address < 65536
+    → (t : Turn) (ts : List Turn) (k new : Client) → Lives setup ts k → Becomes setup t k new
     → NewsTied setup (session ts) k → NewsTied setup (session (t ∷ ts)) new
 news_more setup some small (Idle brought) ts k new lives is tied =
     subst (NewsTied setup (session (Idle brought ∷ ts))) (sym is) (came setup brought (session ts) k some (counts_tied setup ts k lives).limit tied)
@@ -301,12 +317,14 @@ news_more setup some small (PutsOut said) ts k new lives is tied =
     (subst (λ (x : Said). NewsTied setup (session (PutsOut x ∷ ts)) (client_with_sent is.moment is.sending k)) (sym is.says)
     (gave setup is.moment is.sending (session ts) k small (offered_is is.moment k is.sending is.first) is.can tied))
 
-pub news_tied : (setup : Setup) → 0 < setup.station.queue → setup.station.common_address < 65536 → (ts : List Turn) (k : Client) → Lives setup ts k → NewsTied setup (session ts) k
+pub news_tied : (setup : Setup) → 0 < setup.station.queue → setup.station.common_address < 65536
+    → (ts : List Turn) (k : Client) → Lives setup ts k → NewsTied setup (session ts) k
 news_tied setup some small = lives_all setup (λ ts k. NewsTied setup (session ts) k) (news_first_tied setup) (news_more setup some small)
 
 -- ---- the law
 
-tells : (setup : Setup) (s : Option (List Turn)) (k : Client) → NewsTied setup s k → TellsNews setup.station (turns_in s) k
+tells : (setup : Setup) (s : Option (List Turn)) (k : Client) → NewsTied setup s k
+    → TellsNews setup.station (turns_in s) k
 tells setup None k tied = record { in_order = tied.queue; queued = tied.queue; dropped = tied.dropped }
 tells setup (Some hs) k tied = record {
   in_order = rw (tied.put_out, tied.told) (sym (kept_in tied.settled k.queue tied.all_settled));
@@ -318,7 +336,8 @@ pub stands : (setup : Setup) (s : Option (List Turn)) (k : Client) → NewsTied 
 stands setup None k tied = tied.stopped
 stands setup (Some hs) k tied = tied.started
 
-says_of_station : (setup : Setup) (x : Sending) (ts : List Turn) (k : Client) → setup.station.common_address < 65536 → IsOffered k x → CanSend setup.station.offset_minutes x
+says_of_station : (setup : Setup) (x : Sending) (ts : List Turn) (k : Client) → setup.station.common_address < 65536
+    → IsOffered k x → CanSend setup.station.offset_minutes x
     → NewsTied setup (session ts) k → Speaks setup.station (PutsOut (says setup k x) ∷ ts)
 says_of_station setup (sendings.Confirm signal) ts k small is can tied = tt
 says_of_station setup sendings.Test ts k small is can tied = tt
@@ -342,7 +361,8 @@ says_of_station setup (sendings.News x) ts k small is can tied =
     let means = observations_mean offset common 3 x small can.width can.fit in
     (sym (stands setup (session ts) k tied) ∙ is.in_session, subst (IsOfStation common) (sym means) (inl (refl, refl)))
 
-speaks : (setup : Setup) → 0 < setup.station.queue → setup.station.common_address < 65536 → (ts : List Turn) (k : Client) → Lives setup ts k → Speaks setup.station ts
+speaks : (setup : Setup) → 0 < setup.station.queue → setup.station.common_address < 65536
+    → (ts : List Turn) (k : Client) → Lives setup ts k → Speaks setup.station ts
 speaks setup some small [] k lives = tt
 speaks setup some small (Idle brought ∷ ts) k lives = tt
 speaks setup some small (Takes a taking ∷ ts) k lives = tt
@@ -366,10 +386,12 @@ tells_news setup past place = record {
     small : setup.station.common_address < 65536
     small = place.settings.station
 
-    begun : (c : ℕ) (x : Option Client) → SlotLives setup c (life setup c past) x → IfSome x (λ k. is_started k.stage ≡ is_some (session (life setup c past)))
+    begun : (c : ℕ) (x : Option Client) → SlotLives setup c (life setup c past) x
+        → IfSome x (λ k. is_started k.stage ≡ is_some (session (life setup c past)))
     begun c None lives = tt
     begun c (Some k) lives = stands setup (session (life setup c past)) k (news_tied setup some small (life setup c past) k lives)
 
-    news : (c : ℕ) (x : Option Client) → SlotLives setup c (life setup c past) x → IfSome x (TellsNews setup.station (turns_in (session (life setup c past))))
+    news : (c : ℕ) (x : Option Client) → SlotLives setup c (life setup c past) x
+        → IfSome x (TellsNews setup.station (turns_in (session (life setup c past))))
     news c None lives = tt
     news c (Some k) lives = tells setup (session (life setup c past)) k (news_tied setup some small (life setup c past) k lives)

@@ -52,7 +52,8 @@ pub record SameCounts (w new : Counts) : Type 0 where
 same_counts : (w : Counts) → SameCounts w w
 same_counts w = record { limits = refl; acknowledged = refl; waiting = refl; received = refl }
 
-window_same : (setup : Setup) (ts us : List Turn) (w new : Counts) → sent us ≡ sent ts → taken us ≡ taken ts → last_receive_number us ≡ last_receive_number ts
+window_same : (setup : Setup) (ts us : List Turn) (w new : Counts) → sent us ≡ sent ts → taken us ≡ taken ts
+    → last_receive_number us ≡ last_receive_number ts
     → SameCounts w new → WindowTied setup ts w → WindowTied setup us new
 window_same setup ts us w new es et er same tied = record {
   limits = same.limits ∙ tied.limits;
@@ -63,7 +64,8 @@ window_same setup ts us w new es et er same tied = record {
 }
 
 -- an I format was put out
-window_sent : (setup : Setup) (ts us : List Turn) (moment : ℕ) (w : Counts) → sent us ≡ sent ts + 1 → taken us ≡ taken ts → last_receive_number us ≡ last_receive_number ts
+window_sent : (setup : Setup) (ts us : List Turn) (moment : ℕ) (w : Counts) → sent us ≡ sent ts + 1
+    → taken us ≡ taken ts → last_receive_number us ≡ last_receive_number ts
     → has_room w ≡ true → WindowTied setup ts w → WindowTied setup us (counts_after_sending_i moment w)
 window_sent setup ts us moment w es et er room tied =
     let within : length w.waiting < w.limits.k = ltb-true (length w.waiting) w.limits.k room in
@@ -78,7 +80,8 @@ window_sent setup ts us moment w es et er room tied =
     }
 
 -- an S format was taken
-window_with_s : (setup : Setup) (ts : List Turn) (taking : Taking) (nr moment : ℕ) (w : Counts) → is_right_receive nr w ≡ true
+window_with_s : (setup : Setup) (ts : List Turn) (taking : Taking) (nr moment : ℕ) (w : Counts)
+    → is_right_receive nr w ≡ true
     → WindowTied setup ts w → WindowTied setup (Takes (S nr) taking ∷ ts) (counts_after_s nr moment w)
 window_with_s setup ts taking nr moment w right tied =
     let parts = right_split nr w right in
@@ -91,8 +94,10 @@ window_with_s setup ts taking nr moment w right tied =
     })
 
 -- an I format was taken
-window_with_i : (setup : Setup) (ts us : List Turn) (ns nr moment : ℕ) (w : Counts) → sent us ≡ sent ts → taken us ≡ taken ts + 1 → last_receive_number us ≡ nr
-    → is_right_send ns w ≡ true → is_right_receive nr w ≡ true → WindowTied setup ts w → WindowTied setup us (counts_after_i ns nr moment w)
+window_with_i : (setup : Setup) (ts us : List Turn) (ns nr moment : ℕ) (w : Counts) → sent us ≡ sent ts
+    → taken us ≡ taken ts + 1 → last_receive_number us ≡ nr
+    → is_right_send ns w ≡ true → is_right_receive nr w ≡ true → WindowTied setup ts w
+    → WindowTied setup us (counts_after_i ns nr moment w)
 window_with_i setup ts us ns nr moment w es et er next right tied =
     let parts = right_split nr w right in
     rw (next, right) (record {
@@ -106,11 +111,13 @@ window_with_i setup ts us ns nr moment w es et er next right tied =
 -- ---- an APDU is taken
 
 -- a client whose counts stay
-counts_same : (setup : Setup) (ts us : List Turn) (k new : Client) → sent us ≡ sent ts → taken us ≡ taken ts → last_receive_number us ≡ last_receive_number ts
+counts_same : (setup : Setup) (ts us : List Turn) (k new : Client) → sent us ≡ sent ts → taken us ≡ taken ts
+    → last_receive_number us ≡ last_receive_number ts
     → SameCounts k.window new.window → new.limit ≡ k.limit → CountsTied setup ts k → CountsTied setup us new
 counts_same setup ts us k new es et er same limit tied = record { window = window_same setup ts us k.window new.window es et er same tied.window; limit = limit ∙ tied.limit }
 
-answered_same : (event : Event) (k : Client) → ((client_answered event k).window ≡ k.window) × ((client_answered event k).limit ≡ k.limit)
+answered_same : (event : Event) (k : Client)
+    → ((client_answered event k).window ≡ k.window) × ((client_answered event k).limit ≡ k.limit)
 answered_same events.Taken k = (refl, refl)
 answered_same (events.Command command) k = (refl, refl)
 answered_same (events.Closed why) k = (refl, refl)
@@ -131,8 +138,10 @@ signal_limit moment StartCon k = refl
 signal_limit moment StopCon k = refl
 signal_limit moment TestCon k = refl
 
-took : (setup : Setup) (ts : List Turn) (a : Apdu) (taking : Taking) (moment : ℕ) (k : Client) → close_of setup a k ≡ None → CountsTied setup ts k
-    → CountsTied setup (Takes a taking ∷ ts) (client_answered (event_taking (command_in setup a)) (client_taking setup taking.picture moment a k))
+took : (setup : Setup) (ts : List Turn) (a : Apdu) (taking : Taking) (moment : ℕ) (k : Client)
+    → close_of setup a k ≡ None → CountsTied setup ts k
+    → CountsTied setup (Takes a taking ∷ ts)
+    (client_answered (event_taking (command_in setup a)) (client_taking setup taking.picture moment a k))
 took setup ts (I ns nr asdu) taking moment k opens tied =
     let told : IsOpen ns nr (judged_asdu setup asdu) k = open_i ns nr (judged_asdu setup asdu) k opens in
     let between : Client = client_taking setup taking.picture moment (I ns nr asdu) k in
@@ -183,7 +192,8 @@ fresh setup k is = record {
   limit = is.limit;
 }
 
-counts_more : (setup : Setup) (t : Turn) (ts : List Turn) (k new : Client) → Lives setup ts k → Becomes setup t k new → CountsTied setup ts k → CountsTied setup (t ∷ ts) new
+counts_more : (setup : Setup) (t : Turn) (ts : List Turn) (k new : Client) → Lives setup ts k → Becomes setup t k new
+    → CountsTied setup ts k → CountsTied setup (t ∷ ts) new
 counts_more setup (Idle brought) ts k new lives is tied = subst (CountsTied setup (Idle brought ∷ ts)) (sym is) (counts_same setup ts (Idle brought ∷ ts) k _ refl refl refl (same_counts k.window) refl tied)
 counts_more setup Ends ts k new lives is tied = subst (CountsTied setup (Ends ∷ ts)) (sym is) (counts_same setup ts (Ends ∷ ts) k _ refl refl refl (same_counts k.window) refl tied)
 counts_more setup (Takes a taking) ts k new lives is tied = subst (CountsTied setup (Takes a taking ∷ ts)) (sym is.becomes) (took setup ts a taking is.moment k is.opens tied)
@@ -201,21 +211,24 @@ counts_tied setup = lives_all setup (CountsTied setup) (fresh setup) (counts_mor
 same_count : (nr sent n m : ℕ) → Names nr sent n → Names nr sent m → n ≡ m
 same_count nr sent n m a b = omega (arith, a.not_more, a.latest, a.number, b.not_more, b.latest, b.number)
 
-last_named : (setup : Setup) (ts : List Turn) (w : Counts) → setup.station.k < 32768 → WindowTied setup ts w → Names (last_receive_number ts) (sent ts) w.acknowledged
+last_named : (setup : Setup) (ts : List Turn) (w : Counts) → setup.station.k < 32768 → WindowTied setup ts w
+    → Names (last_receive_number ts) (sent ts) w.acknowledged
 last_named setup ts w small tied = record {
   not_more = omega (arith, tied.sent);
   latest = omega (arith, tied.sent, tied.few, small);
   number = tied.acknowledged;
 }
 
-window_kept : (setup : Setup) (ts : List Turn) (w : Counts) → setup.station.k < 32768 → WindowTied setup ts w → KeepsWindow setup.station.k ts
+window_kept : (setup : Setup) (ts : List Turn) (w : Counts) → setup.station.k < 32768 → WindowTied setup ts w
+    → KeepsWindow setup.station.k ts
 window_kept setup ts w small tied = record {
   acknowledged = w.acknowledged;
   named = last_named setup ts w small tied;
   within = omega (arith, tied.sent, tied.few);
 }
 
-pub receive_is_right : (setup : Setup) (ts : List Turn) (nr : ℕ) (w : Counts) → setup.station.k < 32768 → WindowTied setup ts w
+pub receive_is_right : (setup : Setup) (ts : List Turn) (nr : ℕ) (w : Counts) → setup.station.k < 32768
+    → WindowTied setup ts w
     → is_right_receive nr w ≡ true → IsRightReceive ts nr
 receive_is_right setup ts nr w small tied right =
     let names : Acknowledges nr w (w.acknowledged + new_acknowledgements nr w) = right_names nr w right in
@@ -231,7 +244,8 @@ receive_is_right setup ts nr w small tied right =
       not_fewer = omega arith;
     }
 
-pub right_receive_is : (setup : Setup) (ts : List Turn) (nr : ℕ) (w : Counts) → setup.station.k < 32768 → WindowTied setup ts w
+pub right_receive_is : (setup : Setup) (ts : List Turn) (nr : ℕ) (w : Counts) → setup.station.k < 32768
+    → WindowTied setup ts w
     → IsRightReceive ts nr → is_right_receive nr w ≡ true
 right_receive_is setup ts nr w small tied right =
     let same : right.acknowledged ≡ w.acknowledged =
@@ -241,7 +255,8 @@ right_receive_is setup ts nr w small tied right =
 
 -- ---- the law
 
-says_numbers : (setup : Setup) (ts : List Turn) (s : Sending) (k : Client) → WindowTied setup ts k.window → SaysNumbers (sent ts) (taken ts) (says setup k s)
+says_numbers : (setup : Setup) (ts : List Turn) (s : Sending) (k : Client) → WindowTied setup ts k.window
+    → SaysNumbers (sent ts) (taken ts) (says setup k s)
 says_numbers setup ts (sendings.Confirm signal) k tied = tt
 says_numbers setup ts sendings.Test k tied = tt
 says_numbers setup ts sendings.Receipt k tied = ap (λ (n : ℕ). n % 32768) tied.received
@@ -258,6 +273,7 @@ last_numbers setup (PutsOut said ∷ ts) k lives =
     let gave = lives.2 in
     subst (SaysNumbers (sent ts) (taken ts)) (sym gave.says) (says_numbers setup ts gave.sending lives.0 (counts_tied setup ts lives.0 lives.1).window)
 
-pub right_numbers : (setup : Setup) → setup.station.k < 32768 → (ts : List Turn) (k : Client) → Lives setup ts k → HasRightNumbers setup.station.k ts
+pub right_numbers : (setup : Setup) → setup.station.k < 32768 → (ts : List Turn) (k : Client) → Lives setup ts k
+    → HasRightNumbers setup.station.k ts
 right_numbers setup small ts k lives =
     record { last = last_numbers setup ts k lives; window = window_kept setup ts k.window small (counts_tied setup ts k lives).window }

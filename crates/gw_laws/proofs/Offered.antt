@@ -75,10 +75,12 @@ part_is p q e = ap value e
     value _ = p
 
 -- news are the oldest of the queue, and a part is the next one of the answer
-pub news_first : (k : Client) (x : Observation) → slice_get (line k) 0 ≡ Some (sendings.News x) → (queue : List Observation) × (k.queue ≡ x ∷ queue)
+pub news_first : (k : Client) (x : Observation) → slice_get (line k) 0 ≡ Some (sendings.News x)
+    → (queue : List Observation) × (k.queue ≡ x ∷ queue)
 news_first k x e = go k.answers k.older k.queue k.rest e
   where
-    go : (answers : List Answer) (older : ℕ) (queue : List Observation) (rest : List Part) → slice_get (front answers older queue rest) 0 ≡ Some (sendings.News x)
+    go : (answers : List Answer) (older : ℕ) (queue : List Observation) (rest : List Part)
+        → slice_get (front answers older queue rest) 0 ≡ Some (sendings.News x)
         → (more : List Observation) × (queue ≡ x ∷ more)
     go (answer ∷ answers) older queue rest e = absurd cc
     go [] zero queue (part ∷ rest) e = absurd cc
@@ -88,10 +90,12 @@ news_first k x e = go k.answers k.older k.queue k.rest e
     go [] (suc n) [] (part ∷ rest) e = absurd cc
     go [] (suc n) [] [] e = absurd cc
 
-pub part_first : (k : Client) (p : Part) → slice_get (line k) 0 ≡ Some (sendings.Part p) → (rest : List Part) × (k.rest ≡ p ∷ rest)
+pub part_first : (k : Client) (p : Part) → slice_get (line k) 0 ≡ Some (sendings.Part p)
+    → (rest : List Part) × (k.rest ≡ p ∷ rest)
 part_first k p e = go k.answers k.older k.queue k.rest e
   where
-    go : (answers : List Answer) (older : ℕ) (queue : List Observation) (rest : List Part) → slice_get (front answers older queue rest) 0 ≡ Some (sendings.Part p)
+    go : (answers : List Answer) (older : ℕ) (queue : List Observation) (rest : List Part)
+        → slice_get (front answers older queue rest) 0 ≡ Some (sendings.Part p)
         → (more : List Part) × (rest ≡ p ∷ more)
     go (answer ∷ answers) older queue rest e = absurd cc
     go [] zero queue (part ∷ rest) e = (rest, ap (λ (z : Part). z ∷ rest) (part_is part p e))

@@ -10,7 +10,8 @@ use Rattle.gw_station.specs.declared.event.Why.TheVariants.{Sequence, NotStarted
 use Rattle.gw_station.specs.Client.{Client, is_started as is_in_session}
 use Rattle.gw_station.specs.Frames.{close_of, closes_judged, is_malformed, overfills}
 
-pub open_s : (setup : Setup) (nr : ℕ) (k : Client) → close_of setup (S nr) k ≡ None → is_right_receive nr k.window ≡ true
+pub open_s : (setup : Setup) (nr : ℕ) (k : Client) → close_of setup (S nr) k ≡ None
+    → is_right_receive nr k.window ≡ true
 open_s setup nr k = go (is_right_receive nr k.window)
   where
     go : (right : Bool) → first_of (when (not right) Sequence ∷ []) ≡ None → right ≡ true
@@ -27,7 +28,8 @@ pub record IsOpen (ns nr : ℕ) (j : Judged) (k : Client) : Type 0 where
 pub open_i : (ns nr : ℕ) (j : Judged) (k : Client) → first_of (closes_judged ns nr j k) ≡ None → IsOpen ns nr j k
 open_i ns nr j k e = go (is_in_session k.stage) (is_right_send ns k.window) (is_right_receive nr k.window) (is_malformed j) (overfills j k) refl refl refl refl refl e
   where
-    go : (started send receive malformed full : Bool) → is_in_session k.stage ≡ started → is_right_send ns k.window ≡ send → is_right_receive nr k.window ≡ receive
+    go : (started send receive malformed full : Bool) → is_in_session k.stage ≡ started
+        → is_right_send ns k.window ≡ send → is_right_receive nr k.window ≡ receive
         → is_malformed j ≡ malformed → overfills j k ≡ full
         → first_of (when (not started) NotStarted ∷ when (not (send && receive)) Sequence ∷ when malformed Malformed ∷ when full Flooded ∷ []) ≡ None → IsOpen ns nr j k
     go true true true false false es en er em ef e = record { started = es; send = en; receive = er; whole = em; places = ef }

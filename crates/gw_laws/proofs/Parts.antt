@@ -52,14 +52,16 @@ IsOfInterrogation (Termination command) = is_interrogation command.action ≡ tr
 not_spontaneous : (cause octet : ℕ) → octet % 64 ≡ cause → 44 ≤ cause → eqb octet 3 ≡ false
 not_spontaneous cause octet e from = ne_eqb octet 3 (λ (is : octet ≡ 3). omega (arith, e, from, is))
 
-pub answer_no_news : (offset : ℤ) (common : ℕ) (answer : Answer) (meant : Meant) → CanSendAnswer offset answer → MeansAnswer offset common answer meant → spontaneous_of common meant ≡ []
+pub answer_no_news : (offset : ℤ) (common : ℕ) (answer : Answer) (meant : Meant) → CanSendAnswer offset answer
+    → MeansAnswer offset common answer meant → spontaneous_of common meant ≡ []
 answer_no_news offset common (Unknown asdu cause) (Tells told) can means = rw (not_spontaneous cause told.cause means.0 can.1) refl
 answer_no_news offset common (Unknown asdu cause) (Commands c) can means = refl
 answer_no_news offset common (Unknown asdu cause) (Unread octets) can means = refl
 answer_no_news offset common (Confirmed c negative) meant can means = ap (spontaneous_of common) means
 answer_no_news offset common (Shown x originator) meant can means = ap (spontaneous_of common) means
 
-pub part_no_news : (offset : ℤ) (common : ℕ) (part : Part) (meant : Meant) → IsRequested part → MeansPart offset common part meant → spontaneous_of common meant ≡ []
+pub part_no_news : (offset : ℤ) (common : ℕ) (part : Part) (meant : Meant) → IsRequested part
+    → MeansPart offset common part meant → spontaneous_of common meant ≡ []
 part_no_news offset common (Confirmation c) meant is means = ap (spontaneous_of common) means
 part_no_news offset common (Row cause x) meant (inl is) means = ap (spontaneous_of common) means ∙ ap (λ (n : ℕ). spontaneous_of common (Tells (asdu_of offset common n 0 x))) is
 part_no_news offset common (Row cause x) meant (inr is) means = ap (spontaneous_of common) means ∙ ap (λ (n : ℕ). spontaneous_of common (Tells (asdu_of offset common n 0 x))) is
@@ -82,7 +84,8 @@ neither : (cause octet : ℕ) → octet % 64 ≡ cause → 44 ≤ cause → eqb 
 neither cause octet e from =
     rw (ne_eqb octet 20 (λ (is : octet ≡ 20). omega (arith, e, from, is)), ne_eqb octet 37 (λ (is : octet ≡ 37). omega (arith, e, from, is))) refl
 
-pub answer_apart : (offset : ℤ) (common : ℕ) (answer : Answer) (meant : Meant) → CanSendAnswer offset answer → IsApart answer → MeansAnswer offset common answer meant → parts_in meant ≡ []
+pub answer_apart : (offset : ℤ) (common : ℕ) (answer : Answer) (meant : Meant) → CanSendAnswer offset answer
+    → IsApart answer → MeansAnswer offset common answer meant → parts_in meant ≡ []
 answer_apart offset common (Unknown asdu cause) (Tells told) can is means = rw (neither cause told.cause means.0 can.1) refl
 answer_apart offset common (Unknown asdu cause) (Commands c) can is means = negative_apart c means.1
 answer_apart offset common (Unknown asdu cause) (Unread octets) can is means = refl
@@ -90,17 +93,20 @@ answer_apart offset common (Confirmed c negative) meant can is means =
     ap parts_in means ∙ no_parts (answering common (confirming c.cause) negative c) is
 answer_apart offset common (Shown x originator) meant can is means = ap parts_in means
 
-pub news_apart : (offset : ℤ) (common : ℕ) (x : Observation) (meant : Meant) → meant ≡ Tells (asdu_of offset common 3 0 x) → parts_in meant ≡ []
+pub news_apart : (offset : ℤ) (common : ℕ) (x : Observation) (meant : Meant)
+    → meant ≡ Tells (asdu_of offset common 3 0 x) → parts_in meant ≡ []
 news_apart offset common x meant means = ap parts_in means
 
 -- nothing of it was put out
-pub told_nothing : (meant : Meant) (q : Option Interrogation) → parts_in meant ≡ [] → option_map (interrogation_telling meant) q ≡ q
+pub told_nothing : (meant : Meant) (q : Option Interrogation) → parts_in meant ≡ []
+    → option_map (interrogation_telling meant) q ≡ q
 told_nothing meant None none = refl
 told_nothing meant (Some q) none = ap (λ (parts : List Part). Some (record q { said = parts })) (ap (λ (parts : List Part). q.said ++ parts) none ∙ append-nil q.said)
 
 -- ---- what is of it
 
-pub part_told : (offset : ℤ) (common : ℕ) (part : Part) (meant : Meant) → IsOfInterrogation part → IsRequested part → MeansPart offset common part meant
+pub part_told : (offset : ℤ) (common : ℕ) (part : Part) (meant : Meant) → IsOfInterrogation part → IsRequested part
+    → MeansPart offset common part meant
     → parts_in meant ≡ as_told common part ∷ []
 part_told offset common (Confirmation c) meant is requested means = ap parts_in means ∙ rw is refl
 part_told offset common (Row cause x) meant is (inl asked) means =
@@ -127,19 +133,22 @@ accepted_is pending c e = general c.action (middle (eqb c.cause 6) (is_general c
     general (actions.CounterInterrogation qualifier) e = refl
     general actions.Read e = absurd cc
 
-rows_are : (action : Action) (xs : List Observation) (rest : List Part) → AllByRecursion IsOfInterrogation rest → AllByRecursion IsOfInterrogation (rows_of action xs ++ rest)
+rows_are : (action : Action) (xs : List Observation) (rest : List Part) → AllByRecursion IsOfInterrogation rest
+    → AllByRecursion IsOfInterrogation (rows_of action xs ++ rest)
 rows_are action [] rest all = all
 rows_are action (x ∷ xs) rest all = elim (cases_Bool (is_asked_by action x)) [
   | inl is ↦ rw is (tt, rows_are action xs rest all)
   | inr isnt ↦ rw isnt (rows_are action xs rest all)
 ]
 
-pub answer_is : (c : Command) (picture : List Observation) → is_interrogation c.action ≡ true → AllByRecursion IsOfInterrogation (answer_to c picture)
+pub answer_is : (c : Command) (picture : List Observation) → is_interrogation c.action ≡ true
+    → AllByRecursion IsOfInterrogation (answer_to c picture)
 answer_is c picture e = (e, rows_are c.action picture (Termination c ∷ []) (e, tt))
 
 -- ---- the termination is the last
 
-rows_go_on : (common : ℕ) (action : Action) (xs : List Observation) → list_any is_termination (map (as_told common) (rows_of action xs)) ≡ false
+rows_go_on : (common : ℕ) (action : Action) (xs : List Observation)
+    → list_any is_termination (map (as_told common) (rows_of action xs)) ≡ false
 rows_go_on common action [] = refl
 rows_go_on common action (x ∷ xs) = elim (cases_Bool (is_asked_by action x)) [
   | inl is ↦ rw is (rows_go_on common action xs)
@@ -147,7 +156,8 @@ rows_go_on common action (x ∷ xs) = elim (cases_Bool (is_asked_by action x)) [
 ]
 
 -- of parts that end with the only termination, something is left exactly while it wasn't said
-last_said : (xs said rest : List Part) (t : Part) → list_any is_termination xs ≡ false → is_termination t ≡ true → said ++ rest ≡ xs ++ t ∷ []
+last_said : (xs said rest : List Part) (t : Part) → list_any is_termination xs ≡ false → is_termination t ≡ true
+    → said ++ rest ≡ xs ++ t ∷ []
     → not (list_any is_termination said) ≡ is_asked rest
 last_said [] [] [] t none is e = absurd cc
 last_said (x ∷ xs) [] [] t none is e = absurd cc
@@ -188,7 +198,8 @@ told_asked common [] = refl
 told_asked common (part ∷ rest) = refl
 
 -- an interrogation is pending while something is left of its answer
-pub pending_is : (common : ℕ) (q : Interrogation) (rest : List Part) → q.said ++ map (as_told common) rest ≡ answer_told common q → is_pending (Some q) ≡ is_asked rest
+pub pending_is : (common : ℕ) (q : Interrogation) (rest : List Part)
+    → q.said ++ map (as_told common) rest ≡ answer_told common q → is_pending (Some q) ≡ is_asked rest
 pending_is common q rest e =
     let c : Command = q.command in
     let front : List Part = Confirmation (answering common 7 false c) ∷ map (as_told common) (rows_of c.action q.rows) in
@@ -198,7 +209,8 @@ pending_is common q rest e =
     ∙ told_asked common rest
 
 -- one part more was said
-pub said_more : (common : ℕ) (said : List Part) (part : Part) (rest : List Part) → (said ++ as_told common part ∷ []) ++ map (as_told common) rest ≡ said ++ map (as_told common) (part ∷ rest)
+pub said_more : (common : ℕ) (said : List Part) (part : Part) (rest : List Part)
+    → (said ++ as_told common part ∷ []) ++ map (as_told common) rest ≡ said ++ map (as_told common) (part ∷ rest)
 said_more common [] part rest = refl
 said_more common (s ∷ said) part rest = ap (λ (parts : List Part). s ∷ parts) (said_more common said part rest)
 
@@ -226,13 +238,15 @@ front answers older queue rest =
 pub no_answer : (k : Client) (x : Observation) → slice_get (line k) 0 ≡ Some (sendings.News x) → k.answers ≡ []
 no_answer k x e = go k.answers e
   where
-    go : (answers : List Answer) → slice_get (front answers k.older k.queue k.rest) 0 ≡ Some (sendings.News x) → answers ≡ []
+    go : (answers : List Answer) → slice_get (front answers k.older k.queue k.rest) 0 ≡ Some (sendings.News x)
+        → answers ≡ []
     go [] e = refl
     go (a ∷ answers) e = absurd cc
 
 pub no_answer_before : (k : Client) (part : Part) → slice_get (line k) 0 ≡ Some (sendings.Part part) → k.answers ≡ []
 no_answer_before k part e = go k.answers e
   where
-    go : (answers : List Answer) → slice_get (front answers k.older k.queue k.rest) 0 ≡ Some (sendings.Part part) → answers ≡ []
+    go : (answers : List Answer) → slice_get (front answers k.older k.queue k.rest) 0 ≡ Some (sendings.Part part)
+        → answers ≡ []
     go [] e = refl
     go (a ∷ answers) e = absurd cc

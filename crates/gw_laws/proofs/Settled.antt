@@ -106,10 +106,12 @@ dropped_in settled queue =
     ∙ append-nil (items_of is_dropped settled))
 
 -- one more that was put out
-pub put_out_more : (settled : List Element) (x : Observation) → items_of is_put_out (settled ++ put x ∷ []) ≡ items_of is_put_out settled ++ x ∷ []
+pub put_out_more : (settled : List Element) (x : Observation)
+    → items_of is_put_out (settled ++ put x ∷ []) ≡ items_of is_put_out settled ++ x ∷ []
 put_out_more settled x = items_of-append is_put_out settled (put x ∷ [])
 
-pub dropped_same : (settled : List Element) (x : Observation) → items_of is_dropped (settled ++ put x ∷ []) ≡ items_of is_dropped settled
+pub dropped_same : (settled : List Element) (x : Observation)
+    → items_of is_dropped (settled ++ put x ∷ []) ≡ items_of is_dropped settled
 dropped_same settled x = items_of-append is_dropped settled (put x ∷ []) ∙ append-nil (items_of is_dropped settled)
 
 -- ---- news that come
@@ -124,7 +126,8 @@ settled_stays e all = ap (λ (f : Fate). record e { fate = f }) (go e.fate all)
     go Dropped is = refl
 
 -- of the first n those that are settled stay as they are
-lapse-settled : (n k : ℕ) (settled rest : List Element) → AreSettled settled → k ≡ n - length settled → lapse_first n (settled ++ rest) ≡ settled ++ lapse_first k rest
+lapse-settled : (n k : ℕ) (settled rest : List Element) → AreSettled settled → k ≡ n - length settled
+    → lapse_first n (settled ++ rest) ≡ settled ++ lapse_first k rest
 lapse-settled n k [] rest all e = let same : n ≡ k = omega (arith, e) in ap (λ (i : ℕ). lapse_first i rest) same
 lapse-settled zero k (e ∷ es) rest all is = let none : 0 ≡ k = omega (arith, is) in ap (λ (i : ℕ). e ∷ (es ++ lapse_first i rest)) none
 lapse-settled (suc n) k (e ∷ es) rest all is =
@@ -133,12 +136,14 @@ lapse-settled (suc n) k (e ∷ es) rest all is =
     cc
 
 -- the oldest of a queue are dropped
-lapse-queue : (n : ℕ) (queue : List Observation) → lapse_first n (map queued queue) ≡ map drops (take n queue) ++ map queued (drop n queue)
+lapse-queue : (n : ℕ) (queue : List Observation)
+    → lapse_first n (map queued queue) ≡ map drops (take n queue) ++ map queued (drop n queue)
 lapse-queue zero queue = refl
 lapse-queue (suc n) [] = refl
 lapse-queue (suc n) (x ∷ queue) = ap (λ (es : List Element). drops x ∷ es) (lapse-queue n queue)
 
-dropped_are_settled : (settled : List Element) (xs : List Observation) → AreSettled settled → AreSettled (settled ++ map drops xs)
+dropped_are_settled : (settled : List Element) (xs : List Observation) → AreSettled settled
+    → AreSettled (settled ++ map drops xs)
 dropped_are_settled [] [] all = tt
 dropped_are_settled [] (x ∷ xs) all = (refl, dropped_are_settled [] xs tt)
 dropped_are_settled (e ∷ es) xs all = (all.0, dropped_are_settled es xs all.1)
@@ -160,7 +165,8 @@ pub record Grown (limit : ℕ) (settled : List Element) (queue xs : List Observa
   pub dropped : length (items_of is_dropped more) ≡ length (items_of is_dropped settled) + (length (queue ++ xs) - limit)
 
 -- one came
-grown_one : (limit : ℕ) (settled : List Element) (queue : List Observation) (x : Observation) → 0 < limit → AreSettled settled → Grown limit settled queue (x ∷ [])
+grown_one : (limit : ℕ) (settled : List Element) (queue : List Observation) (x : Observation) → 0 < limit
+    → AreSettled settled → Grown limit settled queue (x ∷ [])
 grown_one limit settled queue x some all =
     let n : ℕ = length queue + 1 - limit in
     let es : List Element = before_queue settled queue in
@@ -196,7 +202,8 @@ grown_one limit settled queue x some all =
     map_length [] = refl
     map_length (y ∷ ys) = ap suc (map_length ys)
 
-pub grown : (limit : ℕ) (settled : List Element) (queue xs : List Observation) → 0 < limit → length queue ≤ limit → AreSettled settled → Grown limit settled queue xs
+pub grown : (limit : ℕ) (settled : List Element) (queue xs : List Observation) → 0 < limit → length queue ≤ limit
+    → AreSettled settled → Grown limit settled queue xs
 grown limit settled queue [] some few all = record {
   more = settled;
   all = all;
@@ -237,7 +244,8 @@ length-use_up : (es : List Element) → length (use_up es) ≡ length es
 length-use_up [] = refl
 length-use_up (e ∷ es) = elim (cases_Bool (is_queued e.fate)) [ inl is ↦ rw is refl | inr isnt ↦ rw isnt (ap suc (length-use_up es)) ]
 
-pub length-came : (limit : ℕ) (es : List Element) (xs : List Observation) → length (fates_with_news limit es xs) ≡ length es + length xs
+pub length-came : (limit : ℕ) (es : List Element) (xs : List Observation)
+    → length (fates_with_news limit es xs) ≡ length es + length xs
 length-came limit es [] = omega arith
 length-came limit es (x ∷ xs) =
     let lapsed : List Element = lapse_first (length es + 1 - limit) es in
@@ -259,13 +267,15 @@ drop_items zero queue = queued_in [] queue tt
 drop_items (suc n) [] = refl
 drop_items (suc n) (x ∷ queue) = drop_items n queue
 
-pub take_queued : (n m : ℕ) (settled : List Element) (queue : List Observation) → AreSettled settled → m ≡ n - length settled
+pub take_queued : (n m : ℕ) (settled : List Element) (queue : List Observation) → AreSettled settled
+    → m ≡ n - length settled
     → items_of is_queued (take n (before_queue settled queue)) ≡ take m queue
 take_queued n m [] queue all e = let same : n ≡ m = omega (arith, e) in take_items n queue ∙ ap (λ (i : ℕ). take i queue) same
 take_queued zero m (s ∷ settled) queue all e = let none : 0 ≡ m = omega (arith, e) in ap (λ (i : ℕ). take i queue) none
 take_queued (suc n) m (s ∷ settled) queue all e = rw all.0 (take_queued n m settled queue all.1 (omega (arith, e)))
 
-pub drop_queued : (n m : ℕ) (settled : List Element) (queue : List Observation) → AreSettled settled → m ≡ n - length settled
+pub drop_queued : (n m : ℕ) (settled : List Element) (queue : List Observation) → AreSettled settled
+    → m ≡ n - length settled
     → items_of is_queued (drop n (before_queue settled queue)) ≡ drop m queue
 drop_queued n m [] queue all e = let same : n ≡ m = omega (arith, e) in drop_items n queue ∙ ap (λ (i : ℕ). drop i queue) same
 drop_queued zero m (s ∷ settled) queue all e = let none : 0 ≡ m = omega (arith, e) in queued_in (s ∷ settled) queue all ∙ ap (λ (i : ℕ). drop i queue) none

@@ -66,13 +66,15 @@ waiting_line owed q es =
 
 -- ---- news at the end of it
 
-queue_joined : (es : List Element) (xs : List Observation) → items_of is_queued (es ++ map queued xs) ≡ items_of is_queued es ++ xs
+queue_joined : (es : List Element) (xs : List Observation)
+    → items_of is_queued (es ++ map queued xs) ≡ items_of is_queued es ++ xs
 queue_joined es xs =
     items_of-append is_queued es (map queued xs) ∙ ap (λ (ys : List Observation). items_of is_queued es ++ ys) (queued_in [] xs tt)
 
 -- what waits from the answer on, where news joined those behind the mark
 pub from_answer_joined : (q : Option Interrogation) (es fs : List Element) (xs : List Observation)
-    → drop (since_of q) fs ≡ drop (since_of q) es ++ map queued xs → waiting_in (from_answer q fs) ≡ waiting_in (from_answer q es) ++ xs
+    → drop (since_of q) fs ≡ drop (since_of q) es ++ map queued xs
+    → waiting_in (from_answer q fs) ≡ waiting_in (from_answer q es) ++ xs
 from_answer_joined q es fs xs e =
     let parts : List Observation = waiting_in (map sendings.Part (left_of q)) in
     let later : List Observation = items_of is_queued (drop (since_of q) es) in
@@ -81,7 +83,8 @@ from_answer_joined q es fs xs e =
     ∙ (sym (append_assoc parts later xs) ∙ ap (λ (ys : List Observation). ys ++ xs) (sym (waiting_from q es))))
 
 -- what waits in all, where news joined all
-pub line_joined : (owed : List Answer) (q : Option Interrogation) (es : List Element) (xs : List Observation) → since_of q ≤ length es
+pub line_joined : (owed : List Answer) (q : Option Interrogation) (es : List Element) (xs : List Observation)
+    → since_of q ≤ length es
     → waiting_in (line_with owed q (es ++ map queued xs)) ≡ waiting_in (line_with owed q es) ++ xs
 line_joined owed q es xs within =
     let fs : List Element = es ++ map queued xs in
@@ -129,7 +132,8 @@ other_causes cause octet is low high = (other 3 (omega arith), other 5 (omega ar
     other n few = ne_eqb octet n (λ e. omega (arith, is, low, few, ap (λ (m : ℕ). m % 64) e))
 
 -- the observations that it tells
-pub told_as : (offset : ℤ) (common : ℕ) (s : Sending) (meant : Meant) → IsPlain s → IsReturnableSending s → MeansSending offset common s meant
+pub told_as : (offset : ℤ) (common : ℕ) (s : Sending) (meant : Meant) → IsPlain s → IsReturnableSending s
+    → MeansSending offset common s meant
     → observations_in meant ≡ observations_of s
 told_as offset common (sendings.Answer (Unknown asdu cause)) (Tells a) plain can means =
     let others = other_causes cause a.cause means.0 can.1 can.2 in
@@ -150,7 +154,8 @@ told_as offset common sendings.Test meant plain can means = absurd means
 told_as offset common sendings.Receipt meant plain can means = absurd means
 
 -- only parts are taken for parts
-pub apart : (offset : ℤ) (common : ℕ) (s : Sending) (meant : Meant) → IsPlain s → IsReturnableSending s → is_part s ≡ false
+pub apart : (offset : ℤ) (common : ℕ) (s : Sending) (meant : Meant) → IsPlain s → IsReturnableSending s
+    → is_part s ≡ false
     → MeansSending offset common s meant
     → parts_in meant ≡ []
 apart offset common (sendings.Answer (Unknown asdu cause)) (Tells a) plain can other means =
@@ -174,7 +179,8 @@ apart offset common sendings.Receipt meant plain can other means = absurd means
 
 -- a part is first where no answer and no older news wait
 pub part_first : (owed : List Answer) (xs : List Observation) (rest : List Sending) (p : Part)
-    → slice_get (map sendings.Answer owed ++ (map sendings.News xs ++ rest)) 0 ≡ Some (sendings.Part p) → (owed ≡ []) × (xs ≡ [])
+    → slice_get (map sendings.Answer owed ++ (map sendings.News xs ++ rest)) 0 ≡ Some (sendings.Part p)
+    → (owed ≡ []) × (xs ≡ [])
 part_first (answer ∷ owed) xs rest p e = absurd cc
 part_first [] (x ∷ xs) rest p e = absurd cc
 part_first [] [] rest p e = (refl, refl)
@@ -190,7 +196,8 @@ from_part_of (answer ∷ owed) xs p rest = from_part_of owed xs p rest
 from_part_of [] (x ∷ xs) p rest = from_part_of [] xs p rest
 from_part_of [] [] p rest = refl
 
-pub from_part_next : (s : Sending) (line : List Sending) → slice_get line 0 ≡ Some s → is_part s ≡ false → from_part (drop 1 line) ≡ from_part line
+pub from_part_next : (s : Sending) (line : List Sending) → slice_get line 0 ≡ Some s → is_part s ≡ false
+    → from_part (drop 1 line) ≡ from_part line
 from_part_next s [] first other = absurd cc
 from_part_next s (t ∷ line) first other = let is : is_part t ≡ false = ap (λ (x : Option Sending). of x) first ∙ other in rw is refl
   where

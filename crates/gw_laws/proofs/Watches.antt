@@ -71,7 +71,8 @@ IsKept rows v since (Some told) = Heard rows v since told
 abbrev pub came : ℕ → List Observation → View → View
 came limit xs v = record v { log = v.log ++ xs; elements = fates_with_news limit v.elements xs }
 
-unheard_came : (rows : List Row) (limit since : ℕ) (xs : List Observation) (v : View) → since_of v.asked ≤ length v.elements
+unheard_came : (rows : List Row) (limit since : ℕ) (xs : List Observation) (v : View)
+    → since_of v.asked ≤ length v.elements
     → Unheard rows v since → Unheard rows (came limit xs v) since
 unheard_came rows limit since xs v within kept =
     let es : List Element = v.elements in
@@ -87,7 +88,8 @@ unheard_came rows limit since xs v within kept =
           (knows_news rows v.log (waiting_in (from_answer v.asked es)) xs (kept.knows (none_before limit since es xs few none)));
     }
 
-heard_came : (rows : List Row) (limit since : ℕ) (told xs : List Observation) (v : View) → since_of v.asked ≤ length v.elements
+heard_came : (rows : List Row) (limit since : ℕ) (told xs : List Observation) (v : View)
+    → since_of v.asked ≤ length v.elements
     → Heard rows v since told → Heard rows (came limit xs v) since told
 heard_came rows limit since told xs v within kept =
     let es : List Element = v.elements in
@@ -106,7 +108,8 @@ heard_came rows limit since told xs v within kept =
           (knows_news rows v.log (told ++ waiting_in (line_in v)) xs (kept.knows (none_before limit since es xs few none)));
     }
 
-pub kept_came : (rows : List Row) (limit since : ℕ) (told : Option (List Observation)) (xs : List Observation) (v : View)
+pub kept_came : (rows : List Row) (limit since : ℕ) (told : Option (List Observation)) (xs : List Observation)
+    (v : View)
     → since_of v.asked ≤ length v.elements → IsKept rows v since told → IsKept rows (came limit xs v) since told
 kept_came rows limit since None xs v within kept = unheard_came rows limit since xs v within kept
 kept_came rows limit since (Some told) xs v within kept = heard_came rows limit since told xs v within kept
@@ -129,11 +132,13 @@ pub record PutsFirst (offset : ℤ) (common : ℕ) (v new : View) (meant : Meant
   pub means : MeansSending offset common sending meant
   pub line : line_in new ≡ drop 1 (line_in v)
 
-same_since : (meant : Meant) (q : Option Interrogation) → since_of (option_map (interrogation_telling meant) q) ≡ since_of q
+same_since : (meant : Meant) (q : Option Interrogation)
+    → since_of (option_map (interrogation_telling meant) q) ≡ since_of q
 same_since meant None = refl
 same_since meant (Some q) = refl
 
-heard_put_out : (rows : List Row) (offset : ℤ) (common since : ℕ) (told : List Observation) (meant : Meant) (ys : List Observation) (v : View)
+heard_put_out : (rows : List Row) (offset : ℤ) (common since : ℕ) (told : List Observation) (meant : Meant)
+    (ys : List Observation) (v : View)
     → PutsFirst offset common v (put_out meant ys v) meant → Heard rows v since told
     → Heard rows (put_out meant ys v) since (told ++ observations_in meant)
 heard_put_out rows offset common since told meant ys v puts kept =
@@ -172,7 +177,8 @@ watched_from asked es since is =
 
 -- something else than a part
 unheard_put_out : (rows : List Row) (offset : ℤ) (common since : ℕ) (meant : Meant) (ys : List Observation) (v : View)
-    → (puts : PutsFirst offset common v (put_out meant ys v) meant) → is_part puts.sending ≡ false → Unheard rows v since
+    → (puts : PutsFirst offset common v (put_out meant ys v) meant) → is_part puts.sending ≡ false
+    → Unheard rows v since
     → IsKept rows (put_out meant ys v) since (told_with meant None)
 unheard_put_out rows offset common since meant ys v puts other kept = rw none_said kept_on
   where
@@ -211,7 +217,8 @@ unheard_put_out rows offset common since meant ys v puts other kept = rw none_sa
     }
 
 -- its confirmation
-confirmed : (rows : List Row) (offset : ℤ) (common since : ℕ) (meant : Meant) (ys : List Observation) (v : View) (p : Part)
+confirmed : (rows : List Row) (offset : ℤ) (common since : ℕ) (meant : Meant) (ys : List Observation) (v : View)
+    (p : Part)
     → slice_get (line_in v) 0 ≡ Some (sendings.Part p) → MeansSending offset common (sendings.Part p) meant
     → line_in (put_out meant ys v) ≡ drop 1 (line_in v) → Unheard rows v since
     → IsKept rows (put_out meant ys v) since (told_with meant None)
@@ -290,7 +297,8 @@ abbrev pub begun : Interrogation → View → View
 begun q v = record v { asked = Some q }
 
 pub kept_taken : (rows : List Row) (since : ℕ) (told : Option (List Observation)) (more : List Answer) (v : View)
-    → AllByRecursion (IsShown rows v.log) (waiting_in (map sendings.Answer more)) → IsKept rows v since told → IsKept rows (taken more v) since told
+    → AllByRecursion (IsShown rows v.log) (waiting_in (map sendings.Answer more)) → IsKept rows v since told
+    → IsKept rows (taken more v) since told
 kept_taken rows since None more v shown kept = record { watched = kept.watched; knows = kept.knows }
 kept_taken rows since (Some told) more v shown kept = record {
   mark = kept.mark;
@@ -344,7 +352,8 @@ new_from rows v q is =
     ∙ (ap (λ (xs : List Observation). xs ++ items_of is_queued (drop q.since v.elements)) (new_left rows v q is)
     ∙ ap (λ (es : List Element). shown ++ items_of is_queued es) (ap (λ (n : ℕ). drop n v.elements) is.since ∙ drop-length v.elements))
 
-asks_all : (action : Action) (x : Observation) → is_station_interrogation action ≡ true → is_total x.value ≡ false → is_asked_by action x ≡ true
+asks_all : (action : Action) (x : Observation) → is_station_interrogation action ≡ true → is_total x.value ≡ false
+    → is_asked_by action x ≡ true
 asks_all (actions.Interrogation qualifier) x station whole = ap not whole
 asks_all (actions.CounterInterrogation qualifier) x station whole = absurd cc
 asks_all (actions.Single c) x station whole = absurd cc
@@ -389,8 +398,10 @@ whole_line v none =
     (sym (items_of-append is_queued (take s v.elements) (drop s v.elements)) ∙ ap (items_of is_queued) (take-append-drop s v.elements))))
 
 -- another begins
-pub heard_begun : (rows : List Row) (since : ℕ) (told : List Observation) (v : View) (q : Interrogation) → is_single rows ≡ true
-    → since_of v.asked ≤ length v.elements → left_of v.asked ≡ [] → IsNew rows v q → Heard rows v since told → Heard rows (begun q v) since told
+pub heard_begun : (rows : List Row) (since : ℕ) (told : List Observation) (v : View) (q : Interrogation)
+    → is_single rows ≡ true
+    → since_of v.asked ≤ length v.elements → left_of v.asked ≡ [] → IsNew rows v q → Heard rows v since told
+    → Heard rows (begun q v) since told
 heard_begun rows since told v q single within left is kept = record {
   mark = omega (arith, kept.mark, within, is.since);
   settled = kept.settled;

@@ -77,7 +77,7 @@ abbrev pub fates_with_news : ℕ → List Element → List Observation → List 
 fates_with_news limit es [] = es
 fates_with_news limit es (x ∷ xs) = fates_with_news limit (lapse limit es ++ record { item = x; fate = Queued } ∷ []) xs
 
--- as many were put out
+-- as many as these were put out, the oldest first
 abbrev pub fates_with_put_out : List Element → List Observation → List Element
 fates_with_put_out es [] = es
 fates_with_put_out es (x ∷ xs) = fates_with_put_out (use_up es) xs
@@ -89,6 +89,7 @@ items_of p (e ∷ es) = if p e.fate then e.item ∷ items_of p es else items_of 
 
 -- ---- the news of a session
 
+-- of those that came in its turns
 abbrev pub fates : StationSetup → List Turn → List Element
 fates station [] = []
 fates station (Idle brought ∷ ts) = fates_with_news station.queue (fates station ts) brought.news

@@ -1,6 +1,6 @@
--- Interrogations (IEC 60870-5-101, 7.4.5 and 7.4.8): what was put out of the answer to the interrogation of a session is
--- the front of it, and all of it once its termination is out: the confirmation, what the picture showed at its act, and the
--- termination.
+-- Interrogations (IEC 60870-5-101, 7.4.5 and 7.4.8): what was put out of the answer to the interrogation of a session
+-- is the front of it, and all of it once its termination is out: the confirmation, what the picture showed at its act,
+-- and the termination.
 use Rattle.std.specs.Prelude.{◌≡◌, ℕ, ◌==◌, Bool, true, false, not, ◌&&◌, ◌||◌, List, [], ◌∷◌, ◌++◌, length, map, Option, Some, None, option_map, IfSome, if◌then◌else◌}
 use Rattle.std.specs.List.{list_any}
 use Rattle.gw_model.specs.declared.observation.Observation.{Observation}
@@ -92,7 +92,8 @@ abbrev pub interrogation : Setup → List Turn → Option Interrogation
 interrogation setup [] = None
 interrogation setup (Takes (I ns nr asdu) taking ∷ ts) =
     begun (length (fates setup.station ts)) taking.picture (judged_asdu setup asdu) (interrogation setup ts)
-interrogation setup (PutsOut (Numbered ns nr meant) ∷ ts) = option_map (interrogation_telling meant) (interrogation setup ts)
+interrogation setup (PutsOut (Numbered ns nr meant) ∷ ts) =
+    option_map (interrogation_telling meant) (interrogation setup ts)
 interrogation setup (_ ∷ ts) = interrogation setup ts
 
 -- ---- the law

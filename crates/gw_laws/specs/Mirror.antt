@@ -1,6 +1,6 @@
--- Mirror: once the confirmation of a station interrogation was put out, and while no news since its act was dropped, the
--- observations put out from then on, followed by those that wait, have as their last values what the picture shows, for
--- each row that isn't shown as a total.
+-- Mirror: once the confirmation of a station interrogation was put out, and while no news since its act was dropped,
+-- the observations put out from then on, followed by those that wait, have as their last values what the picture shows,
+-- for each row that isn't shown as a total.
 use Rattle.std.specs.Prelude.{◌≡◌, ℕ, ◌==◌, Bool, true, false, ◌&&◌, ◌||◌, List, [], ◌∷◌, ◌++◌, length, drop, slice_get, Option, Some, None, IfSome, if◌then◌else◌}
 use Rattle.gw_model.specs.declared.observation.Value.{Value}
 use Rattle.gw_model.specs.declared.observation.Quality.{Quality}
@@ -97,7 +97,8 @@ is_station_act pending (Accepted command) = is_accepted_act pending command && i
 is_station_act pending _ = false
 
 abbrev pub is_act : Setup → Turn → List Turn → Bool
-is_act setup (Takes (I ns nr asdu) taking) ts = is_station_act (is_pending (interrogation setup ts)) (judged_asdu setup asdu)
+is_act setup (Takes (I ns nr asdu) taking) ts =
+    is_station_act (is_pending (interrogation setup ts)) (judged_asdu setup asdu)
 is_act setup _ ts = false
 
 -- ---- the law
@@ -112,11 +113,13 @@ KnowsPicture setup picture known =
     (n : ℕ) (row : Row) (x : Observation) → slice_get setup.rows n ≡ Some row → slice_get picture n ≡ Some x
     → is_total x.value ≡ false → last_value row.address known ≡ Some (known_of x)
 
--- after each act of a session, once its confirmation was put out, while of the news since none was dropped
-pub record MirrorsPicture (setup : Setup) (log : List Observation) (hs : List Turn) (since : ℕ) (told : List Observation) : Type 0 where
+-- of the news since so many none was dropped: what was told and what waits is what the picture shows
+pub record MirrorsPicture (setup : Setup) (log : List Observation) (hs : List Turn) (since : ℕ)
+    (told : List Observation) : Type 0 where
   pub knows : NoneDropped since (fates setup.station hs)
       → KnowsPicture setup (picture_of setup.rows log) (told ++ waiting_in (line setup hs))
 
+-- after each act of a session, once its confirmation was put out
 abbrev pub Mirrors : Setup → List Observation → List Turn → Type 0
 Mirrors setup log hs =
     (newer older : List Turn) (act : Turn) → hs ≡ newer ++ act ∷ older → is_act setup act older ≡ true

@@ -1,6 +1,6 @@
--- News: at each place of a run the picture is that of the log, and for each client's session the observations that were
--- put out with cause 3, followed by those queued, are the news since its STARTDT, in order, less those dropped. An I format
--- is put out in a session alone, and carries what a station may say.
+-- News: at each place of a run the picture is that of the log, and for each client's session the observations that
+-- were put out with cause 3 (spontaneous), followed by those queued, are the news since its STARTDT, in order, less
+-- those dropped. An I format is put out in a session alone, and carries what a station may say.
 use Rattle.std.specs.Prelude.{◌≡◌, ◌⊎◌, ℕ, ◌≤◌, ◌==◌, true, ◌||◌, IsTrue, is_some, List, ◌∷◌, ◌++◌, length, IfSome}
 use Rattle.gw_entries.specs.Setup.{StationSetup}
 use Rattle.gw_map.specs.Settings.{Setup}
@@ -53,6 +53,8 @@ Speaks station _ = Unit {0}
 
 pub record News (setup : Setup) (past : List Entry) : Type 0 where
   pub picture : (state_after setup past).picture ≡ picture_of setup.rows (log_of setup past)
-  pub sessions : (c : ℕ) → IfSome (client_at setup c past) (λ k. is_started k.stage ≡ is_some (session (life setup c past)))
-  pub queues : (c : ℕ) → IfSome (client_at setup c past) (TellsNews setup.station (turns_in (session (life setup c past))))
+  pub sessions : (c : ℕ) →
+      IfSome (client_at setup c past) (λ k. is_started k.stage ≡ is_some (session (life setup c past)))
+  pub queues : (c : ℕ) →
+      IfSome (client_at setup c past) (TellsNews setup.station (turns_in (session (life setup c past))))
   pub speaks : OfEachLife (Speaks setup.station) setup past

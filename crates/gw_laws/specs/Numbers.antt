@@ -1,6 +1,6 @@
 -- Numbers (IEC 60870-5-104, 5.1): the nth I format put out since a client came up, counted from 0, has N(S) n modulo
--- 32,768; each N(R) put out is the number of I formats taken, modulo 32,768; and of those put out at most k lie beyond the
--- client's last N(R).
+-- 32,768; each N(R) put out is the number of I formats taken, modulo 32,768; and at most k of those put out lie beyond
+-- the client's last N(R).
 use Rattle.std.specs.Prelude.{◌≡◌, ℕ, ◌+◌, ◌%◌, ◌<◌, ◌≤◌, List, [], ◌∷◌}
 use Rattle.gw_map.specs.Settings.{Setup}
 use Rattle.iec_apci.specs.declared.apdu.Apdu.TheVariants.{I, S}

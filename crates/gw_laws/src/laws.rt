@@ -1,6 +1,6 @@
-//! The laws of every run of the step relation. Their premises: no two rows of the point map have one address, the common
-//! address has 16 bits, the window k is below 32,768, a queue takes some news, each state of the run is sound, and each
-//! fragment is what its octets mean. A hub keeps them by its type.
+//! The laws of every run of the step relation. Their premises: no two rows or controls of the settings have one
+//! address, the common address has 16 bits, the window k is below 32,768, a queue takes some news, each state of the
+//! run is sound, and each fragment is what its octets mean. A hub keeps them by its type.
 ghost use Rattle.std.specs.Prelude.{List};
 ghost use Rattle.gw_map.specs.Settings.{Setup};
 ghost use Rattle.gw_steps.specs.Carried.{AreMeant};
@@ -10,5 +10,6 @@ ghost use Rattle.gw_laws.specs.Promises.{Promises};
 
 /// At each place of a run all promises hold.
 pub fn runs_keep_promises()
-    ensures { (setup : Setup) (past : List Entry) → IsSoundRun setup past → AreMeant past → AtEach (Promises setup) past }
+    ensures { (setup : Setup) (past : List Entry) → IsSoundRun setup past → AreMeant past
+        → AtEach (Promises setup) past }
 {}
