@@ -8,7 +8,7 @@ use Rattle.gw_steps.specs.declared.step.StepFault.{StepFault}
 use Rattle.gw_steps.specs.State.{State}
 use Rattle.gw_steps.specs.Runs.{history}
 use Rattle.gw_steps.proofs.Running.{Ran, run_all}
-use Rattle.gw_news.specs.Premises.{IsSoundRun}
+use Rattle.gw_history.specs.Premises.{IsSoundRun}
 
 -- all steps were made
 pub made : (setup : Setup) (ss : List Step) (rs : List (Result Reply StepFault)) (i : ℕ) (s : State) → HasSingleAddresses setup.rows setup.controls → IsStation setup.station
