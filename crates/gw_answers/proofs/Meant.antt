@@ -1,7 +1,7 @@
 -- What is written of an answer means what it was made of.
-use Rattle.std.proofs.Common.{◌≡◌, ℕ, ℤ, ◌+◌, ◌/◌, ◌%◌, ◌^◌, ◌<◌, ◌≤◌, Bool, true, false, eqb, List, [], ◌∷◌, length, Option, Some, None, Result, Ok, Err, refl, sym, ap, subst, ◌∙◌, arith, inl, inr}
+use Rattle.std.proofs.Common.{◌≡◌, ℕ, ℤ, ◌+◌, ◌/◌, ◌%◌, ◌^◌, ◌<◌, ◌≤◌, Bool, true, false, List, [], ◌∷◌, length, Option, Some, None, Result, Ok, Err, refl, sym, ap, subst, ◌∙◌, arith}
 use Rattle.std.specs.Prelude.{◌*◌, option_map, slice_set}
-use Rattle.std.proofs.lemmas.Bool.{cases_Bool, eq-eqb}
+use Rattle.std.proofs.lemmas.Bool.{eq-eqb}
 use Rattle.gw_model.specs.Bits.{is_set}
 use Rattle.gw_model.specs.Optional.{◌>>=◌}
 use Rattle.gw_model.specs.Fit.{HasWidth, IsFit}
@@ -22,7 +22,7 @@ use Rattle.gw_answers.specs.declared.outgoing.Answer.TheVariants.{Returned, Made
 use Rattle.gw_answers.specs.declared.outgoing.Outgoing.{Outgoing}
 use Rattle.gw_answers.specs.declared.outgoing.Outgoing.TheVariants as outgoing
 use Rattle.gw_answers.specs.Octets.{octets_in, answer_octets, outgoing_octets}
-use Rattle.gw_answers.specs.Meaning.{Tells, Commands, meant_by, meaning_of, meant_outgoing, asdu_of, HasCause, ComesBack, Means, CanSend, CanAnswer}
+use Rattle.gw_answers.specs.Meaning.{Tells, Commands, meant_by, meaning_of, meant_outgoing, asdu_of, HasCause, ComesBack, Means, CanSendOutgoing, CanSendAnswer}
 
 -- ---- commands
 
@@ -144,13 +144,13 @@ comes_back offset cause (t ∷ v ∷ old ∷ rest) few long = by_asdu (asdu_mean
 
 -- ---- what goes out
 
-pub outgoing_means : (offset : ℤ) (common : ℕ) (x : Outgoing) → common < 65536 → CanSend offset x
+pub outgoing_means : (offset : ℤ) (common : ℕ) (x : Outgoing) → common < 65536 → CanSendOutgoing offset x
     → meaning_of offset (outgoing_octets offset common x) ≡ meant_outgoing offset common x
 outgoing_means offset common (outgoing.Command c) small can = commands_mean offset c can.1
 outgoing_means offset common (outgoing.Observation cause originator x) small can =
     observations_mean offset common cause originator x small can.1.width can.1.fit
 
-pub answer_means : (offset : ℤ) (common : ℕ) (answer : Answer) → common < 65536 → CanAnswer offset answer
+pub answer_means : (offset : ℤ) (common : ℕ) (answer : Answer) → common < 65536 → CanSendAnswer offset answer
     → Means offset common answer (meaning_of offset (answer_octets offset common answer))
 answer_means offset common (Returned asdu cause) small can = comes_back offset cause (octets_in asdu) (omega (arith, can.2)) can.0
 answer_means offset common (Made x) small can = outgoing_means offset common x small can

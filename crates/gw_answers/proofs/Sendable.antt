@@ -17,11 +17,11 @@ use Rattle.gw_judge.specs.Judging.{judged, IsWholeJudged}
 use Rattle.gw_judge.proofs.Refused.{header_whole, cause_within}
 use Rattle.gw_answers.specs.declared.outgoing.Answer.TheVariants.{Made}
 use Rattle.gw_answers.specs.declared.outgoing.Outgoing.TheVariants as outgoing
-use Rattle.gw_answers.specs.Outgoing.{command_with, at_station, confirmation_cause, confirmed}
+use Rattle.gw_answers.specs.Outgoing.{command_with, at_station, confirmed}
 use Rattle.gw_answers.specs.Interrogations.{cause_for, is_accepted_act, is_asked_by, rows_of, answer_to}
 use Rattle.gw_answers.specs.Answers.{shown_by, refused_act, answered_action, answered}
 use Rattle.gw_answers.specs.Octets.{octets_in}
-use Rattle.gw_answers.specs.Meaning.{IsSendable, is_answering, CanSend, CanAnswer}
+use Rattle.gw_answers.specs.Meaning.{IsSendable, is_answering, CanSendOutgoing, CanSendAnswer}
 
 -- ---- commands
 
@@ -36,7 +36,7 @@ whole_here common c small whole = record {
 
 -- a command goes out with one of the causes of answers
 answering_can : (offset : ℤ) (cause : ℕ) (negative : Bool) (c : Command) → cause < 64 → IsTrue (is_answering cause) → IsWhole c
-    → CanSend offset (command_with cause negative c)
+    → CanSendOutgoing offset (command_with cause negative c)
 answering_can offset cause negative c few is whole = (
   is,
   record {
@@ -48,7 +48,7 @@ answering_can offset cause negative c few is whole = (
   },
 )
 
-pub confirmed_can : (offset : ℤ) (negative : Bool) (c : Command) → IsWhole c → CanSend offset (confirmed negative c)
+pub confirmed_can : (offset : ℤ) (negative : Bool) (c : Command) → IsWhole c → CanSendOutgoing offset (confirmed negative c)
 confirmed_can offset negative c whole = elim (cases_Bool (c.cause == 8)) [
   | inl off ↦ rw off (answering_can offset 9 negative c (omega arith) refl whole)
   | inr on ↦ rw on (answering_can offset 7 negative c (omega arith) refl whole)
@@ -65,17 +65,17 @@ found_can offset (x ∷ xs) (suc k) all = found_can offset xs k all.1
 
 shown_can : (offset : ℤ) (originator : ℕ) (picture : List Observation) (row : Option (ℕ × AnyRow))
     → AllByRecursion (IsSendable offset) picture
-    → IfSome (option_map (λ x. Made (outgoing.Observation 5 originator x)) (shown_by picture row)) (CanAnswer offset)
+    → IfSome (option_map (λ x. Made (outgoing.Observation 5 originator x)) (shown_by picture row)) (CanSendAnswer offset)
 shown_can offset originator picture None all = tt
 shown_can offset originator picture (Some found) all = go (slice_get picture found.0) (found_can offset picture found.0 all)
   where
     go : (shown : Option Observation) → IfSome shown (IsSendable offset)
-        → IfSome (option_map (λ x. Made (outgoing.Observation 5 originator x)) shown) (CanAnswer offset)
+        → IfSome (option_map (λ x. Made (outgoing.Observation 5 originator x)) shown) (CanSendAnswer offset)
     go None can = tt
     go (Some x) can = (omega arith, can)
 
 refused_can : (offset : ℤ) (common : ℕ) (pending : Bool) (c : Command) → common < 65536 → IsWhole c
-    → IfSome (refused_act common pending c) (CanAnswer offset)
+    → IfSome (refused_act common pending c) (CanSendAnswer offset)
 refused_can offset common pending c small whole = elim (cases_Bool (is_accepted_act pending c)) [
   | inl accepted ↦ rw accepted tt
   | inr refused ↦ rw refused (confirmed_can offset true (at_station common c) (whole_here common c small whole))
@@ -83,7 +83,7 @@ refused_can offset common pending c small whole = elim (cases_Bool (is_accepted_
 
 action_can : (offset : ℤ) (setup : Setup) (picture : List Observation) (pending : Bool) (c : Command) (action : Action)
     → setup.station.common_address < 65536 → IsWhole c → AllByRecursion (IsSendable offset) picture
-    → IfSome (answered_action setup picture pending c action) (CanAnswer offset)
+    → IfSome (answered_action setup picture pending c action) (CanSendAnswer offset)
 action_can offset setup picture pending c (actions.Interrogation qualifier) small whole all =
     refused_can offset setup.station.common_address pending c small whole
 action_can offset setup picture pending c (actions.CounterInterrogation qualifier) small whole all =
@@ -98,7 +98,7 @@ action_can offset setup picture pending c (actions.Setpoint x) small whole all =
 pub answered_can : (offset : ℤ) (setup : Setup) (picture : List Observation) (pending : Bool) (asdu : Asdu) (j : Judged)
     → setup.station.common_address < 65536
     → judged setup (octets_in asdu) ≡ j → IsWholeJudged j → AllByRecursion (IsSendable offset) picture
-    → IfSome (answered setup picture pending asdu j) (CanAnswer offset)
+    → IfSome (answered setup picture pending asdu j) (CanSendAnswer offset)
 answered_can offset setup picture pending asdu Malformed small e whole all = tt
 answered_can offset setup picture pending asdu (Refuse cause execute) small e whole all =
     let within = cause_within setup (octets_in asdu) cause execute e in
@@ -118,7 +118,7 @@ cause_few actions.Read = omega arith
 
 rows_can : (offset : ℤ) (c : Command) (action : Action) (picture : List Observation) → IsWhole c
     → AllByRecursion (IsSendable offset) picture
-    → AllByRecursion (CanSend offset) (rows_of action picture ++ command_with 10 false c ∷ [])
+    → AllByRecursion (CanSendOutgoing offset) (rows_of action picture ++ command_with 10 false c ∷ [])
 rows_can offset c action [] whole all = (answering_can offset 10 false c (omega arith) refl whole, tt)
 rows_can offset c action (x ∷ xs) whole all = elim (cases_Bool (is_asked_by action x)) [
   | inl asked ↦ rw asked ((cause_few action, all.0), rows_can offset c action xs whole all.1)
@@ -126,7 +126,7 @@ rows_can offset c action (x ∷ xs) whole all = elim (cases_Bool (is_asked_by ac
 ]
 
 pub answer_to_can : (offset : ℤ) (common : ℕ) (c : Command) (picture : List Observation) → common < 65536 → IsWhole c
-    → AllByRecursion (IsSendable offset) picture → AllByRecursion (CanSend offset) (answer_to common c picture)
+    → AllByRecursion (IsSendable offset) picture → AllByRecursion (CanSendOutgoing offset) (answer_to common c picture)
 answer_to_can offset common c picture small whole all =
     let here : IsWhole (at_station common c) = whole_here common c small whole in
     (answering_can offset 7 false (at_station common c) (omega arith) refl here, rows_can offset (at_station common c) c.action picture here all)

@@ -1,5 +1,5 @@
 -- What an ASDU means, whether it carries process information or a command.
-use Rattle.std.specs.Prelude.{◌≡◌, ℕ, ℤ, ◌%◌, ◌<◌, Bool, true, false, ◌==◌, ◌||◌, IsTrue, List, [], ◌∷◌, Option, Some, None, Result, Ok, Err, is_some, slice_index}
+use Rattle.std.specs.Prelude.{◌≡◌, ℕ, ℤ, ◌%◌, ◌<◌, Bool, true, ◌==◌, ◌||◌, IsTrue, List, [], ◌∷◌, Option, Some, None, Result, Ok, Err, is_some, slice_index}
 use Rattle.gw_model.specs.Bits.{is_set}
 use Rattle.gw_model.specs.Fit.{HasWidth, IsFit}
 use Rattle.gw_model.specs.declared.observation.Observation.{Observation}
@@ -73,11 +73,11 @@ abbrev pub is_answering : ℕ → Bool
 is_answering cause = cause == 7 || cause == 9 || cause == 10
 
 -- a command that goes out has such a cause and the bits of its places; an ASDU can carry an observation that does
-abbrev pub CanSend : ℤ → Outgoing → Type 0
-CanSend offset (outgoing.Command c) = IsTrue (is_answering c.cause) × IsWhole c
-CanSend offset (outgoing.Observation cause originator x) = (cause < 64) × IsSendable offset x
+abbrev pub CanSendOutgoing : ℤ → Outgoing → Type 0
+CanSendOutgoing offset (outgoing.Command c) = IsTrue (is_answering c.cause) × IsWhole c
+CanSendOutgoing offset (outgoing.Observation cause originator x) = (cause < 64) × IsSendable offset x
 
 -- what comes back has a whole header and a cause from 44 to 47
-abbrev pub CanAnswer : ℤ → Answer → Type 0
-CanAnswer offset (Returned asdu cause) = IsReturnable (Returned asdu cause)
-CanAnswer offset (Made x) = CanSend offset x
+abbrev pub CanSendAnswer : ℤ → Answer → Type 0
+CanSendAnswer offset (Returned asdu cause) = IsReturnable (Returned asdu cause)
+CanSendAnswer offset (Made x) = CanSendOutgoing offset x

@@ -1,7 +1,11 @@
 //! What goes out to a client in an I format.
 
+ghost use Rattle.std.specs.Prelude.{◌≡◌};
+ghost use Rattle.gw_answers.specs.Outgoing.{news};
+
 use gw_model::Observation;
 use iec_apci::Asdu;
+use iec_asdu::SPONTANEOUS;
 use iec_command::Command;
 
 /// What goes out of the station's own: whole when it is made, so that nothing is decided when it is written.
@@ -15,6 +19,19 @@ pub enum Outgoing {
         originator: u8,
         observation: Observation,
     },
+}
+
+impl Outgoing {
+    /// News: spontaneous.
+    pub fn news(observation: Observation) -> Outgoing
+        ensures { result ≡ news observation }
+    {
+        Outgoing::Observation {
+            cause: SPONTANEOUS,
+            originator: 0,
+            observation,
+        }
+    }
 }
 
 /// What answers an ASDU of the client. What comes back stays apart from `Outgoing`, since its octets would widen each row
