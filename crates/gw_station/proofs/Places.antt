@@ -16,8 +16,9 @@ use Rattle.iec_command.specs.declared.command.Action.TheVariants as actions
 use Rattle.gw_judge.specs.Judging.{is_execute}
 use Rattle.gw_judge.specs.declared.judging.Judged.{Judged}
 use Rattle.gw_judge.specs.declared.judging.Judged.TheVariants.{Malformed, Refuse, Accepted}
-use Rattle.gw_answers.specs.declared.answer.Answer.{Answer}
-use Rattle.gw_answers.specs.declared.answer.Answer.TheVariants.{Shown}
+use Rattle.gw_answers.specs.declared.outgoing.Answer.{Answer}
+use Rattle.gw_answers.specs.declared.outgoing.Answer.TheVariants.{Made}
+use Rattle.gw_answers.specs.declared.outgoing.Outgoing.TheVariants as outgoing
 use Rattle.gw_answers.specs.Interrogations.{is_accepted_act}
 use Rattle.gw_answers.specs.Answers.{places_for, refused_act, shown_at, answered_action, answered}
 use Rattle.gw_station.specs.declared.event.Why.TheVariants.{Sequence, NotStarted, Malformed as WrongForm, Flooded}
@@ -59,8 +60,8 @@ at_least_one true = omega arith
 at_least_one false = omega arith
 
 -- an interrogation that isn't accepted, and so gets an answer
-refused_needs : (pending : Bool) (c : Command) → IfSome (refused_act pending c) (λ _. 1 ≤ places_for pending (Accepted c))
-refused_needs pending c = elim (cases_Bool (is_accepted_act pending c)) [
+refused_needs : (common : ℕ) (pending : Bool) (c : Command) → IfSome (refused_act common pending c) (λ _. 1 ≤ places_for pending (Accepted c))
+refused_needs common pending c = elim (cases_Bool (is_accepted_act pending c)) [
   | inl accepted ↦ rw accepted tt
   | inr refused ↦ rw refused (at_least_one (is_execute c))
 ]
@@ -73,14 +74,14 @@ read_is_none pending c e = elim (cases_Bool (c.cause == 6)) [
 ]
 
 read_needs : (pending : Bool) (c : Command) (shown : Option Observation) → c.action ≡ actions.Read
-    → IfSome (option_map (λ x. Shown x c.originator) shown) (λ _. 1 ≤ places_for pending (Accepted c))
+    → IfSome (option_map (λ x. Made (outgoing.Observation 5 c.originator x)) shown) (λ _. 1 ≤ places_for pending (Accepted c))
 read_needs pending c None e = tt
 read_needs pending c (Some x) e = rw (read_is_none pending c e) (at_least_one (is_execute c))
 
 action_needs : (setup : Setup) (picture : List Observation) (pending : Bool) (c : Command) (action : Action) → c.action ≡ action
     → IfSome (answered_action setup picture pending c action) (λ _. 1 ≤ places_for pending (Accepted c))
-action_needs setup picture pending c (actions.Interrogation qualifier) e = refused_needs pending c
-action_needs setup picture pending c (actions.CounterInterrogation qualifier) e = refused_needs pending c
+action_needs setup picture pending c (actions.Interrogation qualifier) e = refused_needs setup.station.common_address pending c
+action_needs setup picture pending c (actions.CounterInterrogation qualifier) e = refused_needs setup.station.common_address pending c
 action_needs setup picture pending c actions.Read e = read_needs pending c (shown_at setup picture c.address) e
 action_needs setup picture pending c (actions.Single x) e = tt
 action_needs setup picture pending c (actions.Double x) e = tt

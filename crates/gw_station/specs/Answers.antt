@@ -6,9 +6,10 @@ use Rattle.iec_apci.specs.declared.apdu.Asdu.{Asdu}
 use Rattle.iec_command.specs.declared.command.Command.{Command}
 use Rattle.gw_judge.specs.declared.judging.Judged.{Judged}
 use Rattle.gw_judge.specs.declared.judging.Judged.TheVariants.{Accepted}
-use Rattle.gw_answers.specs.declared.answer.Answer.{Answer}
-use Rattle.gw_answers.specs.declared.answer.Answer.TheVariants.{Confirmed}
-use Rattle.gw_answers.specs.declared.answer.Part.{Part}
+use Rattle.gw_answers.specs.declared.outgoing.Answer.{Answer}
+use Rattle.gw_answers.specs.declared.outgoing.Answer.TheVariants.{Made}
+use Rattle.gw_answers.specs.declared.outgoing.Outgoing.{Outgoing}
+use Rattle.gw_answers.specs.Outgoing.{confirmed}
 use Rattle.gw_answers.specs.Interrogations.{is_accepted_act, answer_to}
 use Rattle.gw_answers.specs.Answers.{answered}
 use Rattle.gw_station.specs.declared.event.Said.{Said}
@@ -16,7 +17,7 @@ use Rattle.gw_station.specs.declared.event.Said.TheVariants.{Confirm, Negative}
 use Rattle.gw_station.specs.Client.{Client}
 
 -- an interrogation is pending: something is left of its answer
-abbrev pub is_pending : List Part → Bool
+abbrev pub is_pending : List Outgoing → Bool
 is_pending [] = false
 is_pending (part ∷ rest) = true
 
@@ -35,16 +36,16 @@ abbrev pub older_with : Judged → Bool → Client → ℕ
 older_with j true c = length c.queue
 older_with j false c = c.older
 
-abbrev pub rest_with : List Observation → Judged → Bool → Client → List Part
-rest_with picture (Accepted command) true c = answer_to command picture
-rest_with picture _ _ c = c.rest
+abbrev pub rest_with : ℕ → List Observation → Judged → Bool → Client → List Outgoing
+rest_with common picture (Accepted command) true c = answer_to common command picture
+rest_with common picture _ _ c = c.rest
 
 -- an ASDU that was judged, while the picture shows this
 abbrev pub client_judging : Setup → List Observation → Asdu → Judged → Client → Client
 client_judging setup picture asdu j c = record c {
   answers = answers_with (answered setup picture (is_pending c.rest) asdu j) c.answers;
   older = older_with j (is_asking j c) c;
-  rest = rest_with picture j (is_asking j c) c;
+  rest = rest_with setup.station.common_address picture j (is_asking j c) c;
 }
 
 -- what is said of a command for a control confirms its activation or deactivation, or does so negatively
@@ -53,4 +54,4 @@ is_negative Confirm = false
 is_negative Negative = true
 
 abbrev pub client_told : Said → Command → Client → Client
-client_told said command c = record c { answers = c.answers ++ Confirmed command (is_negative said) ∷ [] }
+client_told said command c = record c { answers = c.answers ++ Made (confirmed (is_negative said) command) ∷ [] }
