@@ -21,6 +21,7 @@ use Rattle.gw_answers.specs.declared.outgoing.Answer.{Answer}
 use Rattle.gw_answers.specs.declared.outgoing.Answer.TheVariants.{Returned, Made}
 use Rattle.gw_answers.specs.declared.outgoing.Outgoing.{Outgoing}
 use Rattle.gw_answers.specs.declared.outgoing.Outgoing.TheVariants as outgoing
+use Rattle.gw_answers.specs.Outgoing.{at_station}
 use Rattle.gw_answers.specs.Octets.{octets_in, answer_octets, outgoing_octets}
 use Rattle.gw_answers.specs.Meaning.{Tells, Commands, meant_by, meaning_of, meant_outgoing, asdu_of, HasCause, ComesBack, Means, CanSendOutgoing, CanSendAnswer}
 
@@ -41,6 +42,15 @@ commands_mean offset c whole =
     let octets : List ℕ = command_spelling c in
     ap (λ (m : Option Asdu). meant_by octets m (command_of octets)) (tells_nothing offset c c.action)
     ∙ ap (λ (r : Result Command CommandFault). meant_by octets None r) (command_of-spelling c whole)
+
+whole_here : (common : ℕ) (c : Command) → common < 65536 → IsWhole c → IsWhole (at_station common c)
+whole_here common c small whole = record {
+  cause = whole.cause;
+  originator = whole.originator;
+  common_address = small;
+  address = whole.address;
+  action = whole.action;
+}
 
 -- ---- observations
 
@@ -146,11 +156,13 @@ comes_back offset cause (t ∷ v ∷ old ∷ rest) few long = by_asdu (asdu_mean
 
 pub outgoing_means : (offset : ℤ) (common : ℕ) (x : Outgoing) → common < 65536 → CanSendOutgoing offset x
     → meaning_of offset (outgoing_octets offset common x) ≡ meant_outgoing offset common x
-outgoing_means offset common (outgoing.Command c) small can = commands_mean offset c can.1
+outgoing_means offset common (outgoing.Command c) small can = commands_mean offset (at_station common c) (whole_here common c small can.1)
 outgoing_means offset common (outgoing.Observation cause originator x) small can =
-    observations_mean offset common cause originator x small can.1.width can.1.fit
+    observations_mean offset common cause originator x small can.width can.fit
 
 pub answer_means : (offset : ℤ) (common : ℕ) (answer : Answer) → common < 65536 → CanSendAnswer offset answer
     → Means offset common answer (meaning_of offset (answer_octets offset common answer))
 answer_means offset common (Returned asdu cause) small can = comes_back offset cause (octets_in asdu) (omega (arith, can.2)) can.0
-answer_means offset common (Made x) small can = outgoing_means offset common x small can
+answer_means offset common (Made (outgoing.Command c)) small can = outgoing_means offset common (outgoing.Command c) small can
+answer_means offset common (Made (outgoing.Observation cause originator x)) small can =
+    outgoing_means offset common (outgoing.Observation cause originator x) small can.1

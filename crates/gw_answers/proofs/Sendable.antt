@@ -25,15 +25,6 @@ use Rattle.gw_answers.specs.Meaning.{IsSendable, is_answering, CanSendOutgoing, 
 
 -- ---- commands
 
-whole_here : (common : ℕ) (c : Command) → common < 65536 → IsWhole c → IsWhole (at_station common c)
-whole_here common c small whole = record {
-  cause = whole.cause;
-  originator = whole.originator;
-  common_address = small;
-  address = whole.address;
-  action = whole.action;
-}
-
 -- a command goes out with one of the causes of answers
 answering_can : (offset : ℤ) (cause : ℕ) (negative : Bool) (c : Command) → cause < 64 → IsTrue (is_answering cause) → IsWhole c
     → CanSendOutgoing offset (command_with cause negative c)
@@ -72,61 +63,50 @@ shown_can offset originator picture (Some found) all = go (slice_get picture fou
     go : (shown : Option Observation) → IfSome shown (IsSendable offset)
         → IfSome (option_map (λ x. Made (outgoing.Observation 5 originator x)) shown) (CanSendAnswer offset)
     go None can = tt
-    go (Some x) can = (omega arith, can)
+    go (Some x) can = (refl, can)
 
-refused_can : (offset : ℤ) (common : ℕ) (pending : Bool) (c : Command) → common < 65536 → IsWhole c
-    → IfSome (refused_act common pending c) (CanSendAnswer offset)
-refused_can offset common pending c small whole = elim (cases_Bool (is_accepted_act pending c)) [
+refused_can : (offset : ℤ) (pending : Bool) (c : Command) → IsWhole c
+    → IfSome (refused_act pending c) (CanSendAnswer offset)
+refused_can offset pending c whole = elim (cases_Bool (is_accepted_act pending c)) [
   | inl accepted ↦ rw accepted tt
-  | inr refused ↦ rw refused (confirmed_can offset true (at_station common c) (whole_here common c small whole))
+  | inr refused ↦ rw refused (confirmed_can offset true c whole)
 ]
 
 action_can : (offset : ℤ) (setup : Setup) (picture : List Observation) (pending : Bool) (c : Command) (action : Action)
-    → setup.station.common_address < 65536 → IsWhole c → AllByRecursion (IsSendable offset) picture
+    → IsWhole c → AllByRecursion (IsSendable offset) picture
     → IfSome (answered_action setup picture pending c action) (CanSendAnswer offset)
-action_can offset setup picture pending c (actions.Interrogation qualifier) small whole all =
-    refused_can offset setup.station.common_address pending c small whole
-action_can offset setup picture pending c (actions.CounterInterrogation qualifier) small whole all =
-    refused_can offset setup.station.common_address pending c small whole
-action_can offset setup picture pending c actions.Read small whole all =
+action_can offset setup picture pending c (actions.Interrogation qualifier) whole all = refused_can offset pending c whole
+action_can offset setup picture pending c (actions.CounterInterrogation qualifier) whole all =
+    refused_can offset pending c whole
+action_can offset setup picture pending c actions.Read whole all =
     shown_can offset c.originator picture (row_at_from 0 c.address setup.rows) all
-action_can offset setup picture pending c (actions.Single x) small whole all = tt
-action_can offset setup picture pending c (actions.Double x) small whole all = tt
-action_can offset setup picture pending c (actions.Setpoint x) small whole all = tt
+action_can offset setup picture pending c (actions.Single x) whole all = tt
+action_can offset setup picture pending c (actions.Double x) whole all = tt
+action_can offset setup picture pending c (actions.Setpoint x) whole all = tt
 
 -- what an ASDU that was judged so gets for an answer
 pub answered_can : (offset : ℤ) (setup : Setup) (picture : List Observation) (pending : Bool) (asdu : Asdu) (j : Judged)
-    → setup.station.common_address < 65536
     → judged setup (octets_in asdu) ≡ j → IsWholeJudged j → AllByRecursion (IsSendable offset) picture
     → IfSome (answered setup picture pending asdu j) (CanSendAnswer offset)
-answered_can offset setup picture pending asdu Malformed small e whole all = tt
-answered_can offset setup picture pending asdu (Refuse cause execute) small e whole all =
+answered_can offset setup picture pending asdu Malformed e whole all = tt
+answered_can offset setup picture pending asdu (Refuse cause execute) e whole all =
     let within = cause_within setup (octets_in asdu) cause execute e in
     (header_whole setup (octets_in asdu) cause execute e, within.0, within.1)
-answered_can offset setup picture pending asdu (Accepted c) small e whole all =
-    action_can offset setup picture pending c c.action small whole all
+answered_can offset setup picture pending asdu (Accepted c) e whole all =
+    action_can offset setup picture pending c c.action whole all
 
 -- ---- the answer to an interrogation
-
-cause_few : (action : Action) → cause_for action < 64
-cause_few (actions.CounterInterrogation qualifier) = omega arith
-cause_few (actions.Interrogation qualifier) = omega arith
-cause_few (actions.Single x) = omega arith
-cause_few (actions.Double x) = omega arith
-cause_few (actions.Setpoint x) = omega arith
-cause_few actions.Read = omega arith
 
 rows_can : (offset : ℤ) (c : Command) (action : Action) (picture : List Observation) → IsWhole c
     → AllByRecursion (IsSendable offset) picture
     → AllByRecursion (CanSendOutgoing offset) (rows_of action picture ++ command_with 10 false c ∷ [])
 rows_can offset c action [] whole all = (answering_can offset 10 false c (omega arith) refl whole, tt)
 rows_can offset c action (x ∷ xs) whole all = elim (cases_Bool (is_asked_by action x)) [
-  | inl asked ↦ rw asked ((cause_few action, all.0), rows_can offset c action xs whole all.1)
+  | inl asked ↦ rw asked (all.0, rows_can offset c action xs whole all.1)
   | inr other ↦ rw other (rows_can offset c action xs whole all.1)
 ]
 
-pub answer_to_can : (offset : ℤ) (common : ℕ) (c : Command) (picture : List Observation) → common < 65536 → IsWhole c
-    → AllByRecursion (IsSendable offset) picture → AllByRecursion (CanSendOutgoing offset) (answer_to common c picture)
-answer_to_can offset common c picture small whole all =
-    let here : IsWhole (at_station common c) = whole_here common c small whole in
-    (answering_can offset 7 false (at_station common c) (omega arith) refl here, rows_can offset (at_station common c) c.action picture here all)
+pub answer_to_can : (offset : ℤ) (c : Command) (picture : List Observation) → IsWhole c
+    → AllByRecursion (IsSendable offset) picture → AllByRecursion (CanSendOutgoing offset) (answer_to c picture)
+answer_to_can offset c picture whole all =
+    (answering_can offset 7 false c (omega arith) refl whole, rows_can offset c c.action picture whole all)

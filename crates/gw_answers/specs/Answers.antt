@@ -14,7 +14,7 @@ use Rattle.gw_judge.specs.declared.judging.Judged.TheVariants.{Malformed, Refuse
 use Rattle.gw_answers.specs.declared.outgoing.Answer.{Answer}
 use Rattle.gw_answers.specs.declared.outgoing.Answer.TheVariants.{Returned, Made}
 use Rattle.gw_answers.specs.declared.outgoing.Outgoing.TheVariants as outgoing
-use Rattle.gw_answers.specs.Outgoing.{at_station, confirmed}
+use Rattle.gw_answers.specs.Outgoing.{confirmed}
 use Rattle.gw_answers.specs.Interrogations.{is_accepted_act}
 
 -- ---- places
@@ -38,16 +38,13 @@ abbrev pub shown_at : Setup → List Observation → ℕ → Option Observation
 shown_at setup picture address = shown_by picture (row_at_from 0 address setup.rows)
 
 -- an interrogation that isn't accepted, and each deactivation of one, is confirmed negatively
-abbrev pub refused_act : ℕ → Bool → Command → Option Answer
-refused_act common pending c =
-    if is_accepted_act pending c then None else Some (Made (confirmed true (at_station common c)))
+abbrev pub refused_act : Bool → Command → Option Answer
+refused_act pending c = if is_accepted_act pending c then None else Some (Made (confirmed true c))
 
 -- a command for a control waits for what is said of it
 abbrev pub answered_action : Setup → List Observation → Bool → Command → Action → Option Answer
-answered_action setup picture pending c (actions.Interrogation qualifier) =
-    refused_act setup.station.common_address pending c
-answered_action setup picture pending c (actions.CounterInterrogation qualifier) =
-    refused_act setup.station.common_address pending c
+answered_action setup picture pending c (actions.Interrogation qualifier) = refused_act pending c
+answered_action setup picture pending c (actions.CounterInterrogation qualifier) = refused_act pending c
 answered_action setup picture pending c actions.Read =
     option_map (λ x. Made (outgoing.Observation 5 c.originator x)) (shown_at setup picture c.address)
 answered_action setup picture pending c _ = None

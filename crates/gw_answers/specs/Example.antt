@@ -50,4 +50,4 @@ act action = record {
 
 -- the ASDUs that answer it
 abbrev pub replies : Command → List (List ℕ)
-replies c = map (outgoing_octets (pos 0) setup.station.common_address) (answer_to setup.station.common_address c picture)
+replies c = map (outgoing_octets (pos 0) setup.station.common_address) (answer_to c picture)

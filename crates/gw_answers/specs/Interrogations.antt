@@ -8,7 +8,7 @@ use Rattle.iec_command.specs.declared.command.Action.{Action}
 use Rattle.iec_command.specs.declared.command.Action.TheVariants.{Interrogation, CounterInterrogation}
 use Rattle.gw_answers.specs.declared.outgoing.Outgoing.{Outgoing}
 use Rattle.gw_answers.specs.declared.outgoing.Outgoing.TheVariants as outgoing
-use Rattle.gw_answers.specs.Outgoing.{command_with, at_station}
+use Rattle.gw_answers.specs.Outgoing.{command_with}
 
 -- the station interrogation (QOI 20), and the general request of counters without freeze (QCC 5)
 abbrev pub is_general : Action → Bool
@@ -41,8 +41,6 @@ cause_for _ = 20
 abbrev pub rows_of : Action → List Observation → List Outgoing
 rows_of action picture = map (outgoing.Observation (cause_for action) 0) (filter (is_asked_by action) picture)
 
--- the confirmation (7), the rows, and the termination (10), by the station that has this common address
-abbrev pub answer_to : ℕ → Command → List Observation → List Outgoing
-answer_to common c picture =
-    command_with 7 false (at_station common c)
-    ∷ (rows_of c.action picture ++ command_with 10 false (at_station common c) ∷ [])
+-- the confirmation (7), the rows, and the termination (10)
+abbrev pub answer_to : Command → List Observation → List Outgoing
+answer_to c picture = command_with 7 false c ∷ (rows_of c.action picture ++ command_with 10 false c ∷ [])

@@ -1,5 +1,5 @@
 -- What an ASDU means, whether it carries process information or a command.
-use Rattle.std.specs.Prelude.{◌≡◌, ℕ, ℤ, ◌%◌, ◌<◌, Bool, true, ◌==◌, ◌||◌, IsTrue, List, [], ◌∷◌, Option, Some, None, Result, Ok, Err, is_some, slice_index}
+use Rattle.std.specs.Prelude.{◌≡◌, ℕ, ℤ, ◌%◌, Bool, true, ◌==◌, ◌||◌, IsTrue, List, [], ◌∷◌, Option, Some, None, Result, Ok, Err, is_some, slice_index}
 use Rattle.gw_model.specs.Bits.{is_set}
 use Rattle.gw_model.specs.Fit.{HasWidth, IsFit}
 use Rattle.gw_model.specs.declared.observation.Observation.{Observation}
@@ -13,6 +13,7 @@ use Rattle.gw_answers.specs.declared.outgoing.Answer.{Answer}
 use Rattle.gw_answers.specs.declared.outgoing.Answer.TheVariants.{Returned, Made}
 use Rattle.gw_answers.specs.declared.outgoing.Outgoing.{Outgoing}
 use Rattle.gw_answers.specs.declared.outgoing.Outgoing.TheVariants as outgoing
+use Rattle.gw_answers.specs.Outgoing.{at_station}
 use Rattle.gw_answers.specs.Octets.{IsReturnable}
 
 pub data Meant : Type 0 where
@@ -54,7 +55,7 @@ ComesBack cause (Unread octets) = HasCause cause (slice_index octets 2)
 
 -- what goes out means what it is
 abbrev pub meant_outgoing : ℤ → ℕ → Outgoing → Meant
-meant_outgoing offset common (outgoing.Command c) = Commands c
+meant_outgoing offset common (outgoing.Command c) = Commands (at_station common c)
 meant_outgoing offset common (outgoing.Observation cause originator x) = Tells (asdu_of offset common cause originator x)
 
 abbrev pub Means : ℤ → ℕ → Answer → Meant → Type 0
@@ -75,9 +76,10 @@ is_answering cause = cause == 7 || cause == 9 || cause == 10
 -- a command that goes out has such a cause and the bits of its places; an ASDU can carry an observation that does
 abbrev pub CanSendOutgoing : ℤ → Outgoing → Type 0
 CanSendOutgoing offset (outgoing.Command c) = IsTrue (is_answering c.cause) × IsWhole c
-CanSendOutgoing offset (outgoing.Observation cause originator x) = (cause < 64) × IsSendable offset x
+CanSendOutgoing offset (outgoing.Observation cause originator x) = IsSendable offset x
 
--- what comes back has a whole header and a cause from 44 to 47
+-- what comes back has a whole header and a cause from 44 to 47; an observation answers a read, with cause 5
 abbrev pub CanSendAnswer : ℤ → Answer → Type 0
 CanSendAnswer offset (Returned asdu cause) = IsReturnable (Returned asdu cause)
-CanSendAnswer offset (Made x) = CanSendOutgoing offset x
+CanSendAnswer offset (Made (outgoing.Command c)) = CanSendOutgoing offset (outgoing.Command c)
+CanSendAnswer offset (Made (outgoing.Observation cause originator x)) = (cause ≡ 5) × IsSendable offset x

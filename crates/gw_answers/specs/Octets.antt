@@ -8,6 +8,7 @@ use Rattle.gw_answers.specs.declared.outgoing.Answer.{Answer}
 use Rattle.gw_answers.specs.declared.outgoing.Answer.TheVariants.{Returned, Made}
 use Rattle.gw_answers.specs.declared.outgoing.Outgoing.{Outgoing}
 use Rattle.gw_answers.specs.declared.outgoing.Outgoing.TheVariants as outgoing
+use Rattle.gw_answers.specs.Outgoing.{at_station}
 
 -- the octets of an ASDU
 abbrev pub octets_in : Asdu → List ℕ
@@ -15,7 +16,7 @@ octets_in asdu = take asdu.len asdu.octets
 
 -- the originator is the fourth octet
 abbrev pub outgoing_octets : ℤ → ℕ → Outgoing → List ℕ
-outgoing_octets offset common (outgoing.Command c) = command_spelling c
+outgoing_octets offset common (outgoing.Command c) = command_spelling (at_station common c)
 outgoing_octets offset common (outgoing.Observation cause originator x) =
     slice_set (spelling offset common cause x) 3 originator
 

@@ -1,4 +1,5 @@
--- What goes out of the station's own, whole when it is made (IEC 60870-5-101, 7.2.3).
+-- What goes out of the station's own, whole when it is made but for the common address, which is the station's in all of
+-- it (IEC 60870-5-101, 7.2.3 and 7.2.4).
 use Rattle.std.specs.Prelude.{ℕ, Bool, ◌==◌, if◌then◌else◌}
 use Rattle.gw_model.specs.declared.observation.Observation.{Observation}
 use Rattle.iec_command.specs.declared.command.Command.{Command}
@@ -16,7 +17,7 @@ confirmation_cause cause = if cause == 8 then 9 else 7
 abbrev pub confirmed : Bool → Command → Outgoing
 confirmed negative c = command_with (confirmation_cause c.cause) negative c
 
--- a command that was for all stations, by this one
+-- a command as it goes out, by the station with this common address
 abbrev pub at_station : ℕ → Command → Command
 at_station common c = record c { common_address = common }
 

@@ -1,7 +1,7 @@
 //! What an ASDU gets for an answer at once.
 ghost use Rattle.std.specs.Prelude.{◌≡◌};
 ghost use Rattle.gw_answers.specs.Answers.{answered, answered_action, command_by, places_for, shown_at};
-ghost use Rattle.gw_answers.specs.Outgoing.{at_station, command_with, confirmed};
+ghost use Rattle.gw_answers.specs.Outgoing.{command_with, confirmed};
 
 use crate::interrogation::is_accepted_act;
 use crate::outgoing::{Answer, Outgoing};
@@ -35,16 +35,6 @@ pub fn confirmed(negative: bool, command: &Command) -> Outgoing
         ACTIVATION_CONFIRMATION
     };
     command_with(cause, negative, command)
-}
-
-/// A command with the station's own common address, where it was for all stations.
-pub(crate) fn at_station(common: u16, command: &Command) -> Command
-    ensures { result ≡ at_station common command.now }
-{
-    Command {
-        common_address: common,
-        ..*command
-    }
 }
 
 /// How many places have to be free for the answer to an ASDU, where an interrogation is pending or not: none for an
@@ -101,8 +91,7 @@ fn answered_action(
             if is_accepted_act(command, pending) {
                 None
             } else {
-                let here = at_station(settings.station().common_address, command);
-                Some(Answer::Made(confirmed(true, &here)))
+                Some(Answer::Made(confirmed(true, command)))
             }
         }
         Action::Read => shown_at(command.address, settings, picture).map(|observation| {

@@ -2,7 +2,7 @@
 ghost use Rattle.std.specs.Prelude.{◌≡◌, ◌<◌, [], ◌∷◌, ◌++◌, length, vec_capacity, IfOk};
 ghost use Rattle.gw_answers.specs.Interrogations.{answer_to, cause_for, is_accepted_act, is_asked_by, is_general, rows_of};
 
-use crate::answering::{at_station, command_with};
+use crate::answering::command_with;
 use crate::outgoing::Outgoing;
 use gw_model::{Memory, Observation, Value};
 use iec_command::causes::{
@@ -57,22 +57,20 @@ fn cause_for(action: Action) -> u8
     }
 }
 
-/// The answer to an interrogation by the station that has a common address, of what the picture shows.
+/// The answer to an interrogation, of what the picture shows.
 pub fn answer_to(
     alloc: Global,
-    common: u16,
     command: &Command,
     picture: &[Observation],
 ) -> Result<Vec<Outgoing>, Memory>
-    ensures { IfOk result (λ parts. parts.items ≡ answer_to common command.now picture.now) }
+    ensures { IfOk result (λ parts. parts.items ≡ answer_to command.now picture.now) }
 {
-    let here = at_station(common, command);
     let mut parts = Vec::with_capacity(alloc, picture.len() + 2)?;
-    parts.push_reserved(command_with(ACTIVATION_CONFIRMATION, false, &here));
+    parts.push_reserved(command_with(ACTIVATION_CONFIRMATION, false, command));
     for observation in picture {
         push_row(&mut parts, command.action, *observation);
     }
-    parts.push_reserved(command_with(ACTIVATION_TERMINATION, false, &here));
+    parts.push_reserved(command_with(ACTIVATION_TERMINATION, false, command));
     Ok(parts)
 }
 

@@ -3,6 +3,7 @@ ghost use Rattle.std.specs.Prelude.{◌≡◌, ◌<◌, ◌≤◌, true, length,
 ghost use Rattle.iec_asdu.specs.Spelling.{spelling};
 ghost use Rattle.iec_command.specs.Commands.{mirrored, spelling as command_spelling};
 ghost use Rattle.gw_answers.specs.Octets.{IsReturnable, answer_octets, octets_in, outgoing_octets};
+ghost use Rattle.gw_answers.specs.Outgoing.{at_station};
 
 use crate::outgoing::{Answer, Outgoing};
 use gw_model::Observation;
@@ -34,10 +35,14 @@ fn observation_asdu(
     }
 }
 
-/// The ASDU of a command.
-fn command_asdu(command: &Command) -> Asdu
-    ensures { octets_in result ≡ command_spelling command.now }
+/// The ASDU of a command, by the station that has a common address.
+fn command_asdu(common: u16, command: &Command) -> Asdu
+    ensures { octets_in result ≡ command_spelling (at_station common command.now) }
 {
+    let command = Command {
+        common_address: common,
+        ..*command
+    };
     let mut octets = [0; 249];
     let len = command.write(&mut octets);
     Asdu {
@@ -64,7 +69,7 @@ fn outgoing_asdu(common: u16, zone: &Zone, outgoing: &Outgoing) -> Asdu
     ensures { octets_in result ≡ outgoing_octets zone.now.offset_minutes common outgoing.now }
 {
     match outgoing {
-        Outgoing::Command(command) => command_asdu(command),
+        Outgoing::Command(command) => command_asdu(common, command),
         Outgoing::Observation {
             cause,
             originator,

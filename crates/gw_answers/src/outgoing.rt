@@ -8,10 +8,10 @@ use iec_apci::Asdu;
 use iec_asdu::SPONTANEOUS;
 use iec_command::Command;
 
-/// What goes out of the station's own: whole when it is made, so that nothing is decided when it is written.
+/// What goes out of the station's own: whole when it is made, but for the common address, which is the station's in all of it.
 #[derive(Clone, Copy, Debug, PartialEq, Eq)]
 pub enum Outgoing {
-    /// A command with the cause of transmission, P/N and common address of its confirmation or termination.
+    /// A command with the cause of transmission and P/N of its confirmation or termination.
     Command(Command),
     /// An observation, with its cause of transmission and the originator of the request that it answers, or 0.
     Observation {

@@ -18,14 +18,16 @@ use Rattle.iec_command.specs.declared.command.Action.{Action}
 use Rattle.iec_command.specs.declared.command.Action.TheVariants as actions
 use Rattle.gw_judge.specs.declared.judging.Judged.{Judged}
 use Rattle.gw_judge.specs.declared.judging.Judged.TheVariants as judgements
-use Rattle.gw_answers.specs.declared.answer.Answer.{Answer}
-use Rattle.gw_answers.specs.declared.answer.Answer.TheVariants.{Confirmed, Shown}
-use Rattle.gw_answers.specs.declared.answer.Part.{Part}
+use Rattle.gw_answers.specs.declared.outgoing.Answer.{Answer}
+use Rattle.gw_answers.specs.declared.outgoing.Answer.TheVariants.{Made}
+use Rattle.gw_answers.specs.declared.outgoing.Outgoing.TheVariants as outgoing
+use Rattle.gw_answers.specs.Outgoing.{confirmed, news as told_news}
+use Rattle.gw_answers.specs.declared.outgoing.Outgoing.{Outgoing}
 use Rattle.gw_answers.specs.Interrogations.{is_accepted_act, answer_to}
 use Rattle.gw_answers.specs.Answers.{answered, answered_action, refused_act, shown_at, command_by}
-use Rattle.gw_answers.specs.Octets.{answer_octets, part_octets}
-use Rattle.gw_answers.specs.Meaning.{Meant, Tells as TellsAsdu, meaning_of, asdu_of, MeansAnswer, MeansPart}
-use Rattle.gw_answers.proofs.Meant.{answer_means, part_means, observations_mean}
+use Rattle.gw_answers.specs.Octets.{answer_octets, outgoing_octets}
+use Rattle.gw_answers.specs.Meaning.{Meant, Tells as TellsAsdu, meaning_of, asdu_of, Means}
+use Rattle.gw_answers.proofs.Meant.{answer_means, outgoing_means}
 use Rattle.gw_station.specs.declared.event.Event.{Event}
 use Rattle.gw_station.specs.declared.event.Event.TheVariants as events
 use Rattle.gw_station.specs.declared.sending.Sending.{Sending}
@@ -80,7 +82,7 @@ split_anywhere zero queue = refl
 split_anywhere (suc n) [] = refl
 split_anywhere (suc n) (x ∷ queue) = ap (λ (s : List Sending). sendings.News x ∷ s) (split_anywhere n queue)
 
-same_split : (pending : Bool) (n m : ℕ) (queue : List Observation) (rest : List Part) → is_asked rest ≡ pending
+same_split : (pending : Bool) (n m : ℕ) (queue : List Observation) (rest : List Outgoing) → is_asked rest ≡ pending
     → (pending ≡ true → n ≡ m)
     → map sendings.News (take n queue) ++ (map sendings.Part rest ++ map sendings.News (drop n queue)) ≡ map sendings.News (take m queue) ++ (map sendings.Part rest ++ map sendings.News (drop m queue))
 same_split true n m queue rest is same = ap (λ (i : ℕ). map sendings.News (take i queue) ++ (map sendings.Part rest ++ map sendings.News (drop i queue))) (same refl)
@@ -121,7 +123,7 @@ waits_on common owes q n k new same tied = record {
   apart = subst (AllByRecursion IsApart) (sym same.answers) tied.apart;
   rest = same.rest ∙ tied.rest;
   asked = subst (AllByRecursion IsOfInterrogation) (sym same.rest) tied.asked;
-  said = subst (λ (rest : List Part). IfSome q (λ i. i.said ++ map (as_told common) rest ≡ answer_told common i)) (sym same.rest) tied.said;
+  said = subst (λ (rest : List Outgoing). IfSome q (λ i. i.said ++ map (as_told common) rest ≡ answer_told common i)) (sym same.rest) tied.said;
   since = tied.since;
   older = λ is. omega (arith, same.older, tied.older (ap is_asked (sym same.rest) ∙ is), ap length same.queue);
 }
@@ -189,9 +191,9 @@ refused_apart : (pending : Bool) (command : Command)
 refused_apart pending command = elim (cases_Bool (is_accepted_act pending command)) [ inl is ↦ rw is tt | inr isnt ↦ rw isnt (and_false _, tt) ]
 
 shown_apart : (x : Option Observation) (originator : ℕ)
-    → AllByRecursion IsApart (option_to_list (option_map (λ y. Shown y originator) x))
+    → AllByRecursion IsApart (option_to_list (option_map (λ y. Made (outgoing.Observation 5 originator y)) x))
 shown_apart None originator = tt
-shown_apart (Some x) originator = (tt, tt)
+shown_apart (Some x) originator = (refl, tt)
 
 action_apart : (setup : Setup) (picture : List Observation) (pending : Bool) (command : Command) (action : Action)
     → AllByRecursion IsApart (option_to_list (answered_action setup picture pending command action))
@@ -209,18 +211,18 @@ at_once_apart setup picture pending asdu (judgements.Refuse cause execute) = (tt
 at_once_apart setup picture pending asdu (judgements.Accepted command) = action_apart setup picture pending command command.action
 
 command_apart : (command : Option Command)
-    → AllByRecursion IsApart (map (λ x. Confirmed x true) (option_to_list command))
+    → AllByRecursion IsApart (map (λ x. Made (confirmed true x)) (option_to_list command))
 command_apart None = tt
 command_apart (Some command) = (and_false _, tt)
 
 -- a command for a control is answered
 joined : (answer : Option Answer) (command : Option Command) (k : Client) (xs : List Answer)
     → k.answers ≡ answers_with answer xs
-    → (client_answered (event_taking command) k).answers ≡ xs ++ (option_to_list answer ++ map (λ x. Confirmed x true) (option_to_list command))
+    → (client_answered (event_taking command) k).answers ≡ xs ++ (option_to_list answer ++ map (λ x. Made (confirmed true x)) (option_to_list command))
 joined None None k xs e = e ∙ sym (append-nil xs)
 joined (Some answer) None k xs e = e
-joined None (Some command) k xs e = ap (λ (l : List Answer). l ++ Confirmed command true ∷ []) e
-joined (Some answer) (Some command) k xs e = ap (λ (l : List Answer). l ++ Confirmed command true ∷ []) e ∙ append_assoc xs (answer ∷ []) (Confirmed command true ∷ [])
+joined None (Some command) k xs e = ap (λ (l : List Answer). l ++ Made (confirmed true command) ∷ []) e
+joined (Some answer) (Some command) k xs e = ap (λ (l : List Answer). l ++ Made (confirmed true command) ∷ []) e ∙ append_assoc xs (answer ∷ []) (Made (confirmed true command) ∷ [])
 
 answered_waits : (event : Event) (k : Client)
     → ((client_answered event k).rest ≡ k.rest) × ((client_answered event k).older ≡ k.older) × ((client_answered event k).queue ≡ k.queue)
@@ -229,7 +231,7 @@ answered_waits (events.Command command) k = (refl, refl, refl)
 answered_waits (events.Closed why) k = (refl, refl, refl)
 
 -- the rest of an answer, and the mark of the queue, where this is the interrogation
-record Asks (common : ℕ) (q : Option Interrogation) (n : ℕ) (queue : List Observation) (rest : List Part) (mark : ℕ) : Type 0 where
+record Asks (common : ℕ) (q : Option Interrogation) (n : ℕ) (queue : List Observation) (rest : List Outgoing) (mark : ℕ) : Type 0 where
   is : rest ≡ left_of q
   asked : AllByRecursion IsOfInterrogation rest
   said : IfSome q (λ i. i.said ++ map (as_told common) rest ≡ answer_told common i)
@@ -278,10 +280,10 @@ asdu_taken setup taking moment ns nr asdu hs k news tied =
           ∙ ap (λ (b : Bool). owed setup hs ++ answers_to setup picture b asdu j) (sym (pending_told common (owed setup hs) q n k tied)));
       apart = subst (AllByRecursion IsApart) (sym answers)
           (all_joined k.answers (answers_to setup picture (is_asked k.rest) asdu j) tied.apart
-          (all_joined (option_to_list (answered setup picture (is_asked k.rest) asdu j)) (map (λ x. Confirmed x true) (option_to_list (command_by j))) (at_once_apart setup picture (is_asked k.rest) asdu j) (command_apart (command_by j))));
+          (all_joined (option_to_list (answered setup picture (is_asked k.rest) asdu j)) (map (λ x. Made (confirmed true x)) (option_to_list (command_by j))) (at_once_apart setup picture (is_asked k.rest) asdu j) (command_apart (command_by j))));
       rest = waits.0 ∙ is.is;
       asked = subst (AllByRecursion IsOfInterrogation) (sym waits.0) is.asked;
-      said = subst (λ (rest : List Part). IfSome (begun n picture j q) (λ i. i.said ++ map (as_told common) rest ≡ answer_told common i)) (sym waits.0) is.said;
+      said = subst (λ (rest : List Outgoing). IfSome (begun n picture j q) (λ i. i.said ++ map (as_told common) rest ≡ answer_told common i)) (sym waits.0) is.said;
       since = is.since;
       older = λ asked. omega (arith, waits.1, is.older (ap is_asked (sym waits.0) ∙ asked), ap length waits.2);
     }
@@ -309,12 +311,12 @@ answer_is_first a b e = ap value e
     value (Some (sendings.Answer z)) = z
     value _ = a
 
-abbrev front : List Answer → ℕ → List Observation → List Part → List Sending
+abbrev front : List Answer → ℕ → List Observation → List Outgoing → List Sending
 front answers older queue rest =
     map sendings.Answer answers ++ (map sendings.News (take older queue) ++ (map sendings.Part rest ++ map sendings.News (drop older queue)))
 
 -- no answer is behind news or a part
-news_before : (older : ℕ) (queue : List Observation) (rest : List Part) (answer : Answer)
+news_before : (older : ℕ) (queue : List Observation) (rest : List Outgoing) (answer : Answer)
     → slice_get (front [] older queue rest) 0 ≡ Some (sendings.Answer answer) → ⊥
 news_before zero queue (part ∷ rest) answer e = absurd cc
 news_before zero (y ∷ queue) [] answer e = absurd cc
@@ -338,7 +340,7 @@ record More (common : ℕ) (k : Client) (q next : Option Interrogation) : Type 0
   said : IfSome next (λ i. i.said ++ map (as_told common) (drop 1 k.rest) ≡ answer_told common i)
   since : since_of next ≡ since_of q
 
-told_more : (common : ℕ) (k : Client) (q : Option Interrogation) (meant : Meant) (part : Part) (rest : List Part)
+told_more : (common : ℕ) (k : Client) (q : Option Interrogation) (meant : Meant) (part : Outgoing) (rest : List Outgoing)
     → k.rest ≡ part ∷ rest
     → parts_in meant ≡ as_told common part ∷ [] → k.rest ≡ left_of q
     → IfSome q (λ i. i.said ++ map (as_told common) k.rest ≡ answer_told common i)
@@ -349,7 +351,7 @@ told_more common k (Some q) meant part rest is told left said =
     let one : length (q.said ++ parts_in meant) ≡ length q.said + 1 = omega (arith, length-append q.said (parts_in meant), ap length told) in
     record {
       rest = left_more (length q.said) k.rest (answer_to q.command q.rows) left ∙ ap (λ (n : ℕ). drop n (answer_to q.command q.rows)) (sym one);
-      said = rw (told, behind) (said_more common q.said part rest ∙ (ap (λ (l : List Part). q.said ++ map (as_told common) l) (sym is) ∙ said));
+      said = rw (told, behind) (said_more common q.said part rest ∙ (ap (λ (l : List Outgoing). q.said ++ map (as_told common) l) (sym is) ∙ said));
       since = refl;
     }
 
@@ -375,7 +377,7 @@ gave setup moment (sendings.Answer answer) (Some hs) k small is can news tied =
     let offset : ℤ = setup.station.offset_minutes in
     let common : ℕ = setup.station.common_address in
     let meant : Meant = meaning_of offset (answer_octets offset common answer) in
-    let means : MeansAnswer offset common answer meant = answer_means offset common answer small can in
+    let means : Means offset common answer meant = answer_means offset common answer small can in
     let front = answer_first k answer is.first in
     let apart : IsApart answer = (subst (AllByRecursion IsApart) front.1 tied.apart).0 in
     let none : spontaneous_of common meant ≡ [] = answer_no_news offset common answer meant can means in
@@ -394,8 +396,8 @@ gave setup moment (sendings.Answer answer) (Some hs) k small is can news tied =
 gave setup moment (sendings.News x) (Some hs) k small is can news tied =
     let offset : ℤ = setup.station.offset_minutes in
     let common : ℕ = setup.station.common_address in
-    let meant : Meant = meaning_of offset (spelling offset common 3 x) in
-    let means : meant ≡ TellsAsdu (asdu_of offset common 3 0 x) = observations_mean offset common 3 x small can.width can.fit in
+    let meant : Meant = meaning_of offset (outgoing_octets offset common (told_news x)) in
+    let means : meant ≡ TellsAsdu (asdu_of offset common 3 0 x) = outgoing_means offset common (told_news x) small can in
     let none : owed setup hs ≡ [] = sym tied.answers ∙ no_answer k x is.first in
     let front = news_first k x is.first in
     same_asked common (drop 1 (owed setup hs)) (interrogation setup hs) (length (fates setup.station hs)) _ meant (client_with_sent moment (sendings.News x) k)
@@ -413,8 +415,8 @@ gave setup moment (sendings.News x) (Some hs) k small is can news tied =
 gave setup moment (sendings.Part part) (Some hs) k small is can news tied =
     let offset : ℤ = setup.station.offset_minutes in
     let common : ℕ = setup.station.common_address in
-    let meant : Meant = meaning_of offset (part_octets offset common part) in
-    let means : MeansPart offset common part meant = part_means offset common part small can in
+    let meant : Meant = meaning_of offset (outgoing_octets offset common part) in
+    let means : Means offset common (Made part) meant = outgoing_means offset common part small can in
     let front = part_first k part is.first in
     let requested : IsRequested part = (subst (AllByRecursion IsRequested) front.1 news.parts).0 in
     let of_it = subst (AllByRecursion IsOfInterrogation) front.1 tied.asked in
@@ -472,12 +474,12 @@ says_first setup (sendings.Answer answer) (Some hs) k small is can news tied = r
 says_first setup (sendings.News x) (Some hs) k small is can news tied = record {
   sending = sendings.News x;
   first = ap (λ (l : List Sending). slice_get l 0) (sym (line_is setup hs k news tied)) ∙ is.first;
-  means = observations_mean setup.station.offset_minutes setup.station.common_address 3 x small can.width can.fit;
+  means = outgoing_means setup.station.offset_minutes setup.station.common_address (told_news x) small can;
 }
 says_first setup (sendings.Part part) (Some hs) k small is can news tied = record {
   sending = sendings.Part part;
   first = ap (λ (l : List Sending). slice_get l 0) (sym (line_is setup hs k news tied)) ∙ is.first;
-  means = part_means setup.station.offset_minutes setup.station.common_address part small can;
+  means = outgoing_means setup.station.offset_minutes setup.station.common_address part small can;
 }
 
 pub keeps_line : (setup : Setup) → 0 < setup.station.queue → setup.station.common_address < 65536

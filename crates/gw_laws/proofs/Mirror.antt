@@ -19,13 +19,15 @@ use Rattle.iec_command.specs.declared.command.Action.{Action}
 use Rattle.iec_command.specs.declared.command.Action.TheVariants as actions
 use Rattle.gw_judge.specs.declared.judging.Judged.{Judged}
 use Rattle.gw_judge.specs.declared.judging.Judged.TheVariants.{Malformed, Refuse, Accepted}
-use Rattle.gw_answers.specs.declared.answer.Answer.{Answer}
-use Rattle.gw_answers.specs.declared.answer.Answer.TheVariants.{Confirmed, Shown}
-use Rattle.gw_answers.specs.declared.answer.Part.{Part}
+use Rattle.gw_answers.specs.declared.outgoing.Answer.{Answer}
+use Rattle.gw_answers.specs.declared.outgoing.Answer.TheVariants.{Made}
+use Rattle.gw_answers.specs.declared.outgoing.Outgoing.TheVariants as outgoing
+use Rattle.gw_answers.specs.Outgoing.{confirmed, news as told_news}
+use Rattle.gw_answers.specs.declared.outgoing.Outgoing.{Outgoing}
 use Rattle.gw_answers.specs.Interrogations.{is_general, is_accepted_act}
 use Rattle.gw_answers.specs.Answers.{shown_by, refused_act, answered_action, answered, command_by}
 use Rattle.gw_answers.specs.Meaning.{Meant}
-use Rattle.gw_answers.proofs.Meant.{answer_means, part_means, observations_mean}
+use Rattle.gw_answers.proofs.Meant.{answer_means, outgoing_means}
 use Rattle.gw_station.specs.declared.sending.Sending.{Sending}
 use Rattle.gw_station.specs.declared.sending.Sending.TheVariants as sendings
 use Rattle.gw_station.specs.Client.{Client}
@@ -81,7 +83,7 @@ one_shown rows log None is = tt
 one_shown rows log (Some answer) is = (is, tt)
 
 none_shown : (rows : List AnyRow) (log : List Observation) (commands : List Command)
-    → AllByRecursion (IsOfPicture rows log) (map (λ command. Confirmed command true) commands)
+    → AllByRecursion (IsOfPicture rows log) (map (λ command. Made (confirmed true command)) commands)
 none_shown rows log [] = tt
 none_shown rows log (command ∷ commands) = (tt, none_shown rows log commands)
 
@@ -94,12 +96,12 @@ refused_shown rows log pending c = elim (cases_Bool (is_accepted_act pending c))
 
 read_shown : (rows : List AnyRow) (log : List Observation) (originator : ℕ) (found : Option (ℕ × AnyRow))
     → is_single rows ≡ true
-    → IfSome (option_map (λ x. Shown x originator) (shown_by (picture_of rows log) found)) (IsOfPicture rows log)
+    → IfSome (option_map (λ x. Made (outgoing.Observation 5 originator x)) (shown_by (picture_of rows log) found)) (IsOfPicture rows log)
 read_shown rows log originator None single = tt
 read_shown rows log originator (Some found) single = go (slice_get (picture_of rows log) found.0) refl
   where
     go : (x : Option Observation) → slice_get (picture_of rows log) found.0 ≡ x
-        → IfSome (option_map (λ x. Shown x originator) x) (IsOfPicture rows log)
+        → IfSome (option_map (λ x. Made (outgoing.Observation 5 originator x)) x) (IsOfPicture rows log)
     go None get = tt
     go (Some x) get = (shown_is rows log found.0 x single get, tt)
 
@@ -128,7 +130,7 @@ all_shown setup log pending asdu j single =
     let picture : List Observation = picture_of setup.rows log in
     answers_shown setup.rows log (answers_to setup picture pending asdu j)
     (all-append (IsOfPicture setup.rows log) (option_to_list (answered setup picture pending asdu j))
-    (map (λ command. Confirmed command true) (option_to_list (command_by j)))
+    (map (λ command. Made (confirmed true command)) (option_to_list (command_by j)))
     (one_shown setup.rows log (answered setup picture pending asdu j) (at_once_shown setup log pending asdu j single))
     (none_shown setup.rows log (option_to_list (command_by j))))
 
@@ -150,7 +152,7 @@ kept_begun : (rows : List AnyRow) (since : ℕ) (heard : Option (List Observatio
 kept_begun rows since (Some heard) v q single within quiet left is kept = heard_begun rows since heard v q single within left is kept
 kept_begun rows since None v q single within quiet left is kept =
     let pending : is_pending v.asked ≡ true =
-    ap is_pending kept.watched.is ∙ ap (λ (said : List Part). not (list_any is_termination said)) kept.watched.said in
+    ap is_pending kept.watched.is ∙ ap (λ (said : List Outgoing). not (list_any is_termination said)) kept.watched.said in
     absurd (true≢false (sym pending ∙ quiet))
 
 -- ---- what the ties tell
@@ -335,13 +337,13 @@ puts setup log moment (sendings.News y) (Some hs) k small is can news lined news
     let t : Turn = PutsOut (says setup k x) in
     let now = line_is setup (t ∷ hs) (client_with_sent moment x k) news_then then in
     mirrored setup log log t hs (numbered setup log _ _ _ hs
-    (puts_first setup log moment x hs _ k is.first can (observations_mean setup.station.offset_minutes setup.station.common_address 3 y small can.width can.fit) news lined now)) tied
+    (puts_first setup log moment x hs _ k is.first can (outgoing_means setup.station.offset_minutes setup.station.common_address (told_news y) small can) news lined now)) tied
 puts setup log moment (sendings.Part part) (Some hs) k small is can news lined news_then then tied =
     let x : Sending = sendings.Part part in
     let t : Turn = PutsOut (says setup k x) in
     let now = line_is setup (t ∷ hs) (client_with_sent moment x k) news_then then in
     mirrored setup log log t hs (numbered setup log _ _ _ hs
-    (puts_first setup log moment x hs _ k is.first can (part_means setup.station.offset_minutes setup.station.common_address part small can) news lined now)) tied
+    (puts_first setup log moment x hs _ k is.first can (outgoing_means setup.station.offset_minutes setup.station.common_address part small can) news lined now)) tied
 
 -- news come
 comes : (setup : Setup) (before : List Observation) (brought : Brought) (s : Option (List Turn)) (k : Client)

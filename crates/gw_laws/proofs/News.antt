@@ -17,14 +17,15 @@ use Rattle.iec_command.specs.declared.command.Action.{Action}
 use Rattle.iec_command.specs.declared.command.Action.TheVariants as actions
 use Rattle.gw_judge.specs.declared.judging.Judged.{Judged}
 use Rattle.gw_judge.specs.declared.judging.Judged.TheVariants as judgements
-use Rattle.gw_answers.specs.declared.answer.Answer.{Answer}
-use Rattle.gw_answers.specs.declared.answer.Answer.TheVariants.{Unknown, Confirmed, Shown}
-use Rattle.gw_answers.specs.declared.answer.Part.{Part}
-use Rattle.gw_answers.specs.declared.answer.Part.TheVariants.{Confirmation, Row, Termination}
+use Rattle.gw_answers.specs.declared.outgoing.Answer.{Answer}
+use Rattle.gw_answers.specs.declared.outgoing.Answer.TheVariants.{Returned, Made}
+use Rattle.gw_answers.specs.declared.outgoing.Outgoing.{Outgoing}
+use Rattle.gw_answers.specs.declared.outgoing.Outgoing.TheVariants as outgoing
 use Rattle.gw_answers.specs.Interrogations.{is_asked_by, cause_for, rows_of}
-use Rattle.gw_answers.specs.Octets.{answering, confirming, answer_octets, part_octets}
-use Rattle.gw_answers.specs.Meaning.{Meant, Tells, Commands, Unread, meaning_of, asdu_of, MeansAnswer, MeansPart, CanSendAnswer}
-use Rattle.gw_answers.proofs.Meant.{answer_means, part_means, observations_mean}
+use Rattle.gw_answers.specs.Outgoing.{command_with, news as told_news}
+use Rattle.gw_answers.specs.Octets.{answer_octets, outgoing_octets}
+use Rattle.gw_answers.specs.Meaning.{Meant, Tells, Commands, Unread, meaning_of, asdu_of, Means, CanSendAnswer, CanSendOutgoing}
+use Rattle.gw_answers.proofs.Meant.{answer_means, outgoing_means}
 use Rattle.gw_station.specs.declared.event.Event.{Event}
 use Rattle.gw_station.specs.declared.event.Event.TheVariants as events
 use Rattle.gw_station.specs.declared.sending.Sending.{Sending}
@@ -76,24 +77,25 @@ NewsTied setup (Some hs) k = InSession setup hs k
 
 -- ---- what an I format says
 
-confirming_is : (common : ℕ) (negative : Bool) (c : Command)
-    → IsOfStation common (Commands (answering common (confirming c.cause) negative c))
-confirming_is common negative c = elim (cases_Bool (eqb c.cause 8)) [ inl is ↦ rw is (inl (refl, refl)) | inr isnt ↦ rw isnt (inl (refl, refl)) ]
-
 answer_of_station : (offset : ℤ) (common : ℕ) (answer : Answer) (meant : Meant) → CanSendAnswer offset answer
-    → MeansAnswer offset common answer meant → IsOfStation common meant
-answer_of_station offset common (Unknown asdu cause) (Tells told) can means = inr (cause, can.1, can.2, means)
-answer_of_station offset common (Unknown asdu cause) (Commands c) can means = inr (cause, can.1, can.2, means)
-answer_of_station offset common (Unknown asdu cause) (Unread octets) can means = (cause, can.1, can.2, means)
-answer_of_station offset common (Confirmed c negative) meant can means = subst (IsOfStation common) (sym means) (confirming_is common negative c)
-answer_of_station offset common (Shown x originator) meant can means = subst (IsOfStation common) (sym means) (inl (refl, refl))
+    → Means offset common answer meant → IsOfStation common meant
+answer_of_station offset common (Returned asdu cause) (Tells told) can means = inr (cause, can.1, can.2, means)
+answer_of_station offset common (Returned asdu cause) (Commands c) can means = inr (cause, can.1, can.2, means)
+answer_of_station offset common (Returned asdu cause) (Unread octets) can means = (cause, can.1, can.2, means)
+answer_of_station offset common (Made (outgoing.Command c)) meant can means = subst (IsOfStation common) (sym means) (inl (can.0, refl))
+answer_of_station offset common (Made (outgoing.Observation cause originator x)) meant can means =
+    subst (IsOfStation common) (sym means)
+    (subst (λ (n : ℕ). IsOfStation common (Tells (asdu_of offset common n originator x))) (sym can.0) (inl (refl, refl)))
 
-part_of_station : (offset : ℤ) (common : ℕ) (part : Part) (meant : Meant) → IsRequested part
-    → MeansPart offset common part meant → IsOfStation common meant
-part_of_station offset common (Confirmation c) meant is means = subst (IsOfStation common) (sym means) (inl (refl, refl))
-part_of_station offset common (Row cause x) meant (inl is) means = subst (IsOfStation common) (sym means) (subst (λ (n : ℕ). IsOfStation common (Tells (asdu_of offset common n 0 x))) (sym is) (inl (refl, refl)))
-part_of_station offset common (Row cause x) meant (inr is) means = subst (IsOfStation common) (sym means) (subst (λ (n : ℕ). IsOfStation common (Tells (asdu_of offset common n 0 x))) (sym is) (inl (refl, refl)))
-part_of_station offset common (Termination c) meant is means = subst (IsOfStation common) (sym means) (inl (refl, refl))
+part_of_station : (offset : ℤ) (common : ℕ) (part : Outgoing) (meant : Meant) → CanSendOutgoing offset part → IsRequested part
+    → Means offset common (Made part) meant → IsOfStation common meant
+part_of_station offset common (outgoing.Command c) meant can is means = subst (IsOfStation common) (sym means) (inl (can.0, refl))
+part_of_station offset common (outgoing.Observation cause originator x) meant can (inl is) means =
+    subst (IsOfStation common) (sym means)
+    (subst (λ (n : ℕ). IsOfStation common (Tells (asdu_of offset common n originator x))) (sym is) (inl (refl, refl)))
+part_of_station offset common (outgoing.Observation cause originator x) meant can (inr is) means =
+    subst (IsOfStation common) (sym means)
+    (subst (λ (n : ℕ). IsOfStation common (Tells (asdu_of offset common n originator x))) (sym is) (inl (refl, refl)))
 
 own_news : (offset : ℤ) (common : ℕ) (x : Observation)
     → spontaneous_of common (Tells (asdu_of offset common 3 0 x)) ≡ x ∷ []
@@ -116,8 +118,8 @@ rows_requested action (x ∷ xs) = elim (cases_Bool (is_asked_by action x)) [
     cause_is (actions.CounterInterrogation qualifier) = inr refl
     cause_is actions.Read = inl refl
 
-and_termination : (parts : List Part) (c : Command) → AllByRecursion IsRequested parts
-    → AllByRecursion IsRequested (parts ++ Termination c ∷ [])
+and_termination : (parts : List Outgoing) (c : Command) → AllByRecursion IsRequested parts
+    → AllByRecursion IsRequested (parts ++ command_with 10 false c ∷ [])
 and_termination [] c all = (tt, tt)
 and_termination (part ∷ parts) c all = (all.0, and_termination parts c all.1)
 
@@ -128,7 +130,7 @@ parts_with picture (judgements.Accepted c) false k all = all
 parts_with picture judgements.Malformed asks k all = all
 parts_with picture (judgements.Refuse cause execute) asks k all = all
 
-all_drop : (parts : List Part) → AllByRecursion IsRequested parts → AllByRecursion IsRequested (drop 1 parts)
+all_drop : (parts : List Outgoing) → AllByRecursion IsRequested parts → AllByRecursion IsRequested (drop 1 parts)
 all_drop [] all = tt
 all_drop (part ∷ parts) all = all.1
 
@@ -273,17 +275,17 @@ gave setup moment (sendings.Answer answer) (Some hs) k small is can tied =
 gave setup moment (sendings.Part part) (Some hs) k small is can tied =
     let offset : ℤ = setup.station.offset_minutes in
     let common : ℕ = setup.station.common_address in
-    let meant : Meant = meaning_of offset (part_octets offset common part) in
+    let meant : Meant = meaning_of offset (outgoing_octets offset common part) in
     let front = part_first k part is.first in
     let requested : IsRequested part = (subst (AllByRecursion IsRequested) front.1 tied.parts).0 in
-    put_still setup (says setup k (sendings.Part part)) hs k _ (part_no_news offset common part meant requested (part_means offset common part small can))
+    put_still setup (says setup k (sendings.Part part)) hs k _ (part_no_news offset common part meant requested (outgoing_means offset common part small can))
     (record { stage = refl; limit = refl; queue = refl; dropped = refl }) (all_drop k.rest tied.parts) tied
 gave setup moment (sendings.News x) (Some hs) k small is can tied =
     let offset : ℤ = setup.station.offset_minutes in
     let common : ℕ = setup.station.common_address in
     let queue : ℕ = setup.station.queue in
-    let meant : Meant = meaning_of offset (spelling offset common 3 x) in
-    let means : meant ≡ Tells (asdu_of offset common 3 0 x) = observations_mean offset common 3 x small can.width can.fit in
+    let meant : Meant = meaning_of offset (outgoing_octets offset common (told_news x)) in
+    let means : meant ≡ Tells (asdu_of offset common 3 0 x) = outgoing_means offset common (told_news x) small can in
     let puts : spontaneous_of common meant ≡ x ∷ [] = ap (spontaneous_of common) means ∙ own_news offset common x in
     let front = news_first k x is.first in
     let rest : drop 1 k.queue ≡ front.0 = ap (drop 1) front.1 in
@@ -350,7 +352,7 @@ says_of_station setup (sendings.Part part) ts k small is can tied =
     let offset : ℤ = setup.station.offset_minutes in
     let common : ℕ = setup.station.common_address in
     let requested : IsRequested part = requested_in (session ts) tied in
-    (sym (stands setup (session ts) k tied) ∙ is.in_session, part_of_station offset common part (meaning_of offset (part_octets offset common part)) requested (part_means offset common part small can))
+    (sym (stands setup (session ts) k tied) ∙ is.in_session, part_of_station offset common part (meaning_of offset (outgoing_octets offset common part)) can requested (outgoing_means offset common part small can))
   where
     requested_in : (s : Option (List Turn)) → NewsTied setup s k → IsRequested part
     requested_in None tied = absurd (true≢false (sym is.in_session ∙ tied.stopped))
@@ -358,7 +360,7 @@ says_of_station setup (sendings.Part part) ts k small is can tied =
 says_of_station setup (sendings.News x) ts k small is can tied =
     let offset : ℤ = setup.station.offset_minutes in
     let common : ℕ = setup.station.common_address in
-    let means = observations_mean offset common 3 x small can.width can.fit in
+    let means = outgoing_means offset common (told_news x) small can in
     (sym (stands setup (session ts) k tied) ∙ is.in_session, subst (IsOfStation common) (sym means) (inl (refl, refl)))
 
 speaks : (setup : Setup) → 0 < setup.station.queue → setup.station.common_address < 65536

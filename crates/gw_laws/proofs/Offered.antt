@@ -6,8 +6,8 @@ use Rattle.gw_model.specs.declared.observation.Observation.{Observation}
 use Rattle.gw_picture.proofs.Lists.{some_is}
 use Rattle.iec_apci.specs.declared.apdu.Signal.{Signal}
 use Rattle.iec_window.specs.Timers.{owes_ack, owes_test}
-use Rattle.gw_answers.specs.declared.answer.Answer.{Answer}
-use Rattle.gw_answers.specs.declared.answer.Part.{Part}
+use Rattle.gw_answers.specs.declared.outgoing.Answer.{Answer}
+use Rattle.gw_answers.specs.declared.outgoing.Outgoing.{Outgoing}
 use Rattle.gw_station.specs.declared.sending.Sending.{Sending}
 use Rattle.gw_station.specs.declared.sending.Sending.TheVariants as sendings
 use Rattle.gw_station.specs.Client.{Client, is_started as is_in_session}
@@ -56,7 +56,7 @@ offered_is moment k s e =
 
 -- ---- what is first in line
 
-abbrev front : List Answer → ℕ → List Observation → List Part → List Sending
+abbrev front : List Answer → ℕ → List Observation → List Outgoing → List Sending
 front answers older queue rest =
     map sendings.Answer answers ++ (map sendings.News (take older queue) ++ (map sendings.Part rest ++ map sendings.News (drop older queue)))
 
@@ -67,10 +67,10 @@ news_is x y e = ap value e
     value (Some (sendings.News z)) = z
     value _ = x
 
-part_is : (p q : Part) → Some (sendings.Part p) ≡ Some (sendings.Part q) → p ≡ q
+part_is : (p q : Outgoing) → Some (sendings.Part p) ≡ Some (sendings.Part q) → p ≡ q
 part_is p q e = ap value e
   where
-    value : Option Sending → Part
+    value : Option Sending → Outgoing
     value (Some (sendings.Part r)) = r
     value _ = p
 
@@ -79,7 +79,7 @@ pub news_first : (k : Client) (x : Observation) → slice_get (line k) 0 ≡ Som
     → (queue : List Observation) × (k.queue ≡ x ∷ queue)
 news_first k x e = go k.answers k.older k.queue k.rest e
   where
-    go : (answers : List Answer) (older : ℕ) (queue : List Observation) (rest : List Part)
+    go : (answers : List Answer) (older : ℕ) (queue : List Observation) (rest : List Outgoing)
         → slice_get (front answers older queue rest) 0 ≡ Some (sendings.News x)
         → (more : List Observation) × (queue ≡ x ∷ more)
     go (answer ∷ answers) older queue rest e = absurd cc
@@ -90,17 +90,17 @@ news_first k x e = go k.answers k.older k.queue k.rest e
     go [] (suc n) [] (part ∷ rest) e = absurd cc
     go [] (suc n) [] [] e = absurd cc
 
-pub part_first : (k : Client) (p : Part) → slice_get (line k) 0 ≡ Some (sendings.Part p)
-    → (rest : List Part) × (k.rest ≡ p ∷ rest)
+pub part_first : (k : Client) (p : Outgoing) → slice_get (line k) 0 ≡ Some (sendings.Part p)
+    → (rest : List Outgoing) × (k.rest ≡ p ∷ rest)
 part_first k p e = go k.answers k.older k.queue k.rest e
   where
-    go : (answers : List Answer) (older : ℕ) (queue : List Observation) (rest : List Part)
+    go : (answers : List Answer) (older : ℕ) (queue : List Observation) (rest : List Outgoing)
         → slice_get (front answers older queue rest) 0 ≡ Some (sendings.Part p)
-        → (more : List Part) × (rest ≡ p ∷ more)
+        → (more : List Outgoing) × (rest ≡ p ∷ more)
     go (answer ∷ answers) older queue rest e = absurd cc
-    go [] zero queue (part ∷ rest) e = (rest, ap (λ (z : Part). z ∷ rest) (part_is part p e))
+    go [] zero queue (part ∷ rest) e = (rest, ap (λ (z : Outgoing). z ∷ rest) (part_is part p e))
     go [] zero (y ∷ queue) [] e = absurd cc
     go [] zero [] [] e = absurd cc
     go [] (suc n) (y ∷ queue) rest e = absurd cc
-    go [] (suc n) [] (part ∷ rest) e = (rest, ap (λ (z : Part). z ∷ rest) (part_is part p e))
+    go [] (suc n) [] (part ∷ rest) e = (rest, ap (λ (z : Outgoing). z ∷ rest) (part_is part p e))
     go [] (suc n) [] [] e = absurd cc

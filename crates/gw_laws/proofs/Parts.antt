@@ -10,13 +10,13 @@ use Rattle.iec_command.specs.declared.command.Action.{Action}
 use Rattle.iec_command.specs.declared.command.Action.TheVariants as actions
 use Rattle.iec_command.specs.declared.command.Action.TheVariants as actions
 use Rattle.iec_command.specs.declared.command.Action.TheVariants as actions
-use Rattle.gw_answers.specs.declared.answer.Answer.{Answer}
-use Rattle.gw_answers.specs.declared.answer.Answer.TheVariants.{Unknown, Confirmed, Shown}
-use Rattle.gw_answers.specs.declared.answer.Part.{Part}
-use Rattle.gw_answers.specs.declared.answer.Part.TheVariants.{Confirmation, Row, Termination}
+use Rattle.gw_answers.specs.declared.outgoing.Answer.{Answer}
+use Rattle.gw_answers.specs.declared.outgoing.Answer.TheVariants.{Returned, Made}
+use Rattle.gw_answers.specs.declared.outgoing.Outgoing.{Outgoing}
+use Rattle.gw_answers.specs.declared.outgoing.Outgoing.TheVariants as outgoing
 use Rattle.gw_answers.specs.Interrogations.{is_asked_by, is_general, is_accepted_act, rows_of, answer_to}
-use Rattle.gw_answers.specs.Octets.{answering, confirming}
-use Rattle.gw_answers.specs.Meaning.{Meant, Tells, Commands, Unread, asdu_of, MeansAnswer, MeansPart, CanSendAnswer}
+use Rattle.gw_answers.specs.Outgoing.{command_with, at_station, news}
+use Rattle.gw_answers.specs.Meaning.{Meant, Tells, Commands, Unread, asdu_of, Means, CanSendAnswer}
 use Rattle.gw_station.specs.Answers.{is_pending as is_asked}
 use Rattle.gw_station.specs.Client.{Client}
 use Rattle.gw_station.specs.Pump.{line}
@@ -29,22 +29,21 @@ use Rattle.gw_laws.specs.Fates.{spontaneous_of}
 -- ---- kinds of answers and parts
 
 -- a part of an answer to an interrogation has a cause of one: 20 or 37
-abbrev pub IsRequested : Part → Type 0
-IsRequested (Confirmation c) = Unit {0}
-IsRequested (Row cause x) = (cause ≡ 20) ⊎ (cause ≡ 37)
-IsRequested (Termination c) = Unit {0}
+abbrev pub IsRequested : Outgoing → Type 0
+IsRequested (outgoing.Command c) = Unit {0}
+IsRequested (outgoing.Observation cause originator x) = (cause ≡ 20) ⊎ (cause ≡ 37)
 
 -- an answer that isn't taken for a part of the answer to an interrogation
 abbrev pub IsApart : Answer → Type 0
-IsApart (Unknown asdu cause) = Unit {0}
-IsApart (Confirmed command negative) = is_interrogation command.action && not negative ≡ false
-IsApart (Shown x originator) = Unit {0}
+IsApart (Returned asdu cause) = Unit {0}
+IsApart (Made (outgoing.Command c)) = is_interrogation c.action && not c.negative ≡ false
+IsApart (Made (outgoing.Observation cause originator x)) = cause ≡ 5
 
 -- a part of the answer to an interrogation
-abbrev pub IsOfInterrogation : Part → Type 0
-IsOfInterrogation (Confirmation command) = is_interrogation command.action ≡ true
-IsOfInterrogation (Row cause x) = Unit {0}
-IsOfInterrogation (Termination command) = is_interrogation command.action ≡ true
+abbrev pub IsOfInterrogation : Outgoing → Type 0
+IsOfInterrogation (outgoing.Command c) =
+    is_interrogation c.action && not c.negative && (eqb c.cause 7 || eqb c.cause 10) ≡ true
+IsOfInterrogation (outgoing.Observation cause originator x) = Unit {0}
 
 -- ---- what is no news
 
@@ -53,19 +52,21 @@ not_spontaneous : (cause octet : ℕ) → octet % 64 ≡ cause → 44 ≤ cause 
 not_spontaneous cause octet e from = ne_eqb octet 3 (λ (is : octet ≡ 3). omega (arith, e, from, is))
 
 pub answer_no_news : (offset : ℤ) (common : ℕ) (answer : Answer) (meant : Meant) → CanSendAnswer offset answer
-    → MeansAnswer offset common answer meant → spontaneous_of common meant ≡ []
-answer_no_news offset common (Unknown asdu cause) (Tells told) can means = rw (not_spontaneous cause told.cause means.0 can.1) refl
-answer_no_news offset common (Unknown asdu cause) (Commands c) can means = refl
-answer_no_news offset common (Unknown asdu cause) (Unread octets) can means = refl
-answer_no_news offset common (Confirmed c negative) meant can means = ap (spontaneous_of common) means
-answer_no_news offset common (Shown x originator) meant can means = ap (spontaneous_of common) means
+    → Means offset common answer meant → spontaneous_of common meant ≡ []
+answer_no_news offset common (Returned asdu cause) (Tells told) can means = rw (not_spontaneous cause told.cause means.0 can.1) refl
+answer_no_news offset common (Returned asdu cause) (Commands c) can means = refl
+answer_no_news offset common (Returned asdu cause) (Unread octets) can means = refl
+answer_no_news offset common (Made (outgoing.Command c)) meant can means = ap (spontaneous_of common) means
+answer_no_news offset common (Made (outgoing.Observation cause originator x)) meant can means =
+    ap (spontaneous_of common) means ∙ ap (λ (n : ℕ). spontaneous_of common (Tells (asdu_of offset common n originator x))) can.0
 
-pub part_no_news : (offset : ℤ) (common : ℕ) (part : Part) (meant : Meant) → IsRequested part
-    → MeansPart offset common part meant → spontaneous_of common meant ≡ []
-part_no_news offset common (Confirmation c) meant is means = ap (spontaneous_of common) means
-part_no_news offset common (Row cause x) meant (inl is) means = ap (spontaneous_of common) means ∙ ap (λ (n : ℕ). spontaneous_of common (Tells (asdu_of offset common n 0 x))) is
-part_no_news offset common (Row cause x) meant (inr is) means = ap (spontaneous_of common) means ∙ ap (λ (n : ℕ). spontaneous_of common (Tells (asdu_of offset common n 0 x))) is
-part_no_news offset common (Termination c) meant is means = ap (spontaneous_of common) means
+pub part_no_news : (offset : ℤ) (common : ℕ) (part : Outgoing) (meant : Meant) → IsRequested part
+    → Means offset common (Made part) meant → spontaneous_of common meant ≡ []
+part_no_news offset common (outgoing.Command c) meant is means = ap (spontaneous_of common) means
+part_no_news offset common (outgoing.Observation cause originator x) meant (inl is) means =
+    ap (spontaneous_of common) means ∙ ap (λ (n : ℕ). spontaneous_of common (Tells (asdu_of offset common n originator x))) is
+part_no_news offset common (outgoing.Observation cause originator x) meant (inr is) means =
+    ap (spontaneous_of common) means ∙ ap (λ (n : ℕ). spontaneous_of common (Tells (asdu_of offset common n originator x))) is
 
 -- ---- what isn't of it
 
@@ -85,35 +86,34 @@ neither cause octet e from =
     rw (ne_eqb octet 20 (λ (is : octet ≡ 20). omega (arith, e, from, is)), ne_eqb octet 37 (λ (is : octet ≡ 37). omega (arith, e, from, is))) refl
 
 pub answer_apart : (offset : ℤ) (common : ℕ) (answer : Answer) (meant : Meant) → CanSendAnswer offset answer
-    → IsApart answer → MeansAnswer offset common answer meant → parts_in meant ≡ []
-answer_apart offset common (Unknown asdu cause) (Tells told) can is means = rw (neither cause told.cause means.0 can.1) refl
-answer_apart offset common (Unknown asdu cause) (Commands c) can is means = negative_apart c means.1
-answer_apart offset common (Unknown asdu cause) (Unread octets) can is means = refl
-answer_apart offset common (Confirmed c negative) meant can is means =
-    ap parts_in means ∙ no_parts (answering common (confirming c.cause) negative c) is
-answer_apart offset common (Shown x originator) meant can is means = ap parts_in means
+    → IsApart answer → Means offset common answer meant → parts_in meant ≡ []
+answer_apart offset common (Returned asdu cause) (Tells told) can is means = rw (neither cause told.cause means.0 can.1) refl
+answer_apart offset common (Returned asdu cause) (Commands c) can is means = negative_apart c means.1
+answer_apart offset common (Returned asdu cause) (Unread octets) can is means = refl
+answer_apart offset common (Made (outgoing.Command c)) meant can is means = ap parts_in means ∙ no_parts (at_station common c) is
+answer_apart offset common (Made (outgoing.Observation cause originator x)) meant can is means =
+    ap parts_in means ∙ ap (λ (n : ℕ). parts_in (Tells (asdu_of offset common n originator x))) is
 
 pub news_apart : (offset : ℤ) (common : ℕ) (x : Observation) (meant : Meant)
-    → meant ≡ Tells (asdu_of offset common 3 0 x) → parts_in meant ≡ []
+    → Means offset common (Made (news x)) meant → parts_in meant ≡ []
 news_apart offset common x meant means = ap parts_in means
 
 -- nothing of it was put out
 pub told_nothing : (meant : Meant) (q : Option Interrogation) → parts_in meant ≡ []
     → option_map (interrogation_telling meant) q ≡ q
 told_nothing meant None none = refl
-told_nothing meant (Some q) none = ap (λ (parts : List Part). Some (record q { said = parts })) (ap (λ (parts : List Part). q.said ++ parts) none ∙ append-nil q.said)
+told_nothing meant (Some q) none = ap (λ (parts : List Outgoing). Some (record q { said = parts })) (ap (λ (parts : List Outgoing). q.said ++ parts) none ∙ append-nil q.said)
 
 -- ---- what is of it
 
-pub part_told : (offset : ℤ) (common : ℕ) (part : Part) (meant : Meant) → IsOfInterrogation part → IsRequested part
-    → MeansPart offset common part meant
+pub part_told : (offset : ℤ) (common : ℕ) (part : Outgoing) (meant : Meant) → IsOfInterrogation part → IsRequested part
+    → Means offset common (Made part) meant
     → parts_in meant ≡ as_told common part ∷ []
-part_told offset common (Confirmation c) meant is requested means = ap parts_in means ∙ rw is refl
-part_told offset common (Row cause x) meant is (inl asked) means =
+part_told offset common (outgoing.Command c) meant is requested means = ap parts_in means ∙ rw is refl
+part_told offset common (outgoing.Observation cause originator x) meant is (inl asked) means =
     ap parts_in means ∙ rw asked refl
-part_told offset common (Row cause x) meant is (inr asked) means =
+part_told offset common (outgoing.Observation cause originator x) meant is (inr asked) means =
     ap parts_in means ∙ rw asked refl
-part_told offset common (Termination c) meant is requested means = ap parts_in means ∙ rw is refl
 
 -- ---- an act that is accepted
 
@@ -133,7 +133,7 @@ accepted_is pending c e = general c.action (middle (eqb c.cause 6) (is_general c
     general (actions.CounterInterrogation qualifier) e = refl
     general actions.Read e = absurd cc
 
-rows_are : (action : Action) (xs : List Observation) (rest : List Part) → AllByRecursion IsOfInterrogation rest
+rows_are : (action : Action) (xs : List Observation) (rest : List Outgoing) → AllByRecursion IsOfInterrogation rest
     → AllByRecursion IsOfInterrogation (rows_of action xs ++ rest)
 rows_are action [] rest all = all
 rows_are action (x ∷ xs) rest all = elim (cases_Bool (is_asked_by action x)) [
@@ -143,7 +143,7 @@ rows_are action (x ∷ xs) rest all = elim (cases_Bool (is_asked_by action x)) [
 
 pub answer_is : (c : Command) (picture : List Observation) → is_interrogation c.action ≡ true
     → AllByRecursion IsOfInterrogation (answer_to c picture)
-answer_is c picture e = (e, rows_are c.action picture (Termination c ∷ []) (e, tt))
+answer_is c picture e = (rw e refl, rows_are c.action picture (command_with 10 false c ∷ []) (rw e refl, tt))
 
 -- ---- the termination is the last
 
@@ -156,7 +156,7 @@ rows_go_on common action (x ∷ xs) = elim (cases_Bool (is_asked_by action x)) [
 ]
 
 -- of parts that end with the only termination, something is left exactly while it wasn't said
-last_said : (xs said rest : List Part) (t : Part) → list_any is_termination xs ≡ false → is_termination t ≡ true
+last_said : (xs said rest : List Outgoing) (t : Outgoing) → list_any is_termination xs ≡ false → is_termination t ≡ true
     → said ++ rest ≡ xs ++ t ∷ []
     → not (list_any is_termination said) ≡ is_asked rest
 last_said [] [] [] t none is e = absurd cc
@@ -167,11 +167,11 @@ last_said [] (s ∷ said) rest t none is e =
     let others : said ++ rest ≡ [] = ap (drop 1) e in
     rw (same, is) (nothing_left said rest others)
   where
-    first : Part → List Part → Part
+    first : Outgoing → List Outgoing → Outgoing
     first d [] = d
     first d (p ∷ ps) = p
 
-    nothing_left : (said rest : List Part) → said ++ rest ≡ [] → false ≡ is_asked rest
+    nothing_left : (said rest : List Outgoing) → said ++ rest ≡ [] → false ≡ is_asked rest
     nothing_left [] [] e = refl
     nothing_left [] (r ∷ rest) e = absurd cc
     nothing_left (s ∷ said) rest e = absurd cc
@@ -181,7 +181,7 @@ last_said (x ∷ xs) (s ∷ said) rest t none is e =
     let parts = neither_of (is_termination x) (list_any is_termination xs) none in
     rw (same, parts.0) (last_said xs said rest t parts.1 is others)
   where
-    first : Part → List Part → Part
+    first : Outgoing → List Outgoing → Outgoing
     first d [] = d
     first d (p ∷ ps) = p
 
@@ -189,36 +189,38 @@ last_said (x ∷ xs) (s ∷ said) rest t none is e =
     neither_of true b e = absurd cc
     neither_of false b e = (refl, e)
 
-map-end : (f : Part → Part) (xs : List Part) (t : Part) → map f (xs ++ t ∷ []) ≡ map f xs ++ f t ∷ []
+map-end : (f : Outgoing → Outgoing) (xs : List Outgoing) (t : Outgoing) → map f (xs ++ t ∷ []) ≡ map f xs ++ f t ∷ []
 map-end f [] t = refl
-map-end f (x ∷ xs) t = ap (λ (ys : List Part). f x ∷ ys) (map-end f xs t)
+map-end f (x ∷ xs) t = ap (λ (ys : List Outgoing). f x ∷ ys) (map-end f xs t)
 
-told_asked : (common : ℕ) (rest : List Part) → is_asked (map (as_told common) rest) ≡ is_asked rest
+told_asked : (common : ℕ) (rest : List Outgoing) → is_asked (map (as_told common) rest) ≡ is_asked rest
 told_asked common [] = refl
 told_asked common (part ∷ rest) = refl
 
 -- an interrogation is pending while something is left of its answer
-pub pending_is : (common : ℕ) (q : Interrogation) (rest : List Part)
+pub pending_is : (common : ℕ) (q : Interrogation) (rest : List Outgoing)
     → q.said ++ map (as_told common) rest ≡ answer_told common q → is_pending (Some q) ≡ is_asked rest
 pending_is common q rest e =
     let c : Command = q.command in
-    let front : List Part = Confirmation (answering common 7 false c) ∷ map (as_told common) (rows_of c.action q.rows) in
-    let whole : answer_told common q ≡ front ++ Termination (answering common 10 false c) ∷ [] =
-    ap (λ (parts : List Part). Confirmation (answering common 7 false c) ∷ parts) (map-end (as_told common) (rows_of c.action q.rows) (Termination c)) in
-    last_said front q.said (map (as_told common) rest) (Termination (answering common 10 false c)) (rows_go_on common c.action q.rows) refl (e ∙ whole)
+    let confirmation : Outgoing = as_told common (command_with 7 false c) in
+    let termination : Outgoing = as_told common (command_with 10 false c) in
+    let front : List Outgoing = confirmation ∷ map (as_told common) (rows_of c.action q.rows) in
+    let whole : answer_told common q ≡ front ++ termination ∷ [] =
+    ap (λ (parts : List Outgoing). confirmation ∷ parts) (map-end (as_told common) (rows_of c.action q.rows) (command_with 10 false c)) in
+    last_said front q.said (map (as_told common) rest) termination (rows_go_on common c.action q.rows) refl (e ∙ whole)
     ∙ told_asked common rest
 
 -- one part more was said
-pub said_more : (common : ℕ) (said : List Part) (part : Part) (rest : List Part)
+pub said_more : (common : ℕ) (said : List Outgoing) (part : Outgoing) (rest : List Outgoing)
     → (said ++ as_told common part ∷ []) ++ map (as_told common) rest ≡ said ++ map (as_told common) (part ∷ rest)
 said_more common [] part rest = refl
-said_more common (s ∷ said) part rest = ap (λ (parts : List Part). s ∷ parts) (said_more common said part rest)
+said_more common (s ∷ said) part rest = ap (λ (parts : List Outgoing). s ∷ parts) (said_more common said part rest)
 
 -- what is left is what is behind as many as were said
-pub left_more : (said : ℕ) (rest answer : List Part) → rest ≡ drop said answer → drop 1 rest ≡ drop (said + 1) answer
+pub left_more : (said : ℕ) (rest answer : List Outgoing) → rest ≡ drop said answer → drop 1 rest ≡ drop (said + 1) answer
 left_more said rest answer is = ap (drop 1) is ∙ drop_twice said (said + 1) answer refl
   where
-    drop_twice : (n m : ℕ) (parts : List Part) → m ≡ n + 1 → drop 1 (drop n parts) ≡ drop m parts
+    drop_twice : (n m : ℕ) (parts : List Outgoing) → m ≡ n + 1 → drop 1 (drop n parts) ≡ drop m parts
     drop_twice zero m parts e = let one : 1 ≡ m = omega (arith, e) in ap (λ (i : ℕ). drop i parts) one
     drop_twice (suc n) zero parts e = absurd (omega (arith, e))
     drop_twice (suc n) (suc m) [] e = refl
@@ -226,11 +228,11 @@ left_more said rest answer is = ap (drop 1) is ∙ drop_twice said (said + 1) an
 
 -- ---- what waits before
 
-pub nothing_asked : (rest : List Part) → is_asked rest ≡ false → rest ≡ []
+pub nothing_asked : (rest : List Outgoing) → is_asked rest ≡ false → rest ≡ []
 nothing_asked [] e = refl
 nothing_asked (part ∷ rest) e = absurd cc
 
-abbrev front : List Answer → ℕ → List Observation → List Part → List Sending
+abbrev front : List Answer → ℕ → List Observation → List Outgoing → List Sending
 front answers older queue rest =
     map sendings.Answer answers ++ (map sendings.News (take older queue) ++ (map sendings.Part rest ++ map sendings.News (drop older queue)))
 
@@ -243,7 +245,7 @@ no_answer k x e = go k.answers e
     go [] e = refl
     go (a ∷ answers) e = absurd cc
 
-pub no_answer_before : (k : Client) (part : Part) → slice_get (line k) 0 ≡ Some (sendings.Part part) → k.answers ≡ []
+pub no_answer_before : (k : Client) (part : Outgoing) → slice_get (line k) 0 ≡ Some (sendings.Part part) → k.answers ≡ []
 no_answer_before k part e = go k.answers e
   where
     go : (answers : List Answer) → slice_get (front answers k.older k.queue k.rest) 0 ≡ Some (sendings.Part part)

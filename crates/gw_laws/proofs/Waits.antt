@@ -5,10 +5,11 @@ use Rattle.std.proofs.lemmas.Bool.{cases_Bool, ne_eqb}
 use Rattle.std.proofs.lemmas.List.{take-append-le, drop-append-le}
 use Rattle.gw_model.specs.declared.observation.Observation.{Observation}
 use Rattle.iec_command.specs.declared.command.Command.{Command}
-use Rattle.gw_answers.specs.declared.answer.Answer.{Answer}
-use Rattle.gw_answers.specs.declared.answer.Answer.TheVariants.{Unknown, Confirmed, Shown}
-use Rattle.gw_answers.specs.declared.answer.Part.{Part}
-use Rattle.gw_answers.specs.declared.answer.Part.TheVariants.{Confirmation, Row as RowPart, Termination}
+use Rattle.gw_answers.specs.declared.outgoing.Answer.{Answer}
+use Rattle.gw_answers.specs.declared.outgoing.Answer.TheVariants.{Returned, Made}
+use Rattle.gw_answers.specs.declared.outgoing.Outgoing.{Outgoing}
+use Rattle.gw_answers.specs.declared.outgoing.Outgoing.TheVariants as outgoing
+use Rattle.gw_answers.specs.Outgoing.{command_with}
 use Rattle.gw_answers.specs.Interrogations.{is_asked_by, cause_for, answer_to}
 use Rattle.gw_answers.specs.Meaning.{Meant, Tells, Commands, Unread, asdu_of}
 use Rattle.gw_station.specs.declared.sending.Sending.{Sending}
@@ -34,7 +35,7 @@ waiting_news [] = refl
 waiting_news (x ∷ xs) = ap (λ (ys : List Observation). x ∷ ys) (waiting_news xs)
 
 waiting_rows : (cause : ℕ) (c : Command) (xs : List Observation)
-    → waiting_in (map sendings.Part (map (RowPart cause) xs ++ Termination c ∷ [])) ≡ xs
+    → waiting_in (map sendings.Part (map (outgoing.Observation cause 0) xs ++ command_with 10 false c ∷ [])) ≡ xs
 waiting_rows cause c [] = refl
 waiting_rows cause c (x ∷ xs) = ap (λ (ys : List Observation). x ∷ ys) (waiting_rows cause c xs)
 
@@ -114,9 +115,8 @@ is_part _ = false
 
 -- what can be sent comes back, where it does, with one of the causes of what is unknown
 pub returnable : (offset : ℤ) (s : Sending) → CanSend offset s → IsReturnableSending s
-returnable offset (sendings.Answer (Unknown asdu cause)) can = can
-returnable offset (sendings.Answer (Confirmed c negative)) can = tt
-returnable offset (sendings.Answer (Shown x originator)) can = tt
+returnable offset (sendings.Answer (Returned asdu cause)) can = can
+returnable offset (sendings.Answer (Made x)) can = tt
 returnable offset (sendings.News x) can = tt
 returnable offset (sendings.Part part) can = tt
 returnable offset (sendings.Confirm signal) can = tt
@@ -135,20 +135,20 @@ other_causes cause octet is low high = (other 3 (omega arith), other 5 (omega ar
 pub told_as : (offset : ℤ) (common : ℕ) (s : Sending) (meant : Meant) → IsPlain s → IsReturnableSending s
     → MeansSending offset common s meant
     → observations_in meant ≡ observations_of s
-told_as offset common (sendings.Answer (Unknown asdu cause)) (Tells a) plain can means =
+told_as offset common (sendings.Answer (Returned asdu cause)) (Tells a) plain can means =
     let others = other_causes cause a.cause means.0 can.1 can.2 in
     rw (others.0, others.1, others.2, others.3) refl
-told_as offset common (sendings.Answer (Unknown asdu cause)) (Commands c) plain can means = refl
-told_as offset common (sendings.Answer (Unknown asdu cause)) (Unread octets) plain can means = refl
-told_as offset common (sendings.Answer (Confirmed c negative)) meant plain can means = ap observations_in means
-told_as offset common (sendings.Answer (Shown x originator)) meant plain can means = ap observations_in means
+told_as offset common (sendings.Answer (Returned asdu cause)) (Commands c) plain can means = refl
+told_as offset common (sendings.Answer (Returned asdu cause)) (Unread octets) plain can means = refl
+told_as offset common (sendings.Answer (Made (outgoing.Command c))) meant plain can means = ap observations_in means
+told_as offset common (sendings.Answer (Made (outgoing.Observation cause originator x))) meant plain can means =
+    ap observations_in means ∙ ap (λ (n : ℕ). observations_in (Tells (asdu_of offset common n originator x))) plain
 told_as offset common (sendings.News x) meant plain can means = ap observations_in means
-told_as offset common (sendings.Part (Confirmation c)) meant plain can means = ap observations_in means
-told_as offset common (sendings.Part (RowPart cause x)) meant (inl is) can means =
-    ap observations_in means ∙ ap (λ (n : ℕ). observations_in (Tells (asdu_of offset common n 0 x))) is
-told_as offset common (sendings.Part (RowPart cause x)) meant (inr is) can means =
-    ap observations_in means ∙ ap (λ (n : ℕ). observations_in (Tells (asdu_of offset common n 0 x))) is
-told_as offset common (sendings.Part (Termination c)) meant plain can means = ap observations_in means
+told_as offset common (sendings.Part (outgoing.Command c)) meant plain can means = ap observations_in means
+told_as offset common (sendings.Part (outgoing.Observation cause originator x)) meant (inl is) can means =
+    ap observations_in means ∙ ap (λ (n : ℕ). observations_in (Tells (asdu_of offset common n originator x))) is
+told_as offset common (sendings.Part (outgoing.Observation cause originator x)) meant (inr is) can means =
+    ap observations_in means ∙ ap (λ (n : ℕ). observations_in (Tells (asdu_of offset common n originator x))) is
 told_as offset common (sendings.Confirm signal) meant plain can means = absurd means
 told_as offset common sendings.Test meant plain can means = absurd means
 told_as offset common sendings.Receipt meant plain can means = absurd means
@@ -158,19 +158,20 @@ pub apart : (offset : ℤ) (common : ℕ) (s : Sending) (meant : Meant) → IsPl
     → is_part s ≡ false
     → MeansSending offset common s meant
     → parts_in meant ≡ []
-apart offset common (sendings.Answer (Unknown asdu cause)) (Tells a) plain can other means =
+apart offset common (sendings.Answer (Returned asdu cause)) (Tells a) plain can other means =
     let others = other_causes cause a.cause means.0 can.1 can.2 in
     rw (others.2, others.3) refl
-apart offset common (sendings.Answer (Unknown asdu cause)) (Commands c) plain can other means = negative_apart c means.1
+apart offset common (sendings.Answer (Returned asdu cause)) (Commands c) plain can other means = negative_apart c means.1
   where
     negative_apart : (c : Command) → c.negative ≡ true → parts_in (Commands c) ≡ []
     negative_apart c is = elim (cases_Bool (is_interrogation c.action)) [
       | inl one ↦ rw (one, is) refl
       | inr none ↦ rw none refl
     ]
-apart offset common (sendings.Answer (Unknown asdu cause)) (Unread octets) plain can other means = refl
-apart offset common (sendings.Answer (Confirmed c negative)) meant plain can other means = ap parts_in means ∙ rw plain refl
-apart offset common (sendings.Answer (Shown x originator)) meant plain can other means = ap parts_in means
+apart offset common (sendings.Answer (Returned asdu cause)) (Unread octets) plain can other means = refl
+apart offset common (sendings.Answer (Made (outgoing.Command c))) meant plain can other means = ap parts_in means ∙ rw plain refl
+apart offset common (sendings.Answer (Made (outgoing.Observation cause originator x))) meant plain can other means =
+    ap parts_in means ∙ ap (λ (n : ℕ). parts_in (Tells (asdu_of offset common n originator x))) plain
 apart offset common (sendings.News x) meant plain can other means = ap parts_in means
 apart offset common (sendings.Part part) meant plain can other means = absurd cc
 apart offset common (sendings.Confirm signal) meant plain can other means = absurd means
@@ -178,7 +179,7 @@ apart offset common sendings.Test meant plain can other means = absurd means
 apart offset common sendings.Receipt meant plain can other means = absurd means
 
 -- a part is first where no answer and no older news wait
-pub part_first : (owed : List Answer) (xs : List Observation) (rest : List Sending) (p : Part)
+pub part_first : (owed : List Answer) (xs : List Observation) (rest : List Sending) (p : Outgoing)
     → slice_get (map sendings.Answer owed ++ (map sendings.News xs ++ rest)) 0 ≡ Some (sendings.Part p)
     → (owed ≡ []) × (xs ≡ [])
 part_first (answer ∷ owed) xs rest p e = absurd cc
@@ -190,7 +191,7 @@ abbrev pub from_part : List Sending → List Sending
 from_part [] = []
 from_part (s ∷ line) = cond (is_part s) (s ∷ line) (from_part line)
 
-pub from_part_of : (owed : List Answer) (xs : List Observation) (p : Part) (rest : List Sending)
+pub from_part_of : (owed : List Answer) (xs : List Observation) (p : Outgoing) (rest : List Sending)
     → from_part (map sendings.Answer owed ++ (map sendings.News xs ++ (sendings.Part p ∷ rest))) ≡ sendings.Part p ∷ rest
 from_part_of (answer ∷ owed) xs p rest = from_part_of owed xs p rest
 from_part_of [] (x ∷ xs) p rest = from_part_of [] xs p rest

@@ -11,17 +11,16 @@ use Rattle.gw_picture.proofs.Addresses.{is_single}
 use Rattle.gw_picture.proofs.Logs.{shown_by}
 use Rattle.iec_command.specs.declared.command.Action.{Action}
 use Rattle.iec_command.specs.declared.command.Action.TheVariants as actions
-use Rattle.gw_answers.specs.declared.answer.Answer.{Answer}
-use Rattle.gw_answers.specs.declared.answer.Part.{Part}
-use Rattle.gw_answers.specs.declared.answer.Part.TheVariants.{Confirmation, Termination}
+use Rattle.gw_answers.specs.declared.outgoing.Answer.{Answer}
+use Rattle.gw_answers.specs.declared.outgoing.Outgoing.{Outgoing}
 use Rattle.gw_answers.specs.Interrogations.{is_total, is_asked_by, rows_of, answer_to}
 use Rattle.gw_answers.specs.Meaning.{Meant}
-use Rattle.gw_answers.specs.Octets.{answering}
+use Rattle.gw_answers.specs.Outgoing.{command_with}
 use Rattle.gw_station.specs.declared.sending.Sending.{Sending}
 use Rattle.gw_station.specs.declared.sending.Sending.TheVariants as sendings
 use Rattle.gw_station.specs.Sound.{IsReturnableSending}
 use Rattle.gw_laws.specs.Fates.{Element, is_queued, items_of, fates_with_news, fates_with_put_out}
-use Rattle.gw_laws.specs.Interrogations.{Interrogation, is_interrogation, parts_in, interrogation_telling}
+use Rattle.gw_laws.specs.Interrogations.{Interrogation, is_interrogation, parts_in, as_told, interrogation_telling}
 use Rattle.gw_laws.specs.Line.{since_of, left_of, line_with, MeansSending}
 use Rattle.gw_laws.specs.Mirror.{observations_in, waiting_in, is_station_interrogation, told_with, NoneDropped}
 use Rattle.gw_laws.proofs.Settled.{queued, items_of-append}
@@ -161,18 +160,18 @@ heard_put_out rows offset common since told meant ys v puts kept =
 -- before the confirmation the answer is whole
 watched_left : (asked : Option Interrogation) (since : ℕ) (is : IsWatched asked since)
     → left_of asked ≡ answer_to is.q.command is.q.rows
-watched_left asked since is = ap left_of is.is ∙ ap (λ (said : List Part). drop (length said) (answer_to is.q.command is.q.rows)) is.said
+watched_left asked since is = ap left_of is.is ∙ ap (λ (said : List Outgoing). drop (length said) (answer_to is.q.command is.q.rows)) is.said
 
 -- what is behind its first part
 abbrev behind : Interrogation → List Element → List Sending
 behind q es =
-    map sendings.Part (rows_of q.command.action q.rows ++ Termination q.command ∷ []) ++ map sendings.News (items_of is_queued (drop q.since es))
+    map sendings.Part (rows_of q.command.action q.rows ++ command_with 10 false q.command ∷ []) ++ map sendings.News (items_of is_queued (drop q.since es))
 
 watched_from : (asked : Option Interrogation) (es : List Element) (since : ℕ) (is : IsWatched asked since)
-    → from_answer asked es ≡ sendings.Part (Confirmation is.q.command) ∷ behind is.q es
+    → from_answer asked es ≡ sendings.Part (command_with 7 false is.q.command) ∷ behind is.q es
 watched_from asked es since is =
     let news : Option Interrogation → List Sending = λ q. map sendings.News (items_of is_queued (drop (since_of q) es)) in
-    ap (λ (parts : List Part). map sendings.Part parts ++ news asked) (watched_left asked since is)
+    ap (λ (parts : List Outgoing). map sendings.Part parts ++ news asked) (watched_left asked since is)
     ∙ ap (λ (q : Option Interrogation). map sendings.Part (answer_to is.q.command is.q.rows) ++ news q) is.is
 
 -- something else than a part
@@ -193,7 +192,7 @@ unheard_put_out rows offset common since meant ys v puts other kept = rw none_sa
       q = interrogation_telling meant kept.watched.q;
       is = ap (option_map (interrogation_telling meant)) kept.watched.is;
       mark = kept.watched.mark;
-      said = ap (λ (parts : List Part). parts ++ parts_in meant) kept.watched.said ∙ none_said;
+      said = ap (λ (parts : List Outgoing). parts ++ parts_in meant) kept.watched.said ∙ none_said;
       kind = kept.watched.kind;
     }
 
@@ -202,7 +201,7 @@ unheard_put_out rows offset common since meant ys v puts other kept = rw none_sa
         let older : List Observation = items_of is_queued (take (since_of w.asked) w.elements) in
         let from = watched_from w.asked w.elements since is in
         ap (λ (l : List Sending). from_part (map sendings.Answer w.owed ++ (map sendings.News older ++ l))) from
-        ∙ (from_part_of w.owed older (Confirmation is.q.command) (behind is.q w.elements) ∙ sym from)
+        ∙ (from_part_of w.owed older (command_with 7 false is.q.command) (behind is.q w.elements) ∙ sym from)
 
     same : from_answer v.asked v.elements ≡ from_answer new.asked new.elements
     same =
@@ -218,7 +217,7 @@ unheard_put_out rows offset common since meant ys v puts other kept = rw none_sa
 
 -- its confirmation
 confirmed : (rows : List Row) (offset : ℤ) (common since : ℕ) (meant : Meant) (ys : List Observation) (v : View)
-    (p : Part)
+    (p : Outgoing)
     → slice_get (line_in v) 0 ≡ Some (sendings.Part p) → MeansSending offset common (sendings.Part p) meant
     → line_in (put_out meant ys v) ≡ drop 1 (line_in v) → Unheard rows v since
     → IsKept rows (put_out meant ys v) since (told_with meant None)
@@ -233,27 +232,27 @@ confirmed rows offset common since meant ys v p first means moved kept = rw is_s
     older : List Observation
     older = items_of is_queued (take (since_of v.asked) v.elements)
 
-    from : from_answer v.asked v.elements ≡ sendings.Part (Confirmation q.command) ∷ behind q v.elements
+    from : from_answer v.asked v.elements ≡ sendings.Part (command_with 7 false q.command) ∷ behind q v.elements
     from = watched_from v.asked v.elements since kept.watched
 
     none : (v.owed ≡ []) × (older ≡ [])
     none = part_first v.owed older (from_answer v.asked v.elements) p first
 
-    whole : line_in v ≡ sendings.Part (Confirmation q.command) ∷ behind q v.elements
+    whole : line_in v ≡ sendings.Part (command_with 7 false q.command) ∷ behind q v.elements
     whole =
         ap (λ (owed : List Answer). map sendings.Answer owed ++ (map sendings.News older ++ from_answer v.asked v.elements)) none.0
         ∙ (ap (λ (xs : List Observation). map sendings.News xs ++ from_answer v.asked v.elements) none.1 ∙ from)
 
-    part_is : p ≡ Confirmation q.command
+    part_is : p ≡ command_with 7 false q.command
     part_is = ap of (sym first ∙ ap (λ (l : List Sending). slice_get l 0) whole)
       where
-        of : Option Sending → Part
+        of : Option Sending → Outgoing
         of (Some (sendings.Part part)) = part
         of _ = p
 
-    is_said : parts_in meant ≡ Confirmation (answering common 7 false q.command) ∷ []
+    is_said : parts_in meant ≡ as_told common (command_with 7 false q.command) ∷ []
     is_said =
-        ap parts_in (subst (λ (part : Part). MeansSending offset common (sendings.Part part) meant) part_is means)
+        ap parts_in (subst (λ (part : Outgoing). MeansSending offset common (sendings.Part part) meant) part_is means)
         ∙ rw kept.watched.kind refl
 
     mark : since_of v.asked ≡ since
@@ -341,7 +340,7 @@ pub record IsNew (rows : List Row) (v : View) (q : Interrogation) : Type 0 where
 new_left : (rows : List Row) (v : View) (q : Interrogation) → IsNew rows v q
     → waiting_in (map sendings.Part (left_of (Some q))) ≡ filter (is_asked_by q.command.action) (picture_of rows v.log)
 new_left rows v q is =
-    ap (λ (said : List Part). waiting_in (map sendings.Part (drop (length said) (answer_to q.command q.rows)))) is.said
+    ap (λ (said : List Outgoing). waiting_in (map sendings.Part (drop (length said) (answer_to q.command q.rows)))) is.said
     ∙ (waiting_answer q.command q.rows ∙ ap (filter (is_asked_by q.command.action)) is.rows_are)
 
 new_from : (rows : List Row) (v : View) (q : Interrogation) → IsNew rows v q
@@ -393,7 +392,7 @@ whole_line v none =
     let older : List Observation = items_of is_queued (take s v.elements) in
     waiting_line v.owed v.asked v.elements
     ∙ (ap (λ (xs : List Observation). answers ++ (older ++ xs)) (waiting_from v.asked v.elements)
-    ∙ (ap (λ (parts : List Part). answers ++ (older ++ (waiting_in (map sendings.Part parts) ++ items_of is_queued (drop s v.elements)))) none
+    ∙ (ap (λ (parts : List Outgoing). answers ++ (older ++ (waiting_in (map sendings.Part parts) ++ items_of is_queued (drop s v.elements)))) none
     ∙ ap (λ (xs : List Observation). answers ++ xs)
     (sym (items_of-append is_queued (take s v.elements) (drop s v.elements)) ∙ ap (items_of is_queued) (take-append-drop s v.elements))))
 

@@ -11,10 +11,10 @@ use Rattle.iec_command.specs.declared.command.Action.{Action}
 use Rattle.iec_command.specs.declared.command.Action.TheVariants as actions
 use Rattle.gw_judge.specs.declared.judging.Judged.{Judged}
 use Rattle.gw_judge.specs.declared.judging.Judged.TheVariants.{Accepted}
-use Rattle.gw_answers.specs.declared.answer.Part.{Part}
-use Rattle.gw_answers.specs.declared.answer.Part.TheVariants.{Confirmation, Row, Termination}
+use Rattle.gw_answers.specs.declared.outgoing.Outgoing.{Outgoing}
+use Rattle.gw_answers.specs.declared.outgoing.Outgoing.TheVariants as outgoing
+use Rattle.gw_answers.specs.Outgoing.{at_station}
 use Rattle.gw_answers.specs.Interrogations.{is_accepted_act, answer_to}
-use Rattle.gw_answers.specs.Octets.{answering}
 use Rattle.gw_answers.specs.Meaning.{Meant, Tells, Commands, Unread}
 use Rattle.gw_station.specs.Frames.{judged_asdu}
 use Rattle.gw_steps.specs.Runs.{Entry}
@@ -29,7 +29,7 @@ pub record Interrogation : Type 0 where
   pub since : ℕ
   pub rows : List Observation
   -- what was put out of its answer
-  pub said : List Part
+  pub said : List Outgoing
 
 -- ---- what is put out of an answer
 
@@ -39,22 +39,22 @@ is_interrogation (actions.CounterInterrogation qualifier) = true
 is_interrogation _ = false
 
 -- the station's confirmation (7) or termination (10) of an interrogation, not negative
-abbrev pub parts_of_command : Command → List Part
+abbrev pub parts_of_command : Command → List Outgoing
 parts_of_command c =
-    if is_interrogation c.action && not c.negative then
-    (if c.cause == 7 then Confirmation c ∷ [] else if c.cause == 10 then Termination c ∷ [] else [])
-    else []
+    if is_interrogation c.action && not c.negative && (c.cause == 7 || c.cause == 10) then outgoing.Command c ∷ [] else []
 
 -- observations of cause 20 (interrogated by station interrogation) or 37 (requested by general counter request)
-abbrev pub parts_in : Meant → List Part
-parts_in (Tells asdu) = if asdu.cause == 20 || asdu.cause == 37 then map (Row asdu.cause) asdu.observations else []
+abbrev pub parts_in : Meant → List Outgoing
+parts_in (Tells asdu) =
+    if asdu.cause == 20 || asdu.cause == 37 then
+    map (outgoing.Observation asdu.cause asdu.originator) asdu.observations
+    else []
 parts_in (Commands c) = parts_of_command c
 parts_in (Unread octets) = []
 
-abbrev pub is_termination : Part → Bool
-is_termination (Confirmation c) = false
-is_termination (Row cause x) = false
-is_termination (Termination c) = true
+abbrev pub is_termination : Outgoing → Bool
+is_termination (outgoing.Command c) = c.cause == 10
+is_termination (outgoing.Observation cause originator x) = false
 
 -- it is pending until its termination is put out
 abbrev pub is_pending : Option Interrogation → Bool
@@ -64,13 +64,12 @@ is_pending (Some q) = not (list_any is_termination q.said)
 -- ---- the answer that it gets
 
 -- a part as it is put out, by the station with this common address
-abbrev pub as_told : ℕ → Part → Part
-as_told common (Confirmation c) = Confirmation (answering common 7 false c)
-as_told common (Row cause x) = Row cause x
-as_told common (Termination c) = Termination (answering common 10 false c)
+abbrev pub as_told : ℕ → Outgoing → Outgoing
+as_told common (outgoing.Command c) = outgoing.Command (at_station common c)
+as_told common (outgoing.Observation cause originator x) = outgoing.Observation cause originator x
 
 -- the confirmation, what the picture showed of what is asked, and the termination
-abbrev pub answer_told : ℕ → Interrogation → List Part
+abbrev pub answer_told : ℕ → Interrogation → List Outgoing
 answer_told common q = map (as_told common) (answer_to q.command q.rows)
 
 -- ---- the interrogation of a session
@@ -100,7 +99,7 @@ interrogation setup (_ ∷ ts) = interrogation setup ts
 
 -- what was put out is the front of its answer, and all of it once it isn't pending
 pub record IsAnswered (setup : Setup) (q : Interrogation) : Type 0 where
-  pub rest : List Part
+  pub rest : List Outgoing
   pub in_order : q.said ++ rest ≡ answer_told setup.station.common_address q
   pub whole : is_pending (Some q) ≡ false → rest ≡ []
 

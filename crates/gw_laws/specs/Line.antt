@@ -7,12 +7,13 @@ use Rattle.gw_map.specs.Settings.{Setup}
 use Rattle.iec_apci.specs.declared.apdu.Asdu.{Asdu}
 use Rattle.iec_apci.specs.declared.apdu.Apdu.TheVariants.{I}
 use Rattle.gw_judge.specs.declared.judging.Judged.{Judged}
-use Rattle.gw_answers.specs.declared.answer.Answer.{Answer}
-use Rattle.gw_answers.specs.declared.answer.Answer.TheVariants.{Confirmed}
-use Rattle.gw_answers.specs.declared.answer.Part.{Part}
+use Rattle.gw_answers.specs.declared.outgoing.Answer.{Answer}
+use Rattle.gw_answers.specs.declared.outgoing.Answer.TheVariants.{Made}
+use Rattle.gw_answers.specs.declared.outgoing.Outgoing.{Outgoing}
+use Rattle.gw_answers.specs.Outgoing.{confirmed, news}
 use Rattle.gw_answers.specs.Interrogations.{answer_to}
 use Rattle.gw_answers.specs.Answers.{answered, command_by}
-use Rattle.gw_answers.specs.Meaning.{Meant, Tells, asdu_of, MeansAnswer, MeansPart}
+use Rattle.gw_answers.specs.Meaning.{Meant, Means}
 use Rattle.gw_station.specs.declared.sending.Sending.{Sending}
 use Rattle.gw_station.specs.declared.sending.Sending.TheVariants as sendings
 use Rattle.gw_station.specs.Frames.{judged_asdu}
@@ -28,7 +29,7 @@ use Rattle.gw_laws.specs.Interrogations.{Interrogation, is_pending, interrogatio
 abbrev pub answers_to : Setup → List Observation → Bool → Asdu → Judged → List Answer
 answers_to setup picture pending asdu j =
     option_to_list (answered setup picture pending asdu j)
-    ++ map (λ command. Confirmed command true) (option_to_list (command_by j))
+    ++ map (λ command. Made (confirmed true command)) (option_to_list (command_by j))
 
 -- the answers that wait, oldest first: what is put out in an I format is the one that waits longest, where one waits
 abbrev pub owed : Setup → List Turn → List Answer
@@ -45,7 +46,7 @@ abbrev pub since_of : Option Interrogation → ℕ
 since_of None = 0
 since_of (Some q) = q.since
 
-abbrev pub left_of : Option Interrogation → List Part
+abbrev pub left_of : Option Interrogation → List Outgoing
 left_of None = []
 left_of (Some q) = drop (length q.said) (answer_to q.command q.rows)
 
@@ -60,11 +61,11 @@ line setup hs = line_with (owed setup hs) (interrogation setup hs) (fates setup.
 
 -- ---- the law
 
--- an ASDU means this: news have cause 3 (spontaneous)
+-- an ASDU means what waited
 abbrev pub MeansSending : ℤ → ℕ → Sending → Meant → Type 0
-MeansSending offset common (sendings.Answer answer) meant = MeansAnswer offset common answer meant
-MeansSending offset common (sendings.News x) meant = meant ≡ Tells (asdu_of offset common 3 0 x)
-MeansSending offset common (sendings.Part part) meant = MeansPart offset common part meant
+MeansSending offset common (sendings.Answer answer) meant = Means offset common answer meant
+MeansSending offset common (sendings.News x) meant = Means offset common (Made (news x)) meant
+MeansSending offset common (sendings.Part part) meant = Means offset common (Made part) meant
 MeansSending offset common _ meant = ⊥
 
 -- it is the first in line

@@ -13,9 +13,9 @@ use Rattle.iec_command.specs.declared.command.Action.{Action}
 use Rattle.iec_command.specs.declared.command.Action.TheVariants as actions
 use Rattle.gw_judge.specs.declared.judging.Judged.{Judged}
 use Rattle.gw_judge.specs.declared.judging.Judged.TheVariants.{Accepted}
-use Rattle.gw_answers.specs.declared.answer.Answer.TheVariants.{Shown}
-use Rattle.gw_answers.specs.declared.answer.Part.{Part}
-use Rattle.gw_answers.specs.declared.answer.Part.TheVariants.{Confirmation, Row as RowPart}
+use Rattle.gw_answers.specs.declared.outgoing.Answer.TheVariants.{Made}
+use Rattle.gw_answers.specs.declared.outgoing.Outgoing.{Outgoing}
+use Rattle.gw_answers.specs.declared.outgoing.Outgoing.TheVariants as outgoing
 use Rattle.gw_answers.specs.Interrogations.{is_total, is_accepted_act}
 use Rattle.gw_answers.specs.Meaning.{Meant, Tells, Commands, Unread}
 use Rattle.gw_station.specs.declared.sending.Sending.{Sending}
@@ -58,9 +58,9 @@ observations_in (Commands c) = []
 observations_in (Unread octets) = []
 
 abbrev pub observations_of : Sending → List Observation
-observations_of (sendings.Answer (Shown x originator)) = x ∷ []
+observations_of (sendings.Answer (Made (outgoing.Observation cause originator x))) = x ∷ []
 observations_of (sendings.News x) = x ∷ []
-observations_of (sendings.Part (RowPart cause x)) = x ∷ []
+observations_of (sendings.Part (outgoing.Observation cause originator x)) = x ∷ []
 observations_of _ = []
 
 -- the observations that wait, in the order in which they go
@@ -71,8 +71,8 @@ waiting_in (s ∷ line) = observations_of s ++ waiting_in line
 -- ---- what is told
 
 -- the first confirmation of an interrogation that is put out is its own, since no other is accepted before
-abbrev pub is_confirmed_by : List Part → Bool
-is_confirmed_by (Confirmation c ∷ parts) = true
+abbrev pub is_confirmed_by : List Outgoing → Bool
+is_confirmed_by (outgoing.Command c ∷ parts) = c.cause == 7
 is_confirmed_by _ = false
 
 abbrev pub told_with : Meant → Option (List Observation) → Option (List Observation)

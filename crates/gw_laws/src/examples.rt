@@ -1,7 +1,7 @@
 //! A worked run, told by the definitions.
 ghost use Rattle.std.specs.Prelude.{◌≡◌, [], ◌∷◌, map, true, false, Some, None};
-ghost use Rattle.gw_answers.specs.declared.answer.Part.TheVariants.{Confirmation, Row, Termination};
-ghost use Rattle.gw_answers.specs.Octets.{answering};
+ghost use Rattle.gw_answers.specs.declared.outgoing.Outgoing.TheVariants.{Observation as Told};
+ghost use Rattle.gw_answers.specs.Outgoing.{at_station, command_with};
 ghost use Rattle.gw_station.specs.declared.sending.Sending.TheVariants.{News, Part};
 ghost use Rattle.gw_station.specs.Example.{switched_on};
 ghost use Rattle.gw_steps.specs.Example.{setup};
@@ -18,11 +18,11 @@ ghost use Rattle.gw_laws.specs.Example.{analog_at_first, analog_read, command, k
 pub fn promises_by_example()
     // In line are the older news, the answer as the picture was at the act, and the later news.
     ensures line { line setup (session_after 0) ≡ News switched_on
-        ∷ Part (Confirmation command) ∷ Part (Row 20 switched_on) ∷ Part (Row 20 analog_at_first)
-        ∷ Part (Termination command) ∷ News analog_read ∷ [] }
+        ∷ Part (command_with 7 false command) ∷ Part (Told 20 0 switched_on) ∷ Part (Told 20 0 analog_at_first)
+        ∷ Part (command_with 10 false command) ∷ News analog_read ∷ [] }
     // What was put out of the answer, and how long it is pending.
-    ensures said { said_of (interrogation setup (session_after 3)) ≡ Confirmation (answering 1 7 false command)
-        ∷ Row 20 switched_on ∷ [] }
+    ensures said { said_of (interrogation setup (session_after 3)) ≡ command_with 7 false (at_station 1 command)
+        ∷ Told 20 0 switched_on ∷ [] }
     ensures pending { map (λ n. is_pending (interrogation setup (session_after n))) (0 ∷ 4 ∷ 5 ∷ [])
         ≡ true ∷ true ∷ false ∷ [] }
     // How many I formats were put out and taken, and the last N(R).

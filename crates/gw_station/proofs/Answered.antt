@@ -23,21 +23,21 @@ one_more : (offset : ℤ) (answer : Option Answer) (waiting : List Answer) → I
 one_more offset None waiting can all = all
 one_more offset (Some answer) waiting can all = all-append (CanSendAnswer offset) waiting (answer ∷ []) all (can, tt)
 
-rest_can : (offset : ℤ) (common : ℕ) (picture : List Observation) (j : Judged) (asking : Bool) (c : Client) → common < 65536
-    → IsWholeJudged j → AllByRecursion (IsSendable offset) picture → AllByRecursion (CanSendOutgoing offset) c.rest
-    → AllByRecursion (CanSendOutgoing offset) (rest_with common picture j asking c)
-rest_can offset common picture (Accepted command) true c small whole shown all = answer_to_can offset common command picture small whole shown
-rest_can offset common picture (Accepted command) false c small whole shown all = all
-rest_can offset common picture Malformed asking c small whole shown all = all
-rest_can offset common picture (Refuse cause execute) asking c small whole shown all = all
+rest_can : (offset : ℤ) (picture : List Observation) (j : Judged) (asking : Bool) (c : Client) → IsWholeJudged j
+    → AllByRecursion (IsSendable offset) picture → AllByRecursion (CanSendOutgoing offset) c.rest
+    → AllByRecursion (CanSendOutgoing offset) (rest_with picture j asking c)
+rest_can offset picture (Accepted command) true c whole shown all = answer_to_can offset command picture whole shown
+rest_can offset picture (Accepted command) false c whole shown all = all
+rest_can offset picture Malformed asking c whole shown all = all
+rest_can offset picture (Refuse cause execute) asking c whole shown all = all
 
 -- an ASDU that was judged so
 pub judging_can : (offset : ℤ) (setup : Setup) (picture : List Observation) (asdu : Asdu) (j : Judged) (c : Client)
-    → setup.station.common_address < 65536 → judged_asdu setup asdu ≡ j → IsWholeJudged j → AllByRecursion (IsSendable offset) picture
+    → judged_asdu setup asdu ≡ j → IsWholeJudged j → AllByRecursion (IsSendable offset) picture
     → CanAnswer offset c → CanAnswer offset (client_judging setup picture asdu j c)
-judging_can offset setup picture asdu j c small e whole shown can =
+judging_can offset setup picture asdu j c e whole shown can =
     let pending : Bool = is_pending c.rest in
-    let answer = answered_can offset setup picture pending asdu j small e whole shown in (
+    let answer = answered_can offset setup picture pending asdu j e whole shown in (
       one_more offset (answered setup picture pending asdu j) c.answers answer can.0,
-      rest_can offset setup.station.common_address picture j (is_asking j c) c small whole shown can.1,
+      rest_can offset picture j (is_asking j c) c whole shown can.1,
     )

@@ -60,8 +60,8 @@ at_least_one true = omega arith
 at_least_one false = omega arith
 
 -- an interrogation that isn't accepted, and so gets an answer
-refused_needs : (common : ℕ) (pending : Bool) (c : Command) → IfSome (refused_act common pending c) (λ _. 1 ≤ places_for pending (Accepted c))
-refused_needs common pending c = elim (cases_Bool (is_accepted_act pending c)) [
+refused_needs : (pending : Bool) (c : Command) → IfSome (refused_act pending c) (λ _. 1 ≤ places_for pending (Accepted c))
+refused_needs pending c = elim (cases_Bool (is_accepted_act pending c)) [
   | inl accepted ↦ rw accepted tt
   | inr refused ↦ rw refused (at_least_one (is_execute c))
 ]
@@ -80,8 +80,8 @@ read_needs pending c (Some x) e = rw (read_is_none pending c e) (at_least_one (i
 
 action_needs : (setup : Setup) (picture : List Observation) (pending : Bool) (c : Command) (action : Action) → c.action ≡ action
     → IfSome (answered_action setup picture pending c action) (λ _. 1 ≤ places_for pending (Accepted c))
-action_needs setup picture pending c (actions.Interrogation qualifier) e = refused_needs setup.station.common_address pending c
-action_needs setup picture pending c (actions.CounterInterrogation qualifier) e = refused_needs setup.station.common_address pending c
+action_needs setup picture pending c (actions.Interrogation qualifier) e = refused_needs pending c
+action_needs setup picture pending c (actions.CounterInterrogation qualifier) e = refused_needs pending c
 action_needs setup picture pending c actions.Read e = read_needs pending c (shown_at setup picture c.address) e
 action_needs setup picture pending c (actions.Single x) e = tt
 action_needs setup picture pending c (actions.Double x) e = tt

@@ -16,7 +16,7 @@ use Rattle.gw_answers.specs.declared.outgoing.Answer.{Answer}
 use Rattle.gw_answers.specs.declared.outgoing.Answer.TheVariants.{Returned, Made}
 use Rattle.gw_answers.specs.declared.outgoing.Outgoing.{Outgoing}
 use Rattle.gw_answers.specs.declared.outgoing.Outgoing.TheVariants as outgoing
-use Rattle.gw_answers.specs.Outgoing.{news}
+use Rattle.gw_answers.specs.Outgoing.{at_station, news}
 use Rattle.gw_answers.specs.Octets.{octets_in, answer_octets, outgoing_octets}
 use Rattle.gw_station.specs.declared.sending.Sending.{Sending}
 use Rattle.gw_station.specs.declared.sending.Sending.TheVariants as sendings
@@ -43,7 +43,7 @@ command_short c (actions.CounterInterrogation qualifier) = omega arith
 command_short c actions.Read = omega arith
 
 outgoing_short : (offset : ℤ) (common : ℕ) (x : Outgoing) → length (outgoing_octets offset common x) ≤ 249
-outgoing_short offset common (outgoing.Command c) = omega (arith, command_short c c.action)
+outgoing_short offset common (outgoing.Command c) = omega (arith, command_short (at_station common c) c.action)
 outgoing_short offset common (outgoing.Observation cause originator x) =
     omega (arith, length-set (spelling offset common cause x) 3 originator, spelling_short offset common cause x)
 

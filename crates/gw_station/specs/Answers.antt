@@ -36,16 +36,16 @@ abbrev pub older_with : Judged → Bool → Client → ℕ
 older_with j true c = length c.queue
 older_with j false c = c.older
 
-abbrev pub rest_with : ℕ → List Observation → Judged → Bool → Client → List Outgoing
-rest_with common picture (Accepted command) true c = answer_to common command picture
-rest_with common picture _ _ c = c.rest
+abbrev pub rest_with : List Observation → Judged → Bool → Client → List Outgoing
+rest_with picture (Accepted command) true c = answer_to command picture
+rest_with picture _ _ c = c.rest
 
 -- an ASDU that was judged, while the picture shows this
 abbrev pub client_judging : Setup → List Observation → Asdu → Judged → Client → Client
 client_judging setup picture asdu j c = record c {
   answers = answers_with (answered setup picture (is_pending c.rest) asdu j) c.answers;
   older = older_with j (is_asking j c) c;
-  rest = rest_with setup.station.common_address picture j (is_asking j c) c;
+  rest = rest_with picture j (is_asking j c) c;
 }
 
 -- what is said of a command for a control confirms its activation or deactivation, or does so negatively

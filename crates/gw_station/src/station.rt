@@ -424,8 +424,7 @@ impl Station {
         if let Some(why) = self.close_by_information(ns, nr, &judged) {
             return Ok(self.close(why));
         }
-        let common = settings.station().common_address;
-        self.take_asdu(asdu, &judged, common, settings, picture)?;
+        self.take_asdu(asdu, &judged, settings, picture)?;
         // Both numbers were judged before.
         let _ = self.window.received(ns, nr, moment);
         Ok(match command_by(&judged) {
@@ -434,18 +433,16 @@ impl Station {
         })
     }
 
-    /// Takes an ASDU for whose answer there are places, by the station with this common address: an interrogation that is accepted copies the picture, all else is
+    /// Takes an ASDU for whose answer there are places: an interrogation that is accepted copies the picture, all else is
     /// answered at once, or waits for what is said of it.
     fn take_asdu(
         &mut self,
         asdu: &Asdu,
         judged: &Judged,
-        common: u16,
         settings: &Settings,
         picture: &[Observation],
     ) -> Result<(), Memory>
-        requires own { common ≡ settings.now.station.common_address }
-        requires places { overfills judged.now self.old ≡ false }
+        requires { overfills judged.now self.old ≡ false }
         ensures client { OnOk result
             (self.new ≡ client_judging settings.now picture.now asdu.now judged.now self.old) }
         ensures memory { OnErr result (is_asking judged.now self.old ≡ true) }
@@ -454,7 +451,7 @@ impl Station {
         let pending = self.is_pending();
         if let Judged::Accepted(command) = judged {
             if is_accepted_act(command, pending) {
-                self.rest = Rest::of(answer_to(self.alloc, common, command, picture)?)?;
+                self.rest = Rest::of(answer_to(self.alloc, command, picture)?)?;
                 self.older = self.queued();
                 return Ok(());
             }

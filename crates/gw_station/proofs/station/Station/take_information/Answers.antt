@@ -1,4 +1,4 @@
-use Rattle.std.proofs.Common.{◌<◌, sym, ap, subst, ◌∙◌, arith}
+use Rattle.std.proofs.Common.{sym, ap, subst, ◌∙◌}
 use Rattle.gw_judge.specs.Judging.{judged}
 use Rattle.gw_station.specs.Client.{Client}
 use Rattle.gw_station.specs.Sound.{CanAnswer}
@@ -9,8 +9,7 @@ pub returns-clause-sendable : goal.returns-clause-sendable
 returns-clause-sendable c = λ offset shown can.
     let setup = c.args.settings.now in
     let j = c.judge-judged.result in
-    let few : setup.station.common_address < 65536 = omega (arith, c.station.ensures.within.common_address.1) in
     let so = sym (c.judge-judged.ensures.judged ∙ ap (judged setup) c.as_slice.ensures) in
     let after = c.self.view_is ∙ c.in_ok-take_asdu.ensures.client in
     subst (λ (d : Client). CanAnswer offset d) (sym after)
-    (judging_can offset setup c.args.picture.now c.args.asdu.now j c.args.self.now few so c.judge-judged.ensures.whole shown can)
+    (judging_can offset setup c.args.picture.now c.args.asdu.now j c.args.self.now so c.judge-judged.ensures.whole shown can)
