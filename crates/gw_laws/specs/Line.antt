@@ -16,6 +16,7 @@ use Rattle.gw_answers.specs.Answers.{answered, command_by}
 use Rattle.gw_answers.specs.Meaning.{Meant, Means}
 use Rattle.gw_station.specs.declared.sending.Sending.{Sending}
 use Rattle.gw_station.specs.declared.sending.Sending.TheVariants as sendings
+use Rattle.gw_station.specs.Answers.{is_negative, outcome_of}
 use Rattle.gw_station.specs.Frames.{judged_asdu}
 use Rattle.gw_steps.specs.Runs.{Entry}
 use Rattle.gw_steps.specs.Said.{Said, Numbered, Receipt, Function}
@@ -25,11 +26,11 @@ use Rattle.gw_laws.specs.Interrogations.{Interrogation, is_pending, interrogatio
 
 -- ---- the answers to ASDUs
 
--- what an ASDU gets at once, or once a command for a control in it is answered, which is negatively
+-- what an ASDU gets at once, or by the outcome of the command for a control that it is
 abbrev pub answers_to : Setup → List Observation → Bool → Asdu → Judged → List Answer
 answers_to setup picture pending asdu j =
     option_to_list (answered setup picture pending asdu j)
-    ++ map (λ command. Made (confirmed true command)) (option_to_list (command_by j))
+    ++ map (λ command. Made (confirmed (is_negative (outcome_of command)) command)) (option_to_list (command_by j))
 
 -- the answers that wait, oldest first: what is put out in an I format is the one that waits longest, where one waits
 abbrev pub owed : Setup → List Turn → List Answer

@@ -48,6 +48,10 @@ client_judging setup picture asdu j c = record c {
   rest = rest_with picture j (is_asking j c) c;
 }
 
+-- what becomes of a command for a control: none can be operated yet
+abbrev pub outcome_of : Command → Said
+outcome_of command = Negative
+
 -- what is said of a command for a control confirms its activation or deactivation, or does so negatively
 abbrev pub is_negative : Said → Bool
 is_negative Confirm = false
