@@ -235,17 +235,17 @@ pump setup past c m r s sound e =
 
 -- ---- Tick
 
--- the bit of a client tells whether its time ran out
+-- the bit of a client tells whether its t1 has passed
 bit_zero : (c : ℕ) → has_bit c 0 ≡ false
 bit_zero zero = refl
 bit_zero (suc c) = bit_zero c
 
-abbrev late_at : ℕ → Option Client → Bool
-late_at moment None = false
-late_at moment (Some k) = is_timed_out moment k
+abbrev t1_passed_at : ℕ → Option Client → Bool
+t1_passed_at moment None = false
+t1_passed_at moment (Some k) = is_timed_out moment k
 
 bit_told : (moment : ℕ) (ks : List Client) (c : ℕ)
-    → has_bit c (bits_of (map (is_timed_out moment) ks)) ≡ late_at moment (slice_get ks c)
+    → has_bit c (bits_of (map (is_timed_out moment) ks)) ≡ t1_passed_at moment (slice_get ks c)
 bit_told moment [] c = bit_zero c
 bit_told moment (k ∷ ks) zero = lowest (is_timed_out moment k)
   where
@@ -276,10 +276,10 @@ tick setup past m r s sound e d =
         → SlotGoes setup (turn_of setup d past (entry (steps.Tick m) (Ok (replies.Ticked bits)))) x (option_map (client_after_tick (latest s m)) x)
     by None at = refl
     by (Some k) at =
-        let bit : has_bit d bits ≡ is_timed_out (latest s m) k = bit_told (latest s m) s.clients d ∙ ap (late_at (latest s m)) at in
+        let bit : has_bit d bits ≡ is_timed_out (latest s m) k = bit_told (latest s m) s.clients d ∙ ap (t1_passed_at (latest s m)) at in
         let mine = sound_at setup.station s.counts.steps s.counts.news s.clients d k at sound.clients in
         elim (cases_Bool (is_timed_out (latest s m) k)) [
-          | inl late ↦ rw (bit ∙ late, late) (client_after_close k, refl, refl)
+          | inl passed ↦ rw (bit ∙ passed, passed) (client_after_close k, refl, refl)
           | inr on ↦ rw (bit ∙ on, on) (k, refl, sym (came-nil k mine.few))
         ]
 
