@@ -1,4 +1,4 @@
--- What is known at each place of every run: the state is sound, it is tied to the history, and each client lives its life.
+-- What is known at each place of every run: the state is sound and tied to the history, and each client lives its life.
 use Rattle.std.proofs.Common.{ℕ, zero, suc, ◌+◌, ◌-◌, ◌≤◌, List, [], ◌∷◌, Option, Some, None, refl, sym, subst, arith}
 use Rattle.std.specs.Prelude.{slice_get, replicate}
 use Rattle.gw_map.specs.Settings.{Setup}
@@ -27,7 +27,8 @@ pub record Known (setup : Setup) (past : List Entry) : Type 0 where
 -- the last entry was allowed by what was known before
 abbrev pub LastKnown : Setup → List Entry → Type 0
 LastKnown setup [] = Unit {0}
-LastKnown setup (e ∷ past) = Allowed setup (state_after setup past) e.step e.reply (state_after setup (e ∷ past)) × Known setup past
+LastKnown setup (e ∷ past) = Allowed setup (state_after setup past) e.step e.reply (state_after setup (e ∷ past))
+    × Known setup past
 
 pub record Place (setup : Setup) (past : List Entry) : Type 0 where
   pub settings : IsSoundSetup setup
@@ -63,7 +64,8 @@ goes_on setup (Some t) ts k new goes lives = (k, lives, goes)
 slot_lives : (setup : Setup) (c : ℕ) (turn : Option Turn) (ts : List Turn) (x new : Option Client)
     → SlotGoes setup turn x new → SlotLives setup c ts x → SlotLives setup c (lived turn ts) new
 slot_lives setup c turn ts None new goes lives = subst (SlotLives setup c (lived turn ts)) (sym goes) lives
-slot_lives setup c turn ts (Some k) new goes lives = subst (SlotLives setup c (lived turn ts)) (sym goes.1) (goes_on setup turn ts k goes.0 goes.2 lives)
+slot_lives setup c turn ts (Some k) new goes lives = subst (SlotLives setup c (lived turn ts)) (sym goes.1)
+    (goes_on setup turn ts k goes.0 goes.2 lives)
 
 -- ---- each place
 
@@ -75,7 +77,11 @@ run_places : (setup : Setup) (past : List Entry) → IsSoundSetup setup → IsRu
     → AtEach (LeavesSound setup) past → AtEach (Place setup) past
 run_places setup [] fit run sound = record {
   settings = fit;
-  known = record { sound = sound; tied = first_tied setup; lives = λ c. down_lives setup client_limit c c (omega arith) (omega arith) };
+  known = record {
+    sound = sound;
+    tied = first_tied setup;
+    lives = λ c. down_lives setup client_limit c c (omega arith) (omega arith);
+  };
   last = tt;
 }
 run_places setup (e ∷ past) fit run sound =
@@ -87,7 +93,8 @@ run_places setup (e ∷ past) fit run sound =
         known = record {
           sound = sound.0;
           tied = tied_more setup past e.step e.reply fit.addresses run.0 known.tied;
-          lives = λ c. slot_lives setup c (turn_of setup c past e) (life setup c past) (client_at setup c past) (client_at setup c (e ∷ past)) (go c) (known.lives c);
+          lives = λ c. slot_lives setup c (turn_of setup c past e) (life setup c past) (client_at setup c past)
+              (client_at setup c (e ∷ past)) (go c) (known.lives c);
         };
         last = (run.0, known);
       },

@@ -54,7 +54,8 @@ not_spontaneous cause octet e from = ne_eqb octet 3 (λ (is : octet ≡ 3). omeg
 
 pub answer_no_news : (offset : ℤ) (common : ℕ) (answer : Answer) (meant : Meant) → CanSendAnswer offset answer
     → MeansAnswer offset common answer meant → spontaneous_of common meant ≡ []
-answer_no_news offset common (Unknown asdu cause) (Tells told) can means = rw (not_spontaneous cause told.cause means.0 can.1) refl
+answer_no_news offset common (Unknown asdu cause) (Tells told) can means =
+    rw (not_spontaneous cause told.cause means.0 can.1) refl
 answer_no_news offset common (Unknown asdu cause) (Commands c) can means = refl
 answer_no_news offset common (Unknown asdu cause) (Unread octets) can means = refl
 answer_no_news offset common (Confirmed c negative) meant can means = ap (spontaneous_of common) means
@@ -63,8 +64,10 @@ answer_no_news offset common (Shown x originator) meant can means = ap (spontane
 pub part_no_news : (offset : ℤ) (common : ℕ) (part : Part) (meant : Meant) → IsRequested part
     → MeansPart offset common part meant → spontaneous_of common meant ≡ []
 part_no_news offset common (Confirmation c) meant is means = ap (spontaneous_of common) means
-part_no_news offset common (Row cause x) meant (inl is) means = ap (spontaneous_of common) means ∙ ap (λ (n : ℕ). spontaneous_of common (Tells (asdu_of offset common n 0 x))) is
-part_no_news offset common (Row cause x) meant (inr is) means = ap (spontaneous_of common) means ∙ ap (λ (n : ℕ). spontaneous_of common (Tells (asdu_of offset common n 0 x))) is
+part_no_news offset common (Row cause x) meant (inl is) means =
+    ap (spontaneous_of common) means ∙ ap (λ (n : ℕ). spontaneous_of common (Tells (asdu_of offset common n 0 x))) is
+part_no_news offset common (Row cause x) meant (inr is) means =
+    ap (spontaneous_of common) means ∙ ap (λ (n : ℕ). spontaneous_of common (Tells (asdu_of offset common n 0 x))) is
 part_no_news offset common (Termination c) meant is means = ap (spontaneous_of common) means
 
 -- ---- what isn't of it
@@ -77,16 +80,22 @@ and_false true = refl
 and_false false = refl
 
 negative_apart : (c : Command) → c.negative ≡ true → parts_of_command c ≡ []
-negative_apart c e = no_parts c (ap (λ (b : Bool). is_interrogation c.action && not b) e ∙ and_false (is_interrogation c.action))
+negative_apart c e = no_parts c (ap (λ (b : Bool). is_interrogation c.action && not b) e
+    ∙ and_false (is_interrogation c.action))
 
 -- an octet of a cause from 44 on is neither 20 nor 37
 neither : (cause octet : ℕ) → octet % 64 ≡ cause → 44 ≤ cause → eqb octet 20 || eqb octet 37 ≡ false
 neither cause octet e from =
-    rw (ne_eqb octet 20 (λ (is : octet ≡ 20). omega (arith, e, from, is)), ne_eqb octet 37 (λ (is : octet ≡ 37). omega (arith, e, from, is))) refl
+    rw (
+      ne_eqb octet 20 (λ (is : octet ≡ 20). omega (arith, e, from, is)),
+      ne_eqb octet
+          37 (λ (is : octet ≡ 37). omega (arith, e, from, is)),
+    ) refl
 
 pub answer_apart : (offset : ℤ) (common : ℕ) (answer : Answer) (meant : Meant) → CanSendAnswer offset answer
     → IsApart answer → MeansAnswer offset common answer meant → parts_in meant ≡ []
-answer_apart offset common (Unknown asdu cause) (Tells told) can is means = rw (neither cause told.cause means.0 can.1) refl
+answer_apart offset common (Unknown asdu cause) (Tells told) can is means =
+    rw (neither cause told.cause means.0 can.1) refl
 answer_apart offset common (Unknown asdu cause) (Commands c) can is means = negative_apart c means.1
 answer_apart offset common (Unknown asdu cause) (Unread octets) can is means = refl
 answer_apart offset common (Confirmed c negative) meant can is means =
@@ -101,7 +110,8 @@ news_apart offset common x meant means = ap parts_in means
 pub told_nothing : (meant : Meant) (q : Option Interrogation) → parts_in meant ≡ []
     → option_map (interrogation_telling meant) q ≡ q
 told_nothing meant None none = refl
-told_nothing meant (Some q) none = ap (λ (parts : List Part). Some (record q { said = parts })) (ap (λ (parts : List Part). q.said ++ parts) none ∙ append-nil q.said)
+told_nothing meant (Some q) none = ap (λ (parts : List Part). Some (record q { said = parts }))
+    (ap (λ (parts : List Part). q.said ++ parts) none ∙ append-nil q.said)
 
 -- ---- what is of it
 
@@ -202,10 +212,13 @@ pub pending_is : (common : ℕ) (q : Interrogation) (rest : List Part)
     → q.said ++ map (as_told common) rest ≡ answer_told common q → is_pending (Some q) ≡ is_asked rest
 pending_is common q rest e =
     let c : Command = q.command in
-    let front : List Part = Confirmation (answering common 7 false c) ∷ map (as_told common) (rows_of c.action q.rows) in
+    let front : List Part = Confirmation (answering common 7 false c) ∷ map (as_told common)
+    (rows_of c.action q.rows) in
     let whole : answer_told common q ≡ front ++ Termination (answering common 10 false c) ∷ [] =
-    ap (λ (parts : List Part). Confirmation (answering common 7 false c) ∷ parts) (map-end (as_told common) (rows_of c.action q.rows) (Termination c)) in
-    last_said front q.said (map (as_told common) rest) (Termination (answering common 10 false c)) (rows_go_on common c.action q.rows) refl (e ∙ whole)
+    ap (λ (parts : List Part). Confirmation (answering common 7 false c) ∷ parts)
+    (map-end (as_told common) (rows_of c.action q.rows) (Termination c)) in
+    last_said front q.said (map (as_told common) rest) (Termination (answering common 10 false c))
+    (rows_go_on common c.action q.rows) refl (e ∙ whole)
     ∙ told_asked common rest
 
 -- one part more was said
@@ -232,7 +245,8 @@ nothing_asked (part ∷ rest) e = absurd cc
 
 abbrev front : List Answer → ℕ → List Observation → List Part → List Sending
 front answers older queue rest =
-    map sendings.Answer answers ++ (map sendings.News (take older queue) ++ (map sendings.Part rest ++ map sendings.News (drop older queue)))
+    map sendings.Answer answers ++ (map sendings.News (take older queue)
+    ++ (map sendings.Part rest ++ map sendings.News (drop older queue)))
 
 -- news and parts come where no answer waits
 pub no_answer : (k : Client) (x : Observation) → slice_get (line k) 0 ≡ Some (sendings.News x) → k.answers ≡ []

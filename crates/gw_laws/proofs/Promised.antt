@@ -20,7 +20,8 @@ use Rattle.gw_laws.proofs.Apdus.{reads_apdus}
 promised : (setup : Setup) (past : List Entry) → Place setup past → AreMeant past → Promises setup past
 promised setup past place meant = record {
   news = tells_news setup past place;
-  interrogations = of_each setup (AnswersInterrogation setup) (answers_interrogation setup place.settings.queue place.settings.station) past place;
+  interrogations = of_each setup (AnswersInterrogation setup)
+      (answers_interrogation setup place.settings.queue place.settings.station) past place;
   line = of_each setup (KeepsLine setup) (keeps_line setup place.settings.queue place.settings.station) past place;
   mirror = mirrors setup past place;
   numbers = of_each setup (HasRightNumbers setup.station.k) (right_numbers setup place.settings.window) past place;
