@@ -37,6 +37,5 @@ each_promised : (setup : Setup) (past : List Entry) → AtEach (Place setup) pas
 each_promised setup [] at meant = promised setup [] at meant
 each_promised setup (e ∷ past) at meant = (promised setup (e ∷ past) at.0 meant, each_promised setup past at.1 meant.1)
 
-pub keeps_promises : (setup : Setup) (past : List Entry) → IsSoundRun setup past → AreMeant past
-    → AtEach (Promises setup) past
-keeps_promises setup past run meant = each_promised setup past (places setup past run) meant
+pub keeps_promises : (setup : Setup) (past : List Entry) → IsSoundRun setup past → AtEach (Promises setup) past
+keeps_promises setup past run = each_promised setup past (places setup past run) run.meant
