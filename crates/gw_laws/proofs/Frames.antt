@@ -171,4 +171,4 @@ by_reply setup past step (Err f) new fit allowed known = unjudged setup past ste
 pub judges_frames : (setup : Setup) (past : List Entry) → Place setup past → Frames setup past
 judges_frames setup [] place = tt
 judges_frames setup (e ∷ past) place = by_reply setup past e.step e.reply
-    (state_after setup (e ∷ past)) place.settings place.last.0 place.last.1
+    (state_after setup (e ∷ past)) place.given.settings place.last.0 place.last.1

@@ -459,5 +459,5 @@ mirrors setup past place c within = by (client_at setup c past) (place.known.liv
     by None lives = absurd (omega (arith, lives, within))
     by (Some k) lives =
         tells_mirror setup (log_of setup past) (session (life setup c past))
-        (session_mirrored setup place.settings (log_of setup past) (life setup c past) k lives
+        (session_mirrored setup place.given.settings (log_of setup past) (life setup c past) k lives
         (logged setup c past))

@@ -455,10 +455,10 @@ tells_news setup past place = record {
 }
   where
     some : 0 < setup.station.queue
-    some = place.settings.queue
+    some = place.given.settings.queue
 
     small : setup.station.common_address < 65536
-    small = place.settings.station
+    small = place.given.settings.station
 
     begun : (c : ℕ) (x : Option Client) → SlotLives setup c (life setup c past) x
         → IfSome x (λ k. is_started k.stage ≡ is_some (session (life setup c past)))
