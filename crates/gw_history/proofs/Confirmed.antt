@@ -54,7 +54,8 @@ due_confirms setup past f m = go (is_unsolicited f) (is_text (last_text f.outsta
     go true true e et = rw (e, et) refl
     go true false e et = rw (e, et) refl
     go false text e et =
-        rw (e, or_false (is_answer (asked_of setup f.outstation past) f)) (answer_confirms (asked_of setup f.outstation past) f)
+        rw (e, or_false (is_answer (asked_of setup f.outstation past) f))
+        (answer_confirms (asked_of setup f.outstation past) f)
 
 confirms : (setup : Setup) (past : List Entry) (step : Step) (r : Reply) (s : State) → outcome setup s step ≡ Ok r
     → Tied setup past s → Confirms setup past step r
@@ -83,9 +84,13 @@ confirms setup past step r s e tied =
     by (steps.Tick m) e = record { verdict = refl; confirmation = refl }
     by (steps.Fragment f m) e =
         let up = who_is_up (λ (x : Master). x.up) NoOutstation (slice_get s.outstations f.outstation) e in
-        let is : MasterIs setup f.outstation past up.0 = subst (MasterTied setup f.outstation past) up.1 (tied.outstations f.outstation) in
+        let is : MasterIs setup f.outstation past up.0 =
+        subst (MasterTied setup f.outstation past) up.1 (tied.outstations f.outstation) in
         let said : verdict_of up.0 f ≡ verdict_due setup past f = verdict_is setup past f up.0 is in
-        rw up.1 (record { verdict = ap (λ v. Some v) said; confirmation = ap (λ v. confirmation_in (Some v)) said ∙ due_confirms setup past f m })
+        rw up.1 (record {
+          verdict = ap (λ v. Some v) said;
+          confirmation = ap (λ v. confirmation_in (Some v)) said ∙ due_confirms setup past f m;
+        })
     by (steps.Poll o m wall) e =
         let up = who_is_up (λ (x : Master). x.up) NoOutstation (slice_get s.outstations o) e in
         let none = of_asking (request_given (latest s m) wall up.0) in
@@ -109,4 +114,5 @@ by_reply setup past step (Err f) new allowed tied = tt
 
 pub confirmed : (setup : Setup) (past : List Entry) → Place setup past → Confirmations setup past
 confirmed setup [] place = tt
-confirmed setup (e ∷ past) place = by_reply setup past e.step e.reply (state_after setup (e ∷ past)) place.last.0 place.last.1.tied
+confirmed setup (e ∷ past) place = by_reply setup past e.step e.reply
+    (state_after setup (e ∷ past)) place.last.0 place.last.1.tied

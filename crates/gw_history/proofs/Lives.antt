@@ -24,7 +24,8 @@ pub record Gave (setup : Setup) (said : Said) (k new : Client) : Type 0 where
   pub sending : Sending
   pub first : offered moment k ≡ Some sending
   pub can : CanSend setup.station.offset_minutes sending
-  pub says : said ≡ said_by setup.station.offset_minutes (content_of setup.station.offset_minutes setup.station.common_address k.window sending)
+  pub says : said ≡ said_by setup.station.offset_minutes
+      (content_of setup.station.offset_minutes setup.station.common_address k.window sending)
   pub becomes : new ≡ client_with_sent moment sending k
 
 abbrev pub Becomes : Setup → Turn → Client → Client → Type 0
@@ -68,7 +69,8 @@ Lives setup (t ∷ ts) new = (k : Client) × Lives setup ts k × Becomes setup t
 
 -- what holds of each life, by one turn more
 pub lives_all : (setup : Setup) (P : List Turn → Client → Type 0) → ((k : Client) → IsFresh setup k → P [] k)
-    → ((t : Turn) (ts : List Turn) (k new : Client) → Lives setup ts k → Becomes setup t k new → P ts k → P (t ∷ ts) new)
+    → ((t : Turn) (ts : List Turn) (k new : Client) → Lives setup ts k → Becomes setup t k new → P ts k
+    → P (t ∷ ts) new)
     → (ts : List Turn) (k : Client) → Lives setup ts k → P ts k
 lives_all setup P first more [] k lives = first k lives
 lives_all setup P first more (t ∷ ts) new lives =

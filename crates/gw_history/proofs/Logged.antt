@@ -20,7 +20,8 @@ use Rattle.gw_history.specs.Life.{Turn, Idle, bringing, Takes, PutsOut, Ends, pu
 -- a log that grew by a life's news, with its pictures on the way
 abbrev pub IsLogged : Setup → List Observation → List Turn → Type 0
 IsLogged setup log [] = Unit {0}
-IsLogged setup log (Idle brought ∷ ts) = (before : List Observation) × (log ≡ before ++ brought.news) × IsLogged setup before ts
+IsLogged setup log (Idle brought ∷ ts) = (before : List Observation) × (log ≡ before ++ brought.news)
+    × IsLogged setup before ts
 IsLogged setup log (Takes a taking ∷ ts) = (taking.picture ≡ picture_of setup.rows log) × IsLogged setup log ts
 IsLogged setup log (PutsOut said ∷ ts) = IsLogged setup log ts
 IsLogged setup log (Ends ∷ ts) = IsLogged setup log ts
@@ -61,8 +62,10 @@ giving setup log (replies.Ticked bits) = idle setup log
 quiet : (setup : Setup) (log : List Observation) (ts : List Turn) (here : Bool) (t : Turn) → IsQuiet setup log t
     → IsLogged setup log ts
     → IsLogged setup (log ++ []) ((if here then t else bringing []) ∷ ts)
-quiet setup log ts true t is logged = subst (λ (l : List Observation). IsLogged setup l (t ∷ ts)) (sym (append-nil log)) (is ts logged)
-quiet setup log ts false t is logged = subst (λ (l : List Observation). IsLogged setup l (bringing [] ∷ ts)) (sym (append-nil log)) (idle setup log ts logged)
+quiet setup log ts true t is logged = subst (λ (l : List Observation). IsLogged setup l (t ∷ ts))
+    (sym (append-nil log)) (is ts logged)
+quiet setup log ts false t is logged = subst (λ (l : List Observation). IsLogged setup l (bringing [] ∷ ts))
+    (sym (append-nil log)) (idle setup log ts logged)
 
 begins : (setup : Setup) (log : List Observation) (ts : List Turn) (here : Bool) → IsLogged setup log ts
     → IsLogged setup (log ++ []) (lived (if here then None else Some (bringing [])) ts)
@@ -86,7 +89,8 @@ logged_more setup c past e ts logged = by e.step e.reply
     by (steps.Poll o m wall) (Ok r) = (log, refl, logged)
     by (steps.ClientUp d m) (Ok r) = begins setup log ts (d == c) logged
     by (steps.ClientDown d m) (Ok r) = quiet setup log ts (d == c) Ends (λ us is. is) logged
-    by (steps.Frame d a m) (Ok r) = quiet setup log ts (d == c) (turn_taking a (picture_of setup.rows log) r) (taking setup log a r) logged
+    by (steps.Frame d a m) (Ok r) = quiet setup log ts (d == c) (turn_taking a (picture_of setup.rows log) r)
+        (taking setup log a r) logged
     by (steps.Pump d m) (Ok r) = quiet setup log ts (d == c) (turn_giving setup r) (giving setup log r) logged
     by (steps.Tick m) (Ok r) = quiet setup log ts (is_closed_in c r) Ends (λ us is. is) logged
 

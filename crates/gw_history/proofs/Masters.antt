@@ -77,7 +77,8 @@ fresh_is setup o past e m new last asked poll none zero idle tied = record {
   poll = tied.poll ∙ ap (λ (x : Poll). Some x) (sym poll);
   last = none ∙ sym last;
   number = omega (arith, zero);
-  awaits = subst (λ (x : Exchange). AwaitsAs x (asked_of setup o (e ∷ past))) (sym idle) (subst (λ (x : Option Asked). AwaitsAs Idle x) (sym asked) tt);
+  awaits = subst (λ (x : Exchange). AwaitsAs x (asked_of setup o (e ∷ past))) (sym idle)
+      (subst (λ (x : Option Asked). AwaitsAs Idle x) (sym asked) tt);
 }
 
 pub master_up : (setup : Setup) (o m moment : ℕ) (r : Reply) (past : List Entry) (x : Option Master)
@@ -85,7 +86,8 @@ pub master_up : (setup : Setup) (o m moment : ℕ) (r : Reply) (past : List Entr
     → MasterTied setup o (entry (steps.OutstationUp o m) (Ok r) ∷ past) (option_map (master_after_up moment) x)
 master_up setup o m moment r past None tied = tt
 master_up setup o m moment r past (Some x) tied =
-    fresh_is setup o past (entry (steps.OutstationUp o m) (Ok r)) x (master_after_up moment x) (rw (eq-eqb o o refl) refl) (rw (eq-eqb o o refl) refl) refl refl refl refl tied
+    fresh_is setup o past (entry (steps.OutstationUp o m) (Ok r)) x (master_after_up moment x)
+    (rw (eq-eqb o o refl) refl) (rw (eq-eqb o o refl) refl) refl refl refl refl tied
 
 pub master_lost : (setup : Setup) (o m : ℕ) (r : Reply) (past : List Entry) (x : Option Master)
     → MasterTied setup o past x
@@ -93,7 +95,8 @@ pub master_lost : (setup : Setup) (o m : ℕ) (r : Reply) (past : List Entry) (x
     (option_map (λ (y : Master). master_down y.poll) x)
 master_lost setup o m r past None tied = tt
 master_lost setup o m r past (Some x) tied =
-    fresh_is setup o past (entry (steps.OutstationDown o m) (Ok r)) x (master_down x.poll) (rw (eq-eqb o o refl) refl) (rw (eq-eqb o o refl) refl) refl refl refl refl tied
+    fresh_is setup o past (entry (steps.OutstationDown o m) (Ok r)) x (master_down x.poll) (rw (eq-eqb o o refl) refl)
+    (rw (eq-eqb o o refl) refl) refl refl refl refl tied
 
 -- ---- polls
 
@@ -111,7 +114,8 @@ abbrev asked_by : Request → ℕ → Asked
 asked_by r moment = record { sequence = slice_index r.octets 0 % 16; fragments = 0; since = moment }
 
 poll_asks : (setup : Setup) (o m wall : ℕ) (r : Request) (past : List Entry)
-    → asked_of setup o (entry (steps.Poll o m wall) (Ok (replies.Request r)) ∷ past) ≡ Some (asked_by r (later (moment_after past) m))
+    → asked_of setup o (entry (steps.Poll o m wall) (Ok (replies.Request r)) ∷ past)
+    ≡ Some (asked_by r (later (moment_after past) m))
 poll_asks setup o m wall r past = rw (eq-eqb o o refl) refl
 
 pub master_polled : (setup : Setup) (o m wall moment : ℕ) (past : List Entry) (x : Master) (task : Option Task)
@@ -125,13 +129,16 @@ master_polled setup o m wall moment past x (Some task) given at tied =
     let r : Request = request (task_octets task x.sequence) in
     let first : slice_index r.octets 0 ≡ 192 + x.sequence = first_octet task x.sequence in
     let expected : x.sequence ≡ (slice_index r.octets 0 % 16 + 0) % 16 = omega (arith, first, tied.number) in
-    let alike : AwaitsAlike (record { task = task; expected = x.sequence; begun = false; since = moment }) (asked_by r (later (moment_after past) m)) =
+    let alike : AwaitsAlike (record { task = task; expected = x.sequence; begun = false; since = moment })
+    (asked_by r (later (moment_after past) m)) =
     record { expected = expected; begun = refl; since = at } in
     rw given (record {
       poll = tied.poll;
       last = tied.last;
       number = omega arith;
-      awaits = subst (λ (y : Option Asked). AwaitsAs (Waiting (record { task = task; expected = x.sequence; begun = false; since = moment })) y) (sym (poll_asks setup o m wall r past)) alike;
+      awaits = subst (λ (y : Option Asked). AwaitsAs (Waiting
+          (record { task = task; expected = x.sequence; begun = false; since = moment })) y)
+          (sym (poll_asks setup o m wall r past)) alike;
     })
 
 -- ---- ticks
@@ -150,23 +157,34 @@ master_ticked setup o m moment r past (Some x) at tied = go x.exchange (asked_of
     e = entry (steps.Tick m) (Ok r)
 
     told : asked_of setup o (e ∷ past) ≡ asked_at moment (Some x.poll) (asked_of setup o past)
-    told = ap (λ (n : ℕ). asked_at n (poll_at setup o) (asked_of setup o past)) (sym at) ∙ ap (λ (p : Option Poll). asked_at moment p (asked_of setup o past)) tied.poll
+    told = ap (λ (n : ℕ). asked_at n (poll_at setup o) (asked_of setup o past)) (sym at)
+        ∙ ap (λ (p : Option Poll). asked_at moment p (asked_of setup o past)) tied.poll
 
     go : (exchange : Exchange) (asked : Option Asked) → asked_of setup o past ≡ asked → AwaitsAs exchange asked
         → MasterIs setup o (e ∷ past) (master_with_exchange_after moment exchange x)
     go Idle None ea alike =
-        let none : asked_of setup o (e ∷ past) ≡ asked_of setup o past = told ∙ (ap (asked_at moment (Some x.poll)) ea ∙ sym ea) in
+        let none : asked_of setup o (e ∷ past) ≡ asked_of setup o past =
+        told ∙ (ap (asked_at moment (Some x.poll)) ea ∙ sym ea) in
         same_is setup o past e x refl none tied
     go Idle (Some a) ea alike = absurd alike
     go (Waiting w) None ea alike = absurd alike
     go (Waiting w) (Some a) ea alike =
-        let there : asked_of setup o (e ∷ past) ≡ cond (is_late moment x.poll a.since) None (Some a) = told ∙ ap (asked_at moment (Some x.poll)) ea in
+        let there : asked_of setup o (e ∷ past) ≡ cond (is_late moment x.poll a.since) None (Some a) =
+        told ∙ ap (asked_at moment (Some x.poll)) ea in
         elim (cases_Bool (is_late moment x.poll w.since)) [
           | inl late ↦
-              (let none : asked_of setup o (e ∷ past) ≡ None = there ∙ ap (λ (b : Bool). cond b None (Some a)) (sym (ticked setup o moment x.poll w a alike) ∙ late) in
-              rw late (record { poll = tied.poll; last = tied.last; number = tied.number; awaits = subst (λ (y : Option Asked). AwaitsAs Idle y) (sym none) tt }))
+              (let none : asked_of setup o (e ∷ past) ≡ None = there
+              ∙ ap (λ (b : Bool). cond b None (Some a)) (sym (ticked setup o moment x.poll w a alike) ∙ late) in
+              rw late (record {
+                poll = tied.poll;
+                last = tied.last;
+                number = tied.number;
+                awaits = subst (λ (y : Option Asked). AwaitsAs Idle y) (sym none) tt;
+              }))
           | inr early ↦
-              (let same : asked_of setup o (e ∷ past) ≡ asked_of setup o past = there ∙ (ap (λ (b : Bool). cond b None (Some a)) (sym (ticked setup o moment x.poll w a alike) ∙ early) ∙ sym ea) in
+              (let same : asked_of setup o (e ∷ past) ≡ asked_of setup o past = there
+              ∙ (ap (λ (b : Bool). cond b None (Some a)) (sym (ticked setup o moment x.poll w a alike) ∙ early)
+              ∙ sym ea) in
               rw early (same_is setup o past e x refl same tied))
         ]
 
@@ -186,12 +204,15 @@ verdict_to_answer Idle None f alike = refl
 verdict_to_answer Idle (Some a) f alike = absurd alike
 verdict_to_answer (Waiting w) None f alike = absurd alike
 verdict_to_answer (Waiting w) (Some a) f alike =
-    let rightly : is_begun_rightly w.begun (control_in f).fir ≡ is_in_place a f = ap (λ (b : Bool). is_begun_rightly b (control_in f).fir) alike.begun ∙ in_place (eqb a.fragments 0) (control_in f).fir in
+    let rightly : is_begun_rightly w.begun (control_in f).fir ≡ is_in_place a f =
+    ap (λ (b : Bool). is_begun_rightly b (control_in f).fir) alike.begun
+    ∙ in_place (eqb a.fragments 0) (control_in f).fir in
     rw (alike.expected, rightly) refl
 
 unsolicited_verdict : (past : List Entry) (f : Fragment) (m : Master) → m.last ≡ last_text f.outstation past
     → is_last m.last f.octets ≡ is_text (last_text f.outstation past) f.octets
-unsolicited_verdict past f m same = text_is_last m.last f.octets ∙ ap (λ (last : Option (List ℕ)). is_text last f.octets) same
+unsolicited_verdict past f m same = text_is_last m.last f.octets
+    ∙ ap (λ (last : Option (List ℕ)). is_text last f.octets) same
 
 -- a fragment is judged as the history tells
 pub verdict_is : (setup : Setup) (past : List Entry) (f : Fragment) (m : Master) → MasterIs setup f.outstation past m
@@ -223,7 +244,8 @@ same_accepted setup past f m tied = go (is_unsolicited f) (is_text (last_text f.
     go true true e el = rw (e, unsolicited_verdict past f m tied.last, el) refl
     go true false e el = rw (e, unsolicited_verdict past f m tied.last, el) refl
     go false last e el =
-        rw e (ap is_acceptance (verdict_to_answer m.exchange (asked_of setup f.outstation past) f tied.awaits) ∙ answer_accepted (asked_of setup f.outstation past) f)
+        rw e (ap is_acceptance (verdict_to_answer m.exchange (asked_of setup f.outstation past) f tied.awaits)
+        ∙ answer_accepted (asked_of setup f.outstation past) f)
 
 is_last-true : (last : Option (List ℕ)) (octets : List ℕ) → is_last last octets ≡ true → last ≡ Some octets
 is_last-true None octets e = absurd cc
@@ -245,7 +267,8 @@ kept_asked setup past f m r e = rw (eq-eqb f.outstation f.outstation refl, e) re
 own_asked : (setup : Setup) (past : List Entry) (f : Fragment) (m : ℕ) (r : Reply) (answers : Bool)
     → is_unsolicited f ≡ false → is_answer (asked_of setup f.outstation past) f ≡ answers
     → asked_of setup f.outstation (entry (steps.Fragment f m) (Ok r) ∷ past)
-    ≡ cond answers (asked_with (later (moment_after past) m) f (asked_of setup f.outstation past)) (asked_of setup f.outstation past)
+    ≡ cond answers (asked_with (later (moment_after past) m) f (asked_of setup f.outstation past))
+    (asked_of setup f.outstation past)
 own_asked setup past f m r true e ea = rw (eq-eqb f.outstation f.outstation refl, e, ea) refl
 own_asked setup past f m r false e ea = rw (eq-eqb f.outstation f.outstation refl, e, ea) refl
 
@@ -261,7 +284,8 @@ other_asked setup past f p m r ne = rw (ne_eqb f.outstation p ne) refl
 -- one fragment more of an answer
 awaits_more : (moment : ℕ) (f : Fragment) (exchange : Exchange) (asked : Option Asked) (m : Master) → m.sequence < 16
     → is_answer asked f ≡ true → AwaitsAs exchange asked
-    → AwaitsAs (master_after_answer moment f exchange m).exchange (asked_with moment f asked) × ((master_after_answer moment f exchange m).sequence < 16)
+    → AwaitsAs (master_after_answer moment f exchange m).exchange (asked_with moment f asked)
+    × ((master_after_answer moment f exchange m).sequence < 16)
 awaits_more moment f Idle None m small answers alike = absurd cc
 awaits_more moment f Idle (Some a) m small answers alike = absurd alike
 awaits_more moment f (Waiting w) None m small answers alike = absurd alike
@@ -273,7 +297,8 @@ awaits_more moment f (Waiting w) (Some a) m small answers alike = (go (control_i
     begun : true ≡ not (eqb (a.fragments + 1) 0)
     begun = ap not (sym (ne_eqb (a.fragments + 1) 0 (λ e. omega (arith, e))))
 
-    go : (fin : Bool) → AwaitsAs (exchange_after moment fin w) (cond fin None (Some (record a { fragments = a.fragments + 1; since = moment })))
+    go : (fin : Bool) → AwaitsAs (exchange_after moment fin w)
+        (cond fin None (Some (record a { fragments = a.fragments + 1; since = moment })))
     go true = tt
     go false = record { expected = next; begun = begun; since = refl }
 
@@ -305,15 +330,19 @@ master_accepted setup past f m moment r x at takes tied = rw takes (go (is_unsol
       awaits = subst (λ (y : Option Asked). AwaitsAs x.exchange y) (sym (kept_asked setup past f m r eb)) tied.awaits;
     })
     go false eb =
-        let answers : is_answer (asked_of setup f.outstation past) f ≡ true = sym (rw eb refl) ∙ (sym (same_accepted setup past f x tied) ∙ takes) in
-        let more = awaits_more moment f x.exchange (asked_of setup f.outstation past) x tied.number answers tied.awaits in
+        let answers : is_answer (asked_of setup f.outstation past) f ≡ true =
+        sym (rw eb refl) ∙ (sym (same_accepted setup past f x tied) ∙ takes) in
+        let more = awaits_more moment f x.exchange (asked_of setup f.outstation past) x tied.number answers
+        tied.awaits in
         let asked : asked_of setup f.outstation (e ∷ past) ≡ asked_with moment f (asked_of setup f.outstation past) =
-        own_asked setup past f m r true eb answers ∙ ap (λ (n : ℕ). asked_with n f (asked_of setup f.outstation past)) (sym at) in
+        own_asked setup past f m r true eb answers ∙ ap (λ (n : ℕ). asked_with n f (asked_of setup f.outstation past))
+        (sym at) in
         rw eb (record {
           poll = tied.poll ∙ ap (λ (y : Poll). Some y) (sym (after_answer_poll moment f x.exchange x));
           last = after_answer_last moment f x.exchange x ∙ (tied.last ∙ sym (kept_last past f m r eb));
           number = more.1;
-          awaits = subst (λ (y : Option Asked). AwaitsAs (master_after_answer moment f x.exchange x).exchange y) (sym asked) more.0;
+          awaits = subst (λ (y : Option Asked). AwaitsAs (master_after_answer moment f x.exchange x).exchange y)
+              (sym asked) more.0;
         })
 
 -- a fragment that isn't accepted
@@ -335,12 +364,14 @@ master_left setup past f m r x left tied = go (is_unsolicited f) refl
           | inl known ↦ known
           | inr other ↦ absurd (true≢false (sym (rw (eb, other) refl) ∙ refused))
         ] in
-        let known : x.last ≡ Some f.octets = is_last-true x.last f.octets (unsolicited_verdict past f x tied.last ∙ again) in
+        let known : x.last ≡ Some f.octets = is_last-true x.last f.octets
+        (unsolicited_verdict past f x tied.last ∙ again) in
         record {
           poll = tied.poll;
           last = known ∙ sym (own_last past f m r eb);
           number = tied.number;
-          awaits = subst (λ (y : Option Asked). AwaitsAs x.exchange y) (sym (kept_asked setup past f m r eb)) tied.awaits;
+          awaits = subst (λ (y : Option Asked). AwaitsAs x.exchange y)
+              (sym (kept_asked setup past f m r eb)) tied.awaits;
         }
     go false eb =
         let answers : is_answer (asked_of setup f.outstation past) f ≡ false = sym (rw eb refl) ∙ refused in

@@ -38,8 +38,10 @@ changed_outstations : (setup : Setup) (past : List Entry) (e : Entry) (s : State
     → MasterTied setup o (e ∷ past) (option_map f (slice_get s.outstations o)) → Tied setup past s
     → (p : ℕ) → MasterTied setup p (e ∷ past) (slice_get (change o f s.outstations) p)
 changed_outstations setup past e s o f lasts asks own tied p = elim (cases_eq o p) [
-  | inl same ↦ subst (λ (x : ℕ). MasterTied setup x (e ∷ past) (slice_get (change o f s.outstations) x)) same (rw (change-here o f s.outstations) own)
-  | inr ne ↦ rw (change-there o p f s.outstations ne) (same_master setup p past e (slice_get s.outstations p) (lasts p ne) (asks p ne) (tied.outstations p))
+  | inl same ↦ subst (λ (x : ℕ). MasterTied setup x (e ∷ past) (slice_get (change o f s.outstations) x)) same
+      (rw (change-here o f s.outstations) own)
+  | inr ne ↦ rw (change-there o p f s.outstations ne)
+      (same_master setup p past e (slice_get s.outstations p) (lasts p ne) (asks p ne) (tied.outstations p))
 ]
 
 -- ---- OutstationUp
@@ -49,7 +51,8 @@ pub outstation_up : (setup : Setup) (past : List Entry) (o m : ℕ) (r : Reply) 
 outstation_up setup past o m r s tied =
     let e : Entry = entry (steps.OutstationUp o m) (Ok r) in
     quiet_tied setup past (steps.OutstationUp o m) r s refl refl
-    (changed_outstations setup past e s o (master_after_up (latest s m)) (λ p ne. rw (ne_eqb o p ne) refl) (λ p ne. rw (ne_eqb o p ne) refl)
+    (changed_outstations setup past e s o (master_after_up
+    (latest s m)) (λ p ne. rw (ne_eqb o p ne) refl) (λ p ne. rw (ne_eqb o p ne) refl)
     (master_up setup o m (latest s m) r past (slice_get s.outstations o) (tied.outstations o)) tied)
     tied
 
@@ -64,7 +67,8 @@ outstation_down setup past o m r s single tied =
     record {
       picture = ap (picture_after_loss o setup.rows) tied.picture ∙ loss_in_log o setup.rows setup.controls log single;
       outstations =
-          changed_outstations setup past e s o (λ (x : Master). master_down x.poll) (λ p ne. rw (ne_eqb o p ne) refl) (λ p ne. rw (ne_eqb o p ne) refl)
+          changed_outstations setup past e s o (λ (x : Master). master_down x.poll) (λ p ne. rw (ne_eqb o p ne)
+          refl) (λ p ne. rw (ne_eqb o p ne) refl)
           (master_lost setup o m r past (slice_get s.outstations o) (tied.outstations o)) tied;
       moment = told_moment setup past s m tied;
     }
@@ -85,15 +89,20 @@ poll setup past o m wall r s e tied =
     let up = who_is_up (λ (x : Master). x.up) NoOutstation (slice_get s.outstations o) told.0 in
     let moment : ℕ = latest s m in
     let given : Option Request = request_given moment wall up.0 in
-    let reply : reply_asking given ≡ r = sym (ap (outstation_reply (λ (x : Master). reply_asking (request_given moment wall x))) up.1) ∙ told.2 in
+    let reply : reply_asking given ≡ r = sym (ap (outstation_reply (λ (x : Master). reply_asking
+    (request_given moment wall x))) up.1) ∙ told.2 in
     let is : MasterIs setup o past up.0 = subst (MasterTied setup o past) up.1 (tied.outstations o) in
     let here : Entry = entry step (Ok (reply_asking given)) in
-    let own : MasterTied setup o (here ∷ past) (option_map (master_after_next moment wall) (slice_get s.outstations o)) =
-    subst (λ (y : Option Master). MasterTied setup o (here ∷ past) (option_map (master_after_next moment wall) y)) (sym up.1)
-    (master_polled setup o m wall moment past up.0 (task_given moment wall up.0) refl (told_moment setup past s m tied) is) in
+    let own : MasterTied setup o (here ∷ past) (option_map (master_after_next moment wall)
+    (slice_get s.outstations o)) =
+    subst (λ (y : Option Master). MasterTied setup o (here ∷ past) (option_map (master_after_next moment wall) y))
+    (sym up.1)
+    (master_polled setup o m wall moment past up.0 (task_given moment wall up.0) refl
+    (told_moment setup past s m tied) is) in
     subst (λ (x : Reply). Tied setup (entry step (Ok x) ∷ past) (after setup s step)) reply
     (quiet_tied setup past step (reply_asking given) s refl refl
-    (changed_outstations setup past here s o (master_after_next moment wall) (λ p ne. refl) (λ p ne. other_polled setup past o p m wall given ne) own tied)
+    (changed_outstations setup past here s o (master_after_next moment wall) (λ p ne. refl) (λ
+    p ne. other_polled setup past o p m wall given ne) own tied)
     tied)
 
 -- ---- Tick
@@ -104,7 +113,8 @@ tick setup past m r s tied =
     let moment : ℕ = latest s m in
     quiet_tied setup past (steps.Tick m) r s refl refl
     (λ p. rw (map-get (master_after_tick moment) s.outstations p)
-    (master_ticked setup p m moment r past (slice_get s.outstations p) (told_moment setup past s m tied) (tied.outstations p)))
+    (master_ticked setup p m moment r past (slice_get s.outstations p) (told_moment setup past s m tied)
+    (tied.outstations p)))
     tied
 
 -- ---- Fragment
@@ -120,14 +130,19 @@ fragment_taken setup past f m r s x single at is takes tied =
     let accepted : is_accepted setup past f ≡ true = sym (same_accepted setup past f x is) ∙ takes in
     let accepting : is_accepting s f ≡ true = rw at takes in
     let came : brought setup past e ≡ xs = rw accepted refl in
-    let shown : picture_after setup.station.offset_minutes setup.rows s.picture f.reports ≡ picture_of setup.rows (log ++ xs) =
-    ap (λ (p : List Observation). picture_after setup.station.offset_minutes setup.rows p f.reports) tied.picture ∙ (news_same setup log f.reports single).1 in
+    let shown : picture_after setup.station.offset_minutes setup.rows s.picture f.reports
+    ≡ picture_of setup.rows (log ++ xs) =
+    ap (λ (p : List Observation). picture_after setup.station.offset_minutes setup.rows p f.reports) tied.picture
+    ∙ (news_same setup log f.reports single).1 in
     let moment : ℕ = latest s m in
-    let own : MasterTied setup f.outstation (e ∷ past) (option_map (master_after_fragment moment f) (slice_get s.outstations f.outstation)) =
+    let own : MasterTied setup f.outstation (e ∷ past)
+    (option_map (master_after_fragment moment f) (slice_get s.outstations f.outstation)) =
     rw at (master_accepted setup past f m moment r x (told_moment setup past s m tied) takes is) in
     rw accepting (record {
       picture = shown ∙ ap (λ (zs : List Observation). picture_of setup.rows (log ++ zs)) (sym came);
-      outstations = changed_outstations setup past e s f.outstation (master_after_fragment moment f) (λ p ne. other_last past f p m r ne) (λ p ne. other_asked setup past f p m r ne) own tied;
+      outstations = changed_outstations setup past e s f.outstation
+          (master_after_fragment moment f) (λ p ne. other_last past f p m r ne) (λ
+          p ne. other_asked setup past f p m r ne) own tied;
       moment = told_moment setup past s m tied;
     })
 
@@ -142,8 +157,10 @@ fragment_left setup past f m r s x at is left tied =
     rw accepting (record {
       picture = same_log setup past e s.picture none tied.picture;
       outstations = λ p. elim (cases_eq f.outstation p) [
-        | inl same ↦ subst (λ (y : ℕ). MasterTied setup y (e ∷ past) (slice_get s.outstations y)) same (rw at (master_left setup past f m r x left is))
-        | inr ne ↦ same_master setup p past e (slice_get s.outstations p) (other_last past f p m r ne) (other_asked setup past f p m r ne) (tied.outstations p)
+        | inl same ↦ subst (λ (y : ℕ). MasterTied setup y (e ∷ past) (slice_get s.outstations y)) same
+            (rw at (master_left setup past f m r x left is))
+        | inr ne ↦ same_master setup p past e (slice_get s.outstations p) (other_last past f p m r ne)
+            (other_asked setup past f p m r ne) (tied.outstations p)
       ];
       moment = told_moment setup past s m tied;
     })
@@ -156,7 +173,8 @@ fragment setup past f m r s single e tied =
     let step : Step = steps.Fragment f m in
     let told = answered (fault_of s step) (can_rise s.counts (needs setup s step).counts) (reply_to setup s step) r e in
     let up = who_is_up (λ (x : Master). x.up) NoOutstation (slice_get s.outstations f.outstation) told.0 in
-    let is : MasterIs setup f.outstation past up.0 = subst (MasterTied setup f.outstation past) up.1 (tied.outstations f.outstation) in
+    let is : MasterIs setup f.outstation past up.0 = subst (MasterTied setup f.outstation past) up.1
+    (tied.outstations f.outstation) in
     elim (cases_Bool (accepts up.0 f)) [
       | inl takes ↦ fragment_taken setup past f m r s up.0 single up.1 is takes tied
       | inr left ↦ fragment_left setup past f m r s up.0 up.1 is left tied

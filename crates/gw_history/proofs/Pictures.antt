@@ -12,12 +12,17 @@ use Rattle.gw_history.specs.Log.{news_after_log}
 pub news_same : (setup : Setup) (log : List Observation) (rs : List Report)
     → HasSingleAddresses setup.rows setup.controls
     → (news_of setup.station.offset_minutes setup.rows (picture_of setup.rows log) rs ≡ news_after_log setup log rs)
-    × (picture_after setup.station.offset_minutes setup.rows (picture_of setup.rows log) rs ≡ picture_of setup.rows (log ++ news_after_log setup log rs))
+    × (picture_after setup.station.offset_minutes setup.rows (picture_of setup.rows log) rs
+    ≡ picture_of setup.rows (log ++ news_after_log setup log rs))
 news_same setup log [] single = (refl, ap (picture_of setup.rows) (sym (append-nil log)))
 news_same setup log (r ∷ rs) single =
     let xs : List Observation = news_of_report setup.station.offset_minutes setup.rows (picture_of setup.rows log) r in
-    let one : picture_after_report setup.station.offset_minutes setup.rows (picture_of setup.rows log) r ≡ picture_of setup.rows (log ++ xs) = report_in_log setup.station.offset_minutes setup.rows setup.controls log r single in
+    let one : picture_after_report setup.station.offset_minutes setup.rows (picture_of setup.rows log) r
+    ≡ picture_of setup.rows (log ++ xs) = report_in_log setup.station.offset_minutes setup.rows setup.controls log
+    r single in
     let others = news_same setup (log ++ xs) rs single in (
-      ap (λ (p : List Observation). xs ++ news_of setup.station.offset_minutes setup.rows p rs) one ∙ ap (λ (ys : List Observation). xs ++ ys) others.0,
-      ap (λ (p : List Observation). picture_after setup.station.offset_minutes setup.rows p rs) one ∙ (others.1 ∙ ap (picture_of setup.rows) (append_assoc log xs (news_after_log setup (log ++ xs) rs))),
+      ap (λ (p : List Observation). xs ++ news_of setup.station.offset_minutes setup.rows p rs) one
+          ∙ ap (λ (ys : List Observation). xs ++ ys) others.0,
+      ap (λ (p : List Observation). picture_after setup.station.offset_minutes setup.rows p rs) one
+          ∙ (others.1 ∙ ap (picture_of setup.rows) (append_assoc log xs (news_after_log setup (log ++ xs) rs))),
     )

@@ -1,14 +1,14 @@
--- What is known at each place of every run: the state is sound, it is tied to the history, and each client lives its life.
+-- What is known at each place of every run: the state is sound and tied to the history, and each client lives its life.
 use Rattle.std.proofs.Common.{ℕ, zero, suc, ◌+◌, ◌-◌, ◌≤◌, List, [], ◌∷◌, Option, Some, None, refl, sym, subst, arith}
 use Rattle.std.specs.Prelude.{slice_get, replicate}
 use Rattle.gw_map.specs.Settings.{Setup}
 use Rattle.gw_station.specs.Client.{Client, client_down, limits_of}
 use Rattle.gw_steps.specs.State.{client_limit}
 use Rattle.gw_steps.specs.Steps.{Allowed}
-use Rattle.gw_steps.specs.Runs.{Entry, state_after, IsRun, AtEach}
+use Rattle.gw_steps.specs.Runs.{Entry, state_after, AtEach}
 use Rattle.gw_steps.specs.Sound.{LeavesSound}
 use Rattle.gw_history.specs.Life.{Turn, turn_of, lived, life, OfEachLife}
-use Rattle.gw_history.specs.Premises.{IsSoundSetup, IsSoundRun, client_at}
+use Rattle.gw_history.specs.Premises.{IsSoundRun, client_at}
 use Rattle.gw_history.proofs.Lives.{Lives}
 use Rattle.gw_history.proofs.Clients.{Goes, SlotGoes, all_go}
 use Rattle.gw_history.proofs.Steps.{first_tied, tied_more}
@@ -27,10 +27,11 @@ pub record Known (setup : Setup) (past : List Entry) : Type 0 where
 -- the last entry was allowed by what was known before
 abbrev pub LastKnown : Setup → List Entry → Type 0
 LastKnown setup [] = Unit {0}
-LastKnown setup (e ∷ past) = Allowed setup (state_after setup past) e.step e.reply (state_after setup (e ∷ past)) × Known setup past
+LastKnown setup (e ∷ past) = Allowed setup (state_after setup past) e.step e.reply (state_after setup (e ∷ past))
+    × Known setup past
 
 pub record Place (setup : Setup) (past : List Entry) : Type 0 where
-  pub settings : IsSoundSetup setup
+  pub given : IsSoundRun setup past
   pub known : Known setup past
   pub last : LastKnown setup past
 
@@ -63,7 +64,8 @@ goes_on setup (Some t) ts k new goes lives = (k, lives, goes)
 slot_lives : (setup : Setup) (c : ℕ) (turn : Option Turn) (ts : List Turn) (x new : Option Client)
     → SlotGoes setup turn x new → SlotLives setup c ts x → SlotLives setup c (lived turn ts) new
 slot_lives setup c turn ts None new goes lives = subst (SlotLives setup c (lived turn ts)) (sym goes) lives
-slot_lives setup c turn ts (Some k) new goes lives = subst (SlotLives setup c (lived turn ts)) (sym goes.1) (goes_on setup turn ts k goes.0 goes.2 lives)
+slot_lives setup c turn ts (Some k) new goes lives = subst (SlotLives setup c (lived turn ts)) (sym goes.1)
+    (goes_on setup turn ts k goes.0 goes.2 lives)
 
 -- ---- each place
 
@@ -71,31 +73,36 @@ last_place : (P : List Entry → Type 0) (past : List Entry) → AtEach P past �
 last_place P [] at = at
 last_place P (e ∷ past) at = at.0
 
-run_places : (setup : Setup) (past : List Entry) → IsSoundSetup setup → IsRun setup past
-    → AtEach (LeavesSound setup) past → AtEach (Place setup) past
-run_places setup [] fit run sound = record {
-  settings = fit;
-  known = record { sound = sound; tied = first_tied setup; lives = λ c. down_lives setup client_limit c c (omega arith) (omega arith) };
+earlier : (setup : Setup) (e : Entry) (past : List Entry) → IsSoundRun setup (e ∷ past) → IsSoundRun setup past
+earlier setup e past given =
+    record { settings = given.settings; run = given.run.1; sound = given.sound.1; meant = given.meant.1 }
+
+pub places : (setup : Setup) (past : List Entry) → IsSoundRun setup past → AtEach (Place setup) past
+places setup [] given = record {
+  given = given;
+  known = record {
+    sound = given.sound;
+    tied = first_tied setup;
+    lives = λ c. down_lives setup client_limit c c (omega arith) (omega arith);
+  };
   last = tt;
 }
-run_places setup (e ∷ past) fit run sound =
-    let so_far = run_places setup past fit run.1 sound.1 in
+places setup (e ∷ past) given =
+    let so_far = places setup past (earlier setup e past given) in
     let known : Known setup past = (last_place (Place setup) past so_far).known in
-    let go = all_go setup past e.step e.reply fit.addresses known.sound run.0 known.tied in (
+    let go = all_go setup past e.step e.reply given.settings.addresses known.sound given.run.0 known.tied in (
       record {
-        settings = fit;
+        given = given;
         known = record {
-          sound = sound.0;
-          tied = tied_more setup past e.step e.reply fit.addresses run.0 known.tied;
-          lives = λ c. slot_lives setup c (turn_of setup c past e) (life setup c past) (client_at setup c past) (client_at setup c (e ∷ past)) (go c) (known.lives c);
+          sound = given.sound.0;
+          tied = tied_more setup past e.step e.reply given.settings.addresses given.run.0 known.tied;
+          lives = λ c. slot_lives setup c (turn_of setup c past e) (life setup c past) (client_at setup c past)
+              (client_at setup c (e ∷ past)) (go c) (known.lives c);
         };
-        last = (run.0, known);
+        last = (given.run.0, known);
       },
       so_far,
     )
-
-pub places : (setup : Setup) (past : List Entry) → IsSoundRun setup past → AtEach (Place setup) past
-places setup past given = run_places setup past given.settings given.run given.sound
 
 -- what holds of lives holds of each client's
 pub of_each : (setup : Setup) (Law : List Turn → Type 0) → ((ts : List Turn) (k : Client) → Lives setup ts k → Law ts)

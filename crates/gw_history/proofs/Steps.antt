@@ -23,7 +23,13 @@ use Rattle.gw_history.proofs.Tied.{Tied, brought, quiet_tied, fault_tied}
 outstation_tied : (setup : Setup) (o : ℕ) (x : Option OutstationSetup) → slice_get setup.outstations o ≡ x
     → MasterTied setup o [] (option_map (λ (outstation : OutstationSetup). master_down outstation.poll) x)
 outstation_tied setup o None e = tt
-outstation_tied setup o (Some x) e = record { poll = ap (option_map (λ (outstation : OutstationSetup). outstation.poll)) e; last = refl; number = omega arith; awaits = tt }
+outstation_tied setup o (Some x) e = record {
+  poll = ap (option_map (λ
+      (outstation : OutstationSetup). outstation.poll)) e;
+  last = refl;
+  number = omega arith;
+  awaits = tt;
+}
 
 pub first_tied : (setup : Setup) → Tied setup [] (at_first setup)
 first_tied setup = record {
@@ -44,7 +50,8 @@ client_tied : (setup : Setup) (past : List Entry) (step : Step) (r : Reply) (s :
     → Tied setup past s → Tied setup (entry step (Ok r) ∷ past) (after setup s step)
 client_tied setup past step r s none picture outstations lasts asks tied =
     quiet_tied setup past step r s none picture
-    (λ o. rw outstations (same_master setup o past (entry step (Ok r)) (slice_get s.outstations o) (lasts o) (asks o) (tied.outstations o))) tied
+    (λ o. rw outstations (same_master setup o past (entry step (Ok r)) (slice_get s.outstations o) (lasts o) (asks o)
+    (tied.outstations o))) tied
 
 step_tied : (setup : Setup) (past : List Entry) (step : Step) (r : Reply) (s : State)
     → HasSingleAddresses setup.rows setup.controls
@@ -53,10 +60,14 @@ step_tied setup past (steps.OutstationUp o m) r s single e tied = outstation_up 
 step_tied setup past (steps.OutstationDown o m) r s single e tied = outstation_down setup past o m r s single tied
 step_tied setup past (steps.Fragment f m) r s single e tied = fragment setup past f m r s single e tied
 step_tied setup past (steps.Poll o m wall) r s single e tied = poll setup past o m wall r s e tied
-step_tied setup past (steps.ClientUp c m) r s single e tied = client_tied setup past (steps.ClientUp c m) r s refl refl refl (λ o. refl) (λ o. refl) tied
-step_tied setup past (steps.ClientDown c m) r s single e tied = client_tied setup past (steps.ClientDown c m) r s refl refl refl (λ o. refl) (λ o. refl) tied
-step_tied setup past (steps.Frame c apdu m) r s single e tied = client_tied setup past (steps.Frame c apdu m) r s refl refl refl (λ o. refl) (λ o. refl) tied
-step_tied setup past (steps.Pump c m) r s single e tied = client_tied setup past (steps.Pump c m) r s refl refl refl (λ o. refl) (λ o. refl) tied
+step_tied setup past (steps.ClientUp c m) r s single e tied =
+    client_tied setup past (steps.ClientUp c m) r s refl refl refl (λ o. refl) (λ o. refl) tied
+step_tied setup past (steps.ClientDown c m) r s single e tied =
+    client_tied setup past (steps.ClientDown c m) r s refl refl refl (λ o. refl) (λ o. refl) tied
+step_tied setup past (steps.Frame c apdu m) r s single e tied =
+    client_tied setup past (steps.Frame c apdu m) r s refl refl refl (λ o. refl) (λ o. refl) tied
+step_tied setup past (steps.Pump c m) r s single e tied =
+    client_tied setup past (steps.Pump c m) r s refl refl refl (λ o. refl) (λ o. refl) tied
 step_tied setup past (steps.Tick m) r s single e tied = tick setup past m r s tied
 
 pub tied_more : (setup : Setup) (past : List Entry) (step : Step) (reply : Result Reply StepFault)
@@ -64,5 +75,6 @@ pub tied_more : (setup : Setup) (past : List Entry) (step : Step) (reply : Resul
     → Allowed setup (state_after setup past) step reply (state_after setup (entry step reply ∷ past))
     → Tied setup past (state_after setup past)
     → Tied setup (entry step reply ∷ past) (state_after setup (entry step reply ∷ past))
-tied_more setup past step (Ok r) single allowed tied = step_tied setup past step r (state_after setup past) single allowed.0 tied
+tied_more setup past step (Ok r) single allowed tied =
+    step_tied setup past step r (state_after setup past) single allowed.0 tied
 tied_more setup past step (Err f) single allowed tied = fault_tied setup past step f (state_after setup past) tied

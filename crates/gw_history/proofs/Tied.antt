@@ -35,7 +35,8 @@ pub same_log : (setup : Setup) (past : List Entry) (e : Entry) (picture : List O
     → picture ≡ picture_of setup.rows (log_of setup past) → picture ≡ picture_of setup.rows (log_of setup (e ∷ past))
 same_log setup past e picture none tied =
     let log = log_of setup past in
-    tied ∙ sym (ap (λ (xs : List Observation). picture_of setup.rows (log ++ xs)) none ∙ ap (picture_of setup.rows) (append-nil log))
+    tied ∙ sym (ap (λ (xs : List Observation). picture_of setup.rows (log ++ xs)) none
+    ∙ ap (picture_of setup.rows) (append-nil log))
 
 -- a step that brings no news
 pub quiet_tied : (setup : Setup) (past : List Entry) (step : Step) (r : Reply) (s : State)
@@ -53,6 +54,7 @@ pub fault_tied : (setup : Setup) (past : List Entry) (step : Step) (f : StepFaul
     → Tied setup (entry step (Err f) ∷ past) s
 fault_tied setup past step f s tied = record {
   picture = same_log setup past (entry step (Err f)) s.picture refl tied.picture;
-  outstations = λ o. same_master setup o past (entry step (Err f)) (slice_get s.outstations o) refl refl (tied.outstations o);
+  outstations = λ o. same_master setup o past (entry step (Err f)) (slice_get s.outstations o) refl refl
+      (tied.outstations o);
   moment = tied.moment;
 }

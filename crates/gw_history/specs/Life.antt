@@ -83,7 +83,7 @@ abbrev pub lived : Option Turn → List Turn → List Turn
 lived None ts = []
 lived (Some t) ts = t ∷ ts
 
--- the turns of client c since it came up
+-- the turns of client c since it came up, also of a connection that ended
 abbrev pub life : Setup → ℕ → List Entry → List Turn
 life setup c [] = []
 life setup c (e ∷ past) = lived (turn_of setup c past e) (life setup c past)

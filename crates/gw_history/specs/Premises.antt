@@ -2,6 +2,7 @@
 use Rattle.std.specs.Prelude.{ℕ, ◌<◌, List, slice_get, Option}
 use Rattle.gw_map.specs.Settings.{Setup, HasSingleAddresses}
 use Rattle.gw_station.specs.Client.{Client}
+use Rattle.gw_steps.specs.Carried.{AreMeant}
 use Rattle.gw_steps.specs.Runs.{Entry, state_after, IsRun, AtEach}
 use Rattle.gw_steps.specs.Sound.{LeavesSound}
 
@@ -18,6 +19,8 @@ pub record IsSoundRun (setup : Setup) (past : List Entry) : Type 0 where
   pub run : IsRun setup past
   -- each state is sound
   pub sound : AtEach (LeavesSound setup) past
+  -- each fragment is what its octets mean
+  pub meant : AreMeant past
 
 -- client c after a history, if there is one
 abbrev pub client_at : Setup → ℕ → List Entry → Option Client

@@ -12,7 +12,6 @@ ghost use Rattle.gw_steps.specs.declared.step.Step.TheVariants as steps;
 ghost use Rattle.gw_steps.specs.declared.step.StepFault.TheVariants.{NoClient, NoOutstation, Spent};
 ghost use Rattle.gw_steps.specs.State.{at_first};
 ghost use Rattle.gw_steps.specs.Steps.{client_up, fault_unless_up, latest, one_if, outstation_up, Allowed};
-ghost use Rattle.gw_steps.specs.Carried.{IsMeant};
 ghost use Rattle.gw_steps.specs.Runs.{history, state_after, AtEach, IsRun};
 ghost use Rattle.gw_steps.specs.Sound.{IsSound};
 ghost use Rattle.gw_history.specs.Premises.{IsSoundRun};
@@ -238,7 +237,6 @@ impl Hub {
         ensures run { IfOk result (λ replies. IsSoundRun self.old.setup (history [] steps.now replies.items)) }
         ensures state { IfOk result (λ replies.
             self.new.state ≡ state_after self.old.setup (history [] steps.now replies.items)) }
-        ensures meant { OnOk result (AllByRecursion IsMeant steps.now) }
         ensures setup { self.new.setup ≡ self.old.setup }
     {
         let mut replies = Vec::with_capacity(self.alloc, steps.len())?;

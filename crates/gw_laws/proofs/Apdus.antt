@@ -27,7 +27,8 @@ given_reads : (setup : Setup) (c m : ℕ) (k : Client) (x : Option Sending)
 given_reads setup c m k None = tt
 given_reads setup c m k (Some sending) =
     let content : Content = content_of setup.station.offset_minutes setup.station.common_address k.window sending in
-    rw (said-content setup.station.offset_minutes content (content_fits setup.station.offset_minutes setup.station.common_address k.window sending)) refl
+    rw (said-content setup.station.offset_minutes content
+    (content_fits setup.station.offset_minutes setup.station.common_address k.window sending)) refl
 
 pump_reads : (setup : Setup) (c m : ℕ) (r : Reply) (s : State) → outcome setup s (steps.Pump c m) ≡ Ok r
     → ReadsAsOne setup (steps.Pump c m) (Ok r)
@@ -36,7 +37,8 @@ pump_reads setup c m r s e =
     let told = answered (fault_of s step) (can_rise s.counts (needs setup s step).counts) (reply_to setup s step) r e in
     let up = who_is_up (λ (k : Client). is_up k.stage) NoClient (slice_get s.clients c) told.0 in
     let reply : reply_giving (given setup.station.offset_minutes setup.station.common_address (latest s m) up.0) ≡ r =
-    sym (ap (client_reply (λ (k : Client). reply_giving (given setup.station.offset_minutes setup.station.common_address (latest s m) k))) up.1) ∙ told.2 in
+    sym (ap (client_reply (λ (k : Client). reply_giving
+    (given setup.station.offset_minutes setup.station.common_address (latest s m) k))) up.1) ∙ told.2 in
     subst (λ (x : Reply). ReadsAsOne setup step (Ok x)) reply (given_reads setup c m up.0 (offered (latest s m) up.0))
 
 by_reply : (setup : Setup) (s : State) (step : Step) (reply : Result Reply StepFault) (new : State)
@@ -54,4 +56,5 @@ by_reply setup s (steps.Tick m) reply new allowed = tt
 
 pub reads_apdus : (setup : Setup) (past : List Entry) → Place setup past → Apdus setup past
 reads_apdus setup [] place = tt
-reads_apdus setup (e ∷ past) place = by_reply setup (state_after setup past) e.step e.reply (state_after setup (e ∷ past)) place.last.0
+reads_apdus setup (e ∷ past) place = by_reply setup (state_after setup past) e.step e.reply
+    (state_after setup (e ∷ past)) place.last.0

@@ -51,10 +51,13 @@ record Ties (setup : Setup) (ts : List Turn) (k : Client) : Type 0 where
 -- the places that the life tells are those of the client
 same_places : (setup : Setup) (s : Option (List Turn)) (k : Client) (j : Judged) → NewsTied setup s k
     → LineTied setup s k
-    → length (owed setup (turns_in s)) + places_for (is_pending (interrogation setup (turns_in s))) j ≡ length k.answers + places_for (is_asked k.rest) j
+    → length (owed setup (turns_in s)) + places_for (is_pending (interrogation setup (turns_in s))) j
+    ≡ length k.answers + places_for (is_asked k.rest) j
 same_places setup None k j news tied = rw (news.answers, news.rest) refl
 same_places setup (Some hs) k j news tied =
-    ap (λ (b : Bool). length (owed setup hs) + places_for b j) (pending_told setup.station.common_address (owed setup hs) (interrogation setup hs) (length (fates setup.station hs)) k tied)
+    ap (λ (b : Bool). length (owed setup hs) + places_for b j)
+    (pending_told setup.station.common_address (owed setup hs) (interrogation setup hs)
+    (length (fates setup.station hs)) k tied)
     ∙ ap (λ (n : ℕ). n + places_for (is_asked k.rest) j) (ap length (sym tied.answers))
 
 taken_right : (setup : Setup) (ts : List Turn) (a : Apdu) (k : Client) → setup.station.k < 32768 → Ties setup ts k
@@ -63,7 +66,8 @@ taken_right setup ts (I ns nr asdu) k small mine e =
     let j : Judged = judged_asdu setup asdu in
     let told : IsOpen ns nr j k = open_i ns nr j k e in
     let next : ns ≡ k.window.received % 32768 = eqb-true ns (receive_number k.window) told.send in
-    let few : length k.answers + places_for (is_asked k.rest) j ≤ 32 = ltb-false 32 (length k.answers + places_for (is_asked k.rest) j) told.places in
+    let few : length k.answers + places_for (is_asked k.rest) j ≤ 32 =
+    ltb-false 32 (length k.answers + places_for (is_asked k.rest) j) told.places in
     record {
       started = sym (stands setup (session ts) k mine.news) ∙ told.started;
       send = next ∙ ap (λ (n : ℕ). n % 32768) mine.counts.window.received;
@@ -71,14 +75,16 @@ taken_right setup ts (I ns nr asdu) k small mine e =
       whole = not_malformed j told.whole;
       places = omega (arith, few, same_places setup (session ts) k j mine.news mine.line);
     }
-taken_right setup ts (S nr) k small mine e = receive_is_right setup ts nr k.window small mine.counts.window (open_s setup nr k e)
+taken_right setup ts (S nr) k small mine e = receive_is_right setup ts nr k.window small mine.counts.window
+    (open_s setup nr k e)
 taken_right setup ts (U signal) k small mine e = tt
 
 -- ---- what is right doesn't close
 
 right_open_s : (setup : Setup) (ts : List Turn) (nr : ℕ) (k : Client) → setup.station.k < 32768 → Ties setup ts k
     → IsRight setup ts (S nr) → close_of setup (S nr) k ≡ None
-right_open_s setup ts nr k small mine right = rw (right_receive_is setup ts nr k.window small mine.counts.window right) refl
+right_open_s setup ts nr k small mine right = rw (right_receive_is setup ts nr k.window small mine.counts.window
+    right) refl
 
 whole_judged : (j : Judged) → (j ≡ judgements.Malformed → ⊥) → is_malformed j ≡ false
 whole_judged judgements.Malformed is = absurd (is refl)
@@ -90,18 +96,23 @@ right_open_i : (setup : Setup) (ts : List Turn) (ns nr : ℕ) (asdu : AsduOctets
     → IsRight setup ts (I ns nr asdu) → close_of setup (I ns nr asdu) k ≡ None
 right_open_i setup ts ns nr asdu k small mine right =
     let j : Judged = judged_asdu setup asdu in
-    let send : is_right_send ns k.window ≡ true = eq-eqb ns (receive_number k.window) (right.send ∙ sym (ap (λ (n : ℕ). n % 32768) mine.counts.window.received)) in
-    let receive : is_right_receive nr k.window ≡ true = right_receive_is setup ts nr k.window small mine.counts.window right.receive in
+    let send : is_right_send ns k.window ≡ true = eq-eqb ns (receive_number k.window)
+    (right.send ∙ sym (ap (λ (n : ℕ). n % 32768) mine.counts.window.received)) in
+    let receive : is_right_receive nr k.window ≡ true =
+    right_receive_is setup ts nr k.window small mine.counts.window right.receive in
     let whole : is_malformed j ≡ false = whole_judged j right.whole in
-    let within : length k.answers + places_for (is_asked k.rest) j ≤ 32 = omega (arith, right.places, same_places setup (session ts) k j mine.news mine.line) in
+    let within : length k.answers + places_for (is_asked k.rest) j ≤ 32 =
+    omega (arith, right.places, same_places setup (session ts) k j mine.news mine.line) in
     let places : overfills j k ≡ false = le-ltb 32 (length k.answers + places_for (is_asked k.rest) j) within in
     rw (stands setup (session ts) k mine.news ∙ right.started, send, receive, whole, places) refl
 
 closed_wrong : (setup : Setup) (ts : List Turn) (a : Apdu) (k : Client) (why : Why) → setup.station.k < 32768
     → Ties setup ts k
     → close_of setup a k ≡ Some why → IsWrong setup ts a
-closed_wrong setup ts (I ns nr asdu) k why small mine e = λ right. let told : Some why ≡ None = sym e ∙ right_open_i setup ts ns nr asdu k small mine right in absurd cc
-closed_wrong setup ts (S nr) k why small mine e = λ right. let told : Some why ≡ None = sym e ∙ right_open_s setup ts nr k small mine right in absurd cc
+closed_wrong setup ts (I ns nr asdu) k why small mine e = λ right. let told : Some why ≡ None =
+    sym e ∙ right_open_i setup ts ns nr asdu k small mine right in absurd cc
+closed_wrong setup ts (S nr) k why small mine e = λ right. let told : Some why ≡ None =
+    sym e ∙ right_open_s setup ts nr k small mine right in absurd cc
 closed_wrong setup ts (U signal) k why small mine e = tt
 
 -- ---- each step
@@ -120,11 +131,17 @@ judges setup past (steps.Frame c a m) r fit e known =
     let s : State = state_after setup past in
     let told = answered (fault_of s step) (can_rise s.counts (needs setup s step).counts) (reply_to setup s step) r e in
     let up = who_is_up (λ (k : Client). is_up k.stage) NoClient (slice_get s.clients c) told.0 in
-    let reply : reply_of_event (event_of setup a up.0) ≡ r = sym (ap (client_reply (λ (k : Client). reply_of_event (event_of setup a k))) up.1) ∙ told.2 in
+    let reply : reply_of_event (event_of setup a up.0) ≡ r =
+    sym (ap (client_reply (λ (k : Client). reply_of_event (event_of setup a k))) up.1) ∙ told.2 in
     let ts : List Turn = life setup c past in
     let lives : Lives setup ts up.0 = subst (SlotLives setup c ts) up.1 (known.lives c) in
-    let mine : Ties setup ts up.0 = record { counts = counts_tied setup ts up.0 lives; news = news_tied setup fit.queue fit.station ts up.0 lives; line = line_tied setup fit.queue fit.station ts up.0 lives } in
-    subst (λ (x : Reply). JudgesBy setup past step (Ok x)) reply (judged setup past c m a up.0 (close_of setup a up.0) (command_in setup a) fit.window mine refl)
+    let mine : Ties setup ts up.0 = record {
+      counts = counts_tied setup ts up.0 lives;
+      news = news_tied setup fit.queue fit.station ts up.0 lives;
+      line = line_tied setup fit.queue fit.station ts up.0 lives;
+    } in
+    subst (λ (x : Reply). JudgesBy setup past step (Ok x)) reply
+    (judged setup past c m a up.0 (close_of setup a up.0) (command_in setup a) fit.window mine refl)
 judges setup past (steps.OutstationUp o m) r fit e known = tt
 judges setup past (steps.OutstationDown o m) r fit e known = tt
 judges setup past (steps.Fragment f m) r fit e known = tt
@@ -153,4 +170,5 @@ by_reply setup past step (Err f) new fit allowed known = unjudged setup past ste
 
 pub judges_frames : (setup : Setup) (past : List Entry) → Place setup past → Frames setup past
 judges_frames setup [] place = tt
-judges_frames setup (e ∷ past) place = by_reply setup past e.step e.reply (state_after setup (e ∷ past)) place.settings place.last.0 place.last.1
+judges_frames setup (e ∷ past) place = by_reply setup past e.step e.reply
+    (state_after setup (e ∷ past)) place.given.settings place.last.0 place.last.1

@@ -23,7 +23,8 @@ settled Dropped x xs e = (refl, e)
 
 as_it_is : (e : Element) (es fs : List Element) → dropped_fate e.fate ≡ e.fate → es ≡ fs
     → record e { fate = dropped_fate e.fate } ∷ es ≡ e ∷ fs
-as_it_is e es fs same rest = ap (λ (f : Fate). record e { fate = f } ∷ es) same ∙ ap (λ (gs : List Element). e ∷ gs) rest
+as_it_is e es fs same rest = ap (λ (f : Fate). record e { fate = f } ∷ es) same
+    ∙ ap (λ (gs : List Element). e ∷ gs) rest
 
 -- where none is dropped, all stay as they are
 all_stay : (n : ℕ) (es : List Element) → items_of is_dropped (lapse_first n es) ≡ [] → lapse_first n es ≡ es
@@ -47,7 +48,8 @@ settled_stay (suc n) (suc since) (e ∷ es) front none =
 lapsed_behind : (n since k : ℕ) (es : List Element) → k ≡ n - since
     → drop since (lapse_first n es) ≡ lapse_first k (drop since es)
 lapsed_behind n zero k es e = let same : n ≡ k = omega (arith, e) in ap (λ (i : ℕ). lapse_first i es) same
-lapsed_behind zero (suc since) k es e = let none : 0 ≡ k = omega (arith, e) in ap (λ (i : ℕ). lapse_first i (drop (suc since) es)) none
+lapsed_behind zero (suc since) k es e = let none : 0 ≡ k = omega (arith, e) in
+    ap (λ (i : ℕ). lapse_first i (drop (suc since) es)) none
 lapsed_behind (suc n) (suc since) zero [] e = refl
 lapsed_behind (suc n) (suc since) (suc k) [] e = refl
 lapsed_behind (suc n) (suc since) k (x ∷ es) e = lapsed_behind n since k es (omega (arith, e))
@@ -69,7 +71,8 @@ one_more limit es x = lapse limit es ++ queued x ∷ []
 one_more_behind : (limit since : ℕ) (es : List Element) (x : Observation) → since ≤ length es
     → drop since (one_more limit es x) ≡ drop since (lapse limit es) ++ queued x ∷ []
 one_more_behind limit since es x within =
-    drop-append-le since (lapse limit es) (queued x ∷ []) (omega (arith, within, length-lapse (length es + 1 - limit) es))
+    drop-append-le since (lapse limit es) (queued x ∷ [])
+    (omega (arith, within, length-lapse (length es + 1 - limit) es))
 
 one_more_within : (limit since : ℕ) (es : List Element) (x : Observation) → since ≤ length es
     → since ≤ length (one_more limit es x)
@@ -90,7 +93,8 @@ joins_behind limit since es (x ∷ xs) within none =
     (ap (items_of is_dropped) (sym behind)
     ∙ front_none (drop since (one_more limit es x)) (map queued xs) (ap (items_of is_dropped) (sym rest) ∙ none)) in
     let stay : drop since (lapse limit es) ≡ drop since es =
-    lapsed ∙ all_stay (length es + 1 - limit - since) (drop since es) (ap (items_of is_dropped) (sym lapsed) ∙ before) in
+    lapsed ∙ all_stay (length es + 1 - limit - since) (drop since es)
+    (ap (items_of is_dropped) (sym lapsed) ∙ before) in
     rest
     ∙ (ap (λ (fs : List Element). fs ++ map queued xs) (behind ∙ ap (λ (fs : List Element). fs ++ queued x ∷ []) stay)
     ∙ append_assoc (drop since es) (queued x ∷ []) (map queued xs))
@@ -99,7 +103,8 @@ joins_behind limit since es (x ∷ xs) within none =
 pub none_before : (limit since : ℕ) (es : List Element) (xs : List Observation) → since ≤ length es
     → items_of is_dropped (drop since (fates_with_news limit es xs)) ≡ [] → items_of is_dropped (drop since es) ≡ []
 none_before limit since es xs within none =
-    front_none (drop since es) (map queued xs) (ap (items_of is_dropped) (sym (joins_behind limit since es xs within none)) ∙ none)
+    front_none (drop since es) (map queued xs) (ap (items_of is_dropped)
+    (sym (joins_behind limit since es xs within none)) ∙ none)
 
 -- so they join the whole, where those before the mark aren't queued
 pub joins : (limit since : ℕ) (es : List Element) (xs : List Observation) → since ≤ length es
@@ -109,13 +114,16 @@ pub joins : (limit since : ℕ) (es : List Element) (xs : List Observation) → 
 joins limit since es [] within front none = sym (append-nil es)
 joins limit since es (x ∷ xs) within front none =
     let more : List Element = one_more limit es x in
-    let behind : items_of is_dropped (drop since more) ≡ [] = none_before limit since more xs (one_more_within limit since es x within) none in
+    let behind : items_of is_dropped (drop since more) ≡ [] =
+    none_before limit since more xs (one_more_within limit since es x within) none in
     let before : items_of is_dropped (drop since (lapse limit es)) ≡ [] =
-    front_none (drop since (lapse limit es)) (queued x ∷ []) (ap (items_of is_dropped) (sym (one_more_behind limit since es x within)) ∙ behind) in
+    front_none (drop since (lapse limit es)) (queued x ∷ [])
+    (ap (items_of is_dropped) (sym (one_more_behind limit since es x within)) ∙ behind) in
     let stay : more ≡ es ++ queued x ∷ [] =
     ap (λ (fs : List Element). fs ++ queued x ∷ []) (settled_stay (length es + 1 - limit) since es front before) in
     let now : List Element = es ++ queued x ∷ [] in
-    let front_now : items_of is_queued (take since now) ≡ [] = ap (items_of is_queued) (take-append-le since es (queued x ∷ []) within) ∙ front in
+    let front_now : items_of is_queued (take since now) ≡ [] =
+    ap (items_of is_queued) (take-append-le since es (queued x ∷ []) within) ∙ front in
     let fates_now : fates_with_news limit more xs ≡ fates_with_news limit now xs =
     ap (λ (fs : List Element). fates_with_news limit fs xs) stay in
     let rest = joins limit since now xs (omega (arith, within, length-append es (queued x ∷ []))) front_now
@@ -156,12 +164,14 @@ put_out_item PutOut e = absurd cc
 put_out_item Dropped e = absurd cc
 
 -- none more is dropped
-used_dropped : (since : ℕ) (es : List Element) → items_of is_dropped (drop since (use_up es)) ≡ items_of is_dropped (drop since es)
+used_dropped : (since : ℕ) (es : List Element) → items_of is_dropped (drop since (use_up es))
+    ≡ items_of is_dropped (drop since es)
 used_dropped zero [] = refl
 used_dropped (suc since) [] = refl
 used_dropped zero (e ∷ es) = elim (cases_Bool (is_queued e.fate)) [
   | inl is ↦ rw (is, put_out_item e.fate is) refl
-  | inr isnt ↦ rw isnt (ap (λ (xs : List Observation). cond (is_dropped e.fate) (e.item ∷ xs) xs) (used_dropped zero es))
+  | inr isnt ↦ rw isnt (ap (λ (xs : List Observation). cond (is_dropped e.fate) (e.item ∷ xs) xs)
+      (used_dropped zero es))
 ]
 used_dropped (suc since) (e ∷ es) = elim (cases_Bool (is_queued e.fate)) [
   | inl is ↦ rw is refl
@@ -169,7 +179,8 @@ used_dropped (suc since) (e ∷ es) = elim (cases_Bool (is_queued e.fate)) [
 ]
 
 -- nor queued before the mark
-used_front : (since : ℕ) (es : List Element) → items_of is_queued (take since es) ≡ [] → items_of is_queued (take since (use_up es)) ≡ []
+used_front : (since : ℕ) (es : List Element) → items_of is_queued (take since es) ≡ []
+    → items_of is_queued (take since (use_up es)) ≡ []
 used_front zero es front = refl
 used_front (suc since) [] front = refl
 used_front (suc since) (e ∷ es) front = elim (cases_Bool (is_queued e.fate)) [

@@ -38,7 +38,8 @@ known_more : (address : ℕ) (shown : Observation) (known : Option Known) (xs : 
     → IsKnown (last_observation address shown xs) (last_known address known xs)
 known_more address shown known [] is = is
 known_more address shown known (x ∷ xs) is =
-    known_more address (cond (eqb x.address address) (without_time x) shown) (cond (eqb x.address address) (Some (known_of x)) known) xs
+    known_more address (cond (eqb x.address address) (without_time x) shown)
+    (cond (eqb x.address address) (Some (known_of x)) known) xs
     (one (eqb x.address address))
   where
     one : (here : Bool) → IsKnown (cond here (without_time x) shown) (cond here (Some (known_of x)) known)
@@ -70,12 +71,14 @@ known_inserted : (address : ℕ) (known : Known) (before : Option Known) (rs xs 
     → last_known address before xs ≡ Some known → last_known address before (rs ++ xs) ≡ Some known
 known_inserted address known before [] xs all e = e
 known_inserted address known before (r ∷ rs) xs all e =
-    known_inserted address known (cond (eqb r.address address) (Some (known_of r)) before) rs xs all.1 (by (eqb r.address address) refl)
+    known_inserted address known (cond (eqb r.address address) (Some (known_of r)) before) rs xs all.1
+    (by (eqb r.address address) refl)
   where
     by : (here : Bool) → eqb r.address address ≡ here
         → last_known address (cond here (Some (known_of r)) before) xs ≡ Some known
     by true is =
-        ap (λ (k : Known). last_known address (Some k) xs) (all.0 (eqb-true r.address address is)) ∙ known_before address known before xs e
+        ap (λ (k : Known). last_known address (Some k) xs) (all.0 (eqb-true r.address address is))
+        ∙ known_before address known before xs e
     by false is = e
 
 -- ---- what a picture shows
@@ -95,8 +98,10 @@ fresh_get : (address : ℕ) (rows : List Row) (n : ℕ) (row : Row) → is_fresh
     → row.address ≡ address → ⊥
 fresh_get address [] n row fresh get same = absurd cc
 fresh_get address (r ∷ rows) zero row fresh get same =
-    let apart = not-true (eqb address r.address) (and_parts (not (eqb address r.address)) (is_fresh address rows) fresh).0 in
-    true≢false (sym (eq-eqb address r.address (sym same ∙ ap (λ (x : Row). x.address) (sym (some_is r row get)))) ∙ apart)
+    let apart = not-true (eqb address r.address) (and_parts (not (eqb address r.address))
+    (is_fresh address rows) fresh).0 in
+    true≢false (sym (eq-eqb address r.address (sym same ∙ ap (λ (x : Row). x.address) (sym (some_is r row get))))
+    ∙ apart)
 fresh_get address (r ∷ rows) (suc n) row fresh get same =
     fresh_get address rows n row (and_parts (not (eqb address r.address)) (is_fresh address rows) fresh).1 get same
 
@@ -145,7 +150,8 @@ all_filtered P p (x ∷ xs) each =
 
 pub filtered_shown : (rows : List Row) (log : List Observation) (p : Observation → Bool) → is_single rows ≡ true
     → AllByRecursion (IsShown rows log) (filter p (picture_of rows log))
-filtered_shown rows log p single = all_filtered (IsShown rows log) p (picture_of rows log) (λ m x get. shown_is rows log m x single get)
+filtered_shown rows log p single = all_filtered (IsShown rows log) p
+    (picture_of rows log) (λ m x get. shown_is rows log m x single get)
 
 -- an address without a row isn't in the picture
 elsewhere : (address : ℕ) (rows : List Row) (log : List Observation) (p : Observation → Bool) (known : Option Known)
@@ -159,7 +165,8 @@ elsewhere address (r ∷ rows) log p known fresh =
     let apart : eqb x.address address ≡ false = differ x.address (not-true (eqb address r.address) parts.0) is in
     elim (cases_Bool (p x)) [
       | inl there ↦
-          rw there (ap (λ (here : Bool). last_known address (cond here (Some (known_of x)) known) (filter p (picture_of rows log))) apart ∙ rest)
+          rw there (ap (λ (here : Bool). last_known address (cond here (Some (known_of x)) known)
+          (filter p (picture_of rows log))) apart ∙ rest)
       | inr out ↦ rw out rest
     ]
   where
@@ -177,20 +184,25 @@ pub shown_last : (rows : List Row) (log : List Observation) (p : Observation →
 shown_last [] log p n row known single get passes = absurd cc
 shown_last (r ∷ rows) log p zero row known single get passes =
     subst (λ (x : Row). p (shown_by log x) ≡ true
-    → last_known x.address known (filter p (picture_of (r ∷ rows) log)) ≡ Some (known_of (shown_by log x))) (some_is r row get) here passes
+    → last_known x.address known (filter p (picture_of (r ∷ rows) log)) ≡ Some (known_of (shown_by log x)))
+    (some_is r row get) here passes
   where
     here : p (shown_by log r) ≡ true
         → last_known r.address known (filter p (picture_of (r ∷ rows) log)) ≡ Some (known_of (shown_by log r))
     here is =
         let x : Observation = shown_by log r in
-        let at : eqb x.address r.address ≡ true = eq-eqb x.address r.address (shown_address r.address (opening r) log refl) in
-        rw is (ap (λ (same : Bool). last_known r.address (cond same (Some (known_of x)) known) (filter p (picture_of rows log))) at
-        ∙ elsewhere r.address rows log p (Some (known_of x)) (and_parts (is_fresh r.address rows) (is_single rows) single).0)
+        let at : eqb x.address r.address ≡ true = eq-eqb x.address r.address
+        (shown_address r.address (opening r) log refl) in
+        rw is (ap (λ (same : Bool). last_known r.address (cond same (Some (known_of x)) known)
+        (filter p (picture_of rows log))) at
+        ∙ elsewhere r.address rows log p (Some (known_of x))
+        (and_parts (is_fresh r.address rows) (is_single rows) single).0)
 shown_last (r ∷ rows) log p (suc n) row known single get passes =
     let more = (and_parts (is_fresh r.address rows) (is_single rows) single).1 in
     let x : Observation = shown_by log r in
     elim (cases_Bool (p x)) [
-      | inl is ↦ rw is (shown_last rows log p n row (cond (eqb x.address row.address) (Some (known_of x)) known) more get passes)
+      | inl is ↦ rw is (shown_last rows log p n row (cond (eqb x.address row.address) (Some (known_of x)) known) more
+          get passes)
       | inr isnt ↦ rw isnt (shown_last rows log p n row known more get passes)
     ]
 
@@ -198,7 +210,8 @@ shown_last (r ∷ rows) log p (suc n) row known single get passes =
 
 -- what the picture of a log shows is known by a list, but for totals
 abbrev pub Knows : List Row → List Observation → List Observation → Type 0
-Knows rows log known = (n : ℕ) (row : Row) → slice_get rows n ≡ Some row → IsKnown (shown_by log row) (last_value row.address known)
+Knows rows log known = (n : ℕ) (row : Row) → slice_get rows n ≡ Some row
+    → IsKnown (shown_by log row) (last_value row.address known)
 
 pub knows_news : (rows : List Row) (log known xs : List Observation) → Knows rows log known
     → Knows rows (log ++ xs) (known ++ xs)
@@ -229,4 +242,5 @@ knows_picture setup log known knows n row x at get whole =
     let shown : Some (shown_by log row) ≡ Some x =
     sym (ap (option_map (shown_by log)) at) ∙ (sym (map-get (shown_by log) setup.rows n) ∙ get) in
     let is : shown_by log row ≡ x = some_is (shown_by log row) x shown in
-    knows n row at (ap (λ (y : Observation). is_total y.value) is ∙ whole) ∙ ap (λ (y : Observation). Some (known_of y)) is
+    knows n row at (ap (λ (y : Observation). is_total y.value) is ∙ whole)
+    ∙ ap (λ (y : Observation). Some (known_of y)) is

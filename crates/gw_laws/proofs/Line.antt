@@ -66,7 +66,8 @@ pub record LineIs (common : ℕ) (owes : List Answer) (q : Option Interrogation)
 
 abbrev pub LineTied : Setup → Option (List Turn) → Client → Type 0
 LineTied setup None k = Unit {0}
-LineTied setup (Some hs) k = LineIs setup.station.common_address (owed setup hs) (interrogation setup hs) (length (fates setup.station hs)) k
+LineTied setup (Some hs) k = LineIs setup.station.common_address (owed setup hs) (interrogation setup hs)
+    (length (fates setup.station hs)) k
 
 -- ---- what it tells
 
@@ -84,9 +85,12 @@ split_anywhere (suc n) (x ∷ queue) = ap (λ (s : List Sending). sendings.News 
 
 same_split : (pending : Bool) (n m : ℕ) (queue : List Observation) (rest : List Outgoing) → is_asked rest ≡ pending
     → (pending ≡ true → n ≡ m)
-    → map sendings.News (take n queue) ++ (map sendings.Part rest ++ map sendings.News (drop n queue)) ≡ map sendings.News (take m queue) ++ (map sendings.Part rest ++ map sendings.News (drop m queue))
-same_split true n m queue rest is same = ap (λ (i : ℕ). map sendings.News (take i queue) ++ (map sendings.Part rest ++ map sendings.News (drop i queue))) (same refl)
-same_split false n m queue rest is same = rw (nothing_asked rest is) (split_anywhere n queue ∙ sym (split_anywhere m queue))
+    → map sendings.News (take n queue) ++ (map sendings.Part rest ++ map sendings.News (drop n queue))
+    ≡ map sendings.News (take m queue) ++ (map sendings.Part rest ++ map sendings.News (drop m queue))
+same_split true n m queue rest is same = ap (λ (i : ℕ). map sendings.News (take i queue)
+    ++ (map sendings.Part rest ++ map sendings.News (drop i queue))) (same refl)
+same_split false n m queue rest is same = rw (nothing_asked rest is)
+    (split_anywhere n queue ∙ sym (split_anywhere m queue))
 
 length-queued : (queue : List Observation) → length (map queued queue) ≡ length queue
 length-queued [] = refl
@@ -95,7 +99,12 @@ length-queued (x ∷ queue) = ap suc (length-queued queue)
 -- settled ones and the queue are all
 pub settled_is : (setup : Setup) (hs : List Turn) (k : Client) (tied : InSession setup hs k)
     → length (fates setup.station hs) ≡ length tied.settled + length k.queue
-settled_is setup hs k tied = ap length tied.told ∙ omega (arith, length-append tied.settled (map queued k.queue), length-queued k.queue)
+settled_is setup hs k tied = ap length tied.told ∙ omega (
+  arith,
+  length-append tied.settled
+      (map queued k.queue),
+  length-queued k.queue,
+)
 
 pub line_is : (setup : Setup) (hs : List Turn) (k : Client) → InSession setup hs k → LineTied setup (Some hs) k
     → line_in k ≡ line setup hs
@@ -103,9 +112,13 @@ line_is setup hs k news tied =
     let since : ℕ = since_of (interrogation setup hs) in
     let m : ℕ = since - length news.settled in
     let same : is_asked k.rest ≡ true → k.older ≡ m = λ is. omega (arith, tied.older is, settled_is setup hs k news) in
-    let front = ap (λ (l : List Element). items_of is_queued (take since l)) news.told ∙ take_queued since m news.settled k.queue news.all_settled refl in
-    let back = ap (λ (l : List Element). items_of is_queued (drop since l)) news.told ∙ drop_queued since m news.settled k.queue news.all_settled refl in
-    rw (sym tied.answers, sym tied.rest, front, back) (ap (λ (l : List Sending). map sendings.Answer k.answers ++ l) (same_split (is_asked k.rest) k.older m k.queue k.rest refl same))
+    let front = ap (λ (l : List Element). items_of is_queued (take since l)) news.told
+    ∙ take_queued since m news.settled k.queue news.all_settled refl in
+    let back = ap (λ (l : List Element). items_of is_queued (drop since l)) news.told
+    ∙ drop_queued since m news.settled k.queue news.all_settled refl in
+    rw (sym tied.answers, sym tied.rest, front, back)
+    (ap (λ (l : List Sending). map sendings.Answer k.answers ++ l)
+    (same_split (is_asked k.rest) k.older m k.queue k.rest refl same))
 
 -- ---- one turn more
 
@@ -163,16 +176,30 @@ signal_taken setup taking moment StartAct None k news tied = record {
   older = λ is. rw news.stopped refl;
 }
 signal_taken setup taking moment StartAct (Some hs) k news tied =
-    waits_on _ _ _ _ k (client_with_signal moment StartAct k) (record { answers = rw news.started refl; rest = rw news.started refl; older = rw news.started refl; queue = rw news.started refl }) tied
+    waits_on _ _ _ _ k (client_with_signal moment StartAct k)
+    (record {
+      answers = rw news.started refl;
+      rest = rw news.started refl;
+      older = rw news.started refl;
+      queue = rw news.started refl;
+    }) tied
 signal_taken setup taking moment StopAct s k news tied = tt
 signal_taken setup taking moment TestAct None k news tied = tt
 signal_taken setup taking moment TestCon None k news tied = tt
 signal_taken setup taking moment StartCon None k news tied = tt
 signal_taken setup taking moment StopCon None k news tied = tt
-signal_taken setup taking moment TestAct (Some hs) k news tied = waits_on _ _ _ _ k (client_with_signal moment TestAct k) (record { answers = refl; rest = refl; older = refl; queue = refl }) tied
-signal_taken setup taking moment TestCon (Some hs) k news tied = waits_on _ _ _ _ k (client_with_signal moment TestCon k) (record { answers = refl; rest = refl; older = refl; queue = refl }) tied
-signal_taken setup taking moment StartCon (Some hs) k news tied = waits_on _ _ _ _ k (client_with_signal moment StartCon k) (record { answers = refl; rest = refl; older = refl; queue = refl }) tied
-signal_taken setup taking moment StopCon (Some hs) k news tied = waits_on _ _ _ _ k (client_with_signal moment StopCon k) (record { answers = refl; rest = refl; older = refl; queue = refl }) tied
+signal_taken setup taking moment TestAct (Some hs) k news tied =
+    waits_on _ _ _ _ k (client_with_signal moment TestAct k)
+    (record { answers = refl; rest = refl; older = refl; queue = refl }) tied
+signal_taken setup taking moment TestCon (Some hs) k news tied =
+    waits_on _ _ _ _ k (client_with_signal moment TestCon k)
+    (record { answers = refl; rest = refl; older = refl; queue = refl }) tied
+signal_taken setup taking moment StartCon (Some hs) k news tied =
+    waits_on _ _ _ _ k (client_with_signal moment StartCon k)
+    (record { answers = refl; rest = refl; older = refl; queue = refl }) tied
+signal_taken setup taking moment StopCon (Some hs) k news tied =
+    waits_on _ _ _ _ k (client_with_signal moment StopCon k)
+    (record { answers = refl; rest = refl; older = refl; queue = refl }) tied
 
 -- ---- an ASDU is taken
 
@@ -188,7 +215,8 @@ all_joined (x ∷ xs) ys ax ay = (ax.0, all_joined xs ys ax.1 ay)
 
 refused_apart : (pending : Bool) (command : Command)
     → AllByRecursion IsApart (option_to_list (refused_act pending command))
-refused_apart pending command = elim (cases_Bool (is_accepted_act pending command)) [ inl is ↦ rw is tt | inr isnt ↦ rw isnt (and_false _, tt) ]
+refused_apart pending command = elim (cases_Bool (is_accepted_act pending command))
+    [ inl is ↦ rw is tt | inr isnt ↦ rw isnt (and_false _, tt) ]
 
 shown_apart : (x : Option Observation) (originator : ℕ)
     → AllByRecursion IsApart (option_to_list (option_map (λ y. Made (outgoing.Observation 5 originator y)) x))
@@ -199,7 +227,8 @@ action_apart : (setup : Setup) (picture : List Observation) (pending : Bool) (co
     → AllByRecursion IsApart (option_to_list (answered_action setup picture pending command action))
 action_apart setup picture pending command (actions.Interrogation qualifier) = refused_apart pending command
 action_apart setup picture pending command (actions.CounterInterrogation qualifier) = refused_apart pending command
-action_apart setup picture pending command actions.Read = shown_apart (shown_at setup picture command.address) command.originator
+action_apart setup picture pending command actions.Read =
+    shown_apart (shown_at setup picture command.address) command.originator
 action_apart setup picture pending command (actions.Single x) = tt
 action_apart setup picture pending command (actions.Double x) = tt
 action_apart setup picture pending command (actions.Setpoint x) = tt
@@ -208,7 +237,8 @@ at_once_apart : (setup : Setup) (picture : List Observation) (pending : Bool) (a
     → AllByRecursion IsApart (option_to_list (answered setup picture pending asdu j))
 at_once_apart setup picture pending asdu judgements.Malformed = tt
 at_once_apart setup picture pending asdu (judgements.Refuse cause execute) = (tt, tt)
-at_once_apart setup picture pending asdu (judgements.Accepted command) = action_apart setup picture pending command command.action
+at_once_apart setup picture pending asdu (judgements.Accepted command) =
+    action_apart setup picture pending command command.action
 
 command_apart : (command : Option Command)
     → AllByRecursion IsApart (map (λ x. Made (confirmed true x)) (option_to_list command))
@@ -225,7 +255,8 @@ joined None (Some command) k xs e = ap (λ (l : List Answer). l ++ Made (confirm
 joined (Some answer) (Some command) k xs e = ap (λ (l : List Answer). l ++ Made (confirmed true command) ∷ []) e ∙ append_assoc xs (answer ∷ []) (Made (confirmed true command) ∷ [])
 
 answered_waits : (event : Event) (k : Client)
-    → ((client_answered event k).rest ≡ k.rest) × ((client_answered event k).older ≡ k.older) × ((client_answered event k).queue ≡ k.queue)
+    → ((client_answered event k).rest ≡ k.rest) × ((client_answered event k).older ≡ k.older)
+    × ((client_answered event k).queue ≡ k.queue)
 answered_waits events.Taken k = (refl, refl, refl)
 answered_waits (events.Command command) k = (refl, refl, refl)
 answered_waits (events.Closed why) k = (refl, refl, refl)
@@ -240,7 +271,13 @@ record Asks (common : ℕ) (q : Option Interrogation) (n : ℕ) (queue : List Ob
 
 as_before : (common : ℕ) (owes : List Answer) (q : Option Interrogation) (n : ℕ) (k : Client)
     → LineIs common owes q n k → Asks common q n k.queue k.rest k.older
-as_before common owes q n k tied = record { is = tied.rest; asked = tied.asked; said = tied.said; since = tied.since; older = tied.older }
+as_before common owes q n k tied = record {
+  is = tied.rest;
+  asked = tied.asked;
+  said = tied.said;
+  since = tied.since;
+  older = tied.older;
+}
 
 asks : (common : ℕ) (picture : List Observation) (owes : List Answer) (q : Option Interrogation) (n : ℕ) (k : Client)
     (j : Judged) → length k.queue ≤ n → LineIs common owes q n k
@@ -248,21 +285,23 @@ asks : (common : ℕ) (picture : List Observation) (owes : List Answer) (q : Opt
     (older_with j (is_asking j k) k)
 asks common picture owes q n k judgements.Malformed few tied = as_before common owes q n k tied
 asks common picture owes q n k (judgements.Refuse cause execute) few tied = as_before common owes q n k tied
-asks common picture owes q n k (judgements.Accepted command) few tied = elim (cases_Bool (is_accepted_act (is_asked k.rest) command)) [
-  | inl accepted ↦ rw (pending_told common owes q n k tied, accepted) (record {
-    is = refl;
-    asked = answer_is command picture (accepted_is (is_asked k.rest) command accepted);
-    said = refl;
-    since = omega arith;
-    older = λ is. omega (arith, few);
-  })
-  | inr refused ↦ rw (pending_told common owes q n k tied, refused) (as_before common owes q n k tied)
-]
+asks common picture owes q n k (judgements.Accepted command) few tied =
+    elim (cases_Bool (is_accepted_act (is_asked k.rest) command)) [
+      | inl accepted ↦ rw (pending_told common owes q n k tied, accepted) (record {
+        is = refl;
+        asked = answer_is command picture (accepted_is (is_asked k.rest) command accepted);
+        said = refl;
+        since = omega arith;
+        older = λ is. omega (arith, few);
+      })
+      | inr refused ↦ rw (pending_told common owes q n k tied, refused) (as_before common owes q n k tied)
+    ]
 
 asdu_taken : (setup : Setup) (taking : Taking) (moment ns nr : ℕ) (asdu : AsduOctets) (hs : List Turn) (k : Client)
     → InSession setup hs k → LineTied setup (Some hs) k
     → LineTied setup (Some (Takes (I ns nr asdu) taking ∷ hs))
-    (client_answered (event_taking (command_in setup (I ns nr asdu))) (client_taking setup taking.picture moment (I ns nr asdu) k))
+    (client_answered (event_taking (command_in setup (I ns nr asdu)))
+    (client_taking setup taking.picture moment (I ns nr asdu) k))
 asdu_taken setup taking moment ns nr asdu hs k news tied =
     let picture : List Observation = taking.picture in
     let common : ℕ = setup.station.common_address in
@@ -272,12 +311,17 @@ asdu_taken setup taking moment ns nr asdu hs k news tied =
     let q : Option Interrogation = interrogation setup hs in
     let n : ℕ = length (fates setup.station hs) in
     let few : length k.queue ≤ n = omega (arith, settled_is setup hs k news) in
-    let is : Asks common (begun n picture j q) n k.queue between.rest between.older = asks common picture (owed setup hs) q n k j few tied in
+    let is : Asks common (begun n picture j q) n k.queue between.rest between.older =
+    asks common picture (owed setup hs) q n k j few tied in
     let waits = answered_waits event between in
-    let answers : (client_answered event between).answers ≡ k.answers ++ answers_to setup picture (is_asked k.rest) asdu j = joined (answered setup picture (is_asked k.rest) asdu j) (command_by j) between k.answers refl in
+    let answers : (client_answered event between).answers ≡ k.answers
+    ++ answers_to setup picture (is_asked k.rest) asdu j =
+    joined (answered setup picture (is_asked k.rest) asdu j) (command_by j) between k.answers refl in
     record {
-      answers = answers ∙ (ap (λ (xs : List Answer). xs ++ answers_to setup picture (is_asked k.rest) asdu j) tied.answers
-          ∙ ap (λ (b : Bool). owed setup hs ++ answers_to setup picture b asdu j) (sym (pending_told common (owed setup hs) q n k tied)));
+      answers = answers ∙ (ap (λ (xs : List Answer). xs ++ answers_to setup picture (is_asked k.rest) asdu j)
+          tied.answers
+          ∙ ap (λ (b : Bool). owed setup hs ++ answers_to setup picture b asdu j)
+          (sym (pending_told common (owed setup hs) q n k tied)));
       apart = subst (AllByRecursion IsApart) (sym answers)
           (all_joined k.answers (answers_to setup picture (is_asked k.rest) asdu j) tied.apart
           (all_joined (option_to_list (answered setup picture (is_asked k.rest) asdu j)) (map (λ x. Made (confirmed true x)) (option_to_list (command_by j))) (at_once_apart setup picture (is_asked k.rest) asdu j) (command_apart (command_by j))));
@@ -293,9 +337,12 @@ took : (setup : Setup) (a : Apdu) (taking : Taking) (moment : ℕ) (s : Option (
     → LineTied setup (session_with (Takes a taking) s)
     (client_answered (event_taking (command_in setup a)) (client_taking setup taking.picture moment a k))
 took setup (I ns nr asdu) taking moment None k opens news tied = tt
-took setup (I ns nr asdu) taking moment (Some hs) k opens news tied = asdu_taken setup taking moment ns nr asdu hs k news tied
+took setup (I ns nr asdu) taking moment (Some hs) k opens news tied =
+    asdu_taken setup taking moment ns nr asdu hs k news tied
 took setup (S nr) taking moment None k opens news tied = tt
-took setup (S nr) taking moment (Some hs) k opens news tied = waits_on _ _ _ _ k (client_taking setup taking.picture moment (S nr) k) (record { answers = refl; rest = refl; older = refl; queue = refl }) tied
+took setup (S nr) taking moment (Some hs) k opens news tied =
+    waits_on _ _ _ _ k (client_taking setup taking.picture moment (S nr) k)
+    (record { answers = refl; rest = refl; older = refl; queue = refl }) tied
 took setup (U signal) taking moment s k opens news tied = signal_taken setup taking moment signal s k news tied
 
 -- ---- something is put out
@@ -313,7 +360,8 @@ answer_is_first a b e = ap value e
 
 abbrev front : List Answer → ℕ → List Observation → List Outgoing → List Sending
 front answers older queue rest =
-    map sendings.Answer answers ++ (map sendings.News (take older queue) ++ (map sendings.Part rest ++ map sendings.News (drop older queue)))
+    map sendings.Answer answers ++ (map sendings.News (take older queue)
+    ++ (map sendings.Part rest ++ map sendings.News (drop older queue)))
 
 -- no answer is behind news or a part
 news_before : (older : ℕ) (queue : List Observation) (rest : List Outgoing) (answer : Answer)
@@ -348,7 +396,8 @@ told_more : (common : ℕ) (k : Client) (q : Option Interrogation) (meant : Mean
 told_more common k None meant part rest is told left said = record { rest = ap (drop 1) left; said = tt; since = refl }
 told_more common k (Some q) meant part rest is told left said =
     let behind : drop 1 k.rest ≡ rest = ap (drop 1) is in
-    let one : length (q.said ++ parts_in meant) ≡ length q.said + 1 = omega (arith, length-append q.said (parts_in meant), ap length told) in
+    let one : length (q.said ++ parts_in meant) ≡ length q.said + 1 =
+    omega (arith, length-append q.said (parts_in meant), ap length told) in
     record {
       rest = left_more (length q.said) k.rest (answer_to q.command q.rows) left ∙ ap (λ (n : ℕ). drop n (answer_to q.command q.rows)) (sym one);
       said = rw (told, behind) (said_more common q.said part rest ∙ (ap (λ (l : List Outgoing). q.said ++ map (as_told common) l) (sym is) ∙ said));
@@ -360,7 +409,8 @@ same_asked : (common : ℕ) (owes : List Answer) (q : Option Interrogation) (n m
     → parts_in meant ≡ [] → n ≡ m → LineIs common owes q n k
     → LineIs common owes (option_map (interrogation_telling meant) q) m k
 same_asked common owes q n m meant k none same tied =
-    subst (λ (x : Option Interrogation). LineIs common owes x m k) (sym (told_nothing meant q none)) (subst (λ (i : ℕ). LineIs common owes q i k) same tied)
+    subst (λ (x : Option Interrogation). LineIs common owes x m k) (sym (told_nothing meant q none))
+    (subst (λ (i : ℕ). LineIs common owes q i k) same tied)
 
 gave : (setup : Setup) (moment : ℕ) (x : Sending) (s : Option (List Turn)) (k : Client)
     → setup.station.common_address < 65536 → IsOffered k x → CanSend setup.station.offset_minutes x
@@ -368,11 +418,14 @@ gave : (setup : Setup) (moment : ℕ) (x : Sending) (s : Option (List Turn)) (k 
     (client_with_sent moment x k)
 gave setup moment x None k small is can news tied = tt
 gave setup moment (sendings.Confirm signal) (Some hs) k small is can news tied =
-    waits_on _ _ _ _ k (client_with_sent moment (sendings.Confirm signal) k) (record { answers = refl; rest = refl; older = refl; queue = refl }) tied
+    waits_on _ _ _ _ k (client_with_sent moment (sendings.Confirm signal) k)
+    (record { answers = refl; rest = refl; older = refl; queue = refl }) tied
 gave setup moment sendings.Test (Some hs) k small is can news tied =
-    waits_on _ _ _ _ k (client_with_sent moment sendings.Test k) (record { answers = refl; rest = refl; older = refl; queue = refl }) tied
+    waits_on _ _ _ _ k (client_with_sent moment sendings.Test k)
+    (record { answers = refl; rest = refl; older = refl; queue = refl }) tied
 gave setup moment sendings.Receipt (Some hs) k small is can news tied =
-    waits_on _ _ _ _ k (client_with_sent moment sendings.Receipt k) (record { answers = refl; rest = refl; older = refl; queue = refl }) tied
+    waits_on _ _ _ _ k (client_with_sent moment sendings.Receipt k)
+    (record { answers = refl; rest = refl; older = refl; queue = refl }) tied
 gave setup moment (sendings.Answer answer) (Some hs) k small is can news tied =
     let offset : ℤ = setup.station.offset_minutes in
     let common : ℕ = setup.station.common_address in
@@ -381,7 +434,8 @@ gave setup moment (sendings.Answer answer) (Some hs) k small is can news tied =
     let front = answer_first k answer is.first in
     let apart : IsApart answer = (subst (AllByRecursion IsApart) front.1 tied.apart).0 in
     let none : spontaneous_of common meant ≡ [] = answer_no_news offset common answer meant can means in
-    same_asked common (drop 1 (owed setup hs)) (interrogation setup hs) (length (fates setup.station hs)) _ meant (client_with_sent moment (sendings.Answer answer) k)
+    same_asked common (drop 1 (owed setup hs)) (interrogation setup hs) (length (fates setup.station hs)) _ meant
+    (client_with_sent moment (sendings.Answer answer) k)
     (answer_apart offset common answer meant can apart means)
     (sym (ap (λ (xs : List Observation). length (fates_with_put_out (fates setup.station hs) xs)) none))
     (record {
@@ -400,7 +454,8 @@ gave setup moment (sendings.News x) (Some hs) k small is can news tied =
     let means : meant ≡ TellsAsdu (asdu_of offset common 3 0 x) = outgoing_means offset common (told_news x) small can in
     let none : owed setup hs ≡ [] = sym tied.answers ∙ no_answer k x is.first in
     let front = news_first k x is.first in
-    same_asked common (drop 1 (owed setup hs)) (interrogation setup hs) (length (fates setup.station hs)) _ meant (client_with_sent moment (sendings.News x) k)
+    same_asked common (drop 1 (owed setup hs)) (interrogation setup hs) (length (fates setup.station hs)) _ meant
+    (client_with_sent moment (sendings.News x) k)
     (news_apart offset common x meant means)
     (sym (length-gone (fates setup.station hs) (spontaneous_of common meant)))
     (record {
@@ -410,7 +465,14 @@ gave setup moment (sendings.News x) (Some hs) k small is can news tied =
       asked = tied.asked;
       said = tied.said;
       since = tied.since;
-      older = λ asked. omega (arith, tied.older asked, settled_is setup hs k news, ap length front.1, length-drop 1 k.queue);
+      older = λ asked. omega (
+        arith,
+        tied.older asked,
+        settled_is setup hs k news,
+        ap length front.1,
+        length-drop 1
+            k.queue,
+      );
     })
 gave setup moment (sendings.Part part) (Some hs) k small is can news tied =
     let offset : ℤ = setup.station.offset_minutes in
@@ -422,7 +484,8 @@ gave setup moment (sendings.Part part) (Some hs) k small is can news tied =
     let of_it = subst (AllByRecursion IsOfInterrogation) front.1 tied.asked in
     let told : parts_in meant ≡ as_told common part ∷ [] = part_told offset common part meant of_it.0 requested means in
     let none : owed setup hs ≡ [] = sym tied.answers ∙ no_answer_before k part is.first in
-    let size : length (fates setup.station (PutsOut (says setup k (sendings.Part part)) ∷ hs)) ≡ length (fates setup.station hs) =
+    let size : length (fates setup.station (PutsOut (says setup k (sendings.Part part)) ∷ hs))
+    ≡ length (fates setup.station hs) =
     length-gone (fates setup.station hs) (spontaneous_of common meant) in
     let more = told_more common k (interrogation setup hs) meant part front.0 front.1 told tied.rest tied.said in
     record {
@@ -441,18 +504,23 @@ line_more : (setup : Setup) → 0 < setup.station.queue → setup.station.common
     → (t : Turn) (ts : List Turn) (k new : Client) → Lives setup ts k → Becomes setup t k new
     → LineTied setup (session ts) k → LineTied setup (session (t ∷ ts)) new
 line_more setup some small (Idle brought) ts k new lives is tied =
-    subst (LineTied setup (session (Idle brought ∷ ts))) (sym is) (came setup brought (session ts) k (news_tied setup some small ts k lives) tied)
+    subst (LineTied setup (session (Idle brought ∷ ts))) (sym is)
+    (came setup brought (session ts) k (news_tied setup some small ts k lives) tied)
 line_more setup some small Ends ts k new lives is tied = tt
 line_more setup some small (Takes a taking) ts k new lives is tied =
-    subst (LineTied setup (session (Takes a taking ∷ ts))) (sym is.becomes) (took setup a taking is.moment (session ts) k is.opens (news_tied setup some small ts k lives) tied)
+    subst (LineTied setup (session (Takes a taking ∷ ts))) (sym is.becomes)
+    (took setup a taking is.moment (session ts) k is.opens (news_tied setup some small ts k lives) tied)
 line_more setup some small (PutsOut said) ts k new lives is tied =
     subst (LineTied setup (session (PutsOut said ∷ ts))) (sym is.becomes)
-    (subst (λ (x : Said). LineTied setup (session (PutsOut x ∷ ts)) (client_with_sent is.moment is.sending k)) (sym is.says)
-    (gave setup is.moment is.sending (session ts) k small (offered_is is.moment k is.sending is.first) is.can (news_tied setup some small ts k lives) tied))
+    (subst (λ (x : Said). LineTied setup (session (PutsOut x ∷ ts)) (client_with_sent is.moment is.sending k))
+    (sym is.says)
+    (gave setup is.moment is.sending (session ts) k small (offered_is is.moment k is.sending is.first) is.can
+    (news_tied setup some small ts k lives) tied))
 
 pub line_tied : (setup : Setup) → 0 < setup.station.queue → setup.station.common_address < 65536
     → (ts : List Turn) (k : Client) → Lives setup ts k → LineTied setup (session ts) k
-line_tied setup some small = lives_all setup (λ ts k. LineTied setup (session ts) k) (λ k is. tt) (line_more setup some small)
+line_tied setup some small = lives_all setup (λ ts k. LineTied setup (session ts) k) (λ k is. tt)
+    (line_more setup some small)
 
 -- ---- the laws
 
@@ -463,9 +531,12 @@ says_first : (setup : Setup) (x : Sending) (s : Option (List Turn)) (k : Client)
 says_first setup (sendings.Confirm signal) s k small is can news tied = tt
 says_first setup sendings.Test s k small is can news tied = tt
 says_first setup sendings.Receipt s k small is can news tied = tt
-says_first setup (sendings.Answer answer) None k small is can news tied = absurd (true≢false (sym is.in_session ∙ news.stopped))
-says_first setup (sendings.News x) None k small is can news tied = absurd (true≢false (sym is.in_session ∙ news.stopped))
-says_first setup (sendings.Part part) None k small is can news tied = absurd (true≢false (sym is.in_session ∙ news.stopped))
+says_first setup (sendings.Answer answer) None k small is can news tied =
+    absurd (true≢false (sym is.in_session ∙ news.stopped))
+says_first setup (sendings.News x) None k small is can news tied =
+    absurd (true≢false (sym is.in_session ∙ news.stopped))
+says_first setup (sendings.Part part) None k small is can news tied =
+    absurd (true≢false (sym is.in_session ∙ news.stopped))
 says_first setup (sendings.Answer answer) (Some hs) k small is can news tied = record {
   sending = sendings.Answer answer;
   first = ap (λ (l : List Sending). slice_get l 0) (sym (line_is setup hs k news tied)) ∙ is.first;
@@ -491,7 +562,8 @@ keeps_line setup some small (Ends ∷ ts) k lives = tt
 keeps_line setup some small (PutsOut said ∷ ts) k lives =
     let gave = lives.2 in
     subst (SaysFirst setup (line setup (turns_in (session ts)))) (sym gave.says)
-    (says_first setup gave.sending (session ts) lives.0 small (offered_is gave.moment lives.0 gave.sending gave.first) gave.can
+    (says_first setup gave.sending (session ts) lives.0 small
+    (offered_is gave.moment lives.0 gave.sending gave.first) gave.can
     (news_tied setup some small ts lives.0 lives.1) (line_tied setup some small ts lives.0 lives.1))
 
 answered_so : (setup : Setup) (s : Option (List Turn)) (k : Client) → LineTied setup s k
@@ -505,9 +577,11 @@ answered_so setup (Some hs) k tied = by (interrogation setup hs) (owed setup hs)
     by (Some q) owes n is = record {
       rest = map (as_told setup.station.common_address) k.rest;
       in_order = is.said;
-      whole = λ over. ap (map (as_told setup.station.common_address)) (nothing_asked k.rest (sym (pending_told setup.station.common_address owes (Some q) n k is) ∙ over));
+      whole = λ over. ap (map (as_told setup.station.common_address))
+          (nothing_asked k.rest (sym (pending_told setup.station.common_address owes (Some q) n k is) ∙ over));
     }
 
 pub answers_interrogation : (setup : Setup) → 0 < setup.station.queue → setup.station.common_address < 65536
     → (ts : List Turn) (k : Client) → Lives setup ts k → AnswersInterrogation setup ts
-answers_interrogation setup some small ts k lives = answered_so setup (session ts) k (line_tied setup some small ts k lives)
+answers_interrogation setup some small ts k lives = answered_so setup (session ts) k
+    (line_tied setup some small ts k lives)

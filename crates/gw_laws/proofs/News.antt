@@ -125,7 +125,8 @@ and_termination (part ∷ parts) c all = (all.0, and_termination parts c all.1)
 
 parts_with : (picture : List Observation) (j : Judged) (asks : Bool) (k : Client) → AllByRecursion IsRequested k.rest
     → AllByRecursion IsRequested (rest_with picture j asks k)
-parts_with picture (judgements.Accepted c) true k all = (tt, and_termination (rows_of c.action picture) c (rows_requested c.action picture))
+parts_with picture (judgements.Accepted c) true k all =
+    (tt, and_termination (rows_of c.action picture) c (rows_requested c.action picture))
 parts_with picture (judgements.Accepted c) false k all = all
 parts_with picture judgements.Malformed asks k all = all
 parts_with picture (judgements.Refuse cause execute) asks k all = all
@@ -160,14 +161,26 @@ still setup hs us k new same_fates same_gone alike parts tied = record {
 no_session : (k new : Client) → new.stage ≡ k.stage → new.queue ≡ k.queue → new.dropped ≡ k.dropped
     → new.answers ≡ k.answers → new.rest ≡ k.rest → NoSession k → NoSession new
 no_session k new stage queue dropped answers rest tied =
-    record { stopped = ap is_started stage ∙ tied.stopped; queue = queue ∙ tied.queue; dropped = dropped ∙ tied.dropped; answers = answers ∙ tied.answers; rest = rest ∙ tied.rest }
+    record {
+      stopped = ap is_started stage ∙ tied.stopped;
+      queue = queue ∙ tied.queue;
+      dropped = dropped ∙ tied.dropped;
+      answers = answers ∙ tied.answers;
+      rest = rest ∙ tied.rest;
+    }
 
 -- news come
 came : (setup : Setup) (brought : Brought) (s : Option (List Turn)) (k : Client) → 0 < setup.station.queue
     → k.limit ≡ setup.station.queue
     → NewsTied setup s k → NewsTied setup (session_with (Idle brought) s) (client_with_news brought.news k)
 came setup brought None k some limit tied =
-    record { stopped = tied.stopped; queue = rw tied.stopped tied.queue; dropped = rw tied.stopped (omega (arith, tied.dropped)); answers = tied.answers; rest = tied.rest }
+    record {
+      stopped = tied.stopped;
+      queue = rw tied.stopped tied.queue;
+      dropped = rw tied.stopped (omega (arith, tied.dropped));
+      answers = tied.answers;
+      rest = tied.rest;
+    }
 came setup brought (Some hs) k some limit tied =
     let xs : List Observation = brought.news in
     let more = grown k.limit tied.settled k.queue xs (omega (arith, some, limit)) tied.few tied.all_settled in
@@ -177,7 +190,8 @@ came setup brought (Some hs) k some limit tied =
       settled = more.more;
       all_settled = more.all;
       told = ap (λ (es : List Element). fates_with_news setup.station.queue es xs) tied.told
-          ∙ (ap (λ (n : ℕ). fates_with_news n (before_queue tied.settled k.queue) xs) (sym limit) ∙ (more.told ∙ ap (before_queue more.more) (sym queue)));
+          ∙ (ap (λ (n : ℕ). fates_with_news n (before_queue tied.settled k.queue) xs) (sym limit)
+          ∙ (more.told ∙ ap (before_queue more.more) (sym queue)));
       put_out = tied.put_out ∙ sym more.put_out;
       dropped = rw tied.started (omega (arith, tied.dropped, more.dropped));
       few = omega (arith, ap length queue, length-drop (length (k.queue ++ xs) - k.limit) (k.queue ++ xs));
@@ -200,23 +214,44 @@ signal_taken setup taking moment StartAct None k tied = record {
 }
 signal_taken setup taking moment StartAct (Some hs) k tied =
     still setup hs (Takes (U StartAct) taking ∷ hs) k (client_with_signal moment StartAct k) refl refl
-    (record { stage = rw tied.started refl; limit = rw tied.started refl; queue = rw tied.started refl; dropped = rw tied.started refl }) (rw tied.started tied.parts) tied
+    (record {
+      stage = rw tied.started refl;
+      limit = rw tied.started refl;
+      queue = rw tied.started refl;
+      dropped = rw tied.started refl;
+    }) (rw tied.started tied.parts) tied
 signal_taken setup taking moment StopAct None k tied =
-    record { stopped = rw tied.stopped tied.stopped; queue = rw tied.stopped tied.queue; dropped = rw tied.stopped tied.dropped; answers = rw tied.stopped tied.answers; rest = rw tied.stopped tied.rest }
+    record {
+      stopped = rw tied.stopped tied.stopped;
+      queue = rw tied.stopped tied.queue;
+      dropped = rw tied.stopped tied.dropped;
+      answers = rw tied.stopped tied.answers;
+      rest = rw tied.stopped tied.rest;
+    }
 signal_taken setup taking moment StopAct (Some hs) k tied =
-    record { stopped = rw tied.started refl; queue = rw tied.started refl; dropped = rw tied.started refl; answers = rw tied.started refl; rest = rw tied.started refl }
+    record {
+      stopped = rw tied.started refl;
+      queue = rw tied.started refl;
+      dropped = rw tied.started refl;
+      answers = rw tied.started refl;
+      rest = rw tied.started refl;
+    }
 signal_taken setup taking moment TestAct None k tied = no_session k _ refl refl refl refl refl tied
 signal_taken setup taking moment TestCon None k tied = no_session k _ refl refl refl refl refl tied
 signal_taken setup taking moment StartCon None k tied = no_session k _ refl refl refl refl refl tied
 signal_taken setup taking moment StopCon None k tied = no_session k _ refl refl refl refl refl tied
 signal_taken setup taking moment TestAct (Some hs) k tied =
-    still setup hs (Takes (U TestAct) taking ∷ hs) k _ refl refl (record { stage = refl; limit = refl; queue = refl; dropped = refl }) tied.parts tied
+    still setup hs (Takes (U TestAct) taking ∷ hs) k _ refl refl
+    (record { stage = refl; limit = refl; queue = refl; dropped = refl }) tied.parts tied
 signal_taken setup taking moment TestCon (Some hs) k tied =
-    still setup hs (Takes (U TestCon) taking ∷ hs) k _ refl refl (record { stage = refl; limit = refl; queue = refl; dropped = refl }) tied.parts tied
+    still setup hs (Takes (U TestCon) taking ∷ hs) k _ refl refl
+    (record { stage = refl; limit = refl; queue = refl; dropped = refl }) tied.parts tied
 signal_taken setup taking moment StartCon (Some hs) k tied =
-    still setup hs (Takes (U StartCon) taking ∷ hs) k _ refl refl (record { stage = refl; limit = refl; queue = refl; dropped = refl }) tied.parts tied
+    still setup hs (Takes (U StartCon) taking ∷ hs) k _ refl refl
+    (record { stage = refl; limit = refl; queue = refl; dropped = refl }) tied.parts tied
 signal_taken setup taking moment StopCon (Some hs) k tied =
-    still setup hs (Takes (U StopCon) taking ∷ hs) k _ refl refl (record { stage = refl; limit = refl; queue = refl; dropped = refl }) tied.parts tied
+    still setup hs (Takes (U StopCon) taking ∷ hs) k _ refl refl
+    (record { stage = refl; limit = refl; queue = refl; dropped = refl }) tied.parts tied
 
 -- an answer to a command changes nothing of a session's news
 answered_alike : (event : Event) (k : Client)
@@ -240,7 +275,8 @@ took setup (I ns nr asdu) taking moment (Some hs) k opens tied =
     (subst (AllByRecursion IsRequested) (sym same.1) (parts_with taking.picture j (is_asking j k) k tied.parts)) tied
 took setup (S nr) taking moment None k opens tied = no_session k _ refl refl refl refl refl tied
 took setup (S nr) taking moment (Some hs) k opens tied =
-    still setup hs (Takes (S nr) taking ∷ hs) k _ refl refl (record { stage = refl; limit = refl; queue = refl; dropped = refl }) tied.parts tied
+    still setup hs (Takes (S nr) taking ∷ hs) k _ refl refl
+    (record { stage = refl; limit = refl; queue = refl; dropped = refl }) tied.parts tied
 took setup (U signal) taking moment s k opens tied = signal_taken setup taking moment signal s k tied
 
 -- something is put out that is no news
@@ -248,8 +284,10 @@ put_still : (setup : Setup) (said : Said) (hs : List Turn) (k new : Client)
     → spontaneous_in setup.station.common_address said ≡ [] → Alike k new
     → AllByRecursion IsRequested new.rest → InSession setup hs k → InSession setup (PutsOut said ∷ hs) new
 put_still setup said hs k new none alike parts tied =
-    still setup hs (PutsOut said ∷ hs) k new (ap (λ (xs : List Observation). fates_with_put_out (fates setup.station hs) xs) none)
-    (ap (λ (xs : List Observation). gone setup.station hs ++ xs) none ∙ append-nil (gone setup.station hs)) alike parts tied
+    still setup hs (PutsOut said ∷ hs) k new (ap (λ (xs : List Observation). fates_with_put_out
+    (fates setup.station hs) xs) none)
+    (ap (λ (xs : List Observation). gone setup.station hs ++ xs) none ∙ append-nil (gone setup.station hs)) alike
+    parts tied
 
 gave : (setup : Setup) (moment : ℕ) (x : Sending) (s : Option (List Turn)) (k : Client)
     → setup.station.common_address < 65536 → IsOffered k x → CanSend setup.station.offset_minutes x
@@ -257,20 +295,25 @@ gave : (setup : Setup) (moment : ℕ) (x : Sending) (s : Option (List Turn)) (k 
 gave setup moment (sendings.Confirm signal) None k small is can tied = no_session k _ refl refl refl refl refl tied
 gave setup moment sendings.Test None k small is can tied = no_session k _ refl refl refl refl refl tied
 gave setup moment sendings.Receipt None k small is can tied = no_session k _ refl refl refl refl refl tied
-gave setup moment (sendings.Answer answer) None k small is can tied = absurd (true≢false (sym is.in_session ∙ tied.stopped))
+gave setup moment (sendings.Answer answer) None k small is can tied =
+    absurd (true≢false (sym is.in_session ∙ tied.stopped))
 gave setup moment (sendings.Part part) None k small is can tied = absurd (true≢false (sym is.in_session ∙ tied.stopped))
 gave setup moment (sendings.News x) None k small is can tied = absurd (true≢false (sym is.in_session ∙ tied.stopped))
 gave setup moment (sendings.Confirm signal) (Some hs) k small is can tied =
-    put_still setup (says setup k (sendings.Confirm signal)) hs k _ refl (record { stage = refl; limit = refl; queue = refl; dropped = refl }) tied.parts tied
+    put_still setup (says setup k (sendings.Confirm signal)) hs k _ refl
+    (record { stage = refl; limit = refl; queue = refl; dropped = refl }) tied.parts tied
 gave setup moment sendings.Test (Some hs) k small is can tied =
-    put_still setup (says setup k sendings.Test) hs k _ refl (record { stage = refl; limit = refl; queue = refl; dropped = refl }) tied.parts tied
+    put_still setup (says setup k sendings.Test) hs k _ refl
+    (record { stage = refl; limit = refl; queue = refl; dropped = refl }) tied.parts tied
 gave setup moment sendings.Receipt (Some hs) k small is can tied =
-    put_still setup (says setup k sendings.Receipt) hs k _ refl (record { stage = refl; limit = refl; queue = refl; dropped = refl }) tied.parts tied
+    put_still setup (says setup k sendings.Receipt) hs k _ refl
+    (record { stage = refl; limit = refl; queue = refl; dropped = refl }) tied.parts tied
 gave setup moment (sendings.Answer answer) (Some hs) k small is can tied =
     let offset : ℤ = setup.station.offset_minutes in
     let common : ℕ = setup.station.common_address in
     let meant : Meant = meaning_of offset (answer_octets offset common answer) in
-    put_still setup (says setup k (sendings.Answer answer)) hs k _ (answer_no_news offset common answer meant can (answer_means offset common answer small can))
+    put_still setup (says setup k (sendings.Answer answer)) hs k _
+    (answer_no_news offset common answer meant can (answer_means offset common answer small can))
     (record { stage = refl; limit = refl; queue = refl; dropped = refl }) tied.parts tied
 gave setup moment (sendings.Part part) (Some hs) k small is can tied =
     let offset : ℤ = setup.station.offset_minutes in
@@ -294,34 +337,47 @@ gave setup moment (sendings.News x) (Some hs) k small is can tied =
       settled = tied.settled ++ put x ∷ [];
       all_settled = settled_more tied.settled x tied.all_settled;
       told = ap (λ (xs : List Observation). fates_with_put_out (fates setup.station hs) xs) puts
-          ∙ (ap (λ (es : List Element). fates_with_put_out es (x ∷ [])) (tied.told ∙ ap (before_queue tied.settled) front.1)
-          ∙ (queue_shrinks tied.settled x front.0 tied.all_settled ∙ ap (before_queue (tied.settled ++ put x ∷ [])) (sym rest)));
-      put_out = ap (λ (xs : List Observation). gone setup.station hs ++ xs) puts ∙ (ap (λ (ys : List Observation). ys ++ x ∷ []) tied.put_out ∙ sym (put_out_more tied.settled x));
+          ∙ (ap (λ (es : List Element). fates_with_put_out es (x ∷ []))
+          (tied.told ∙ ap (before_queue tied.settled) front.1)
+          ∙ (queue_shrinks tied.settled x front.0 tied.all_settled
+          ∙ ap (before_queue (tied.settled ++ put x ∷ [])) (sym rest)));
+      put_out = ap (λ (xs : List Observation). gone setup.station hs ++ xs) puts
+          ∙ (ap (λ (ys : List Observation). ys ++ x ∷ []) tied.put_out ∙ sym (put_out_more tied.settled x));
       dropped = tied.dropped ∙ sym (ap length (dropped_same tied.settled x));
       few = omega (arith, length-drop 1 k.queue, tied.few);
       parts = tied.parts;
     }
 
 news_first_tied : (setup : Setup) (k : Client) → IsFresh setup k → NewsTied setup None k
-news_first_tied setup k is = record { stopped = is.stage; queue = is.queue; dropped = is.dropped; answers = is.answers; rest = is.rest }
+news_first_tied setup k is = record {
+  stopped = is.stage;
+  queue = is.queue;
+  dropped = is.dropped;
+  answers = is.answers;
+  rest = is.rest;
+}
 
 pub news_more : (setup : Setup) → 0 < setup.station.queue → setup.station.common_address < 65536
     → (t : Turn) (ts : List Turn) (k new : Client) → Lives setup ts k → Becomes setup t k new
     → NewsTied setup (session ts) k → NewsTied setup (session (t ∷ ts)) new
 news_more setup some small (Idle brought) ts k new lives is tied =
-    subst (NewsTied setup (session (Idle brought ∷ ts))) (sym is) (came setup brought (session ts) k some (counts_tied setup ts k lives).limit tied)
+    subst (NewsTied setup (session (Idle brought ∷ ts))) (sym is)
+    (came setup brought (session ts) k some (counts_tied setup ts k lives).limit tied)
 news_more setup some small Ends ts k new lives is tied =
     subst NoSession (sym is) (record { stopped = refl; queue = refl; dropped = refl; answers = refl; rest = refl })
 news_more setup some small (Takes a taking) ts k new lives is tied =
-    subst (NewsTied setup (session (Takes a taking ∷ ts))) (sym is.becomes) (took setup a taking is.moment (session ts) k is.opens tied)
+    subst (NewsTied setup (session (Takes a taking ∷ ts))) (sym is.becomes)
+    (took setup a taking is.moment (session ts) k is.opens tied)
 news_more setup some small (PutsOut said) ts k new lives is tied =
     subst (NewsTied setup (session (PutsOut said ∷ ts))) (sym is.becomes)
-    (subst (λ (x : Said). NewsTied setup (session (PutsOut x ∷ ts)) (client_with_sent is.moment is.sending k)) (sym is.says)
+    (subst (λ (x : Said). NewsTied setup (session (PutsOut x ∷ ts)) (client_with_sent is.moment is.sending k))
+    (sym is.says)
     (gave setup is.moment is.sending (session ts) k small (offered_is is.moment k is.sending is.first) is.can tied))
 
 pub news_tied : (setup : Setup) → 0 < setup.station.queue → setup.station.common_address < 65536
     → (ts : List Turn) (k : Client) → Lives setup ts k → NewsTied setup (session ts) k
-news_tied setup some small = lives_all setup (λ ts k. NewsTied setup (session ts) k) (news_first_tied setup) (news_more setup some small)
+news_tied setup some small = lives_all setup (λ ts k. NewsTied setup (session ts) k) (news_first_tied setup)
+    (news_more setup some small)
 
 -- ---- the law
 
@@ -346,8 +402,11 @@ says_of_station setup sendings.Test ts k small is can tied = tt
 says_of_station setup sendings.Receipt ts k small is can tied = tt
 says_of_station setup (sendings.Answer answer) ts k small is can tied =
     let offset : ℤ = setup.station.offset_minutes in
-    let common : ℕ = setup.station.common_address in
-    (sym (stands setup (session ts) k tied) ∙ is.in_session, answer_of_station offset common answer (meaning_of offset (answer_octets offset common answer)) can (answer_means offset common answer small can))
+    let common : ℕ = setup.station.common_address in (
+      sym (stands setup (session ts) k tied) ∙ is.in_session,
+      answer_of_station offset common answer
+          (meaning_of offset (answer_octets offset common answer)) can (answer_means offset common answer small can),
+    )
 says_of_station setup (sendings.Part part) ts k small is can tied =
     let offset : ℤ = setup.station.offset_minutes in
     let common : ℕ = setup.station.common_address in
@@ -372,7 +431,9 @@ speaks setup some small (Ends ∷ ts) k lives = tt
 speaks setup some small (PutsOut said ∷ ts) k lives =
     let gave = lives.2 in
     subst (λ (x : Said). Speaks setup.station (PutsOut x ∷ ts)) (sym gave.says)
-    (says_of_station setup gave.sending ts lives.0 small (offered_is gave.moment lives.0 gave.sending gave.first) gave.can (news_tied setup some small ts lives.0 lives.1))
+    (says_of_station setup gave.sending ts lives.0 small
+    (offered_is gave.moment lives.0 gave.sending gave.first) gave.can
+    (news_tied setup some small ts lives.0 lives.1))
 
 pub tells_news : (setup : Setup) (past : List Entry) → Place setup past → News setup past
 tells_news setup past place = record {
@@ -383,17 +444,19 @@ tells_news setup past place = record {
 }
   where
     some : 0 < setup.station.queue
-    some = place.settings.queue
+    some = place.given.settings.queue
 
     small : setup.station.common_address < 65536
-    small = place.settings.station
+    small = place.given.settings.station
 
     begun : (c : ℕ) (x : Option Client) → SlotLives setup c (life setup c past) x
         → IfSome x (λ k. is_started k.stage ≡ is_some (session (life setup c past)))
     begun c None lives = tt
-    begun c (Some k) lives = stands setup (session (life setup c past)) k (news_tied setup some small (life setup c past) k lives)
+    begun c (Some k) lives = stands setup (session (life setup c past)) k
+        (news_tied setup some small (life setup c past) k lives)
 
     news : (c : ℕ) (x : Option Client) → SlotLives setup c (life setup c past) x
         → IfSome x (TellsNews setup.station (turns_in (session (life setup c past))))
     news c None lives = tt
-    news c (Some k) lives = tells setup (session (life setup c past)) k (news_tied setup some small (life setup c past) k lives)
+    news c (Some k) lives = tells setup (session (life setup c past)) k
+        (news_tied setup some small (life setup c past) k lives)

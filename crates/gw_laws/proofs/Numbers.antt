@@ -114,7 +114,11 @@ window_with_i setup ts us ns nr moment w es et er next right tied =
 counts_same : (setup : Setup) (ts us : List Turn) (k new : Client) → sent us ≡ sent ts → taken us ≡ taken ts
     → last_receive_number us ≡ last_receive_number ts
     → SameCounts k.window new.window → new.limit ≡ k.limit → CountsTied setup ts k → CountsTied setup us new
-counts_same setup ts us k new es et er same limit tied = record { window = window_same setup ts us k.window new.window es et er same tied.window; limit = limit ∙ tied.limit }
+counts_same setup ts us k new es et er same limit tied =
+    record {
+      window = window_same setup ts us k.window new.window es et er same tied.window;
+      limit = limit ∙ tied.limit;
+    }
 
 answered_same : (event : Event) (k : Client)
     → ((client_answered event k).window ≡ k.window) × ((client_answered event k).limit ≡ k.limit)
@@ -148,35 +152,56 @@ took setup ts (I ns nr asdu) taking moment k opens tied =
     let same = answered_same (event_taking (command_in setup (I ns nr asdu))) between in
     let us : List Turn = Takes (I ns nr asdu) taking ∷ ts in
     record {
-      window = subst (WindowTied setup us) (sym same.0) (window_with_i setup ts us ns nr moment k.window refl refl refl told.send told.receive tied.window);
+      window = subst (WindowTied setup us) (sym same.0)
+          (window_with_i setup ts us ns nr moment k.window refl refl refl told.send told.receive tied.window);
       limit = same.1 ∙ tied.limit;
     }
 took setup ts (S nr) taking moment k opens tied =
-    record { window = window_with_s setup ts taking nr moment k.window (open_s setup nr k opens) tied.window; limit = tied.limit }
+    record {
+      window = window_with_s setup ts taking nr moment k.window (open_s setup nr k opens) tied.window;
+      limit = tied.limit;
+    }
 took setup ts (U signal) taking moment k opens tied =
-    counts_same setup ts (Takes (U signal) taking ∷ ts) k (client_with_signal moment signal k) refl refl refl (signal_counts moment signal k.window) (signal_limit moment signal k) tied
+    counts_same setup ts (Takes (U signal) taking ∷ ts) k (client_with_signal moment signal k) refl refl refl
+    (signal_counts moment signal k.window) (signal_limit moment signal k) tied
 
 -- ---- something is put out
 
 abbrev pub says : Setup → Client → Sending → Said
-says setup k s = said_by setup.station.offset_minutes (content_of setup.station.offset_minutes setup.station.common_address k.window s)
+says setup k s = said_by setup.station.offset_minutes
+    (content_of setup.station.offset_minutes setup.station.common_address k.window s)
 
 gave : (setup : Setup) (ts : List Turn) (moment : ℕ) (s : Sending) (k : Client) → IsOffered k s → CountsTied setup ts k
     → CountsTied setup (PutsOut (says setup k s) ∷ ts) (client_with_sent moment s k)
 gave setup ts moment (sendings.Confirm signal) k is tied =
-    counts_same setup ts (PutsOut (says setup k (sendings.Confirm signal)) ∷ ts) k (client_with_sent moment (sendings.Confirm signal) k) refl refl refl (same_counts k.window) refl tied
+    counts_same setup ts (PutsOut (says setup k (sendings.Confirm signal)) ∷ ts) k
+    (client_with_sent moment (sendings.Confirm signal) k) refl refl refl (same_counts k.window) refl tied
 gave setup ts moment sendings.Test k is tied =
-    counts_same setup ts (PutsOut (says setup k sendings.Test) ∷ ts) k (client_with_sent moment sendings.Test k) refl refl refl
+    counts_same setup ts (PutsOut (says setup k sendings.Test) ∷ ts) k
+    (client_with_sent moment sendings.Test k) refl refl refl
     (record { limits = refl; acknowledged = refl; waiting = refl; received = refl }) refl tied
 gave setup ts moment sendings.Receipt k is tied =
-    counts_same setup ts (PutsOut (says setup k sendings.Receipt) ∷ ts) k (client_with_sent moment sendings.Receipt k) refl refl refl
+    counts_same setup ts (PutsOut (says setup k sendings.Receipt) ∷ ts) k
+    (client_with_sent moment sendings.Receipt k) refl refl refl
     (record { limits = refl; acknowledged = refl; waiting = refl; received = refl }) refl tied
 gave setup ts moment (sendings.Answer answer) k is tied =
-    record { window = window_sent setup ts (PutsOut (says setup k (sendings.Answer answer)) ∷ ts) moment k.window refl refl refl is.room tied.window; limit = tied.limit }
+    record {
+      window = window_sent setup ts (PutsOut (says setup k (sendings.Answer answer)) ∷ ts) moment k.window refl
+          refl refl is.room tied.window;
+      limit = tied.limit;
+    }
 gave setup ts moment (sendings.Part part) k is tied =
-    record { window = window_sent setup ts (PutsOut (says setup k (sendings.Part part)) ∷ ts) moment k.window refl refl refl is.room tied.window; limit = tied.limit }
+    record {
+      window = window_sent setup ts (PutsOut (says setup k (sendings.Part part)) ∷ ts) moment k.window refl
+          refl refl is.room tied.window;
+      limit = tied.limit;
+    }
 gave setup ts moment (sendings.News x) k is tied =
-    record { window = window_sent setup ts (PutsOut (says setup k (sendings.News x)) ∷ ts) moment k.window refl refl refl is.room tied.window; limit = tied.limit }
+    record {
+      window = window_sent setup ts (PutsOut (says setup k (sendings.News x)) ∷ ts) moment k.window refl refl
+          refl is.room tied.window;
+      limit = tied.limit;
+    }
 
 -- ---- lives
 
@@ -194,9 +219,13 @@ fresh setup k is = record {
 
 counts_more : (setup : Setup) (t : Turn) (ts : List Turn) (k new : Client) → Lives setup ts k → Becomes setup t k new
     → CountsTied setup ts k → CountsTied setup (t ∷ ts) new
-counts_more setup (Idle brought) ts k new lives is tied = subst (CountsTied setup (Idle brought ∷ ts)) (sym is) (counts_same setup ts (Idle brought ∷ ts) k _ refl refl refl (same_counts k.window) refl tied)
-counts_more setup Ends ts k new lives is tied = subst (CountsTied setup (Ends ∷ ts)) (sym is) (counts_same setup ts (Ends ∷ ts) k _ refl refl refl (same_counts k.window) refl tied)
-counts_more setup (Takes a taking) ts k new lives is tied = subst (CountsTied setup (Takes a taking ∷ ts)) (sym is.becomes) (took setup ts a taking is.moment k is.opens tied)
+counts_more setup (Idle brought) ts k new lives is tied =
+    subst (CountsTied setup (Idle brought ∷ ts)) (sym is)
+    (counts_same setup ts (Idle brought ∷ ts) k _ refl refl refl (same_counts k.window) refl tied)
+counts_more setup Ends ts k new lives is tied = subst (CountsTied setup (Ends ∷ ts)) (sym is)
+    (counts_same setup ts (Ends ∷ ts) k _ refl refl refl (same_counts k.window) refl tied)
+counts_more setup (Takes a taking) ts k new lives is tied =
+    subst (CountsTied setup (Takes a taking ∷ ts)) (sym is.becomes) (took setup ts a taking is.moment k is.opens tied)
 counts_more setup (PutsOut said) ts k new lives is tied =
     subst (CountsTied setup (PutsOut said ∷ ts)) (sym is.becomes)
     (subst (λ (x : Said). CountsTied setup (PutsOut x ∷ ts) (client_with_sent is.moment is.sending k)) (sym is.says)
@@ -249,9 +278,14 @@ pub right_receive_is : (setup : Setup) (ts : List Turn) (nr : ℕ) (w : Counts) 
     → IsRightReceive ts nr → is_right_receive nr w ≡ true
 right_receive_is setup ts nr w small tied right =
     let same : right.acknowledged ≡ w.acknowledged =
-    same_count (last_receive_number ts) (sent ts) right.acknowledged w.acknowledged right.last (last_named setup ts w small tied) in
+    same_count (last_receive_number ts) (sent ts) right.acknowledged w.acknowledged right.last
+    (last_named setup ts w small tied) in
     named_right nr w right.count (omega (arith, tied.few, small))
-    (record { not_fewer = omega (arith, same, right.not_fewer); not_more = omega (arith, right.named.not_more, tied.sent); number = right.named.number })
+    (record {
+      not_fewer = omega (arith, same, right.not_fewer);
+      not_more = omega (arith, right.named.not_more, tied.sent);
+      number = right.named.number;
+    })
 
 -- ---- the law
 
@@ -260,9 +294,18 @@ says_numbers : (setup : Setup) (ts : List Turn) (s : Sending) (k : Client) → W
 says_numbers setup ts (sendings.Confirm signal) k tied = tt
 says_numbers setup ts sendings.Test k tied = tt
 says_numbers setup ts sendings.Receipt k tied = ap (λ (n : ℕ). n % 32768) tied.received
-says_numbers setup ts (sendings.Answer answer) k tied = (ap (λ (n : ℕ). n % 32768) tied.sent, ap (λ (n : ℕ). n % 32768) tied.received)
-says_numbers setup ts (sendings.Part part) k tied = (ap (λ (n : ℕ). n % 32768) tied.sent, ap (λ (n : ℕ). n % 32768) tied.received)
-says_numbers setup ts (sendings.News x) k tied = (ap (λ (n : ℕ). n % 32768) tied.sent, ap (λ (n : ℕ). n % 32768) tied.received)
+says_numbers setup ts (sendings.Answer answer) k tied =
+    (ap (λ (n : ℕ). n % 32768) tied.sent, ap (λ (n : ℕ). n % 32768) tied.received)
+says_numbers setup ts (sendings.Part part) k tied = (
+  ap (λ (n : ℕ). n % 32768) tied.sent,
+  ap (λ (n : ℕ). n % 32768)
+      tied.received,
+)
+says_numbers setup ts (sendings.News x) k tied = (
+  ap (λ (n : ℕ). n % 32768) tied.sent,
+  ap (λ (n : ℕ). n % 32768)
+      tied.received,
+)
 
 last_numbers : (setup : Setup) (ts : List Turn) (k : Client) → Lives setup ts k → HasNumbers ts
 last_numbers setup [] k lives = tt
@@ -271,9 +314,14 @@ last_numbers setup (Takes a taking ∷ ts) k lives = tt
 last_numbers setup (Ends ∷ ts) k lives = tt
 last_numbers setup (PutsOut said ∷ ts) k lives =
     let gave = lives.2 in
-    subst (SaysNumbers (sent ts) (taken ts)) (sym gave.says) (says_numbers setup ts gave.sending lives.0 (counts_tied setup ts lives.0 lives.1).window)
+    subst (SaysNumbers (sent ts) (taken ts)) (sym gave.says)
+    (says_numbers setup ts gave.sending lives.0 (counts_tied setup ts lives.0 lives.1).window)
 
 pub right_numbers : (setup : Setup) → setup.station.k < 32768 → (ts : List Turn) (k : Client) → Lives setup ts k
     → HasRightNumbers setup.station.k ts
 right_numbers setup small ts k lives =
-    record { last = last_numbers setup ts k lives; window = window_kept setup ts k.window small (counts_tied setup ts k lives).window }
+    record {
+      last = last_numbers setup ts k lives;
+      window = window_kept setup ts k.window small
+          (counts_tied setup ts k lives).window;
+    }

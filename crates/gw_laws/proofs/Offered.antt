@@ -37,13 +37,16 @@ first_offered k sendings.Receipt is = tt
 
 pub offered_is : (moment : ℕ) (k : Client) (s : Sending) → offered moment k ≡ Some s → IsOffered k s
 offered_is moment k s e =
-    by (slice_get k.confirmations 0) (owes_test moment k.window) (is_in_session k.stage) (has_room k.window) (slice_get (line k) 0) (owes_ack moment k.window) refl refl refl e
+    by (slice_get k.confirmations 0) (owes_test moment k.window) (is_in_session k.stage) (has_room k.window)
+    (slice_get (line k) 0) (owes_ack moment k.window) refl refl refl e
   where
     by : (confirmation : Option Signal) (test started room : Bool) (first : Option Sending) (ack : Bool)
         → is_in_session k.stage ≡ started → has_room k.window ≡ room → slice_get (line k) 0 ≡ first
-        → first_of (option_map sendings.Confirm confirmation ∷ when test sendings.Test ∷ cond (started && room) first None ∷ when ack sendings.Receipt ∷ []) ≡ Some s
+        → first_of (option_map sendings.Confirm confirmation ∷ when test sendings.Test ∷ cond
+        (started && room) first None ∷ when ack sendings.Receipt ∷ []) ≡ Some s
         → IsOffered k s
-    by (Some signal) test started room first ack es er el e = subst (IsOffered k) (some_is (sendings.Confirm signal) s e) tt
+    by (Some signal) test started room first ack es er el e =
+        subst (IsOffered k) (some_is (sendings.Confirm signal) s e) tt
     by None true started room first ack es er el e = subst (IsOffered k) (some_is sendings.Test s e) tt
     by None false true true (Some x) ack es er el e =
         subst (IsOffered k) (some_is x s e) (first_offered k x (record { in_session = es; room = er; first = el }))
@@ -58,7 +61,8 @@ offered_is moment k s e =
 
 abbrev front : List Answer → ℕ → List Observation → List Outgoing → List Sending
 front answers older queue rest =
-    map sendings.Answer answers ++ (map sendings.News (take older queue) ++ (map sendings.Part rest ++ map sendings.News (drop older queue)))
+    map sendings.Answer answers ++ (map sendings.News (take older queue)
+    ++ (map sendings.Part rest ++ map sendings.News (drop older queue)))
 
 news_is : (x y : Observation) → Some (sendings.News x) ≡ Some (sendings.News y) → x ≡ y
 news_is x y e = ap value e

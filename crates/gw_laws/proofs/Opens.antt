@@ -26,13 +26,22 @@ pub record IsOpen (ns nr : ℕ) (j : Judged) (k : Client) : Type 0 where
   pub places : overfills j k ≡ false
 
 pub open_i : (ns nr : ℕ) (j : Judged) (k : Client) → first_of (closes_judged ns nr j k) ≡ None → IsOpen ns nr j k
-open_i ns nr j k e = go (is_in_session k.stage) (is_right_send ns k.window) (is_right_receive nr k.window) (is_malformed j) (overfills j k) refl refl refl refl refl e
+open_i ns nr j k e = go (is_in_session k.stage) (is_right_send ns k.window) (is_right_receive nr k.window)
+    (is_malformed j) (overfills j k) refl refl refl refl refl e
   where
     go : (started send receive malformed full : Bool) → is_in_session k.stage ≡ started
         → is_right_send ns k.window ≡ send → is_right_receive nr k.window ≡ receive
         → is_malformed j ≡ malformed → overfills j k ≡ full
-        → first_of (when (not started) NotStarted ∷ when (not (send && receive)) Sequence ∷ when malformed Malformed ∷ when full Flooded ∷ []) ≡ None → IsOpen ns nr j k
-    go true true true false false es en er em ef e = record { started = es; send = en; receive = er; whole = em; places = ef }
+        → first_of (when (not started) NotStarted ∷ when
+        (not (send && receive)) Sequence ∷ when malformed Malformed ∷ when full Flooded ∷ []) ≡ None
+        → IsOpen ns nr j k
+    go true true true false false es en er em ef e = record {
+      started = es;
+      send = en;
+      receive = er;
+      whole = em;
+      places = ef;
+    }
     go true true true false true es en er em ef e = absurd cc
     go true true true true full es en er em ef e = absurd cc
     go true true false malformed full es en er em ef e = absurd cc

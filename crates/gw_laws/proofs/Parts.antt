@@ -78,12 +78,17 @@ and_false true = refl
 and_false false = refl
 
 negative_apart : (c : Command) → c.negative ≡ true → parts_of_command c ≡ []
-negative_apart c e = no_parts c (ap (λ (b : Bool). is_interrogation c.action && not b) e ∙ and_false (is_interrogation c.action))
+negative_apart c e = no_parts c (ap (λ (b : Bool). is_interrogation c.action && not b) e
+    ∙ and_false (is_interrogation c.action))
 
 -- an octet of a cause from 44 on is neither 20 nor 37
 neither : (cause octet : ℕ) → octet % 64 ≡ cause → 44 ≤ cause → eqb octet 20 || eqb octet 37 ≡ false
 neither cause octet e from =
-    rw (ne_eqb octet 20 (λ (is : octet ≡ 20). omega (arith, e, from, is)), ne_eqb octet 37 (λ (is : octet ≡ 37). omega (arith, e, from, is))) refl
+    rw (
+      ne_eqb octet 20 (λ (is : octet ≡ 20). omega (arith, e, from, is)),
+      ne_eqb octet
+          37 (λ (is : octet ≡ 37). omega (arith, e, from, is)),
+    ) refl
 
 pub answer_apart : (offset : ℤ) (common : ℕ) (answer : Answer) (meant : Meant) → CanSendAnswer offset answer
     → IsApart answer → Means offset common answer meant → parts_in meant ≡ []
@@ -234,7 +239,8 @@ nothing_asked (part ∷ rest) e = absurd cc
 
 abbrev front : List Answer → ℕ → List Observation → List Outgoing → List Sending
 front answers older queue rest =
-    map sendings.Answer answers ++ (map sendings.News (take older queue) ++ (map sendings.Part rest ++ map sendings.News (drop older queue)))
+    map sendings.Answer answers ++ (map sendings.News (take older queue)
+    ++ (map sendings.Part rest ++ map sendings.News (drop older queue)))
 
 -- news and parts come where no answer waits
 pub no_answer : (k : Client) (x : Observation) → slice_get (line k) 0 ≡ Some (sendings.News x) → k.answers ≡ []

@@ -1,7 +1,6 @@
 -- All promises at each place of every run.
 use Rattle.std.proofs.Common.{List, [], ◌∷◌}
 use Rattle.gw_map.specs.Settings.{Setup}
-use Rattle.gw_steps.specs.Carried.{AreMeant}
 use Rattle.gw_steps.specs.Runs.{Entry, AtEach}
 use Rattle.gw_history.specs.Premises.{IsSoundRun}
 use Rattle.gw_history.proofs.Confirmed.{confirmed}
@@ -17,25 +16,26 @@ use Rattle.gw_laws.proofs.Numbers.{right_numbers}
 use Rattle.gw_laws.proofs.Frames.{judges_frames}
 use Rattle.gw_laws.proofs.Apdus.{reads_apdus}
 
-promised : (setup : Setup) (past : List Entry) → Place setup past → AreMeant past → Promises setup past
-promised setup past place meant = record {
+promised : (setup : Setup) (past : List Entry) → Place setup past → Promises setup past
+promised setup past place = record {
   news = tells_news setup past place;
-  interrogations = of_each setup (AnswersInterrogation setup) (answers_interrogation setup place.settings.queue place.settings.station) past place;
-  line = of_each setup (KeepsLine setup) (keeps_line setup place.settings.queue place.settings.station) past place;
+  interrogations = of_each setup (AnswersInterrogation setup)
+      (answers_interrogation setup place.given.settings.queue place.given.settings.station) past place;
+  line = of_each setup (KeepsLine setup)
+      (keeps_line setup place.given.settings.queue place.given.settings.station) past place;
   mirror = mirrors setup past place;
-  numbers = of_each setup (HasRightNumbers setup.station.k) (right_numbers setup place.settings.window) past place;
+  numbers = of_each setup (HasRightNumbers setup.station.k)
+      (right_numbers setup place.given.settings.window) past place;
   frames = judges_frames setup past place;
   apdus = reads_apdus setup past place;
   confirmations = confirmed setup past place;
-  meant = meant;
+  meant = place.given.meant;
   sound = place.known.sound;
 }
 
-each_promised : (setup : Setup) (past : List Entry) → AtEach (Place setup) past → AreMeant past
-    → AtEach (Promises setup) past
-each_promised setup [] at meant = promised setup [] at meant
-each_promised setup (e ∷ past) at meant = (promised setup (e ∷ past) at.0 meant, each_promised setup past at.1 meant.1)
+each_promised : (setup : Setup) (past : List Entry) → AtEach (Place setup) past → AtEach (Promises setup) past
+each_promised setup [] at = promised setup [] at
+each_promised setup (e ∷ past) at = (promised setup (e ∷ past) at.0, each_promised setup past at.1)
 
-pub keeps_promises : (setup : Setup) (past : List Entry) → IsSoundRun setup past → AreMeant past
-    → AtEach (Promises setup) past
-keeps_promises setup past run meant = each_promised setup past (places setup past run) meant
+pub keeps_promises : (setup : Setup) (past : List Entry) → IsSoundRun setup past → AtEach (Promises setup) past
+keeps_promises setup past run = each_promised setup past (places setup past run)

@@ -129,7 +129,8 @@ settled_stays e all = ap (λ (f : Fate). record e { fate = f }) (go e.fate all)
 lapse-settled : (n k : ℕ) (settled rest : List Element) → AreSettled settled → k ≡ n - length settled
     → lapse_first n (settled ++ rest) ≡ settled ++ lapse_first k rest
 lapse-settled n k [] rest all e = let same : n ≡ k = omega (arith, e) in ap (λ (i : ℕ). lapse_first i rest) same
-lapse-settled zero k (e ∷ es) rest all is = let none : 0 ≡ k = omega (arith, is) in ap (λ (i : ℕ). e ∷ (es ++ lapse_first i rest)) none
+lapse-settled zero k (e ∷ es) rest all is = let none : 0 ≡ k = omega (arith, is) in
+    ap (λ (i : ℕ). e ∷ (es ++ lapse_first i rest)) none
 lapse-settled (suc n) k (e ∷ es) rest all is =
     let one = settled_stays e all.0 in
     let others = lapse-settled n k es rest all.1 (omega (arith, is)) in
@@ -162,7 +163,8 @@ pub record Grown (limit : ℕ) (settled : List Element) (queue xs : List Observa
   pub all : AreSettled more
   pub told : fates_with_news limit (before_queue settled queue) xs ≡ before_queue more (keep_last limit (queue ++ xs))
   pub put_out : items_of is_put_out more ≡ items_of is_put_out settled
-  pub dropped : length (items_of is_dropped more) ≡ length (items_of is_dropped settled) + (length (queue ++ xs) - limit)
+  pub dropped : length (items_of is_dropped more) ≡ length
+      (items_of is_dropped settled) + (length (queue ++ xs) - limit)
 
 -- one came
 grown_one : (limit : ℕ) (settled : List Element) (queue : List Observation) (x : Observation) → 0 < limit
@@ -170,28 +172,35 @@ grown_one : (limit : ℕ) (settled : List Element) (queue : List Observation) (x
 grown_one limit settled queue x some all =
     let n : ℕ = length queue + 1 - limit in
     let es : List Element = before_queue settled queue in
-    let size : length es ≡ length settled + length queue = length-append settled (map queued queue) ∙ ap (λ (k : ℕ). length settled + k) (map_length queue) in
+    let size : length es ≡ length settled + length queue =
+    length-append settled (map queued queue) ∙ ap (λ (k : ℕ). length settled + k) (map_length queue) in
     let over : length es + 1 - limit - length settled ≡ n = omega (arith, size) in
     let few : n ≤ length queue = omega (arith, some) in
     let kept : keep_last limit (queue ++ x ∷ []) ≡ drop n queue ++ x ∷ [] =
-    ap (λ (k : ℕ). drop k (queue ++ x ∷ [])) (omega (arith, length-append queue (x ∷ []))) ∙ sym (drop-front 0 n n queue (x ∷ []) few (omega arith)) in
+    ap (λ (k : ℕ). drop k (queue ++ x ∷ [])) (omega (arith, length-append queue (x ∷ [])))
+    ∙ sym (drop-front 0 n n queue (x ∷ []) few (omega arith)) in
     let lapsed : lapse limit es ≡ settled ++ (map drops (take n queue) ++ map queued (drop n queue)) =
-    lapse-settled (length es + 1 - limit) n settled (map queued queue) all (sym over) ∙ ap (λ (fs : List Element). settled ++ fs) (lapse-queue n queue) in
+    lapse-settled (length es + 1 - limit) n settled (map queued queue) all (sym over)
+    ∙ ap (λ (fs : List Element). settled ++ fs) (lapse-queue n queue) in
     let more : List Element = settled ++ map drops (take n queue) in
     record {
       more = more;
       all = dropped_are_settled settled (take n queue) all;
       told = ap (λ (fs : List Element). fs ++ queued x ∷ []) lapsed
-          ∙ (ap (λ (fs : List Element). fs ++ queued x ∷ []) (sym (append_assoc settled (map drops (take n queue)) (map queued (drop n queue))))
+          ∙ (ap (λ (fs : List Element). fs ++ queued x ∷ [])
+          (sym (append_assoc settled (map drops (take n queue)) (map queued (drop n queue))))
           ∙ (append_assoc more (map queued (drop n queue)) (queued x ∷ [])
-          ∙ ap (λ (fs : List Element). more ++ fs) (sym (map-append queued (drop n queue) (x ∷ [])) ∙ ap (map queued) (sym kept))));
+          ∙ ap (λ (fs : List Element). more ++ fs) (sym (map-append queued (drop n queue) (x ∷ []))
+          ∙ ap (map queued) (sym kept))));
       put_out = items_of-append is_put_out settled (map drops (take n queue))
-          ∙ (ap (λ (ys : List Observation). items_of is_put_out settled ++ ys) (none_put (take n queue)) ∙ append-nil (items_of is_put_out settled));
+          ∙ (ap (λ (ys : List Observation). items_of is_put_out settled ++ ys) (none_put (take n queue))
+          ∙ append-nil (items_of is_put_out settled));
       dropped =
           let ds : List Observation = items_of is_dropped settled in
           omega (
             arith,
-            ap length (items_of-append is_dropped settled (map drops (take n queue)) ∙ ap (λ (ys : List Observation). ds ++ ys) (all_dropped (take n queue))),
+            ap length (items_of-append is_dropped settled (map drops (take n queue))
+                ∙ ap (λ (ys : List Observation). ds ++ ys) (all_dropped (take n queue))),
             length-append ds (take n queue),
             length-take-le n queue few,
             length-append queue (x ∷ []),
@@ -214,13 +223,15 @@ grown limit settled queue [] some few all = record {
 grown limit settled queue (x ∷ xs) some few all =
     let one = grown_one limit settled queue x some all in
     let kept : List Observation = keep_last limit (queue ++ x ∷ []) in
-    let rest = grown limit one.more kept xs some (omega (arith, length-drop (length (queue ++ x ∷ []) - limit) (queue ++ x ∷ []))) one.all in
+    let rest = grown limit one.more kept xs some (omega
+    (arith, length-drop (length (queue ++ x ∷ []) - limit) (queue ++ x ∷ []))) one.all in
     let whole : keep_last limit (kept ++ xs) ≡ keep_last limit (queue ++ x ∷ xs) =
     kept_on limit (queue ++ x ∷ []) xs ∙ ap (keep_last limit) (append_assoc queue (x ∷ []) xs) in
     record {
       more = rest.more;
       all = rest.all;
-      told = ap (λ (es : List Element). fates_with_news limit es xs) one.told ∙ (rest.told ∙ ap (before_queue rest.more) whole);
+      told = ap (λ (es : List Element). fates_with_news limit es xs) one.told
+          ∙ (rest.told ∙ ap (before_queue rest.more) whole);
       put_out = rest.put_out ∙ one.put_out;
       dropped = omega (
         arith,
@@ -242,14 +253,21 @@ length-lapse (suc n) (e ∷ es) = ap suc (length-lapse n es)
 
 length-use_up : (es : List Element) → length (use_up es) ≡ length es
 length-use_up [] = refl
-length-use_up (e ∷ es) = elim (cases_Bool (is_queued e.fate)) [ inl is ↦ rw is refl | inr isnt ↦ rw isnt (ap suc (length-use_up es)) ]
+length-use_up (e ∷ es) = elim (cases_Bool (is_queued e.fate))
+    [ inl is ↦ rw is refl | inr isnt ↦ rw isnt (ap suc (length-use_up es)) ]
 
 pub length-came : (limit : ℕ) (es : List Element) (xs : List Observation)
     → length (fates_with_news limit es xs) ≡ length es + length xs
 length-came limit es [] = omega arith
 length-came limit es (x ∷ xs) =
     let lapsed : List Element = lapse_first (length es + 1 - limit) es in
-    omega (arith, length-came limit (lapsed ++ record { item = x; fate = Queued } ∷ []) xs, length-append lapsed (record { item = x; fate = Queued } ∷ []), length-lapse (length es + 1 - limit) es)
+    omega (
+      arith,
+      length-came limit (lapsed ++ record { item = x; fate = Queued } ∷ []) xs,
+      length-append lapsed
+          (record { item = x; fate = Queued } ∷ []),
+      length-lapse (length es + 1 - limit) es,
+    )
 
 pub length-gone : (es : List Element) (xs : List Observation) → length (fates_with_put_out es xs) ≡ length es
 length-gone es [] = refl
@@ -270,13 +288,16 @@ drop_items (suc n) (x ∷ queue) = drop_items n queue
 pub take_queued : (n m : ℕ) (settled : List Element) (queue : List Observation) → AreSettled settled
     → m ≡ n - length settled
     → items_of is_queued (take n (before_queue settled queue)) ≡ take m queue
-take_queued n m [] queue all e = let same : n ≡ m = omega (arith, e) in take_items n queue ∙ ap (λ (i : ℕ). take i queue) same
+take_queued n m [] queue all e = let same : n ≡ m = omega (arith, e) in
+    take_items n queue ∙ ap (λ (i : ℕ). take i queue) same
 take_queued zero m (s ∷ settled) queue all e = let none : 0 ≡ m = omega (arith, e) in ap (λ (i : ℕ). take i queue) none
 take_queued (suc n) m (s ∷ settled) queue all e = rw all.0 (take_queued n m settled queue all.1 (omega (arith, e)))
 
 pub drop_queued : (n m : ℕ) (settled : List Element) (queue : List Observation) → AreSettled settled
     → m ≡ n - length settled
     → items_of is_queued (drop n (before_queue settled queue)) ≡ drop m queue
-drop_queued n m [] queue all e = let same : n ≡ m = omega (arith, e) in drop_items n queue ∙ ap (λ (i : ℕ). drop i queue) same
-drop_queued zero m (s ∷ settled) queue all e = let none : 0 ≡ m = omega (arith, e) in queued_in (s ∷ settled) queue all ∙ ap (λ (i : ℕ). drop i queue) none
+drop_queued n m [] queue all e = let same : n ≡ m = omega (arith, e) in
+    drop_items n queue ∙ ap (λ (i : ℕ). drop i queue) same
+drop_queued zero m (s ∷ settled) queue all e = let none : 0 ≡ m = omega (arith, e) in
+    queued_in (s ∷ settled) queue all ∙ ap (λ (i : ℕ). drop i queue) none
 drop_queued (suc n) m (s ∷ settled) queue all e = drop_queued n m settled queue all.1 (omega (arith, e))

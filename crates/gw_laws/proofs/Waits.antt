@@ -46,18 +46,22 @@ waiting_answer c picture = waiting_rows (cause_for c.action) c (filter (is_asked
 
 -- the line from the answer to the interrogation on
 abbrev pub from_answer : Option Interrogation → List Element → List Sending
-from_answer q elements = map sendings.Part (left_of q) ++ map sendings.News (items_of is_queued (drop (since_of q) elements))
+from_answer q elements = map sendings.Part (left_of q)
+    ++ map sendings.News (items_of is_queued (drop (since_of q) elements))
 
 pub waiting_from : (q : Option Interrogation) (es : List Element)
-    → waiting_in (from_answer q es) ≡ waiting_in (map sendings.Part (left_of q)) ++ items_of is_queued (drop (since_of q) es)
+    → waiting_in (from_answer q es) ≡ waiting_in (map sendings.Part (left_of q))
+    ++ items_of is_queued (drop (since_of q) es)
 waiting_from q es =
     let later : List Observation = items_of is_queued (drop (since_of q) es) in
     let parts : List Sending = map sendings.Part (left_of q) in
-    waiting_in-append parts (map sendings.News later) ∙ ap (λ (xs : List Observation). waiting_in parts ++ xs) (waiting_news later)
+    waiting_in-append parts (map sendings.News later)
+    ∙ ap (λ (xs : List Observation). waiting_in parts ++ xs) (waiting_news later)
 
 pub waiting_line : (owed : List Answer) (q : Option Interrogation) (es : List Element)
     → waiting_in (line_with owed q es)
-    ≡ waiting_in (map sendings.Answer owed) ++ (items_of is_queued (take (since_of q) es) ++ waiting_in (from_answer q es))
+    ≡ waiting_in (map sendings.Answer owed) ++ (items_of is_queued (take (since_of q) es)
+    ++ waiting_in (from_answer q es))
 waiting_line owed q es =
     let older : List Observation = items_of is_queued (take (since_of q) es) in
     waiting_in-append (map sendings.Answer owed) (map sendings.News older ++ from_answer q es)
@@ -70,7 +74,8 @@ waiting_line owed q es =
 queue_joined : (es : List Element) (xs : List Observation)
     → items_of is_queued (es ++ map queued xs) ≡ items_of is_queued es ++ xs
 queue_joined es xs =
-    items_of-append is_queued es (map queued xs) ∙ ap (λ (ys : List Observation). items_of is_queued es ++ ys) (queued_in [] xs tt)
+    items_of-append is_queued es (map queued xs) ∙ ap (λ (ys : List Observation). items_of is_queued es ++ ys)
+    (queued_in [] xs tt)
 
 -- what waits from the answer on, where news joined those behind the mark
 pub from_answer_joined : (q : Option Interrogation) (es fs : List Element) (xs : List Observation)
@@ -99,7 +104,8 @@ line_joined owed q es xs within =
     ∙ (ap (λ (ys : List Observation). answers ++ (ys ++ waiting_in (from_answer q fs))) front
     ∙ (ap (λ (ys : List Observation). answers ++ (older ++ ys)) back
     ∙ (ap (λ (ys : List Observation). answers ++ ys) (sym (append_assoc older rest xs))
-    ∙ (sym (append_assoc answers (older ++ rest) xs) ∙ ap (λ (ys : List Observation). ys ++ xs) (sym (waiting_line owed q es))))))
+    ∙ (sym (append_assoc answers (older ++ rest) xs) ∙ ap (λ (ys : List Observation). ys ++ xs)
+    (sym (waiting_line owed q es))))))
 
 -- ---- the first in line
 
@@ -126,7 +132,13 @@ returnable offset sendings.Receipt can = tt
 -- none of the causes of observations is one of what is unknown
 other_causes : (cause octet : ℕ) → octet % 64 ≡ cause → 44 ≤ cause → cause ≤ 47
     → (eqb octet 3 ≡ false) × (eqb octet 5 ≡ false) × (eqb octet 20 ≡ false) × (eqb octet 37 ≡ false)
-other_causes cause octet is low high = (other 3 (omega arith), other 5 (omega arith), other 20 (omega arith), other 37 (omega arith))
+other_causes cause octet is low high = (
+  other 3 (omega arith),
+  other 5 (omega arith),
+  other 20 (omega arith),
+  other 37
+      (omega arith),
+)
   where
     other : (n : ℕ) → (n % 64 ≤ 43) → eqb octet n ≡ false
     other n few = ne_eqb octet n (λ e. omega (arith, is, low, few, ap (λ (m : ℕ). m % 64) e))
@@ -200,7 +212,8 @@ from_part_of [] [] p rest = refl
 pub from_part_next : (s : Sending) (line : List Sending) → slice_get line 0 ≡ Some s → is_part s ≡ false
     → from_part (drop 1 line) ≡ from_part line
 from_part_next s [] first other = absurd cc
-from_part_next s (t ∷ line) first other = let is : is_part t ≡ false = ap (λ (x : Option Sending). of x) first ∙ other in rw is refl
+from_part_next s (t ∷ line) first other = let is : is_part t ≡ false =
+    ap (λ (x : Option Sending). of x) first ∙ other in rw is refl
   where
     of : Option Sending → Bool
     of None = false

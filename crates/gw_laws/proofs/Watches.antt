@@ -82,9 +82,12 @@ unheard_came rows limit since xs v within kept =
       watched = kept.watched;
       knows = λ none.
           let joined : drop (since_of v.asked) fs ≡ drop (since_of v.asked) es ++ map queued xs =
-          subst (λ (n : ℕ). drop n fs ≡ drop n es ++ map queued xs) (sym mark) (joins_behind limit since es xs few none) in
-          subst (λ (ys : List Observation). Knows rows (v.log ++ xs) ys) (sym (from_answer_joined v.asked es fs xs joined))
-          (knows_news rows v.log (waiting_in (from_answer v.asked es)) xs (kept.knows (none_before limit since es xs few none)));
+          subst (λ (n : ℕ). drop n fs ≡ drop n es ++ map queued xs) (sym mark)
+          (joins_behind limit since es xs few none) in
+          subst (λ (ys : List Observation). Knows rows (v.log ++ xs) ys)
+          (sym (from_answer_joined v.asked es fs xs joined))
+          (knows_news rows v.log (waiting_in (from_answer v.asked es)) xs
+          (kept.knows (none_before limit since es xs few none)));
     }
 
 heard_came : (rows : List Row) (limit since : ℕ) (told xs : List Observation) (v : View)
@@ -100,11 +103,13 @@ heard_came rows limit since told xs v within kept =
       knows = λ none.
           let joined : fs ≡ es ++ map queued xs = joins limit since es xs few kept.settled none in
           let waits : waiting_in (line_with v.owed v.asked fs) ≡ waiting_in (line_in v) ++ xs =
-          ap (λ (gs : List Element). waiting_in (line_with v.owed v.asked gs)) joined ∙ line_joined v.owed v.asked es xs within in
+          ap (λ (gs : List Element). waiting_in (line_with v.owed v.asked gs)) joined
+          ∙ line_joined v.owed v.asked es xs within in
           let all : (told ++ waiting_in (line_in v)) ++ xs ≡ told ++ waiting_in (line_with v.owed v.asked fs) =
           append_assoc told (waiting_in (line_in v)) xs ∙ ap (λ (ys : List Observation). told ++ ys) (sym waits) in
           subst (λ (ys : List Observation). Knows rows (v.log ++ xs) ys) all
-          (knows_news rows v.log (told ++ waiting_in (line_in v)) xs (kept.knows (none_before limit since es xs few none)));
+          (knows_news rows v.log (told ++ waiting_in (line_in v)) xs
+          (kept.knows (none_before limit since es xs few none)));
     }
 
 pub kept_came : (rows : List Row) (limit since : ℕ) (told : Option (List Observation)) (xs : List Observation)
@@ -206,13 +211,15 @@ unheard_put_out rows offset common since meant ys v puts other kept = rw none_sa
     same : from_answer v.asked v.elements ≡ from_answer new.asked new.elements
     same =
         sym (front v kept.watched)
-        ∙ (sym (from_part_next puts.sending (line_in v) puts.first other) ∙ (ap from_part (sym puts.line) ∙ front new watched))
+        ∙ (sym (from_part_next puts.sending (line_in v) puts.first other)
+        ∙ (ap from_part (sym puts.line) ∙ front new watched))
 
     kept_on : Unheard rows new since
     kept_on = record {
       watched = watched;
       knows = λ none.
-          subst (λ (l : List Sending). Knows rows v.log (waiting_in l)) same (kept.knows (sym (gone_dropped since v.elements ys) ∙ none));
+          subst (λ (l : List Sending). Knows rows v.log (waiting_in l)) same
+          (kept.knows (sym (gone_dropped since v.elements ys) ∙ none));
     }
 
 -- its confirmation
@@ -240,7 +247,8 @@ confirmed rows offset common since meant ys v p first means moved kept = rw is_s
 
     whole : line_in v ≡ sendings.Part (command_with 7 false q.command) ∷ behind q v.elements
     whole =
-        ap (λ (owed : List Answer). map sendings.Answer owed ++ (map sendings.News older ++ from_answer v.asked v.elements)) none.0
+        ap (λ (owed : List Answer). map sendings.Answer owed
+        ++ (map sendings.News older ++ from_answer v.asked v.elements)) none.0
         ∙ (ap (λ (xs : List Observation). map sendings.News xs ++ from_answer v.asked v.elements) none.1 ∙ from)
 
     part_is : p ≡ command_with 7 false q.command
@@ -261,7 +269,8 @@ confirmed rows offset common since meant ys v p first means moved kept = rw is_s
     heard : Heard rows new since []
     heard = record {
       mark = omega (arith, mark, same_since meant v.asked);
-      settled = gone_front since v.elements ys (subst (λ (n : ℕ). items_of is_queued (take n v.elements) ≡ []) mark none.1);
+      settled = gone_front since v.elements ys (subst (λ (n : ℕ). items_of is_queued (take n v.elements) ≡ []) mark
+          none.1);
       knows = λ kept_all.
           subst (λ (xs : List Observation). Knows rows v.log xs)
           (ap waiting_in from ∙ sym (ap waiting_in (moved ∙ ap (drop 1) whole)))
@@ -304,7 +313,8 @@ kept_taken rows since (Some told) more v shown kept = record {
   settled = kept.settled;
   knows = λ none.
       subst (λ (xs : List Observation). Knows rows v.log xs) after
-      (knows_inserted rows v.log (told ++ answers) news rest shown (subst (λ (xs : List Observation). Knows rows v.log xs) before (kept.knows none)));
+      (knows_inserted rows v.log (told ++ answers) news rest shown
+      (subst (λ (xs : List Observation). Knows rows v.log xs) before (kept.knows none)));
 }
   where
     answers : List Observation
@@ -317,18 +327,21 @@ kept_taken rows since (Some told) more v shown kept = record {
     rest = items_of is_queued (take (since_of v.asked) v.elements) ++ waiting_in (from_answer v.asked v.elements)
 
     before : told ++ waiting_in (line_in v) ≡ (told ++ answers) ++ rest
-    before = ap (λ (xs : List Observation). told ++ xs) (waiting_line v.owed v.asked v.elements) ∙ sym (append_assoc told answers rest)
+    before = ap (λ (xs : List Observation). told ++ xs) (waiting_line v.owed v.asked v.elements)
+        ∙ sym (append_assoc told answers rest)
 
     joined : waiting_in (map sendings.Answer (v.owed ++ more)) ≡ answers ++ news
     joined =
-        ap waiting_in (map-append sendings.Answer v.owed more) ∙ waiting_in-append (map sendings.Answer v.owed) (map sendings.Answer more)
+        ap waiting_in (map-append sendings.Answer v.owed more)
+        ∙ waiting_in-append (map sendings.Answer v.owed) (map sendings.Answer more)
 
     after : (told ++ answers) ++ (news ++ rest) ≡ told ++ waiting_in (line_in (taken more v))
     after =
         append_assoc told answers (news ++ rest)
         ∙ ap (λ (xs : List Observation). told ++ xs)
         (sym (append_assoc answers news rest)
-        ∙ (ap (λ (xs : List Observation). xs ++ rest) (sym joined) ∙ sym (waiting_line (v.owed ++ more) v.asked v.elements)))
+        ∙ (ap (λ (xs : List Observation). xs ++ rest) (sym joined)
+        ∙ sym (waiting_line (v.owed ++ more) v.asked v.elements)))
 
 -- an interrogation that begins with the picture of now, when so many news came
 pub record IsNew (rows : List Row) (v : View) (q : Interrogation) : Type 0 where
@@ -349,7 +362,8 @@ new_from rows v q is =
     let shown : List Observation = filter (is_asked_by q.command.action) (picture_of rows v.log) in
     waiting_from (Some q) v.elements
     ∙ (ap (λ (xs : List Observation). xs ++ items_of is_queued (drop q.since v.elements)) (new_left rows v q is)
-    ∙ ap (λ (es : List Element). shown ++ items_of is_queued es) (ap (λ (n : ℕ). drop n v.elements) is.since ∙ drop-length v.elements))
+    ∙ ap (λ (es : List Element). shown ++ items_of is_queued es)
+    (ap (λ (n : ℕ). drop n v.elements) is.since ∙ drop-length v.elements))
 
 asks_all : (action : Action) (x : Observation) → is_station_interrogation action ≡ true → is_total x.value ≡ false
     → is_asked_by action x ≡ true
@@ -376,7 +390,8 @@ unheard_begun rows v q single is station = record {
   knows = λ none.
       subst (λ (xs : List Observation). Knows rows v.log xs) (sym (append-nil asked) ∙ sym (new_from rows v q is))
       (λ n row get whole.
-      let is_asked : is_asked_by q.command.action (shown_by v.log row) ≡ true = asks_all q.command.action (shown_by v.log row) station whole in
+      let is_asked : is_asked_by q.command.action (shown_by v.log row) ≡ true =
+      asks_all q.command.action (shown_by v.log row) station whole in
       shown_last rows v.log (is_asked_by q.command.action) n row None single get is_asked);
 }
   where
@@ -394,7 +409,8 @@ whole_line v none =
     ∙ (ap (λ (xs : List Observation). answers ++ (older ++ xs)) (waiting_from v.asked v.elements)
     ∙ (ap (λ (parts : List Outgoing). answers ++ (older ++ (waiting_in (map sendings.Part parts) ++ items_of is_queued (drop s v.elements)))) none
     ∙ ap (λ (xs : List Observation). answers ++ xs)
-    (sym (items_of-append is_queued (take s v.elements) (drop s v.elements)) ∙ ap (items_of is_queued) (take-append-drop s v.elements))))
+    (sym (items_of-append is_queued (take s v.elements) (drop s v.elements))
+    ∙ ap (items_of is_queued) (take-append-drop s v.elements))))
 
 -- another begins
 pub heard_begun : (rows : List Row) (since : ℕ) (told : List Observation) (v : View) (q : Interrogation)
@@ -406,7 +422,8 @@ heard_begun rows since told v q single within left is kept = record {
   settled = kept.settled;
   knows = λ none.
       subst (λ (xs : List Observation). Knows rows v.log xs) after
-      (knows_inserted rows v.log (told ++ (answers ++ news)) asked [] (filtered_shown rows v.log (is_asked_by q.command.action) single)
+      (knows_inserted rows v.log (told ++ (answers ++ news)) asked []
+      (filtered_shown rows v.log (is_asked_by q.command.action) single)
       (subst (λ (xs : List Observation). Knows rows v.log xs) before (kept.knows none)));
 }
   where
@@ -420,7 +437,8 @@ heard_begun rows since told v q single within left is kept = record {
     asked = filter (is_asked_by q.command.action) (picture_of rows v.log)
 
     before : told ++ waiting_in (line_in v) ≡ (told ++ (answers ++ news)) ++ []
-    before = ap (λ (xs : List Observation). told ++ xs) (whole_line v left) ∙ sym (append-nil (told ++ (answers ++ news)))
+    before = ap (λ (xs : List Observation). told ++ xs) (whole_line v left)
+        ∙ sym (append-nil (told ++ (answers ++ news)))
 
     front : items_of is_queued (take q.since v.elements) ≡ news
     front = ap (items_of is_queued) (ap (λ (n : ℕ). take n v.elements) is.since ∙ take-length v.elements)

@@ -3,22 +3,20 @@ use Rattle.gw_map.specs.Settings.{Setup}
 use Rattle.gw_steps.specs.declared.step.Step.{Step}
 use Rattle.gw_steps.specs.declared.step.Reply.{Reply}
 use Rattle.gw_steps.specs.declared.step.StepFault.{StepFault}
-use Rattle.std.specs.List.{AllByRecursion}
-use Rattle.gw_steps.specs.Carried.{IsMeant}
 use Rattle.gw_steps.specs.Runs.{history}
 use Rattle.gw_history.specs.Premises.{IsSoundRun}
 use Rattle.gw_laws.proofs.Promised.{keeps_promises}
-use Rattle.gw_hub.proofs.Meant.{history_meant}
 use Rattle.gw_hub.proofs.hub.Hub.run.Goals as goal
 
 -- the run of a hub that was made of settings
-run_of : (setup settings : Setup) (held steps : List Step) (replies : List (Result Reply StepFault)) → setup ≡ settings → held ≡ steps
-    → IsSoundRun setup (history [] held replies) → IsSoundRun settings (history [] steps replies)
+run_of : (setup settings : Setup) (held steps : List Step) (replies : List (Result Reply StepFault))
+    → setup ≡ settings → held ≡ steps → IsSoundRun setup (history [] held replies) → IsSoundRun settings (history [] steps replies)
 run_of setup settings held steps replies same all run =
-    subst (λ (s : Setup). IsSoundRun s (history [] steps replies)) same (subst (λ (ss : List Step). IsSoundRun setup (history [] ss replies)) all run)
+    subst (λ (s : Setup). IsSoundRun s (history [] steps replies)) same
+    (subst (λ (ss : List Step). IsSoundRun setup (history [] ss replies)) all run)
 
 pub returns-clause-promises : goal.returns-clause-promises
 returns-clause-promises c =
     keeps_promises c.args.settings _
-    (run_of _ _ _ c.args.steps.items c.in_ok-replies.replies.items c.in_ok-hub.ensures.setup c.deref.ensures.value c.in_ok-replies.ensures.run)
-    (history_meant [] c.args.steps.items c.in_ok-replies.replies.items tt (subst (AllByRecursion IsMeant) c.deref.ensures.value c.in_ok-replies.ensures.meant))
+    (run_of _ _ _ c.args.steps.items c.in_ok-replies.replies.items c.in_ok-hub.ensures.setup c.deref.ensures.value
+    c.in_ok-replies.ensures.run)
