@@ -1,7 +1,7 @@
 -- What is written of an answer means what it was made of.
-use Rattle.std.proofs.Common.{◌≡◌, ℕ, ℤ, ◌+◌, ◌/◌, ◌%◌, ◌^◌, ◌<◌, ◌≤◌, Bool, true, false, eqb, List, [], ◌∷◌, length, Option, Some, None, Result, Ok, Err, refl, sym, ap, subst, ◌∙◌, arith, inl, inr}
+use Rattle.std.proofs.Common.{◌≡◌, ℕ, ℤ, ◌+◌, ◌/◌, ◌%◌, ◌^◌, ◌<◌, ◌≤◌, Bool, true, false, List, [], ◌∷◌, length, Option, Some, None, Result, Ok, Err, refl, sym, ap, subst, ◌∙◌, arith}
 use Rattle.std.specs.Prelude.{◌*◌, option_map, slice_set}
-use Rattle.std.proofs.lemmas.Bool.{cases_Bool, eq-eqb}
+use Rattle.std.proofs.lemmas.Bool.{eq-eqb}
 use Rattle.gw_model.specs.Bits.{is_set}
 use Rattle.gw_model.specs.Optional.{◌>>=◌}
 use Rattle.gw_model.specs.Fit.{HasWidth, IsFit}
@@ -17,12 +17,13 @@ use Rattle.iec_command.specs.declared.command.Action.TheVariants as actions
 use Rattle.iec_command.specs.declared.fault.CommandFault.{CommandFault}
 use Rattle.iec_command.specs.Commands.{spelling as command_spelling, cause_octet, command_in, command_of, faults, mirrored, unless, IsWhole}
 use Rattle.iec_command.proofs.Again.{command_of-spelling}
-use Rattle.gw_answers.specs.declared.answer.Answer.{Answer}
-use Rattle.gw_answers.specs.declared.answer.Answer.TheVariants.{Unknown, Confirmed, Shown}
-use Rattle.gw_answers.specs.declared.answer.Part.{Part}
-use Rattle.gw_answers.specs.declared.answer.Part.TheVariants.{Confirmation, Row, Termination}
-use Rattle.gw_answers.specs.Octets.{octets_in, answering, confirming, answer_octets, part_octets}
-use Rattle.gw_answers.specs.Meaning.{Tells, Commands, meant_by, meaning_of, asdu_of, HasCause, ComesBack, MeansAnswer, MeansPart, CanSendAnswer, CanSendPart}
+use Rattle.gw_answers.specs.declared.outgoing.Answer.{Answer}
+use Rattle.gw_answers.specs.declared.outgoing.Answer.TheVariants.{Returned, Made}
+use Rattle.gw_answers.specs.declared.outgoing.Outgoing.{Outgoing}
+use Rattle.gw_answers.specs.declared.outgoing.Outgoing.TheVariants as outgoing
+use Rattle.gw_answers.specs.Outgoing.{at_station}
+use Rattle.gw_answers.specs.Octets.{octets_in, answer_octets, outgoing_octets}
+use Rattle.gw_answers.specs.Meaning.{Tells, Commands, meant_by, meaning_of, meant_outgoing, asdu_of, HasCause, ComesBack, Means, CanSendOutgoing, CanSendAnswer}
 
 -- ---- commands
 
@@ -36,31 +37,22 @@ tells_nothing offset c (actions.Interrogation qualifier) = refl
 tells_nothing offset c (actions.CounterInterrogation qualifier) = refl
 tells_nothing offset c actions.Read = refl
 
-pub commands_mean : (offset : ℤ) (c : Command) → IsWhole c → meaning_of offset (command_spelling c) ≡ Commands c
+commands_mean : (offset : ℤ) (c : Command) → IsWhole c → meaning_of offset (command_spelling c) ≡ Commands c
 commands_mean offset c whole =
     let octets : List ℕ = command_spelling c in
     ap (λ (m : Option Asdu). meant_by octets m (command_of octets)) (tells_nothing offset c c.action)
     ∙ ap (λ (r : Result Command CommandFault). meant_by octets None r) (command_of-spelling c whole)
 
-answering_whole : (common cause : ℕ) (negative : Bool) (c : Command) → common < 65536 → cause < 64 → IsWhole c → IsWhole (answering common cause negative c)
-answering_whole common cause negative c small few whole = record {
-  cause = few;
+whole_here : (common : ℕ) (c : Command) → common < 65536 → IsWhole c → IsWhole (at_station common c)
+whole_here common c small whole = record {
+  cause = whole.cause;
   originator = whole.originator;
   common_address = small;
   address = whole.address;
   action = whole.action;
 }
 
-confirming_few : (cause : ℕ) → confirming cause < 64
-confirming_few cause = elim (cases_Bool (eqb cause 8)) [ inl is ↦ rw is (omega arith) | inr isnt ↦ rw isnt (omega arith) ]
-
 -- ---- observations
-
-pub observations_mean : (offset : ℤ) (common cause : ℕ) (x : Observation) → common < 65536 → HasWidth x.value → IsFit offset x
-    → meaning_of offset (spelling offset common cause x) ≡ Tells (asdu_of offset common cause 0 x)
-observations_mean offset common cause x small width fit =
-    let octets : List ℕ = spelling offset common cause x in
-    ap (λ (m : Option Asdu). meant_by octets m (command_of octets)) (meant offset common cause x small width fit)
 
 abbrev one : ℕ → ℕ → ℕ → ℕ → List Observation → Asdu
 one identification cause originator common xs =
@@ -86,12 +78,12 @@ originator_apart types t v cause o (low ∷ high ∷ objects) = by_layout (layou
     by_layout None = refl
     by_layout (Some l) = by_objects (objects_of l (is_set 7 v) (v % 128) objects)
 
-shown_means : (offset : ℤ) (common originator : ℕ) (x : Observation) → common < 65536 → HasWidth x.value → IsFit offset x
-    → meaning_of offset (slice_set (spelling offset common 5 x) 3 originator) ≡ Tells (asdu_of offset common 5 originator x)
-shown_means offset common originator x small width fit =
-    let octets : List ℕ = slice_set (spelling offset common 5 x) 3 originator in
+observations_mean : (offset : ℤ) (common cause originator : ℕ) (x : Observation) → common < 65536 → HasWidth x.value → IsFit offset x
+    → meaning_of offset (slice_set (spelling offset common cause x) 3 originator) ≡ Tells (asdu_of offset common cause originator x)
+observations_mean offset common cause originator x small width fit =
+    let octets : List ℕ = slice_set (spelling offset common cause x) 3 originator in
     ap (λ (m : Option Asdu). meant_by octets m (command_of octets))
-    (originator_apart (monitor_types offset) _ 1 5 originator _ ∙ ap (option_map (λ (a : Asdu). record a { originator = originator })) (meant offset common 5 x small width fit))
+    (originator_apart (monitor_types offset) _ 1 cause originator _ ∙ ap (option_map (λ (a : Asdu). record a { originator = originator })) (meant offset common cause x small width fit))
 
 -- ---- what comes back
 
@@ -160,15 +152,17 @@ comes_back offset cause (t ∷ v ∷ old ∷ rest) few long = by_asdu (asdu_mean
     by_asdu (Some a) e = subst (HasCause cause) (sym (cause_told (monitor_types offset) t v new rest a e)) has
     by_asdu None e = by_command (command_of back) refl
 
--- ---- answers
+-- ---- what goes out
 
-pub answer_means : (offset : ℤ) (common : ℕ) (answer : Answer) → common < 65536 → CanSendAnswer offset answer → MeansAnswer offset common answer (meaning_of offset (answer_octets offset common answer))
-answer_means offset common (Unknown asdu cause) small can = comes_back offset cause (octets_in asdu) (omega (arith, can.2)) can.0
-answer_means offset common (Confirmed c negative) small can =
-    commands_mean offset (answering common (confirming c.cause) negative c) (answering_whole common (confirming c.cause) negative c small (confirming_few c.cause) can)
-answer_means offset common (Shown x originator) small can = shown_means offset common originator x small can.width can.fit
+pub outgoing_means : (offset : ℤ) (common : ℕ) (x : Outgoing) → common < 65536 → CanSendOutgoing offset x
+    → meaning_of offset (outgoing_octets offset common x) ≡ meant_outgoing offset common x
+outgoing_means offset common (outgoing.Command c) small can = commands_mean offset (at_station common c) (whole_here common c small can.1)
+outgoing_means offset common (outgoing.Observation cause originator x) small can =
+    observations_mean offset common cause originator x small can.width can.fit
 
-pub part_means : (offset : ℤ) (common : ℕ) (part : Part) → common < 65536 → CanSendPart offset part → MeansPart offset common part (meaning_of offset (part_octets offset common part))
-part_means offset common (Confirmation c) small can = commands_mean offset (answering common 7 false c) (answering_whole common 7 false c small (omega arith) can)
-part_means offset common (Row cause x) small can = observations_mean offset common cause x small can.width can.fit
-part_means offset common (Termination c) small can = commands_mean offset (answering common 10 false c) (answering_whole common 10 false c small (omega arith) can)
+pub answer_means : (offset : ℤ) (common : ℕ) (answer : Answer) → common < 65536 → CanSendAnswer offset answer
+    → Means offset common answer (meaning_of offset (answer_octets offset common answer))
+answer_means offset common (Returned asdu cause) small can = comes_back offset cause (octets_in asdu) (omega (arith, can.2)) can.0
+answer_means offset common (Made (outgoing.Command c)) small can = outgoing_means offset common (outgoing.Command c) small can
+answer_means offset common (Made (outgoing.Observation cause originator x)) small can =
+    outgoing_means offset common (outgoing.Observation cause originator x) small can.1

@@ -11,8 +11,10 @@ use Rattle.iec_command.specs.declared.command.Action.TheVariants as actions
 use Rattle.gw_judge.specs.Judging.{is_execute}
 use Rattle.gw_judge.specs.declared.judging.Judged.{Judged}
 use Rattle.gw_judge.specs.declared.judging.Judged.TheVariants.{Malformed, Refuse, Accepted}
-use Rattle.gw_answers.specs.declared.answer.Answer.{Answer}
-use Rattle.gw_answers.specs.declared.answer.Answer.TheVariants.{Unknown, Confirmed, Shown}
+use Rattle.gw_answers.specs.declared.outgoing.Answer.{Answer}
+use Rattle.gw_answers.specs.declared.outgoing.Answer.TheVariants.{Returned, Made}
+use Rattle.gw_answers.specs.declared.outgoing.Outgoing.TheVariants as outgoing
+use Rattle.gw_answers.specs.Outgoing.{confirmed}
 use Rattle.gw_answers.specs.Interrogations.{is_accepted_act}
 
 -- ---- places
@@ -26,6 +28,7 @@ places_for pending (Accepted c) = if is_accepted_act pending c then 0 else if is
 
 -- ---- the answer
 
+-- a row that is read is told with cause 5, and the originator of the request
 -- what the picture shows of the row with an address, if there is one
 abbrev pub shown_by : List Observation → Option (ℕ × Row) → Option Observation
 shown_by picture None = None
@@ -36,19 +39,19 @@ shown_at setup picture address = shown_by picture (row_at_from 0 address setup.r
 
 -- an interrogation that isn't accepted, and each deactivation of one, is confirmed negatively
 abbrev pub refused_act : Bool → Command → Option Answer
-refused_act pending c = if is_accepted_act pending c then None else Some (Confirmed c true)
+refused_act pending c = if is_accepted_act pending c then None else Some (Made (confirmed true c))
 
 -- a command for a control waits for what is said of it
 abbrev pub answered_action : Setup → List Observation → Bool → Command → Action → Option Answer
 answered_action setup picture pending c (actions.Interrogation qualifier) = refused_act pending c
 answered_action setup picture pending c (actions.CounterInterrogation qualifier) = refused_act pending c
 answered_action setup picture pending c actions.Read =
-    option_map (λ x. Shown x c.originator) (shown_at setup picture c.address)
+    option_map (λ x. Made (outgoing.Observation 5 c.originator x)) (shown_at setup picture c.address)
 answered_action setup picture pending c _ = None
 
 abbrev pub answered : Setup → List Observation → Bool → Asdu → Judged → Option Answer
 answered setup picture pending asdu Malformed = None
-answered setup picture pending asdu (Refuse cause execute) = Some (Unknown asdu cause)
+answered setup picture pending asdu (Refuse cause execute) = Some (Returned asdu cause)
 answered setup picture pending asdu (Accepted c) = answered_action setup picture pending c c.action
 
 -- ---- commands for controls

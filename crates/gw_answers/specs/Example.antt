@@ -12,7 +12,7 @@ use Rattle.gw_judge.specs.Example.{setup}
 use Rattle.gw_judge.specs.Judging.{judged}
 use Rattle.gw_answers.specs.Interrogations.{answer_to}
 use Rattle.gw_answers.specs.Answers.{answered}
-use Rattle.gw_answers.specs.Octets.{answer_octets, part_octets}
+use Rattle.gw_answers.specs.Octets.{answer_octets, outgoing_octets}
 
 -- before anything was reported: zero, invalid, and but for the total not topical
 abbrev pub invalid : Bool → Quality
@@ -50,4 +50,4 @@ act action = record {
 
 -- the ASDUs that answer it
 abbrev pub replies : Command → List (List ℕ)
-replies c = map (part_octets (pos 0) setup.station.common_address) (answer_to c picture)
+replies c = map (outgoing_octets (pos 0) setup.station.common_address) (answer_to c picture)

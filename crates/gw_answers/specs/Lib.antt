@@ -1,3 +1,4 @@
+pub mod Outgoing
 pub mod Interrogations
 pub mod Answers
 pub mod Octets

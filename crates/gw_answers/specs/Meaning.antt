@@ -1,5 +1,5 @@
 -- What an ASDU means, whether it carries process information or a command.
-use Rattle.std.specs.Prelude.{◌≡◌, ℕ, ℤ, ◌%◌, true, false, List, [], ◌∷◌, Option, Some, None, Result, Ok, Err, is_some, slice_index}
+use Rattle.std.specs.Prelude.{◌≡◌, ℕ, ℤ, ◌%◌, Bool, true, ◌==◌, ◌||◌, IsTrue, List, [], ◌∷◌, Option, Some, None, Result, Ok, Err, is_some, slice_index}
 use Rattle.gw_model.specs.Bits.{is_set}
 use Rattle.gw_model.specs.Fit.{HasWidth, IsFit}
 use Rattle.gw_model.specs.declared.observation.Observation.{Observation}
@@ -9,11 +9,12 @@ use Rattle.iec_asdu.specs.Spelling.{type_of}
 use Rattle.iec_command.specs.declared.command.Command.{Command}
 use Rattle.iec_command.specs.declared.fault.CommandFault.{CommandFault}
 use Rattle.iec_command.specs.Commands.{command_of, IsWhole}
-use Rattle.gw_answers.specs.declared.answer.Answer.{Answer}
-use Rattle.gw_answers.specs.declared.answer.Answer.TheVariants.{Unknown, Confirmed, Shown}
-use Rattle.gw_answers.specs.declared.answer.Part.{Part}
-use Rattle.gw_answers.specs.declared.answer.Part.TheVariants.{Confirmation, Row, Termination}
-use Rattle.gw_answers.specs.Octets.{answering, confirming, IsReturnable}
+use Rattle.gw_answers.specs.declared.outgoing.Answer.{Answer}
+use Rattle.gw_answers.specs.declared.outgoing.Answer.TheVariants.{Returned, Made}
+use Rattle.gw_answers.specs.declared.outgoing.Outgoing.{Outgoing}
+use Rattle.gw_answers.specs.declared.outgoing.Outgoing.TheVariants as outgoing
+use Rattle.gw_answers.specs.Outgoing.{at_station}
+use Rattle.gw_answers.specs.Octets.{IsReturnable}
 
 pub data Meant : Type 0 where
   -- process information
@@ -52,31 +53,33 @@ ComesBack cause (Tells asdu) = HasCause cause asdu.cause
 ComesBack cause (Commands c) = (c.cause ≡ cause) × (c.negative ≡ true)
 ComesBack cause (Unread octets) = HasCause cause (slice_index octets 2)
 
--- an answer means what it was made of
-abbrev pub MeansAnswer : ℤ → ℕ → Answer → Meant → Type 0
-MeansAnswer offset common (Unknown asdu cause) meant = ComesBack cause meant
-MeansAnswer offset common (Confirmed c negative) meant =
-    meant ≡ Commands (answering common (confirming c.cause) negative c)
-MeansAnswer offset common (Shown x originator) meant = meant ≡ Tells (asdu_of offset common 5 originator x)
+-- what goes out means what it is
+abbrev pub meant_outgoing : ℤ → ℕ → Outgoing → Meant
+meant_outgoing offset common (outgoing.Command c) = Commands (at_station common c)
+meant_outgoing offset common (outgoing.Observation cause originator x) = Tells (asdu_of offset common cause originator x)
 
-abbrev pub MeansPart : ℤ → ℕ → Part → Meant → Type 0
-MeansPart offset common (Confirmation c) meant = meant ≡ Commands (answering common 7 false c)
-MeansPart offset common (Row cause x) meant = meant ≡ Tells (asdu_of offset common cause 0 x)
-MeansPart offset common (Termination c) meant = meant ≡ Commands (answering common 10 false c)
+abbrev pub Means : ℤ → ℕ → Answer → Meant → Type 0
+Means offset common (Returned asdu cause) meant = ComesBack cause meant
+Means offset common (Made x) meant = meant ≡ meant_outgoing offset common x
+
+-- ---- what can be sent
 
 -- an ASDU can carry the observation: it is fit, and its number has its element's width
 pub record IsSendable (offset : ℤ) (x : Observation) : Type 0 where
   pub fit : IsFit offset x
   pub width : HasWidth x.value
 
--- an answer can be sent: what comes back has a whole header, a command has the bits of its places, and an ASDU can carry
--- the observation
-abbrev pub CanSendAnswer : ℤ → Answer → Type 0
-CanSendAnswer offset (Unknown asdu cause) = IsReturnable (Unknown asdu cause)
-CanSendAnswer offset (Confirmed c negative) = IsWhole c
-CanSendAnswer offset (Shown x originator) = IsSendable offset x
+-- the confirmation of an activation (7) or a deactivation (9), or a termination (10)
+abbrev pub is_answering : ℕ → Bool
+is_answering cause = cause == 7 || cause == 9 || cause == 10
 
-abbrev pub CanSendPart : ℤ → Part → Type 0
-CanSendPart offset (Confirmation c) = IsWhole c
-CanSendPart offset (Row cause x) = IsSendable offset x
-CanSendPart offset (Termination c) = IsWhole c
+-- a command that goes out has such a cause and the bits of its places; an ASDU can carry an observation that does
+abbrev pub CanSendOutgoing : ℤ → Outgoing → Type 0
+CanSendOutgoing offset (outgoing.Command c) = IsTrue (is_answering c.cause) × IsWhole c
+CanSendOutgoing offset (outgoing.Observation cause originator x) = IsSendable offset x
+
+-- what comes back has a whole header and a cause from 44 to 47; an observation answers a read, with cause 5
+abbrev pub CanSendAnswer : ℤ → Answer → Type 0
+CanSendAnswer offset (Returned asdu cause) = IsReturnable (Returned asdu cause)
+CanSendAnswer offset (Made (outgoing.Command c)) = CanSendOutgoing offset (outgoing.Command c)
+CanSendAnswer offset (Made (outgoing.Observation cause originator x)) = (cause ≡ 5) × IsSendable offset x

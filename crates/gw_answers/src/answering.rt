@@ -1,14 +1,41 @@
 //! What an ASDU gets for an answer at once.
 ghost use Rattle.std.specs.Prelude.{◌≡◌};
 ghost use Rattle.gw_answers.specs.Answers.{answered, answered_action, command_by, places_for, shown_at};
+ghost use Rattle.gw_answers.specs.Outgoing.{command_with, confirmed};
 
-use crate::answer::Answer;
 use crate::interrogation::is_accepted_act;
+use crate::outgoing::{Answer, Outgoing};
 use gw_judge::{Judged, is_execute};
 use gw_map::Settings;
 use gw_model::Observation;
 use iec_apci::Asdu;
+use iec_command::causes::{
+    ACTIVATION_CONFIRMATION, DEACTIVATION, DEACTIVATION_CONFIRMATION, REQUEST,
+};
 use iec_command::{Action, Command};
+
+/// A command as it goes out with a cause of transmission and P/N.
+pub fn command_with(cause: u8, negative: bool, command: &Command) -> Outgoing
+    ensures { result ≡ command_with cause negative command.now }
+{
+    Outgoing::Command(Command {
+        cause,
+        negative,
+        ..*command
+    })
+}
+
+/// The confirmation of a command's activation or deactivation.
+pub fn confirmed(negative: bool, command: &Command) -> Outgoing
+    ensures { result ≡ confirmed negative command.now }
+{
+    let cause = if command.cause == DEACTIVATION {
+        DEACTIVATION_CONFIRMATION
+    } else {
+        ACTIVATION_CONFIRMATION
+    };
+    command_with(cause, negative, command)
+}
 
 /// How many places have to be free for the answer to an ASDU, where an interrogation is pending or not: none for an
 /// interrogation that is accepted, two for a command to be executed, one for all else.
@@ -43,7 +70,7 @@ pub fn answered(
 {
     match judged {
         Judged::Malformed => None,
-        Judged::Refuse { cause, .. } => Some(Answer::Unknown {
+        Judged::Refuse { cause, .. } => Some(Answer::Returned {
             asdu: *asdu,
             cause: *cause,
         }),
@@ -64,17 +91,15 @@ fn answered_action(
             if is_accepted_act(command, pending) {
                 None
             } else {
-                Some(Answer::Confirmed {
-                    command: *command,
-                    negative: true,
-                })
+                Some(Answer::Made(confirmed(true, command)))
             }
         }
         Action::Read => shown_at(command.address, settings, picture).map(|observation| {
-            Answer::Shown {
-                observation,
+            Answer::Made(Outgoing::Observation {
+                cause: REQUEST,
                 originator: command.originator,
-            }
+                observation,
+            })
         }),
         Action::Single(_) | Action::Double(_) | Action::Setpoint(_) => None,
     }

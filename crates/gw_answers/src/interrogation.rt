@@ -2,9 +2,13 @@
 ghost use Rattle.std.specs.Prelude.{◌≡◌, ◌<◌, [], ◌∷◌, ◌++◌, length, vec_capacity, IfOk};
 ghost use Rattle.gw_answers.specs.Interrogations.{answer_to, cause_for, is_accepted_act, is_asked_by, is_general, rows_of};
 
-use crate::answer::Part;
+use crate::answering::command_with;
+use crate::outgoing::Outgoing;
 use gw_model::{Memory, Observation, Value};
-use iec_command::causes::{ACTIVATION, COUNTER_INTERROGATION, STATION_INTERROGATION};
+use iec_command::causes::{
+    ACTIVATION, ACTIVATION_CONFIRMATION, ACTIVATION_TERMINATION, COUNTER_INTERROGATION,
+    STATION_INTERROGATION,
+};
 use iec_command::{Action, Command};
 use std::alloc::Global;
 
@@ -58,27 +62,28 @@ pub fn answer_to(
     alloc: Global,
     command: &Command,
     picture: &[Observation],
-) -> Result<Vec<Part>, Memory>
+) -> Result<Vec<Outgoing>, Memory>
     ensures { IfOk result (λ parts. parts.items ≡ answer_to command.now picture.now) }
 {
     let mut parts = Vec::with_capacity(alloc, picture.len() + 2)?;
-    parts.push_reserved(Part::Confirmation(*command));
+    parts.push_reserved(command_with(ACTIVATION_CONFIRMATION, false, command));
     for observation in picture {
         push_row(&mut parts, command.action, *observation);
     }
-    parts.push_reserved(Part::Termination(*command));
+    parts.push_reserved(command_with(ACTIVATION_TERMINATION, false, command));
     Ok(parts)
 }
 
 /// A row, where it answers the interrogation.
-fn push_row(parts: &mut Vec<Part>, action: Action, observation: Observation)
+fn push_row(parts: &mut Vec<Outgoing>, action: Action, observation: Observation)
     requires { length parts.old.items < vec_capacity parts.old }
     ensures parts { parts.new.items ≡ parts.old.items ++ rows_of action (observation ∷ []) }
     ensures room { vec_capacity parts.new ≡ vec_capacity parts.old }
 {
     if is_asked_by(action, &observation) {
-        parts.push_reserved(Part::Row {
+        parts.push_reserved(Outgoing::Observation {
             cause: cause_for(action),
+            originator: 0,
             observation,
         });
     }

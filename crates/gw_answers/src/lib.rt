@@ -1,14 +1,14 @@
 //! The answers to ASDUs of a client: what each gets, the answer to an interrogation, and their octets.
 #![tactic(auto)]
 
-mod answer;
 mod answering;
 pub mod examples;
 mod interrogation;
 pub mod laws;
 mod octets;
+mod outgoing;
 
-pub use answer::{Answer, Part};
-pub use answering::{answered, command_by, places_for};
+pub use answering::{answered, command_by, command_with, confirmed, places_for};
 pub use interrogation::{answer_to, is_accepted_act};
-pub use octets::{answer_asdu, observation_asdu, part_asdu};
+pub use octets::answer_asdu;
+pub use outgoing::{Answer, Outgoing};

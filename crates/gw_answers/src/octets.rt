@@ -1,47 +1,50 @@
-//! The octets of answers (IEC 60870-5-101, 7.1 to 7.3).
-ghost use Rattle.std.specs.Prelude.{◌≡◌, ◌<◌, ◌≤◌, true, false, length, slice_set};
+//! The octets of what goes out (IEC 60870-5-101, 7.1 to 7.3).
+ghost use Rattle.std.specs.Prelude.{◌≡◌, ◌<◌, ◌≤◌, true, length, slice_set};
 ghost use Rattle.iec_asdu.specs.Spelling.{spelling};
 ghost use Rattle.iec_command.specs.Commands.{mirrored, spelling as command_spelling};
-ghost use Rattle.gw_answers.specs.Octets.{IsReturnable, octets_in, answer_octets, answering, confirming, part_octets};
+ghost use Rattle.gw_answers.specs.Octets.{IsReturnable, answer_octets, octets_in, outgoing_octets};
+ghost use Rattle.gw_answers.specs.Outgoing.{at_station};
 
-use crate::answer::{Answer, Part};
+use crate::outgoing::{Answer, Outgoing};
 use gw_model::Observation;
 use gw_time::Zone;
 use iec_apci::Asdu;
 use iec_asdu::write_monitor;
-use iec_command::causes::{
-    ACTIVATION_CONFIRMATION, ACTIVATION_TERMINATION, DEACTIVATION, DEACTIVATION_CONFIRMATION,
-    REQUEST,
-};
 use iec_command::{Command, mirror};
 
 /// Where the originator stands in an ASDU.
 const ORIGINATOR: usize = 3;
 
-/// The ASDU of an observation with a cause of transmission, and originator 0.
-pub fn observation_asdu(common: u16, cause: u8, zone: &Zone, observation: &Observation) -> Asdu
-    ensures { octets_in result ≡ spelling zone.now.offset_minutes common cause observation.now }
+/// The ASDU of an observation with its cause of transmission and originator.
+fn observation_asdu(
+    common: u16,
+    cause: u8,
+    originator: u8,
+    zone: &Zone,
+    observation: &Observation,
+) -> Asdu
+    ensures { octets_in result
+        ≡ slice_set (spelling zone.now.offset_minutes common cause observation.now) 3 originator }
 {
     let mut octets = [0; 249];
     let written = write_monitor(&[*observation], common, cause, zone, &mut octets);
+    octets[ORIGINATOR] = originator;
     Asdu {
         octets,
         len: written.octets as u8,
     }
 }
 
-/// A command with another cause of transmission and P/N, by the station that has this common address.
-fn command_asdu(common: u16, cause: u8, negative: bool, command: &Command) -> Asdu
-    ensures { octets_in result ≡ command_spelling (answering common cause negative command.now) }
+/// The ASDU of a command, by the station that has a common address.
+fn command_asdu(common: u16, command: &Command) -> Asdu
+    ensures { octets_in result ≡ command_spelling (at_station common command.now) }
 {
-    let answer = Command {
-        cause,
-        negative,
+    let command = Command {
         common_address: common,
         ..*command
     };
     let mut octets = [0; 249];
-    let len = answer.write(&mut octets);
+    let len = command.write(&mut octets);
     Asdu {
         octets,
         len: len as u8,
@@ -62,55 +65,26 @@ fn returned_asdu(asdu: &Asdu, cause: u8) -> Asdu
     }
 }
 
-/// The ASDU of what a row that was read showed.
-fn shown_asdu(common: u16, zone: &Zone, observation: &Observation, originator: u8) -> Asdu
-    ensures { octets_in result
-        ≡ slice_set (spelling zone.now.offset_minutes common 5 observation.now) 3 originator }
+fn outgoing_asdu(common: u16, zone: &Zone, outgoing: &Outgoing) -> Asdu
+    ensures { octets_in result ≡ outgoing_octets zone.now.offset_minutes common outgoing.now }
 {
-    let mut asdu = observation_asdu(common, REQUEST, zone, observation);
-    asdu.octets[ORIGINATOR] = originator;
-    asdu
-}
-
-/// The cause of transmission that confirms an activation or a deactivation.
-fn confirming(cause: u8) -> u8
-    ensures { result ≡ confirming cause }
-{
-    if cause == DEACTIVATION {
-        DEACTIVATION_CONFIRMATION
-    } else {
-        ACTIVATION_CONFIRMATION
+    match outgoing {
+        Outgoing::Command(command) => command_asdu(common, command),
+        Outgoing::Observation {
+            cause,
+            originator,
+            observation,
+        } => observation_asdu(common, *cause, *originator, zone, observation),
     }
 }
 
-/// The ASDU of an answer.
+/// The ASDU of an answer, by the station that has a common address.
 pub fn answer_asdu(common: u16, zone: &Zone, answer: &Answer) -> Asdu
     requires { IsReturnable answer.now }
     ensures { octets_in result ≡ answer_octets zone.now.offset_minutes common answer.now }
 {
     match answer {
-        Answer::Unknown { asdu, cause } => returned_asdu(asdu, *cause),
-        Answer::Confirmed { command, negative } => {
-            command_asdu(common, confirming(command.cause), *negative, command)
-        }
-        Answer::Shown {
-            observation,
-            originator,
-        } => shown_asdu(common, zone, observation, *originator),
-    }
-}
-
-/// The ASDU of a part of the answer to an interrogation.
-pub fn part_asdu(common: u16, zone: &Zone, part: &Part) -> Asdu
-    ensures { octets_in result ≡ part_octets zone.now.offset_minutes common part.now }
-{
-    match part {
-        Part::Confirmation(command) => {
-            command_asdu(common, ACTIVATION_CONFIRMATION, false, command)
-        }
-        Part::Row { cause, observation } => observation_asdu(common, *cause, zone, observation),
-        Part::Termination(command) => {
-            command_asdu(common, ACTIVATION_TERMINATION, false, command)
-        }
+        Answer::Returned { asdu, cause } => returned_asdu(asdu, *cause),
+        Answer::Made(outgoing) => outgoing_asdu(common, zone, outgoing),
     }
 }

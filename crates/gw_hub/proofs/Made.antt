@@ -1,19 +1,24 @@
 -- A run of a hub meets what the laws of runs suppose.
 use Rattle.std.proofs.Common.{ℕ, ◌≤◌, List, [], length, take, Result, arith}
+use Rattle.std.specs.List.{AllByRecursion}
 use Rattle.gw_entries.specs.Ranges.{IsStation}
 use Rattle.gw_map.specs.Settings.{Setup, HasSingleAddresses}
 use Rattle.gw_steps.specs.declared.step.Step.{Step}
 use Rattle.gw_steps.specs.declared.step.Reply.{Reply}
 use Rattle.gw_steps.specs.declared.step.StepFault.{StepFault}
+use Rattle.gw_steps.specs.Carried.{IsMeant}
 use Rattle.gw_steps.specs.State.{State}
 use Rattle.gw_steps.specs.Runs.{history}
 use Rattle.gw_steps.proofs.Running.{Ran, run_all}
-use Rattle.gw_news.specs.Premises.{IsSoundRun}
+use Rattle.gw_history.specs.Premises.{IsSoundRun}
+use Rattle.gw_hub.proofs.Meant.{meant_all, history_meant}
 
 -- all steps were made
-pub made : (setup : Setup) (ss : List Step) (rs : List (Result Reply StepFault)) (i : ℕ) (s : State) → HasSingleAddresses setup.rows setup.controls → IsStation setup.station
-    → length ss ≤ i → Ran setup (history [] (take i ss) rs) s → IsSoundRun setup (history [] ss rs)
-made setup ss rs i s addresses station all so_far =
+pub made : (setup : Setup) (ss : List Step) (rs : List (Result Reply StepFault)) (i : ℕ) (s : State)
+    → HasSingleAddresses setup.rows setup.controls → IsStation setup.station
+    → length ss ≤ i → Ran setup (history [] (take i ss) rs) s → AllByRecursion IsMeant (take i ss)
+    → IsSoundRun setup (history [] ss rs)
+made setup ss rs i s addresses station all so_far meant =
     let ran : Ran setup (history [] ss rs) s = run_all setup ss rs i s all so_far in
     record {
       settings = record {
@@ -24,4 +29,5 @@ made setup ss rs i s addresses station all so_far =
       };
       run = ran.run;
       sound = ran.sound;
+      meant = history_meant [] ss rs tt (meant_all ss i all meant);
     }

@@ -15,8 +15,8 @@ use Rattle.gw_entries.specs.Setup.{StationSetup}
 use Rattle.gw_picture.specs.Picture.{news_of, news_of_report, picture_after_report, picture_after}
 use Rattle.gw_picture.specs.Shown.{IsShown}
 use Rattle.gw_picture.proofs.Shows.{shown_fit}
-use Rattle.gw_answers.specs.declared.answer.Answer.{Answer}
-use Rattle.gw_answers.specs.declared.answer.Answer.TheVariants.{Unknown, Confirmed, Shown}
+use Rattle.gw_answers.specs.declared.outgoing.Answer.{Answer}
+use Rattle.gw_answers.specs.declared.outgoing.Answer.TheVariants.{Returned, Made}
 use Rattle.gw_answers.specs.Octets.{IsReturnable}
 use Rattle.gw_answers.specs.Meaning.{CanSendAnswer}
 use Rattle.gw_station.specs.Client.{Client, client_with_news}
@@ -123,9 +123,8 @@ counts_can station n i (c ∷ cs) lt all = (record { received = omega (arith, lt
 -- answers that can be sent can be spelled
 answers_can : (offset : ℤ) (answers : List Answer) → AllByRecursion (CanSendAnswer offset) answers → AllByRecursion IsReturnable answers
 answers_can offset [] all = tt
-answers_can offset (Unknown asdu cause ∷ answers) all = (all.0, answers_can offset answers all.1)
-answers_can offset (Confirmed command negative ∷ answers) all = (tt, answers_can offset answers all.1)
-answers_can offset (Shown x originator ∷ answers) all = (tt, answers_can offset answers all.1)
+answers_can offset (Returned asdu cause ∷ answers) all = (all.0, answers_can offset answers all.1)
+answers_can offset (Made x ∷ answers) all = (tt, answers_can offset answers all.1)
 
 -- so what waits for each client can be put out
 pub pumps_can : (station : StationSetup) (n i : ℕ) (cs : List Client) → n + 1 < 2 ^ 64 → AllByRecursion (IsSoundClient station n i) cs → AllByRecursion CanPump cs

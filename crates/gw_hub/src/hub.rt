@@ -12,17 +12,10 @@ ghost use Rattle.gw_steps.specs.declared.step.Step.TheVariants as steps;
 ghost use Rattle.gw_steps.specs.declared.step.StepFault.TheVariants.{NoClient, NoOutstation, Spent};
 ghost use Rattle.gw_steps.specs.State.{at_first};
 ghost use Rattle.gw_steps.specs.Steps.{client_up, fault_unless_up, latest, one_if, outstation_up, Allowed};
-ghost use Rattle.gw_steps.specs.Carried.{AreMeant, IsMeant};
 ghost use Rattle.gw_steps.specs.Runs.{history, state_after, AtEach, IsRun};
-ghost use Rattle.gw_steps.specs.Sound.{IsSound, LeavesSound};
-ghost use Rattle.gw_news.specs.Confirms.{ConfirmsLast};
-ghost use Rattle.gw_news.specs.News.{Holds};
-ghost use Rattle.gw_news.specs.Numbers.{HasRightNumbers};
-ghost use Rattle.gw_news.specs.Premises.{IsSoundRun};
-ghost use Rattle.gw_mirror.specs.Interrogations.{AnswersInterrogations};
-ghost use Rattle.gw_mirror.specs.Line.{KeepsLine};
-ghost use Rattle.gw_mirror.specs.Mirror.{Mirrors};
-ghost use Rattle.gw_mirror.specs.Right.{JudgesLast};
+ghost use Rattle.gw_steps.specs.Sound.{IsSound};
+ghost use Rattle.gw_history.specs.Premises.{IsSoundRun};
+ghost use Rattle.gw_laws.specs.Promises.{Promises};
 ghost use Rattle.gw_parts.specs.Clients.{dropped_at, has_offer, queued_at, unacknowledged_at};
 ghost use Rattle.gw_parts.specs.Outstations.{is_due};
 ghost use Rattle.gw_hub.specs.Hub.{can_count, can_take, news_of_all, news_of_one, state_counting, state_with_response, unless, Answers, IsCounted};
@@ -198,9 +191,10 @@ impl Hub {
 
     /// Makes steps one after the other on a new hub; gives it with a reply for each of them.
     ///
-    /// These are a run of the step relation, and at each place of the list this holds:
+    /// These are a run of the step relation, and at each place of the list these promises hold:
     /// - `news`: the picture is that of the log, and for each client's session the observations meant by the spontaneous
     ///   ASDUs put out since its STARTDT, followed by those queued, are the news since then, in order, less those dropped.
+    ///   I formats are put out in a session alone, and carry what a station may say.
     /// - `interrogations`: what was put out of the answer to a client's interrogation is the front of it, and all of it
     ///   once its termination is out: the confirmation, what the picture showed at its act, and the termination.
     /// - `line`: each I format put out to a client is the first of what waited for it: answers to its ASDUs, news that
@@ -209,11 +203,12 @@ impl Hub {
     ///   observations put out from then on and those that wait have as their last values what the picture shows, but for
     ///   totals.
     /// - `numbers`: the nth I format put out since a client came up, counted from 0, has N(S) n modulo 32,768, each N(R)
-    ///   is the number of I formats taken, and at most k lie beyond the client's last N(R).
+    ///   is the number of I formats taken, modulo 32,768, and at most k lie beyond the client's last N(R).
     /// - `frames`: an I or S format is taken where it is right, and closes the connection where it isn't.
+    /// - `apdus`: what a pump puts out reads as one APDU.
+    /// - `confirmations`: a confirmation was given to an outstation only with the news put into the log, or for a
+    ///   repeated fragment.
     /// - `meant`: each fragment reports what its octets mean, by the definition of responses.
-    /// - `confirms`: a confirmation was given to an outstation only with the news put into the log, or for a repeated
-    ///   fragment.
     /// - `sound`: the picture shows each row of the point map by a value of its type that an ASDU can carry, there is a
     ///   master for each outstation, and what waits for a client can be sent and is no more than may wait.
     pub fn run(
@@ -226,16 +221,7 @@ impl Hub {
         ensures run { IfOk result (λ run. IsRun settings (history [] steps.items run.1.items)) }
         ensures state { IfOk result (λ run.
             run.0.state ≡ state_after settings (history [] steps.items run.1.items)) }
-        ensures news { IfOk result (λ run. AtEach (Holds settings) (history [] steps.items run.1.items)) }
-        ensures confirms { IfOk result (λ run. AtEach (ConfirmsLast settings) (history [] steps.items run.1.items)) }
-        ensures numbers { IfOk result (λ run. AtEach (HasRightNumbers settings) (history [] steps.items run.1.items)) }
-        ensures frames { IfOk result (λ run. AtEach (JudgesLast settings) (history [] steps.items run.1.items)) }
-        ensures line { IfOk result (λ run. AtEach (KeepsLine settings) (history [] steps.items run.1.items)) }
-        ensures interrogations { IfOk result (λ run.
-            AtEach (AnswersInterrogations settings) (history [] steps.items run.1.items)) }
-        ensures mirror { IfOk result (λ run. AtEach (Mirrors settings) (history [] steps.items run.1.items)) }
-        ensures meant { IfOk result (λ run. AreMeant (history [] steps.items run.1.items)) }
-        ensures sound { IfOk result (λ run. AtEach (LeavesSound settings) (history [] steps.items run.1.items)) }
+        ensures promises { IfOk result (λ run. AtEach (Promises settings) (history [] steps.items run.1.items)) }
     {
         let mut hub = Hub::new(alloc, settings)?;
         let replies = hub.make(&steps)?;
@@ -251,7 +237,6 @@ impl Hub {
         ensures run { IfOk result (λ replies. IsSoundRun self.old.setup (history [] steps.now replies.items)) }
         ensures state { IfOk result (λ replies.
             self.new.state ≡ state_after self.old.setup (history [] steps.now replies.items)) }
-        ensures meant { OnOk result (AllByRecursion IsMeant steps.now) }
         ensures setup { self.new.setup ≡ self.old.setup }
     {
         let mut replies = Vec::with_capacity(self.alloc, steps.len())?;

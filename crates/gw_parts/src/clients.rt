@@ -13,7 +13,7 @@ ghost use Rattle.gw_parts.specs.Clients.{dropped_at, has_offer, queued_at, reply
 
 use gw_map::Settings;
 use gw_model::{Memory, Observation};
-use gw_station::{Event, Said, Station};
+use gw_station::{Event, Station, outcome_of};
 use gw_steps::Reply;
 use iec_apci::Apdu;
 use iec_window::Limits;
@@ -306,7 +306,7 @@ fn frame_one(
 {
     let event = station.frame(apdu, moment, settings, picture)?;
     if let Event::Command(command) = event {
-        station.answer(&command, Said::Negative);
+        station.answer(&command, outcome_of(&command));
     }
     Ok(reply_to(event))
 }

@@ -9,8 +9,8 @@ use Rattle.gw_model.specs.declared.observation.Observation.{Observation}
 use Rattle.iec_apci.specs.declared.apdu.Signal.{Signal}
 use Rattle.iec_window.specs.Counts.{Counts}
 use Rattle.iec_window.specs.Timers.{owes_ack, owes_test}
-use Rattle.gw_answers.specs.declared.answer.Answer.{Answer}
-use Rattle.gw_answers.specs.declared.answer.Part.{Part}
+use Rattle.gw_answers.specs.declared.outgoing.Answer.{Answer}
+use Rattle.gw_answers.specs.declared.outgoing.Outgoing.{Outgoing}
 use Rattle.gw_answers.specs.Octets.{IsReturnable}
 use Rattle.gw_station.specs.declared.sending.Sending.{Sending}
 use Rattle.gw_station.specs.declared.sending.Sending.TheVariants as sendings
@@ -101,7 +101,7 @@ offered_roomy moment c = go (slice_get c.confirmations 0) (owes_test moment c.wi
 pub offered_returnable : (moment : ℕ) (c : Client) → AllByRecursion IsReturnable c.answers → IfSome (offered moment c) IsReturnableSending
 offered_returnable moment c all =
     let news = all-given (λ (x : Observation). IsReturnableSending (sendings.News x)) (λ x. tt) c.queue in
-    let parts = all-given (λ (part : Part). IsReturnableSending (sendings.Part part)) (λ part. tt) c.rest in
+    let parts = all-given (λ (part : Outgoing). IsReturnableSending (sendings.Part part)) (λ part. tt) c.rest in
     offered_so IsReturnableSending (λ signal. tt) tt tt moment c (line_so IsReturnableSending c all news parts)
 
 -- ---- what is first
@@ -124,11 +124,11 @@ first_older c none some waits = rw none (by c.older c.queue some waits)
     by (suc older) (x ∷ queue) some waits = refl
 
 -- a part, where neither an answer nor such news wait
-pub first_part : (c : Client) (part : Part) → c.answers ≡ [] → (c.older ≤ 0) ⊎ (is_some (slice_get c.queue 0) ≡ false) → slice_get c.rest 0 ≡ Some part
+pub first_part : (c : Client) (part : Outgoing) → c.answers ≡ [] → (c.older ≤ 0) ⊎ (is_some (slice_get c.queue 0) ≡ false) → slice_get c.rest 0 ≡ Some part
     → Some (sendings.Part part) ≡ slice_get (line c) 0
 first_part c part none no_news first = rw none (by c.older c.queue c.rest no_news first)
   where
-    by : (older : ℕ) (queue : List Observation) (rest : List Part) → (older ≤ 0) ⊎ (is_some (slice_get queue 0) ≡ false) → slice_get rest 0 ≡ Some part
+    by : (older : ℕ) (queue : List Observation) (rest : List Outgoing) → (older ≤ 0) ⊎ (is_some (slice_get queue 0) ≡ false) → slice_get rest 0 ≡ Some part
         → Some (sendings.Part part) ≡ slice_get (line (record c { answers = []; older = older; queue = queue; rest = rest })) 0
     by older queue [] no_news first = absurd cc
     by zero queue (x ∷ rest) no_news first = ap (option_map sendings.Part) (sym first)

@@ -6,8 +6,8 @@ use Rattle.gw_model.specs.declared.observation.Observation.{Observation}
 use Rattle.iec_apci.specs.declared.apdu.Signal.{Signal}
 use Rattle.iec_apci.specs.Apdu.{Content}
 use Rattle.iec_window.specs.Timers.{owes_ack, owes_test}
-use Rattle.gw_answers.specs.declared.answer.Answer.{Answer}
-use Rattle.gw_answers.specs.declared.answer.Part.{Part}
+use Rattle.gw_answers.specs.declared.outgoing.Answer.{Answer}
+use Rattle.gw_answers.specs.declared.outgoing.Outgoing.{Outgoing}
 use Rattle.gw_station.specs.declared.sending.Sending.{Sending}
 use Rattle.gw_station.specs.declared.sending.Sending.TheVariants as sendings
 use Rattle.gw_station.specs.Client.{Client, is_started}
@@ -49,7 +49,7 @@ is_first a b e = ap value e
     value (Some x) = x
 
 -- where no answer waits
-behind : (moment : ℕ) (c : Client) (first : Sending) (older : ℕ) (queue : List Observation) (rest : List Part)
+behind : (moment : ℕ) (c : Client) (first : Sending) (older : ℕ) (queue : List Observation) (rest : List Outgoing)
     → slice_get (line (record c { answers = []; older = older; queue = queue; rest = rest })) 0 ≡ Some first
     → line (client_with_sent moment first (record c { answers = []; older = older; queue = queue; rest = rest })) ≡ drop 1 (line (record c { answers = []; older = older; queue = queue; rest = rest }))
 behind moment c first (suc n) (x ∷ queue) rest e =

@@ -16,8 +16,9 @@ use Rattle.iec_command.specs.declared.command.Action.TheVariants as actions
 use Rattle.gw_judge.specs.Judging.{is_execute}
 use Rattle.gw_judge.specs.declared.judging.Judged.{Judged}
 use Rattle.gw_judge.specs.declared.judging.Judged.TheVariants.{Malformed, Refuse, Accepted}
-use Rattle.gw_answers.specs.declared.answer.Answer.{Answer}
-use Rattle.gw_answers.specs.declared.answer.Answer.TheVariants.{Shown}
+use Rattle.gw_answers.specs.declared.outgoing.Answer.{Answer}
+use Rattle.gw_answers.specs.declared.outgoing.Answer.TheVariants.{Made}
+use Rattle.gw_answers.specs.declared.outgoing.Outgoing.TheVariants as outgoing
 use Rattle.gw_answers.specs.Interrogations.{is_accepted_act}
 use Rattle.gw_answers.specs.Answers.{places_for, refused_act, shown_at, answered_action, answered}
 use Rattle.gw_station.specs.declared.event.Why.TheVariants.{Sequence, NotStarted, Malformed as WrongForm, Flooded}
@@ -73,7 +74,7 @@ read_is_none pending c e = elim (cases_Bool (c.cause == 6)) [
 ]
 
 read_needs : (pending : Bool) (c : Command) (shown : Option Observation) → c.action ≡ actions.Read
-    → IfSome (option_map (λ x. Shown x c.originator) shown) (λ _. 1 ≤ places_for pending (Accepted c))
+    → IfSome (option_map (λ x. Made (outgoing.Observation 5 c.originator x)) shown) (λ _. 1 ≤ places_for pending (Accepted c))
 read_needs pending c None e = tt
 read_needs pending c (Some x) e = rw (read_is_none pending c e) (at_least_one (is_execute c))
 

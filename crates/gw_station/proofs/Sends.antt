@@ -1,21 +1,23 @@
 -- What is put out can be sent: it is of what the client may be sent, and has the octets of an APDU.
-use Rattle.std.proofs.Common.{ℕ, ℤ, ◌≤◌, true, false, List, length, arith}
+use Rattle.std.proofs.Common.{ℕ, ℤ, ◌≤◌, true, List, length, arith}
 use Rattle.std.specs.Prelude.{slice_index, IfSome}
 use Rattle.std.proofs.lemmas.List.{length-set, length-take}
 use Rattle.gw_model.specs.Bits.{is_set}
 use Rattle.gw_entries.specs.Setup.{StationSetup}
 use Rattle.iec_apci.specs.Apdu.{Fits}
+use Rattle.iec_asdu.specs.Spelling.{spelling}
 use Rattle.iec_asdu.proofs.Lengths.{spelling_short}
 use Rattle.iec_command.specs.declared.command.Command.{Command}
 use Rattle.iec_command.specs.declared.command.Action.{Action}
 use Rattle.iec_command.specs.declared.command.Action.TheVariants as actions
 use Rattle.iec_command.specs.Commands.{spelling as command_spelling, cause_octet}
 use Rattle.iec_window.specs.Counts.{Counts}
-use Rattle.gw_answers.specs.declared.answer.Answer.{Answer}
-use Rattle.gw_answers.specs.declared.answer.Answer.TheVariants.{Unknown, Confirmed, Shown}
-use Rattle.gw_answers.specs.declared.answer.Part.{Part}
-use Rattle.gw_answers.specs.declared.answer.Part.TheVariants.{Confirmation, Row, Termination}
-use Rattle.gw_answers.specs.Octets.{octets_in, answering, confirming, answer_octets, part_octets}
+use Rattle.gw_answers.specs.declared.outgoing.Answer.{Answer}
+use Rattle.gw_answers.specs.declared.outgoing.Answer.TheVariants.{Returned, Made}
+use Rattle.gw_answers.specs.declared.outgoing.Outgoing.{Outgoing}
+use Rattle.gw_answers.specs.declared.outgoing.Outgoing.TheVariants as outgoing
+use Rattle.gw_answers.specs.Outgoing.{at_station, news}
+use Rattle.gw_answers.specs.Octets.{octets_in, answer_octets, outgoing_octets}
 use Rattle.gw_station.specs.declared.sending.Sending.{Sending}
 use Rattle.gw_station.specs.declared.sending.Sending.TheVariants as sendings
 use Rattle.gw_station.specs.Client.{Client}
@@ -40,24 +42,22 @@ command_short c (actions.Interrogation qualifier) = omega arith
 command_short c (actions.CounterInterrogation qualifier) = omega arith
 command_short c actions.Read = omega arith
 
+outgoing_short : (offset : ℤ) (common : ℕ) (x : Outgoing) → length (outgoing_octets offset common x) ≤ 249
+outgoing_short offset common (outgoing.Command c) = omega (arith, command_short (at_station common c) c.action)
+outgoing_short offset common (outgoing.Observation cause originator x) =
+    omega (arith, length-set (spelling offset common cause x) 3 originator, spelling_short offset common cause x)
+
 answer_short : (offset : ℤ) (common : ℕ) (answer : Answer) → length (answer_octets offset common answer) ≤ 249
-answer_short offset common (Unknown asdu cause) =
+answer_short offset common (Returned asdu cause) =
     let came : List ℕ = octets_in asdu in
     let back = cause_octet cause true (is_set 7 (slice_index came 2)) in
     omega (arith, length-set came 2 back, length-take asdu.len asdu.octets, asdu.fits)
-answer_short offset common (Confirmed c negative) =
-    omega (arith, command_short (answering common (confirming c.cause) negative c) c.action)
-answer_short offset common (Shown x originator) = omega (arith, spelling_short offset common 5 x)
-
-part_short : (offset : ℤ) (common : ℕ) (part : Part) → length (part_octets offset common part) ≤ 249
-part_short offset common (Confirmation c) = omega (arith, command_short (answering common 7 false c) c.action)
-part_short offset common (Row cause x) = omega (arith, spelling_short offset common cause x)
-part_short offset common (Termination c) = omega (arith, command_short (answering common 10 false c) c.action)
+answer_short offset common (Made x) = outgoing_short offset common x
 
 pub content_fits : (offset : ℤ) (common : ℕ) (w : Counts) (sending : Sending) → Fits (content_of offset common w sending)
 content_fits offset common w (sendings.Confirm signal) = tt
 content_fits offset common w sendings.Test = tt
 content_fits offset common w (sendings.Answer answer) = (omega arith, omega arith, answer_short offset common answer)
-content_fits offset common w (sendings.News x) = (omega arith, omega arith, omega (arith, spelling_short offset common 3 x))
-content_fits offset common w (sendings.Part part) = (omega arith, omega arith, part_short offset common part)
+content_fits offset common w (sendings.News x) = (omega arith, omega arith, outgoing_short offset common (news x))
+content_fits offset common w (sendings.Part part) = (omega arith, omega arith, outgoing_short offset common part)
 content_fits offset common w sendings.Receipt = omega arith

@@ -23,11 +23,12 @@ use Rattle.iec_window.specs.Sequence.{is_right_send, is_right_receive, new_ackno
 use Rattle.iec_window.specs.Steps.{counts_at_start, counts_after_right_s, counts_after_right_i, counts_after_s, counts_after_i, counts_after_sending_s, counts_after_sending_i, counts_after_sending_test}
 use Rattle.gw_map.specs.Settings.{Setup}
 use Rattle.gw_station.specs.declared.event.Said.{Said}
-use Rattle.gw_answers.specs.declared.answer.Answer.{Answer}
-use Rattle.gw_answers.specs.declared.answer.Answer.TheVariants.{Confirmed}
-use Rattle.gw_answers.specs.declared.answer.Part.{Part}
-use Rattle.gw_answers.specs.Meaning.{CanSendAnswer, CanSendPart, IsSendable}
-use Rattle.gw_answers.proofs.Sendable.{causes_can}
+use Rattle.gw_answers.specs.declared.outgoing.Answer.{Answer}
+use Rattle.gw_answers.specs.declared.outgoing.Answer.TheVariants.{Made}
+use Rattle.gw_answers.specs.Outgoing.{confirmed}
+use Rattle.gw_answers.proofs.Sendable.{confirmed_can}
+use Rattle.gw_answers.specs.declared.outgoing.Outgoing.{Outgoing}
+use Rattle.gw_answers.specs.Meaning.{CanSendAnswer, CanSendOutgoing, IsSendable}
 use Rattle.gw_station.specs.declared.sending.Sending.{Sending}
 use Rattle.gw_station.specs.declared.sending.Sending.TheVariants as sendings
 use Rattle.gw_station.specs.Answers.{is_negative, client_judging, client_told}
@@ -104,7 +105,6 @@ sound_later station n m i j c le few sound = record {
   confirmations = sound.confirmations;
   places = sound.places;
   answers = sound.answers;
-  causes = sound.causes;
   limit = sound.limit;
   few = sound.few;
   sendable = sound.sendable;
@@ -118,7 +118,6 @@ with_window station n m i w c window sound = record {
   confirmations = sound.confirmations;
   places = sound.places;
   answers = sound.answers;
-  causes = sound.causes;
   limit = sound.limit;
   few = sound.few;
   sendable = sound.sendable;
@@ -132,7 +131,6 @@ with_confirmations station n i waiting c few sound = record {
   confirmations = few;
   places = sound.places;
   answers = sound.answers;
-  causes = sound.causes;
   limit = sound.limit;
   few = sound.few;
   sendable = sound.sendable;
@@ -141,15 +139,14 @@ with_confirmations station n i waiting c few sound = record {
 }
 
 -- what answers it, and how many of the queue came before the interrogation that is pending
-with_answers : (station : StationSetup) (n i older : ℕ) (answers : List Answer) (rest : List Part) (c : Client)
-    → length answers ≤ 32 → AllByRecursion (CanSendAnswer station.offset_minutes) answers → AllByRecursion (CanSendPart station.offset_minutes) rest → IsSoundClient station n i c
+with_answers : (station : StationSetup) (n i older : ℕ) (answers : List Answer) (rest : List Outgoing) (c : Client)
+    → length answers ≤ 32 → AllByRecursion (CanSendAnswer station.offset_minutes) answers → AllByRecursion (CanSendOutgoing station.offset_minutes) rest → IsSoundClient station n i c
     → IsSoundClient station n i (record c { answers = answers; older = older; rest = rest })
 with_answers station n i older answers rest c few can can_rest sound = record {
   window = sound.window;
   confirmations = sound.confirmations;
   places = few;
   answers = can;
-  causes = causes_can station.offset_minutes answers can;
   limit = sound.limit;
   few = sound.few;
   sendable = sound.sendable;
@@ -164,7 +161,6 @@ anew station n i stage c sound = record {
   confirmations = sound.confirmations;
   places = omega arith;
   answers = tt;
-  causes = tt;
   limit = sound.limit;
   few = omega arith;
   sendable = tt;
@@ -182,7 +178,6 @@ sound_with_news station n i xs c all sound = record {
   confirmations = sound.confirmations;
   places = sound.places;
   answers = sound.answers;
-  causes = sound.causes;
   limit = sound.limit;
   few = fits (is_started c.stage);
   sendable = sends (is_started c.stage);
@@ -274,8 +269,8 @@ pub sound_told : (station : StationSetup) (n i : ℕ) (said : Said) (command : C
     → IsSoundClient station n i (client_told said command c)
 sound_told station n i said command c whole room sound =
     let answers : List Answer = (client_told said command c).answers in
-    with_answers station n i c.older answers c.rest c (omega (arith, room, length-append c.answers (Confirmed command (is_negative said) ∷ [])))
-    (all-append (CanSendAnswer station.offset_minutes) c.answers _ sound.answers (whole, tt)) sound.rest sound
+    with_answers station n i c.older answers c.rest c (omega (arith, room, length-append c.answers (Made (confirmed (is_negative said) command) ∷ [])))
+    (all-append (CanSendAnswer station.offset_minutes) c.answers _ sound.answers (confirmed_can station.offset_minutes (is_negative said) command whole, tt)) sound.rest sound
 
 -- ---- a pump
 
@@ -307,7 +302,6 @@ sound_after_pump station n i moment c sound = go (offered moment c) (offered_roo
       confirmations = sound.confirmations;
       places = sound.places;
       answers = sound.answers;
-      causes = sound.causes;
       limit = sound.limit;
       few = omega (arith, length-drop 1 c.queue, sound.few);
       sendable = all-drop (IsSendable station.offset_minutes) 1 c.queue sound.sendable;
@@ -316,7 +310,7 @@ sound_after_pump station n i moment c sound = go (offered moment c) (offered_roo
     })
     go (Some (sendings.Part part)) room =
         numbered (record c { rest = drop 1 c.rest }) room
-        (with_answers station (n + 1) i c.older c.answers (drop 1 c.rest) c sound.places sound.answers (all-drop (CanSendPart station.offset_minutes) 1 c.rest sound.rest) later)
+        (with_answers station (n + 1) i c.older c.answers (drop 1 c.rest) c sound.places sound.answers (all-drop (CanSendOutgoing station.offset_minutes) 1 c.rest sound.rest) later)
     go (Some sendings.Receipt) room =
         let w = later.window in
         with_window station (n + 1) (n + 1) i (counts_after_sending_s c.window) c (record { limits = w.limits; waiting = w.waiting; received = w.received; sent = w.sent }) later

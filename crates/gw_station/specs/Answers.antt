@@ -6,9 +6,10 @@ use Rattle.iec_apci.specs.declared.apdu.Asdu.{Asdu}
 use Rattle.iec_command.specs.declared.command.Command.{Command}
 use Rattle.gw_judge.specs.declared.judging.Judged.{Judged}
 use Rattle.gw_judge.specs.declared.judging.Judged.TheVariants.{Accepted}
-use Rattle.gw_answers.specs.declared.answer.Answer.{Answer}
-use Rattle.gw_answers.specs.declared.answer.Answer.TheVariants.{Confirmed}
-use Rattle.gw_answers.specs.declared.answer.Part.{Part}
+use Rattle.gw_answers.specs.declared.outgoing.Answer.{Answer}
+use Rattle.gw_answers.specs.declared.outgoing.Answer.TheVariants.{Made}
+use Rattle.gw_answers.specs.declared.outgoing.Outgoing.{Outgoing}
+use Rattle.gw_answers.specs.Outgoing.{confirmed}
 use Rattle.gw_answers.specs.Interrogations.{is_accepted_act, answer_to}
 use Rattle.gw_answers.specs.Answers.{answered}
 use Rattle.gw_station.specs.declared.event.Said.{Said}
@@ -16,7 +17,7 @@ use Rattle.gw_station.specs.declared.event.Said.TheVariants.{Confirm, Negative}
 use Rattle.gw_station.specs.Client.{Client}
 
 -- an interrogation is pending: something is left of its answer
-abbrev pub is_pending : List Part → Bool
+abbrev pub is_pending : List Outgoing → Bool
 is_pending [] = false
 is_pending (part ∷ rest) = true
 
@@ -35,7 +36,7 @@ abbrev pub older_with : Judged → Bool → Client → ℕ
 older_with j true c = length c.queue
 older_with j false c = c.older
 
-abbrev pub rest_with : List Observation → Judged → Bool → Client → List Part
+abbrev pub rest_with : List Observation → Judged → Bool → Client → List Outgoing
 rest_with picture (Accepted command) true c = answer_to command picture
 rest_with picture _ _ c = c.rest
 
@@ -47,10 +48,14 @@ client_judging setup picture asdu j c = record c {
   rest = rest_with picture j (is_asking j c) c;
 }
 
+-- what becomes of a command for a control: none can be operated yet
+abbrev pub outcome_of : Command → Said
+outcome_of command = Negative
+
 -- what is said of a command for a control confirms its activation or deactivation, or does so negatively
 abbrev pub is_negative : Said → Bool
 is_negative Confirm = false
 is_negative Negative = true
 
 abbrev pub client_told : Said → Command → Client → Client
-client_told said command c = record c { answers = c.answers ++ Confirmed command (is_negative said) ∷ [] }
+client_told said command c = record c { answers = c.answers ++ Made (confirmed (is_negative said) command) ∷ [] }

@@ -8,8 +8,8 @@ use Rattle.iec_window.specs.declared.limits.Limits.{Limits}
 use Rattle.iec_window.specs.Counts.{Counts}
 use Rattle.iec_window.specs.Steps.{counts_at_start}
 use Rattle.iec_window.specs.Timers.{ran_out}
-use Rattle.gw_answers.specs.declared.answer.Answer.{Answer}
-use Rattle.gw_answers.specs.declared.answer.Part.{Part}
+use Rattle.gw_answers.specs.declared.outgoing.Answer.{Answer}
+use Rattle.gw_answers.specs.declared.outgoing.Outgoing.{Outgoing}
 use Rattle.gw_station.specs.declared.client.Stage.{Stage}
 use Rattle.gw_station.specs.declared.client.Stage.TheVariants.{Down, Stopped, Started}
 
@@ -29,7 +29,7 @@ pub record Client : Type 0 where
   -- of the interrogation that is pending: how many of the queue came before it, and what is left of its answer; nothing
   -- is left where none is pending
   pub older : ℕ
-  pub rest : List Part
+  pub rest : List Outgoing
 
 abbrev pub is_up : Stage → Bool
 is_up Down = false

@@ -1,14 +1,16 @@
 -- What is put out to a client that is up (IEC 60870-5-104, 5.1 to 5.3).
 use Rattle.std.specs.Prelude.{ℕ, ℤ, ◌-◌, Bool, ◌&&◌, nat_lt, ◌<◌, List, [], ◌∷◌, ◌++◌, length, take, drop, map, Option, Some, None, option_map, slice_get, if◌then◌else◌}
 use Rattle.gw_model.specs.First.{when, first_of}
-use Rattle.iec_asdu.specs.Spelling.{spelling}
 use Rattle.iec_apci.specs.declared.apdu.Signal.TheVariants.{TestAct}
 use Rattle.iec_apci.specs.Apdu.{Content, Information, Supervisory, Unnumbered}
 use Rattle.iec_window.specs.Counts.{Counts}
 use Rattle.iec_window.specs.Sequence.{send_number, receive_number}
 use Rattle.iec_window.specs.Timers.{owes_ack, owes_test}
 use Rattle.iec_window.specs.Steps.{counts_after_sending_s, counts_after_sending_i, counts_after_sending_test}
-use Rattle.gw_answers.specs.Octets.{answer_octets, part_octets}
+use Rattle.gw_answers.specs.declared.outgoing.Answer.{Answer}
+use Rattle.gw_answers.specs.declared.outgoing.Answer.TheVariants.{Made}
+use Rattle.gw_answers.specs.Outgoing.{news}
+use Rattle.gw_answers.specs.Octets.{answer_octets}
 use Rattle.gw_station.specs.declared.sending.Sending.{Sending}
 use Rattle.gw_station.specs.declared.sending.Sending.TheVariants as sendings
 use Rattle.gw_station.specs.Client.{Client, is_started}
@@ -49,16 +51,17 @@ IsRoomy w (sendings.News x) = length w.waiting < w.limits.k
 IsRoomy w (sendings.Part part) = length w.waiting < w.limits.k
 IsRoomy w sendings.Receipt = Unit {0}
 
--- what it carries: news in an ASDU with cause 3, spontaneous
+-- an I format with this ASDU
+abbrev pub information : ℤ → ℕ → Counts → Answer → Content
+information offset common w answer = Information (send_number w) (receive_number w) (answer_octets offset common answer)
+
+-- what it carries
 abbrev pub content_of : ℤ → ℕ → Counts → Sending → Content
 content_of offset common w (sendings.Confirm signal) = Unnumbered signal
 content_of offset common w sendings.Test = Unnumbered TestAct
-content_of offset common w (sendings.Answer answer) =
-    Information (send_number w) (receive_number w) (answer_octets offset common answer)
-content_of offset common w (sendings.News x) =
-    Information (send_number w) (receive_number w) (spelling offset common 3 x)
-content_of offset common w (sendings.Part part) =
-    Information (send_number w) (receive_number w) (part_octets offset common part)
+content_of offset common w (sendings.Answer answer) = information offset common w answer
+content_of offset common w (sendings.News x) = information offset common w (Made (news x))
+content_of offset common w (sendings.Part part) = information offset common w (Made part)
 content_of offset common w sendings.Receipt = Supervisory (receive_number w)
 
 -- what is put out next at a moment, if anything

@@ -5,8 +5,8 @@ use Rattle.std.specs.List.{AllByRecursion}
 use Rattle.gw_entries.specs.Setup.{StationSetup}
 use Rattle.iec_command.specs.Commands.{IsWhole}
 use Rattle.iec_window.specs.Counts.{Counts, sent_in_all}
-use Rattle.gw_answers.specs.Octets.{HasAnsweringCause, IsReturnable}
-use Rattle.gw_answers.specs.Meaning.{CanSendAnswer, CanSendPart, IsSendable}
+use Rattle.gw_answers.specs.Octets.{IsReturnable}
+use Rattle.gw_answers.specs.Meaning.{CanSendAnswer, CanSendOutgoing, IsSendable}
 use Rattle.gw_station.specs.declared.event.Event.{Event}
 use Rattle.gw_station.specs.declared.event.Event.TheVariants as events
 use Rattle.gw_station.specs.declared.sending.Sending.{Sending}
@@ -22,7 +22,7 @@ IsReturnableSending _ = Unit {0}
 abbrev pub CanSend : ℤ → Sending → Type 0
 CanSend offset (sendings.Answer answer) = CanSendAnswer offset answer
 CanSend offset (sendings.News x) = IsSendable offset x
-CanSend offset (sendings.Part part) = CanSendPart offset part
+CanSend offset (sendings.Part part) = CanSendOutgoing offset part
 CanSend offset _ = Unit {0}
 
 -- a command that an APDU carried has the bits of its places
@@ -32,7 +32,7 @@ IsWholeEvent _ = Unit {0}
 
 -- what answers the client can be sent
 abbrev pub CanAnswer : ℤ → Client → Type 0
-CanAnswer offset c = AllByRecursion (CanSendAnswer offset) c.answers × AllByRecursion (CanSendPart offset) c.rest
+CanAnswer offset c = AllByRecursion (CanSendAnswer offset) c.answers × AllByRecursion (CanSendOutgoing offset) c.rest
 
 -- after so many steps: at most k I formats wait for their acknowledgement
 pub record IsSoundWindow (station : StationSetup) (steps : ℕ) (w : Counts) : Type 0 where
@@ -47,15 +47,15 @@ pub record IsSoundClient (station : StationSetup) (steps news : ℕ) (c : Client
   -- 32 confirmations of U formats may wait, and 32 answers
   pub confirmations : length c.confirmations ≤ 32
   pub places : length c.answers ≤ 32
+  -- an answer that isn't to a read has cause 7, 9, 10 or 44 to 47
   pub answers : AllByRecursion (CanSendAnswer station.offset_minutes) c.answers
-  pub causes : AllByRecursion HasAnsweringCause c.answers
   -- as many news may wait as the settings tell
   pub limit : c.limit ≡ station.queue
   pub few : length c.queue ≤ c.limit
   pub sendable : AllByRecursion (IsSendable station.offset_minutes) c.queue
   pub dropped : c.dropped ≤ news
   -- what is left of the answer to an interrogation
-  pub rest : AllByRecursion (CanSendPart station.offset_minutes) c.rest
+  pub rest : AllByRecursion (CanSendOutgoing station.offset_minutes) c.rest
 
 -- so many more news can come: they can be counted as dropped in 64 bits, and no more wait than may
 pub record CanTake (n : ℕ) (c : Client) : Type 0 where

@@ -1,5 +1,8 @@
 //! What becomes of an APDU.
 
+ghost use Rattle.std.specs.Prelude.{◌≡◌};
+ghost use Rattle.gw_station.specs.Answers.{outcome_of};
+
 use iec_command::Command;
 
 /// Why a client's connection is closed (IEC 60870-5-104, 5.1 to 5.3).
@@ -35,4 +38,11 @@ pub enum Said {
     Confirm,
     /// It is confirmed negatively.
     Negative,
+}
+
+/// What becomes of a command for a control: none can be operated yet.
+pub fn outcome_of(command: &Command) -> Said
+    ensures { result ≡ outcome_of command.now }
+{
+    Said::Negative
 }

@@ -2,7 +2,7 @@
 ghost use Rattle.std.specs.Prelude.{◌≡◌, [], drop, slice_get, IfOk};
 ghost use Rattle.gw_station.specs.Answers.{is_pending};
 
-use gw_answers::Part;
+use gw_answers::Outgoing;
 use gw_model::Memory;
 use std::marker::Model;
 use std::sync::ArcSlice;
@@ -11,7 +11,7 @@ use std::sync::ArcSlice;
 #[derive(Debug, Drop)]
 pub struct Rest {
     /// All parts of the answer, as long as one is left.
-    parts: Option<ArcSlice<Part>>,
+    parts: Option<ArcSlice<Outgoing>>,
     /// How many of them were put out.
     done: usize,
 }
@@ -19,7 +19,7 @@ pub struct Rest {
 impl Model for Rest {
     ghost use Rattle.std.specs.Prelude.{List, length, option_map, ◌<◌, IfSome};
     ghost use Rattle.std.specs.Arc.{arc_slice_items};
-    ghost use Rattle.gw_answers.specs.declared.answer.Part.{Part as Left};
+    ghost use Rattle.gw_answers.specs.declared.outgoing.Outgoing.{Outgoing as Left};
     ghost use Rattle.gw_station.specs.Kept.{parts_left};
 
     ghost Value = { List Left };
@@ -42,7 +42,7 @@ impl Rest {
     }
 
     /// All parts of an answer.
-    pub fn of(parts: Vec<Part>) -> Result<Rest, Memory>
+    pub fn of(parts: Vec<Outgoing>) -> Result<Rest, Memory>
         ensures { IfOk result (λ rest. rest ≡ parts.items) }
     {
         if parts.is_empty() {
@@ -75,7 +75,7 @@ impl Rest {
     }
 
     /// The first that is left.
-    pub fn first(&self) -> Option<Part>
+    pub fn first(&self) -> Option<Outgoing>
         ensures { result ≡ slice_get self.now 0 }
     {
         match &self.parts {

@@ -1,6 +1,6 @@
 //! What can be put out to a client.
 
-use gw_answers::{Answer, Part};
+use gw_answers::{Answer, Outgoing};
 use gw_model::Observation;
 use iec_apci::Signal;
 
@@ -16,7 +16,7 @@ pub enum Sending {
     /// The oldest news, in I format.
     News(Observation),
     /// A part of the answer to an interrogation, in I format.
-    Part(Part),
+    Part(Outgoing),
     /// An S format: w I formats were received, or t2 has passed.
     Receipt,
 }

@@ -12,7 +12,7 @@ ghost use Rattle.gw_station.specs.Client.{client_after_close, client_after_tick,
 ghost use Rattle.gw_station.specs.Frames.{asks, begins, client_after_apdu, client_with_session, client_with_signal, closes_judged, event_of, floods, given_command, overfills, wants_memory, HasPlace};
 ghost use Rattle.circular_buffer.specs.Buffer.{buffer};
 ghost use Rattle.gw_station.specs.Kept.{items_in, IsQueue};
-ghost use Rattle.gw_station.specs.Pump.{client_after_pump, client_with_sent, content_of, given, information_offered, line, offered, IsRoomy};
+ghost use Rattle.gw_station.specs.Pump.{client_after_pump, client_with_sent, content_of, given, information, information_offered, line, offered, IsRoomy};
 ghost use Rattle.gw_station.specs.Sound.{CanAnswer, CanTake, IsReturnableSending, IsWholeEvent};
 ghost use Rattle.gw_answers.specs.Meaning.{IsSendable};
 ghost use Rattle.gw_answers.specs.Octets.{IsReturnable};
@@ -27,14 +27,13 @@ use crate::rest::Rest;
 use crate::sending::Sending;
 use circular_buffer::HeapCircularBuffer;
 use gw_answers::{
-    Answer, Part, answer_asdu, answer_to, answered, command_by, is_accepted_act, observation_asdu,
-    part_asdu, places_for,
+    Answer, Outgoing, answer_asdu, answer_to, answered, command_by, confirmed, is_accepted_act,
+    places_for,
 };
 use gw_judge::{Judged, judge};
 use gw_map::Settings;
 use gw_model::{Memory, Observation};
 use iec_apci::{Apdu, ApduBuf, Asdu, Signal};
-use iec_asdu::SPONTANEOUS;
 use iec_command::Command;
 use iec_window::{Limits, Window};
 use std::alloc::Global;
@@ -299,10 +298,8 @@ impl Station {
         ensures { self.new ≡ client_told said command.now self.old }
     {
         let negative = said == Said::Negative;
-        self.answers.push_back_reserved(Answer::Confirmed {
-            command: *command,
-            negative,
-        });
+        let confirmation = confirmed(negative, command);
+        self.answers.push_back_reserved(Answer::Made(confirmation));
     }
 
     /// Takes news: they join the queue of a started client, and the oldest are dropped where too many would wait.
@@ -566,8 +563,6 @@ impl Station {
             settings.now.station.common_address self.old.window sending) }
         ensures client { self.new ≡ client_with_sent moment sending self.old }
     {
-        let common = settings.station().common_address;
-        let zone = settings.zone();
         match sending {
             Sending::Confirm(signal) => {
                 self.confirmations.pop_front();
@@ -579,15 +574,15 @@ impl Station {
             }
             Sending::Answer(answer) => {
                 self.answers.pop_front();
-                self.send_asdu(answer_asdu(common, &zone, &answer), moment)
+                self.send_answer(&answer, settings, moment)
             }
-            Sending::News(news) => {
+            Sending::News(observation) => {
                 self.forget_news();
-                self.send_asdu(observation_asdu(common, SPONTANEOUS, &zone, &news), moment)
+                self.send_answer(&Answer::Made(Outgoing::news(observation)), settings, moment)
             }
             Sending::Part(part) => {
                 self.forget_part();
-                self.send_asdu(part_asdu(common, &zone, &part), moment)
+                self.send_answer(&Answer::Made(part), settings, moment)
             }
             Sending::Receipt => {
                 let nr = self.window.ack_sent();
@@ -596,14 +591,16 @@ impl Station {
         }
     }
 
-    /// Puts out an ASDU in an I format.
-    fn send_asdu(&mut self, asdu: Asdu, moment: u64) -> ApduBuf
+    /// Puts out an answer, or what else goes out, in an I format.
+    fn send_answer(&mut self, answer: &Answer, settings: &Settings, moment: u64) -> ApduBuf
         requires room { length self.old.window.waiting < self.old.window.limits.k }
         requires count { sent_in_all self.old.window + 1 < 2 ^ 64 }
-        ensures apdu { result ≡ buffer_of (Information (send_number self.old.window)
-            (receive_number self.old.window) (take asdu.len asdu.octets)) }
+        requires answer { IsReturnable answer.now }
+        ensures apdu { result ≡ buffer_of (information settings.now.station.offset_minutes
+            settings.now.station.common_address self.old.window answer.now) }
         ensures client { self.new ≡ record self.old { window = counts_after_sending_i moment self.old.window } }
     {
+        let asdu = answer_asdu(settings.station().common_address, &settings.zone(), answer);
         let (ns, nr) = self.window.sent(moment);
         ApduBuf::of(&Apdu::I { ns, nr, asdu })
     }

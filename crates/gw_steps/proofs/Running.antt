@@ -36,7 +36,6 @@ all_down station (suc n) = (
     confirmations = omega arith;
     places = omega arith;
     answers = tt;
-    causes = tt;
     limit = refl;
     few = omega arith;
     sendable = tt;

@@ -15,8 +15,7 @@ use Rattle.gw_picture.specs.Loss.{losses_of, picture_after_loss}
 use Rattle.gw_station.specs.declared.event.Event.{Event}
 use Rattle.gw_station.specs.declared.event.Event.TheVariants as events
 use Rattle.gw_station.specs.Client.{Client, is_up, is_timed_out, client_after_up, client_after_close, client_with_news, client_after_tick}
-use Rattle.gw_station.specs.declared.event.Said.TheVariants.{Negative}
-use Rattle.gw_station.specs.Answers.{client_told}
+use Rattle.gw_station.specs.Answers.{client_told, outcome_of}
 use Rattle.gw_station.specs.Frames.{event_of, client_after_apdu, begins, wants_memory}
 use Rattle.gw_station.specs.Pump.{given, client_after_pump}
 use Rattle.gw_steps.specs.declared.step.Step.{Step}
@@ -206,7 +205,7 @@ moment_of (steps.Tick moment) = moment
 
 -- no control is operated: a command for one is confirmed negatively
 abbrev pub client_answered : Event → Client → Client
-client_answered (events.Command command) k = client_told Negative command k
+client_answered (events.Command command) k = client_told (outcome_of command) command k
 client_answered _ k = k
 
 -- an APDU came at a moment, while the picture showed this, and a command in it was answered

@@ -12,13 +12,14 @@ use Rattle.iec_asdu.specs.Spelling.{type_of, element_spelling, tag_octets, spell
 use Rattle.iec_command.specs.declared.command.Command.{Command}
 use Rattle.iec_command.specs.Commands.{type_of as command_type, element_of, cause_octet, spelling as command_spelling}
 use Rattle.iec_window.specs.Counts.{Counts}
-use Rattle.gw_answers.specs.declared.answer.Answer.{Answer}
-use Rattle.gw_answers.specs.declared.answer.Answer.TheVariants.{Unknown, Confirmed, Shown}
-use Rattle.gw_answers.specs.declared.answer.Part.{Part}
-use Rattle.gw_answers.specs.declared.answer.Part.TheVariants.{Confirmation, Row, Termination}
-use Rattle.gw_answers.specs.Octets.{answering, confirming, answer_octets, part_octets}
-use Rattle.gw_answers.specs.Meaning.{Meant, Tells, Commands, Unread, meaning_of, asdu_of, MeansAnswer, MeansPart, CanSendAnswer, CanSendPart, IsSendable}
-use Rattle.gw_answers.proofs.Meant.{answer_means, part_means, observations_mean}
+use Rattle.gw_answers.specs.declared.outgoing.Answer.{Answer}
+use Rattle.gw_answers.specs.declared.outgoing.Answer.TheVariants.{Returned, Made}
+use Rattle.gw_answers.specs.declared.outgoing.Outgoing.{Outgoing}
+use Rattle.gw_answers.specs.declared.outgoing.Outgoing.TheVariants as outgoing
+use Rattle.gw_answers.specs.Outgoing.{at_station, news}
+use Rattle.gw_answers.specs.Octets.{answer_octets, outgoing_octets}
+use Rattle.gw_answers.specs.Meaning.{Meant, Tells, Commands, Unread, meaning_of, meant_outgoing, asdu_of, Means, CanSendAnswer, CanSendOutgoing}
+use Rattle.gw_answers.proofs.Meant.{answer_means, outgoing_means}
 use Rattle.gw_station.specs.declared.sending.Sending.{Sending}
 use Rattle.gw_station.specs.declared.sending.Sending.TheVariants as sendings
 use Rattle.gw_station.specs.Client.{Client, is_up}
@@ -56,24 +57,21 @@ spelling_within offset common cause x =
     ∷ (word ++ take 3 (to_le_bytes w32 x.address) ++ (element_spelling x.value x.quality ++ tag_octets (tag_of offset x.stamp))))
     (words_within common)
 
-command_within : (common cause : ℕ) (negative : Bool) (c : Command)
-    → command_spelling (answering common cause negative c) ≡ command_spelling (answering (common % 65536) cause negative c)
-command_within common cause negative c =
+command_within : (common : ℕ) (c : Command) → command_spelling (at_station common c) ≡ command_spelling (at_station (common % 65536) c)
+command_within common c =
     ap (λ (word : List ℕ).
-    command_type c.action ∷ 1 ∷ cause_octet cause negative c.test ∷ c.originator
+    command_type c.action ∷ 1 ∷ cause_octet c.cause c.negative c.test ∷ c.originator
     ∷ (word ++ take 3 (to_le_bytes w32 c.address) ++ element_of c.action))
     (words_within common)
 
-answer_within : (offset : ℤ) (common : ℕ) (answer : Answer) → answer_octets offset common answer ≡ answer_octets offset (common % 65536) answer
-answer_within offset common (Unknown asdu cause) = refl
-answer_within offset common (Confirmed c negative) = command_within common (confirming c.cause) negative c
-answer_within offset common (Shown x originator) =
-    ap (λ (octets : List ℕ). slice_set octets 3 originator) (spelling_within offset common 5 x)
+outgoing_within : (offset : ℤ) (common : ℕ) (x : Outgoing) → outgoing_octets offset common x ≡ outgoing_octets offset (common % 65536) x
+outgoing_within offset common (outgoing.Command c) = command_within common c
+outgoing_within offset common (outgoing.Observation cause originator x) =
+    ap (λ (octets : List ℕ). slice_set octets 3 originator) (spelling_within offset common cause x)
 
-part_within : (offset : ℤ) (common : ℕ) (part : Part) → part_octets offset common part ≡ part_octets offset (common % 65536) part
-part_within offset common (Confirmation c) = command_within common 7 false c
-part_within offset common (Row cause x) = spelling_within offset common cause x
-part_within offset common (Termination c) = command_within common 10 false c
+answer_within : (offset : ℤ) (common : ℕ) (answer : Answer) → answer_octets offset common answer ≡ answer_octets offset (common % 65536) answer
+answer_within offset common (Returned asdu cause) = refl
+answer_within offset common (Made x) = outgoing_within offset common x
 
 -- ---- what is meant
 
@@ -87,27 +85,30 @@ unknown_apart cause high =
       ne_eqb cause 37 (λ e. omega (arith, e, high)),
     ) refl
 
-observation_tells : (offset : ℤ) (common cause originator : ℕ) (x : Observation) (meant : Meant) → IsSendable offset x
-    → meant ≡ Tells (asdu_of offset common cause originator x) → TellsFit offset meant
-observation_tells offset common cause originator x meant can means =
+outgoing_tells : (offset : ℤ) (common : ℕ) (x : Outgoing) (meant : Meant) → CanSendOutgoing offset x
+    → meant ≡ meant_outgoing offset common x → TellsFit offset meant
+outgoing_tells offset common (outgoing.Command c) meant can means = subst (TellsFit offset) (sym means) tt
+outgoing_tells offset common (outgoing.Observation cause originator x) meant can means =
     subst (TellsFit offset) (sym means) (λ reports. (can.fit, tt))
 
 answer_tells : (offset : ℤ) (common : ℕ) (answer : Answer) (meant : Meant) → CanSendAnswer offset answer
-    → MeansAnswer offset common answer meant → TellsFit offset meant
-answer_tells offset common (Unknown asdu cause) (Tells told) can means = λ reports.
+    → Means offset common answer meant → TellsFit offset meant
+answer_tells offset common (Returned asdu cause) (Tells told) can means = λ reports.
     absurd (true≢false (sym reports ∙ unknown_apart (told.cause % 64) (omega (arith, means.0, can.1))))
-answer_tells offset common (Unknown asdu cause) (Commands command) can means = tt
-answer_tells offset common (Unknown asdu cause) (Unread octets) can means = tt
-answer_tells offset common (Confirmed c negative) meant can means = subst (TellsFit offset) (sym means) tt
-answer_tells offset common (Shown x originator) meant can means = observation_tells offset common 5 originator x meant can means
-
-part_tells : (offset : ℤ) (common : ℕ) (part : Part) (meant : Meant) → CanSendPart offset part
-    → MeansPart offset common part meant → TellsFit offset meant
-part_tells offset common (Confirmation c) meant can means = subst (TellsFit offset) (sym means) tt
-part_tells offset common (Row cause x) meant can means = observation_tells offset common cause 0 x meant can means
-part_tells offset common (Termination c) meant can means = subst (TellsFit offset) (sym means) tt
+answer_tells offset common (Returned asdu cause) (Commands command) can means = tt
+answer_tells offset common (Returned asdu cause) (Unread octets) can means = tt
+answer_tells offset common (Made (outgoing.Command c)) meant can means = outgoing_tells offset common (outgoing.Command c) meant can means
+answer_tells offset common (Made (outgoing.Observation cause originator x)) meant can means =
+    outgoing_tells offset common (outgoing.Observation cause originator x) meant can.1 means
 
 -- ---- what is put out
+
+outgoing_says : (offset : ℤ) (common : ℕ) (x : Outgoing) → CanSendOutgoing offset x
+    → TellsFit offset (meaning_of offset (outgoing_octets offset common x))
+outgoing_says offset common x can =
+    subst (λ (octets : List ℕ). TellsFit offset (meaning_of offset octets)) (sym (outgoing_within offset common x))
+    (outgoing_tells offset (common % 65536) x (meaning_of offset (outgoing_octets offset (common % 65536) x)) can
+    (outgoing_means offset (common % 65536) x (omega arith) can))
 
 -- what can be sent says so
 says : (offset : ℤ) (common : ℕ) (w : Counts) (s : Sending) → CanSend offset s → SaysFit offset (said_by offset (content_of offset common w s))
@@ -117,14 +118,8 @@ says offset common w (sendings.Answer answer) can =
     subst (λ (octets : List ℕ). TellsFit offset (meaning_of offset octets)) (sym (answer_within offset common answer))
     (answer_tells offset (common % 65536) answer (meaning_of offset (answer_octets offset (common % 65536) answer)) can
     (answer_means offset (common % 65536) answer (omega arith) can))
-says offset common w (sendings.News x) can =
-    subst (λ (octets : List ℕ). TellsFit offset (meaning_of offset octets)) (sym (spelling_within offset common 3 x))
-    (observation_tells offset (common % 65536) 3 0 x (meaning_of offset (spelling offset (common % 65536) 3 x)) can
-    (observations_mean offset (common % 65536) 3 x (omega arith) can.width can.fit))
-says offset common w (sendings.Part part) can =
-    subst (λ (octets : List ℕ). TellsFit offset (meaning_of offset octets)) (sym (part_within offset common part))
-    (part_tells offset (common % 65536) part (meaning_of offset (part_octets offset (common % 65536) part)) can
-    (part_means offset (common % 65536) part (omega arith) can))
+says offset common w (sendings.News x) can = outgoing_says offset common (news x) can
+says offset common w (sendings.Part part) can = outgoing_says offset common part can
 says offset common w sendings.Receipt can = tt
 
 carries : (offset : ℤ) (common : ℕ) (w : Counts) (s : Sending) → CanSend offset s → CarriesFit offset (buffer_of (content_of offset common w s))

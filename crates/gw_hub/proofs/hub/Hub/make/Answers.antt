@@ -5,7 +5,7 @@ use Rattle.gw_steps.specs.State.{State}
 use Rattle.gw_steps.specs.Steps.{Allowed}
 use Rattle.gw_steps.proofs.Running.{Ran, ran_first, run_on, run_all}
 use Rattle.gw_hub.proofs.Made.{made}
-use Rattle.gw_hub.proofs.Meant.{meant_all, meant_more}
+use Rattle.gw_hub.proofs.Meant.{meant_more}
 use Rattle.gw_hub.proofs.hub.Hub.make.Goals as goal
 
 pub loop-step-init : goal.loop-step-init
@@ -36,7 +36,7 @@ loop-step-preserved c =
 pub returns-clause-run : goal.returns-clause-run
 returns-clause-run c =
     made c.args.self.now.setup c.args.steps.now c.loop-step.replies.items c.loop-step.step-index c.loop-step.self.state c.requires.addresses c.requires.station
-    c.loop-step-test.false c.loop-step.invariant.2
+    c.loop-step-test.false c.loop-step.invariant.2 c.loop-step.invariant.3
 
 pub returns-clause-replies : goal.returns-clause-replies
 returns-clause-replies c = omega (arith, c.loop-step.invariant.0, c.loop-step.auto, c.loop-step-test.false)
@@ -45,6 +45,3 @@ pub returns-clause-state : goal.returns-clause-state
 returns-clause-state c =
     let ran = run_all c.args.self.now.setup c.args.steps.now c.loop-step.replies.items c.loop-step.step-index c.loop-step.self.state c.loop-step-test.false c.loop-step.invariant.2 in
     ran.state
-
-pub returns-clause-meant : goal.returns-clause-meant
-returns-clause-meant c = meant_all c.args.steps.now c.loop-step.step-index c.loop-step-test.false c.loop-step.invariant.3

@@ -1,9 +1,0 @@
-use Rattle.std.proofs.Common.{ℕ, List, ap, ◌∙◌}
-use Rattle.std.specs.Prelude.{slice_set}
-use Rattle.gw_answers.proofs.Rows.{front_changed}
-use Rattle.gw_answers.proofs.octets.shown_asdu.Goals as goal
-
-pub returns : goal.returns
-returns c =
-    front_changed c.observation_asdu-asdu.result.len c.observation_asdu-asdu.result.octets 3 c.args.originator
-    ∙ ap (λ (xs : List ℕ). slice_set xs 3 c.args.originator) c.observation_asdu-asdu.ensures

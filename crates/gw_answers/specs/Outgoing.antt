@@ -1,0 +1,26 @@
+-- What goes out of the station's own, whole when it is made but for the common address, which is the station's in all of
+-- it (IEC 60870-5-101, 7.2.3 and 7.2.4).
+use Rattle.std.specs.Prelude.{ℕ, Bool, ◌==◌, if◌then◌else◌}
+use Rattle.gw_model.specs.declared.observation.Observation.{Observation}
+use Rattle.iec_command.specs.declared.command.Command.{Command}
+use Rattle.gw_answers.specs.declared.outgoing.Outgoing.{Outgoing}
+use Rattle.gw_answers.specs.declared.outgoing.Outgoing.TheVariants as outgoing
+
+-- a command with this cause and P/N
+abbrev pub command_with : ℕ → Bool → Command → Outgoing
+command_with cause negative c = outgoing.Command (record c { cause = cause; negative = negative })
+
+-- a deactivation (8) is confirmed with cause 9, an activation (6) with cause 7
+abbrev pub confirmation_cause : ℕ → ℕ
+confirmation_cause cause = if cause == 8 then 9 else 7
+
+abbrev pub confirmed : Bool → Command → Outgoing
+confirmed negative c = command_with (confirmation_cause c.cause) negative c
+
+-- a command as it goes out, by the station with this common address
+abbrev pub at_station : ℕ → Command → Command
+at_station common c = record c { common_address = common }
+
+-- news: cause 3, spontaneous
+abbrev pub news : Observation → Outgoing
+news x = outgoing.Observation 3 0 x

@@ -1,0 +1,339 @@
+-- What each step is to each client.
+use Rattle.std.proofs.Common.{◌≡◌, ℕ, zero, suc, ◌+◌, ◌*◌, ◌/◌, ◌%◌, ◌≤◌, Bool, true, false, map, List, [], ◌∷◌, length, Option, Some, None, Result, Ok, Err, refl, sym, ap, subst, ◌∙◌, arith, inl, inr}
+use Rattle.std.specs.Prelude.{slice_get, option_map, IfSome}
+use Rattle.std.specs.List.{AllByRecursion}
+use Rattle.std.proofs.lemmas.Bool.{cases_Bool, cases_eq, ne_eqb, eq-eqb}
+use Rattle.gw_model.specs.declared.observation.Observation.{Observation}
+use Rattle.gw_model.specs.Places.{change}
+use Rattle.gw_entries.specs.Setup.{StationSetup}
+use Rattle.gw_map.specs.Settings.{Setup, HasSingleAddresses}
+use Rattle.gw_picture.proofs.Lists.{change-here, change-there, map-get, some_is}
+use Rattle.gw_picture.specs.Log.{picture_of}
+use Rattle.gw_picture.specs.Loss.{losses_of}
+use Rattle.gw_picture.specs.Picture.{news_of}
+use Rattle.dnp_app.specs.Response.{Fragment}
+use Rattle.dnp_master.specs.Master.{Master}
+use Rattle.iec_apci.specs.declared.apdu.Apdu.{Apdu}
+use Rattle.iec_apci.specs.Apdu.{Content}
+use Rattle.iec_command.specs.declared.command.Command.{Command}
+use Rattle.gw_station.specs.declared.event.Why.{Why}
+use Rattle.gw_station.specs.declared.sending.Sending.{Sending}
+use Rattle.gw_station.specs.Client.{Client, is_up, is_timed_out, client_after_up, client_after_close, client_after_tick, client_with_news}
+use Rattle.gw_station.specs.Frames.{close_of, event_by, event_of, command_in, client_by, client_taking}
+use Rattle.gw_station.specs.Pump.{offered, content_of, given, client_by_offer, client_after_pump}
+use Rattle.gw_station.specs.Sound.{CanSend, IsSoundClient}
+use Rattle.gw_station.proofs.Queues.{came-nil}
+use Rattle.gw_station.proofs.Sends.{offered_can, content_fits}
+use Rattle.gw_steps.specs.declared.step.Step.{Step}
+use Rattle.gw_steps.specs.declared.step.Step.TheVariants as steps
+use Rattle.gw_steps.specs.declared.step.Reply.{Reply}
+use Rattle.gw_steps.specs.declared.step.Reply.TheVariants as replies
+use Rattle.gw_steps.specs.declared.step.StepFault.{StepFault}
+use Rattle.gw_steps.specs.declared.step.StepFault.TheVariants.{NoClient, NoOutstation}
+use Rattle.gw_steps.specs.State.{State}
+use Rattle.gw_steps.specs.Steps.{Allowed, outcome, needs, can_rise, reply_to, fault_of, client_reply, client_answered, client_after_frame, reply_of_event, reply_giving, is_accepting, one_if, bits_of, latest, after}
+use Rattle.gw_steps.specs.Runs.{Entry, state_after}
+use Rattle.gw_steps.specs.Sound.{IsSound, LeavesSound}
+use Rattle.gw_steps.proofs.Inversion.{answered, who_is_up, who_is_down}
+use Rattle.gw_steps.proofs.Running.{entry}
+use Rattle.gw_steps.proofs.Saying.{said-content}
+use Rattle.gw_history.specs.Accepted.{is_accepted}
+use Rattle.gw_history.specs.Log.{log_of, news_after_log}
+use Rattle.gw_history.specs.Life.{Turn, bringing, has_bit, turn_of}
+use Rattle.gw_history.proofs.Lives.{Becomes, IsFresh, fresh_up}
+use Rattle.gw_history.proofs.Masters.{MasterIs, MasterTied, same_accepted}
+use Rattle.gw_history.proofs.Pictures.{news_same}
+use Rattle.gw_history.proofs.Tied.{Tied}
+
+-- its connection stands anew, or it goes on
+abbrev pub Goes : Setup → Option Turn → Client → Client → Type 0
+Goes setup None k new = IsFresh setup new
+Goes setup (Some t) k new = Becomes setup t k new
+
+-- where there is no such client, there is none later
+abbrev pub SlotGoes : Setup → Option Turn → Option Client → Option Client → Type 0
+SlotGoes setup turn None new = new ≡ None
+SlotGoes setup turn (Some k) new = (next : Client) × (new ≡ Some next) × Goes setup turn k next
+
+abbrev pub AllGo : Setup → List Entry → Entry → State → State → Type 0
+AllGo setup past e s new = (d : ℕ) → SlotGoes setup (turn_of setup d past e) (slice_get s.clients d)
+    (slice_get new.clients d)
+
+-- one of many
+sound_at : (station : StationSetup) (n i : ℕ) (ks : List Client) (c : ℕ) (k : Client) → slice_get ks c ≡ Some k
+    → AllByRecursion (IsSoundClient station n i) ks → IsSoundClient station n i k
+sound_at station n i [] c k at all = absurd cc
+sound_at station n i (x ∷ ks) zero k at all = subst (IsSoundClient station n i) (some_is x k at) all.0
+sound_at station n i (x ∷ ks) (suc c) k at all = sound_at station n i ks c k at all.1
+
+-- nothing happens to it
+idle_slot : (setup : Setup) (s : State) (d : ℕ) (turn : Option Turn) → IsSound setup s → turn ≡ Some (bringing [])
+    → SlotGoes setup turn (slice_get s.clients d) (slice_get s.clients d)
+idle_slot setup s d turn sound idle = by (slice_get s.clients d) refl
+  where
+    by : (x : Option Client) → slice_get s.clients d ≡ x → SlotGoes setup turn x x
+    by None at = refl
+    by (Some k) at =
+        let mine = sound_at setup.station s.counts.steps s.counts.news s.clients d k at sound.clients in
+        (k, refl, subst (λ (t : Option Turn). Goes setup t k k) (sym idle) (sym (came-nil k mine.few)))
+
+nothing_goes : (setup : Setup) (past : List Entry) (e : Entry) (s new : State) → IsSound setup s
+    → new.clients ≡ s.clients
+    → ((d : ℕ) → turn_of setup d past e ≡ Some (bringing [])) → AllGo setup past e s new
+nothing_goes setup past e s new sound same idle d = rw same
+    (idle_slot setup s d (turn_of setup d past e) sound (idle d))
+
+-- news come to all
+all_come : (setup : Setup) (past : List Entry) (e : Entry) (s new : State) (xs : List Observation)
+    → new.clients ≡ map (client_with_news xs) s.clients
+    → ((d : ℕ) → turn_of setup d past e ≡ Some (bringing xs)) → AllGo setup past e s new
+all_come setup past e s new xs clients turn d = rw (clients, turn d, map-get (client_with_news xs) s.clients d)
+    (come (slice_get s.clients d))
+  where
+    come : (x : Option Client) → SlotGoes setup (Some (bringing xs)) x (option_map (client_with_news xs) x)
+    come None = refl
+    come (Some k) = (client_with_news xs k, refl, refl)
+
+-- the other clients idle
+one_client : (setup : Setup) (past : List Entry) (e : Entry) (s new : State) (c : ℕ) (f : Client → Client)
+    (k : Client) → IsSound setup s
+    → slice_get s.clients c ≡ Some k → new.clients ≡ change c f s.clients
+    → ((d : ℕ) → (c ≡ d → ⊥) → turn_of setup d past e ≡ Some (bringing []))
+    → Goes setup (turn_of setup c past e) k (f k) → AllGo setup past e s new
+one_client setup past e s new c f k sound at changed idle own d = rw changed (elim (cases_eq c d) [
+  | inl same ↦ subst (λ (x : ℕ). SlotGoes setup (turn_of setup x past e) (slice_get s.clients x)
+      (slice_get (change c f s.clients) x)) same
+      (rw (change-here c f s.clients, at) (f k, refl, own))
+  | inr ne ↦ rw (change-there c d f s.clients ne) (idle_slot setup s d (turn_of setup d past e) sound (idle d ne))
+])
+
+-- ---- OutstationDown and Fragment
+
+outstation_down : (setup : Setup) (past : List Entry) (o m : ℕ) (r : Reply) (s : State) → Tied setup past s
+    → AllGo setup past (entry (steps.OutstationDown o m) (Ok r)) s (after setup s (steps.OutstationDown o m))
+outstation_down setup past o m r s tied =
+    all_come setup past (entry (steps.OutstationDown o m) (Ok r)) s (after setup s (steps.OutstationDown o m))
+    (losses_of o setup.rows (picture_of setup.rows (log_of setup past)))
+    (ap (λ (p : List Observation). map (client_with_news (losses_of o setup.rows p)) s.clients) tied.picture) (λ
+    d. refl)
+
+fragment : (setup : Setup) (past : List Entry) (f : Fragment) (m : ℕ) (r : Reply) (s : State)
+    → HasSingleAddresses setup.rows setup.controls → IsSound setup s
+    → outcome setup s (steps.Fragment f m) ≡ Ok r → Tied setup past s
+    → AllGo setup past (entry (steps.Fragment f m) (Ok r)) s (after setup s (steps.Fragment f m))
+fragment setup past f m r s single sound e tied =
+    let step : Step = steps.Fragment f m in
+    let here : Entry = entry step (Ok r) in
+    let log : List Observation = log_of setup past in
+    let told = answered (fault_of s step) (can_rise s.counts (needs setup s step).counts) (reply_to setup s step) r e in
+    let up = who_is_up (λ (x : Master). x.up) NoOutstation (slice_get s.outstations f.outstation) told.0 in
+    let is : MasterIs setup f.outstation past up.0 = subst (MasterTied setup f.outstation past) up.1
+    (tied.outstations f.outstation) in
+    let same : is_accepting s f ≡ is_accepted setup past f = rw up.1 (same_accepted setup past f up.0 is) in
+    let news : news_of setup.station.offset_minutes setup.rows s.picture f.reports
+    ≡ news_after_log setup log f.reports =
+    ap (λ (p : List Observation). news_of setup.station.offset_minutes setup.rows p f.reports) tied.picture
+    ∙ (news_same setup log f.reports single).0 in
+    elim (cases_Bool (is_accepted setup past f)) [
+      | inl taken ↦ all_come setup past here s (after setup s step) (news_after_log setup log f.reports)
+          (rw (same ∙ taken) (ap (λ (xs : List Observation). map (client_with_news xs) s.clients) news)) (λ
+          d. rw taken refl)
+      | inr left ↦ nothing_goes setup past here s (after setup s step) sound (rw (same ∙ left) refl) (λ d. rw left refl)
+    ]
+
+-- ---- ClientUp and ClientDown
+
+client_up : (setup : Setup) (past : List Entry) (c m : ℕ) (r : Reply) (s : State) → IsSound setup s
+    → outcome setup s (steps.ClientUp c m) ≡ Ok r
+    → AllGo setup past (entry (steps.ClientUp c m) (Ok r)) s (after setup s (steps.ClientUp c m))
+client_up setup past c m r s sound e =
+    let step : Step = steps.ClientUp c m in
+    let told = answered (fault_of s step) (can_rise s.counts (needs setup s step).counts) (reply_to setup s step) r e in
+    let down = who_is_down (λ (k : Client). is_up k.stage) NoClient (slice_get s.clients c) told.0 in
+    subst (λ (x : Reply). AllGo setup past (entry step (Ok x)) s (after setup s step)) told.2
+    (one_client setup past (entry step (Ok replies.Done)) s (after setup s step) c
+    (client_after_up (latest s m)) down.0 sound down.1 refl
+    (λ d ne. rw (ne_eqb c d ne) refl)
+    (rw (eq-eqb c c refl) (fresh_up setup s.counts.steps s.counts.news (latest s m) down.0
+    (sound_at setup.station s.counts.steps s.counts.news s.clients c down.0 down.1 sound.clients))))
+
+client_down : (setup : Setup) (past : List Entry) (c m : ℕ) (r : Reply) (s : State) → IsSound setup s
+    → outcome setup s (steps.ClientDown c m) ≡ Ok r
+    → AllGo setup past (entry (steps.ClientDown c m) (Ok r)) s (after setup s (steps.ClientDown c m))
+client_down setup past c m r s sound e =
+    let step : Step = steps.ClientDown c m in
+    let told = answered (fault_of s step) (can_rise s.counts (needs setup s step).counts) (reply_to setup s step) r e in
+    let up = who_is_up (λ (k : Client). is_up k.stage) NoClient (slice_get s.clients c) told.0 in
+    subst (λ (x : Reply). AllGo setup past (entry step (Ok x)) s (after setup s step)) told.2
+    (one_client setup past (entry step (Ok replies.Done)) s
+    (after setup s step) c client_after_close up.0 sound up.1 refl
+    (λ d ne. rw (ne_eqb c d ne) refl) (rw (eq-eqb c c refl) refl))
+
+-- ---- Frame
+
+-- the reply to what a command in an APDU is, is that it was taken
+taken_reply : (command : Option Command) → reply_of_event (event_by None command) ≡ replies.Taken
+taken_reply None = refl
+taken_reply (Some command) = refl
+
+-- what becomes of its client, by why it closes
+frame_own : (setup : Setup) (past : List Entry) (c m moment : ℕ) (a : Apdu) (k : Client) (why : Option Why)
+    → close_of setup a k ≡ why
+    → Goes setup (turn_of setup c past (entry (steps.Frame c a m)
+    (Ok (reply_of_event (event_by why (command_in setup a)))))) k
+    (client_answered (event_by why (command_in setup a))
+    (client_by why k (client_taking setup (picture_of setup.rows (log_of setup past)) moment a k)))
+frame_own setup past c m moment a k None opens =
+    rw (taken_reply (command_in setup a), eq-eqb c c refl) (record { moment = moment; opens = opens; becomes = refl })
+frame_own setup past c m moment a k (Some why) closes = rw (eq-eqb c c refl) refl
+
+frame_apart : (setup : Setup) (past : List Entry) (c d m : ℕ) (a : Apdu) (why : Option Why) (command : Option Command)
+    → (c ≡ d → ⊥)
+    → turn_of setup d past (entry (steps.Frame c a m) (Ok (reply_of_event (event_by why command)))) ≡ Some (bringing [])
+frame_apart setup past c d m a None None ne = rw (ne_eqb c d ne) refl
+frame_apart setup past c d m a None (Some command) ne = rw (ne_eqb c d ne) refl
+frame_apart setup past c d m a (Some why) command ne = rw (ne_eqb c d ne) refl
+
+frame : (setup : Setup) (past : List Entry) (c m : ℕ) (a : Apdu) (r : Reply) (s : State) → IsSound setup s
+    → outcome setup s (steps.Frame c a m) ≡ Ok r
+    → s.picture ≡ picture_of setup.rows (log_of setup past)
+    → AllGo setup past (entry (steps.Frame c a m) (Ok r)) s (after setup s (steps.Frame c a m))
+frame setup past c m a r s sound e picture =
+    let step : Step = steps.Frame c a m in
+    let told = answered (fault_of s step) (can_rise s.counts (needs setup s step).counts) (reply_to setup s step) r e in
+    let up = who_is_up (λ (k : Client). is_up k.stage) NoClient (slice_get s.clients c) told.0 in
+    let k : Client = up.0 in
+    let moment : ℕ = latest s m in
+    let reply : reply_of_event (event_of setup a k) ≡ r =
+    sym (ap (client_reply (λ (x : Client). reply_of_event (event_of setup a x))) up.1) ∙ told.2 in
+    let here : Entry = entry step (Ok (reply_of_event (event_of setup a k))) in
+    subst (λ (x : Reply). AllGo setup past (entry step (Ok x)) s (after setup s step)) reply
+    (one_client setup past here s (after setup s step) c (client_after_frame setup s.picture moment a) k sound up.1 refl
+    (λ d ne. frame_apart setup past c d m a (close_of setup a k) (command_in setup a) ne)
+    (subst (λ (shown : List Observation). Goes setup (turn_of setup c past here) k
+    (client_after_frame setup shown moment a k)) (sym picture)
+    (frame_own setup past c m moment a k (close_of setup a k) refl)))
+
+-- ---- Pump
+
+-- what becomes of its client, by what is offered
+pump_own : (setup : Setup) (past : List Entry) (c m moment : ℕ) (k : Client) (x : Option Sending)
+    → length k.queue ≤ k.limit → offered moment k ≡ x
+    → IfSome x (CanSend setup.station.offset_minutes)
+    → let e : Entry = entry (steps.Pump c m) (Ok (reply_giving
+    (option_map (content_of setup.station.offset_minutes setup.station.common_address k.window) x))) in
+    Goes setup (turn_of setup c past e) k (client_by_offer moment x k)
+pump_own setup past c m moment k None few first can = rw (eq-eqb c c refl) (sym (came-nil k few))
+pump_own setup past c m moment k (Some sending) few first can =
+    let content : Content = content_of setup.station.offset_minutes setup.station.common_address k.window sending in
+    let fits = content_fits setup.station.offset_minutes setup.station.common_address k.window sending in
+    rw (eq-eqb c c refl, said-content setup.station.offset_minutes content fits)
+    (record { moment = moment; sending = sending; first = first; can = can; says = refl; becomes = refl })
+
+pump_apart : (setup : Setup) (past : List Entry) (c d m : ℕ) (given : Option Content) → (c ≡ d → ⊥)
+    → turn_of setup d past (entry (steps.Pump c m) (Ok (reply_giving given))) ≡ Some (bringing [])
+pump_apart setup past c d m None ne = rw (ne_eqb c d ne) refl
+pump_apart setup past c d m (Some content) ne = rw (ne_eqb c d ne) refl
+
+pump : (setup : Setup) (past : List Entry) (c m : ℕ) (r : Reply) (s : State) → IsSound setup s
+    → outcome setup s (steps.Pump c m) ≡ Ok r
+    → AllGo setup past (entry (steps.Pump c m) (Ok r)) s (after setup s (steps.Pump c m))
+pump setup past c m r s sound e =
+    let step : Step = steps.Pump c m in
+    let moment : ℕ = latest s m in
+    let told = answered (fault_of s step) (can_rise s.counts (needs setup s step).counts) (reply_to setup s step) r e in
+    let up = who_is_up (λ (k : Client). is_up k.stage) NoClient (slice_get s.clients c) told.0 in
+    let content : Option Content = given setup.station.offset_minutes setup.station.common_address moment up.0 in
+    let reply : reply_giving content ≡ r = sym (ap (client_reply (λ (k : Client). reply_giving
+    (given setup.station.offset_minutes setup.station.common_address moment k))) up.1) ∙ told.2 in
+    let mine = sound_at setup.station s.counts.steps s.counts.news s.clients c up.0 up.1 sound.clients in
+    let can = offered_can setup.station s.counts.steps s.counts.news moment up.0 mine in
+    subst (λ (x : Reply). AllGo setup past (entry step (Ok x)) s (after setup s step)) reply
+    (one_client setup past (entry step (Ok (reply_giving content))) s (after setup s step) c
+    (client_after_pump moment) up.0 sound up.1 refl
+    (λ d ne. pump_apart setup past c d m content ne) (pump_own setup past c m moment up.0
+    (offered moment up.0) mine.few refl can))
+
+-- ---- Tick
+
+-- the bit of a client tells whether its t1 has passed
+bit_zero : (c : ℕ) → has_bit c 0 ≡ false
+bit_zero zero = refl
+bit_zero (suc c) = bit_zero c
+
+abbrev t1_passed_at : ℕ → Option Client → Bool
+t1_passed_at moment None = false
+t1_passed_at moment (Some k) = is_timed_out moment k
+
+bit_told : (moment : ℕ) (ks : List Client) (c : ℕ)
+    → has_bit c (bits_of (map (is_timed_out moment) ks)) ≡ t1_passed_at moment (slice_get ks c)
+bit_told moment [] c = bit_zero c
+bit_told moment (k ∷ ks) zero = lowest (is_timed_out moment k)
+  where
+    lowest : (b : Bool) → has_bit 0 (one_if b + 2 * bits_of (map (is_timed_out moment) ks)) ≡ b
+    lowest true = eq-eqb ((1 + 2 * bits_of (map (is_timed_out moment) ks)) % 2) 1 (omega arith)
+    lowest false = ne_eqb ((0 + 2 * bits_of (map (is_timed_out moment) ks)) % 2)
+        1 (λ (e : (0 + 2 * bits_of (map (is_timed_out moment) ks)) % 2 ≡ 1). omega (arith, e))
+bit_told moment (k ∷ ks) (suc c) = ap (has_bit c) (others (is_timed_out moment k)) ∙ bit_told moment ks c
+  where
+    others : (b : Bool)
+        → (one_if b + 2 * bits_of (map (is_timed_out moment) ks)) / 2 ≡ bits_of (map (is_timed_out moment) ks)
+    others true = omega arith
+    others false = omega arith
+
+tick : (setup : Setup) (past : List Entry) (m : ℕ) (r : Reply) (s : State) → IsSound setup s
+    → outcome setup s (steps.Tick m) ≡ Ok r
+    → AllGo setup past (entry (steps.Tick m) (Ok r)) s (after setup s (steps.Tick m))
+tick setup past m r s sound e d =
+    let step : Step = steps.Tick m in
+    let moment : ℕ = latest s m in
+    let told = answered (fault_of s step) (can_rise s.counts (needs setup s step).counts) (reply_to setup s step) r e in
+    subst (λ (x : Reply). SlotGoes setup (turn_of setup d past (entry step (Ok x))) (slice_get s.clients d)
+    (slice_get (after setup s step).clients d)) told.2
+    (rw (map-get (client_after_tick moment) s.clients d) (by (slice_get s.clients d) refl))
+  where
+    bits : ℕ
+    bits = bits_of (map (is_timed_out (latest s m)) s.clients)
+
+    by : (x : Option Client) → slice_get s.clients d ≡ x
+        → SlotGoes setup (turn_of setup d past (entry (steps.Tick m) (Ok (replies.Ticked bits)))) x
+        (option_map (client_after_tick (latest s m)) x)
+    by None at = refl
+    by (Some k) at =
+        let bit : has_bit d bits ≡ is_timed_out (latest s m) k =
+        bit_told (latest s m) s.clients d ∙ ap (t1_passed_at (latest s m)) at in
+        let mine = sound_at setup.station s.counts.steps s.counts.news s.clients d k at sound.clients in
+        elim (cases_Bool (is_timed_out (latest s m) k)) [
+          | inl passed ↦ rw (bit ∙ passed, passed) (client_after_close k, refl, refl)
+          | inr on ↦ rw (bit ∙ on, on) (k, refl, sym (came-nil k mine.few))
+        ]
+
+-- ---- each step
+
+step_goes : (setup : Setup) (past : List Entry) (step : Step) (r : Reply) (s : State)
+    → HasSingleAddresses setup.rows setup.controls → IsSound setup s
+    → outcome setup s step ≡ Ok r → Tied setup past s → AllGo setup past (entry step (Ok r)) s (after setup s step)
+step_goes setup past (steps.OutstationUp o m) r s single sound e tied =
+    nothing_goes setup past (entry (steps.OutstationUp o m) (Ok r)) s
+    (after setup s (steps.OutstationUp o m)) sound refl (λ d. refl)
+step_goes setup past (steps.OutstationDown o m) r s single sound e tied = outstation_down setup past o m r s tied
+step_goes setup past (steps.Fragment f m) r s single sound e tied = fragment setup past f m r s single sound e tied
+step_goes setup past (steps.Poll o m wall) r s single sound e tied =
+    nothing_goes setup past (entry (steps.Poll o m wall) (Ok r)) s
+    (after setup s (steps.Poll o m wall)) sound refl (λ d. refl)
+step_goes setup past (steps.ClientUp c m) r s single sound e tied = client_up setup past c m r s sound e
+step_goes setup past (steps.ClientDown c m) r s single sound e tied = client_down setup past c m r s sound e
+step_goes setup past (steps.Frame c apdu m) r s single sound e tied = frame setup past c m apdu r s sound e tied.picture
+step_goes setup past (steps.Pump c m) r s single sound e tied = pump setup past c m r s sound e
+step_goes setup past (steps.Tick m) r s single sound e tied = tick setup past m r s sound e
+
+pub all_go : (setup : Setup) (past : List Entry) (step : Step) (reply : Result Reply StepFault)
+    → HasSingleAddresses setup.rows setup.controls → LeavesSound setup past
+    → Allowed setup (state_after setup past) step reply (state_after setup (entry step reply ∷ past))
+    → Tied setup past (state_after setup past)
+    → AllGo setup past (entry step reply) (state_after setup past) (state_after setup (entry step reply ∷ past))
+all_go setup past step (Ok r) single sound allowed tied =
+    step_goes setup past step r (state_after setup past) single sound allowed.0 tied
+all_go setup past step (Err f) single sound allowed tied =
+    nothing_goes setup past (entry step (Err f)) (state_after setup past)
+    (state_after setup past) sound refl (λ d. refl)

@@ -1,0 +1,10 @@
+pub mod Masters
+pub mod Pictures
+pub mod Tied
+pub mod Outstations
+pub mod Steps
+pub mod Lives
+pub mod Clients
+pub mod Places
+pub mod Logged
+pub mod Confirmed

@@ -1,0 +1,99 @@
+-- The pictures of a life are those of the log.
+use Rattle.std.proofs.Common.{◌≡◌, ℕ, Bool, true, false, List, [], ◌∷◌, ◌++◌, Option, Some, None, Result, Ok, Err, refl, sym, subst}
+use Rattle.std.specs.Prelude.{◌==◌, if◌then◌else◌}
+use Rattle.std.proofs.lemmas.List.{append-nil}
+use Rattle.gw_model.specs.declared.observation.Observation.{Observation}
+use Rattle.gw_map.specs.Settings.{Setup}
+use Rattle.gw_picture.specs.Log.{picture_of}
+use Rattle.iec_apci.specs.declared.apdu.Apdu.{Apdu}
+use Rattle.gw_steps.specs.declared.step.Step.{Step}
+use Rattle.gw_steps.specs.declared.step.Step.TheVariants as steps
+use Rattle.gw_steps.specs.declared.step.Reply.{Reply}
+use Rattle.gw_steps.specs.declared.step.Reply.TheVariants as replies
+use Rattle.gw_steps.specs.declared.step.StepFault.{StepFault}
+use Rattle.gw_steps.specs.Runs.{Entry}
+use Rattle.gw_steps.specs.Said.{Said, said}
+use Rattle.gw_steps.proofs.Running.{entry}
+use Rattle.gw_history.specs.Log.{log_of}
+use Rattle.gw_history.specs.Life.{Turn, Idle, bringing, Takes, PutsOut, Ends, puts_out, turn_taking, turn_giving, is_closed_in, turn_of, lived, life}
+
+-- a log that grew by a life's news, with its pictures on the way
+abbrev pub IsLogged : Setup → List Observation → List Turn → Type 0
+IsLogged setup log [] = Unit {0}
+IsLogged setup log (Idle brought ∷ ts) = (before : List Observation) × (log ≡ before ++ brought.news)
+    × IsLogged setup before ts
+IsLogged setup log (Takes a taking ∷ ts) = (taking.picture ≡ picture_of setup.rows log) × IsLogged setup log ts
+IsLogged setup log (PutsOut said ∷ ts) = IsLogged setup log ts
+IsLogged setup log (Ends ∷ ts) = IsLogged setup log ts
+
+-- a turn that brings no news
+abbrev IsQuiet : Setup → List Observation → Turn → Type 0
+IsQuiet setup log t = (ts : List Turn) → IsLogged setup log ts → IsLogged setup log (t ∷ ts)
+
+idle : (setup : Setup) (log : List Observation) → IsQuiet setup log (bringing [])
+idle setup log ts logged = (log, sym (append-nil log), logged)
+
+taking : (setup : Setup) (log : List Observation) (a : Apdu) (r : Reply)
+    → IsQuiet setup log (turn_taking a (picture_of setup.rows log) r)
+taking setup log a replies.Done ts logged = (refl, logged)
+taking setup log a (replies.Verdict v) ts logged = (refl, logged)
+taking setup log a (replies.Request x) ts logged = (refl, logged)
+taking setup log a (replies.Apdu x) ts logged = (refl, logged)
+taking setup log a replies.Taken ts logged = (refl, logged)
+taking setup log a (replies.Closed why) ts logged = logged
+taking setup log a replies.Nothing ts logged = (refl, logged)
+taking setup log a (replies.Ticked bits) ts logged = (refl, logged)
+
+putting : (setup : Setup) (log : List Observation) (x : Option Said) → IsQuiet setup log (puts_out x)
+putting setup log None = idle setup log
+putting setup log (Some x) = λ ts logged. logged
+
+giving : (setup : Setup) (log : List Observation) (r : Reply) → IsQuiet setup log (turn_giving setup r)
+giving setup log replies.Done = idle setup log
+giving setup log (replies.Verdict v) = idle setup log
+giving setup log (replies.Request x) = idle setup log
+giving setup log (replies.Apdu x) = putting setup log (said setup.station.offset_minutes x)
+giving setup log replies.Taken = idle setup log
+giving setup log (replies.Closed why) = idle setup log
+giving setup log replies.Nothing = idle setup log
+giving setup log (replies.Ticked bits) = idle setup log
+
+-- one turn more, where the log stays
+quiet : (setup : Setup) (log : List Observation) (ts : List Turn) (here : Bool) (t : Turn) → IsQuiet setup log t
+    → IsLogged setup log ts
+    → IsLogged setup (log ++ []) ((if here then t else bringing []) ∷ ts)
+quiet setup log ts true t is logged = subst (λ (l : List Observation). IsLogged setup l (t ∷ ts))
+    (sym (append-nil log)) (is ts logged)
+quiet setup log ts false t is logged = subst (λ (l : List Observation). IsLogged setup l (bringing [] ∷ ts))
+    (sym (append-nil log)) (idle setup log ts logged)
+
+begins : (setup : Setup) (log : List Observation) (ts : List Turn) (here : Bool) → IsLogged setup log ts
+    → IsLogged setup (log ++ []) (lived (if here then None else Some (bringing [])) ts)
+begins setup log ts true logged = tt
+begins setup log ts false logged = (log, refl, logged)
+
+pub logged_more : (setup : Setup) (c : ℕ) (past : List Entry) (e : Entry) (ts : List Turn)
+    → IsLogged setup (log_of setup past) ts
+    → IsLogged setup (log_of setup (e ∷ past)) (lived (turn_of setup c past e) ts)
+logged_more setup c past e ts logged = by e.step e.reply
+  where
+    log : List Observation
+    log = log_of setup past
+
+    by : (step : Step) (reply : Result Reply StepFault) → IsLogged setup (log_of setup (entry step reply ∷ past))
+        (lived (turn_of setup c past (entry step reply)) ts)
+    by step (Err f) = (log, refl, logged)
+    by (steps.OutstationUp o m) (Ok r) = (log, refl, logged)
+    by (steps.OutstationDown o m) (Ok r) = (log, refl, logged)
+    by (steps.Fragment f m) (Ok r) = (log, refl, logged)
+    by (steps.Poll o m wall) (Ok r) = (log, refl, logged)
+    by (steps.ClientUp d m) (Ok r) = begins setup log ts (d == c) logged
+    by (steps.ClientDown d m) (Ok r) = quiet setup log ts (d == c) Ends (λ us is. is) logged
+    by (steps.Frame d a m) (Ok r) = quiet setup log ts (d == c) (turn_taking a (picture_of setup.rows log) r)
+        (taking setup log a r) logged
+    by (steps.Pump d m) (Ok r) = quiet setup log ts (d == c) (turn_giving setup r) (giving setup log r) logged
+    by (steps.Tick m) (Ok r) = quiet setup log ts (is_closed_in c r) Ends (λ us is. is) logged
+
+pub logged : (setup : Setup) (c : ℕ) (past : List Entry) → IsLogged setup (log_of setup past) (life setup c past)
+logged setup c [] = tt
+logged setup c (e ∷ past) = logged_more setup c past e (life setup c past) (logged setup c past)

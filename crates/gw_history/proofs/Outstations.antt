@@ -1,0 +1,181 @@
+-- Each step of an outstation, and a tick, keeps what ties the state to the history.
+use Rattle.std.proofs.Common.{◌≡◌, ℕ, true, false, List, ◌∷◌, ◌++◌, [], Option, Some, None, Ok, refl, sym, ap, subst, ◌∙◌, inl, inr}
+use Rattle.std.specs.Prelude.{slice_get, option_map}
+use Rattle.std.proofs.lemmas.Bool.{cases_Bool, cases_eq, ne_eqb}
+use Rattle.gw_model.specs.declared.observation.Observation.{Observation}
+use Rattle.gw_map.specs.Settings.{Setup, HasSingleAddresses}
+use Rattle.gw_model.specs.Places.{change}
+use Rattle.gw_picture.specs.Log.{picture_of}
+use Rattle.gw_picture.specs.Loss.{picture_after_loss}
+use Rattle.gw_picture.specs.Picture.{picture_after}
+use Rattle.gw_picture.proofs.Lists.{change-here, change-there, map-get}
+use Rattle.gw_picture.proofs.Losses.{loss_in_log}
+use Rattle.dnp_app.specs.declared.request.Request.{Request}
+use Rattle.dnp_app.specs.Response.{Fragment}
+use Rattle.dnp_master.specs.Master.{Master, master_down, master_after_up, master_after_next, master_after_tick, task_given, request_given}
+use Rattle.dnp_master.specs.Fragments.{accepts, master_after_fragment}
+use Rattle.gw_steps.specs.declared.step.Step.{Step}
+use Rattle.gw_steps.specs.declared.step.Step.TheVariants as steps
+use Rattle.gw_steps.specs.declared.step.Reply.{Reply}
+use Rattle.gw_steps.specs.declared.step.StepFault.TheVariants.{NoOutstation}
+use Rattle.gw_steps.specs.State.{State}
+use Rattle.gw_steps.specs.Steps.{outcome, needs, can_rise, reply_to, fault_of, outstation_reply, reply_asking, is_accepting, latest, after}
+use Rattle.gw_steps.specs.Runs.{Entry}
+use Rattle.gw_steps.proofs.Inversion.{answered, who_is_up}
+use Rattle.gw_steps.proofs.Running.{entry}
+use Rattle.gw_history.specs.Accepted.{last_text, asked_of, is_accepted}
+use Rattle.gw_history.specs.Log.{log_of, news_after_log}
+use Rattle.gw_history.proofs.Masters.{MasterIs, MasterTied, same_master, same_accepted, master_up, master_lost, master_polled, master_ticked, master_accepted, master_left, other_last, other_asked}
+use Rattle.gw_history.proofs.Pictures.{news_same}
+use Rattle.gw_history.proofs.Tied.{Tied, told_moment, brought, same_log, quiet_tied}
+
+-- ---- one outstation
+
+-- one outstation changes, and the others as the history tells of them
+changed_outstations : (setup : Setup) (past : List Entry) (e : Entry) (s : State) (o : ℕ) (f : Master → Master)
+    → ((p : ℕ) → (o ≡ p → ⊥) → last_text p (e ∷ past) ≡ last_text p past)
+    → ((p : ℕ) → (o ≡ p → ⊥) → asked_of setup p (e ∷ past) ≡ asked_of setup p past)
+    → MasterTied setup o (e ∷ past) (option_map f (slice_get s.outstations o)) → Tied setup past s
+    → (p : ℕ) → MasterTied setup p (e ∷ past) (slice_get (change o f s.outstations) p)
+changed_outstations setup past e s o f lasts asks own tied p = elim (cases_eq o p) [
+  | inl same ↦ subst (λ (x : ℕ). MasterTied setup x (e ∷ past) (slice_get (change o f s.outstations) x)) same
+      (rw (change-here o f s.outstations) own)
+  | inr ne ↦ rw (change-there o p f s.outstations ne)
+      (same_master setup p past e (slice_get s.outstations p) (lasts p ne) (asks p ne) (tied.outstations p))
+]
+
+-- ---- OutstationUp
+
+pub outstation_up : (setup : Setup) (past : List Entry) (o m : ℕ) (r : Reply) (s : State) → Tied setup past s
+    → Tied setup (entry (steps.OutstationUp o m) (Ok r) ∷ past) (after setup s (steps.OutstationUp o m))
+outstation_up setup past o m r s tied =
+    let e : Entry = entry (steps.OutstationUp o m) (Ok r) in
+    quiet_tied setup past (steps.OutstationUp o m) r s refl refl
+    (changed_outstations setup past e s o (master_after_up
+    (latest s m)) (λ p ne. rw (ne_eqb o p ne) refl) (λ p ne. rw (ne_eqb o p ne) refl)
+    (master_up setup o m (latest s m) r past (slice_get s.outstations o) (tied.outstations o)) tied)
+    tied
+
+-- ---- OutstationDown
+
+pub outstation_down : (setup : Setup) (past : List Entry) (o m : ℕ) (r : Reply) (s : State)
+    → HasSingleAddresses setup.rows setup.controls → Tied setup past s
+    → Tied setup (entry (steps.OutstationDown o m) (Ok r) ∷ past) (after setup s (steps.OutstationDown o m))
+outstation_down setup past o m r s single tied =
+    let e : Entry = entry (steps.OutstationDown o m) (Ok r) in
+    let log : List Observation = log_of setup past in
+    record {
+      picture = ap (picture_after_loss o setup.rows) tied.picture ∙ loss_in_log o setup.rows setup.controls log single;
+      outstations =
+          changed_outstations setup past e s o (λ (x : Master). master_down x.poll) (λ p ne. rw (ne_eqb o p ne)
+          refl) (λ p ne. rw (ne_eqb o p ne) refl)
+          (master_lost setup o m r past (slice_get s.outstations o) (tied.outstations o)) tied;
+      moment = told_moment setup past s m tied;
+    }
+
+-- ---- Poll
+
+other_polled : (setup : Setup) (past : List Entry) (o p m wall : ℕ) (given : Option Request) → (o ≡ p → ⊥)
+    → asked_of setup p (entry (steps.Poll o m wall) (Ok (reply_asking given)) ∷ past) ≡ asked_of setup p past
+other_polled setup past o p m wall None ne = refl
+other_polled setup past o p m wall (Some request) ne = rw (ne_eqb o p ne) refl
+
+pub poll : (setup : Setup) (past : List Entry) (o m wall : ℕ) (r : Reply) (s : State)
+    → outcome setup s (steps.Poll o m wall) ≡ Ok r → Tied setup past s
+    → Tied setup (entry (steps.Poll o m wall) (Ok r) ∷ past) (after setup s (steps.Poll o m wall))
+poll setup past o m wall r s e tied =
+    let step : Step = steps.Poll o m wall in
+    let told = answered (fault_of s step) (can_rise s.counts (needs setup s step).counts) (reply_to setup s step) r e in
+    let up = who_is_up (λ (x : Master). x.up) NoOutstation (slice_get s.outstations o) told.0 in
+    let moment : ℕ = latest s m in
+    let given : Option Request = request_given moment wall up.0 in
+    let reply : reply_asking given ≡ r = sym (ap (outstation_reply (λ (x : Master). reply_asking
+    (request_given moment wall x))) up.1) ∙ told.2 in
+    let is : MasterIs setup o past up.0 = subst (MasterTied setup o past) up.1 (tied.outstations o) in
+    let here : Entry = entry step (Ok (reply_asking given)) in
+    let own : MasterTied setup o (here ∷ past) (option_map (master_after_next moment wall)
+    (slice_get s.outstations o)) =
+    subst (λ (y : Option Master). MasterTied setup o (here ∷ past) (option_map (master_after_next moment wall) y))
+    (sym up.1)
+    (master_polled setup o m wall moment past up.0 (task_given moment wall up.0) refl
+    (told_moment setup past s m tied) is) in
+    subst (λ (x : Reply). Tied setup (entry step (Ok x) ∷ past) (after setup s step)) reply
+    (quiet_tied setup past step (reply_asking given) s refl refl
+    (changed_outstations setup past here s o (master_after_next moment wall) (λ p ne. refl) (λ
+    p ne. other_polled setup past o p m wall given ne) own tied)
+    tied)
+
+-- ---- Tick
+
+pub tick : (setup : Setup) (past : List Entry) (m : ℕ) (r : Reply) (s : State) → Tied setup past s
+    → Tied setup (entry (steps.Tick m) (Ok r) ∷ past) (after setup s (steps.Tick m))
+tick setup past m r s tied =
+    let moment : ℕ = latest s m in
+    quiet_tied setup past (steps.Tick m) r s refl refl
+    (λ p. rw (map-get (master_after_tick moment) s.outstations p)
+    (master_ticked setup p m moment r past (slice_get s.outstations p) (told_moment setup past s m tied)
+    (tied.outstations p)))
+    tied
+
+-- ---- Fragment
+
+fragment_taken : (setup : Setup) (past : List Entry) (f : Fragment) (m : ℕ) (r : Reply) (s : State) (x : Master)
+    → HasSingleAddresses setup.rows setup.controls
+    → slice_get s.outstations f.outstation ≡ Some x → MasterIs setup f.outstation past x → accepts x f ≡ true
+    → Tied setup past s → Tied setup (entry (steps.Fragment f m) (Ok r) ∷ past) (after setup s (steps.Fragment f m))
+fragment_taken setup past f m r s x single at is takes tied =
+    let e : Entry = entry (steps.Fragment f m) (Ok r) in
+    let log : List Observation = log_of setup past in
+    let xs : List Observation = news_after_log setup log f.reports in
+    let accepted : is_accepted setup past f ≡ true = sym (same_accepted setup past f x is) ∙ takes in
+    let accepting : is_accepting s f ≡ true = rw at takes in
+    let came : brought setup past e ≡ xs = rw accepted refl in
+    let shown : picture_after setup.station.offset_minutes setup.rows s.picture f.reports
+    ≡ picture_of setup.rows (log ++ xs) =
+    ap (λ (p : List Observation). picture_after setup.station.offset_minutes setup.rows p f.reports) tied.picture
+    ∙ (news_same setup log f.reports single).1 in
+    let moment : ℕ = latest s m in
+    let own : MasterTied setup f.outstation (e ∷ past)
+    (option_map (master_after_fragment moment f) (slice_get s.outstations f.outstation)) =
+    rw at (master_accepted setup past f m moment r x (told_moment setup past s m tied) takes is) in
+    rw accepting (record {
+      picture = shown ∙ ap (λ (zs : List Observation). picture_of setup.rows (log ++ zs)) (sym came);
+      outstations = changed_outstations setup past e s f.outstation
+          (master_after_fragment moment f) (λ p ne. other_last past f p m r ne) (λ
+          p ne. other_asked setup past f p m r ne) own tied;
+      moment = told_moment setup past s m tied;
+    })
+
+fragment_left : (setup : Setup) (past : List Entry) (f : Fragment) (m : ℕ) (r : Reply) (s : State) (x : Master)
+    → slice_get s.outstations f.outstation ≡ Some x
+    → MasterIs setup f.outstation past x → accepts x f ≡ false → Tied setup past s
+    → Tied setup (entry (steps.Fragment f m) (Ok r) ∷ past) (after setup s (steps.Fragment f m))
+fragment_left setup past f m r s x at is left tied =
+    let e : Entry = entry (steps.Fragment f m) (Ok r) in
+    let none : brought setup past e ≡ [] = rw (sym (same_accepted setup past f x is) ∙ left) refl in
+    let accepting : is_accepting s f ≡ false = rw at left in
+    rw accepting (record {
+      picture = same_log setup past e s.picture none tied.picture;
+      outstations = λ p. elim (cases_eq f.outstation p) [
+        | inl same ↦ subst (λ (y : ℕ). MasterTied setup y (e ∷ past) (slice_get s.outstations y)) same
+            (rw at (master_left setup past f m r x left is))
+        | inr ne ↦ same_master setup p past e (slice_get s.outstations p) (other_last past f p m r ne)
+            (other_asked setup past f p m r ne) (tied.outstations p)
+      ];
+      moment = told_moment setup past s m tied;
+    })
+
+pub fragment : (setup : Setup) (past : List Entry) (f : Fragment) (m : ℕ) (r : Reply) (s : State)
+    → HasSingleAddresses setup.rows setup.controls
+    → outcome setup s (steps.Fragment f m) ≡ Ok r → Tied setup past s
+    → Tied setup (entry (steps.Fragment f m) (Ok r) ∷ past) (after setup s (steps.Fragment f m))
+fragment setup past f m r s single e tied =
+    let step : Step = steps.Fragment f m in
+    let told = answered (fault_of s step) (can_rise s.counts (needs setup s step).counts) (reply_to setup s step) r e in
+    let up = who_is_up (λ (x : Master). x.up) NoOutstation (slice_get s.outstations f.outstation) told.0 in
+    let is : MasterIs setup f.outstation past up.0 = subst (MasterTied setup f.outstation past) up.1
+    (tied.outstations f.outstation) in
+    elim (cases_Bool (accepts up.0 f)) [
+      | inl takes ↦ fragment_taken setup past f m r s up.0 single up.1 is takes tied
+      | inr left ↦ fragment_left setup past f m r s up.0 up.1 is left tied
+    ]

@@ -1,0 +1,117 @@
+-- Which fragments were accepted, by steps and replies alone (IEEE Std 1815, 4.2.2 and clause 5).
+use Rattle.std.specs.Prelude.{ℕ, ◌+◌, ◌-◌, ◌%◌, nat_le, Bool, false, ◌&&◌, not, ◌==◌, List, [], ◌∷◌, Option, Some, None, option_map, slice_get, slice_index, if◌then◌else◌}
+use Rattle.std.specs.Str.{bytes_eq}
+use Rattle.gw_model.specs.declared.poll.Poll.{Poll}
+use Rattle.gw_map.specs.Settings.{Setup}
+use Rattle.dnp_app.specs.declared.response.Control.{Control}
+use Rattle.dnp_app.specs.Control.{control_of}
+use Rattle.dnp_app.specs.Response.{Fragment, is_unsolicited}
+use Rattle.gw_steps.specs.declared.step.Step.{Step}
+use Rattle.gw_steps.specs.declared.step.Step.TheVariants as steps
+use Rattle.gw_steps.specs.declared.step.Reply.{Reply}
+use Rattle.gw_steps.specs.declared.step.Reply.TheVariants as replies
+use Rattle.gw_steps.specs.State.{later}
+use Rattle.gw_steps.specs.Steps.{moment_of}
+use Rattle.gw_steps.specs.Runs.{Entry, unless_fault}
+
+-- ---- moments
+
+-- the largest moment that a step without a fault brought
+abbrev pub moment_after : List Entry → ℕ
+moment_after [] = 0
+moment_after (e ∷ past) =
+    let so_far = moment_after past in unless_fault so_far (λ reply. later so_far (moment_of e.step)) e.reply
+
+-- ---- unsolicited responses
+
+-- what the last accepted unsolicited octets of an outstation are after a step without a fault: an unsolicited
+-- response is taken, or is the last one again
+abbrev pub last_after : ℕ → Option (List ℕ) → Step → Option (List ℕ)
+last_after o last (steps.OutstationUp p moment) = if p == o then None else last
+last_after o last (steps.OutstationDown p moment) = if p == o then None else last
+last_after o last (steps.Fragment f moment) =
+    if (f.outstation == o) && is_unsolicited f then Some f.octets else last
+last_after o last _ = last
+
+-- the octets of the last accepted unsolicited response since the outstation came up
+abbrev pub last_text : ℕ → List Entry → Option (List ℕ)
+last_text o [] = None
+last_text o (e ∷ past) = let last = last_text o past in unless_fault last (λ reply. last_after o last e.step) e.reply
+
+abbrev pub is_text : Option (List ℕ) → List ℕ → Bool
+is_text None octets = false
+is_text (Some text) octets = bytes_eq text octets
+
+-- an unsolicited response that is the last accepted one again
+abbrev pub is_repeated : List Entry → Fragment → Bool
+is_repeated past f = is_unsolicited f && is_text (last_text f.outstation past) f.octets
+
+-- ---- requests and their answers
+
+-- a request that awaits its answer: its sequence number, how many fragments of the answer were accepted, and when it
+-- was given or the last of these came
+pub record Asked : Type 0 where
+  pub sequence : ℕ
+  pub fragments : ℕ
+  pub since : ℕ
+
+abbrev pub control_in : Fragment → Control
+control_in f = control_of (slice_index f.octets 0)
+
+-- the sequence number is the next one, and FIR is set in the first fragment alone
+abbrev pub is_in_sequence : Asked → Fragment → Bool
+is_in_sequence a f = (control_in f).sequence == (a.sequence + a.fragments) % 16
+
+abbrev pub is_in_place : Asked → Fragment → Bool
+is_in_place a f = if a.fragments == 0 then (control_in f).fir else not (control_in f).fir
+
+abbrev pub is_answer : Option Asked → Fragment → Bool
+is_answer None f = false
+is_answer (Some a) f = is_in_sequence a f && is_in_place a f
+
+-- one fragment more came at a moment; FIN ends the answer
+abbrev pub asked_with : ℕ → Fragment → Option Asked → Option Asked
+asked_with moment f None = None
+asked_with moment f (Some a) =
+    if (control_in f).fin then None else Some (record a { fragments = a.fragments + 1; since = moment })
+
+-- the time for an answer of an outstation that is polled so
+abbrev pub response_time_passed : ℕ → Option Poll → Asked → Bool
+response_time_passed moment None a = false
+response_time_passed moment (Some poll) a = nat_le poll.response_ms (moment - a.since)
+
+abbrev pub asked_at : ℕ → Option Poll → Option Asked → Option Asked
+asked_at moment poll None = None
+asked_at moment poll (Some a) = if response_time_passed moment poll a then None else Some a
+
+-- how an outstation is polled
+abbrev pub poll_at : Setup → ℕ → Option Poll
+poll_at setup o = option_map (λ outstation. outstation.poll) (slice_get setup.outstations o)
+
+-- what awaits after a step without a fault, made at a moment: a connection begins and ends with nothing that awaits
+abbrev pub asked_after : Setup → ℕ → ℕ → Step → Reply → Option Asked → Option Asked
+asked_after setup o moment (steps.OutstationUp p _) reply asked = if p == o then None else asked
+asked_after setup o moment (steps.OutstationDown p _) reply asked = if p == o then None else asked
+asked_after setup o moment (steps.Poll p _ wall) (replies.Request request) asked =
+    if p == o then Some (record { sequence = slice_index request.octets 0 % 16; fragments = 0; since = moment })
+    else asked
+asked_after setup o moment (steps.Fragment f _) reply asked =
+    if (f.outstation == o) && (not (is_unsolicited f) && is_answer asked f) then asked_with moment f asked else asked
+asked_after setup o moment (steps.Tick _) reply asked = asked_at moment (poll_at setup o) asked
+asked_after setup o moment _ reply asked = asked
+
+-- the request of an outstation that awaits its answer
+abbrev pub asked_of : Setup → ℕ → List Entry → Option Asked
+asked_of setup o [] = None
+asked_of setup o (e ∷ past) =
+    let asked = asked_of setup o past in
+    unless_fault asked
+    (λ reply. asked_after setup o (later (moment_after past) (moment_of e.step)) e.step reply asked) e.reply
+
+-- ---- accepted
+
+-- an unsolicited response that isn't the last one again, or the next fragment of the answer that is awaited
+abbrev pub is_accepted : Setup → List Entry → Fragment → Bool
+is_accepted setup past f =
+    if is_unsolicited f then not (is_text (last_text f.outstation past) f.octets)
+    else is_answer (asked_of setup f.outstation past) f

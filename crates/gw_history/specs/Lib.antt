@@ -1,0 +1,6 @@
+pub mod Accepted
+pub mod Log
+pub mod Life
+pub mod Confirmations
+pub mod Premises
+pub mod Example

@@ -1,0 +1,111 @@
+-- What each client lived through, by steps and replies alone: its turns since it came up, newest first.
+use Rattle.std.specs.Prelude.{ℕ, zero, suc, ◌/◌, ◌%◌, Bool, false, ◌==◌, ◌<◌, List, [], ◌∷◌, Option, Some, None, option_map, if◌then◌else◌}
+use Rattle.gw_model.specs.declared.observation.Observation.{Observation}
+use Rattle.gw_map.specs.Settings.{Setup}
+use Rattle.gw_picture.specs.Log.{picture_of}
+use Rattle.iec_apci.specs.declared.apdu.Apdu.{Apdu}
+use Rattle.iec_apci.specs.declared.apdu.Apdu.TheVariants.{U}
+use Rattle.iec_apci.specs.declared.apdu.Signal.TheVariants.{StartAct, StopAct}
+use Rattle.gw_steps.specs.declared.step.Step.{Step}
+use Rattle.gw_steps.specs.declared.step.Step.TheVariants as steps
+use Rattle.gw_steps.specs.declared.step.Reply.{Reply}
+use Rattle.gw_steps.specs.declared.step.Reply.TheVariants as replies
+use Rattle.gw_steps.specs.State.{client_limit}
+use Rattle.gw_steps.specs.Runs.{Entry, unless_fault}
+use Rattle.gw_steps.specs.Said.{Said, said}
+use Rattle.gw_history.specs.Log.{log_of, news_of_step}
+
+-- what a step brought to all clients
+pub record Brought : Type 0 where
+  -- news and losses, in order; there may be none
+  pub news : List Observation
+
+-- how an APDU was taken
+pub record Taking : Type 0 where
+  -- what the picture showed then
+  pub picture : List Observation
+
+pub data Turn : Type 0 where
+  -- this was brought, and nothing else happened
+  Idle : Brought → Turn
+  -- its APDU was taken so
+  Takes : Apdu → Taking → Turn
+  -- this was put out to it
+  PutsOut : Said → Turn
+  -- its connection was closed, or is lost
+  Ends : Turn
+
+-- the turn that brings these news
+abbrev pub bringing : List Observation → Turn
+bringing xs = Idle (record { news = xs })
+
+-- octets that aren't one APDU say nothing: a run puts out none
+abbrev pub puts_out : Option Said → Turn
+puts_out None = bringing []
+puts_out (Some said) = PutsOut said
+
+-- what becomes of its APDU, by the reply
+abbrev pub turn_taking : Apdu → List Observation → Reply → Turn
+turn_taking apdu picture (replies.Closed why) = Ends
+turn_taking apdu picture _ = Takes apdu (record { picture = picture })
+
+-- what a pump gives it
+abbrev pub turn_giving : Setup → Reply → Turn
+turn_giving setup (replies.Apdu apdu) = puts_out (said setup.station.offset_minutes apdu)
+turn_giving setup _ = bringing []
+
+-- bit c of a number is set
+abbrev pub has_bit : ℕ → ℕ → Bool
+has_bit zero n = n % 2 == 1
+has_bit (suc c) n = has_bit c (n / 2)
+
+-- whether a tick closes it
+abbrev pub is_closed_in : ℕ → Reply → Bool
+is_closed_in c (replies.Ticked closed) = has_bit c closed
+is_closed_in c _ = false
+
+-- what a step with this reply is to client c; none where its connection stands anew
+abbrev pub turn_with : Setup → ℕ → List Entry → Step → Reply → Option Turn
+turn_with setup c past (steps.ClientUp d moment) reply = if d == c then None else Some (bringing [])
+turn_with setup c past (steps.ClientDown d moment) reply = Some (if d == c then Ends else bringing [])
+turn_with setup c past (steps.Frame d apdu moment) reply =
+    Some (if d == c then turn_taking apdu (picture_of setup.rows (log_of setup past)) reply else bringing [])
+turn_with setup c past (steps.Pump d moment) reply = Some (if d == c then turn_giving setup reply else bringing [])
+turn_with setup c past (steps.Tick moment) reply = Some (if is_closed_in c reply then Ends else bringing [])
+turn_with setup c past step reply = Some (bringing (news_of_step setup (log_of setup past) past step))
+
+-- a step with a fault is nothing to anybody
+abbrev pub turn_of : Setup → ℕ → List Entry → Entry → Option Turn
+turn_of setup c past e = unless_fault (Some (bringing [])) (turn_with setup c past e.step) e.reply
+
+-- with one turn more
+abbrev pub lived : Option Turn → List Turn → List Turn
+lived None ts = []
+lived (Some t) ts = t ∷ ts
+
+-- the turns of client c since it came up, also of a connection that ended
+abbrev pub life : Setup → ℕ → List Entry → List Turn
+life setup c [] = []
+life setup c (e ∷ past) = lived (turn_of setup c past e) (life setup c past)
+
+-- a law of each client's life
+abbrev pub OfEachLife : (List Turn → Type 0) → Setup → List Entry → Type 0
+OfEachLife Law setup past = (c : ℕ) → c < client_limit → Law (life setup c past)
+
+-- ---- sessions
+
+-- STARTDT act begins a session, where none stands, and STOPDT act ends it
+abbrev pub session_with : Turn → Option (List Turn) → Option (List Turn)
+session_with Ends s = None
+session_with (Takes (U StopAct) taking) s = None
+session_with (Takes (U StartAct) taking) None = Some []
+session_with t s = option_map (λ ts. t ∷ ts) s
+
+-- the turns of the session that stands, if one does
+abbrev pub session : List Turn → Option (List Turn)
+session [] = None
+session (t ∷ ts) = session_with t (session ts)
+
+abbrev pub turns_in : Option (List Turn) → List Turn
+turns_in None = []
+turns_in (Some ts) = ts

@@ -1,0 +1,27 @@
+-- What the laws suppose of a run, and its clients.
+use Rattle.std.specs.Prelude.{ℕ, ◌<◌, List, slice_get, Option}
+use Rattle.gw_map.specs.Settings.{Setup, HasSingleAddresses}
+use Rattle.gw_station.specs.Client.{Client}
+use Rattle.gw_steps.specs.Carried.{AreMeant}
+use Rattle.gw_steps.specs.Runs.{Entry, state_after, IsRun, AtEach}
+use Rattle.gw_steps.specs.Sound.{LeavesSound}
+
+-- no two rows or controls have one address, the common address has 16 bits, the window k is smaller than the sequence
+-- numbers, and some news may wait for a client
+pub record IsSoundSetup (setup : Setup) : Type 0 where
+  pub addresses : HasSingleAddresses setup.rows setup.controls
+  pub station : setup.station.common_address < 65536
+  pub window : setup.station.k < 32768
+  pub queue : 0 < setup.station.queue
+
+pub record IsSoundRun (setup : Setup) (past : List Entry) : Type 0 where
+  pub settings : IsSoundSetup setup
+  pub run : IsRun setup past
+  -- each state is sound
+  pub sound : AtEach (LeavesSound setup) past
+  -- each fragment is what its octets mean
+  pub meant : AreMeant past
+
+-- client c after a history, if there is one
+abbrev pub client_at : Setup → ℕ → List Entry → Option Client
+client_at setup c past = slice_get (state_after setup past).clients c

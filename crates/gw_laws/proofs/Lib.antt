@@ -1,0 +1,15 @@
+pub mod Offered
+pub mod Opens
+pub mod Settled
+pub mod Parts
+pub mod Known
+pub mod Joined
+pub mod Waits
+pub mod Watches
+pub mod Numbers
+pub mod News
+pub mod Line
+pub mod Frames
+pub mod Mirror
+pub mod Apdus
+pub mod Promised

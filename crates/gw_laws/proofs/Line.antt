@@ -1,0 +1,587 @@
+-- What ties what waits for a client to its session.
+use Rattle.std.proofs.Common.{◌≡◌, ℕ, zero, suc, ℤ, ◌+◌, ◌-◌, ◌<◌, ◌≤◌, Bool, true, false, List, [], ◌∷◌, ◌++◌, map, length, take, drop, Option, Some, None, refl, sym, ap, subst, ◌∙◌, append_assoc, arith, inl, inr}
+use Rattle.std.specs.Prelude.{◌&&◌, option_map, slice_get, IfSome}
+use Rattle.std.specs.Option.{option_to_list}
+use Rattle.std.specs.List.{AllByRecursion}
+use Rattle.std.proofs.lemmas.Bool.{cases_Bool, true≢false}
+use Rattle.std.proofs.lemmas.List.{append-nil, length-append, length-drop}
+use Rattle.gw_model.specs.declared.observation.Observation.{Observation}
+use Rattle.gw_map.specs.Settings.{Setup}
+use Rattle.iec_asdu.specs.Spelling.{spelling}
+use Rattle.iec_apci.specs.declared.apdu.Asdu.{Asdu as AsduOctets}
+use Rattle.iec_apci.specs.declared.apdu.Apdu.{Apdu}
+use Rattle.iec_apci.specs.declared.apdu.Apdu.TheVariants.{I, S, U}
+use Rattle.iec_apci.specs.declared.apdu.Signal.{Signal}
+use Rattle.iec_apci.specs.declared.apdu.Signal.TheVariants.{StartAct, StartCon, StopAct, StopCon, TestAct, TestCon}
+use Rattle.iec_command.specs.declared.command.Command.{Command}
+use Rattle.iec_command.specs.declared.command.Action.{Action}
+use Rattle.iec_command.specs.declared.command.Action.TheVariants as actions
+use Rattle.gw_judge.specs.declared.judging.Judged.{Judged}
+use Rattle.gw_judge.specs.declared.judging.Judged.TheVariants as judgements
+use Rattle.gw_answers.specs.declared.outgoing.Answer.{Answer}
+use Rattle.gw_answers.specs.declared.outgoing.Answer.TheVariants.{Made}
+use Rattle.gw_answers.specs.declared.outgoing.Outgoing.TheVariants as outgoing
+use Rattle.gw_answers.specs.Outgoing.{confirmed, news as told_news}
+use Rattle.gw_answers.specs.declared.outgoing.Outgoing.{Outgoing}
+use Rattle.gw_answers.specs.Interrogations.{is_accepted_act, answer_to}
+use Rattle.gw_answers.specs.Answers.{answered, answered_action, refused_act, shown_at, command_by}
+use Rattle.gw_answers.specs.Octets.{answer_octets, outgoing_octets}
+use Rattle.gw_answers.specs.Meaning.{Meant, Tells as TellsAsdu, meaning_of, asdu_of, Means}
+use Rattle.gw_answers.proofs.Meant.{answer_means, outgoing_means}
+use Rattle.gw_station.specs.declared.event.Event.{Event}
+use Rattle.gw_station.specs.declared.event.Event.TheVariants as events
+use Rattle.gw_station.specs.declared.sending.Sending.{Sending}
+use Rattle.gw_station.specs.declared.sending.Sending.TheVariants as sendings
+use Rattle.gw_station.specs.Client.{Client, client_with_news}
+use Rattle.gw_station.specs.Answers.{is_pending as is_asked, is_asking, answers_with, older_with, rest_with}
+use Rattle.gw_station.specs.Frames.{close_of, judged_asdu, client_taking, client_with_signal, command_in, event_taking}
+use Rattle.gw_station.specs.Pump.{line as line_in, client_with_sent}
+use Rattle.gw_station.specs.Sound.{CanSend}
+use Rattle.gw_steps.specs.Steps.{client_answered}
+use Rattle.gw_steps.specs.Said.{Said}
+use Rattle.gw_history.specs.Life.{Brought, Taking, Turn, Idle, Takes, PutsOut, Ends, session_with, session, turns_in}
+use Rattle.gw_history.proofs.Lives.{Becomes, Lives, lives_all}
+use Rattle.gw_laws.specs.Fates.{spontaneous_of, Element, is_queued, items_of, fates, fates_with_put_out}
+use Rattle.gw_laws.specs.Interrogations.{Interrogation, parts_in, is_pending, as_told, answer_told, interrogation_telling, IsAnswered, begun, interrogation, AnswersInterrogation}
+use Rattle.gw_laws.specs.Line.{answers_to, since_of, left_of, SaysFirst, owed, line, KeepsLine}
+use Rattle.gw_laws.proofs.Offered.{IsOffered, offered_is, news_first, part_first}
+use Rattle.gw_laws.proofs.Settled.{queued, take_queued, drop_queued, length-came, length-gone}
+use Rattle.gw_laws.proofs.Parts.{IsRequested, answer_no_news, IsApart, IsOfInterrogation, answer_apart, news_apart, told_nothing, part_told, accepted_is, answer_is, pending_is, said_more, left_more, nothing_asked, no_answer, no_answer_before}
+use Rattle.gw_laws.proofs.Numbers.{says}
+use Rattle.gw_laws.proofs.News.{InSession, NewsTied, news_tied}
+
+-- ---- the tie
+
+-- what waits for a client where these answers are owed, this is the interrogation, and so many news came
+pub record LineIs (common : ℕ) (owes : List Answer) (q : Option Interrogation) (n : ℕ) (k : Client) : Type 0 where
+  pub answers : k.answers ≡ owes
+  pub apart : AllByRecursion IsApart k.answers
+  pub rest : k.rest ≡ left_of q
+  pub asked : AllByRecursion IsOfInterrogation k.rest
+  -- what was said and what is left are the answer
+  pub said : IfSome q (λ i. i.said ++ map (as_told common) k.rest ≡ answer_told common i)
+  -- the news of the session are no fewer than came before the interrogation
+  pub since : since_of q ≤ n
+  pub older : is_asked k.rest ≡ true → k.older ≡ since_of q - (n - length k.queue)
+
+abbrev pub LineTied : Setup → Option (List Turn) → Client → Type 0
+LineTied setup None k = Unit {0}
+LineTied setup (Some hs) k = LineIs setup.station.common_address (owed setup hs) (interrogation setup hs)
+    (length (fates setup.station hs)) k
+
+-- ---- what it tells
+
+pub pending_told : (common : ℕ) (owes : List Answer) (q : Option Interrogation) (n : ℕ) (k : Client)
+    → LineIs common owes q n k → is_pending q ≡ is_asked k.rest
+pending_told common owes None n k tied = ap is_asked (sym tied.rest)
+pending_told common owes (Some q) n k tied = pending_is common q k.rest tied.said
+
+-- where nothing stands between, it doesn't matter where a queue is split
+split_anywhere : (n : ℕ) (queue : List Observation)
+    → map sendings.News (take n queue) ++ map sendings.News (drop n queue) ≡ map sendings.News queue
+split_anywhere zero queue = refl
+split_anywhere (suc n) [] = refl
+split_anywhere (suc n) (x ∷ queue) = ap (λ (s : List Sending). sendings.News x ∷ s) (split_anywhere n queue)
+
+same_split : (pending : Bool) (n m : ℕ) (queue : List Observation) (rest : List Outgoing) → is_asked rest ≡ pending
+    → (pending ≡ true → n ≡ m)
+    → map sendings.News (take n queue) ++ (map sendings.Part rest ++ map sendings.News (drop n queue))
+    ≡ map sendings.News (take m queue) ++ (map sendings.Part rest ++ map sendings.News (drop m queue))
+same_split true n m queue rest is same = ap (λ (i : ℕ). map sendings.News (take i queue)
+    ++ (map sendings.Part rest ++ map sendings.News (drop i queue))) (same refl)
+same_split false n m queue rest is same = rw (nothing_asked rest is)
+    (split_anywhere n queue ∙ sym (split_anywhere m queue))
+
+length-queued : (queue : List Observation) → length (map queued queue) ≡ length queue
+length-queued [] = refl
+length-queued (x ∷ queue) = ap suc (length-queued queue)
+
+-- settled ones and the queue are all
+pub settled_is : (setup : Setup) (hs : List Turn) (k : Client) (tied : InSession setup hs k)
+    → length (fates setup.station hs) ≡ length tied.settled + length k.queue
+settled_is setup hs k tied = ap length tied.told ∙ omega (
+  arith,
+  length-append tied.settled
+      (map queued k.queue),
+  length-queued k.queue,
+)
+
+pub line_is : (setup : Setup) (hs : List Turn) (k : Client) → InSession setup hs k → LineTied setup (Some hs) k
+    → line_in k ≡ line setup hs
+line_is setup hs k news tied =
+    let since : ℕ = since_of (interrogation setup hs) in
+    let m : ℕ = since - length news.settled in
+    let same : is_asked k.rest ≡ true → k.older ≡ m = λ is. omega (arith, tied.older is, settled_is setup hs k news) in
+    let front = ap (λ (l : List Element). items_of is_queued (take since l)) news.told
+    ∙ take_queued since m news.settled k.queue news.all_settled refl in
+    let back = ap (λ (l : List Element). items_of is_queued (drop since l)) news.told
+    ∙ drop_queued since m news.settled k.queue news.all_settled refl in
+    rw (sym tied.answers, sym tied.rest, front, back)
+    (ap (λ (l : List Sending). map sendings.Answer k.answers ++ l)
+    (same_split (is_asked k.rest) k.older m k.queue k.rest refl same))
+
+-- ---- one turn more
+
+-- what waits is the same
+record Waits (k new : Client) : Type 0 where
+  answers : new.answers ≡ k.answers
+  rest : new.rest ≡ k.rest
+  older : new.older ≡ k.older
+  queue : new.queue ≡ k.queue
+
+waits_on : (common : ℕ) (owes : List Answer) (q : Option Interrogation) (n : ℕ) (k new : Client) → Waits k new
+    → LineIs common owes q n k → LineIs common owes q n new
+waits_on common owes q n k new same tied = record {
+  answers = same.answers ∙ tied.answers;
+  apart = subst (AllByRecursion IsApart) (sym same.answers) tied.apart;
+  rest = same.rest ∙ tied.rest;
+  asked = subst (AllByRecursion IsOfInterrogation) (sym same.rest) tied.asked;
+  said = subst (λ (rest : List Outgoing). IfSome q (λ i. i.said ++ map (as_told common) rest ≡ answer_told common i)) (sym same.rest) tied.said;
+  since = tied.since;
+  older = λ is. omega (arith, same.older, tied.older (ap is_asked (sym same.rest) ∙ is), ap length same.queue);
+}
+
+-- news come
+came : (setup : Setup) (brought : Brought) (s : Option (List Turn)) (k : Client) → NewsTied setup s k
+    → LineTied setup s k → LineTied setup (session_with (Idle brought) s) (client_with_news brought.news k)
+came setup brought None k news tied = tt
+came setup brought (Some hs) k news tied =
+    let xs : List Observation = brought.news in
+    let all = length-came setup.station.queue (fates setup.station hs) xs in
+    let n : ℕ = length (k.queue ++ xs) - k.limit in
+    let kept : length (drop n (k.queue ++ xs)) ≡ length (k.queue ++ xs) - n = length-drop n (k.queue ++ xs) in
+    let both : length (k.queue ++ xs) ≡ length k.queue + length xs = length-append k.queue xs in
+    let within = settled_is setup hs k news in
+    record {
+      answers = tied.answers;
+      apart = tied.apart;
+      rest = tied.rest;
+      asked = tied.asked;
+      said = tied.said;
+      since = omega (arith, tied.since, all);
+      older = λ is. rw news.started (omega (arith, tied.older is, all, kept, both, within));
+    }
+
+-- a control function
+signal_taken : (setup : Setup) (taking : Taking) (moment : ℕ) (signal : Signal) (s : Option (List Turn)) (k : Client)
+    → NewsTied setup s k → LineTied setup s k → LineTied setup (session_with (Takes (U signal) taking) s)
+    (client_with_signal moment signal k)
+signal_taken setup taking moment StartAct None k news tied = record {
+  answers = rw news.stopped refl;
+  apart = rw news.stopped tt;
+  rest = rw news.stopped refl;
+  asked = rw news.stopped tt;
+  said = tt;
+  since = omega arith;
+  older = λ is. rw news.stopped refl;
+}
+signal_taken setup taking moment StartAct (Some hs) k news tied =
+    waits_on _ _ _ _ k (client_with_signal moment StartAct k)
+    (record {
+      answers = rw news.started refl;
+      rest = rw news.started refl;
+      older = rw news.started refl;
+      queue = rw news.started refl;
+    }) tied
+signal_taken setup taking moment StopAct s k news tied = tt
+signal_taken setup taking moment TestAct None k news tied = tt
+signal_taken setup taking moment TestCon None k news tied = tt
+signal_taken setup taking moment StartCon None k news tied = tt
+signal_taken setup taking moment StopCon None k news tied = tt
+signal_taken setup taking moment TestAct (Some hs) k news tied =
+    waits_on _ _ _ _ k (client_with_signal moment TestAct k)
+    (record { answers = refl; rest = refl; older = refl; queue = refl }) tied
+signal_taken setup taking moment TestCon (Some hs) k news tied =
+    waits_on _ _ _ _ k (client_with_signal moment TestCon k)
+    (record { answers = refl; rest = refl; older = refl; queue = refl }) tied
+signal_taken setup taking moment StartCon (Some hs) k news tied =
+    waits_on _ _ _ _ k (client_with_signal moment StartCon k)
+    (record { answers = refl; rest = refl; older = refl; queue = refl }) tied
+signal_taken setup taking moment StopCon (Some hs) k news tied =
+    waits_on _ _ _ _ k (client_with_signal moment StopCon k)
+    (record { answers = refl; rest = refl; older = refl; queue = refl }) tied
+
+-- ---- an ASDU is taken
+
+-- the answers that it gets
+and_false : (b : Bool) → b && false ≡ false
+and_false true = refl
+and_false false = refl
+
+all_joined : (xs ys : List Answer) → AllByRecursion IsApart xs → AllByRecursion IsApart ys
+    → AllByRecursion IsApart (xs ++ ys)
+all_joined [] ys ax ay = ay
+all_joined (x ∷ xs) ys ax ay = (ax.0, all_joined xs ys ax.1 ay)
+
+refused_apart : (pending : Bool) (command : Command)
+    → AllByRecursion IsApart (option_to_list (refused_act pending command))
+refused_apart pending command = elim (cases_Bool (is_accepted_act pending command))
+    [ inl is ↦ rw is tt | inr isnt ↦ rw isnt (and_false _, tt) ]
+
+shown_apart : (x : Option Observation) (originator : ℕ)
+    → AllByRecursion IsApart (option_to_list (option_map (λ y. Made (outgoing.Observation 5 originator y)) x))
+shown_apart None originator = tt
+shown_apart (Some x) originator = (refl, tt)
+
+action_apart : (setup : Setup) (picture : List Observation) (pending : Bool) (command : Command) (action : Action)
+    → AllByRecursion IsApart (option_to_list (answered_action setup picture pending command action))
+action_apart setup picture pending command (actions.Interrogation qualifier) = refused_apart pending command
+action_apart setup picture pending command (actions.CounterInterrogation qualifier) = refused_apart pending command
+action_apart setup picture pending command actions.Read =
+    shown_apart (shown_at setup picture command.address) command.originator
+action_apart setup picture pending command (actions.Single x) = tt
+action_apart setup picture pending command (actions.Double x) = tt
+action_apart setup picture pending command (actions.Setpoint x) = tt
+
+at_once_apart : (setup : Setup) (picture : List Observation) (pending : Bool) (asdu : AsduOctets) (j : Judged)
+    → AllByRecursion IsApart (option_to_list (answered setup picture pending asdu j))
+at_once_apart setup picture pending asdu judgements.Malformed = tt
+at_once_apart setup picture pending asdu (judgements.Refuse cause execute) = (tt, tt)
+at_once_apart setup picture pending asdu (judgements.Accepted command) =
+    action_apart setup picture pending command command.action
+
+command_apart : (command : Option Command)
+    → AllByRecursion IsApart (map (λ x. Made (confirmed true x)) (option_to_list command))
+command_apart None = tt
+command_apart (Some command) = (and_false _, tt)
+
+-- a command for a control is answered
+joined : (answer : Option Answer) (command : Option Command) (k : Client) (xs : List Answer)
+    → k.answers ≡ answers_with answer xs
+    → (client_answered (event_taking command) k).answers ≡ xs ++ (option_to_list answer ++ map (λ x. Made (confirmed true x)) (option_to_list command))
+joined None None k xs e = e ∙ sym (append-nil xs)
+joined (Some answer) None k xs e = e
+joined None (Some command) k xs e = ap (λ (l : List Answer). l ++ Made (confirmed true command) ∷ []) e
+joined (Some answer) (Some command) k xs e = ap (λ (l : List Answer). l ++ Made (confirmed true command) ∷ []) e ∙ append_assoc xs (answer ∷ []) (Made (confirmed true command) ∷ [])
+
+answered_waits : (event : Event) (k : Client)
+    → ((client_answered event k).rest ≡ k.rest) × ((client_answered event k).older ≡ k.older)
+    × ((client_answered event k).queue ≡ k.queue)
+answered_waits events.Taken k = (refl, refl, refl)
+answered_waits (events.Command command) k = (refl, refl, refl)
+answered_waits (events.Closed why) k = (refl, refl, refl)
+
+-- the rest of an answer, and the mark of the queue, where this is the interrogation
+record Asks (common : ℕ) (q : Option Interrogation) (n : ℕ) (queue : List Observation) (rest : List Outgoing) (mark : ℕ) : Type 0 where
+  is : rest ≡ left_of q
+  asked : AllByRecursion IsOfInterrogation rest
+  said : IfSome q (λ i. i.said ++ map (as_told common) rest ≡ answer_told common i)
+  since : since_of q ≤ n
+  older : is_asked rest ≡ true → mark ≡ since_of q - (n - length queue)
+
+as_before : (common : ℕ) (owes : List Answer) (q : Option Interrogation) (n : ℕ) (k : Client)
+    → LineIs common owes q n k → Asks common q n k.queue k.rest k.older
+as_before common owes q n k tied = record {
+  is = tied.rest;
+  asked = tied.asked;
+  said = tied.said;
+  since = tied.since;
+  older = tied.older;
+}
+
+asks : (common : ℕ) (picture : List Observation) (owes : List Answer) (q : Option Interrogation) (n : ℕ) (k : Client)
+    (j : Judged) → length k.queue ≤ n → LineIs common owes q n k
+    → Asks common (begun n picture j q) n k.queue (rest_with picture j (is_asking j k) k)
+    (older_with j (is_asking j k) k)
+asks common picture owes q n k judgements.Malformed few tied = as_before common owes q n k tied
+asks common picture owes q n k (judgements.Refuse cause execute) few tied = as_before common owes q n k tied
+asks common picture owes q n k (judgements.Accepted command) few tied =
+    elim (cases_Bool (is_accepted_act (is_asked k.rest) command)) [
+      | inl accepted ↦ rw (pending_told common owes q n k tied, accepted) (record {
+        is = refl;
+        asked = answer_is command picture (accepted_is (is_asked k.rest) command accepted);
+        said = refl;
+        since = omega arith;
+        older = λ is. omega (arith, few);
+      })
+      | inr refused ↦ rw (pending_told common owes q n k tied, refused) (as_before common owes q n k tied)
+    ]
+
+asdu_taken : (setup : Setup) (taking : Taking) (moment ns nr : ℕ) (asdu : AsduOctets) (hs : List Turn) (k : Client)
+    → InSession setup hs k → LineTied setup (Some hs) k
+    → LineTied setup (Some (Takes (I ns nr asdu) taking ∷ hs))
+    (client_answered (event_taking (command_in setup (I ns nr asdu)))
+    (client_taking setup taking.picture moment (I ns nr asdu) k))
+asdu_taken setup taking moment ns nr asdu hs k news tied =
+    let picture : List Observation = taking.picture in
+    let common : ℕ = setup.station.common_address in
+    let j : Judged = judged_asdu setup asdu in
+    let between : Client = client_taking setup picture moment (I ns nr asdu) k in
+    let event : Event = event_taking (command_by j) in
+    let q : Option Interrogation = interrogation setup hs in
+    let n : ℕ = length (fates setup.station hs) in
+    let few : length k.queue ≤ n = omega (arith, settled_is setup hs k news) in
+    let is : Asks common (begun n picture j q) n k.queue between.rest between.older =
+    asks common picture (owed setup hs) q n k j few tied in
+    let waits = answered_waits event between in
+    let answers : (client_answered event between).answers ≡ k.answers
+    ++ answers_to setup picture (is_asked k.rest) asdu j =
+    joined (answered setup picture (is_asked k.rest) asdu j) (command_by j) between k.answers refl in
+    record {
+      answers = answers ∙ (ap (λ (xs : List Answer). xs ++ answers_to setup picture (is_asked k.rest) asdu j)
+          tied.answers
+          ∙ ap (λ (b : Bool). owed setup hs ++ answers_to setup picture b asdu j)
+          (sym (pending_told common (owed setup hs) q n k tied)));
+      apart = subst (AllByRecursion IsApart) (sym answers)
+          (all_joined k.answers (answers_to setup picture (is_asked k.rest) asdu j) tied.apart
+          (all_joined (option_to_list (answered setup picture (is_asked k.rest) asdu j)) (map (λ x. Made (confirmed true x)) (option_to_list (command_by j))) (at_once_apart setup picture (is_asked k.rest) asdu j) (command_apart (command_by j))));
+      rest = waits.0 ∙ is.is;
+      asked = subst (AllByRecursion IsOfInterrogation) (sym waits.0) is.asked;
+      said = subst (λ (rest : List Outgoing). IfSome (begun n picture j q) (λ i. i.said ++ map (as_told common) rest ≡ answer_told common i)) (sym waits.0) is.said;
+      since = is.since;
+      older = λ asked. omega (arith, waits.1, is.older (ap is_asked (sym waits.0) ∙ asked), ap length waits.2);
+    }
+
+took : (setup : Setup) (a : Apdu) (taking : Taking) (moment : ℕ) (s : Option (List Turn)) (k : Client)
+    → close_of setup a k ≡ None → NewsTied setup s k → LineTied setup s k
+    → LineTied setup (session_with (Takes a taking) s)
+    (client_answered (event_taking (command_in setup a)) (client_taking setup taking.picture moment a k))
+took setup (I ns nr asdu) taking moment None k opens news tied = tt
+took setup (I ns nr asdu) taking moment (Some hs) k opens news tied =
+    asdu_taken setup taking moment ns nr asdu hs k news tied
+took setup (S nr) taking moment None k opens news tied = tt
+took setup (S nr) taking moment (Some hs) k opens news tied =
+    waits_on _ _ _ _ k (client_taking setup taking.picture moment (S nr) k)
+    (record { answers = refl; rest = refl; older = refl; queue = refl }) tied
+took setup (U signal) taking moment s k opens news tied = signal_taken setup taking moment signal s k news tied
+
+-- ---- something is put out
+
+all_dropped : (xs : List Answer) → AllByRecursion IsApart xs → AllByRecursion IsApart (drop 1 xs)
+all_dropped [] all = tt
+all_dropped (x ∷ xs) all = all.1
+
+answer_is_first : (a b : Answer) → Some (sendings.Answer a) ≡ Some (sendings.Answer b) → a ≡ b
+answer_is_first a b e = ap value e
+  where
+    value : Option Sending → Answer
+    value (Some (sendings.Answer z)) = z
+    value _ = a
+
+abbrev front : List Answer → ℕ → List Observation → List Outgoing → List Sending
+front answers older queue rest =
+    map sendings.Answer answers ++ (map sendings.News (take older queue)
+    ++ (map sendings.Part rest ++ map sendings.News (drop older queue)))
+
+-- no answer is behind news or a part
+news_before : (older : ℕ) (queue : List Observation) (rest : List Outgoing) (answer : Answer)
+    → slice_get (front [] older queue rest) 0 ≡ Some (sendings.Answer answer) → ⊥
+news_before zero queue (part ∷ rest) answer e = absurd cc
+news_before zero (y ∷ queue) [] answer e = absurd cc
+news_before zero [] [] answer e = absurd cc
+news_before (suc n) (y ∷ queue) rest answer e = absurd cc
+news_before (suc n) [] (part ∷ rest) answer e = absurd cc
+news_before (suc n) [] [] answer e = absurd cc
+
+answer_first : (k : Client) (answer : Answer) → slice_get (line_in k) 0 ≡ Some (sendings.Answer answer)
+    → (more : List Answer) × (k.answers ≡ answer ∷ more)
+answer_first k answer e = go k.answers e
+  where
+    go : (answers : List Answer) → slice_get (front answers k.older k.queue k.rest) 0 ≡ Some (sendings.Answer answer)
+        → (more : List Answer) × (answers ≡ answer ∷ more)
+    go [] e = absurd (news_before k.older k.queue k.rest answer e)
+    go (a ∷ answers) e = (answers, ap (λ (x : Answer). x ∷ answers) (answer_is_first a answer e))
+
+-- one part more was said
+record More (common : ℕ) (k : Client) (q next : Option Interrogation) : Type 0 where
+  rest : drop 1 k.rest ≡ left_of next
+  said : IfSome next (λ i. i.said ++ map (as_told common) (drop 1 k.rest) ≡ answer_told common i)
+  since : since_of next ≡ since_of q
+
+told_more : (common : ℕ) (k : Client) (q : Option Interrogation) (meant : Meant) (part : Outgoing) (rest : List Outgoing)
+    → k.rest ≡ part ∷ rest
+    → parts_in meant ≡ as_told common part ∷ [] → k.rest ≡ left_of q
+    → IfSome q (λ i. i.said ++ map (as_told common) k.rest ≡ answer_told common i)
+    → More common k q (option_map (interrogation_telling meant) q)
+told_more common k None meant part rest is told left said = record { rest = ap (drop 1) left; said = tt; since = refl }
+told_more common k (Some q) meant part rest is told left said =
+    let behind : drop 1 k.rest ≡ rest = ap (drop 1) is in
+    let one : length (q.said ++ parts_in meant) ≡ length q.said + 1 =
+    omega (arith, length-append q.said (parts_in meant), ap length told) in
+    record {
+      rest = left_more (length q.said) k.rest (answer_to q.command q.rows) left ∙ ap (λ (n : ℕ). drop n (answer_to q.command q.rows)) (sym one);
+      said = rw (told, behind) (said_more common q.said part rest ∙ (ap (λ (l : List Outgoing). q.said ++ map (as_told common) l) (sym is) ∙ said));
+      since = refl;
+    }
+
+-- an answer, or older news: nothing was put out of an interrogation
+same_asked : (common : ℕ) (owes : List Answer) (q : Option Interrogation) (n m : ℕ) (meant : Meant) (k : Client)
+    → parts_in meant ≡ [] → n ≡ m → LineIs common owes q n k
+    → LineIs common owes (option_map (interrogation_telling meant) q) m k
+same_asked common owes q n m meant k none same tied =
+    subst (λ (x : Option Interrogation). LineIs common owes x m k) (sym (told_nothing meant q none))
+    (subst (λ (i : ℕ). LineIs common owes q i k) same tied)
+
+gave : (setup : Setup) (moment : ℕ) (x : Sending) (s : Option (List Turn)) (k : Client)
+    → setup.station.common_address < 65536 → IsOffered k x → CanSend setup.station.offset_minutes x
+    → NewsTied setup s k → LineTied setup s k → LineTied setup (session_with (PutsOut (says setup k x)) s)
+    (client_with_sent moment x k)
+gave setup moment x None k small is can news tied = tt
+gave setup moment (sendings.Confirm signal) (Some hs) k small is can news tied =
+    waits_on _ _ _ _ k (client_with_sent moment (sendings.Confirm signal) k)
+    (record { answers = refl; rest = refl; older = refl; queue = refl }) tied
+gave setup moment sendings.Test (Some hs) k small is can news tied =
+    waits_on _ _ _ _ k (client_with_sent moment sendings.Test k)
+    (record { answers = refl; rest = refl; older = refl; queue = refl }) tied
+gave setup moment sendings.Receipt (Some hs) k small is can news tied =
+    waits_on _ _ _ _ k (client_with_sent moment sendings.Receipt k)
+    (record { answers = refl; rest = refl; older = refl; queue = refl }) tied
+gave setup moment (sendings.Answer answer) (Some hs) k small is can news tied =
+    let offset : ℤ = setup.station.offset_minutes in
+    let common : ℕ = setup.station.common_address in
+    let meant : Meant = meaning_of offset (answer_octets offset common answer) in
+    let means : Means offset common answer meant = answer_means offset common answer small can in
+    let front = answer_first k answer is.first in
+    let apart : IsApart answer = (subst (AllByRecursion IsApart) front.1 tied.apart).0 in
+    let none : spontaneous_of common meant ≡ [] = answer_no_news offset common answer meant can means in
+    same_asked common (drop 1 (owed setup hs)) (interrogation setup hs) (length (fates setup.station hs)) _ meant
+    (client_with_sent moment (sendings.Answer answer) k)
+    (answer_apart offset common answer meant can apart means)
+    (sym (ap (λ (xs : List Observation). length (fates_with_put_out (fates setup.station hs) xs)) none))
+    (record {
+      answers = ap (drop 1) tied.answers;
+      apart = all_dropped k.answers tied.apart;
+      rest = tied.rest;
+      asked = tied.asked;
+      said = tied.said;
+      since = tied.since;
+      older = tied.older;
+    })
+gave setup moment (sendings.News x) (Some hs) k small is can news tied =
+    let offset : ℤ = setup.station.offset_minutes in
+    let common : ℕ = setup.station.common_address in
+    let meant : Meant = meaning_of offset (outgoing_octets offset common (told_news x)) in
+    let means : meant ≡ TellsAsdu (asdu_of offset common 3 0 x) = outgoing_means offset common (told_news x) small can in
+    let none : owed setup hs ≡ [] = sym tied.answers ∙ no_answer k x is.first in
+    let front = news_first k x is.first in
+    same_asked common (drop 1 (owed setup hs)) (interrogation setup hs) (length (fates setup.station hs)) _ meant
+    (client_with_sent moment (sendings.News x) k)
+    (news_apart offset common x meant means)
+    (sym (length-gone (fates setup.station hs) (spontaneous_of common meant)))
+    (record {
+      answers = tied.answers ∙ (none ∙ sym (ap (drop 1) none));
+      apart = tied.apart;
+      rest = tied.rest;
+      asked = tied.asked;
+      said = tied.said;
+      since = tied.since;
+      older = λ asked. omega (
+        arith,
+        tied.older asked,
+        settled_is setup hs k news,
+        ap length front.1,
+        length-drop 1
+            k.queue,
+      );
+    })
+gave setup moment (sendings.Part part) (Some hs) k small is can news tied =
+    let offset : ℤ = setup.station.offset_minutes in
+    let common : ℕ = setup.station.common_address in
+    let meant : Meant = meaning_of offset (outgoing_octets offset common part) in
+    let means : Means offset common (Made part) meant = outgoing_means offset common part small can in
+    let front = part_first k part is.first in
+    let requested : IsRequested part = (subst (AllByRecursion IsRequested) front.1 news.parts).0 in
+    let of_it = subst (AllByRecursion IsOfInterrogation) front.1 tied.asked in
+    let told : parts_in meant ≡ as_told common part ∷ [] = part_told offset common part meant of_it.0 requested means in
+    let none : owed setup hs ≡ [] = sym tied.answers ∙ no_answer_before k part is.first in
+    let size : length (fates setup.station (PutsOut (says setup k (sendings.Part part)) ∷ hs))
+    ≡ length (fates setup.station hs) =
+    length-gone (fates setup.station hs) (spontaneous_of common meant) in
+    let more = told_more common k (interrogation setup hs) meant part front.0 front.1 told tied.rest tied.said in
+    record {
+      answers = tied.answers ∙ (none ∙ sym (ap (drop 1) none));
+      apart = tied.apart;
+      rest = more.rest;
+      asked = subst (AllByRecursion IsOfInterrogation) (sym (ap (drop 1) front.1)) of_it.1;
+      said = more.said;
+      since = omega (arith, more.since, tied.since, size);
+      older = λ asked. omega (arith, tied.older (ap is_asked front.1), size, more.since);
+    }
+
+-- ---- lives
+
+line_more : (setup : Setup) → 0 < setup.station.queue → setup.station.common_address < 65536
+    → (t : Turn) (ts : List Turn) (k new : Client) → Lives setup ts k → Becomes setup t k new
+    → LineTied setup (session ts) k → LineTied setup (session (t ∷ ts)) new
+line_more setup some small (Idle brought) ts k new lives is tied =
+    subst (LineTied setup (session (Idle brought ∷ ts))) (sym is)
+    (came setup brought (session ts) k (news_tied setup some small ts k lives) tied)
+line_more setup some small Ends ts k new lives is tied = tt
+line_more setup some small (Takes a taking) ts k new lives is tied =
+    subst (LineTied setup (session (Takes a taking ∷ ts))) (sym is.becomes)
+    (took setup a taking is.moment (session ts) k is.opens (news_tied setup some small ts k lives) tied)
+line_more setup some small (PutsOut said) ts k new lives is tied =
+    subst (LineTied setup (session (PutsOut said ∷ ts))) (sym is.becomes)
+    (subst (λ (x : Said). LineTied setup (session (PutsOut x ∷ ts)) (client_with_sent is.moment is.sending k))
+    (sym is.says)
+    (gave setup is.moment is.sending (session ts) k small (offered_is is.moment k is.sending is.first) is.can
+    (news_tied setup some small ts k lives) tied))
+
+pub line_tied : (setup : Setup) → 0 < setup.station.queue → setup.station.common_address < 65536
+    → (ts : List Turn) (k : Client) → Lives setup ts k → LineTied setup (session ts) k
+line_tied setup some small = lives_all setup (λ ts k. LineTied setup (session ts) k) (λ k is. tt)
+    (line_more setup some small)
+
+-- ---- the laws
+
+-- what is put out in an I format is the first in line
+says_first : (setup : Setup) (x : Sending) (s : Option (List Turn)) (k : Client)
+    → setup.station.common_address < 65536 → IsOffered k x → CanSend setup.station.offset_minutes x
+    → NewsTied setup s k → LineTied setup s k → SaysFirst setup (line setup (turns_in s)) (says setup k x)
+says_first setup (sendings.Confirm signal) s k small is can news tied = tt
+says_first setup sendings.Test s k small is can news tied = tt
+says_first setup sendings.Receipt s k small is can news tied = tt
+says_first setup (sendings.Answer answer) None k small is can news tied =
+    absurd (true≢false (sym is.in_session ∙ news.stopped))
+says_first setup (sendings.News x) None k small is can news tied =
+    absurd (true≢false (sym is.in_session ∙ news.stopped))
+says_first setup (sendings.Part part) None k small is can news tied =
+    absurd (true≢false (sym is.in_session ∙ news.stopped))
+says_first setup (sendings.Answer answer) (Some hs) k small is can news tied = record {
+  sending = sendings.Answer answer;
+  first = ap (λ (l : List Sending). slice_get l 0) (sym (line_is setup hs k news tied)) ∙ is.first;
+  means = answer_means setup.station.offset_minutes setup.station.common_address answer small can;
+}
+says_first setup (sendings.News x) (Some hs) k small is can news tied = record {
+  sending = sendings.News x;
+  first = ap (λ (l : List Sending). slice_get l 0) (sym (line_is setup hs k news tied)) ∙ is.first;
+  means = outgoing_means setup.station.offset_minutes setup.station.common_address (told_news x) small can;
+}
+says_first setup (sendings.Part part) (Some hs) k small is can news tied = record {
+  sending = sendings.Part part;
+  first = ap (λ (l : List Sending). slice_get l 0) (sym (line_is setup hs k news tied)) ∙ is.first;
+  means = outgoing_means setup.station.offset_minutes setup.station.common_address part small can;
+}
+
+pub keeps_line : (setup : Setup) → 0 < setup.station.queue → setup.station.common_address < 65536
+    → (ts : List Turn) (k : Client) → Lives setup ts k → KeepsLine setup ts
+keeps_line setup some small [] k lives = tt
+keeps_line setup some small (Idle brought ∷ ts) k lives = tt
+keeps_line setup some small (Takes a taking ∷ ts) k lives = tt
+keeps_line setup some small (Ends ∷ ts) k lives = tt
+keeps_line setup some small (PutsOut said ∷ ts) k lives =
+    let gave = lives.2 in
+    subst (SaysFirst setup (line setup (turns_in (session ts)))) (sym gave.says)
+    (says_first setup gave.sending (session ts) lives.0 small
+    (offered_is gave.moment lives.0 gave.sending gave.first) gave.can
+    (news_tied setup some small ts lives.0 lives.1) (line_tied setup some small ts lives.0 lives.1))
+
+answered_so : (setup : Setup) (s : Option (List Turn)) (k : Client) → LineTied setup s k
+    → IfSome (interrogation setup (turns_in s)) (IsAnswered setup)
+answered_so setup None k tied = tt
+answered_so setup (Some hs) k tied = by (interrogation setup hs) (owed setup hs) (length (fates setup.station hs)) tied
+  where
+    by : (q : Option Interrogation) (owes : List Answer) (n : ℕ) → LineIs setup.station.common_address owes q n k
+        → IfSome q (IsAnswered setup)
+    by None owes n is = tt
+    by (Some q) owes n is = record {
+      rest = map (as_told setup.station.common_address) k.rest;
+      in_order = is.said;
+      whole = λ over. ap (map (as_told setup.station.common_address))
+          (nothing_asked k.rest (sym (pending_told setup.station.common_address owes (Some q) n k is) ∙ over));
+    }
+
+pub answers_interrogation : (setup : Setup) → 0 < setup.station.queue → setup.station.common_address < 65536
+    → (ts : List Turn) (k : Client) → Lives setup ts k → AnswersInterrogation setup ts
+answers_interrogation setup some small ts k lives = answered_so setup (session ts) k
+    (line_tied setup some small ts k lives)

@@ -1,0 +1,462 @@
+-- What ties a client's news to its session.
+use Rattle.std.proofs.Common.{◌≡◌, ℕ, ℤ, ◌-◌, ◌<◌, ◌≤◌, Bool, true, false, eqb, List, [], ◌∷◌, ◌++◌, length, drop, Option, Some, None, refl, sym, ap, subst, ◌∙◌, arith, inl, inr}
+use Rattle.std.specs.Prelude.{◌⊎◌, is_some, IfSome}
+use Rattle.std.specs.List.{AllByRecursion}
+use Rattle.std.proofs.lemmas.Bool.{cases_Bool, eq-eqb, true≢false}
+use Rattle.std.proofs.lemmas.List.{append-nil, length-drop}
+use Rattle.circular_buffer.specs.Buffer.{keep_last}
+use Rattle.gw_model.specs.declared.observation.Observation.{Observation}
+use Rattle.gw_map.specs.Settings.{Setup}
+use Rattle.iec_asdu.specs.Spelling.{spelling}
+use Rattle.iec_apci.specs.declared.apdu.Apdu.{Apdu}
+use Rattle.iec_apci.specs.declared.apdu.Apdu.TheVariants.{I, S, U}
+use Rattle.iec_apci.specs.declared.apdu.Signal.{Signal}
+use Rattle.iec_apci.specs.declared.apdu.Signal.TheVariants.{StartAct, StartCon, StopAct, StopCon, TestAct, TestCon}
+use Rattle.iec_command.specs.declared.command.Command.{Command}
+use Rattle.iec_command.specs.declared.command.Action.{Action}
+use Rattle.iec_command.specs.declared.command.Action.TheVariants as actions
+use Rattle.gw_judge.specs.declared.judging.Judged.{Judged}
+use Rattle.gw_judge.specs.declared.judging.Judged.TheVariants as judgements
+use Rattle.gw_answers.specs.declared.outgoing.Answer.{Answer}
+use Rattle.gw_answers.specs.declared.outgoing.Answer.TheVariants.{Returned, Made}
+use Rattle.gw_answers.specs.declared.outgoing.Outgoing.{Outgoing}
+use Rattle.gw_answers.specs.declared.outgoing.Outgoing.TheVariants as outgoing
+use Rattle.gw_answers.specs.Interrogations.{is_asked_by, cause_for, rows_of}
+use Rattle.gw_answers.specs.Outgoing.{command_with, news as told_news}
+use Rattle.gw_answers.specs.Octets.{answer_octets, outgoing_octets}
+use Rattle.gw_answers.specs.Meaning.{Meant, Tells, Commands, Unread, meaning_of, asdu_of, Means, CanSendAnswer, CanSendOutgoing}
+use Rattle.gw_answers.proofs.Meant.{answer_means, outgoing_means}
+use Rattle.gw_station.specs.declared.event.Event.{Event}
+use Rattle.gw_station.specs.declared.event.Event.TheVariants as events
+use Rattle.gw_station.specs.declared.sending.Sending.{Sending}
+use Rattle.gw_station.specs.declared.sending.Sending.TheVariants as sendings
+use Rattle.gw_station.specs.Client.{Client, is_started, client_with_news}
+use Rattle.gw_station.specs.Answers.{rest_with, is_asking}
+use Rattle.gw_station.specs.Frames.{close_of, judged_asdu, client_taking, client_with_signal, command_in, event_taking}
+use Rattle.gw_station.specs.Pump.{client_with_sent}
+use Rattle.gw_station.specs.Sound.{CanSend}
+use Rattle.gw_steps.specs.Steps.{client_answered}
+use Rattle.gw_steps.specs.Runs.{Entry}
+use Rattle.gw_steps.specs.Said.{Said}
+use Rattle.gw_history.specs.Premises.{client_at}
+use Rattle.gw_history.specs.Life.{Brought, Taking, Turn, Idle, Takes, PutsOut, Ends, session_with, session, turns_in, life}
+use Rattle.gw_history.proofs.Places.{Place, SlotLives, of_each}
+use Rattle.gw_history.proofs.Lives.{Becomes, IsFresh, Lives, lives_all}
+use Rattle.gw_laws.specs.Fates.{spontaneous_of, spontaneous_in, Element, is_put_out, is_dropped, items_of, fates, gone, fates_with_news, fates_with_put_out}
+use Rattle.gw_laws.specs.News.{IsOfStation, TellsNews, Speaks, News}
+use Rattle.gw_laws.proofs.Offered.{IsOffered, offered_is, news_first, part_first}
+use Rattle.gw_laws.proofs.Parts.{IsRequested, answer_no_news, part_no_news}
+use Rattle.gw_laws.proofs.Opens.{open_i}
+use Rattle.gw_laws.proofs.Settled.{put, AreSettled, before_queue, queue_shrinks, settled_more, kept_in, queued_in, dropped_in, put_out_more, dropped_same, grown}
+use Rattle.gw_laws.proofs.Numbers.{says, counts_tied}
+
+-- ---- the tie
+
+-- the fates of a session's news are settled ones, and then the queue
+pub record InSession (setup : Setup) (hs : List Turn) (k : Client) : Type 0 where
+  pub started : is_started k.stage ≡ true
+  pub settled : List Element
+  pub all_settled : AreSettled settled
+  pub told : fates setup.station hs ≡ before_queue settled k.queue
+  pub put_out : gone setup.station hs ≡ items_of is_put_out settled
+  pub dropped : k.dropped ≡ length (items_of is_dropped settled)
+  pub few : length k.queue ≤ k.limit
+  pub parts : AllByRecursion IsRequested k.rest
+
+-- where no session stands, nothing waits
+pub record NoSession (k : Client) : Type 0 where
+  pub stopped : is_started k.stage ≡ false
+  pub queue : k.queue ≡ []
+  pub dropped : k.dropped ≡ 0
+  pub answers : k.answers ≡ []
+  pub rest : k.rest ≡ []
+
+abbrev pub NewsTied : Setup → Option (List Turn) → Client → Type 0
+NewsTied setup None k = NoSession k
+NewsTied setup (Some hs) k = InSession setup hs k
+
+-- ---- what an I format says
+
+answer_of_station : (offset : ℤ) (common : ℕ) (answer : Answer) (meant : Meant) → CanSendAnswer offset answer
+    → Means offset common answer meant → IsOfStation common meant
+answer_of_station offset common (Returned asdu cause) (Tells told) can means = inr (cause, can.1, can.2, means)
+answer_of_station offset common (Returned asdu cause) (Commands c) can means = inr (cause, can.1, can.2, means)
+answer_of_station offset common (Returned asdu cause) (Unread octets) can means = (cause, can.1, can.2, means)
+answer_of_station offset common (Made (outgoing.Command c)) meant can means = subst (IsOfStation common) (sym means) (inl (can.0, refl))
+answer_of_station offset common (Made (outgoing.Observation cause originator x)) meant can means =
+    subst (IsOfStation common) (sym means)
+    (subst (λ (n : ℕ). IsOfStation common (Tells (asdu_of offset common n originator x))) (sym can.0) (inl (refl, refl)))
+
+part_of_station : (offset : ℤ) (common : ℕ) (part : Outgoing) (meant : Meant) → CanSendOutgoing offset part → IsRequested part
+    → Means offset common (Made part) meant → IsOfStation common meant
+part_of_station offset common (outgoing.Command c) meant can is means = subst (IsOfStation common) (sym means) (inl (can.0, refl))
+part_of_station offset common (outgoing.Observation cause originator x) meant can (inl is) means =
+    subst (IsOfStation common) (sym means)
+    (subst (λ (n : ℕ). IsOfStation common (Tells (asdu_of offset common n originator x))) (sym is) (inl (refl, refl)))
+part_of_station offset common (outgoing.Observation cause originator x) meant can (inr is) means =
+    subst (IsOfStation common) (sym means)
+    (subst (λ (n : ℕ). IsOfStation common (Tells (asdu_of offset common n originator x))) (sym is) (inl (refl, refl)))
+
+own_news : (offset : ℤ) (common : ℕ) (x : Observation)
+    → spontaneous_of common (Tells (asdu_of offset common 3 0 x)) ≡ x ∷ []
+own_news offset common x = rw (eq-eqb common common refl) refl
+
+-- ---- parts of an answer
+
+rows_requested : (action : Action) (xs : List Observation) → AllByRecursion IsRequested (rows_of action xs)
+rows_requested action [] = tt
+rows_requested action (x ∷ xs) = elim (cases_Bool (is_asked_by action x)) [
+  | inl is ↦ rw is (cause_is action, rows_requested action xs)
+  | inr isnt ↦ rw isnt (rows_requested action xs)
+]
+  where
+    cause_is : (action : Action) → (cause_for action ≡ 20) ⊎ (cause_for action ≡ 37)
+    cause_is (actions.Single c) = inl refl
+    cause_is (actions.Double c) = inl refl
+    cause_is (actions.Setpoint c) = inl refl
+    cause_is (actions.Interrogation qualifier) = inl refl
+    cause_is (actions.CounterInterrogation qualifier) = inr refl
+    cause_is actions.Read = inl refl
+
+and_termination : (parts : List Outgoing) (c : Command) → AllByRecursion IsRequested parts
+    → AllByRecursion IsRequested (parts ++ command_with 10 false c ∷ [])
+and_termination [] c all = (tt, tt)
+and_termination (part ∷ parts) c all = (all.0, and_termination parts c all.1)
+
+parts_with : (picture : List Observation) (j : Judged) (asks : Bool) (k : Client) → AllByRecursion IsRequested k.rest
+    → AllByRecursion IsRequested (rest_with picture j asks k)
+parts_with picture (judgements.Accepted c) true k all =
+    (tt, and_termination (rows_of c.action picture) c (rows_requested c.action picture))
+parts_with picture (judgements.Accepted c) false k all = all
+parts_with picture judgements.Malformed asks k all = all
+parts_with picture (judgements.Refuse cause execute) asks k all = all
+
+all_drop : (parts : List Outgoing) → AllByRecursion IsRequested parts → AllByRecursion IsRequested (drop 1 parts)
+all_drop [] all = tt
+all_drop (part ∷ parts) all = all.1
+
+-- ---- one turn more
+
+-- what is seen of a session's news is the same
+record Alike (k new : Client) : Type 0 where
+  stage : new.stage ≡ k.stage
+  limit : new.limit ≡ k.limit
+  queue : new.queue ≡ k.queue
+  dropped : new.dropped ≡ k.dropped
+
+still : (setup : Setup) (hs us : List Turn) (k new : Client) → fates setup.station us ≡ fates setup.station hs
+    → gone setup.station us ≡ gone setup.station hs → Alike k new
+    → AllByRecursion IsRequested new.rest → InSession setup hs k → InSession setup us new
+still setup hs us k new same_fates same_gone alike parts tied = record {
+  started = ap is_started alike.stage ∙ tied.started;
+  settled = tied.settled;
+  all_settled = tied.all_settled;
+  told = same_fates ∙ (tied.told ∙ ap (before_queue tied.settled) (sym alike.queue));
+  put_out = same_gone ∙ tied.put_out;
+  dropped = alike.dropped ∙ tied.dropped;
+  few = omega (arith, alike.limit, ap length alike.queue, tied.few);
+  parts = parts;
+}
+
+no_session : (k new : Client) → new.stage ≡ k.stage → new.queue ≡ k.queue → new.dropped ≡ k.dropped
+    → new.answers ≡ k.answers → new.rest ≡ k.rest → NoSession k → NoSession new
+no_session k new stage queue dropped answers rest tied =
+    record {
+      stopped = ap is_started stage ∙ tied.stopped;
+      queue = queue ∙ tied.queue;
+      dropped = dropped ∙ tied.dropped;
+      answers = answers ∙ tied.answers;
+      rest = rest ∙ tied.rest;
+    }
+
+-- news come
+came : (setup : Setup) (brought : Brought) (s : Option (List Turn)) (k : Client) → 0 < setup.station.queue
+    → k.limit ≡ setup.station.queue
+    → NewsTied setup s k → NewsTied setup (session_with (Idle brought) s) (client_with_news brought.news k)
+came setup brought None k some limit tied =
+    record {
+      stopped = tied.stopped;
+      queue = rw tied.stopped tied.queue;
+      dropped = rw tied.stopped (omega (arith, tied.dropped));
+      answers = tied.answers;
+      rest = tied.rest;
+    }
+came setup brought (Some hs) k some limit tied =
+    let xs : List Observation = brought.news in
+    let more = grown k.limit tied.settled k.queue xs (omega (arith, some, limit)) tied.few tied.all_settled in
+    let queue : (client_with_news xs k).queue ≡ keep_last k.limit (k.queue ++ xs) = rw tied.started refl in
+    record {
+      started = tied.started;
+      settled = more.more;
+      all_settled = more.all;
+      told = ap (λ (es : List Element). fates_with_news setup.station.queue es xs) tied.told
+          ∙ (ap (λ (n : ℕ). fates_with_news n (before_queue tied.settled k.queue) xs) (sym limit)
+          ∙ (more.told ∙ ap (before_queue more.more) (sym queue)));
+      put_out = tied.put_out ∙ sym more.put_out;
+      dropped = rw tied.started (omega (arith, tied.dropped, more.dropped));
+      few = omega (arith, ap length queue, length-drop (length (k.queue ++ xs) - k.limit) (k.queue ++ xs));
+      parts = tied.parts;
+    }
+
+-- a control function is taken
+signal_taken : (setup : Setup) (taking : Taking) (moment : ℕ) (signal : Signal) (s : Option (List Turn)) (k : Client)
+    → NewsTied setup s k → NewsTied setup (session_with (Takes (U signal) taking) s)
+    (client_with_signal moment signal k)
+signal_taken setup taking moment StartAct None k tied = record {
+  started = rw tied.stopped refl;
+  settled = [];
+  all_settled = tt;
+  told = rw tied.stopped refl;
+  put_out = refl;
+  dropped = rw tied.stopped refl;
+  few = rw tied.stopped (omega arith);
+  parts = rw tied.stopped tt;
+}
+signal_taken setup taking moment StartAct (Some hs) k tied =
+    still setup hs (Takes (U StartAct) taking ∷ hs) k (client_with_signal moment StartAct k) refl refl
+    (record {
+      stage = rw tied.started refl;
+      limit = rw tied.started refl;
+      queue = rw tied.started refl;
+      dropped = rw tied.started refl;
+    }) (rw tied.started tied.parts) tied
+signal_taken setup taking moment StopAct None k tied =
+    record {
+      stopped = rw tied.stopped tied.stopped;
+      queue = rw tied.stopped tied.queue;
+      dropped = rw tied.stopped tied.dropped;
+      answers = rw tied.stopped tied.answers;
+      rest = rw tied.stopped tied.rest;
+    }
+signal_taken setup taking moment StopAct (Some hs) k tied =
+    record {
+      stopped = rw tied.started refl;
+      queue = rw tied.started refl;
+      dropped = rw tied.started refl;
+      answers = rw tied.started refl;
+      rest = rw tied.started refl;
+    }
+signal_taken setup taking moment TestAct None k tied = no_session k _ refl refl refl refl refl tied
+signal_taken setup taking moment TestCon None k tied = no_session k _ refl refl refl refl refl tied
+signal_taken setup taking moment StartCon None k tied = no_session k _ refl refl refl refl refl tied
+signal_taken setup taking moment StopCon None k tied = no_session k _ refl refl refl refl refl tied
+signal_taken setup taking moment TestAct (Some hs) k tied =
+    still setup hs (Takes (U TestAct) taking ∷ hs) k _ refl refl
+    (record { stage = refl; limit = refl; queue = refl; dropped = refl }) tied.parts tied
+signal_taken setup taking moment TestCon (Some hs) k tied =
+    still setup hs (Takes (U TestCon) taking ∷ hs) k _ refl refl
+    (record { stage = refl; limit = refl; queue = refl; dropped = refl }) tied.parts tied
+signal_taken setup taking moment StartCon (Some hs) k tied =
+    still setup hs (Takes (U StartCon) taking ∷ hs) k _ refl refl
+    (record { stage = refl; limit = refl; queue = refl; dropped = refl }) tied.parts tied
+signal_taken setup taking moment StopCon (Some hs) k tied =
+    still setup hs (Takes (U StopCon) taking ∷ hs) k _ refl refl
+    (record { stage = refl; limit = refl; queue = refl; dropped = refl }) tied.parts tied
+
+-- an answer to a command changes nothing of a session's news
+answered_alike : (event : Event) (k : Client)
+    → Alike k (client_answered event k) × ((client_answered event k).rest ≡ k.rest)
+answered_alike events.Taken k = (record { stage = refl; limit = refl; queue = refl; dropped = refl }, refl)
+answered_alike (events.Command command) k = (record { stage = refl; limit = refl; queue = refl; dropped = refl }, refl)
+answered_alike (events.Closed why) k = (record { stage = refl; limit = refl; queue = refl; dropped = refl }, refl)
+
+took : (setup : Setup) (a : Apdu) (taking : Taking) (moment : ℕ) (s : Option (List Turn)) (k : Client)
+    → close_of setup a k ≡ None → NewsTied setup s k
+    → NewsTied setup (session_with (Takes a taking) s)
+    (client_answered (event_taking (command_in setup a)) (client_taking setup taking.picture moment a k))
+took setup (I ns nr asdu) taking moment None k opens tied =
+    absurd (true≢false (sym (open_i ns nr (judged_asdu setup asdu) k opens).started ∙ tied.stopped))
+took setup (I ns nr asdu) taking moment (Some hs) k opens tied =
+    let j : Judged = judged_asdu setup asdu in
+    let between : Client = client_taking setup taking.picture moment (I ns nr asdu) k in
+    let same = answered_alike (event_taking (command_in setup (I ns nr asdu))) between in
+    still setup hs (Takes (I ns nr asdu) taking ∷ hs) k _ refl refl
+    (record { stage = same.0.stage; limit = same.0.limit; queue = same.0.queue; dropped = same.0.dropped })
+    (subst (AllByRecursion IsRequested) (sym same.1) (parts_with taking.picture j (is_asking j k) k tied.parts)) tied
+took setup (S nr) taking moment None k opens tied = no_session k _ refl refl refl refl refl tied
+took setup (S nr) taking moment (Some hs) k opens tied =
+    still setup hs (Takes (S nr) taking ∷ hs) k _ refl refl
+    (record { stage = refl; limit = refl; queue = refl; dropped = refl }) tied.parts tied
+took setup (U signal) taking moment s k opens tied = signal_taken setup taking moment signal s k tied
+
+-- something is put out that is no news
+put_still : (setup : Setup) (said : Said) (hs : List Turn) (k new : Client)
+    → spontaneous_in setup.station.common_address said ≡ [] → Alike k new
+    → AllByRecursion IsRequested new.rest → InSession setup hs k → InSession setup (PutsOut said ∷ hs) new
+put_still setup said hs k new none alike parts tied =
+    still setup hs (PutsOut said ∷ hs) k new (ap (λ (xs : List Observation). fates_with_put_out
+    (fates setup.station hs) xs) none)
+    (ap (λ (xs : List Observation). gone setup.station hs ++ xs) none ∙ append-nil (gone setup.station hs)) alike
+    parts tied
+
+gave : (setup : Setup) (moment : ℕ) (x : Sending) (s : Option (List Turn)) (k : Client)
+    → setup.station.common_address < 65536 → IsOffered k x → CanSend setup.station.offset_minutes x
+    → NewsTied setup s k → NewsTied setup (session_with (PutsOut (says setup k x)) s) (client_with_sent moment x k)
+gave setup moment (sendings.Confirm signal) None k small is can tied = no_session k _ refl refl refl refl refl tied
+gave setup moment sendings.Test None k small is can tied = no_session k _ refl refl refl refl refl tied
+gave setup moment sendings.Receipt None k small is can tied = no_session k _ refl refl refl refl refl tied
+gave setup moment (sendings.Answer answer) None k small is can tied =
+    absurd (true≢false (sym is.in_session ∙ tied.stopped))
+gave setup moment (sendings.Part part) None k small is can tied = absurd (true≢false (sym is.in_session ∙ tied.stopped))
+gave setup moment (sendings.News x) None k small is can tied = absurd (true≢false (sym is.in_session ∙ tied.stopped))
+gave setup moment (sendings.Confirm signal) (Some hs) k small is can tied =
+    put_still setup (says setup k (sendings.Confirm signal)) hs k _ refl
+    (record { stage = refl; limit = refl; queue = refl; dropped = refl }) tied.parts tied
+gave setup moment sendings.Test (Some hs) k small is can tied =
+    put_still setup (says setup k sendings.Test) hs k _ refl
+    (record { stage = refl; limit = refl; queue = refl; dropped = refl }) tied.parts tied
+gave setup moment sendings.Receipt (Some hs) k small is can tied =
+    put_still setup (says setup k sendings.Receipt) hs k _ refl
+    (record { stage = refl; limit = refl; queue = refl; dropped = refl }) tied.parts tied
+gave setup moment (sendings.Answer answer) (Some hs) k small is can tied =
+    let offset : ℤ = setup.station.offset_minutes in
+    let common : ℕ = setup.station.common_address in
+    let meant : Meant = meaning_of offset (answer_octets offset common answer) in
+    put_still setup (says setup k (sendings.Answer answer)) hs k _
+    (answer_no_news offset common answer meant can (answer_means offset common answer small can))
+    (record { stage = refl; limit = refl; queue = refl; dropped = refl }) tied.parts tied
+gave setup moment (sendings.Part part) (Some hs) k small is can tied =
+    let offset : ℤ = setup.station.offset_minutes in
+    let common : ℕ = setup.station.common_address in
+    let meant : Meant = meaning_of offset (outgoing_octets offset common part) in
+    let front = part_first k part is.first in
+    let requested : IsRequested part = (subst (AllByRecursion IsRequested) front.1 tied.parts).0 in
+    put_still setup (says setup k (sendings.Part part)) hs k _ (part_no_news offset common part meant requested (outgoing_means offset common part small can))
+    (record { stage = refl; limit = refl; queue = refl; dropped = refl }) (all_drop k.rest tied.parts) tied
+gave setup moment (sendings.News x) (Some hs) k small is can tied =
+    let offset : ℤ = setup.station.offset_minutes in
+    let common : ℕ = setup.station.common_address in
+    let queue : ℕ = setup.station.queue in
+    let meant : Meant = meaning_of offset (outgoing_octets offset common (told_news x)) in
+    let means : meant ≡ Tells (asdu_of offset common 3 0 x) = outgoing_means offset common (told_news x) small can in
+    let puts : spontaneous_of common meant ≡ x ∷ [] = ap (spontaneous_of common) means ∙ own_news offset common x in
+    let front = news_first k x is.first in
+    let rest : drop 1 k.queue ≡ front.0 = ap (drop 1) front.1 in
+    record {
+      started = tied.started;
+      settled = tied.settled ++ put x ∷ [];
+      all_settled = settled_more tied.settled x tied.all_settled;
+      told = ap (λ (xs : List Observation). fates_with_put_out (fates setup.station hs) xs) puts
+          ∙ (ap (λ (es : List Element). fates_with_put_out es (x ∷ []))
+          (tied.told ∙ ap (before_queue tied.settled) front.1)
+          ∙ (queue_shrinks tied.settled x front.0 tied.all_settled
+          ∙ ap (before_queue (tied.settled ++ put x ∷ [])) (sym rest)));
+      put_out = ap (λ (xs : List Observation). gone setup.station hs ++ xs) puts
+          ∙ (ap (λ (ys : List Observation). ys ++ x ∷ []) tied.put_out ∙ sym (put_out_more tied.settled x));
+      dropped = tied.dropped ∙ sym (ap length (dropped_same tied.settled x));
+      few = omega (arith, length-drop 1 k.queue, tied.few);
+      parts = tied.parts;
+    }
+
+news_first_tied : (setup : Setup) (k : Client) → IsFresh setup k → NewsTied setup None k
+news_first_tied setup k is = record {
+  stopped = is.stage;
+  queue = is.queue;
+  dropped = is.dropped;
+  answers = is.answers;
+  rest = is.rest;
+}
+
+pub news_more : (setup : Setup) → 0 < setup.station.queue → setup.station.common_address < 65536
+    → (t : Turn) (ts : List Turn) (k new : Client) → Lives setup ts k → Becomes setup t k new
+    → NewsTied setup (session ts) k → NewsTied setup (session (t ∷ ts)) new
+news_more setup some small (Idle brought) ts k new lives is tied =
+    subst (NewsTied setup (session (Idle brought ∷ ts))) (sym is)
+    (came setup brought (session ts) k some (counts_tied setup ts k lives).limit tied)
+news_more setup some small Ends ts k new lives is tied =
+    subst NoSession (sym is) (record { stopped = refl; queue = refl; dropped = refl; answers = refl; rest = refl })
+news_more setup some small (Takes a taking) ts k new lives is tied =
+    subst (NewsTied setup (session (Takes a taking ∷ ts))) (sym is.becomes)
+    (took setup a taking is.moment (session ts) k is.opens tied)
+news_more setup some small (PutsOut said) ts k new lives is tied =
+    subst (NewsTied setup (session (PutsOut said ∷ ts))) (sym is.becomes)
+    (subst (λ (x : Said). NewsTied setup (session (PutsOut x ∷ ts)) (client_with_sent is.moment is.sending k))
+    (sym is.says)
+    (gave setup is.moment is.sending (session ts) k small (offered_is is.moment k is.sending is.first) is.can tied))
+
+pub news_tied : (setup : Setup) → 0 < setup.station.queue → setup.station.common_address < 65536
+    → (ts : List Turn) (k : Client) → Lives setup ts k → NewsTied setup (session ts) k
+news_tied setup some small = lives_all setup (λ ts k. NewsTied setup (session ts) k) (news_first_tied setup)
+    (news_more setup some small)
+
+-- ---- the law
+
+tells : (setup : Setup) (s : Option (List Turn)) (k : Client) → NewsTied setup s k
+    → TellsNews setup.station (turns_in s) k
+tells setup None k tied = record { in_order = tied.queue; queued = tied.queue; dropped = tied.dropped }
+tells setup (Some hs) k tied = record {
+  in_order = rw (tied.put_out, tied.told) (sym (kept_in tied.settled k.queue tied.all_settled));
+  queued = rw tied.told (sym (queued_in tied.settled k.queue tied.all_settled));
+  dropped = tied.dropped ∙ sym (ap length (rw tied.told (dropped_in tied.settled k.queue)));
+}
+
+pub stands : (setup : Setup) (s : Option (List Turn)) (k : Client) → NewsTied setup s k → is_started k.stage ≡ is_some s
+stands setup None k tied = tied.stopped
+stands setup (Some hs) k tied = tied.started
+
+says_of_station : (setup : Setup) (x : Sending) (ts : List Turn) (k : Client) → setup.station.common_address < 65536
+    → IsOffered k x → CanSend setup.station.offset_minutes x
+    → NewsTied setup (session ts) k → Speaks setup.station (PutsOut (says setup k x) ∷ ts)
+says_of_station setup (sendings.Confirm signal) ts k small is can tied = tt
+says_of_station setup sendings.Test ts k small is can tied = tt
+says_of_station setup sendings.Receipt ts k small is can tied = tt
+says_of_station setup (sendings.Answer answer) ts k small is can tied =
+    let offset : ℤ = setup.station.offset_minutes in
+    let common : ℕ = setup.station.common_address in (
+      sym (stands setup (session ts) k tied) ∙ is.in_session,
+      answer_of_station offset common answer
+          (meaning_of offset (answer_octets offset common answer)) can (answer_means offset common answer small can),
+    )
+says_of_station setup (sendings.Part part) ts k small is can tied =
+    let offset : ℤ = setup.station.offset_minutes in
+    let common : ℕ = setup.station.common_address in
+    let requested : IsRequested part = requested_in (session ts) tied in
+    (sym (stands setup (session ts) k tied) ∙ is.in_session, part_of_station offset common part (meaning_of offset (outgoing_octets offset common part)) can requested (outgoing_means offset common part small can))
+  where
+    requested_in : (s : Option (List Turn)) → NewsTied setup s k → IsRequested part
+    requested_in None tied = absurd (true≢false (sym is.in_session ∙ tied.stopped))
+    requested_in (Some hs) tied = (subst (AllByRecursion IsRequested) (part_first k part is.first).1 tied.parts).0
+says_of_station setup (sendings.News x) ts k small is can tied =
+    let offset : ℤ = setup.station.offset_minutes in
+    let common : ℕ = setup.station.common_address in
+    let means = outgoing_means offset common (told_news x) small can in
+    (sym (stands setup (session ts) k tied) ∙ is.in_session, subst (IsOfStation common) (sym means) (inl (refl, refl)))
+
+speaks : (setup : Setup) → 0 < setup.station.queue → setup.station.common_address < 65536
+    → (ts : List Turn) (k : Client) → Lives setup ts k → Speaks setup.station ts
+speaks setup some small [] k lives = tt
+speaks setup some small (Idle brought ∷ ts) k lives = tt
+speaks setup some small (Takes a taking ∷ ts) k lives = tt
+speaks setup some small (Ends ∷ ts) k lives = tt
+speaks setup some small (PutsOut said ∷ ts) k lives =
+    let gave = lives.2 in
+    subst (λ (x : Said). Speaks setup.station (PutsOut x ∷ ts)) (sym gave.says)
+    (says_of_station setup gave.sending ts lives.0 small
+    (offered_is gave.moment lives.0 gave.sending gave.first) gave.can
+    (news_tied setup some small ts lives.0 lives.1))
+
+pub tells_news : (setup : Setup) (past : List Entry) → Place setup past → News setup past
+tells_news setup past place = record {
+  picture = place.known.tied.picture;
+  sessions = λ c. begun c (client_at setup c past) (place.known.lives c);
+  queues = λ c. news c (client_at setup c past) (place.known.lives c);
+  speaks = of_each setup (Speaks setup.station) (speaks setup some small) past place;
+}
+  where
+    some : 0 < setup.station.queue
+    some = place.given.settings.queue
+
+    small : setup.station.common_address < 65536
+    small = place.given.settings.station
+
+    begun : (c : ℕ) (x : Option Client) → SlotLives setup c (life setup c past) x
+        → IfSome x (λ k. is_started k.stage ≡ is_some (session (life setup c past)))
+    begun c None lives = tt
+    begun c (Some k) lives = stands setup (session (life setup c past)) k
+        (news_tied setup some small (life setup c past) k lives)
+
+    news : (c : ℕ) (x : Option Client) → SlotLives setup c (life setup c past) x
+        → IfSome x (TellsNews setup.station (turns_in (session (life setup c past))))
+    news c None lives = tt
+    news c (Some k) lives = tells setup (session (life setup c past)) k
+        (news_tied setup some small (life setup c past) k lives)

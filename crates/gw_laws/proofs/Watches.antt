@@ -1,0 +1,455 @@
+-- What is kept of an interrogation that is watched, by what the history tells of a client, and how each turn keeps it.
+use Rattle.std.proofs.Common.{◌≡◌, ℕ, ℤ, ◌≤◌, true, false, List, [], ◌∷◌, ◌++◌, map, length, take, drop, Option, Some, None, refl, sym, ap, subst, ◌∙◌, append_assoc, arith}
+use Rattle.std.specs.Prelude.{not, filter, slice_get, option_map}
+use Rattle.std.specs.List.{AllByRecursion}
+use Rattle.std.proofs.lemmas.List.{append-nil, map-append, take-append-drop}
+use Rattle.std.proofs.Math.Seq.{take-length, drop-length}
+use Rattle.gw_model.specs.declared.observation.Observation.{Observation}
+use Rattle.gw_entries.specs.declared.row.Row.{Row}
+use Rattle.gw_picture.specs.Log.{picture_of}
+use Rattle.gw_picture.proofs.Addresses.{is_single}
+use Rattle.gw_picture.proofs.Logs.{shown_by}
+use Rattle.iec_command.specs.declared.command.Action.{Action}
+use Rattle.iec_command.specs.declared.command.Action.TheVariants as actions
+use Rattle.gw_answers.specs.declared.outgoing.Answer.{Answer}
+use Rattle.gw_answers.specs.declared.outgoing.Outgoing.{Outgoing}
+use Rattle.gw_answers.specs.Interrogations.{is_total, is_asked_by, rows_of, answer_to}
+use Rattle.gw_answers.specs.Meaning.{Meant}
+use Rattle.gw_answers.specs.Outgoing.{command_with}
+use Rattle.gw_station.specs.declared.sending.Sending.{Sending}
+use Rattle.gw_station.specs.declared.sending.Sending.TheVariants as sendings
+use Rattle.gw_station.specs.Sound.{IsReturnableSending}
+use Rattle.gw_laws.specs.Fates.{Element, is_queued, items_of, fates_with_news, fates_with_put_out}
+use Rattle.gw_laws.specs.Interrogations.{Interrogation, is_interrogation, parts_in, as_told, interrogation_telling}
+use Rattle.gw_laws.specs.Line.{since_of, left_of, line_with, MeansSending}
+use Rattle.gw_laws.specs.Mirror.{observations_in, waiting_in, is_station_interrogation, told_with, NoneDropped}
+use Rattle.gw_laws.proofs.Settled.{queued, items_of-append}
+use Rattle.gw_laws.proofs.Known.{IsShown, Knows, filtered_shown, shown_last, knows_news, knows_inserted}
+use Rattle.gw_laws.proofs.Joined.{joins_behind, none_before, joins, came_front, gone_dropped, gone_front}
+use Rattle.gw_laws.proofs.Waits.{waiting_in-append, waiting_answer, from_answer, waiting_from, waiting_line, from_answer_joined, line_joined, IsPlain, is_part, told_as, apart, part_first, from_part, from_part_of, from_part_next, first_waits}
+
+-- ---- what the history tells of a client
+
+pub record View : Type 0 where
+  -- the log of news, and the fates of the session's
+  pub log : List Observation
+  pub elements : List Element
+  pub asked : Option Interrogation
+  pub owed : List Answer
+
+abbrev pub line_in : View → List Sending
+line_in v = line_with v.owed v.asked v.elements
+
+-- ---- what is kept
+
+-- the interrogation that is pending is the watched one, and nothing was said of it
+pub record IsWatched (asked : Option Interrogation) (since : ℕ) : Type 0 where
+  pub q : Interrogation
+  pub is : asked ≡ Some q
+  pub mark : q.since ≡ since
+  pub said : q.said ≡ []
+  pub kind : is_interrogation q.command.action ≡ true
+
+-- before the confirmation was put out
+pub record Unheard (rows : List Row) (v : View) (since : ℕ) : Type 0 where
+  pub watched : IsWatched v.asked since
+  pub knows : NoneDropped since v.elements → Knows rows v.log (waiting_in (from_answer v.asked v.elements))
+
+-- from then on: of the news that came before the act none waits
+pub record Heard (rows : List Row) (v : View) (since : ℕ) (told : List Observation) : Type 0 where
+  pub mark : since ≤ since_of v.asked
+  pub settled : items_of is_queued (take since v.elements) ≡ []
+  pub knows : NoneDropped since v.elements → Knows rows v.log (told ++ waiting_in (line_in v))
+
+abbrev pub IsKept : List Row → View → ℕ → Option (List Observation) → Type 0
+IsKept rows v since None = Unheard rows v since
+IsKept rows v since (Some told) = Heard rows v since told
+
+-- ---- news come
+
+abbrev pub came : ℕ → List Observation → View → View
+came limit xs v = record v { log = v.log ++ xs; elements = fates_with_news limit v.elements xs }
+
+unheard_came : (rows : List Row) (limit since : ℕ) (xs : List Observation) (v : View)
+    → since_of v.asked ≤ length v.elements
+    → Unheard rows v since → Unheard rows (came limit xs v) since
+unheard_came rows limit since xs v within kept =
+    let es : List Element = v.elements in
+    let fs : List Element = fates_with_news limit es xs in
+    let mark : since_of v.asked ≡ since = ap since_of kept.watched.is ∙ kept.watched.mark in
+    let few : since ≤ length es = omega (arith, mark, within) in
+    record {
+      watched = kept.watched;
+      knows = λ none.
+          let joined : drop (since_of v.asked) fs ≡ drop (since_of v.asked) es ++ map queued xs =
+          subst (λ (n : ℕ). drop n fs ≡ drop n es ++ map queued xs) (sym mark)
+          (joins_behind limit since es xs few none) in
+          subst (λ (ys : List Observation). Knows rows (v.log ++ xs) ys)
+          (sym (from_answer_joined v.asked es fs xs joined))
+          (knows_news rows v.log (waiting_in (from_answer v.asked es)) xs
+          (kept.knows (none_before limit since es xs few none)));
+    }
+
+heard_came : (rows : List Row) (limit since : ℕ) (told xs : List Observation) (v : View)
+    → since_of v.asked ≤ length v.elements
+    → Heard rows v since told → Heard rows (came limit xs v) since told
+heard_came rows limit since told xs v within kept =
+    let es : List Element = v.elements in
+    let fs : List Element = fates_with_news limit es xs in
+    let few : since ≤ length es = omega (arith, kept.mark, within) in
+    record {
+      mark = kept.mark;
+      settled = came_front limit since es xs few kept.settled;
+      knows = λ none.
+          let joined : fs ≡ es ++ map queued xs = joins limit since es xs few kept.settled none in
+          let waits : waiting_in (line_with v.owed v.asked fs) ≡ waiting_in (line_in v) ++ xs =
+          ap (λ (gs : List Element). waiting_in (line_with v.owed v.asked gs)) joined
+          ∙ line_joined v.owed v.asked es xs within in
+          let all : (told ++ waiting_in (line_in v)) ++ xs ≡ told ++ waiting_in (line_with v.owed v.asked fs) =
+          append_assoc told (waiting_in (line_in v)) xs ∙ ap (λ (ys : List Observation). told ++ ys) (sym waits) in
+          subst (λ (ys : List Observation). Knows rows (v.log ++ xs) ys) all
+          (knows_news rows v.log (told ++ waiting_in (line_in v)) xs
+          (kept.knows (none_before limit since es xs few none)));
+    }
+
+pub kept_came : (rows : List Row) (limit since : ℕ) (told : Option (List Observation)) (xs : List Observation)
+    (v : View)
+    → since_of v.asked ≤ length v.elements → IsKept rows v since told → IsKept rows (came limit xs v) since told
+kept_came rows limit since None xs v within kept = unheard_came rows limit since xs v within kept
+kept_came rows limit since (Some told) xs v within kept = heard_came rows limit since told xs v within kept
+
+-- ---- the first of the line is put out
+
+abbrev pub put_out : Meant → List Observation → View → View
+put_out meant ys v = record v {
+  elements = fates_with_put_out v.elements ys;
+  asked = option_map (interrogation_telling meant) v.asked;
+  owed = drop 1 v.owed;
+}
+
+-- it means the first in line, and the others wait then
+pub record PutsFirst (offset : ℤ) (common : ℕ) (v new : View) (meant : Meant) : Type 0 where
+  pub sending : Sending
+  pub first : slice_get (line_in v) 0 ≡ Some sending
+  pub plain : IsPlain sending
+  pub returnable : IsReturnableSending sending
+  pub means : MeansSending offset common sending meant
+  pub line : line_in new ≡ drop 1 (line_in v)
+
+same_since : (meant : Meant) (q : Option Interrogation)
+    → since_of (option_map (interrogation_telling meant) q) ≡ since_of q
+same_since meant None = refl
+same_since meant (Some q) = refl
+
+heard_put_out : (rows : List Row) (offset : ℤ) (common since : ℕ) (told : List Observation) (meant : Meant)
+    (ys : List Observation) (v : View)
+    → PutsFirst offset common v (put_out meant ys v) meant → Heard rows v since told
+    → Heard rows (put_out meant ys v) since (told ++ observations_in meant)
+heard_put_out rows offset common since told meant ys v puts kept =
+    let new : View = put_out meant ys v in
+    let rest : List Observation = waiting_in (line_in new) in
+    let first : waiting_in (line_in v) ≡ observations_in meant ++ rest =
+    first_waits puts.sending (line_in v) puts.first
+    ∙ (ap (λ (xs : List Observation). xs ++ waiting_in (drop 1 (line_in v)))
+    (sym (told_as offset common puts.sending meant puts.plain puts.returnable puts.means))
+    ∙ ap (λ (l : List Sending). observations_in meant ++ waiting_in l) (sym puts.line)) in
+    record {
+      mark = omega (arith, kept.mark, same_since meant v.asked);
+      settled = gone_front since v.elements ys kept.settled;
+      knows = λ none.
+          subst (λ (xs : List Observation). Knows rows v.log xs)
+          (ap (λ (xs : List Observation). told ++ xs) first ∙ sym (append_assoc told (observations_in meant) rest))
+          (kept.knows (sym (gone_dropped since v.elements ys) ∙ none));
+    }
+
+-- before the confirmation the answer is whole
+watched_left : (asked : Option Interrogation) (since : ℕ) (is : IsWatched asked since)
+    → left_of asked ≡ answer_to is.q.command is.q.rows
+watched_left asked since is = ap left_of is.is ∙ ap (λ (said : List Outgoing). drop (length said) (answer_to is.q.command is.q.rows)) is.said
+
+-- what is behind its first part
+abbrev behind : Interrogation → List Element → List Sending
+behind q es =
+    map sendings.Part (rows_of q.command.action q.rows ++ command_with 10 false q.command ∷ []) ++ map sendings.News (items_of is_queued (drop q.since es))
+
+watched_from : (asked : Option Interrogation) (es : List Element) (since : ℕ) (is : IsWatched asked since)
+    → from_answer asked es ≡ sendings.Part (command_with 7 false is.q.command) ∷ behind is.q es
+watched_from asked es since is =
+    let news : Option Interrogation → List Sending = λ q. map sendings.News (items_of is_queued (drop (since_of q) es)) in
+    ap (λ (parts : List Outgoing). map sendings.Part parts ++ news asked) (watched_left asked since is)
+    ∙ ap (λ (q : Option Interrogation). map sendings.Part (answer_to is.q.command is.q.rows) ++ news q) is.is
+
+-- something else than a part
+unheard_put_out : (rows : List Row) (offset : ℤ) (common since : ℕ) (meant : Meant) (ys : List Observation) (v : View)
+    → (puts : PutsFirst offset common v (put_out meant ys v) meant) → is_part puts.sending ≡ false
+    → Unheard rows v since
+    → IsKept rows (put_out meant ys v) since (told_with meant None)
+unheard_put_out rows offset common since meant ys v puts other kept = rw none_said kept_on
+  where
+    new : View
+    new = put_out meant ys v
+
+    none_said : parts_in meant ≡ []
+    none_said = apart offset common puts.sending meant puts.plain puts.returnable other puts.means
+
+    watched : IsWatched new.asked since
+    watched = record {
+      q = interrogation_telling meant kept.watched.q;
+      is = ap (option_map (interrogation_telling meant)) kept.watched.is;
+      mark = kept.watched.mark;
+      said = ap (λ (parts : List Outgoing). parts ++ parts_in meant) kept.watched.said ∙ none_said;
+      kind = kept.watched.kind;
+    }
+
+    front : (w : View) (is : IsWatched w.asked since) → from_part (line_in w) ≡ from_answer w.asked w.elements
+    front w is =
+        let older : List Observation = items_of is_queued (take (since_of w.asked) w.elements) in
+        let from = watched_from w.asked w.elements since is in
+        ap (λ (l : List Sending). from_part (map sendings.Answer w.owed ++ (map sendings.News older ++ l))) from
+        ∙ (from_part_of w.owed older (command_with 7 false is.q.command) (behind is.q w.elements) ∙ sym from)
+
+    same : from_answer v.asked v.elements ≡ from_answer new.asked new.elements
+    same =
+        sym (front v kept.watched)
+        ∙ (sym (from_part_next puts.sending (line_in v) puts.first other)
+        ∙ (ap from_part (sym puts.line) ∙ front new watched))
+
+    kept_on : Unheard rows new since
+    kept_on = record {
+      watched = watched;
+      knows = λ none.
+          subst (λ (l : List Sending). Knows rows v.log (waiting_in l)) same
+          (kept.knows (sym (gone_dropped since v.elements ys) ∙ none));
+    }
+
+-- its confirmation
+confirmed : (rows : List Row) (offset : ℤ) (common since : ℕ) (meant : Meant) (ys : List Observation) (v : View)
+    (p : Outgoing)
+    → slice_get (line_in v) 0 ≡ Some (sendings.Part p) → MeansSending offset common (sendings.Part p) meant
+    → line_in (put_out meant ys v) ≡ drop 1 (line_in v) → Unheard rows v since
+    → IsKept rows (put_out meant ys v) since (told_with meant None)
+confirmed rows offset common since meant ys v p first means moved kept = rw is_said heard
+  where
+    new : View
+    new = put_out meant ys v
+
+    q : Interrogation
+    q = kept.watched.q
+
+    older : List Observation
+    older = items_of is_queued (take (since_of v.asked) v.elements)
+
+    from : from_answer v.asked v.elements ≡ sendings.Part (command_with 7 false q.command) ∷ behind q v.elements
+    from = watched_from v.asked v.elements since kept.watched
+
+    none : (v.owed ≡ []) × (older ≡ [])
+    none = part_first v.owed older (from_answer v.asked v.elements) p first
+
+    whole : line_in v ≡ sendings.Part (command_with 7 false q.command) ∷ behind q v.elements
+    whole =
+        ap (λ (owed : List Answer). map sendings.Answer owed
+        ++ (map sendings.News older ++ from_answer v.asked v.elements)) none.0
+        ∙ (ap (λ (xs : List Observation). map sendings.News xs ++ from_answer v.asked v.elements) none.1 ∙ from)
+
+    part_is : p ≡ command_with 7 false q.command
+    part_is = ap of (sym first ∙ ap (λ (l : List Sending). slice_get l 0) whole)
+      where
+        of : Option Sending → Outgoing
+        of (Some (sendings.Part part)) = part
+        of _ = p
+
+    is_said : parts_in meant ≡ as_told common (command_with 7 false q.command) ∷ []
+    is_said =
+        ap parts_in (subst (λ (part : Outgoing). MeansSending offset common (sendings.Part part) meant) part_is means)
+        ∙ rw kept.watched.kind refl
+
+    mark : since_of v.asked ≡ since
+    mark = ap since_of kept.watched.is ∙ kept.watched.mark
+
+    heard : Heard rows new since []
+    heard = record {
+      mark = omega (arith, mark, same_since meant v.asked);
+      settled = gone_front since v.elements ys (subst (λ (n : ℕ). items_of is_queued (take n v.elements) ≡ []) mark
+          none.1);
+      knows = λ kept_all.
+          subst (λ (xs : List Observation). Knows rows v.log xs)
+          (ap waiting_in from ∙ sym (ap waiting_in (moved ∙ ap (drop 1) whole)))
+          (kept.knows (sym (gone_dropped since v.elements ys) ∙ kept_all));
+    }
+
+pub kept_put_out : (rows : List Row) (offset : ℤ) (common since : ℕ) (told : Option (List Observation)) (meant : Meant)
+    (ys : List Observation) (v : View) → PutsFirst offset common v (put_out meant ys v) meant → IsKept rows v since told
+    → IsKept rows (put_out meant ys v) since (told_with meant told)
+kept_put_out rows offset common since (Some told) meant ys v puts kept =
+    heard_put_out rows offset common since told meant ys v puts kept
+kept_put_out rows offset common since None meant ys v puts kept = by puts.sending refl
+  where
+    by : (s : Sending) → puts.sending ≡ s → IsKept rows (put_out meant ys v) since (told_with meant None)
+    by (sendings.Part p) is =
+        confirmed rows offset common since meant ys v p (puts.first ∙ ap (λ (s : Sending). Some s) is)
+        (subst (λ (s : Sending). MeansSending offset common s meant) is puts.means) puts.line kept
+    by (sendings.Answer answer) is = unheard_put_out rows offset common since meant ys v puts (ap is_part is) kept
+    by (sendings.News x) is = unheard_put_out rows offset common since meant ys v puts (ap is_part is) kept
+    by (sendings.Confirm signal) is = unheard_put_out rows offset common since meant ys v puts (ap is_part is) kept
+    by sendings.Test is = unheard_put_out rows offset common since meant ys v puts (ap is_part is) kept
+    by sendings.Receipt is = unheard_put_out rows offset common since meant ys v puts (ap is_part is) kept
+
+-- ---- an ASDU is taken
+
+-- its answers join the others
+abbrev pub taken : List Answer → View → View
+taken more v = record v { owed = v.owed ++ more }
+
+-- an interrogation begins by it
+abbrev pub begun : Interrogation → View → View
+begun q v = record v { asked = Some q }
+
+pub kept_taken : (rows : List Row) (since : ℕ) (told : Option (List Observation)) (more : List Answer) (v : View)
+    → AllByRecursion (IsShown rows v.log) (waiting_in (map sendings.Answer more)) → IsKept rows v since told
+    → IsKept rows (taken more v) since told
+kept_taken rows since None more v shown kept = record { watched = kept.watched; knows = kept.knows }
+kept_taken rows since (Some told) more v shown kept = record {
+  mark = kept.mark;
+  settled = kept.settled;
+  knows = λ none.
+      subst (λ (xs : List Observation). Knows rows v.log xs) after
+      (knows_inserted rows v.log (told ++ answers) news rest shown
+      (subst (λ (xs : List Observation). Knows rows v.log xs) before (kept.knows none)));
+}
+  where
+    answers : List Observation
+    answers = waiting_in (map sendings.Answer v.owed)
+
+    news : List Observation
+    news = waiting_in (map sendings.Answer more)
+
+    rest : List Observation
+    rest = items_of is_queued (take (since_of v.asked) v.elements) ++ waiting_in (from_answer v.asked v.elements)
+
+    before : told ++ waiting_in (line_in v) ≡ (told ++ answers) ++ rest
+    before = ap (λ (xs : List Observation). told ++ xs) (waiting_line v.owed v.asked v.elements)
+        ∙ sym (append_assoc told answers rest)
+
+    joined : waiting_in (map sendings.Answer (v.owed ++ more)) ≡ answers ++ news
+    joined =
+        ap waiting_in (map-append sendings.Answer v.owed more)
+        ∙ waiting_in-append (map sendings.Answer v.owed) (map sendings.Answer more)
+
+    after : (told ++ answers) ++ (news ++ rest) ≡ told ++ waiting_in (line_in (taken more v))
+    after =
+        append_assoc told answers (news ++ rest)
+        ∙ ap (λ (xs : List Observation). told ++ xs)
+        (sym (append_assoc answers news rest)
+        ∙ (ap (λ (xs : List Observation). xs ++ rest) (sym joined)
+        ∙ sym (waiting_line (v.owed ++ more) v.asked v.elements)))
+
+-- an interrogation that begins with the picture of now, when so many news came
+pub record IsNew (rows : List Row) (v : View) (q : Interrogation) : Type 0 where
+  pub since : q.since ≡ length v.elements
+  pub rows_are : q.rows ≡ picture_of rows v.log
+  pub said : q.said ≡ []
+
+-- what waits of its answer, and behind it
+new_left : (rows : List Row) (v : View) (q : Interrogation) → IsNew rows v q
+    → waiting_in (map sendings.Part (left_of (Some q))) ≡ filter (is_asked_by q.command.action) (picture_of rows v.log)
+new_left rows v q is =
+    ap (λ (said : List Outgoing). waiting_in (map sendings.Part (drop (length said) (answer_to q.command q.rows)))) is.said
+    ∙ (waiting_answer q.command q.rows ∙ ap (filter (is_asked_by q.command.action)) is.rows_are)
+
+new_from : (rows : List Row) (v : View) (q : Interrogation) → IsNew rows v q
+    → waiting_in (from_answer (Some q) v.elements) ≡ filter (is_asked_by q.command.action) (picture_of rows v.log) ++ []
+new_from rows v q is =
+    let shown : List Observation = filter (is_asked_by q.command.action) (picture_of rows v.log) in
+    waiting_from (Some q) v.elements
+    ∙ (ap (λ (xs : List Observation). xs ++ items_of is_queued (drop q.since v.elements)) (new_left rows v q is)
+    ∙ ap (λ (es : List Element). shown ++ items_of is_queued es)
+    (ap (λ (n : ℕ). drop n v.elements) is.since ∙ drop-length v.elements))
+
+asks_all : (action : Action) (x : Observation) → is_station_interrogation action ≡ true → is_total x.value ≡ false
+    → is_asked_by action x ≡ true
+asks_all (actions.Interrogation qualifier) x station whole = ap not whole
+asks_all (actions.CounterInterrogation qualifier) x station whole = absurd cc
+asks_all (actions.Single c) x station whole = absurd cc
+asks_all (actions.Double c) x station whole = absurd cc
+asks_all (actions.Setpoint c) x station whole = absurd cc
+asks_all actions.Read x station whole = absurd cc
+
+station_kind : (action : Action) → is_station_interrogation action ≡ true → is_interrogation action ≡ true
+station_kind (actions.Interrogation qualifier) station = refl
+station_kind (actions.CounterInterrogation qualifier) station = absurd cc
+station_kind (actions.Single c) station = absurd cc
+station_kind (actions.Double c) station = absurd cc
+station_kind (actions.Setpoint c) station = absurd cc
+station_kind actions.Read station = absurd cc
+
+-- the watched one begins
+pub unheard_begun : (rows : List Row) (v : View) (q : Interrogation) → is_single rows ≡ true → IsNew rows v q
+    → is_station_interrogation q.command.action ≡ true → Unheard rows (begun q v) q.since
+unheard_begun rows v q single is station = record {
+  watched = record { q = q; is = refl; mark = refl; said = is.said; kind = station_kind q.command.action station };
+  knows = λ none.
+      subst (λ (xs : List Observation). Knows rows v.log xs) (sym (append-nil asked) ∙ sym (new_from rows v q is))
+      (λ n row get whole.
+      let is_asked : is_asked_by q.command.action (shown_by v.log row) ≡ true =
+      asks_all q.command.action (shown_by v.log row) station whole in
+      shown_last rows v.log (is_asked_by q.command.action) n row None single get is_asked);
+}
+  where
+    asked : List Observation
+    asked = filter (is_asked_by q.command.action) (picture_of rows v.log)
+
+-- the news that wait, where nothing is left of an answer
+whole_line : (v : View) → left_of v.asked ≡ []
+    → waiting_in (line_in v) ≡ waiting_in (map sendings.Answer v.owed) ++ items_of is_queued v.elements
+whole_line v none =
+    let s : ℕ = since_of v.asked in
+    let answers : List Observation = waiting_in (map sendings.Answer v.owed) in
+    let older : List Observation = items_of is_queued (take s v.elements) in
+    waiting_line v.owed v.asked v.elements
+    ∙ (ap (λ (xs : List Observation). answers ++ (older ++ xs)) (waiting_from v.asked v.elements)
+    ∙ (ap (λ (parts : List Outgoing). answers ++ (older ++ (waiting_in (map sendings.Part parts) ++ items_of is_queued (drop s v.elements)))) none
+    ∙ ap (λ (xs : List Observation). answers ++ xs)
+    (sym (items_of-append is_queued (take s v.elements) (drop s v.elements))
+    ∙ ap (items_of is_queued) (take-append-drop s v.elements))))
+
+-- another begins
+pub heard_begun : (rows : List Row) (since : ℕ) (told : List Observation) (v : View) (q : Interrogation)
+    → is_single rows ≡ true
+    → since_of v.asked ≤ length v.elements → left_of v.asked ≡ [] → IsNew rows v q → Heard rows v since told
+    → Heard rows (begun q v) since told
+heard_begun rows since told v q single within left is kept = record {
+  mark = omega (arith, kept.mark, within, is.since);
+  settled = kept.settled;
+  knows = λ none.
+      subst (λ (xs : List Observation). Knows rows v.log xs) after
+      (knows_inserted rows v.log (told ++ (answers ++ news)) asked []
+      (filtered_shown rows v.log (is_asked_by q.command.action) single)
+      (subst (λ (xs : List Observation). Knows rows v.log xs) before (kept.knows none)));
+}
+  where
+    answers : List Observation
+    answers = waiting_in (map sendings.Answer v.owed)
+
+    news : List Observation
+    news = items_of is_queued v.elements
+
+    asked : List Observation
+    asked = filter (is_asked_by q.command.action) (picture_of rows v.log)
+
+    before : told ++ waiting_in (line_in v) ≡ (told ++ (answers ++ news)) ++ []
+    before = ap (λ (xs : List Observation). told ++ xs) (whole_line v left)
+        ∙ sym (append-nil (told ++ (answers ++ news)))
+
+    front : items_of is_queued (take q.since v.elements) ≡ news
+    front = ap (items_of is_queued) (ap (λ (n : ℕ). take n v.elements) is.since ∙ take-length v.elements)
+
+    line : waiting_in (line_in (begun q v)) ≡ answers ++ (news ++ (asked ++ []))
+    line =
+        waiting_line v.owed (Some q) v.elements
+        ∙ (ap (λ (xs : List Observation). answers ++ (xs ++ waiting_in (from_answer (Some q) v.elements))) front
+        ∙ ap (λ (xs : List Observation). answers ++ (news ++ xs)) (new_from rows v q is))
+
+    after : (told ++ (answers ++ news)) ++ (asked ++ []) ≡ told ++ waiting_in (line_in (begun q v))
+    after =
+        append_assoc told (answers ++ news) (asked ++ [])
+        ∙ ap (λ (xs : List Observation). told ++ xs) (append_assoc answers news (asked ++ []) ∙ sym line)

@@ -1,0 +1,110 @@
+-- Interrogations (IEC 60870-5-101, 7.4.5 and 7.4.8): what was put out of the answer to the interrogation of a session
+-- is the front of it, and all of it once its termination is out: the confirmation, what the picture showed at its act,
+-- and the termination.
+use Rattle.std.specs.Prelude.{◌≡◌, ℕ, ◌==◌, Bool, true, false, not, ◌&&◌, ◌||◌, List, [], ◌∷◌, ◌++◌, length, map, Option, Some, None, option_map, IfSome, if◌then◌else◌}
+use Rattle.std.specs.List.{list_any}
+use Rattle.gw_model.specs.declared.observation.Observation.{Observation}
+use Rattle.gw_map.specs.Settings.{Setup}
+use Rattle.iec_apci.specs.declared.apdu.Apdu.TheVariants.{I}
+use Rattle.iec_command.specs.declared.command.Command.{Command}
+use Rattle.iec_command.specs.declared.command.Action.{Action}
+use Rattle.iec_command.specs.declared.command.Action.TheVariants as actions
+use Rattle.gw_judge.specs.declared.judging.Judged.{Judged}
+use Rattle.gw_judge.specs.declared.judging.Judged.TheVariants.{Accepted}
+use Rattle.gw_answers.specs.declared.outgoing.Outgoing.{Outgoing}
+use Rattle.gw_answers.specs.declared.outgoing.Outgoing.TheVariants as outgoing
+use Rattle.gw_answers.specs.Outgoing.{at_station}
+use Rattle.gw_answers.specs.Interrogations.{is_accepted_act, answer_to}
+use Rattle.gw_answers.specs.Meaning.{Meant, Tells, Commands, Unread}
+use Rattle.gw_station.specs.Frames.{judged_asdu}
+use Rattle.gw_steps.specs.Runs.{Entry}
+use Rattle.gw_steps.specs.Said.{Numbered}
+use Rattle.gw_history.specs.Life.{Turn, Takes, PutsOut, session, turns_in, OfEachLife}
+use Rattle.gw_laws.specs.Fates.{fates}
+
+pub record Interrogation : Type 0 where
+  -- the act
+  pub command : Command
+  -- how many news of the session came before it, and what the picture showed
+  pub since : ℕ
+  pub rows : List Observation
+  -- what was put out of its answer
+  pub said : List Outgoing
+
+-- ---- what is put out of an answer
+
+abbrev pub is_interrogation : Action → Bool
+is_interrogation (actions.Interrogation qualifier) = true
+is_interrogation (actions.CounterInterrogation qualifier) = true
+is_interrogation _ = false
+
+-- the station's confirmation (7) or termination (10) of an interrogation, not negative
+abbrev pub parts_of_command : Command → List Outgoing
+parts_of_command c =
+    if is_interrogation c.action && not c.negative && (c.cause == 7 || c.cause == 10) then outgoing.Command c ∷ [] else []
+
+-- observations of cause 20 (interrogated by station interrogation) or 37 (requested by general counter request)
+abbrev pub parts_in : Meant → List Outgoing
+parts_in (Tells asdu) =
+    if asdu.cause == 20 || asdu.cause == 37 then
+    map (outgoing.Observation asdu.cause asdu.originator) asdu.observations
+    else []
+parts_in (Commands c) = parts_of_command c
+parts_in (Unread octets) = []
+
+abbrev pub is_termination : Outgoing → Bool
+is_termination (outgoing.Command c) = c.cause == 10
+is_termination (outgoing.Observation cause originator x) = false
+
+-- it is pending until its termination is put out
+abbrev pub is_pending : Option Interrogation → Bool
+is_pending None = false
+is_pending (Some q) = not (list_any is_termination q.said)
+
+-- ---- the answer that it gets
+
+-- a part as it is put out, by the station with this common address
+abbrev pub as_told : ℕ → Outgoing → Outgoing
+as_told common (outgoing.Command c) = outgoing.Command (at_station common c)
+as_told common (outgoing.Observation cause originator x) = outgoing.Observation cause originator x
+
+-- the confirmation, what the picture showed of what is asked, and the termination
+abbrev pub answer_told : ℕ → Interrogation → List Outgoing
+answer_told common q = map (as_told common) (answer_to q.command q.rows)
+
+-- ---- the interrogation of a session
+
+-- an act that is accepted, which is one while none is pending, begins one: so many news of the session came before it,
+-- and the picture showed this
+abbrev pub begun : ℕ → List Observation → Judged → Option Interrogation → Option Interrogation
+begun since picture (Accepted command) q =
+    if is_accepted_act (is_pending q) command then
+    Some (record { command = command; since = since; rows = picture; said = [] })
+    else q
+begun since picture _ q = q
+
+abbrev pub interrogation_telling : Meant → Interrogation → Interrogation
+interrogation_telling meant q = record q { said = q.said ++ parts_in meant }
+
+-- the last one of a session
+abbrev pub interrogation : Setup → List Turn → Option Interrogation
+interrogation setup [] = None
+interrogation setup (Takes (I ns nr asdu) taking ∷ ts) =
+    begun (length (fates setup.station ts)) taking.picture (judged_asdu setup asdu) (interrogation setup ts)
+interrogation setup (PutsOut (Numbered ns nr meant) ∷ ts) =
+    option_map (interrogation_telling meant) (interrogation setup ts)
+interrogation setup (_ ∷ ts) = interrogation setup ts
+
+-- ---- the law
+
+-- what was put out is the front of its answer, and all of it once it isn't pending
+pub record IsAnswered (setup : Setup) (q : Interrogation) : Type 0 where
+  pub rest : List Outgoing
+  pub in_order : q.said ++ rest ≡ answer_told setup.station.common_address q
+  pub whole : is_pending (Some q) ≡ false → rest ≡ []
+
+abbrev pub AnswersInterrogation : Setup → List Turn → Type 0
+AnswersInterrogation setup ts = IfSome (interrogation setup (turns_in (session ts))) (IsAnswered setup)
+
+abbrev pub Interrogations : Setup → List Entry → Type 0
+Interrogations setup past = OfEachLife (AnswersInterrogation setup) setup past

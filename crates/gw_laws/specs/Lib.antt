@@ -1,0 +1,10 @@
+pub mod Fates
+pub mod News
+pub mod Interrogations
+pub mod Line
+pub mod Mirror
+pub mod Numbers
+pub mod Frames
+pub mod Apdus
+pub mod Promises
+pub mod Example

@@ -1,0 +1,89 @@
+-- Line: each I format that is put out to a client is the first of what waits for it: the answers to its ASDUs, the news
+-- that came before the interrogation that is pending, the rest of its answer, and later news.
+use Rattle.std.specs.Prelude.{◌≡◌, ℕ, ℤ, Bool, true, List, [], ◌∷◌, ◌++◌, length, map, take, drop, slice_get, Option, Some, None}
+use Rattle.std.specs.Option.{option_to_list}
+use Rattle.gw_model.specs.declared.observation.Observation.{Observation}
+use Rattle.gw_map.specs.Settings.{Setup}
+use Rattle.iec_apci.specs.declared.apdu.Asdu.{Asdu}
+use Rattle.iec_apci.specs.declared.apdu.Apdu.TheVariants.{I}
+use Rattle.gw_judge.specs.declared.judging.Judged.{Judged}
+use Rattle.gw_answers.specs.declared.outgoing.Answer.{Answer}
+use Rattle.gw_answers.specs.declared.outgoing.Answer.TheVariants.{Made}
+use Rattle.gw_answers.specs.declared.outgoing.Outgoing.{Outgoing}
+use Rattle.gw_answers.specs.Outgoing.{confirmed, news}
+use Rattle.gw_answers.specs.Interrogations.{answer_to}
+use Rattle.gw_answers.specs.Answers.{answered, command_by}
+use Rattle.gw_answers.specs.Meaning.{Meant, Means}
+use Rattle.gw_station.specs.declared.sending.Sending.{Sending}
+use Rattle.gw_station.specs.declared.sending.Sending.TheVariants as sendings
+use Rattle.gw_station.specs.Answers.{is_negative, outcome_of}
+use Rattle.gw_station.specs.Frames.{judged_asdu}
+use Rattle.gw_steps.specs.Runs.{Entry}
+use Rattle.gw_steps.specs.Said.{Said, Numbered, Receipt, Function}
+use Rattle.gw_history.specs.Life.{Turn, Takes, PutsOut, session, turns_in, OfEachLife}
+use Rattle.gw_laws.specs.Fates.{Element, items_of, is_queued, fates}
+use Rattle.gw_laws.specs.Interrogations.{Interrogation, is_pending, interrogation}
+
+-- ---- the answers to ASDUs
+
+-- what an ASDU gets at once, or by the outcome of the command for a control that it is
+abbrev pub answers_to : Setup → List Observation → Bool → Asdu → Judged → List Answer
+answers_to setup picture pending asdu j =
+    option_to_list (answered setup picture pending asdu j)
+    ++ map (λ command. Made (confirmed (is_negative (outcome_of command)) command)) (option_to_list (command_by j))
+
+-- the answers that wait, oldest first: what is put out in an I format is the one that waits longest, where one waits
+abbrev pub owed : Setup → List Turn → List Answer
+owed setup [] = []
+owed setup (Takes (I ns nr asdu) taking ∷ ts) =
+    owed setup ts ++ answers_to setup taking.picture (is_pending (interrogation setup ts)) asdu (judged_asdu setup asdu)
+owed setup (PutsOut (Numbered ns nr meant) ∷ ts) = drop 1 (owed setup ts)
+owed setup (_ ∷ ts) = owed setup ts
+
+-- ---- the line
+
+-- how many news of the session came before the interrogation, and what is left of its answer
+abbrev pub since_of : Option Interrogation → ℕ
+since_of None = 0
+since_of (Some q) = q.since
+
+abbrev pub left_of : Option Interrogation → List Outgoing
+left_of None = []
+left_of (Some q) = drop (length q.said) (answer_to q.command q.rows)
+
+abbrev pub line_with : List Answer → Option Interrogation → List Element → List Sending
+line_with owed q elements =
+    map sendings.Answer owed
+    ++ (map sendings.News (items_of is_queued (take (since_of q) elements))
+    ++ (map sendings.Part (left_of q) ++ map sendings.News (items_of is_queued (drop (since_of q) elements))))
+
+abbrev pub line : Setup → List Turn → List Sending
+line setup hs = line_with (owed setup hs) (interrogation setup hs) (fates setup.station hs)
+
+-- ---- the law
+
+-- an ASDU means what waited
+abbrev pub MeansSending : ℤ → ℕ → Sending → Meant → Type 0
+MeansSending offset common (sendings.Answer answer) meant = Means offset common answer meant
+MeansSending offset common (sendings.News x) meant = Means offset common (Made (news x)) meant
+MeansSending offset common (sendings.Part part) meant = Means offset common (Made part) meant
+MeansSending offset common _ meant = ⊥
+
+-- it is the first in line
+pub record IsFirst (setup : Setup) (line : List Sending) (meant : Meant) : Type 0 where
+  pub sending : Sending
+  pub first : slice_get line 0 ≡ Some sending
+  pub means : MeansSending setup.station.offset_minutes setup.station.common_address sending meant
+
+abbrev pub SaysFirst : Setup → List Sending → Said → Type 0
+SaysFirst setup line (Numbered ns nr meant) = IsFirst setup line meant
+SaysFirst setup line (Receipt nr) = Unit {0}
+SaysFirst setup line (Function signal) = Unit {0}
+
+-- what is put out last in an I format is the first of what waited before
+abbrev pub KeepsLine : Setup → List Turn → Type 0
+KeepsLine setup (PutsOut said ∷ ts) = SaysFirst setup (line setup (turns_in (session ts))) said
+KeepsLine setup _ = Unit {0}
+
+abbrev pub Line : Setup → List Entry → Type 0
+Line setup past = OfEachLife (KeepsLine setup) setup past

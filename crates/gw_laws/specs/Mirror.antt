@@ -1,0 +1,129 @@
+-- Mirror: once the confirmation of a station interrogation was put out, and while no news since its act was dropped,
+-- the observations put out from then on, followed by those that wait, have as their last values what the picture shows,
+-- for each row that isn't shown as a total.
+use Rattle.std.specs.Prelude.{◌≡◌, ℕ, ◌==◌, Bool, true, false, ◌&&◌, ◌||◌, List, [], ◌∷◌, ◌++◌, length, drop, slice_get, Option, Some, None, IfSome, if◌then◌else◌}
+use Rattle.gw_model.specs.declared.observation.Value.{Value}
+use Rattle.gw_model.specs.declared.observation.Quality.{Quality}
+use Rattle.gw_model.specs.declared.observation.Observation.{Observation}
+use Rattle.gw_entries.specs.declared.row.Row.{Row}
+use Rattle.gw_map.specs.Settings.{Setup}
+use Rattle.gw_picture.specs.Log.{picture_of}
+use Rattle.iec_apci.specs.declared.apdu.Apdu.TheVariants.{I}
+use Rattle.iec_command.specs.declared.command.Action.{Action}
+use Rattle.iec_command.specs.declared.command.Action.TheVariants as actions
+use Rattle.gw_judge.specs.declared.judging.Judged.{Judged}
+use Rattle.gw_judge.specs.declared.judging.Judged.TheVariants.{Accepted}
+use Rattle.gw_answers.specs.declared.outgoing.Answer.TheVariants.{Made}
+use Rattle.gw_answers.specs.declared.outgoing.Outgoing.{Outgoing}
+use Rattle.gw_answers.specs.declared.outgoing.Outgoing.TheVariants as outgoing
+use Rattle.gw_answers.specs.Interrogations.{is_total, is_accepted_act}
+use Rattle.gw_answers.specs.Meaning.{Meant, Tells, Commands, Unread}
+use Rattle.gw_station.specs.declared.sending.Sending.{Sending}
+use Rattle.gw_station.specs.declared.sending.Sending.TheVariants as sendings
+use Rattle.gw_station.specs.Frames.{judged_asdu}
+use Rattle.gw_steps.specs.Runs.{Entry}
+use Rattle.gw_steps.specs.Said.{Numbered}
+use Rattle.gw_history.specs.Log.{log_of}
+use Rattle.gw_history.specs.Life.{Turn, Takes, PutsOut, session, OfEachLife}
+use Rattle.gw_laws.specs.Fates.{Element, items_of, is_dropped, fates}
+use Rattle.gw_laws.specs.Interrogations.{parts_in, is_pending, interrogation}
+use Rattle.gw_laws.specs.Line.{line}
+
+-- ---- last values
+
+-- a value and its quality
+pub record Known : Type 0 where
+  pub value : Value
+  pub quality : Quality
+
+abbrev pub known_of : Observation → Known
+known_of x = record { value = x.value; quality = x.quality }
+
+-- what is known of an address after observations, where this was known before
+abbrev pub last_known : ℕ → Option Known → List Observation → Option Known
+last_known address known [] = known
+last_known address known (x ∷ xs) = last_known address (if x.address == address then Some (known_of x) else known) xs
+
+-- the last value and quality in a list of observations, or none
+abbrev pub last_value : ℕ → List Observation → Option Known
+last_value address xs = last_known address None xs
+
+-- ---- what is put out, and what waits
+
+-- observations of cause 3 (spontaneous), 5 (requested), 20 or 37 (interrogated)
+abbrev pub observations_in : Meant → List Observation
+observations_in (Tells asdu) =
+    if asdu.cause == 3 || asdu.cause == 5 || asdu.cause == 20 || asdu.cause == 37 then asdu.observations else []
+observations_in (Commands c) = []
+observations_in (Unread octets) = []
+
+abbrev pub observations_of : Sending → List Observation
+observations_of (sendings.Answer (Made (outgoing.Observation cause originator x))) = x ∷ []
+observations_of (sendings.News x) = x ∷ []
+observations_of (sendings.Part (outgoing.Observation cause originator x)) = x ∷ []
+observations_of _ = []
+
+-- the observations that wait, in the order in which they go
+abbrev pub waiting_in : List Sending → List Observation
+waiting_in [] = []
+waiting_in (s ∷ line) = observations_of s ++ waiting_in line
+
+-- ---- what is told
+
+-- the first confirmation of an interrogation that is put out is its own, since no other is accepted before
+abbrev pub is_confirmed_by : List Outgoing → Bool
+is_confirmed_by (outgoing.Command c ∷ parts) = c.cause == 7
+is_confirmed_by _ = false
+
+abbrev pub told_with : Meant → Option (List Observation) → Option (List Observation)
+told_with meant None = if is_confirmed_by (parts_in meant) then Some [] else None
+told_with meant (Some told) = Some (told ++ observations_in meant)
+
+-- the observations put out in turns, from the first confirmation of an interrogation on; none before that
+abbrev pub told : List Turn → Option (List Observation)
+told [] = None
+told (PutsOut (Numbered ns nr meant) ∷ ts) = told_with meant (told ts)
+told (_ ∷ ts) = told ts
+
+-- ---- an act
+
+abbrev pub is_station_interrogation : Action → Bool
+is_station_interrogation (actions.Interrogation qualifier) = true
+is_station_interrogation _ = false
+
+-- a turn after others of its session is the act of a station interrogation
+abbrev pub is_station_act : Bool → Judged → Bool
+is_station_act pending (Accepted command) = is_accepted_act pending command && is_station_interrogation command.action
+is_station_act pending _ = false
+
+abbrev pub is_act : Setup → Turn → List Turn → Bool
+is_act setup (Takes (I ns nr asdu) taking) ts =
+    is_station_act (is_pending (interrogation setup ts)) (judged_asdu setup asdu)
+is_act setup _ ts = false
+
+-- ---- the law
+
+-- of the news since, none was dropped
+abbrev pub NoneDropped : ℕ → List Element → Type 0
+NoneDropped since elements = items_of is_dropped (drop since elements) ≡ []
+
+-- for each row that isn't shown as a total, the last value of a list is what the picture shows
+abbrev pub KnowsPicture : Setup → List Observation → List Observation → Type 0
+KnowsPicture setup picture known =
+    (n : ℕ) (row : Row) (x : Observation) → slice_get setup.rows n ≡ Some row → slice_get picture n ≡ Some x
+    → is_total x.value ≡ false → last_value row.address known ≡ Some (known_of x)
+
+-- of the news since so many none was dropped: what was told and what waits is what the picture shows
+pub record MirrorsPicture (setup : Setup) (log : List Observation) (hs : List Turn) (since : ℕ)
+    (told : List Observation) : Type 0 where
+  pub knows : NoneDropped since (fates setup.station hs)
+      → KnowsPicture setup (picture_of setup.rows log) (told ++ waiting_in (line setup hs))
+
+-- after each act of a session, once its confirmation was put out
+abbrev pub Mirrors : Setup → List Observation → List Turn → Type 0
+Mirrors setup log hs =
+    (newer older : List Turn) (act : Turn) → hs ≡ newer ++ act ∷ older → is_act setup act older ≡ true
+    → IfSome (told newer) (MirrorsPicture setup log hs (length (fates setup.station older)))
+
+abbrev pub Mirror : Setup → List Entry → Type 0
+Mirror setup past = OfEachLife (λ ts. IfSome (session ts) (Mirrors setup (log_of setup past))) setup past

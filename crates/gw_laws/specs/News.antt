@@ -1,0 +1,60 @@
+-- News: at each place of a run the picture is that of the log, and for each client's session the observations that
+-- were put out with cause 3 (spontaneous), followed by those queued, are the news since its STARTDT, in order, less
+-- those dropped. An I format is put out in a session alone, and carries what a station may say.
+use Rattle.std.specs.Prelude.{◌≡◌, ◌⊎◌, ℕ, ◌≤◌, ◌==◌, true, ◌||◌, IsTrue, is_some, List, ◌∷◌, ◌++◌, length, IfSome}
+use Rattle.gw_entries.specs.Setup.{StationSetup}
+use Rattle.gw_map.specs.Settings.{Setup}
+use Rattle.gw_picture.specs.Log.{picture_of}
+use Rattle.iec_asdu.specs.Asdu.{Asdu}
+use Rattle.iec_command.specs.declared.command.Command.{Command}
+use Rattle.gw_answers.specs.Meaning.{Meant, Tells, Commands, Unread, ComesBack}
+use Rattle.gw_station.specs.Client.{Client, is_started}
+use Rattle.gw_steps.specs.Runs.{Entry, state_after}
+use Rattle.gw_steps.specs.Said.{Numbered}
+use Rattle.gw_history.specs.Log.{log_of}
+use Rattle.gw_history.specs.Life.{Turn, PutsOut, life, session, turns_in, OfEachLife}
+use Rattle.gw_history.specs.Premises.{client_at}
+use Rattle.gw_laws.specs.Fates.{items_of, is_queued, is_dropped, is_kept, fates, gone}
+
+-- ---- what a station may say
+
+-- process information of the station: spontaneous (3), requested (5), or interrogated (20, 37)
+abbrev pub IsInformation : ℕ → Asdu → Type 0
+IsInformation common asdu =
+    IsTrue (asdu.cause == 3 || asdu.cause == 5 || asdu.cause == 20 || asdu.cause == 37) × (asdu.common_address ≡ common)
+
+-- the station's confirmation of an activation (7) or a deactivation (9), or a termination (10)
+abbrev pub IsConfirmation : ℕ → Command → Type 0
+IsConfirmation common c = IsTrue (c.cause == 7 || c.cause == 9 || c.cause == 10) × (c.common_address ≡ common)
+
+-- what is unknown comes back: P/N is set, and the cause is one from 44 to 47
+abbrev pub IsUnknown : Meant → Type 0
+IsUnknown meant = (cause : ℕ) × (44 ≤ cause) × (cause ≤ 47) × ComesBack cause meant
+
+-- an I format carries one of these
+abbrev pub IsOfStation : ℕ → Meant → Type 0
+IsOfStation common (Tells asdu) = IsInformation common asdu ⊎ IsUnknown (Tells asdu)
+IsOfStation common (Commands c) = IsConfirmation common c ⊎ IsUnknown (Commands c)
+IsOfStation common (Unread octets) = IsUnknown (Unread octets)
+
+-- ---- the law
+
+-- what was put out of a session's news, then what is queued, are all that came, less what was dropped
+pub record TellsNews (station : StationSetup) (hs : List Turn) (k : Client) : Type 0 where
+  pub in_order : gone station hs ++ k.queue ≡ items_of is_kept (fates station hs)
+  pub queued : k.queue ≡ items_of is_queued (fates station hs)
+  pub dropped : k.dropped ≡ length (items_of is_dropped (fates station hs))
+
+-- an I format is put out in a session alone, and carries what the station says
+abbrev pub Speaks : StationSetup → List Turn → Type 0
+Speaks station (PutsOut (Numbered ns nr meant) ∷ ts) =
+    (is_some (session ts) ≡ true) × IsOfStation station.common_address meant
+Speaks station _ = Unit {0}
+
+pub record News (setup : Setup) (past : List Entry) : Type 0 where
+  pub picture : (state_after setup past).picture ≡ picture_of setup.rows (log_of setup past)
+  pub sessions : (c : ℕ) →
+      IfSome (client_at setup c past) (λ k. is_started k.stage ≡ is_some (session (life setup c past)))
+  pub queues : (c : ℕ) →
+      IfSome (client_at setup c past) (TellsNews setup.station (turns_in (session (life setup c past))))
+  pub speaks : OfEachLife (Speaks setup.station) setup past

@@ -1,0 +1,39 @@
+//! A worked run, told by the definitions.
+ghost use Rattle.std.specs.Prelude.{◌≡◌, [], ◌∷◌, map, true, false, Some, None};
+ghost use Rattle.gw_answers.specs.declared.outgoing.Outgoing.TheVariants.{Observation as Told};
+ghost use Rattle.gw_answers.specs.Outgoing.{at_station, command_with};
+ghost use Rattle.gw_station.specs.declared.sending.Sending.TheVariants.{News, Part};
+ghost use Rattle.gw_station.specs.Example.{switched_on};
+ghost use Rattle.gw_steps.specs.Example.{setup};
+ghost use Rattle.gw_history.specs.Life.{life};
+ghost use Rattle.gw_history.specs.Example.{pumped};
+ghost use Rattle.gw_laws.specs.Numbers.{sent, taken, last_receive_number};
+ghost use Rattle.gw_laws.specs.Interrogations.{interrogation, is_pending};
+ghost use Rattle.gw_laws.specs.Line.{line};
+ghost use Rattle.gw_laws.specs.Mirror.{known_of, last_value};
+ghost use Rattle.gw_laws.specs.Example.{analog_at_first, analog_read, command, known_after, said_of, session_after, told_after};
+
+/// News wait, a client interrogates the station, and other news come.
+#[tactic(auto, unfolding(iec_command::specs::Commands::command_of, iec_apci::specs::Stream::reading, iec_apci::specs::Stream::answer_at_front, iec_apci::specs::Stream::content_of, iec_asdu::specs::Asdu::asdu_meaning, iec_asdu::specs::Asdu::objects_of, iec_asdu::specs::Asdu::objects_apart))]
+pub fn promises_by_example()
+    // In line are the older news, the answer as the picture was at the act, and the later news.
+    ensures line { line setup (session_after 0) ≡ News switched_on
+        ∷ Part (command_with 7 false command) ∷ Part (Told 20 0 switched_on) ∷ Part (Told 20 0 analog_at_first)
+        ∷ Part (command_with 10 false command) ∷ News analog_read ∷ [] }
+    // What was put out of the answer, and how long it is pending.
+    ensures said { said_of (interrogation setup (session_after 3)) ≡ command_with 7 false (at_station 1 command)
+        ∷ Told 20 0 switched_on ∷ [] }
+    ensures pending { map (λ n. is_pending (interrogation setup (session_after n))) (0 ∷ 4 ∷ 5 ∷ [])
+        ≡ true ∷ true ∷ false ∷ [] }
+    // How many I formats were put out and taken, and the last N(R).
+    ensures sent { map (λ n. sent (life setup 0 (pumped n))) (0 ∷ 3 ∷ []) ≡ 0 ∷ 3 ∷ [] }
+    ensures taken { taken (life setup 0 (pumped 3)) ≡ 1 }
+    ensures receive { last_receive_number (life setup 0 (pumped 3)) ≡ 0 }
+    // What was told counts from the confirmation on.
+    ensures unheard { told_after 1 ≡ None }
+    ensures heard { told_after 5 ≡ Some (switched_on ∷ analog_at_first ∷ []) }
+    // What was told and what waits agree with the picture.
+    ensures binary { last_value 4101 (known_after 2) ≡ Some (known_of switched_on) }
+    ensures analog { map (λ n. last_value 4201 (known_after n)) (2 ∷ 5 ∷ 6 ∷ [])
+        ≡ Some (known_of analog_read) ∷ Some (known_of analog_read) ∷ Some (known_of analog_read) ∷ [] }
+{}

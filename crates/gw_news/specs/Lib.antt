@@ -1,9 +1,0 @@
-pub mod Accepted
-pub mod Log
-pub mod Turns
-pub mod Sessions
-pub mod Fates
-pub mod News
-pub mod Confirms
-pub mod Numbers
-pub mod Premises

@@ -1,0 +1,22 @@
+use Rattle.std.proofs.Common.{◌≡◌, ℕ, List, refl, ap, ◌∙◌, rules}
+use Rattle.iec_apci.specs.Apdu.{Information}
+use Rattle.iec_apci.specs.Buffer.{buffer_of}
+use Rattle.iec_window.specs.Counts.{Counts}
+use Rattle.iec_window.specs.Sequence.{receive_number, send_number}
+use Rattle.iec_window.specs.Steps.{counts_after_sending_i}
+use Rattle.gw_station.specs.Client.{Client}
+use Rattle.gw_station.proofs.station.Station.send_answer.Goals as goal
+
+same_format : (ns nr : ℕ) (w v : Counts) (octets : List ℕ) → ns ≡ send_number w → nr ≡ receive_number w → w ≡ v
+    → buffer_of (Information ns nr octets) ≡ buffer_of (Information (send_number v) (receive_number v) octets)
+same_format ns nr w v octets send receive same = rw (send, receive, same) refl
+
+pub returns-clause-apdu : goal.returns-clause-apdu
+returns-clause-apdu c =
+    c.of.ensures.octets
+    ∙ (same_format _ _ _ _ _ c.sent-ns.ensures.send c.sent-ns.ensures.receive (ap (λ (k : Client). k.window) c.self.view_is)
+    ∙ ap (λ (octets : List ℕ). buffer_of (Information (send_number c.args.self.now.window) (receive_number c.args.self.now.window) octets)) (search rules))
+
+pub returns-clause-client : goal.returns-clause-client
+returns-clause-client c =
+    rw c.sent-ns.ensures.after (ap (λ (k : Client). record k { window = counts_after_sending_i c.args.moment k.window }) c.self.view_is)
