@@ -1,74 +1,97 @@
-//! Which keys the tables may have.
-ghost use Rattle.std.specs.Prelude.{◌≡◌, not, find, map, bytes_eq, string_bytes, option_copied};
+//! The keys that the tables may have, in the order in which they are judged.
+ghost use Rattle.std.specs.Prelude.{◌≡◌, not, find, map, option_map, bytes_eq, string_bytes, option_copied};
 ghost use Rattle.std.specs.BTreeMap.{keys};
 ghost use Rattle.std.specs.List.{list_any};
 ghost use Rattle.toml.specs.View.{table_view};
 ghost use Rattle.gw_entries.specs.Answers.{Passes};
 ghost use Rattle.gw_entries.specs.Complaints.{placed, wrong_at, unknown_keys};
-ghost use Rattle.gw_entries.specs.Known.{known_keys};
+ghost use Rattle.gw_entries.specs.Keys.{rule_seen};
+ghost use Rattle.gw_entries.specs.Tables.{top_keys, known_keys, rules_of};
+ghost use Rattle.gw_entries.specs.Values.{rule_named};
 ghost use Rattle.gw_entries.specs.declared.fault.Fault.TheVariants.{UnknownKey};
 
 use crate::fault::{Fault, KeyName, Place, Section, SettingsFault};
+use crate::key::{Absence, Content, Key};
 use std::alloc::Global;
 use toml::Table;
 
+/// A row of a table of keys.
+macro_rules! key {
+    ($name:literal, $content:expr, $absence:expr) => {
+        Key {
+            name: $name,
+            content: $content,
+            absence: $absence,
+        }
+    };
+}
+
 const TOP_KEYS: [&str; 4] = ["station", "outstation", "point", "control"];
 
-const STATION_KEYS: [&str; 12] = [
-    "common_address",
-    "master_address",
-    "offset_minutes",
-    "k",
-    "w",
-    "t1_ms",
-    "t2_ms",
-    "t3_ms",
-    "queue",
-    "select_ms",
-    "recorder",
-    "listen",
+static NO_KEYS: [Key; 0] = [];
+
+static STATION_KEYS: [Key; 12] = [
+    key!("common_address", Content::Number(1, 65_534), Absence::Required),
+    key!("master_address", Content::Number(0, 65_519), Absence::Number(1024)),
+    key!("offset_minutes", Content::Number(-840, 840), Absence::Number(0)),
+    key!("k", Content::Number(1, 32_767), Absence::Number(12)),
+    key!("w", Content::NumberTo(1, "k"), Absence::Number(8)),
+    key!("t1_ms", Content::Number(1, 255_000), Absence::Number(15_000)),
+    key!("t2_ms", Content::NumberBelow(1, "t1_ms"), Absence::Number(10_000)),
+    key!("t3_ms", Content::Number(1, 255_000), Absence::Number(20_000)),
+    key!("queue", Content::Number(1, 65_536), Absence::Number(1000)),
+    key!("select_ms", Content::Number(1, 600_000), Absence::Number(10_000)),
+    key!("recorder", Content::Number(1, 65_536), Absence::Number(1024)),
+    key!("listen", Content::Text, Absence::Text("127.0.0.1:2404")),
 ];
 
-const OUTSTATION_KEYS: [&str; 7] = [
-    "address",
-    "connect",
-    "poll_ms",
-    "integrity_ms",
-    "response_ms",
-    "unsolicited",
-    "lan_time",
+static OUTSTATION_KEYS: [Key; 7] = [
+    key!("address", Content::Number(0, 65_519), Absence::Required),
+    key!("connect", Content::Text, Absence::Text("127.0.0.1:20000")),
+    key!("poll_ms", Content::Number(1, 86_400_000), Absence::Number(2000)),
+    key!("integrity_ms", Content::Number(0, 86_400_000), Absence::Number(3_600_000)),
+    key!("response_ms", Content::Number(1, 600_000), Absence::Number(5000)),
+    key!("unsolicited", Content::Flag, Absence::No),
+    key!("lan_time", Content::Flag, Absence::No),
 ];
 
-const POINT_KEYS: [&str; 7] = [
-    "outstation",
-    "kind",
-    "index",
-    "address",
-    "show",
-    "num",
-    "den",
+static POINT_KEYS: [Key; 7] = [
+    key!("outstation", Content::Outstation, Absence::Required),
+    key!("kind", Content::Word(&["binary", "output", "double", "counter", "analog"]), Absence::Required),
+    key!("index", Content::Number(0, 65_535), Absence::Required),
+    key!("address", Content::Number(1, 16_777_215), Absence::Required),
+    key!("show", Content::Word(&["single", "double", "scaled", "word", "total"]), Absence::UsualType),
+    key!("num", Content::Number(1, 32_767), Absence::Number(1)),
+    key!("den", Content::Number(1, 32_767), Absence::Number(1)),
 ];
 
-const CONTROL_KEYS: [&str; 11] = [
-    "outstation",
-    "show",
-    "index",
-    "address",
-    "select",
-    "mode",
-    "rest",
-    "short_ms",
-    "long_ms",
-    "num",
-    "den",
+static CONTROL_KEYS: [Key; 11] = [
+    key!("outstation", Content::Outstation, Absence::Required),
+    key!("show", Content::Word(&["single", "double", "setpoint"]), Absence::Required),
+    key!("index", Content::Number(0, 65_535), Absence::Required),
+    key!("address", Content::Number(1, 16_777_215), Absence::Required),
+    key!("select", Content::Flag, Absence::No),
+    key!("mode", Content::Word(&["direct", "sbo"]), Absence::Text("direct")),
+    key!("rest", Content::Word(&["latch", "short"]), Absence::Text("latch")),
+    key!("short_ms", Content::Number(1, 3_600_000), Absence::Number(500)),
+    key!("long_ms", Content::Number(1, 3_600_000), Absence::Number(2000)),
+    key!("num", Content::Number(1, 32_767), Absence::Number(1)),
+    key!("den", Content::Number(1, 32_767), Absence::Number(1)),
 ];
 
-/// The keys that the table of a section may have.
-fn known_keys(section: Section) -> &'static [&'static str]
-    ensures { map (λ key. key.now) result.now ≡ known_keys section }
+/// The keys that a file may have at the top.
+fn top_keys() -> &'static [&'static str]
+    ensures { map (λ key. key.now) result.now ≡ top_keys }
+{
+    &TOP_KEYS
+}
+
+/// The keys that an entry of a section may have; none for the top, which has no entries.
+pub fn keys_of(section: Section) -> &'static [Key]
+    ensures { map rule_seen result.now ≡ rules_of section }
 {
     match section {
-        Section::Top => &TOP_KEYS,
+        Section::Top => &NO_KEYS,
         Section::Station => &STATION_KEYS,
         Section::Outstation => &OUTSTATION_KEYS,
         Section::Point => &POINT_KEYS,
@@ -76,11 +99,26 @@ fn known_keys(section: Section) -> &'static [&'static str]
     }
 }
 
-/// Whether the table of a section may have a key.
-fn is_known(section: Section, key: &str) -> bool
-    ensures { result ≡ list_any (bytes_eq key.now) (known_keys section) }
+/// The row of a key of a section.
+pub(crate) fn key_named(section: Section, name: &str) -> Option<&'static Key>
+    ensures { option_map (λ key. rule_seen key.now) result ≡ rule_named (rules_of section) name.now }
 {
-    known_keys(section).contains(&key)
+    for key in keys_of(section) {
+        if key.name == name {
+            return Some(key);
+        }
+    }
+    None
+}
+
+/// Whether the table of a section may have a key.
+fn is_known(section: Section, name: &str) -> bool
+    ensures { result ≡ list_any (bytes_eq name.now) (known_keys section) }
+{
+    match section {
+        Section::Top => top_keys().contains(&name),
+        _ => key_named(section, name).is_some(),
+    }
 }
 
 /// The first key of a table that its section doesn't know.
