@@ -1,6 +1,6 @@
 -- Where nothing is wrong with a table, its numbers are in their ranges.
 use Prim.Native.String.{String as Name}
-use Rattle.std.proofs.Common.{◌≡◌, ℕ, pos, negsuc, nat_abs, ◌<◌, ◌≤◌, ◌≤ℤ◌, ◌&&◌, arith, List, [], ◌∷◌, ◌++◌, map, min, filter_map, find, codes, bytes_eq, Option, Some, None, option_map, Bool, true, false, refl, ap, sym, ◌∙◌, rules, Fits, w8}
+use Rattle.std.proofs.Common.{◌≡◌, ℕ, pos, negsuc, nat_abs, ◌<◌, ◌≤◌, ◌≤ℤ◌, ◌&&◌, arith, List, [], ◌∷◌, ◌++◌, map, min, filter_map, find, codes, bytes_eq, Option, Some, None, option_map, Bool, true, false, refl, rules, Fits, w8}
 use Rattle.std.specs.Prelude.{ℤ, int_le, int_lt}
 use Rattle.std.proofs.lemmas.Int.{ints, to_z-of_z}
 use mir.Val.{SFits, to_z, of_z}
@@ -9,10 +9,11 @@ use Rattle.std.proofs.lemmas.Option.{same_Some}
 use Rattle.toml.specs.Data.{Data, Members, get_member}
 use Rattle.gw_entries.specs.declared.fault.Fault.TheVariants.{Missing}
 use Rattle.gw_entries.specs.declared.fault.Section.{Section}
-use Rattle.gw_entries.specs.Complaints.{Wrong, Complaint, complaint, placed, is_allowed, fault_of, fault_there, wrong_by, rules_wrongs, key_wrongs}
+use Rattle.gw_entries.specs.declared.fault.Section.TheVariants.{Station, Outstation, Point, Control}
+use Rattle.gw_entries.specs.Complaints.{complaint, placed, is_allowed, fault_of, fault_there, wrong_by, rules_wrongs, key_wrongs}
 use Rattle.gw_entries.specs.Ranges.{IsWithin, IsStation, IsOutstation}
-use Rattle.gw_entries.specs.Tables.{KeyRule, Content, Absence, required, default, usual_type, whole, whole_to, whole_below, outstation_position, rule, number, station_keys, outstation_keys, point_keys, control_keys}
-use Rattle.gw_entries.specs.Values.{value_or, rule_named, value_at, as_signed, as_number, number_in, station_of, outstation_of}
+use Rattle.gw_entries.specs.Tables.{KeyRule, Absence, required, default, usual_type, whole, whole_to, whole_below, outstation_position, rule, number, station_keys, outstation_keys, point_keys, control_keys}
+use Rattle.gw_entries.specs.Values.{value_or, rule_named, value_at, as_signed, number_in, station_of, outstation_of}
 
 -- ---- one key
 
@@ -137,36 +138,38 @@ nothing_of : {A B : Type 0} (f : A → B) (xs : List A) → map f xs ≡ [] → 
 nothing_of f [] e = refl
 nothing_of f (x ∷ xs) e = absurd cc
 
-pub no_wrongs : (section : Section) (position outstations : ℕ) (known : List (List ℕ)) (rules : List KeyRule) (ms : Members)
+no_wrongs : (section : Section) (position outstations : ℕ) (known : List (List ℕ)) (rules : List KeyRule) (ms : Members)
     → placed section position (key_wrongs outstations known rules ms) ≡ [] → rules_wrongs outstations rules ms ≡ []
 unfolding key_wrongs
 no_wrongs section position outstations known rules ms e = nothing_after _ _ (nothing_of (complaint section position) _ e)
 
-pub outstation_within : (ms : Members) → rules_wrongs 0 outstation_keys ms ≡ [] → IsOutstation (outstation_of ms)
+pub outstation_within : (position : ℕ) (known : List (List ℕ)) (ms : Members) → placed Outstation position (key_wrongs 0 known outstation_keys ms) ≡ [] → IsOutstation (outstation_of ms)
 unfolding outstation_of
-outstation_within ms none = record {
-  address = (number_within 0 outstation_keys ms none "address" _ _ _ refl refl).1;
-  poll_ms = number_within 0 outstation_keys ms none "poll_ms" _ _ _ refl refl;
-  integrity_ms = (number_within 0 outstation_keys ms none "integrity_ms" _ _ _ refl refl).1;
-  response_ms = number_within 0 outstation_keys ms none "response_ms" _ _ _ refl refl;
-}
+outstation_within position known ms fine =
+    let none = no_wrongs Outstation position 0 known outstation_keys ms fine in record {
+      address = (number_within 0 outstation_keys ms none "address" _ _ _ refl refl).1;
+      poll_ms = number_within 0 outstation_keys ms none "poll_ms" _ _ _ refl refl;
+      integrity_ms = (number_within 0 outstation_keys ms none "integrity_ms" _ _ _ refl refl).1;
+      response_ms = number_within 0 outstation_keys ms none "response_ms" _ _ _ refl refl;
+    }
 
-pub station_within : (ms : Members) → rules_wrongs 0 station_keys ms ≡ [] → IsStation (station_of ms)
+pub station_within : (position : ℕ) (known : List (List ℕ)) (ms : Members) → placed Station position (key_wrongs 0 known station_keys ms) ≡ [] → IsStation (station_of ms)
 unfolding station_of
-station_within ms none = record {
-  common_address = number_within 0 station_keys ms none "common_address" _ _ _ refl refl;
-  master_address = (number_within 0 station_keys ms none "master_address" _ _ _ refl refl).1;
-  offset_from = (signed_within 0 station_keys ms none "offset_minutes" _ _ _ refl refl).0;
-  offset_to = (signed_within 0 station_keys ms none "offset_minutes" _ _ _ refl refl).1;
-  k = number_within 0 station_keys ms none "k" _ _ _ refl refl;
-  w = number_within_to 0 station_keys ms none "w" "k" _ refl refl;
-  t1_ms = number_within 0 station_keys ms none "t1_ms" _ _ _ refl refl;
-  t2_ms = number_below 0 station_keys ms none "t2_ms" "t1_ms" _ refl refl;
-  t3_ms = number_within 0 station_keys ms none "t3_ms" _ _ _ refl refl;
-  queue = number_within 0 station_keys ms none "queue" _ _ _ refl refl;
-  select_ms = number_within 0 station_keys ms none "select_ms" _ _ _ refl refl;
-  recorder = number_within 0 station_keys ms none "recorder" _ _ _ refl refl;
-}
+station_within position known ms fine =
+    let none = no_wrongs Station position 0 known station_keys ms fine in record {
+      common_address = number_within 0 station_keys ms none "common_address" _ _ _ refl refl;
+      master_address = (number_within 0 station_keys ms none "master_address" _ _ _ refl refl).1;
+      offset_from = (signed_within 0 station_keys ms none "offset_minutes" _ _ _ refl refl).0;
+      offset_to = (signed_within 0 station_keys ms none "offset_minutes" _ _ _ refl refl).1;
+      k = number_within 0 station_keys ms none "k" _ _ _ refl refl;
+      w = number_within_to 0 station_keys ms none "w" "k" _ refl refl;
+      t1_ms = number_within 0 station_keys ms none "t1_ms" _ _ _ refl refl;
+      t2_ms = number_below 0 station_keys ms none "t2_ms" "t1_ms" _ refl refl;
+      t3_ms = number_within 0 station_keys ms none "t3_ms" _ _ _ refl refl;
+      queue = number_within 0 station_keys ms none "queue" _ _ _ refl refl;
+      select_ms = number_within 0 station_keys ms none "select_ms" _ _ _ refl refl;
+      recorder = number_within 0 station_keys ms none "recorder" _ _ _ refl refl;
+    }
 
 pub record PointRanges (outstations : ℕ) (ms : Members) : Type 0 where
   pub outstation : number_in point_keys "outstation" ms < outstations
@@ -175,14 +178,15 @@ pub record PointRanges (outstations : ℕ) (ms : Members) : Type 0 where
   pub num : IsWithin 1 32767 (number_in point_keys "num" ms)
   pub den : IsWithin 1 32767 (number_in point_keys "den" ms)
 
-pub point_within : (outstations : ℕ) (ms : Members) → rules_wrongs outstations point_keys ms ≡ [] → PointRanges outstations ms
-point_within outstations ms none = record {
-  outstation = position_below outstations point_keys ms none "outstation" refl;
-  index = (number_within outstations point_keys ms none "index" _ _ _ refl refl).1;
-  address = number_within outstations point_keys ms none "address" _ _ _ refl refl;
-  num = number_within outstations point_keys ms none "num" _ _ _ refl refl;
-  den = number_within outstations point_keys ms none "den" _ _ _ refl refl;
-}
+pub point_within : (position : ℕ) (outstations : ℕ) (known : List (List ℕ)) (ms : Members) → placed Point position (key_wrongs outstations known point_keys ms) ≡ [] → PointRanges outstations ms
+point_within position outstations known ms fine =
+    let none = no_wrongs Point position outstations known point_keys ms fine in record {
+      outstation = position_below outstations point_keys ms none "outstation" refl;
+      index = (number_within outstations point_keys ms none "index" _ _ _ refl refl).1;
+      address = number_within outstations point_keys ms none "address" _ _ _ refl refl;
+      num = number_within outstations point_keys ms none "num" _ _ _ refl refl;
+      den = number_within outstations point_keys ms none "den" _ _ _ refl refl;
+    }
 
 pub record ControlRanges (outstations : ℕ) (ms : Members) : Type 0 where
   pub outstation : number_in control_keys "outstation" ms < outstations
@@ -193,16 +197,17 @@ pub record ControlRanges (outstations : ℕ) (ms : Members) : Type 0 where
   pub num : IsWithin 1 32767 (number_in control_keys "num" ms)
   pub den : IsWithin 1 32767 (number_in control_keys "den" ms)
 
-pub control_within : (outstations : ℕ) (ms : Members) → rules_wrongs outstations control_keys ms ≡ [] → ControlRanges outstations ms
-control_within outstations ms none = record {
-  outstation = position_below outstations control_keys ms none "outstation" refl;
-  index = (number_within outstations control_keys ms none "index" _ _ _ refl refl).1;
-  address = number_within outstations control_keys ms none "address" _ _ _ refl refl;
-  short_ms = number_within outstations control_keys ms none "short_ms" _ _ _ refl refl;
-  long_ms = number_within outstations control_keys ms none "long_ms" _ _ _ refl refl;
-  num = number_within outstations control_keys ms none "num" _ _ _ refl refl;
-  den = number_within outstations control_keys ms none "den" _ _ _ refl refl;
-}
+pub control_within : (position : ℕ) (outstations : ℕ) (known : List (List ℕ)) (ms : Members) → placed Control position (key_wrongs outstations known control_keys ms) ≡ [] → ControlRanges outstations ms
+control_within position outstations known ms fine =
+    let none = no_wrongs Control position outstations known control_keys ms fine in record {
+      outstation = position_below outstations control_keys ms none "outstation" refl;
+      index = (number_within outstations control_keys ms none "index" _ _ _ refl refl).1;
+      address = number_within outstations control_keys ms none "address" _ _ _ refl refl;
+      short_ms = number_within outstations control_keys ms none "short_ms" _ _ _ refl refl;
+      long_ms = number_within outstations control_keys ms none "long_ms" _ _ _ refl refl;
+      num = number_within outstations control_keys ms none "num" _ _ _ refl refl;
+      den = number_within outstations control_keys ms none "den" _ _ _ refl refl;
+    }
 
 -- ---- numbers of fewer bits
 

@@ -1,5 +1,5 @@
 -- The rows of the code's tables as the rules that they are.
-use Rattle.std.specs.Prelude.{◌≡◌, pos, false, List, [], map, Option, Some, None, ℕ}
+use Rattle.std.specs.Prelude.{false, List, [], map, Option, Some, None, ℕ}
 use Rattle.toml.specs.Data.{Data, string, integer, boolean}
 use Rattle.toml.specs.View.{view}
 use Rattle.gw_entries.specs.declared.entry.Datum.{Datum}

@@ -1,6 +1,6 @@
 -- What the tables of a settings file mean that break no rule.
 use Prim.Native.String.{String as Name}
-use Rattle.std.specs.Prelude.{ℕ, ℤ, pos, nat_abs, Bool, false, List, [], ◌∷◌, codes, Option, Some, None, unwrap_or, find, bytes_eq}
+use Rattle.std.specs.Prelude.{ℕ, ℤ, pos, nat_abs, Bool, false, List, [], codes, Option, Some, None, unwrap_or, find, bytes_eq}
 use Rattle.std.specs.Option.{option_or}
 use Rattle.toml.specs.Data.{Data, Members, get_member, as_integer, as_str, as_bool}
 use Rattle.gw_model.specs.declared.point.Kind.{Kind}

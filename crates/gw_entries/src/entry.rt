@@ -245,7 +245,12 @@ impl<'a> Entry<'a> {
     }
 
     /// Refuses the first that is wrong at the keys of the entry at a position, where there are so many outstations.
-    pub(crate) fn check(self, alloc: Global, position: usize, outstations: u8) -> Result<(), SettingsFault>
+    pub(crate) fn check(
+        self,
+        alloc: Global,
+        position: usize,
+        outstations: u8,
+    ) -> Result<(), SettingsFault>
         ensures { Passes result (placed self.entry.section position
             (key_wrongs outstations (known_keys self.entry.section) (rules_of self.entry.section) (table_view self.entry.table.now))) }
     {

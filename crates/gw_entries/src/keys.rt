@@ -15,14 +15,14 @@ use crate::key::{Absence, Content, Key};
 use std::alloc::Global;
 use toml::Table;
 
-/// A row of a table of keys.
-macro_rules! key {
-    ($name:literal, $content:expr, $absence:expr) => {
-        Key {
+/// A table of keys: at each row a name, what may stand there, and what is meant where it's left out.
+macro_rules! keys {
+    ($($name:literal: $content:ident $(($($given:expr),*))?, $absence:ident $(($default:expr))?;)*) => {
+        [$(Key {
             name: $name,
-            content: $content,
-            absence: $absence,
-        }
+            content: Content::$content $(($($given),*))?,
+            absence: Absence::$absence $(($default))?,
+        }),*]
     };
 }
 
@@ -30,54 +30,54 @@ const TOP_KEYS: [&str; 4] = ["station", "outstation", "point", "control"];
 
 static NO_KEYS: [Key; 0] = [];
 
-static STATION_KEYS: [Key; 12] = [
-    key!("common_address", Content::Number(1, 65_534), Absence::Required),
-    key!("master_address", Content::Number(0, 65_519), Absence::Number(1024)),
-    key!("offset_minutes", Content::Number(-840, 840), Absence::Number(0)),
-    key!("k", Content::Number(1, 32_767), Absence::Number(12)),
-    key!("w", Content::NumberTo(1, "k"), Absence::Number(8)),
-    key!("t1_ms", Content::Number(1, 255_000), Absence::Number(15_000)),
-    key!("t2_ms", Content::NumberBelow(1, "t1_ms"), Absence::Number(10_000)),
-    key!("t3_ms", Content::Number(1, 255_000), Absence::Number(20_000)),
-    key!("queue", Content::Number(1, 65_536), Absence::Number(1000)),
-    key!("select_ms", Content::Number(1, 600_000), Absence::Number(10_000)),
-    key!("recorder", Content::Number(1, 65_536), Absence::Number(1024)),
-    key!("listen", Content::Text, Absence::Text("127.0.0.1:2404")),
-];
+static STATION_KEYS: [Key; 12] = keys! {
+    "common_address": Number(1, 65_534), Required;
+    "master_address": Number(0, 65_519), Number(1024);
+    "offset_minutes": Number(-840, 840), Number(0);
+    "k": Number(1, 32_767), Number(12);
+    "w": NumberTo(1, "k"), Number(8);
+    "t1_ms": Number(1, 255_000), Number(15_000);
+    "t2_ms": NumberBelow(1, "t1_ms"), Number(10_000);
+    "t3_ms": Number(1, 255_000), Number(20_000);
+    "queue": Number(1, 65_536), Number(1000);
+    "select_ms": Number(1, 600_000), Number(10_000);
+    "recorder": Number(1, 65_536), Number(1024);
+    "listen": Text, Text("127.0.0.1:2404");
+};
 
-static OUTSTATION_KEYS: [Key; 7] = [
-    key!("address", Content::Number(0, 65_519), Absence::Required),
-    key!("connect", Content::Text, Absence::Text("127.0.0.1:20000")),
-    key!("poll_ms", Content::Number(1, 86_400_000), Absence::Number(2000)),
-    key!("integrity_ms", Content::Number(0, 86_400_000), Absence::Number(3_600_000)),
-    key!("response_ms", Content::Number(1, 600_000), Absence::Number(5000)),
-    key!("unsolicited", Content::Flag, Absence::No),
-    key!("lan_time", Content::Flag, Absence::No),
-];
+static OUTSTATION_KEYS: [Key; 7] = keys! {
+    "address": Number(0, 65_519), Required;
+    "connect": Text, Text("127.0.0.1:20000");
+    "poll_ms": Number(1, 86_400_000), Number(2000);
+    "integrity_ms": Number(0, 86_400_000), Number(3_600_000);
+    "response_ms": Number(1, 600_000), Number(5000);
+    "unsolicited": Flag, No;
+    "lan_time": Flag, No;
+};
 
-static POINT_KEYS: [Key; 7] = [
-    key!("outstation", Content::Outstation, Absence::Required),
-    key!("kind", Content::Word(&["binary", "output", "double", "counter", "analog"]), Absence::Required),
-    key!("index", Content::Number(0, 65_535), Absence::Required),
-    key!("address", Content::Number(1, 16_777_215), Absence::Required),
-    key!("show", Content::Word(&["single", "double", "scaled", "word", "total"]), Absence::UsualType),
-    key!("num", Content::Number(1, 32_767), Absence::Number(1)),
-    key!("den", Content::Number(1, 32_767), Absence::Number(1)),
-];
+static POINT_KEYS: [Key; 7] = keys! {
+    "outstation": Outstation, Required;
+    "kind": Word(&["binary", "output", "double", "counter", "analog"]), Required;
+    "index": Number(0, 65_535), Required;
+    "address": Number(1, 16_777_215), Required;
+    "show": Word(&["single", "double", "scaled", "word", "total"]), UsualType;
+    "num": Number(1, 32_767), Number(1);
+    "den": Number(1, 32_767), Number(1);
+};
 
-static CONTROL_KEYS: [Key; 11] = [
-    key!("outstation", Content::Outstation, Absence::Required),
-    key!("show", Content::Word(&["single", "double", "setpoint"]), Absence::Required),
-    key!("index", Content::Number(0, 65_535), Absence::Required),
-    key!("address", Content::Number(1, 16_777_215), Absence::Required),
-    key!("select", Content::Flag, Absence::No),
-    key!("mode", Content::Word(&["direct", "sbo"]), Absence::Text("direct")),
-    key!("rest", Content::Word(&["latch", "short"]), Absence::Text("latch")),
-    key!("short_ms", Content::Number(1, 3_600_000), Absence::Number(500)),
-    key!("long_ms", Content::Number(1, 3_600_000), Absence::Number(2000)),
-    key!("num", Content::Number(1, 32_767), Absence::Number(1)),
-    key!("den", Content::Number(1, 32_767), Absence::Number(1)),
-];
+static CONTROL_KEYS: [Key; 11] = keys! {
+    "outstation": Outstation, Required;
+    "show": Word(&["single", "double", "setpoint"]), Required;
+    "index": Number(0, 65_535), Required;
+    "address": Number(1, 16_777_215), Required;
+    "select": Flag, No;
+    "mode": Word(&["direct", "sbo"]), Text("direct");
+    "rest": Word(&["latch", "short"]), Text("latch");
+    "short_ms": Number(1, 3_600_000), Number(500);
+    "long_ms": Number(1, 3_600_000), Number(2000);
+    "num": Number(1, 32_767), Number(1);
+    "den": Number(1, 32_767), Number(1);
+};
 
 /// The keys that a file may have at the top.
 fn top_keys() -> &'static [&'static str]

@@ -14,7 +14,7 @@ use std::marker::Model;
 use toml::Table;
 
 /// An outstation (IEEE Std 1815).
-#[derive(Debug, Drop)]
+#[derive(Drop)]
 pub struct Outstation {
     /// Its link address, from 0 to 65519.
     pub address: u16,

@@ -13,7 +13,7 @@ use std::marker::Model;
 use toml::Table;
 
 /// The controlled station (IEC 60870-5-104), and what it keeps for its clients.
-#[derive(Debug, Drop)]
+#[derive(Drop)]
 pub struct Station {
     /// The common address of its ASDUs, from 1 to 65534.
     pub common_address: u16,

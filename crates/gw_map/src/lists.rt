@@ -19,9 +19,11 @@ use gw_entries::{
 use std::alloc::{AllocError, Global};
 use toml::{Table, Value};
 
-const OUTSTATIONS: usize = 32;
+/// How many outstations there may be.
+pub const OUTSTATIONS: usize = 32;
 
-const ROWS: usize = 20_000;
+/// How many points there may be, and points and controls together.
+pub const ROWS: usize = 20_000;
 
 /// What is wrong at the top with the key of a section.
 fn at_top(fault: Fault, section: Section) -> SettingsFault

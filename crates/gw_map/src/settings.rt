@@ -17,12 +17,13 @@ use gw_model::PointKey;
 use gw_time::Zone;
 use indexmap::{IndexMap, IndexSet};
 use std::alloc::Global;
+use std::fmt;
 use std::marker::Model;
 use toml::Table;
 
 /// The station, its outstations, the point map and the controls. No two points have one source, and no two points
 /// or controls one address.
-#[derive(Debug, Drop)]
+#[derive(Drop)]
 pub struct Settings {
     station: Station,
     outstations: Vec<Outstation>,
@@ -45,6 +46,12 @@ impl Model for Settings {
     } };
 
     ghost invariant = { λ s. IsKept s.points.entries s.controls.items s.addresses.keys };
+}
+
+impl fmt::Debug for Settings {
+    fn fmt<W: fmt::Write>(&self, f: &mut fmt::Formatter<W>) -> fmt::Result {
+        f.write_str("Settings { .. }")
+    }
 }
 
 impl Settings {

@@ -1,4 +1,4 @@
-use Rattle.std.proofs.Common.{ap, ◌∙◌, bytes_eq, map}
+use Rattle.std.proofs.Common.{ap, ◌∙◌, bytes_eq}
 use Rattle.std.specs.List.{list_any}
 use Rattle.gw_entries.specs.Keys.{datum_seen}
 use Rattle.gw_entries.specs.Values.{text_in}

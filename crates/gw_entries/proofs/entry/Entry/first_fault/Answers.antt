@@ -1,4 +1,4 @@
-use Rattle.std.proofs.Common.{sym, ◌∙◌}
+use Rattle.std.proofs.Common.{sym}
 use Rattle.gw_entries.specs.Complaints.{rules_wrongs}
 use Rattle.gw_entries.specs.Keys.{rule_seen}
 use Rattle.gw_entries.proofs.Wrongs.{wrong_here, nothing_wrong}

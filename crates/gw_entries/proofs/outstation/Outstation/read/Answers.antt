@@ -1,19 +1,13 @@
-use Rattle.std.proofs.Common.{◌≡◌, [], sym, subst, lit≤, ◌∙◌}
+use Rattle.std.proofs.Common.{◌≡◌, sym, subst, lit≤, ◌∙◌}
 use Rattle.std.proofs.lemmas.Result.{err_from_is_err_and}
 use Rattle.toml.specs.View.{table_view}
-use Rattle.gw_entries.specs.declared.fault.Section.TheVariants as of
-use Rattle.gw_entries.specs.Complaints.{rules_wrongs}
 use Rattle.gw_entries.specs.Ranges.{IsOutstation}
 use Rattle.gw_entries.specs.Seen.{outstation_seen}
-use Rattle.gw_entries.specs.Tables.{outstation_keys}
 use Rattle.gw_entries.specs.Values.{outstation_of}
-use Rattle.gw_entries.proofs.Ranges.{no_wrongs, outstation_within, fits_min}
+use Rattle.gw_entries.proofs.Ranges.{outstation_within, fits_min}
 use Rattle.gw_entries.proofs.Unknown.{table_parts}
 use Rattle.gw_entries.proofs.Told.{told_front}
 use Rattle.gw_entries.proofs.outstation.Outstation.read.Goals as goal
-
-fine : (c : goal.In_ok-from_str) → rules_wrongs 0 outstation_keys (table_view c.args.table.now) ≡ []
-fine c = no_wrongs of.Outstation c.args.position 0 _ outstation_keys (table_view c.args.table.now) c.in_ok-check.ensures
 
 seen : (c : goal.In_ok-from_str) → outstation_seen record {
   address = c.number_u16.result;
@@ -22,7 +16,7 @@ seen : (c : goal.In_ok-from_str) → outstation_seen record {
 } ≡ outstation_of (table_view c.args.table.now)
 unfolding outstation_of
 seen c = λ i. record {
-  address = fits_min _ _ _ _ c.number_u16.ensures (outstation_within _ (fine c)).address (lit≤ tt) i;
+  address = fits_min _ _ _ _ c.number_u16.ensures (outstation_within c.args.position _ _ c.in_ok-check.ensures).address (lit≤ tt) i;
   connect = (c.in_ok-from_str.ensures.ok ∙ c.text.ensures) i;
   poll = record { poll_ms = c.number.ensures i; integrity_ms = c.number-2.ensures i; response_ms = c.number-3.ensures i; unsolicited = c.flag.ensures i; lan_time = c.flag-2.ensures i };
 }
@@ -33,7 +27,7 @@ returns-in_err-check c =
     rw (p.1, p.2, table_parts) (told_front _ _ _ c.in_err-check.ensures)
 
 pub invariant_of-result : goal.invariant_of-result
-invariant_of-result c = subst IsOutstation (sym (seen c)) (outstation_within _ (fine c))
+invariant_of-result c = subst IsOutstation (sym (seen c)) (outstation_within c.args.position _ _ c.in_ok-check.ensures)
 
 pub returns : goal.returns
 returns c = (rw (table_parts, c.in_ok-check.ensures), seen c)

@@ -1,12 +1,11 @@
-use Rattle.std.proofs.Common.{◌≡◌, [], map, arith, sym, ap, lit≤, ◌∙◌}
+use Rattle.std.proofs.Common.{map, sym, ap, lit≤}
 use Rattle.std.proofs.lemmas.Result.{err_from_is_err_and}
 use Rattle.toml.specs.View.{table_view}
 use Rattle.gw_entries.specs.declared.fault.Fault.TheVariants.{KindMismatch}
 use Rattle.gw_entries.specs.declared.fault.Section.TheVariants as of
-use Rattle.gw_entries.specs.Tables.{point_keys}
 use Rattle.gw_entries.specs.Values.{row_of}
 use Rattle.gw_entries.proofs.Mismatches.{kind_read, show_read, point_mismatch, no_point_mismatch, fits-from_none, unscaled}
-use Rattle.gw_entries.proofs.Ranges.{no_wrongs, point_within, fits_min, fits_within, position_cast, position_fits}
+use Rattle.gw_entries.proofs.Ranges.{point_within, fits_min, fits_within, position_cast, position_fits}
 use Rattle.gw_entries.proofs.Told.{tells_wrong, told_front}
 use Rattle.gw_entries.proofs.Unknown.{table_parts, nothing_placed}
 use Rattle.gw_entries.proofs.row.Row.read.Goals as goal
@@ -26,12 +25,12 @@ returns-in-Some c =
 
 pub overflow_cast-result : goal.overflow_cast-result
 overflow_cast-result c =
-    let p = point_within c.args.outstations _ (no_wrongs of.Point c.args.position c.args.outstations _ point_keys (table_view c.args.table.now) c.in_ok-check.ensures) in
+    let p = point_within c.args.position c.args.outstations _ _ c.in_ok-check.ensures in
     position_cast _ _ _ c.number_u16.ensures p.outstation c.ranges.outstations
 
 pub invariant_of-result : goal.invariant_of-result
 invariant_of-result c =
-    let p = point_within c.args.outstations _ (no_wrongs of.Point c.args.position c.args.outstations _ point_keys (table_view c.args.table.now) c.in_ok-check.ensures) in
+    let p = point_within c.args.position c.args.outstations _ _ c.in_ok-check.ensures in
     let num = fits_within _ _ _ _ _ c.number_u16-3.ensures p.num (lit≤ tt) in
     let den = fits_within _ _ _ _ _ c.number_u16-4.ensures p.den (lit≤ tt) in
     record { num_from = num.0; num_to = num.1; den_from = den.0; den_to = den.1 }
@@ -39,7 +38,7 @@ invariant_of-result c =
 pub invariant_of-result-2 : goal.invariant_of-result-2
 invariant_of-result-2 c =
     let ms = table_view c.args.table.now in
-    let p = point_within c.args.outstations _ (no_wrongs of.Point c.args.position c.args.outstations _ point_keys ms c.in_ok-check.ensures) in
+    let p = point_within c.args.position c.args.outstations _ _ c.in_ok-check.ensures in
     let address = fits_within _ _ _ _ _ c.number_u32.ensures p.address (lit≤ tt) in
     record {
       from = address.0;
@@ -53,14 +52,15 @@ pub returns : goal.returns
 unfolding row_of
 returns c =
     let ms = table_view c.args.table.now in
-    let p = point_within c.args.outstations _ (no_wrongs of.Point c.args.position c.args.outstations _ point_keys ms c.in_ok-check.ensures) in
+    let p = point_within c.args.position c.args.outstations _ _ c.in_ok-check.ensures in
     let kind = kind_read ms _ c.word-kind.ensures in
-    let show = show_read ms _ _ _ c.word-show.ensures c.usual_show.ensures kind in
-    (rw (table_parts, c.in_ok-check.ensures) (nothing_placed of.Point c.args.position _ (ap (λ keys. map (λ key. (KindMismatch, key)) keys) (no_point_mismatch ms _ _ kind show (sym c.in_default.ensures)))),
-    λ i. record {
-      key = record { outstation = position_fits _ _ _ c.number_u16.ensures p.outstation c.ranges.outstations i; kind = kind i; index = fits_min _ _ _ _ c.number_u16-2.ensures p.index (lit≤ tt) i };
-      address = fits_min _ _ _ _ c.number_u32.ensures p.address.1 (lit≤ tt) i;
-      show = show i;
-      num = fits_min _ _ _ _ c.number_u16-3.ensures p.num.1 (lit≤ tt) i;
-      den = fits_min _ _ _ _ c.number_u16-4.ensures p.den.1 (lit≤ tt) i;
-    })
+    let show = show_read ms _ _ _ c.word-show.ensures c.usual_show.ensures kind in (
+      rw (table_parts, c.in_ok-check.ensures) (nothing_placed of.Point c.args.position _ (ap (λ keys. map (λ key. (KindMismatch, key)) keys) (no_point_mismatch ms _ _ kind show (sym c.in_default.ensures)))),
+      λ i. record {
+        key = record { outstation = position_fits _ _ _ c.number_u16.ensures p.outstation c.ranges.outstations i; kind = kind i; index = fits_min _ _ _ _ c.number_u16-2.ensures p.index (lit≤ tt) i };
+        address = fits_min _ _ _ _ c.number_u32.ensures p.address.1 (lit≤ tt) i;
+        show = show i;
+        num = fits_min _ _ _ _ c.number_u16-3.ensures p.num.1 (lit≤ tt) i;
+        den = fits_min _ _ _ _ c.number_u16-4.ensures p.den.1 (lit≤ tt) i;
+      },
+    )

@@ -1,21 +1,15 @@
-use Rattle.std.proofs.Common.{◌≡◌, [], sym, subst, lit≤, ◌∙◌}
+use Rattle.std.proofs.Common.{◌≡◌, sym, subst, lit≤, ◌∙◌}
 use Rattle.std.proofs.lemmas.Result.{err_from_is_err_and}
 use mir.Val.{to_z, of_z}
 use mir.Syntax.{w16, w64}
 use Rattle.toml.specs.View.{table_view}
-use Rattle.gw_entries.specs.declared.fault.Section.TheVariants.{Station}
-use Rattle.gw_entries.specs.Complaints.{rules_wrongs}
 use Rattle.gw_entries.specs.Ranges.{IsStation}
 use Rattle.gw_entries.specs.Seen.{station_seen}
-use Rattle.gw_entries.specs.Tables.{station_keys}
 use Rattle.gw_entries.specs.Values.{station_of}
-use Rattle.gw_entries.proofs.Ranges.{no_wrongs, station_within, fits_min, up_to, below_to, minutes_cast, minutes_fit}
+use Rattle.gw_entries.proofs.Ranges.{station_within, fits_min, up_to, below_to, minutes_cast, minutes_fit}
 use Rattle.gw_entries.proofs.Unknown.{table_parts}
 use Rattle.gw_entries.proofs.Told.{told_front}
 use Rattle.gw_entries.proofs.station.Station.read.Goals as goal
-
-fine : (c : goal.In_ok-from_str) → rules_wrongs 0 station_keys (table_view c.args.table.now) ≡ []
-fine c = no_wrongs Station 0 0 _ station_keys (table_view c.args.table.now) c.in_ok-check.ensures
 
 seen : (c : goal.In_ok-from_str) → station_seen record {
   common_address = c.number_u16.result;
@@ -33,7 +27,7 @@ seen : (c : goal.In_ok-from_str) → station_seen record {
 } ≡ station_of (table_view c.args.table.now)
 unfolding station_of
 seen c =
-    let s = station_within _ (fine c) in
+    let s = station_within 0 _ _ c.in_ok-check.ensures in
     λ i. record {
       common_address = fits_min _ _ _ _ c.number_u16.ensures s.common_address.1 (lit≤ tt) i;
       master_address = fits_min _ _ _ _ c.number_u16-2.ensures s.master_address (lit≤ tt) i;
@@ -57,11 +51,11 @@ returns-in_err-check c =
 pub overflow_cast-result : goal.overflow_cast-result
 unfolding station_of
 overflow_cast-result c =
-    let s = station_within _ (no_wrongs Station 0 0 _ station_keys (table_view c.args.table.now) c.in_ok-check.ensures) in
+    let s = station_within 0 _ _ c.in_ok-check.ensures in
     minutes_cast _ _ c.signed.ensures (s.offset_from, s.offset_to)
 
 pub invariant_of-result : goal.invariant_of-result
-invariant_of-result c = subst IsStation (sym (seen c)) (station_within _ (fine c))
+invariant_of-result c = subst IsStation (sym (seen c)) (station_within 0 _ _ c.in_ok-check.ensures)
 
 pub returns : goal.returns
 returns c = (rw (table_parts, c.in_ok-check.ensures), seen c)
