@@ -11,7 +11,7 @@ ghost use Rattle.gw_entries.specs.Ranges.{IsStation};
 ghost use Rattle.gw_map.specs.Settings.{setup_fields, row_from, row_at_from, control_at_from, HasSingleSources, HasSingleAddresses};
 
 use crate::indexes::{address_index, point_map};
-use crate::lists::{controls_in, outstations_in, rows_in, station_in};
+use crate::lists::{OUTSTATIONS, ROWS, entries_in, station_in};
 use gw_entries::{Control, Outstation, Row, Section, SettingsFault, Station, check_keys};
 use gw_model::PointKey;
 use gw_time::Zone;
@@ -71,10 +71,12 @@ impl Settings {
     {
         check_keys(alloc, top, Section::Top, 0)?;
         let station = station_in(alloc, top)?;
-        let outstations = outstations_in(alloc, top)?;
+        let outstations: Vec<Outstation> =
+            entries_in(alloc, top, Section::Outstation, OUTSTATIONS, 0)?;
         let count = outstations.len() as u8;
-        let rows = rows_in(alloc, top, count)?;
-        let controls = controls_in(alloc, top, count, rows.len())?;
+        let rows: Vec<Row> = entries_in(alloc, top, Section::Point, ROWS, count)?;
+        let room = ROWS.saturating_sub(rows.len());
+        let controls: Vec<Control> = entries_in(alloc, top, Section::Control, room, count)?;
         let points = point_map(alloc, &rows)?;
         let addresses = address_index(alloc, &rows, &controls)?;
         Ok(Settings {
