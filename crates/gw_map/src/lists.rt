@@ -104,10 +104,12 @@ pub(crate) trait Listed: Sized + Drop {
 
     /// As a plain value.
     ghost Fields: { Type 0 };
+
     ghost fields: { Self → Fields };
 
     /// What is wrong with the table at a position, where there are so many outstations; and what it means.
     ghost complaints: { ℕ → ℕ → Members → List Complaint };
+
     ghost meaning: { Members → Fields };
 
     /// The entry of the table at a position, where there are so many outstations.

@@ -71,8 +71,13 @@ impl Settings {
     {
         check_keys(alloc, top, Section::Top, 0)?;
         let station = station_in(alloc, top)?;
-        let outstations: Vec<Outstation> =
-            entries_in(alloc, top, Section::Outstation, OUTSTATIONS, 0)?;
+        let outstations: Vec<Outstation> = entries_in(
+            alloc,
+            top,
+            Section::Outstation,
+            OUTSTATIONS,
+            0,
+        )?;
         let count = outstations.len() as u8;
         let rows: Vec<Row> = entries_in(alloc, top, Section::Point, ROWS, count)?;
         let room = ROWS.saturating_sub(rows.len());
