@@ -1,20 +1,40 @@
 //! What may stand at each key of a settings file, in words.
 
-use gw_map::Section;
+use gw_map::{Absence, Content, Key, OUTSTATIONS, ROWS, Section, keys_of};
+use std::io::{self, Write};
 
-/// What may stand at a key of a section.
-pub(crate) fn allowed(section: Section, key: &str) -> &'static str {
+/// Writes what may stand at a key of a section.
+pub(crate) fn write_allowed<W: Write>(
+    section: Section,
+    name: &str,
+    writer: &mut W,
+) -> io::Result<()> {
+    if name == "count" {
+        return write_limit(section, writer);
+    }
+    for key in keys_of(section) {
+        if key.name == name {
+            write_content(key, writer)?;
+            return writer.write_all(note(section, name).as_bytes());
+        }
+    }
     match section {
-        Section::Top => allowed_at_top(key),
-        Section::Station => allowed_of_station(key),
-        Section::Outstation => allowed_of_outstation(key),
-        Section::Point => allowed_of_point(key),
-        Section::Control => allowed_of_control(key),
+        Section::Top => writer.write_all(allowed_at_top(name).as_bytes()),
+        _ => write_names(section, writer),
     }
 }
 
-fn allowed_at_top(key: &str) -> &'static str {
-    match key {
+/// Writes how many entries a section may have.
+fn write_limit<W: Write>(section: Section, writer: &mut W) -> io::Result<()> {
+    match section {
+        Section::Outstation => write!(writer, "at most {OUTSTATIONS} outstations"),
+        Section::Point => write!(writer, "at most {ROWS} points"),
+        _ => write!(writer, "at most {ROWS} points and controls together"),
+    }
+}
+
+fn allowed_at_top(name: &str) -> &'static str {
+    match name {
         "station" => "a table [station], which every settings file has",
         "outstation" => "a list of tables [[outstation]]",
         "point" => "a list of tables [[point]]",
@@ -23,69 +43,68 @@ fn allowed_at_top(key: &str) -> &'static str {
     }
 }
 
-fn allowed_of_station(key: &str) -> &'static str {
-    match key {
-        "common_address" => "a whole number from 1 to 65534",
-        "master_address" => "a whole number from 0 to 65519",
-        "offset_minutes" => "a whole number from -840 to 840",
-        "k" => "a whole number from 1 to 32767",
-        "w" => "a whole number from 1 to k",
-        "t1_ms" | "t3_ms" => "a whole number from 1 to 255000",
-        "t2_ms" => "a whole number from 1 on, below t1_ms",
-        "queue" | "recorder" => "a whole number from 1 to 65536",
-        "select_ms" => "a whole number from 1 to 600000",
-        "listen" => "a text, as \"127.0.0.1:2404\"",
-        _ => {
-            "the keys common_address, master_address, offset_minutes, k, w, t1_ms, t2_ms, t3_ms, queue, select_ms, \
-             recorder and listen"
+/// Writes what may stand at a key by its row.
+fn write_content<W: Write>(key: &Key, writer: &mut W) -> io::Result<()> {
+    match key.content {
+        Content::Number(first, last) => write!(writer, "a whole number from {first} to {last}"),
+        Content::NumberTo(first, other) => write!(writer, "a whole number from {first} to {other}"),
+        Content::NumberBelow(first, other) => {
+            write!(writer, "a whole number from {first} on, below {other}")
         }
+        Content::Outstation => {
+            writer.write_all(b"the position of an outstation in the file, from 0")
+        }
+        Content::Word(words) => write_words(words, writer),
+        Content::Text => match key.absence {
+            Absence::Text(text) => write!(writer, "a text, as \"{text}\""),
+            _ => writer.write_all(b"a text"),
+        },
+        Content::Flag => writer.write_all(b"true or false"),
     }
 }
 
-fn allowed_of_outstation(key: &str) -> &'static str {
-    match key {
-        "address" => "a whole number from 0 to 65519",
-        "connect" => "a text, as \"127.0.0.1:20000\"",
-        "poll_ms" => "a whole number from 1 to 86400000",
-        "integrity_ms" => "a whole number from 0 to 86400000",
-        "response_ms" => "a whole number from 1 to 600000",
-        "unsolicited" | "lan_time" => "true or false",
-        "count" => "at most 32 outstations",
-        _ => {
-            "the keys address, connect, poll_ms, integrity_ms, response_ms, unsolicited and lan_time"
+/// What else holds of a key.
+fn note(section: Section, name: &str) -> &'static str {
+    match (section, name) {
+        (Section::Point, "index") => ", once for each outstation and kind",
+        (Section::Point | Section::Control, "address") => " that no other point or control has",
+        (Section::Point, "show") => {
+            ": single for binary and output, double for double, total for counter, scaled or word for analog"
         }
+        (Section::Point, "num" | "den") => ", for a scaled value alone",
+        (Section::Control, "rest" | "short_ms" | "long_ms") => ", for single and double alone",
+        (Section::Control, "num" | "den") => ", for setpoint alone",
+        _ => "",
     }
 }
 
-fn allowed_of_point(key: &str) -> &'static str {
-    match key {
-        "outstation" => "the position of an outstation in the file, from 0",
-        "kind" => "one of binary, output, double, counter and analog",
-        "index" => "a whole number from 0 to 65535, once for each outstation and kind",
-        "address" => "a whole number from 1 to 16777215 that no other point or control has",
-        "show" => {
-            "single for binary and output, double for double, total for counter, scaled or word for analog"
-        }
-        "num" | "den" => "a whole number from 1 to 32767, for a scaled value alone",
-        "count" => "at most 20000 points",
-        _ => "the keys outstation, kind, index, address, show, num and den",
+/// What stands before the name at a place of a list of so many.
+fn joint(place: usize, count: usize) -> &'static str {
+    if place == 0 {
+        " "
+    } else if place == count.saturating_sub(1) {
+        " and "
+    } else {
+        ", "
     }
 }
 
-fn allowed_of_control(key: &str) -> &'static str {
-    match key {
-        "outstation" => "the position of an outstation in the file, from 0",
-        "show" => "one of single, double and setpoint",
-        "index" => "a whole number from 0 to 65535",
-        "address" => "a whole number from 1 to 16777215 that no other point or control has",
-        "select" => "true or false",
-        "mode" => "direct or sbo",
-        "rest" => "latch or short, for single and double alone",
-        "short_ms" | "long_ms" => "a whole number from 1 to 3600000, for single and double alone",
-        "num" | "den" => "a whole number from 1 to 32767, for setpoint alone",
-        "count" => "at most 20000 points and controls together",
-        _ => {
-            "the keys outstation, show, index, address, select, mode, rest, short_ms, long_ms, num and den"
-        }
+fn write_words<W: Write>(words: &[&str], writer: &mut W) -> io::Result<()> {
+    writer.write_all(b"one of")?;
+    for (place, word) in words.iter().enumerate() {
+        let joint = joint(place, words.len());
+        write!(writer, "{joint}{word}")?;
     }
+    Ok(())
+}
+
+/// Writes the keys that the entries of a section may have.
+fn write_names<W: Write>(section: Section, writer: &mut W) -> io::Result<()> {
+    let keys = keys_of(section);
+    writer.write_all(b"the keys")?;
+    for (place, key) in keys.iter().enumerate() {
+        let (joint, name) = (joint(place, keys.len()), key.name);
+        write!(writer, "{joint}{name}")?;
+    }
+    Ok(())
 }

@@ -1,6 +1,6 @@
 //! What is wrong with a settings file, in a sentence for a person.
 
-use crate::allowed::allowed;
+use crate::allowed::write_allowed;
 use crate::reading::{Unusable, read_settings};
 use gw_map::{Fault, Place, Section, SettingsFault};
 use gw_text::Plain;
@@ -68,8 +68,9 @@ fn write_place<W: Write>(
     let entry = entry_at(top, place);
     write_entry(place, entry, writer)?;
     write_found(fault, place, top, entry, writer)?;
-    let allowed = allowed(place.section, place.key.as_str());
-    writeln!(writer, "; allowed: {allowed}.")
+    write!(writer, "; allowed: ")?;
+    write_allowed(place.section, place.key.as_str(), writer)?;
+    writeln!(writer, ".")
 }
 
 /// The entries of a section that is a list.

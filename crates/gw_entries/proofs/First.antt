@@ -1,6 +1,6 @@
 -- The first element of lists that are put together.
 use Rattle.std.proofs.Common.{◌≡◌, List, [], ◌∷◌, ◌++◌, map, Some, None, option_map, refl, ap, ◌∙◌}
-use Rattle.gw_entries.specs.Answers.{first, pair, triple}
+use Rattle.gw_entries.specs.Answers.{first}
 
 -- it's the first of the front, where that has one
 pub stop : {A : Type 0} (xs ys : List A) (x : A) → first xs ≡ Some x → first (xs ++ ys) ≡ Some x
@@ -22,10 +22,3 @@ first-map f (x ∷ xs) = refl
 -- the first of a list, each element of which is changed
 pub told : {A B : Type 0} (f : A → B) (xs : List A) (x : A) → first xs ≡ Some x → first (map f xs) ≡ Some (f x)
 told f xs x h = first-map f xs ∙ ap (option_map f) h
-
--- values that are the same part by part
-pub pairs : {A B : Type 0} (a a' : A) (b b' : B) → a ≡ a' → b ≡ b' → pair a b ≡ pair a' b'
-pairs a a' b b' p q = λ i. (p i, q i)
-
-pub triples : {A B C : Type 0} (a a' : A) (b b' : B) (c c' : C) → a ≡ a' → b ≡ b' → c ≡ c' → triple a b c ≡ triple a' b' c'
-triples a a' b b' c c' p q r = λ i. (p i, q i, r i)

@@ -1,7 +1,7 @@
 pub mod First
-pub mod Parts
-pub mod Entries
+pub mod Mismatches
+pub mod Ranges
 pub mod Told
 pub mod Unknown
-pub mod Mismatches
 pub mod Words
+pub mod Wrongs

@@ -1,21 +1,50 @@
 -- Rows and controls, read part by part.
-use Rattle.std.proofs.Common.{◌≡◌, ℕ, List, [], ◌∷◌, ◌++◌, codes, Option, Some, None, Bool, true, false, cond, ◌||◌, ◌&&◌, ◌==◌, is_some, IsTrue, if◌then◌else◌, refl, ◌∙◌}
+use Rattle.std.proofs.Common.{◌≡◌, ℕ, List, [], ◌∷◌, ◌++◌, codes, Option, Some, None, Bool, true, false, cond, ◌||◌, ◌&&◌, ◌==◌, is_some, IsTrue, if◌then◌else◌, unwrap_or, refl, ap, ◌∙◌}
 use Rattle.toml.specs.Data.{Data, Members, get_member}
 use Rattle.gw_model.specs.declared.point.Kind.{Kind}
+use Rattle.gw_model.specs.declared.point.Kind.TheVariants.{Binary}
 use Rattle.gw_entries.specs.declared.row.Show.{Show}
 use Rattle.gw_entries.specs.declared.control.ControlShow.{ControlShow}
 use Rattle.gw_entries.specs.declared.fault.Fault.TheVariants.{KindMismatch}
-use Rattle.gw_entries.specs.Answers.{first, pair, triple}
+use Rattle.gw_entries.specs.Answers.{first}
 use Rattle.gw_entries.specs.Fields.{operation_with}
 use Rattle.gw_entries.specs.Setup.{single, double, setpoint}
 use Rattle.gw_entries.specs.declared.control.ControlShow.TheVariants as shown
+use Rattle.gw_entries.specs.declared.control.Mode.{Mode}
+use Rattle.gw_entries.specs.declared.control.Mode.TheVariants.{Direct}
 use Rattle.gw_entries.specs.declared.control.Pulses.{Pulses}
+use Rattle.gw_entries.specs.declared.control.Rest.{Rest}
+use Rattle.gw_entries.specs.declared.control.Rest.TheVariants.{Latch}
 use Rattle.gw_entries.specs.declared.row.Scale.{Scale}
 use Rattle.gw_entries.specs.Complaints.{wrong_at, present, mismatches_with, point_mismatches, mismatches_of, control_mismatches}
-use Rattle.gw_entries.specs.Shown.{is_shown_by, is_scaled}
-use Rattle.gw_entries.specs.Tables.{point_keys, control_keys}
-use Rattle.gw_entries.specs.Values.{value_or, kind_in, show_in, control_show_in, rest_in, operation, number_in}
+use Rattle.gw_entries.specs.Shown.{is_shown_by, is_scaled, usual_show}
+use Rattle.gw_entries.specs.Tables.{point_keys, control_keys, kinds, shows, control_shows, modes, rests}
+use Rattle.gw_entries.specs.Values.{value_or, value_at, as_word, kind_in, show_in, control_show_in, mode_in, rest_in, operation, number_in}
 use Rattle.gw_entries.proofs.First.{told, first-None}
+
+-- words, where the code reads them
+pub kind_read : (ms : Members) (kind : Kind) → kind ≡ unwrap_or (as_word kinds (value_at point_keys (codes "kind") ms)) Binary → kind ≡ kind_in ms
+unfolding kind_in
+kind_read ms kind e = e
+
+pub show_read : (ms : Members) (kind : Kind) (show other : Show) → show ≡ unwrap_or (as_word shows (value_at point_keys (codes "show") ms)) other
+    → other ≡ usual_show kind → kind ≡ kind_in ms → show ≡ show_in ms
+unfolding show_in
+show_read ms kind show other e usual k = e ∙ ap (λ other. unwrap_or (as_word shows (value_at point_keys (codes "show") ms)) other) (usual ∙ ap usual_show k)
+
+pub control_show_read : (ms : Members) (show : ControlShow) → show ≡ unwrap_or (as_word control_shows (value_at control_keys (codes "show") ms)) shown.Single → show ≡ control_show_in ms
+unfolding control_show_in
+control_show_read ms show e = e
+
+pub mode_read : (ms : Members) (mode : Mode) → mode ≡ unwrap_or (as_word modes (value_at control_keys (codes "mode") ms)) Direct → mode ≡ mode_in ms
+unfolding mode_in
+mode_read ms mode e = e
+
+pub rest_read : (ms : Members) (rest : Rest) → rest ≡ unwrap_or (as_word rests (value_at control_keys (codes "rest") ms)) Latch → rest ≡ rest_in ms
+unfolding rest_in
+rest_read ms rest e = e
+
+-- ---- what doesn't fit together
 
 pub point_mismatch : (ms : Members) (kind : Kind) (show : Show) (key : List ℕ) → kind ≡ kind_in ms → show ≡ show_in ms
     → first (mismatches_with kind show ms) ≡ Some key → first (wrong_at KindMismatch (point_mismatches ms)) ≡ Some (KindMismatch, key)
@@ -84,12 +113,12 @@ unscaled kind show ms num den h n d = by (is_scaled show) refl
 
 -- what a control does, from its parts
 pub operation_same : (ms : Members) (show : ControlShow) (pulses : Pulses) (scale : Scale) → show ≡ control_show_in ms
-    → triple pulses.rest pulses.short_ms pulses.long_ms ≡ triple (rest_in ms) (number_in control_keys "short_ms" ms) (number_in control_keys "long_ms" ms)
-    → pair scale.num scale.den ≡ pair (number_in control_keys "num" ms) (number_in control_keys "den" ms)
+    → pulses.rest ≡ rest_in ms → pulses.short_ms ≡ number_in control_keys "short_ms" ms → pulses.long_ms ≡ number_in control_keys "long_ms" ms
+    → scale.num ≡ number_in control_keys "num" ms → scale.den ≡ number_in control_keys "den" ms
     → operation_with show pulses scale ≡ operation (control_show_in ms) ms
-operation_same ms show pulses scale e p s = rw (← e) (by show)
+operation_same ms show pulses scale e r s l n d = rw (← e) (by show)
   where
     by : (show : ControlShow) → operation_with show pulses scale ≡ operation show ms
-    by shown.Single = λ i. single (p i).0 (p i).1 (p i).2
-    by shown.Double = λ i. double (p i).0 (p i).1 (p i).2
-    by shown.Setpoint = λ i. setpoint (s i).0 (s i).1
+    by shown.Single = λ i. single (r i) (s i) (l i)
+    by shown.Double = λ i. double (r i) (s i) (l i)
+    by shown.Setpoint = λ i. setpoint (n i) (d i)

@@ -1,7 +1,7 @@
 -- What is wrong with one table of a settings file: all complaints, in the order in which they are made.
-use Rattle.std.specs.Prelude.{ℕ, ℤ, pos, ◌+◌, ◌+ℤ◌, Bool, true, false, ◌&&◌, int_le, int_lt, List, [], ◌∷◌, ◌++◌, map, codes, Option, Some, None, is_some, bytes_eq, if◌then◌else◌}
+use Rattle.std.specs.Prelude.{ℕ, ℤ, pos, Bool, true, ◌&&◌, int_le, int_lt, List, [], ◌∷◌, ◌++◌, map, filter_map, codes, Option, Some, None, is_some, option_map, bytes_eq, if◌then◌else◌}
 use Rattle.std.specs.List.{list_any}
-use Rattle.toml.specs.Data.{Data, string, integer, boolean, Members, no_members, member, get_member}
+use Rattle.toml.specs.Data.{Data, Members, no_members, member, get_member}
 use Rattle.gw_model.specs.declared.point.Kind.{Kind}
 use Rattle.gw_entries.specs.declared.row.Show.{Show}
 use Rattle.gw_entries.specs.Shown.{is_shown_by, is_scaled}
@@ -10,51 +10,46 @@ use Rattle.gw_entries.specs.declared.control.ControlShow.TheVariants as control
 use Rattle.gw_entries.specs.declared.fault.Fault.{Fault}
 use Rattle.gw_entries.specs.declared.fault.Fault.TheVariants.{Missing, WrongType, OutOfRange, UnknownKey, KindMismatch}
 use Rattle.gw_entries.specs.declared.fault.Section.{Section}
-use Rattle.gw_entries.specs.Tables.{KeyRule, Content, number, number_to, number_below, outstation_position, signed_number, one_of, any_text, yes_or_no, Absence, required, default, usual_type}
-use Rattle.gw_entries.specs.Values.{value_at, value_or, as_number, kind_in, show_in, control_show_in}
+use Rattle.gw_entries.specs.Tables.{KeyRule, Content, whole, whole_to, whole_below, outstation_position, one_of, any_text, yes_or_no, Absence, required}
+use Rattle.gw_entries.specs.Values.{value_at, value_or, integer_in, text_in, flag_in, as_signed, as_text, kind_in, show_in, control_show_in}
 
 -- ---- one key
 
-abbrev pub unless : Bool → List Fault
-unless true = []
-unless false = OutOfRange ∷ []
+-- a value is of the type that may stand there
+abbrev pub has_type : Content → Option Data → Bool
+has_type (one_of words) value = is_some (text_in value)
+has_type any_text value = is_some (text_in value)
+has_type yes_or_no value = is_some (flag_in value)
+has_type _ value = is_some (integer_in value)
 
--- a whole number from the first on, and below the second
-unfoldable pub integer_faults : ℤ → ℤ → Data → List Fault
-integer_faults first end (integer z) = unless (int_le first z && int_lt z end)
-integer_faults first end _ = WrongType ∷ []
+abbrev pub is_between : ℤ → ℤ → ℤ → Bool
+is_between first last z = int_le first z && int_le z last
 
-unfoldable pub word_faults : List (List ℕ) → Data → List Fault
-word_faults words (string text) = unless (list_any (bytes_eq text) words)
-word_faults words _ = WrongType ∷ []
+-- a value of that type may stand there, in a table with these rules, where there are so many outstations
+abbrev pub is_allowed : ℕ → List KeyRule → Members → Content → Option Data → Bool
+is_allowed outstations rules ms (whole first last) value = is_between first last (as_signed value)
+is_allowed outstations rules ms (whole_to first key) value =
+    is_between first (as_signed (value_at rules key ms)) (as_signed value)
+is_allowed outstations rules ms (whole_below first key) value =
+    int_le first (as_signed value) && int_lt (as_signed value) (as_signed (value_at rules key ms))
+is_allowed outstations rules ms outstation_position value =
+    int_le (pos 0) (as_signed value) && int_lt (as_signed value) (pos outstations)
+is_allowed outstations rules ms (one_of words) value = list_any (bytes_eq (as_text value)) words
+is_allowed outstations rules ms any_text value = true
+is_allowed outstations rules ms yes_or_no value = true
 
-unfoldable pub text_faults : Data → List Fault
-text_faults (string text) = []
-text_faults _ = WrongType ∷ []
+abbrev pub fault_left_out : Absence → Option Fault
+fault_left_out required = Some Missing
+fault_left_out _ = None
 
-unfoldable pub flag_faults : Data → List Fault
-flag_faults (boolean b) = []
-flag_faults _ = WrongType ∷ []
+abbrev pub fault_there : Bool → Bool → Option Fault
+fault_there typed allowed = if typed then (if allowed then None else Some OutOfRange) else Some WrongType
 
--- what is wrong with a value, in a table with these rules, where there are so many outstations
-abbrev pub value_faults : ℕ → List KeyRule → Members → Content → Data → List Fault
-value_faults outstations rules ms (number first last) = integer_faults (pos first) (pos (last + 1))
-value_faults outstations rules ms (number_to first key) =
-    integer_faults (pos first) (pos (as_number (value_at rules key ms) + 1))
-value_faults outstations rules ms (number_below first key) =
-    integer_faults (pos first) (pos (as_number (value_at rules key ms)))
-value_faults outstations rules ms outstation_position = integer_faults (pos 0) (pos outstations)
-value_faults outstations rules ms (signed_number first last) = integer_faults first (last +ℤ pos 1)
-value_faults outstations rules ms (one_of words) = word_faults words
-value_faults outstations rules ms any_text = text_faults
-value_faults outstations rules ms yes_or_no = flag_faults
-
--- what is wrong at a key, with the value there, or what is meant where there is none
-abbrev pub faults_of : Absence → (Data → List Fault) → Option Data → List Fault
-faults_of absence judged (Some d) = judged d
-faults_of required judged None = Missing ∷ []
-faults_of (default d) judged None = []
-faults_of usual_type judged None = []
+-- what is wrong with what stands at a key, or is meant there
+abbrev pub fault_of : ℕ → List KeyRule → Members → KeyRule → Option Data → Option Fault
+fault_of outstations rules ms rule None = fault_left_out rule.absence
+fault_of outstations rules ms rule (Some d) =
+    fault_there (has_type rule.content (Some d)) (is_allowed outstations rules ms rule.content (Some d))
 
 -- ---- one table: what is wrong, with the key
 
@@ -64,16 +59,14 @@ Wrong = Fault × List ℕ
 abbrev pub wrong_at : Fault → List (List ℕ) → List Wrong
 wrong_at fault keys = map (λ key. (fault, key)) keys
 
--- what is wrong at one key
-unfoldable pub wrongs_at : Absence → (Data → List Fault) → List ℕ → Members → List Wrong
-wrongs_at absence judged key ms = map (λ fault. (fault, key)) (faults_of absence judged (value_or absence key ms))
+-- what is wrong at a key, in a table with these rules
+unfoldable pub wrong_by : ℕ → List KeyRule → Members → KeyRule → Option Wrong
+wrong_by outstations rules ms rule =
+    option_map (λ fault. (fault, rule.key)) (fault_of outstations rules ms rule (value_or rule.absence rule.key ms))
 
--- what is wrong at the keys of some rules, in a table with these rules
-unfoldable pub rules_wrongs : ℕ → List KeyRule → List KeyRule → Members → List Wrong
-rules_wrongs outstations rules [] ms = []
-rules_wrongs outstations rules (rule ∷ more) ms =
-    wrongs_at rule.absence (value_faults outstations rules ms rule.content) rule.key ms
-    ++ rules_wrongs outstations rules more ms
+-- what is wrong at the keys of a table with these rules
+unfoldable pub rules_wrongs : ℕ → List KeyRule → Members → List Wrong
+rules_wrongs outstations rules ms = filter_map (wrong_by outstations rules ms) rules
 
 -- the keys of a table, the least octets first, that are none of the known ones
 unfoldable pub unknown_keys : List (List ℕ) → Members → List (List ℕ)
@@ -106,16 +99,15 @@ control_mismatches ms = mismatches_of (control_show_in ms) ms
 abbrev pub no_mismatches : Members → List (List ℕ)
 no_mismatches ms = []
 
--- what is wrong with a table whose keys are all known: key by key, then what doesn't fit together
-unfoldable pub entry_wrongs : ℕ → List KeyRule → (Members → List (List ℕ)) → Members → List Wrong
-entry_wrongs outstations rules mismatches ms =
-    rules_wrongs outstations rules rules ms ++ wrong_at KindMismatch (mismatches ms)
+-- what is wrong at the keys of a table: first those that are unknown, then those that it may have
+unfoldable pub key_wrongs : ℕ → List (List ℕ) → List KeyRule → Members → List Wrong
+key_wrongs outstations known rules ms =
+    wrong_at UnknownKey (unknown_keys known ms) ++ rules_wrongs outstations rules ms
 
--- what is wrong with a table: first the keys that are unknown
+-- what is wrong with a table: key by key, then what doesn't fit together
 unfoldable pub table_wrongs : ℕ → List KeyRule → (Members → List (List ℕ)) → Members → List Wrong
 table_wrongs outstations rules mismatches ms =
-    wrong_at UnknownKey (unknown_keys (map (λ rule. rule.key) rules) ms)
-    ++ entry_wrongs outstations rules mismatches ms
+    key_wrongs outstations (map (λ rule. rule.key) rules) rules ms ++ wrong_at KindMismatch (mismatches ms)
 
 -- ---- where it stands
 

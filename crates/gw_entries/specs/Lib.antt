@@ -1,7 +1,6 @@
 pub mod Texts
 pub mod Shown
 pub mod Tables
-pub mod Known
 pub mod Setup
 pub mod Values
 pub mod Complaints
@@ -10,5 +9,5 @@ pub mod Ranges
 pub mod Seen
 pub mod Fields
 pub mod Answers
-pub mod Parts
+pub mod Keys
 pub mod Example

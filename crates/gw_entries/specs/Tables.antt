@@ -5,6 +5,8 @@ use Rattle.std.specs.Prelude.{ℕ, ℤ, pos, negsuc, false, List, [], ◌∷◌,
 use Rattle.toml.specs.Data.{Data, string, integer, boolean}
 use Rattle.gw_model.specs.declared.point.Kind.{Kind}
 use Rattle.gw_model.specs.declared.point.Kind.TheVariants as kind
+use Rattle.gw_entries.specs.declared.fault.Section.{Section}
+use Rattle.gw_entries.specs.declared.fault.Section.TheVariants.{Top, Station, Outstation, Point, Control}
 use Rattle.gw_entries.specs.declared.row.Show.{Show}
 use Rattle.gw_entries.specs.declared.row.Show.TheVariants as show
 use Rattle.gw_entries.specs.declared.control.ControlShow.{ControlShow}
@@ -17,14 +19,12 @@ use Rattle.gw_entries.specs.declared.control.Rest.TheVariants.{Latch, Short}
 -- what may stand at a key
 pub data Content : Type 0 where
   -- a whole number, from the first to the second
-  number : ℕ → ℕ → Content
+  whole : ℤ → ℤ → Content
   -- a whole number from the first on, to the value of another key of the table, or below it
-  number_to : ℕ → List ℕ → Content
-  number_below : ℕ → List ℕ → Content
+  whole_to : ℤ → List ℕ → Content
+  whole_below : ℤ → List ℕ → Content
   -- the position of an outstation, from 0
   outstation_position : Content
-  -- a whole number, from the first to the second, that may be negative
-  signed_number : ℤ → ℤ → Content
   -- one of these texts, or any text
   one_of : List (List ℕ) → Content
   any_text : Content
@@ -45,6 +45,9 @@ pub record KeyRule : Type 0 where
 
 abbrev pub rule : Name → Content → Absence → KeyRule
 rule name content absence = record { key = codes name; content = content; absence = absence }
+
+abbrev pub number : ℕ → ℕ → Content
+number first last = whole (pos first) (pos last)
 
 abbrev pub or_number : ℕ → Absence
 or_number n = default (integer (pos n))
@@ -89,11 +92,11 @@ abbrev pub station_keys : List KeyRule
 station_keys =
     rule "common_address" (number 1 65534) required
     ∷ rule "master_address" (number 0 65519) (or_number 1024)
-    ∷ rule "offset_minutes" (signed_number (negsuc 839) (pos 840)) (or_number 0)
+    ∷ rule "offset_minutes" (whole (negsuc 839) (pos 840)) (or_number 0)
     ∷ rule "k" (number 1 32767) (or_number 12)
-    ∷ rule "w" (number_to 1 (codes "k")) (or_number 8)
+    ∷ rule "w" (whole_to (pos 1) (codes "k")) (or_number 8)
     ∷ rule "t1_ms" (number 1 255000) (or_number 15000)
-    ∷ rule "t2_ms" (number_below 1 (codes "t1_ms")) (or_number 10000)
+    ∷ rule "t2_ms" (whole_below (pos 1) (codes "t1_ms")) (or_number 10000)
     ∷ rule "t3_ms" (number 1 255000) (or_number 20000)
     ∷ rule "queue" (number 1 65536) (or_number 1000)
     ∷ rule "select_ms" (number 1 600000) (or_number 10000)
@@ -137,6 +140,18 @@ control_keys =
     ∷ rule "num" (number 1 32767) (or_number 1)
     ∷ rule "den" (number 1 32767) (or_number 1)
     ∷ []
+
+abbrev pub rules_of : Section → List KeyRule
+rules_of Top = []
+rules_of Station = station_keys
+rules_of Outstation = outstation_keys
+rules_of Point = point_keys
+rules_of Control = control_keys
+
+-- which keys the table of a section may have
+abbrev pub known_keys : Section → List (List ℕ)
+known_keys Top = top_keys
+known_keys section = map (λ rule. rule.key) (rules_of section)
 
 -- how many outstations there may be; points; and points and controls together
 abbrev pub outstation_limit : ℕ

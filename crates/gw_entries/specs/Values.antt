@@ -1,8 +1,8 @@
 -- What the tables of a settings file mean that break no rule.
 use Prim.Native.String.{String as Name}
-use Rattle.std.specs.Prelude.{ℕ, ℤ, pos, nat_abs, Bool, false, List, [], ◌∷◌, codes, Option, Some, None, unwrap_or, bytes_eq, if◌then◌else◌}
+use Rattle.std.specs.Prelude.{ℕ, ℤ, pos, nat_abs, Bool, false, List, [], codes, Option, Some, None, unwrap_or, find, bytes_eq}
 use Rattle.std.specs.Option.{option_or}
-use Rattle.toml.specs.Data.{Data, string, integer, boolean, Members, get_member}
+use Rattle.toml.specs.Data.{Data, Members, get_member, as_integer, as_str, as_bool}
 use Rattle.gw_model.specs.declared.point.Kind.{Kind}
 use Rattle.gw_model.specs.declared.point.Kind.TheVariants as kind
 use Rattle.gw_model.specs.declared.point.PointKey.{PointKey}
@@ -30,31 +30,45 @@ default_of usual_type = None
 unfoldable pub value_or : Absence → List ℕ → Members → Option Data
 value_or absence key table = option_or (get_member key table) (default_of absence)
 
--- the same by the rules of the table
-abbrev pub value_at : List KeyRule → List ℕ → Members → Option Data
-value_at [] key table = None
-value_at (rule ∷ rules) key table =
-    if bytes_eq rule.key key then value_or rule.absence rule.key table else value_at rules key table
+-- the rule of a key
+abbrev pub rule_named : List KeyRule → List ℕ → Option KeyRule
+rule_named rules key = find (λ rule. bytes_eq rule.key key) rules
 
-abbrev pub as_number : Option Data → ℕ
-as_number (Some (integer z)) = nat_abs z
-as_number _ = 0
+-- the value at a key by the rules of the table
+abbrev pub value_by : Option KeyRule → Members → Option Data
+value_by None table = None
+value_by (Some rule) table = value_or rule.absence rule.key table
+
+abbrev pub value_at : List KeyRule → List ℕ → Members → Option Data
+value_at rules key table = value_by (rule_named rules key) table
+
+-- as what it's read
+abbrev pub integer_in : Option Data → Option ℤ
+integer_in None = None
+integer_in (Some d) = as_integer d
+
+abbrev pub text_in : Option Data → Option (List ℕ)
+text_in None = None
+text_in (Some d) = as_str d
+
+abbrev pub flag_in : Option Data → Option Bool
+flag_in None = None
+flag_in (Some d) = as_bool d
 
 abbrev pub as_signed : Option Data → ℤ
-as_signed (Some (integer z)) = z
-as_signed _ = pos 0
+as_signed value = unwrap_or (integer_in value) (pos 0)
+
+abbrev pub as_number : Option Data → ℕ
+as_number value = nat_abs (as_signed value)
 
 abbrev pub as_text : Option Data → List ℕ
-as_text (Some (string text)) = text
-as_text _ = []
+as_text value = unwrap_or (text_in value) []
 
 abbrev pub as_flag : Option Data → Bool
-as_flag (Some (boolean b)) = b
-as_flag _ = false
+as_flag value = unwrap_or (flag_in value) false
 
 abbrev pub as_word : {A : Type 0} → List (List ℕ × A) → Option Data → Option A
-as_word pairs (Some (string text)) = among pairs text
-as_word pairs _ = None
+as_word pairs value = among pairs (as_text value)
 
 abbrev pub number_in : List KeyRule → Name → Members → ℕ
 number_in rules name table = as_number (value_at rules (codes name) table)

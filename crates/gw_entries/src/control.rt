@@ -4,7 +4,7 @@ ghost use Rattle.std.specs.Prelude.{◌≤◌};
 use crate::row::Scale;
 
 /// How an outstation is asked.
-#[derive(Clone, Copy, Debug)]
+#[derive(Clone, Copy)]
 pub enum Mode {
     /// Direct operate.
     Direct,
@@ -13,7 +13,7 @@ pub enum Mode {
 }
 
 /// How a switch is operated where a command leaves it open.
-#[derive(Clone, Copy, Debug)]
+#[derive(Clone, Copy)]
 pub enum Rest {
     /// It stays as it is set.
     Latch,
@@ -22,7 +22,7 @@ pub enum Rest {
 }
 
 /// How a switch is operated.
-#[derive(Clone, Copy, Debug)]
+#[derive(Clone, Copy)]
 pub struct Pulses {
     pub rest: Rest,
     /// A short pulse, from 1 to 3600000 milliseconds.
@@ -36,7 +36,7 @@ pub struct Pulses {
 }
 
 /// What a client's command does.
-#[derive(Clone, Copy, Debug)]
+#[derive(Clone, Copy)]
 pub enum Operates {
     /// A single command (type 45) operates a switch.
     Single(Pulses),
@@ -47,7 +47,7 @@ pub enum Operates {
 }
 
 /// A control point of an outstation, and the information object address by which clients command it.
-#[derive(Clone, Copy, Debug)]
+#[derive(Clone, Copy)]
 pub struct Control {
     /// The position of the outstation.
     pub outstation: u8,

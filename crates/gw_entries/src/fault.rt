@@ -8,26 +8,33 @@ use thiserror::Error;
 #[derive(Clone, Copy, Debug, PartialEq, Eq, Error)]
 pub enum Fault {
     /// A key that is required is not there.
-    #[error("2 Missing")]
     Missing,
     /// The value is of another type.
-    #[error("3 WrongType")]
     WrongType,
     /// A number is too small or too large, a text is none of the words, or there are too many entries.
-    #[error("4 OutOfRange")]
     OutOfRange,
     /// The table has no such key.
-    #[error("5 UnknownKey")]
     UnknownKey,
     /// Another point before has the same outstation, kind and index.
-    #[error("6 DoubleSource")]
     DoubleSource,
     /// Another point or control before has the same address.
-    #[error("7 DoubleAddress")]
     DoubleAddress,
     /// What is asked doesn't fit the kind.
-    #[error("8 KindMismatch")]
     KindMismatch,
+}
+
+impl fmt::Display for Fault {
+    fn fmt<W: fmt::Write>(&self, f: &mut fmt::Formatter<W>) -> fmt::Result {
+        f.write_str(match self {
+            Fault::Missing => "2 Missing",
+            Fault::WrongType => "3 WrongType",
+            Fault::OutOfRange => "4 OutOfRange",
+            Fault::UnknownKey => "5 UnknownKey",
+            Fault::DoubleSource => "6 DoubleSource",
+            Fault::DoubleAddress => "7 DoubleAddress",
+            Fault::KindMismatch => "8 KindMismatch",
+        })
+    }
 }
 
 /// Where in the file something is wrong.
@@ -136,7 +143,7 @@ impl<T: Drop> From<AllocFailed<T>> for SettingsFault {
 }
 
 /// What is wrong with one table, and at which key.
-#[derive(Clone, Copy, Debug)]
+#[derive(Clone, Copy)]
 pub struct KeyFault {
     pub fault: Fault,
     pub key: &'static str,

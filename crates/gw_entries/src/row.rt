@@ -5,7 +5,7 @@ ghost use Rattle.gw_entries.specs.Shown.{is_shown_by, is_scaled};
 use gw_model::PointKey;
 
 /// The type by which a point is shown to clients.
-#[derive(Clone, Copy, Debug, PartialEq, Eq)]
+#[derive(Clone, Copy, PartialEq, Eq)]
 pub enum Show {
     /// Single-point information (types 1 and 30).
     Single,
@@ -20,7 +20,7 @@ pub enum Show {
 }
 
 /// What a scaled value is multiplied by.
-#[derive(Clone, Copy, Debug)]
+#[derive(Clone, Copy)]
 pub struct Scale {
     /// The numerator, from 1 to 32767.
     pub num: u16,
@@ -33,7 +33,7 @@ pub struct Scale {
 }
 
 /// A point, and the information object address and type by which clients see it.
-#[derive(Clone, Copy, Debug)]
+#[derive(Clone, Copy)]
 pub struct Row {
     pub key: PointKey,
     /// The information object address, from 1 to 16777215.

@@ -23,8 +23,9 @@ use Rattle.gw_entries.specs.Values.{source_of, number_in, row_of, control_of}
 pub same_length : {X Y Z : Type 0} (n : ℕ) (g : X → Z) (f : Y → Z) (items : List X) (ts : List Y) → n ≡ length items → map g items ≡ map f ts → n ≡ length ts
 same_length n g f items ts e same = e ∙ sym (length-map items g) ∙ ap length same ∙ length-map ts f
 
-pub same_length_of : {X Y : Type 0} (n : ℕ) (f : Y → X) (items : List X) (ts : List Y) → n ≡ length items → items ≡ map f ts → n ≡ length ts
-same_length_of n f items ts e same = e ∙ ap length same ∙ length-map ts f
+pub map_same : {X : Type 0} (xs : List X) → map (λ x. x) xs ≡ xs
+map_same [] = refl
+map_same (x ∷ xs) = ap (λ ys. x ∷ ys) (map_same xs)
 
 map-map : {X Y Z : Type 0} (f : Y → Z) (g : X → Y) (xs : List X) → map f (map g xs) ≡ map (λ x. f (g x)) xs
 map-map f g [] = refl

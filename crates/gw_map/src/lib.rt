@@ -9,7 +9,8 @@ mod settings;
 
 pub use defaults::DEFAULT_SETTINGS;
 pub use gw_entries::{
-    Control, Fault, KeyFault, KeyName, Mode, Operates, Outstation, Place, Pulses, Rest, Row, Scale,
-    Section, SettingsFault, Show, Station,
+    Absence, Content, Control, Fault, Key, KeyFault, KeyName, Mode, Operates, Outstation, Place,
+    Pulses, Rest, Row, Scale, Section, SettingsFault, Show, Station, keys_of,
 };
+pub use lists::{OUTSTATIONS, ROWS};
 pub use settings::Settings;

@@ -1,11 +1,11 @@
 //! The sections of the settings, entry by entry.
-ghost use Rattle.std.specs.Prelude.{◌≡◌, ◌≤◌, IfOk, length, map, codes, option_map, vec_len};
+ghost use Rattle.std.specs.Prelude.{◌≡◌, ◌≤◌, ◌++◌, IfOk, length, map, codes, option_map, vec_len};
 ghost use Rattle.toml.specs.Data.{get_member};
 ghost use Rattle.toml.specs.View.{table_view, items_view};
 ghost use Rattle.gw_entries.specs.Answers.{Tells};
 ghost use Rattle.gw_map.specs.Answers.{seen};
 ghost use Rattle.gw_entries.specs.Complaints.{complaint, placed, table_wrongs, no_mismatches, point_mismatches, control_mismatches};
-ghost use Rattle.gw_map.specs.Sections.{tables_of, listed, entries, each_from, list_complaints, station_complaints, outstation_complaints, point_complaints, control_complaints};
+ghost use Rattle.gw_map.specs.Sections.{tables_of, listed, entries, each_from, list_complaints, station_complaints};
 ghost use Rattle.gw_entries.specs.Faults.{refusal_of, refused, section_name};
 ghost use Rattle.gw_entries.specs.Fields.{row_fields, control_fields};
 ghost use Rattle.gw_map.specs.Meaning.{table_at};
@@ -19,9 +19,11 @@ use gw_entries::{
 use std::alloc::{AllocError, Global};
 use toml::{Table, Value};
 
-const OUTSTATIONS: usize = 32;
+/// How many outstations there may be.
+pub const OUTSTATIONS: usize = 32;
 
-const ROWS: usize = 20_000;
+/// How many points there may be, and points and controls together.
+pub const ROWS: usize = 20_000;
 
 /// What is wrong at the top with the key of a section.
 fn at_top(fault: Fault, section: Section) -> SettingsFault
@@ -92,84 +94,128 @@ pub(crate) fn station_in(alloc: Global, top: &Table) -> Result<Station, Settings
     Station::read(alloc, table)
 }
 
-/// The outstations of some tables.
-fn outstations_of(alloc: Global, tables: &[&Table]) -> Result<Vec<Outstation>, SettingsFault>
-    ensures read { Tells (λ found. found.items) result
-        (each_from 0 (λ position ms. placed of.Outstation position (table_wrongs 0 outstation_keys no_mismatches ms)) (seen tables.now))
-        (map outstation_of (seen tables.now)) }
-    ensures len { IfOk result (λ found. vec_len found ≡ length tables.now) }
-{
-    let mut outstations = Vec::with_capacity(alloc, tables.len())?;
-    for (position, table) in tables.iter().enumerate() {
-        outstations.push(Outstation::read(alloc, table, position)?)?;
-    }
-    Ok(outstations)
+/// What settings have a list of.
+pub(crate) trait Listed: Sized + Drop {
+    ghost use Rattle.std.specs.Prelude.{ℕ, List};
+    ghost use Rattle.toml.specs.Data.{Members};
+    ghost use Rattle.toml.specs.View.{table_view};
+    ghost use Rattle.gw_entries.specs.Answers.{Tells};
+    ghost use Rattle.gw_entries.specs.Complaints.{Complaint};
+
+    /// As a plain value.
+    ghost Fields: { Type 0 };
+
+    ghost fields: { Self → Fields };
+
+    /// What is wrong with the table at a position, where there are so many outstations; and what it means.
+    ghost complaints: { ℕ → ℕ → Members → List Complaint };
+
+    ghost meaning: { Members → Fields };
+
+    /// The entry of the table at a position, where there are so many outstations.
+    fn entry(
+        alloc: Global,
+        table: &Table,
+        position: usize,
+        outstations: u8,
+    ) -> Result<Self, SettingsFault>
+        ensures { Tells fields result (complaints outstations position (table_view table.now)) (meaning (table_view table.now)) };
 }
 
-/// The rows of some tables, where there are so many outstations.
-fn rows_of(alloc: Global, tables: &[&Table], outstations: u8) -> Result<Vec<Row>, SettingsFault>
-    ensures { Tells (λ found. map row_fields found.items) result
-        (each_from 0 (λ position ms. placed of.Point position (table_wrongs outstations point_keys point_mismatches ms)) (seen tables.now))
-        (map row_of (seen tables.now)) }
-{
-    let mut rows = Vec::with_capacity(alloc, tables.len())?;
-    for (position, table) in tables.iter().enumerate() {
-        rows.push(Row::read(alloc, table, position, outstations)?)?;
+impl Listed for Outstation {
+    ghost use Rattle.gw_entries.specs.Setup.{OutstationSetup};
+
+    ghost Fields = { OutstationSetup };
+
+    ghost fields = { λ outstation. outstation };
+
+    ghost complaints = { λ _ position ms. placed of.Outstation position (table_wrongs 0 outstation_keys no_mismatches ms) };
+
+    ghost meaning = { outstation_of };
+
+    fn entry(
+        alloc: Global,
+        table: &Table,
+        position: usize,
+        _outstations: u8,
+    ) -> Result<Outstation, SettingsFault> {
+        Outstation::read(alloc, table, position)
     }
-    Ok(rows)
 }
 
-/// The controls of some tables, where there are so many outstations.
-fn controls_of(
+impl Listed for Row {
+    ghost use Rattle.gw_entries.specs.Setup.{RowFields};
+
+    ghost Fields = { RowFields };
+
+    ghost fields = { row_fields };
+
+    ghost complaints = { λ outstations position ms. placed of.Point position (table_wrongs outstations point_keys point_mismatches ms) };
+
+    ghost meaning = { row_of };
+
+    fn entry(
+        alloc: Global,
+        table: &Table,
+        position: usize,
+        outstations: u8,
+    ) -> Result<Row, SettingsFault> {
+        Row::read(alloc, table, position, outstations)
+    }
+}
+
+impl Listed for Control {
+    ghost use Rattle.gw_entries.specs.Setup.{ControlFields};
+
+    ghost Fields = { ControlFields };
+
+    ghost fields = { control_fields };
+
+    ghost complaints = { λ outstations position ms. placed of.Control position (table_wrongs outstations control_keys control_mismatches ms) };
+
+    ghost meaning = { control_of };
+
+    fn entry(
+        alloc: Global,
+        table: &Table,
+        position: usize,
+        outstations: u8,
+    ) -> Result<Control, SettingsFault> {
+        Control::read(alloc, table, position, outstations)
+    }
+}
+
+/// The entries of some tables, where there are so many outstations.
+fn entries_of<T: Listed>(
     alloc: Global,
     tables: &[&Table],
     outstations: u8,
-) -> Result<Vec<Control>, SettingsFault>
-    ensures { Tells (λ found. map control_fields found.items) result
-        (each_from 0 (λ position ms. placed of.Control position (table_wrongs outstations control_keys control_mismatches ms)) (seen tables.now))
-        (map control_of (seen tables.now)) }
+) -> Result<Vec<T>, SettingsFault>
+    ensures read { Tells (λ found. map T.fields found.items) result
+        (each_from 0 (T.complaints outstations) (seen tables.now)) (map T.meaning (seen tables.now)) }
+    ensures len { IfOk result (λ found. vec_len found ≡ length tables.now) }
 {
-    let mut controls = Vec::with_capacity(alloc, tables.len())?;
+    let mut entries = Vec::with_capacity(alloc, tables.len())?;
     for (position, table) in tables.iter().enumerate() {
-        controls.push(Control::read(alloc, table, position, outstations)?)?;
+        entries.push(T::entry(alloc, table, position, outstations)?)?;
     }
-    Ok(controls)
+    Ok(entries)
 }
 
-/// The outstations, in the order of the file.
-pub(crate) fn outstations_in(alloc: Global, top: &Table) -> Result<Vec<Outstation>, SettingsFault>
-    ensures read { Tells (λ found. found.items) result (outstation_complaints (table_view top.now))
-        (map outstation_of (entries (codes "outstation") (table_view top.now))) }
-    ensures few { IfOk result (λ found. vec_len found ≤ 32) }
-{
-    let tables = tables_in(alloc, top, Section::Outstation, OUTSTATIONS)?;
-    outstations_of(alloc, &tables)
-}
-
-/// The rows of the point map, in the order of the file, where there are so many outstations.
-pub(crate) fn rows_in(
+/// The entries of a section, which has room for so many, where there are so many outstations.
+pub(crate) fn entries_in<T: Listed>(
     alloc: Global,
     top: &Table,
+    section: Section,
+    room: usize,
     outstations: u8,
-) -> Result<Vec<Row>, SettingsFault>
-    ensures { Tells (λ found. map row_fields found.items) result (point_complaints outstations (table_view top.now))
-        (map row_of (entries (codes "point") (table_view top.now))) }
+) -> Result<Vec<T>, SettingsFault>
+    ensures read { Tells (λ found. map T.fields found.items) result
+        (list_complaints section (section_name section) room (listed (get_member (section_name section) (table_view top.now)))
+        ++ each_from 0 (T.complaints outstations) (entries (section_name section) (table_view top.now)))
+        (map T.meaning (entries (section_name section) (table_view top.now))) }
+    ensures few { IfOk result (λ found. vec_len found ≤ room) }
 {
-    let tables = tables_in(alloc, top, Section::Point, ROWS)?;
-    rows_of(alloc, &tables, outstations)
-}
-
-/// The controls, in the order of the file, where there are so many outstations and points.
-pub(crate) fn controls_in(
-    alloc: Global,
-    top: &Table,
-    outstations: u8,
-    points: usize,
-) -> Result<Vec<Control>, SettingsFault>
-    ensures { Tells (λ found. map control_fields found.items) result
-        (control_complaints outstations points (table_view top.now))
-        (map control_of (entries (codes "control") (table_view top.now))) }
-{
-    let tables = tables_in(alloc, top, Section::Control, ROWS.saturating_sub(points))?;
-    controls_of(alloc, &tables, outstations)
+    let tables = tables_in(alloc, top, section, room)?;
+    entries_of(alloc, &tables, outstations)
 }

@@ -11,18 +11,19 @@ ghost use Rattle.gw_entries.specs.Ranges.{IsStation};
 ghost use Rattle.gw_map.specs.Settings.{setup_fields, row_from, row_at_from, control_at_from, HasSingleSources, HasSingleAddresses};
 
 use crate::indexes::{address_index, point_map};
-use crate::lists::{controls_in, outstations_in, rows_in, station_in};
+use crate::lists::{OUTSTATIONS, ROWS, entries_in, station_in};
 use gw_entries::{Control, Outstation, Row, Section, SettingsFault, Station, check_keys};
 use gw_model::PointKey;
 use gw_time::Zone;
 use indexmap::{IndexMap, IndexSet};
 use std::alloc::Global;
+use std::fmt;
 use std::marker::Model;
 use toml::Table;
 
 /// The station, its outstations, the point map and the controls. No two points have one source, and no two points
 /// or controls one address.
-#[derive(Debug, Drop)]
+#[derive(Drop)]
 pub struct Settings {
     station: Station,
     outstations: Vec<Outstation>,
@@ -47,6 +48,12 @@ impl Model for Settings {
     ghost invariant = { λ s. IsKept s.points.entries s.controls.items s.addresses.keys };
 }
 
+impl fmt::Debug for Settings {
+    fn fmt<W: fmt::Write>(&self, f: &mut fmt::Formatter<W>) -> fmt::Result {
+        f.write_str("Settings { .. }")
+    }
+}
+
 impl Settings {
     /// The settings of a TOML text.
     pub fn read(alloc: Global, text: &str) -> Result<Settings, SettingsFault>
@@ -64,10 +71,17 @@ impl Settings {
     {
         check_keys(alloc, top, Section::Top, 0)?;
         let station = station_in(alloc, top)?;
-        let outstations = outstations_in(alloc, top)?;
+        let outstations: Vec<Outstation> = entries_in(
+            alloc,
+            top,
+            Section::Outstation,
+            OUTSTATIONS,
+            0,
+        )?;
         let count = outstations.len() as u8;
-        let rows = rows_in(alloc, top, count)?;
-        let controls = controls_in(alloc, top, count, rows.len())?;
+        let rows: Vec<Row> = entries_in(alloc, top, Section::Point, ROWS, count)?;
+        let room = ROWS.saturating_sub(rows.len());
+        let controls: Vec<Control> = entries_in(alloc, top, Section::Control, room, count)?;
         let points = point_map(alloc, &rows)?;
         let addresses = address_index(alloc, &rows, &controls)?;
         Ok(Settings {

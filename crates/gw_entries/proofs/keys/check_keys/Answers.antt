@@ -1,5 +1,5 @@
 use Rattle.std.proofs.Common.{◌≡◌, string_bytes, Some, sym, ap, ◌∙◌}
-use Rattle.gw_entries.specs.Known.{known_keys}
+use Rattle.gw_entries.specs.Tables.{known_keys}
 use Rattle.gw_entries.specs.Complaints.{complaint}
 use Rattle.gw_entries.specs.declared.fault.Fault.TheVariants.{UnknownKey}
 use Rattle.gw_entries.proofs.Unknown.{no_unknown, unknown_told}

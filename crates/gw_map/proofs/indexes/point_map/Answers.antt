@@ -1,14 +1,17 @@
-use Rattle.std.proofs.Common.{◌≡◌, [], map, take, true, false, is_some, sym, ap, ◌∙◌, arith}
+use Rattle.std.proofs.Common.{◌≡◌, [], map, take, Option, None, Some, true, false, is_some, refl, sym, ap, ◌∙◌, arith}
 use Rattle.std.specs.List.{list_any}
 use Rattle.indexmap.proofs.CallerLemmas.{insert_entry-new}
 use Rattle.gw_model.specs.contracts.point.PointKeyPartialEq.TheImpl.{eq-value}
 use Rattle.gw_model.specs.Keys.{same_key}
-use Rattle.gw_entries.proofs.Entries.{is_some-false}
 use Rattle.gw_entries.proofs.First.{told}
 use Rattle.gw_map.proofs.Loops.{map_take-more, take_end}
 use Rattle.gw_map.proofs.Repeats.{found_before, rep-more, rep-found, rep-end}
 use Rattle.gw_entries.proofs.Told.{tells_first}
 use Rattle.gw_map.proofs.indexes.point_map.Goals as goal
+
+is_some-false : {A : Type 0} (o : Option A) → is_some o ≡ false → o ≡ None
+is_some-false None e = refl
+is_some-false (Some x) e = absurd cc
 
 pub returns-then-is_some : goal.returns-then-is_some
 returns-then-is_some c =
