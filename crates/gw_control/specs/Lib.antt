@@ -1,0 +1,4 @@
+pub mod Intents
+pub mod Selections
+pub mod Orders
+pub mod Controls

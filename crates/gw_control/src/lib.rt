@@ -1,0 +1,13 @@
+//! The core's part for controls: clients' selections, and the orders on their way to outstations.
+#![tactic(auto)]
+
+mod accepted;
+mod answer;
+mod asked;
+mod controls;
+mod intent;
+mod outgoing;
+mod selection;
+
+pub use answer::{Answer, Outcome};
+pub use controls::Controls;
