@@ -82,8 +82,10 @@ pushed count x ws u is room k = record { few = fits; rise = rises u k.rise }
   where
     few : length ws < 16
     few = grind (arith, nat_tests, room)
+
     fits : length (ws ++ x ∷ []) ≤ 16
     fits = omega (arith, length-append ws (x ∷ []), few)
+
     rises : (u : Option UnderWay) → Rise 0 count (numbers_of (record { waiting = ws; under_way = u }))
         → Rise 0 (count + 1) (numbers_of (record { waiting = ws ++ x ∷ []; under_way = u }))
     rises None r = more_rise 0 count x ws is r
@@ -187,6 +189,7 @@ outcome_more ended n os d lt = rw (add-one) (more n os lt)
     last : (m : Option Outcome) → m ≡ first_of (m ∷ [])
     last None = refl
     last (Some x) = refl
+
     more : (n : ℕ) (os : List Outgoing) → n < length os
         → option_or (outcome_among ended (take n os)) (outcome_at ended (get_or os n d)) ≡ outcome_among ended (take (suc n) os)
     more n [] lt = absurd (omega arith)

@@ -2,3 +2,4 @@ pub mod Intents
 pub mod Selections
 pub mod Orders
 pub mod Controls
+pub mod Example

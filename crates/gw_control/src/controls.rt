@@ -43,8 +43,8 @@ use std::marker::Model;
 /// How many clients there can be.
 const CLIENTS: usize = 8;
 
-/// The clients' selections of controls, and their orders on the way to outstations. What is asked of it takes no memory.
-/// Moments are in milliseconds; an interval that would begin after it ended counts as 0.
+/// The clients' selections of controls, and their orders on the way to outstations. But for `new` and `copy` it takes no
+/// memory. Moments are in milliseconds; an interval that would begin after it ended counts as 0.
 #[derive(Debug, Drop)]
 pub struct Controls {
     /// For each client the session that stands, where a control was selected in it.
@@ -155,7 +155,8 @@ impl Controls {
     ) -> Answer
         requires { CanAnswer settings.now (asked client session command.now up moment) self.old }
         ensures answer { result ≡ answer_of settings.now (asked client session command.now up moment) self.old }
-        ensures after { self.new ≡ controls_after_command settings.now (asked client session command.now up moment) self.old }
+        ensures after { self.new
+            ≡ controls_after_command settings.now (asked client session command.now up moment) self.old }
     {
         let Some((position, control)) = control_for(command, settings) else {
             return Answer::Unknown;
@@ -324,7 +325,11 @@ fn copied(alloc: Global, outgoing: &[Outgoing]) -> Result<Vec<Outgoing>, Memory>
 fn confirmed_if(told: bool) -> Answer
     ensures { result ≡ confirmed_if told }
 {
-    if told { Answer::Confirm } else { Answer::Negative }
+    if told {
+        Answer::Confirm
+    } else {
+        Answer::Negative
+    }
 }
 
 /// Whether a select is confirmed.

@@ -5,6 +5,7 @@ mod accepted;
 mod answer;
 mod asked;
 mod controls;
+pub mod examples;
 mod intent;
 mod outgoing;
 mod selection;
