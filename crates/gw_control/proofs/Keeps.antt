@@ -20,7 +20,7 @@ use Rattle.gw_control.proofs.Places.{all_alike, all_changed, all_mapped}
 
 -- ---- numbers that rise
 
-rise_within : (low high : ℕ) (ns : List ℕ) → Rise low high ns → low ≤ high
+pub rise_within : (low high : ℕ) (ns : List ℕ) → Rise low high ns → low ≤ high
 rise_within low high [] r = r
 rise_within low high (n ∷ ns) r = let below : n ≤ high = rise_within n high ns r.1 in let above : low < n = r.0 in omega arith
 

@@ -1,3 +1,6 @@
 pub mod Bits
 pub mod Places
 pub mod Keeps
+pub mod Sounds
+pub mod Once
+pub mod Stays

@@ -3,3 +3,4 @@ pub mod Selections
 pub mod Orders
 pub mod Controls
 pub mod Example
+pub mod Moves

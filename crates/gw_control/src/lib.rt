@@ -7,6 +7,7 @@ mod asked;
 mod controls;
 pub mod examples;
 mod intent;
+pub mod laws;
 mod outgoing;
 mod selection;
 

@@ -1,0 +1,26 @@
+//! Laws of selections and orders, whatever comes.
+ghost use Rattle.std.specs.Prelude.{◌≡◌, ◌≤◌, ℕ, List, Some};
+ghost use Rattle.gw_map.specs.Settings.{Setup};
+ghost use Rattle.gw_control.specs.declared.selection.Selection.{Selection};
+ghost use Rattle.gw_control.specs.Controls.{no_controls, standing_at, Controls};
+ghost use Rattle.gw_control.specs.Moves.{after_move, outcomes_told, IsSoundControls, Move, Spares};
+
+/// A selection ends by time, by its client's commands for the control, or with its session, and by nothing else: it
+/// stands at a moment after whatever else came before.
+pub fn selections_stand()
+    ensures { (setup : Setup) (moment position : ℕ) (s : Selection) (move : Move) (v : Controls)
+        → standing_at setup moment position v ≡ Some s → Spares setup moment position s move
+        → standing_at setup moment position (after_move setup move v) ≡ Some s }
+{}
+
+/// An order has at most one outcome: each number is told of at most once.
+pub fn outcomes_come_once()
+    ensures { (setup : Setup) (n : ℕ) (moves : List Move) → outcomes_told setup n moves (no_controls setup) ≤ 1 }
+{}
+
+/// There is always a place for each client, control and outstation, and the orders stay in order.
+pub fn controls_stay_sound()
+    ensures first { (setup : Setup) → IsSoundControls setup (no_controls setup) }
+    ensures kept { (setup : Setup) (move : Move) (v : Controls)
+        → IsSoundControls setup v → IsSoundControls setup (after_move setup move v) }
+{}
