@@ -4,3 +4,4 @@ pub mod Keeps
 pub mod Sounds
 pub mod Once
 pub mod Stays
+pub mod Whole

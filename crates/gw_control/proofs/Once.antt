@@ -83,13 +83,13 @@ and_none false = refl
 
 held_ending : (n : ℕ) (ended : Ended) (ws : List Accepted) (u : Option UnderWay)
     → one_if ((ended.number == n) && is_some (outcome_by ended u)) + held_in n (outgoing_after_ended ended (record { waiting = ws; under_way = u }))
-        ≤ held_in n (record { waiting = ws; under_way = u })
+    ≤ held_in n (record { waiting = ws; under_way = u })
 held_ending n ended ws None = omega (arith, and_none (ended.number == n))
 held_ending n ended ws (Some u) = by_name (is_named ended u) refl
   where
     by_name : (named : Bool) → is_named ended u ≡ named
         → one_if ((ended.number == n) && is_some (when (named && not u.left) (outcome_of ended.done u.accepted)))
-            + held_in n (record { waiting = ws; under_way = cond named None (Some u) })
+        + held_in n (record { waiting = ws; under_way = cond named None (Some u) })
         ≤ held_in n (record { waiting = ws; under_way = Some u })
     by_name true e =
         let same : u.accepted.order.number ≡ ended.number = eqb-true _ _ e in
@@ -99,7 +99,7 @@ held_ending n ended ws (Some u) = by_name (is_named ended u) refl
 
 held_losing : (n : ℕ) (ws : List Accepted) (u : Option UnderWay)
     → one_if (has_number n (slice_get ws 0)) + held_in n (outgoing_after_lost (record { waiting = ws; under_way = u }))
-        ≤ held_in n (record { waiting = ws; under_way = u })
+    ≤ held_in n (record { waiting = ws; under_way = u })
 held_losing n [] u = omega arith
 held_losing n (x ∷ xs) None = omega arith
 held_losing n (x ∷ xs) (Some u) = omega arith

@@ -87,6 +87,7 @@ session_spares client session sessions s apart valid = by_client (client == s.cl
     opened : (got : Option (Option ℕ)) → session ≡ s.session → is_session s.session got ≡ true → is_session s.session (option_map (λ _. Some session) got) ≡ true
     opened None same e = e
     opened (Some current) same e = ap (λ (k : ℕ). k == s.session) same ∙ grind arith
+
     by_client : (b : Bool) → (client == s.client) ≡ b → ((s.client == client) ≡ false) ⊎ ((s.session == session) ≡ true)
         → is_open (change client (λ _. Some session) sessions) s ≡ true
     by_client false e apart = ap (is_session s.session) (change-there client s.client (λ _. Some session) sessions (eqb-false client s.client e)) ∙ valid
@@ -127,9 +128,9 @@ selecting_elsewhere setup a control q p moment v s le (inl differs) here valid f
     by_place true e =
         let same : q ≡ p = eqb-true q p e in
         let standing : standing_at setup a.moment q v ≡ Some s =
-          ap (λ (k : ℕ). standing_at setup a.moment k v) same
-          ∙ stands_still setup.station.select_ms a.moment v.sessions (slice_get v.selections p) s here
-            (stood_before setup.station.select_ms a.moment moment v.sessions s le valid) in
+        ap (λ (k : ℕ). standing_at setup a.moment k v) same
+        ∙ stands_still setup.station.select_ms a.moment v.sessions (slice_get v.selections p) s here
+        (stood_before setup.station.select_ms a.moment moment v.sessions s le valid) in
         let mine : (s.client == a.client) ≡ true = selectable_alone a control s (sym (ap (is_selectable a control) standing) ∙ free) in
         absurd (let none : ⊥ = cc in none)
 
@@ -147,28 +148,34 @@ command_spares setup a moment p (Some found) v s le apart e =
   where
     was : (slice_get v.selections p ≡ Some (Some s)) × (stands setup.station.select_ms moment v.sessions s ≡ true)
     was = stood setup.station.select_ms moment v.sessions (slice_get v.selections p) s e
+
     cases : ((s.client == a.client) ≡ false) ⊎ (((s.session == a.session) ≡ true) × ((found.0 == p) ≡ false))
     cases = apart_cases (s.client == a.client) (s.session == a.session) (found.0 == p) apart
+
     client_or_place : ((s.client == a.client) ≡ false) ⊎ (((s.session == a.session) ≡ true) × ((found.0 == p) ≡ false))
         → ((s.client == a.client) ≡ false) ⊎ ((found.0 == p) ≡ false)
     client_or_place (inl differs) = inl differs
     client_or_place (inr others) = inr others.1
+
     client_or_session : ((s.client == a.client) ≡ false) ⊎ (((s.session == a.session) ≡ true) × ((found.0 == p) ≡ false))
         → ((s.client == a.client) ≡ false) ⊎ ((s.session == a.session) ≡ true)
     client_or_session (inl differs) = inl differs
     client_or_session (inr others) = inr others.0
+
     unselecting : standing_at setup moment p (controls_unselecting a found.0 v) ≡ Some s
     unselecting = stands_still setup.station.select_ms moment v.sessions _ s
         (unselecting_spares found.0 p a.client v.selections s (client_or_place cases) was.0) was.1
+
     selecting : is_selectable a found.1 (standing_at setup a.moment found.0 v) ≡ true
         → standing_at setup moment p (controls_selecting a found.0 v) ≡ Some s
     selecting free =
         let elsewhere : (found.0 == p) ≡ false =
-          selecting_elsewhere setup a found.1 found.0 p moment v s le (client_or_place cases) was.0 was.1 free in
+        selecting_elsewhere setup a found.1 found.0 p moment v s le (client_or_place cases) was.0 was.1 free in
         let parts = both (is_open v.sessions s) (is_fresh setup.station.select_ms moment s) was.1 in
         stands_still setup.station.select_ms moment (change a.client (λ _. Some a.session) v.sessions) _ s
         (change-there found.0 p (λ _. Some (selection_by a)) v.selections (eqb-false found.0 p elsewhere) ∙ was.0)
         (ap (λ (b : Bool). b && is_fresh setup.station.select_ms moment s) (session_spares a.client a.session v.sessions s (client_or_session cases) parts.0) ∙ parts.1)
+
     by_kind : (deactivation select selectable : Bool) → is_selectable a found.1 (standing_at setup a.moment found.0 v) ≡ selectable
         → standing_at setup moment p
         (cond deactivation (controls_unselecting a found.0 v)
@@ -191,10 +198,11 @@ selection_stands setup moment position s (Loses outstation) v e spares = e
 selection_stands setup moment position s (Leaves client) v e spares =
     stands_still setup.station.select_ms moment (change client (λ _. None) v.sessions) _ s was.0
     (ap (λ (b : Bool). b && is_fresh setup.station.select_ms moment s)
-      (ap (is_session s.session) (change-there client s.client (λ _. None) v.sessions (λ (same : client ≡ s.client). eqb-false s.client client spares (sym same))) ∙ parts.0)
+    (ap (is_session s.session) (change-there client s.client (λ _. None) v.sessions (λ (same : client ≡ s.client). eqb-false s.client client spares (sym same))) ∙ parts.0)
     ∙ parts.1)
   where
     was : (slice_get v.selections position ≡ Some (Some s)) × (stands setup.station.select_ms moment v.sessions s ≡ true)
     was = stood setup.station.select_ms moment v.sessions (slice_get v.selections position) s e
+
     parts : (is_open v.sessions s ≡ true) × (is_fresh setup.station.select_ms moment s ≡ true)
     parts = both (is_open v.sessions s) (is_fresh setup.station.select_ms moment s) was.1

@@ -1,10 +1,13 @@
 -- What may happen to selections and orders, one thing after the other, and what the laws say of it.
 use Rattle.std.specs.Prelude.{◌≡◌, ℕ, ◌+◌, ◌≤◌, Bool, true, false, not, ◌&&◌, ◌||◌, ◌==◌, is_some, List, [], ◌∷◌, length, slice_get, Option, Some, None}
+use Rattle.std.specs.List.{AllByRecursion}
 use Rattle.gw_model.specs.declared.control.Ended.{Ended}
 use Rattle.gw_entries.specs.declared.control.Control.{Control}
 use Rattle.gw_map.specs.Settings.{Setup}
+use Rattle.iec_command.specs.Commands.{IsWhole}
 use Rattle.gw_control.specs.declared.asked.Asked.{Asked}
 use Rattle.gw_control.specs.declared.accepted.Accepted.{Accepted}
+use Rattle.gw_control.specs.declared.accepted.UnderWay.{UnderWay}
 use Rattle.gw_control.specs.declared.selection.Selection.{Selection}
 use Rattle.gw_control.specs.Intents.{control_for}
 use Rattle.gw_control.specs.Orders.{Outgoing}
@@ -84,3 +87,23 @@ pub record IsSoundControls (setup : Setup) (v : Controls) : Type 0 where
   pub selections : length v.selections ≡ length setup.controls
   pub outgoing : length v.outgoing ≡ length setup.outstations
   pub orders : AreInOrder v.ordered v.outgoing
+
+-- the command of an order has the bits of its places, of an order under way too
+abbrev pub IsWholeUnderWay : Option UnderWay → Type 0
+IsWholeUnderWay None = Unit {0}
+IsWholeUnderWay (Some u) = IsWhole u.accepted.command
+
+pub record IsWholeOutgoing (o : Outgoing) : Type 0 where
+  pub waiting : AllByRecursion (λ x. IsWhole x.command) o.waiting
+  pub under_way : IsWholeUnderWay o.under_way
+
+abbrev pub HasWholeCommands : Controls → Type 0
+HasWholeCommands v = AllByRecursion IsWholeOutgoing v.outgoing
+
+-- a command that comes has
+abbrev pub IsWholeMove : Move → Type 0
+IsWholeMove (Comes a) = IsWhole a.command
+IsWholeMove (Takes outstation) = Unit {0}
+IsWholeMove (Ends ended) = Unit {0}
+IsWholeMove (Loses outstation) = Unit {0}
+IsWholeMove (Leaves client) = Unit {0}

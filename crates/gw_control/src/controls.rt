@@ -1,16 +1,18 @@
 //! Selections and orders of all clients.
-ghost use Rattle.std.specs.Prelude.{◌≡◌, ◌<◌, ◌+◌, ◌^◌, false, map, replicate, slice_get, IfOk};
+ghost use Rattle.std.specs.Prelude.{◌≡◌, ◌<◌, ◌+◌, ◌^◌, true, false, map, replicate, slice_get, IfOk};
 ghost use Rattle.gw_model.specs.Places.{change};
 ghost use Rattle.gw_control.specs.Orders.{nothing_outgoing, outgoing_after_end, outgoing_after_ended, outgoing_after_lost, outgoing_after_taking, outgoing_with};
 ghost use Rattle.gw_control.specs.Selections.{asked, unselected_by};
 ghost use Rattle.gw_control.specs.Controls.{
   act_accepted,
   accepted_by,
+  answer_for,
   answer_of,
   confirmed_if,
   controls_after_command,
   controls_after_end,
   controls_after_ended,
+  controls_after_for,
   controls_after_lost,
   controls_after_taking,
   controls_ordering,
@@ -169,21 +171,37 @@ impl Controls {
             moment,
         };
         let standing = self.standing(position, settings, moment);
-        if command.cause == DEACTIVATION {
-            self.unselect(&asked, position);
-            return confirmed_if(is_own(&asked, &standing));
+        self.answer(&asked, position, &control, &standing)
+    }
+
+    /// Takes a command for a control, of which this selection stands.
+    fn answer(
+        &mut self,
+        asked: &Asked,
+        position: usize,
+        control: &Control,
+        standing: &Option<Selection>,
+    ) -> Answer
+        requires { is_order (answer_for asked.now control.now standing.now self.old) ≡ true
+            → self.old.ordered + 1 < 2 ^ 64 }
+        ensures answer { result ≡ answer_for asked.now control.now standing.now self.old }
+        ensures after { self.new ≡ controls_after_for asked.now position control.now standing.now self.old }
+    {
+        if asked.command.cause == DEACTIVATION {
+            self.unselect(asked, position);
+            return confirmed_if(is_own(asked, standing));
         }
-        if is_select(&command.action) {
-            let selectable = is_selectable(&asked, &control, &standing);
+        if is_select(&asked.command.action) {
+            let selectable = is_selectable(asked, control, standing);
             if selectable {
-                self.select(&asked, position);
+                self.select(asked, position);
             }
             return confirmed_if(selectable);
         }
-        let act = self.act_accepted(&asked, &control, &standing);
-        self.unselect(&asked, position);
+        let act = self.act_accepted(asked, control, standing);
+        self.unselect(asked, position);
         match act {
-            Some(act) => Answer::Ordered(self.order(&asked, &control, act)),
+            Some(act) => Answer::Ordered(self.order(asked, control, act)),
             None => Answer::Negative,
         }
     }

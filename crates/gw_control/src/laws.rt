@@ -1,9 +1,11 @@
 //! Laws of selections and orders, whatever comes.
-ghost use Rattle.std.specs.Prelude.{◌≡◌, ◌≤◌, ℕ, List, Some};
+ghost use Rattle.std.specs.Prelude.{◌≡◌, ◌≤◌, ℕ, List, Some, slice_get, IfSome};
+ghost use Rattle.gw_model.specs.declared.control.Ended.{Ended};
 ghost use Rattle.gw_map.specs.Settings.{Setup};
+ghost use Rattle.iec_command.specs.Commands.{IsWhole};
 ghost use Rattle.gw_control.specs.declared.selection.Selection.{Selection};
-ghost use Rattle.gw_control.specs.Controls.{no_controls, standing_at, Controls};
-ghost use Rattle.gw_control.specs.Moves.{after_move, outcomes_told, IsSoundControls, Move, Spares};
+ghost use Rattle.gw_control.specs.Controls.{no_controls, outcome_among, outcome_lost_at, standing_at, Controls};
+ghost use Rattle.gw_control.specs.Moves.{after_move, outcomes_told, HasWholeCommands, IsSoundControls, IsWholeMove, Move, Spares};
 
 /// A selection ends by time, by its client's commands for the control, or with its session, and by nothing else: it
 /// stands at a moment after whatever else came before.
@@ -23,4 +25,15 @@ pub fn controls_stay_sound()
     ensures first { (setup : Setup) → IsSoundControls setup (no_controls setup) }
     ensures kept { (setup : Setup) (move : Move) (v : Controls)
         → IsSoundControls setup v → IsSoundControls setup (after_move setup move v) }
+{}
+
+/// The commands of orders, and so of outcomes, have the bits of their places, where all that came had.
+pub fn commands_stay_whole()
+    ensures first { (setup : Setup) → HasWholeCommands (no_controls setup) }
+    ensures kept { (setup : Setup) (move : Move) (v : Controls)
+        → IsWholeMove move → HasWholeCommands v → HasWholeCommands (after_move setup move v) }
+    ensures ended { (ended : Ended) (v : Controls)
+        → HasWholeCommands v → IfSome (outcome_among ended v.outgoing) (λ outcome. IsWhole outcome.command) }
+    ensures lost { (outstation : ℕ) (v : Controls)
+        → HasWholeCommands v → IfSome (outcome_lost_at (slice_get v.outgoing outstation)) (λ outcome. IsWhole outcome.command) }
 {}
