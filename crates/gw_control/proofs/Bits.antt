@@ -1,6 +1,5 @@
 -- Numbers of 16 bits.
-use Rattle.std.specs.Prelude.{int_le}
-use Rattle.std.proofs.Common.{◌≡◌, ℤ, pos, negsuc, ◌≤ℤ◌, ◌<ℤ◌, ◌&&◌, ◌⊎◌, true, false, inl, inr, arith}
+use Rattle.std.proofs.Common.{◌≡◌, ℤ, pos, negsuc, ◌≤ℤ◌, ◌<ℤ◌, ◌⊎◌, true, false, inl, inr, arith}
 use Rattle.std.proofs.lemmas.Int.{ints}
 use Rattle.gw_control.specs.Intents.{has_16_bits}
 

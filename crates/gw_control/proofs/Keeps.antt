@@ -1,6 +1,6 @@
 -- What becomes of orders keeps them in order: at most 16 wait for an outstation, and their numbers rise.
 use Rattle.std.specs.Prelude.{replicate, slice_get}
-use Rattle.std.specs.List.{AllByRecursion, filter}
+use Rattle.std.specs.List.{filter}
 use Rattle.std.specs.Option.{option_or}
 use Rattle.std.proofs.Common.{◌≡◌, ℕ, zero, suc, ◌+◌, ◌<◌, ◌≤◌, Bool, true, false, cond, List, [], ◌∷◌, ◌++◌, map, length, take, get_or, Option, Some, None, refl, arith, add-one, length-append}
 use Rattle.std.proofs.lemmas.Bool.Decides.{nat_tests}
@@ -15,7 +15,7 @@ use Rattle.gw_control.specs.declared.accepted.UnderWay.{UnderWay}
 use Rattle.gw_control.specs.declared.answer.Outcome.{Outcome}
 use Rattle.gw_control.specs.declared.selection.Selection.{Selection}
 use Rattle.gw_control.specs.Orders.{Outgoing, is_full, is_named, is_of_others, nothing_outgoing, numbers_of, outcome_at, outgoing_after_end, outgoing_after_ended, outgoing_after_lost, outgoing_after_taking, outgoing_with, IsInOrder, Rise}
-use Rattle.gw_control.specs.Controls.{Controls, Refusal, NotPermitted, OutstationDown, SelectedByAnother, NotSelected, NoPlace, act_accepted, act_by, act_unless, confirmed_if, is_full_at, is_order, outcome_among, AreInOrder}
+use Rattle.gw_control.specs.Controls.{Controls, NotPermitted, OutstationDown, SelectedByAnother, NotSelected, NoPlace, act_accepted, act_by, act_unless, confirmed_if, is_full_at, is_order, outcome_among, AreInOrder}
 use Rattle.gw_control.proofs.Places.{all_alike, all_changed, all_mapped}
 
 -- ---- numbers that rise

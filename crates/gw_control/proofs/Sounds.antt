@@ -10,7 +10,7 @@ use Rattle.gw_control.specs.declared.selection.Selection.{Selection}
 use Rattle.gw_control.specs.Intents.{control_for}
 use Rattle.gw_control.specs.Selections.{is_select, selection_by, unselected_by}
 use Rattle.gw_control.specs.Orders.{nothing_outgoing, outgoing_after_end, outgoing_after_ended, outgoing_after_lost, outgoing_after_taking, outgoing_with}
-use Rattle.gw_control.specs.Controls.{Controls, accepted_by, act_accepted, controls_after_at, controls_after_for, controls_ordering, controls_selecting, controls_unselecting, is_deactivation, is_selectable, no_controls, standing_at}
+use Rattle.gw_control.specs.Controls.{Controls, accepted_by, act_accepted, controls_after_at, controls_ordering, controls_selecting, controls_unselecting, is_deactivation, is_selectable, no_controls, standing_at}
 use Rattle.gw_control.specs.Moves.{Move, Comes, Takes, Ends, Loses, Leaves, after_move, IsSoundControls}
 use Rattle.gw_control.proofs.Keeps.{accepted_finds_place, end_keeps, ended_keeps, lost_keeps, nothing_keeps, ordering_keeps, taking_keeps}
 

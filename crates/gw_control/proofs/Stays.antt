@@ -1,6 +1,6 @@
 -- What leaves a selection alone.
 use Rattle.std.specs.Prelude.{is_none, slice_get}
-use Rattle.std.proofs.Common.{◌≡◌, ℕ, zero, suc, ◌-◌, ◌<◌, ◌≤◌, ◌==◌, ◌⊎◌, inl, inr, Bool, true, false, cond, not, ◌&&◌, ◌||◌, nat_lt, List, [], ◌∷◌, Option, Some, None, option_map, refl, sym, ap, subst, ◌∙◌, arith}
+use Rattle.std.proofs.Common.{◌≡◌, ℕ, zero, suc, ◌-◌, ◌<◌, ◌≤◌, ◌==◌, ◌⊎◌, inl, inr, Bool, true, false, cond, not, ◌&&◌, ◌||◌, List, [], ◌∷◌, Option, Some, None, option_map, refl, sym, ap, subst, ◌∙◌, arith}
 use Rattle.std.proofs.lemmas.Bool.{eqb-true, eqb-false, ltb-true, lt-ltb}
 use Rattle.gw_model.specs.First.{first_of, when}
 use Rattle.gw_model.specs.Places.{change}
@@ -10,9 +10,9 @@ use Rattle.gw_map.specs.Settings.{Setup}
 use Rattle.gw_control.specs.declared.asked.Asked.{Asked}
 use Rattle.gw_control.specs.declared.selection.Selection.{Selection}
 use Rattle.gw_control.specs.Intents.{control_for}
-use Rattle.gw_control.specs.Selections.{is_fresh, is_open, is_select, is_session, is_taken, selection_by, standing_in, stands, unselected_by}
-use Rattle.gw_control.specs.Controls.{Controls, Refusal, NotPermitted, SelectedByAnother, act_accepted, act_by, controls_after_at, controls_ordering, controls_selecting, controls_unselecting, is_deactivation, is_selectable, standing_at}
-use Rattle.gw_control.specs.Moves.{Move, Comes, Takes, Ends, Loses, Leaves, after_move, is_apart, is_at, Spares}
+use Rattle.gw_control.specs.Selections.{is_fresh, is_open, is_select, is_session, selection_by, standing_in, stands, unselected_by}
+use Rattle.gw_control.specs.Controls.{Controls, NotPermitted, SelectedByAnother, act_accepted, act_by, controls_after_at, controls_ordering, controls_selecting, controls_unselecting, is_deactivation, is_selectable, standing_at}
+use Rattle.gw_control.specs.Moves.{Move, Comes, Takes, Ends, Loses, Leaves, after_move, is_at, Spares}
 
 -- ---- a selection that stands
 

@@ -3,7 +3,6 @@ use Rattle.std.specs.Prelude.{IfSome, slice_get}
 use Rattle.std.specs.List.{AllByRecursion, filter}
 use Rattle.std.proofs.Common.{ℕ, zero, suc, ◌+◌, Bool, true, false, cond, not, ◌&&◌, List, [], ◌∷◌, ◌++◌, length, map, Option, Some, None}
 use Rattle.gw_model.specs.First.{first_of, when}
-use Rattle.gw_model.specs.Places.{change}
 use Rattle.gw_model.specs.declared.control.Act.{Act}
 use Rattle.gw_model.specs.declared.control.Ended.{Ended}
 use Rattle.gw_entries.specs.declared.control.Control.{Control}

@@ -1,6 +1,6 @@
 -- The core's part for controls, as its contracts see it: the selections and orders of all clients, and what becomes of
 -- them.
-use Rattle.std.specs.Prelude.{◌≡◌, ℕ, ◌+◌, ◌^◌, ◌<◌, Bool, true, false, not, ◌&&◌, ◌==◌, is_none, is_some, List, [], ◌∷◌, length, map, replicate, slice_get, Option, Some, None, option_and_then, if◌then◌else◌}
+use Rattle.std.specs.Prelude.{◌≡◌, ℕ, ◌+◌, ◌^◌, ◌<◌, Bool, true, false, not, ◌&&◌, ◌==◌, is_none, List, [], ◌∷◌, length, map, replicate, slice_get, Option, Some, None, option_and_then, if◌then◌else◌}
 use Rattle.std.specs.List.{AllByRecursion}
 use Rattle.gw_model.specs.First.{when, first_of}
 use Rattle.gw_model.specs.Places.{change}

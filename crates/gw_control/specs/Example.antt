@@ -20,7 +20,7 @@ use Rattle.gw_control.specs.declared.answer.Answer.{Answer}
 use Rattle.gw_control.specs.declared.answer.Outcome.{Outcome}
 use Rattle.gw_control.specs.declared.asked.Asked.{Asked}
 use Rattle.gw_control.specs.Selections.{asked}
-use Rattle.gw_control.specs.Controls.{Controls, answer_of, controls_after_command, controls_after_end, controls_after_ended, controls_after_lost, controls_after_taking, no_controls, order_at, outcome_among, outcome_lost_at}
+use Rattle.gw_control.specs.Controls.{Controls, answer_of, controls_after_command, controls_after_end, controls_after_ended, controls_after_taking, no_controls, order_at, outcome_among, outcome_lost_at}
 
 -- ---- settings
 

@@ -1,5 +1,4 @@
-use Rattle.std.proofs.Common.{◌≡◌, ◌<◌, length, get_or, ap, sym, ◌∙◌, arith, rules}
-use Rattle.std.specs.Option.{option_or}
+use Rattle.std.proofs.Common.{◌≡◌, ◌<◌, length, get_or, ap, arith, rules}
 use Rattle.gw_control.specs.Orders.{outcome_at, outgoing_after_ended}
 use Rattle.gw_control.proofs.Keeps.{outcome_more}
 use Rattle.gw_control.proofs.Places.{get_over, next_changed}

@@ -1,4 +1,4 @@
-use Rattle.std.proofs.Common.{◌+◌, ap, arith, rules}
+use Rattle.std.proofs.Common.{◌+◌, ap, arith}
 use Rattle.gw_control.specs.declared.accepted.Accepted.{Accepted}
 use Rattle.gw_control.specs.Orders.{IsInOrder}
 use Rattle.gw_control.proofs.Keeps.{ordering_keeps}
