@@ -56,17 +56,20 @@ none_held_above count n (o ∷ os) lt all =
 -- ---- one outstation
 
 waiting_more : (n : ℕ) (x : Accepted) (ws : List Accepted)
-    → among n (map (λ y. y.order.number) (ws ++ x ∷ [])) ≡ among n (map (λ y. y.order.number) ws) + one_if (x.order.number == n)
+    → among n (map (λ y. y.order.number) (ws ++ x ∷ [])) ≡ among n (map (λ y. y.order.number) ws) + one_if
+    (x.order.number == n)
 waiting_more n x [] = omega arith
 waiting_more n x (w ∷ ws) = let rest = waiting_more n x ws in omega (arith, rest)
 
 held_more : (n : ℕ) (x : Accepted) (ws : List Accepted) (u : Option UnderWay)
-    → held_in n (outgoing_with x (record { waiting = ws; under_way = u })) ≡ held_in n (record { waiting = ws; under_way = u }) + one_if (x.order.number == n)
+    → held_in n (outgoing_with x (record { waiting = ws; under_way = u })) ≡ held_in n
+    (record { waiting = ws; under_way = u }) + one_if (x.order.number == n)
 held_more n x ws None = waiting_more n x ws
 held_more n x ws (Some u) = omega (arith, waiting_more n x ws)
 
 held_taking : (n : ℕ) (ws : List Accepted) (u : Option UnderWay)
-    → held_in n (outgoing_after_taking (record { waiting = ws; under_way = u })) ≤ held_in n (record { waiting = ws; under_way = u })
+    → held_in n (outgoing_after_taking (record { waiting = ws; under_way = u })) ≤ held_in n
+    (record { waiting = ws; under_way = u })
 held_taking n ws (Some u) = omega arith
 held_taking n [] None = omega arith
 held_taking n (x ∷ xs) None = omega arith
@@ -82,7 +85,8 @@ and_none true = refl
 and_none false = refl
 
 held_ending : (n : ℕ) (ended : Ended) (ws : List Accepted) (u : Option UnderWay)
-    → one_if ((ended.number == n) && is_some (outcome_by ended u)) + held_in n (outgoing_after_ended ended (record { waiting = ws; under_way = u }))
+    → one_if ((ended.number == n) && is_some (outcome_by ended u)) + held_in n
+    (outgoing_after_ended ended (record { waiting = ws; under_way = u }))
     ≤ held_in n (record { waiting = ws; under_way = u })
 held_ending n ended ws None = omega (arith, and_none (ended.number == n))
 held_ending n ended ws (Some u) = by_name (is_named ended u) refl
@@ -93,8 +97,14 @@ held_ending n ended ws (Some u) = by_name (is_named ended u) refl
         ≤ held_in n (record { waiting = ws; under_way = Some u })
     by_name true e =
         let same : u.accepted.order.number ≡ ended.number = eqb-true _ _ e in
-        let alike : one_if (ended.number == n) ≡ one_if (u.accepted.order.number == n) = ap (λ (k : ℕ). one_if (k == n)) (sym same) in
-        omega (arith, alike, and_less (ended.number == n) (is_some (when (not u.left) (outcome_of ended.done u.accepted))))
+        let alike : one_if (ended.number == n) ≡ one_if (u.accepted.order.number == n) = ap
+        (λ (k : ℕ). one_if (k == n)) (sym same) in
+        omega (
+          arith,
+          alike,
+          and_less (ended.number == n)
+              (is_some (when (not u.left) (outcome_of ended.done u.accepted))),
+        )
     by_name false e = omega (arith, and_none (ended.number == n))
 
 held_losing : (n : ℕ) (ws : List Accepted) (u : Option UnderWay)
@@ -110,18 +120,21 @@ some_of p n [] = omega arith
 some_of p n (x ∷ xs) = kept (some_of p n xs) (p x)
   where
     kept : among n (map (λ y. y.order.number) (filter p xs)) ≤ among n (map (λ y. y.order.number) xs) → (b : Bool)
-        → among n (map (λ y. y.order.number) (cond b (x ∷ filter p xs) (filter p xs))) ≤ among n (map (λ y. y.order.number) (x ∷ xs))
+        → among n (map (λ y. y.order.number) (cond b (x ∷ filter p xs) (filter p xs))) ≤ among n
+        (map (λ y. y.order.number) (x ∷ xs))
     kept fewer true = omega (arith, fewer)
     kept fewer false = omega (arith, fewer)
 
 held_leaving : (n client : ℕ) (ws : List Accepted) (u : Option UnderWay)
-    → held_in n (outgoing_after_end client (record { waiting = ws; under_way = u })) ≤ held_in n (record { waiting = ws; under_way = u })
+    → held_in n (outgoing_after_end client (record { waiting = ws; under_way = u })) ≤ held_in n
+    (record { waiting = ws; under_way = u })
 held_leaving n client ws None = some_of (is_of_others client) n ws
 held_leaving n client ws (Some u) = omega (arith, some_of (is_of_others client) n ws)
 
 -- ---- all outstations
 
-all_ordering : (n p : ℕ) (x : Accepted) (os : List Outgoing) → held n (change p (outgoing_with x) os) ≤ held n os + one_if (x.order.number == n)
+all_ordering : (n p : ℕ) (x : Accepted) (os : List Outgoing)
+    → held n (change p (outgoing_with x) os) ≤ held n os + one_if (x.order.number == n)
 all_ordering n p x [] = omega arith
 all_ordering n zero x (o ∷ os) = omega (arith, held_more n x o.waiting o.under_way)
 all_ordering n (suc p) x (o ∷ os) = omega (arith, all_ordering n p x os)
@@ -132,17 +145,25 @@ all_taking n zero (o ∷ os) = omega (arith, held_taking n o.waiting o.under_way
 all_taking n (suc p) (o ∷ os) = omega (arith, all_taking n p os)
 
 all_ending : (n : ℕ) (ended : Ended) (os : List Outgoing)
-    → one_if ((ended.number == n) && is_some (outcome_among ended os)) + held n (map (outgoing_after_ended ended) os) ≤ held n os
+    → one_if ((ended.number == n) && is_some (outcome_among ended os)) + held n (map (outgoing_after_ended ended) os)
+    ≤ held n os
 all_ending n ended [] = omega (arith, and_none (ended.number == n))
 all_ending n ended (o ∷ os) =
-    omega (arith, held_ending n ended o.waiting o.under_way, all_ending n ended os, split (ended.number == n) (outcome_at ended o) (map (outcome_at ended) os))
+    omega (
+      arith,
+      held_ending n ended o.waiting o.under_way,
+      all_ending n ended os,
+      split (ended.number == n)
+          (outcome_at ended o) (map (outcome_at ended) os),
+    )
   where
     split : (b : Bool) (m : Option Outcome) (ms : List (Option Outcome))
         → one_if (b && is_some (first_of (m ∷ ms))) ≤ one_if (b && is_some m) + one_if (b && is_some (first_of ms))
     split b None ms = omega arith
     split b (Some x) ms = omega arith
 
-all_losing : (n p : ℕ) (os : List Outgoing) → one_if (is_oldest n (slice_get os p)) + held n (change p outgoing_after_lost os) ≤ held n os
+all_losing : (n p : ℕ) (os : List Outgoing) → one_if (is_oldest n (slice_get os p)) + held n
+    (change p outgoing_after_lost os) ≤ held n os
 all_losing n p [] = omega arith
 all_losing n zero (o ∷ os) = omega (arith, held_losing n o.waiting o.under_way)
 all_losing n (suc p) (o ∷ os) = omega (arith, all_losing n p os)
@@ -179,51 +200,67 @@ raised count n after before fewer none = by_number (nat_lt (count + 1) n) (nat_l
   where
     by_number : (b d : Bool) → nat_lt (count + 1) n ≡ b → nat_lt count n ≡ d → cond b 1 after ≤ cond d 1 before
     by_number true true e f = omega arith
-    by_number true false e f = let above : count + 1 < n = ltb-true _ _ e in let below : n ≤ count = ltb-false _ _ f in absurd (omega arith)
+    by_number true false e f = let above : count + 1 < n = ltb-true _ _ e in let below : n ≤ count = ltb-false _ _ f
+        in absurd (omega arith)
     by_number false true e f =
-        let nothing : before ≡ 0 = none (ltb-true _ _ f) in omega (arith, fewer, nothing, one_at_most ((count + 1) == n))
+        let nothing : before ≡ 0 = none (ltb-true _ _ f) in omega
+        (arith, fewer, nothing, one_at_most ((count + 1) == n))
     by_number false false e f =
         let below : n ≤ count = ltb-false _ _ f in
         let other : one_if ((count + 1) == n) ≡ 0 = not_below (count + 1) n (omega arith) in
         omega (arith, fewer, other)
 
-ordering_spends : (n : ℕ) (a : Asked) (control : Control) (act : Option Act) (v : Controls) → AreInOrder v.ordered v.outgoing
+ordering_spends : (n : ℕ) (a : Asked) (control : Control) (act : Option Act) (v : Controls)
+    → AreInOrder v.ordered v.outgoing
     → budget n (controls_ordering a control act v) ≤ budget n v
 ordering_spends n a control None v k = omega arith
 ordering_spends n a control (Some act) v k =
-    raised v.ordered n _ _ (all_ordering n control.outstation (accepted_by a control act (v.ordered + 1)) v.outgoing) (λ lt. none_held_above v.ordered n v.outgoing lt k)
+    raised v.ordered n _ _ (all_ordering n control.outstation (accepted_by a control act (v.ordered + 1)) v.outgoing)
+    (λ lt. none_held_above v.ordered n v.outgoing lt k)
 
-command_spends : (setup : Setup) (n : ℕ) (a : Asked) (found : Option (ℕ × Control)) (v : Controls) → AreInOrder v.ordered v.outgoing
+command_spends : (setup : Setup) (n : ℕ) (a : Asked) (found : Option (ℕ × Control)) (v : Controls)
+    → AreInOrder v.ordered v.outgoing
     → budget n (controls_after_at setup a found v) ≤ budget n v
 command_spends setup n a None v k = omega arith
-command_spends setup n a (Some found) v k = by_kind (is_deactivation a) (is_select a.command.action) (is_selectable a found.1 (standing_at setup a.moment found.0 v))
+command_spends setup n a (Some found) v k = by_kind (is_deactivation a) (is_select a.command.action)
+    (is_selectable a found.1 (standing_at setup a.moment found.0 v))
   where
     by_kind : (deactivation select selectable : Bool) → budget n
         (cond deactivation (controls_unselecting a found.0 v)
         (cond select (cond selectable (controls_selecting a found.0 v) v)
-        (controls_ordering a found.1 (act_accepted a found.1 (standing_at setup a.moment found.0 v) v) (controls_unselecting a found.0 v)))) ≤ budget n v
+        (controls_ordering a found.1 (act_accepted a found.1 (standing_at setup a.moment found.0 v) v)
+        (controls_unselecting a found.0 v)))) ≤ budget n v
     by_kind true select selectable = omega arith
     by_kind false true true = omega arith
     by_kind false true false = omega arith
     by_kind false false selectable =
-        ordering_spends n a found.1 (act_accepted a found.1 (standing_at setup a.moment found.0 v) v) (controls_unselecting a found.0 v) k
+        ordering_spends n a found.1 (act_accepted a found.1 (standing_at setup a.moment found.0 v) v)
+        (controls_unselecting a found.0 v) k
 
 move_spends : (setup : Setup) (n : ℕ) (m : Move) (v : Controls) → AreInOrder v.ordered v.outgoing
     → outcomes_by n m v + budget n (after_move setup m v) ≤ budget n v
 move_spends setup n (Comes a) v k = omega (arith, command_spends setup n a (control_for setup a.command) v k)
 move_spends setup n (Takes outstation) v k =
-    spent v.ordered n 0 _ _ (omega (arith, all_taking n outstation v.outgoing)) (λ lt. none_held_above v.ordered n v.outgoing lt k)
+    spent v.ordered n 0 _ _ (omega (arith, all_taking n outstation v.outgoing))
+    (λ lt. none_held_above v.ordered n v.outgoing lt k)
 move_spends setup n (Ends ended) v k =
     spent v.ordered n _ _ _ (all_ending n ended v.outgoing) (λ lt. none_held_above v.ordered n v.outgoing lt k)
 move_spends setup n (Loses outstation) v k =
     spent v.ordered n _ _ _ (all_losing n outstation v.outgoing) (λ lt. none_held_above v.ordered n v.outgoing lt k)
 move_spends setup n (Leaves client) v k =
-    spent v.ordered n 0 _ _ (omega (arith, all_leaving n client v.outgoing)) (λ lt. none_held_above v.ordered n v.outgoing lt k)
+    spent v.ordered n 0 _ _ (omega (arith, all_leaving n client v.outgoing))
+    (λ lt. none_held_above v.ordered n v.outgoing lt k)
 
-told_within : (setup : Setup) (n : ℕ) (ms : List Move) (v : Controls) → IsSoundControls setup v → outcomes_told setup n ms v ≤ budget n v
+told_within : (setup : Setup) (n : ℕ) (ms : List Move) (v : Controls) → IsSoundControls setup v
+    → outcomes_told setup n ms v ≤ budget n v
 told_within setup n [] v k = omega arith
 told_within setup n (m ∷ ms) v k =
-    omega (arith, move_spends setup n m v k.orders, told_within setup n ms (after_move setup m v) (stays_sound setup m v k))
+    omega (
+      arith,
+      move_spends setup n m v k.orders,
+      told_within setup n ms (after_move setup m v)
+          (stays_sound setup m v k),
+    )
 
 none_held : (n count : ℕ) → held n (replicate count nothing_outgoing) ≡ 0
 none_held n zero = refl

@@ -12,7 +12,7 @@ use Rattle.gw_control.specs.Selections.{is_select, selection_by, unselected_by}
 use Rattle.gw_control.specs.Orders.{nothing_outgoing, outgoing_after_end, outgoing_after_ended, outgoing_after_lost, outgoing_after_taking, outgoing_with}
 use Rattle.gw_control.specs.Controls.{Controls, accepted_by, act_accepted, controls_after_at, controls_ordering, controls_selecting, controls_unselecting, is_deactivation, is_selectable, no_controls, standing_at}
 use Rattle.gw_control.specs.Moves.{Move, Comes, Takes, Ends, Loses, Leaves, after_move, IsSoundControls}
-use Rattle.gw_control.proofs.Keeps.{accepted_finds_place, end_keeps, ended_keeps, lost_keeps, nothing_keeps, ordering_keeps, taking_keeps}
+use Rattle.gw_control.proofs.Keeps.{accepted, end_keeps, ended_keeps, lost_keeps, nothing_keeps, ordering_keeps, taking_keeps}
 
 length-change : {A : Type 0} (n : ℕ) (f : A → A) (xs : List A) → length (change n f xs) ≡ length xs
 length-change n f [] = refl
@@ -54,7 +54,8 @@ selecting_sound setup a position v k = record {
 }
 
 -- what is accepted by v, in controls w with the same orders
-ordering_sound : (setup : Setup) (a : Asked) (control : Control) (standing : Option Selection) (v w : Controls) (act : Option Act)
+ordering_sound : (setup : Setup) (a : Asked) (control : Control) (standing : Option Selection) (v w : Controls)
+    (act : Option Act)
     → act_accepted a control standing v ≡ act → w.outgoing ≡ v.outgoing → IsSoundControls setup w
     → IsSoundControls setup (controls_ordering a control act w)
 ordering_sound setup a control standing v w None is same k = k
@@ -64,26 +65,32 @@ ordering_sound setup a control standing v w (Some act) is same k =
       sessions = k.sessions;
       selections = k.selections;
       outgoing = length-change control.outstation (outgoing_with x) w.outgoing ∙ k.outgoing;
-      orders = ordering_keeps w.ordered control.outstation x w.outgoing refl (rw same (accepted_finds_place a control standing v act is)) k.orders;
+      orders = ordering_keeps w.ordered control.outstation x w.outgoing refl
+          (rw same (accepted a control standing v act is).place) k.orders;
     }
 
 command_sound : (setup : Setup) (a : Asked) (found : Option (ℕ × Control)) (v : Controls) → IsSoundControls setup v
     → IsSoundControls setup (controls_after_at setup a found v)
 command_sound setup a None v k = k
 command_sound setup a (Some found) v k =
-    by_kind (is_deactivation a) (is_select a.command.action) (is_selectable a found.1 (standing_at setup a.moment found.0 v))
+    by_kind (is_deactivation a) (is_select a.command.action)
+    (is_selectable a found.1 (standing_at setup a.moment found.0 v))
   where
     by_kind : (deactivation select selectable : Bool) → IsSoundControls setup
         (cond deactivation (controls_unselecting a found.0 v)
         (cond select (cond selectable (controls_selecting a found.0 v) v)
-        (controls_ordering a found.1 (act_accepted a found.1 (standing_at setup a.moment found.0 v) v) (controls_unselecting a found.0 v))))
+        (controls_ordering a found.1 (act_accepted a found.1 (standing_at setup a.moment found.0 v) v)
+        (controls_unselecting a found.0 v))))
     by_kind true select selectable = unselecting_sound setup a found.0 v k
     by_kind false true true = selecting_sound setup a found.0 v k
     by_kind false true false = k
     by_kind false false selectable =
-        ordering_sound setup a found.1 (standing_at setup a.moment found.0 v) v (controls_unselecting a found.0 v) (act_accepted a found.1 (standing_at setup a.moment found.0 v) v) refl refl (unselecting_sound setup a found.0 v k)
+        ordering_sound setup a found.1 (standing_at setup a.moment found.0 v) v (controls_unselecting a found.0 v)
+        (act_accepted a found.1 (standing_at setup a.moment found.0 v) v) refl refl
+        (unselecting_sound setup a found.0 v k)
 
-pub stays_sound : (setup : Setup) (move : Move) (v : Controls) → IsSoundControls setup v → IsSoundControls setup (after_move setup move v)
+pub stays_sound : (setup : Setup) (move : Move) (v : Controls) → IsSoundControls setup v
+    → IsSoundControls setup (after_move setup move v)
 stays_sound setup (Comes a) v k = command_sound setup a (control_for setup a.command) v k
 stays_sound setup (Takes outstation) v k = record {
   sessions = k.sessions;

@@ -41,7 +41,8 @@ taken ws (Some u) k = k
 taken [] None k = k
 taken (x ∷ xs) None k = record { waiting = k.waiting.1; under_way = k.waiting.0 }
 
-ended_by : (ended : Ended) (ws : List Accepted) (u : Option UnderWay) → IsWholeOutgoing (record { waiting = ws; under_way = u })
+ended_by : (ended : Ended) (ws : List Accepted) (u : Option UnderWay)
+    → IsWholeOutgoing (record { waiting = ws; under_way = u })
     → IsWholeOutgoing (outgoing_after_ended ended (record { waiting = ws; under_way = u }))
 ended_by ended ws None k = k
 ended_by ended ws (Some u) k = over (is_named ended u)
@@ -55,7 +56,8 @@ lost_from : (ws : List Accepted) (u : Option UnderWay) → IsWholeOutgoing (reco
 lost_from [] u k = k
 lost_from (x ∷ xs) u k = record { waiting = k.waiting.1; under_way = k.under_way }
 
-left : (client : ℕ) (ws : List Accepted) (u : Option UnderWay) → IsWholeOutgoing (record { waiting = ws; under_way = u })
+left : (client : ℕ) (ws : List Accepted) (u : Option UnderWay)
+    → IsWholeOutgoing (record { waiting = ws; under_way = u })
     → IsWholeOutgoing (outgoing_after_end client (record { waiting = ws; under_way = u }))
 left client ws None k = record { waiting = some_whole (is_of_others client) ws k.waiting; under_way = tt }
 left client ws (Some u) k = record { waiting = some_whole (is_of_others client) ws k.waiting; under_way = k.under_way }
@@ -63,31 +65,38 @@ left client ws (Some u) k = record { waiting = some_whole (is_of_others client) 
 -- ---- all of them
 
 pub none_whole : (setup : Setup) → HasWholeCommands (no_controls setup)
-none_whole setup = all_alike IsWholeOutgoing (length setup.outstations) nothing_outgoing (record { waiting = tt; under_way = tt })
+none_whole setup = all_alike IsWholeOutgoing (length setup.outstations) nothing_outgoing
+    (record { waiting = tt; under_way = tt })
 
-ordering_whole : (a : Asked) (control : Control) (act : Option Act) (v : Controls) → IsWhole a.command → HasWholeCommands v
+ordering_whole : (a : Asked) (control : Control) (act : Option Act) (v : Controls) → IsWhole a.command
+    → HasWholeCommands v
     → HasWholeCommands (controls_ordering a control act v)
 ordering_whole a control None v whole k = k
 ordering_whole a control (Some act) v whole k =
     let x = accepted_by a control act (v.ordered + 1) in
-    all_changed IsWholeOutgoing (outgoing_with x) (λ o all. record { waiting = more_whole x o.waiting whole all.waiting; under_way = all.under_way })
+    all_changed IsWholeOutgoing (outgoing_with x) (λ o all. record
+    { waiting = more_whole x o.waiting whole all.waiting; under_way = all.under_way })
     control.outstation v.outgoing k
 
-command_whole : (setup : Setup) (a : Asked) (found : Option (ℕ × Control)) (v : Controls) → IsWhole a.command → HasWholeCommands v
+command_whole : (setup : Setup) (a : Asked) (found : Option (ℕ × Control)) (v : Controls) → IsWhole a.command
+    → HasWholeCommands v
     → HasWholeCommands (controls_after_at setup a found v)
 command_whole setup a None v whole k = k
 command_whole setup a (Some found) v whole k =
-    by_kind (is_deactivation a) (is_select a.command.action) (is_selectable a found.1 (standing_at setup a.moment found.0 v))
+    by_kind (is_deactivation a) (is_select a.command.action)
+    (is_selectable a found.1 (standing_at setup a.moment found.0 v))
   where
     by_kind : (deactivation select selectable : Bool) → HasWholeCommands
         (cond deactivation (controls_unselecting a found.0 v)
         (cond select (cond selectable (controls_selecting a found.0 v) v)
-        (controls_ordering a found.1 (act_accepted a found.1 (standing_at setup a.moment found.0 v) v) (controls_unselecting a found.0 v))))
+        (controls_ordering a found.1 (act_accepted a found.1 (standing_at setup a.moment found.0 v) v)
+        (controls_unselecting a found.0 v))))
     by_kind true select selectable = k
     by_kind false true true = k
     by_kind false true false = k
     by_kind false false selectable =
-        ordering_whole a found.1 (act_accepted a found.1 (standing_at setup a.moment found.0 v) v) (controls_unselecting a found.0 v) whole k
+        ordering_whole a found.1 (act_accepted a found.1 (standing_at setup a.moment found.0 v) v)
+        (controls_unselecting a found.0 v) whole k
 
 pub stays_whole : (setup : Setup) (move : Move) (v : Controls) → IsWholeMove move → HasWholeCommands v
     → HasWholeCommands (after_move setup move v)
@@ -95,27 +104,34 @@ stays_whole setup (Comes a) v whole k = command_whole setup a (control_for setup
 stays_whole setup (Takes outstation) v whole k =
     all_changed IsWholeOutgoing outgoing_after_taking (λ o all. taken o.waiting o.under_way all) outstation v.outgoing k
 stays_whole setup (Ends ended) v whole k =
-    all_mapped IsWholeOutgoing (outgoing_after_ended ended) (λ o all. ended_by ended o.waiting o.under_way all) v.outgoing k
+    all_mapped IsWholeOutgoing (outgoing_after_ended ended) (λ o all. ended_by ended o.waiting o.under_way all)
+    v.outgoing k
 stays_whole setup (Loses outstation) v whole k =
-    all_changed IsWholeOutgoing outgoing_after_lost (λ o all. lost_from o.waiting o.under_way all) outstation v.outgoing k
+    all_changed IsWholeOutgoing outgoing_after_lost (λ o all. lost_from o.waiting o.under_way all) outstation
+    v.outgoing k
 stays_whole setup (Leaves client) v whole k =
     all_mapped IsWholeOutgoing (outgoing_after_end client) (λ o all. left client o.waiting o.under_way all) v.outgoing k
 
 -- ---- outcomes
 
-pub ended_whole : (ended : Ended) (v : Controls) → HasWholeCommands v → IfSome (outcome_among ended v.outgoing) (λ outcome. IsWhole outcome.command)
+pub ended_whole : (ended : Ended) (v : Controls) → HasWholeCommands v
+    → IfSome (outcome_among ended v.outgoing) (λ outcome. IsWhole outcome.command)
 ended_whole ended v k = among v.outgoing k
   where
-    among : (os : List Outgoing) → AllByRecursion IsWholeOutgoing os → IfSome (outcome_among ended os) (λ outcome. IsWhole outcome.command)
+    among : (os : List Outgoing) → AllByRecursion IsWholeOutgoing os
+        → IfSome (outcome_among ended os) (λ outcome. IsWhole outcome.command)
     among [] all = tt
     among (o ∷ os) all = first o.under_way all.0.under_way (among os all.1)
       where
-        first : (u : Option UnderWay) → IsWholeUnderWay u → IfSome (outcome_among ended os) (λ outcome. IsWhole outcome.command)
-            → IfSome (first_of (outcome_by ended u ∷ map (λ p. outcome_by ended p.under_way) os)) (λ outcome. IsWhole outcome.command)
+        first : (u : Option UnderWay) → IsWholeUnderWay u
+            → IfSome (outcome_among ended os) (λ outcome. IsWhole outcome.command)
+            → IfSome (first_of (outcome_by ended u ∷ map (λ p. outcome_by ended p.under_way) os))
+            (λ outcome. IsWhole outcome.command)
         first None whole rest = rest
         first (Some u) whole rest = told (is_named ended u && not u.left)
           where
-            told : (b : Bool) → IfSome (first_of (when b (outcome_of ended.done u.accepted) ∷ map (λ p. outcome_by ended p.under_way) os)) (λ outcome. IsWhole outcome.command)
+            told : (b : Bool) → IfSome (first_of (when b (outcome_of ended.done u.accepted) ∷ map
+                (λ p. outcome_by ended p.under_way) os)) (λ outcome. IsWhole outcome.command)
             told true = whole
             told false = rest
 
@@ -124,11 +140,13 @@ pub lost_whole : (outstation : ℕ) (v : Controls) → HasWholeCommands v
 lost_whole outstation v k = at outstation v.outgoing k
   where
     oldest : (ws : List Accepted) → AllByRecursion (λ y. IsWhole y.command) ws
-        → IfSome (outcome_lost_at (Some (record { waiting = ws; under_way = None }))) (λ outcome. IsWhole outcome.command)
+        → IfSome (outcome_lost_at (Some (record { waiting = ws; under_way = None })))
+        (λ outcome. IsWhole outcome.command)
     oldest [] all = tt
     oldest (x ∷ xs) all = all.0
 
-    at : (n : ℕ) (os : List Outgoing) → AllByRecursion IsWholeOutgoing os → IfSome (outcome_lost_at (slice_get os n)) (λ outcome. IsWhole outcome.command)
+    at : (n : ℕ) (os : List Outgoing) → AllByRecursion IsWholeOutgoing os
+        → IfSome (outcome_lost_at (slice_get os n)) (λ outcome. IsWhole outcome.command)
     at n [] all = tt
     at zero (o ∷ os) all = oldest o.waiting all.0.waiting
     at (suc n) (o ∷ os) all = at n os all.1

@@ -17,7 +17,7 @@ use Rattle.gw_control.specs.declared.answer.Answer.{Answer}
 use Rattle.gw_control.specs.declared.answer.Answer.TheVariants.{Confirm, Negative, Unknown, Ordered}
 use Rattle.gw_control.specs.declared.answer.Outcome.{Outcome}
 use Rattle.gw_control.specs.declared.selection.Selection.{Selection}
-use Rattle.gw_control.specs.Intents.{act_of, control_for, intent_of}
+use Rattle.gw_control.specs.Intents.{act_of, command_intent, control_for, intent_of}
 use Rattle.gw_control.specs.Selections.{is_own, is_select, is_selected, is_taken, selection_by, standing_in, unselected_by}
 use Rattle.gw_control.specs.Orders.{Outgoing, is_full, nothing_outgoing, order_given, outcome_at, outcome_lost, outgoing_after_end, outgoing_after_ended, outgoing_after_lost, outgoing_after_taking, outgoing_with, IsInOrder}
 
@@ -218,6 +218,18 @@ controls_after_end client v = record v {
   sessions = change client (λ _. None) v.sessions;
   outgoing = map (outgoing_after_end client) v.outgoing;
 }
+
+-- ---- what is known of an execute that is accepted
+
+pub record IsAccepted (a : Asked) (control : Control) (standing : Option Selection) (v : Controls) (act : Act)
+    : Type 0 where
+  -- what its order asks is what the command asks
+  pub intent : command_intent control a.command ≡ Some (intent_of control act)
+  pub up : a.up ≡ true
+  pub free : is_taken a standing ≡ false
+  -- where the control wants it, the client had it selected, in its session and for the same
+  pub selected : control.select ≡ true → is_selected a standing ≡ true
+  pub place : is_full_at (slice_get v.outgoing control.outstation) ≡ false
 
 -- ---- what they keep
 

@@ -45,8 +45,8 @@ use std::marker::Model;
 /// How many clients there can be.
 const CLIENTS: usize = 8;
 
-/// The clients' selections of controls, and their orders on the way to outstations. But for `new` and `copy` it takes no
-/// memory. Moments are in milliseconds; an interval that would begin after it ended counts as 0.
+/// The clients' selections of controls, and their orders on the way to outstations. Only `new` and `copy` take memory.
+/// Moments are in milliseconds; an interval that would begin after it ended counts as 0.
 #[derive(Debug, Drop)]
 pub struct Controls {
     /// For each client the session that stands, where a control was selected in it.

@@ -11,8 +11,11 @@ loop-position-preserved c =
     let d = c.index-outgoing-position.result in
     let before = c.loop-position.outgoing in
     let within : n < length old = omega (arith, c.loop-position.auto, c.loop-position-test.true) in
-    let here : get_or before n d ≡ get_or old n d = get_over (outgoing_after_ended c.args.ended) old before n d within c.loop-position.invariant.0 in
-    let told : c.end_order-told.result ≡ outcome_at c.args.ended (get_or old n d) = search (rules, c.end_order-told.ensures.outcome, ap (outcome_at c.args.ended) here) in (
-      next_changed n (outgoing_after_ended c.args.ended) old before d c.end_order-told.new.self within c.loop-position.invariant.0 c.end_order-told.ensures.after,
+    let here : get_or before n d ≡ get_or old n d = get_over (outgoing_after_ended c.args.ended) old before n d within
+    c.loop-position.invariant.0 in
+    let told : c.end_order-told.result ≡ outcome_at c.args.ended (get_or old n d) = search
+    (rules, c.end_order-told.ensures.outcome, ap (outcome_at c.args.ended) here) in (
+      next_changed n (outgoing_after_ended c.args.ended) old before d c.end_order-told.new.self within
+          c.loop-position.invariant.0 c.end_order-told.ensures.after,
       search (rules, c.or-outcome.ensures, told, c.loop-position.invariant.1, outcome_more c.args.ended n old d within),
     )

@@ -6,7 +6,8 @@ use Rattle.gw_control.proofs.controls.nothing_outgoing.Goals as goal
 
 pub loop-preserved : goal.loop-preserved
 loop-preserved c =
-    one_more c.loop.counter (c.loop.counter + 1) nothing_outgoing c.in_ok-new.field-0 c.loop.outgoing.items c.push.new.self.items (omega arith) c.in_ok-push.ensures.items c.in_ok-new.ensures c.loop.invariant
+    one_more c.loop.counter (c.loop.counter + 1) nothing_outgoing c.in_ok-new.field-0 c.loop.outgoing.items
+    c.push.new.self.items (omega arith) c.in_ok-push.ensures.items c.in_ok-new.ensures c.loop.invariant
 
 pub returns : goal.returns
 returns c =

@@ -6,6 +6,8 @@ use Rattle.gw_control.proofs.controls.Controls.end.Goals as goal
 
 pub invariant_of-self : goal.invariant_of-self
 invariant_of-self c =
-    all_written (IsInOrder c.self.inside.ordered) c.self.inside.outgoing.len c.end_session.new.outgoing c.self.inside.outgoing.items
+    all_written (IsInOrder c.self.inside.ordered) c.self.inside.outgoing.len c.end_session.new.outgoing
+    c.self.inside.outgoing.items
     (omega (arith, c.end_session.auto.outgoing, c.deref_mut.ensures.len))
-    (rw c.end_session.ensures (end_keeps c.self.inside.ordered c.args.client c.deref_mut.result.now (rw c.deref_mut.ensures.value c.self.invariant)))
+    (rw c.end_session.ensures (end_keeps c.self.inside.ordered c.args.client c.deref_mut.result.now
+    (rw c.deref_mut.ensures.value c.self.invariant)))

@@ -6,6 +6,8 @@ use Rattle.gw_control.proofs.controls.Controls.lost.Goals as goal
 
 pub invariant_of-self : goal.invariant_of-self
 invariant_of-self c =
-    all_written (IsInOrder c.self.inside.ordered) c.self.inside.outgoing.len c.lose_at.new.outgoing c.self.inside.outgoing.items
+    all_written (IsInOrder c.self.inside.ordered) c.self.inside.outgoing.len c.lose_at.new.outgoing
+    c.self.inside.outgoing.items
     (omega (arith, c.lose_at.auto.outgoing, c.deref_mut.ensures.len))
-    (rw c.lose_at.ensures.after (lost_keeps c.self.inside.ordered c.args.outstation c.deref_mut.result.now (rw c.deref_mut.ensures.value c.self.invariant)))
+    (rw c.lose_at.ensures.after (lost_keeps c.self.inside.ordered c.args.outstation c.deref_mut.result.now
+    (rw c.deref_mut.ensures.value c.self.invariant)))

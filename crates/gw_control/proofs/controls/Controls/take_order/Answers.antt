@@ -6,6 +6,8 @@ use Rattle.gw_control.proofs.controls.Controls.take_order.Goals as goal
 
 pub invariant_of-self : goal.invariant_of-self
 invariant_of-self c =
-    all_written (IsInOrder c.self.inside.ordered) c.self.inside.outgoing.len c.take_at.new.outgoing c.self.inside.outgoing.items
+    all_written (IsInOrder c.self.inside.ordered) c.self.inside.outgoing.len c.take_at.new.outgoing
+    c.self.inside.outgoing.items
     (omega (arith, c.take_at.auto.outgoing, c.deref_mut.ensures.len))
-    (rw c.take_at.ensures.after (taking_keeps c.self.inside.ordered c.args.outstation c.deref_mut.result.now (rw c.deref_mut.ensures.value c.self.invariant)))
+    (rw c.take_at.ensures.after (taking_keeps c.self.inside.ordered c.args.outstation c.deref_mut.result.now
+    (rw c.deref_mut.ensures.value c.self.invariant)))
