@@ -1,0 +1,109 @@
+-- What may happen to selections and orders, one thing after the other, and what the laws say of it.
+use Rattle.std.specs.Prelude.{◌≡◌, ℕ, ◌+◌, ◌≤◌, Bool, true, false, not, ◌&&◌, ◌||◌, ◌==◌, is_some, List, [], ◌∷◌, length, slice_get, Option, Some, None}
+use Rattle.std.specs.List.{AllByRecursion}
+use Rattle.gw_model.specs.declared.control.Ended.{Ended}
+use Rattle.gw_entries.specs.declared.control.Control.{Control}
+use Rattle.gw_map.specs.Settings.{Setup}
+use Rattle.iec_command.specs.Commands.{IsWhole}
+use Rattle.gw_control.specs.declared.asked.Asked.{Asked}
+use Rattle.gw_control.specs.declared.accepted.Accepted.{Accepted}
+use Rattle.gw_control.specs.declared.accepted.UnderWay.{UnderWay}
+use Rattle.gw_control.specs.declared.selection.Selection.{Selection}
+use Rattle.gw_control.specs.Intents.{control_for}
+use Rattle.gw_control.specs.Orders.{Outgoing}
+use Rattle.gw_control.specs.Controls.{Controls, clients, controls_after_command, controls_after_end, controls_after_ended, controls_after_lost, controls_after_taking, outcome_among, AreInOrder}
+
+pub data Move : Type 0 where
+  -- a command comes
+  Comes : Asked → Move
+  -- the next order is given for an outstation
+  Takes : ℕ → Move
+  -- the order under way ends
+  Ends : Ended → Move
+  -- an outstation is lost: the oldest order that waits fails
+  Loses : ℕ → Move
+  -- a client's session ends
+  Leaves : ℕ → Move
+
+abbrev pub after_move : Setup → Move → Controls → Controls
+after_move setup (Comes a) v = controls_after_command setup a v
+after_move setup (Takes outstation) v = controls_after_taking outstation v
+after_move setup (Ends ended) v = controls_after_ended ended v
+after_move setup (Loses outstation) v = controls_after_lost outstation v
+after_move setup (Leaves client) v = controls_after_end client v
+
+-- ---- outcomes
+
+abbrev pub one_if : Bool → ℕ
+one_if true = 1
+one_if false = 0
+
+abbrev pub has_number : ℕ → Option Accepted → Bool
+has_number n None = false
+has_number n (Some x) = x.order.number == n
+
+-- the oldest that waits has this number
+abbrev pub is_oldest : ℕ → Option Outgoing → Bool
+is_oldest n None = false
+is_oldest n (Some o) = has_number n (slice_get o.waiting 0)
+
+-- how many outcomes of the order with a number something brings
+abbrev pub outcomes_by : ℕ → Move → Controls → ℕ
+outcomes_by n (Comes a) v = 0
+outcomes_by n (Takes outstation) v = 0
+outcomes_by n (Ends ended) v = one_if ((ended.number == n) && is_some (outcome_among ended v.outgoing))
+outcomes_by n (Loses outstation) v = one_if (is_oldest n (slice_get v.outgoing outstation))
+outcomes_by n (Leaves client) v = 0
+
+-- how many all of these do, the first one first
+abbrev pub outcomes_told : Setup → ℕ → List Move → Controls → ℕ
+outcomes_told setup n [] v = 0
+outcomes_told setup n (m ∷ ms) v = outcomes_by n m v + outcomes_told setup n ms (after_move setup m v)
+
+-- ---- selections
+
+abbrev pub is_at : ℕ → Option (ℕ × Control) → Bool
+is_at position None = false
+is_at position (Some found) = found.0 == position
+
+-- a command is of another client, or for another control in the same session
+abbrev pub is_apart : Setup → Asked → ℕ → Selection → Bool
+is_apart setup a position s =
+    not (s.client == a.client) || ((s.session == a.session) && not (is_at position (control_for setup a.command)))
+
+-- something leaves a selection of a control alone, up to a moment
+abbrev pub Spares : Setup → ℕ → ℕ → Selection → Move → Type 0
+Spares setup moment position s (Comes a) = (a.moment ≤ moment) × (is_apart setup a position s ≡ true)
+Spares setup moment position s (Takes outstation) = Unit {0}
+Spares setup moment position s (Ends ended) = Unit {0}
+Spares setup moment position s (Loses outstation) = Unit {0}
+Spares setup moment position s (Leaves client) = (s.client == client) ≡ false
+
+-- ---- what is kept
+
+-- by settings: a place for each client, control and outstation, and the orders of each outstation are in order
+pub record IsSoundControls (setup : Setup) (v : Controls) : Type 0 where
+  pub sessions : length v.sessions ≡ clients
+  pub selections : length v.selections ≡ length setup.controls
+  pub outgoing : length v.outgoing ≡ length setup.outstations
+  pub orders : AreInOrder v.ordered v.outgoing
+
+-- the command of an order has the bits of its places, of an order under way too
+abbrev pub IsWholeUnderWay : Option UnderWay → Type 0
+IsWholeUnderWay None = Unit {0}
+IsWholeUnderWay (Some u) = IsWhole u.accepted.command
+
+pub record IsWholeOutgoing (o : Outgoing) : Type 0 where
+  pub waiting : AllByRecursion (λ x. IsWhole x.command) o.waiting
+  pub under_way : IsWholeUnderWay o.under_way
+
+abbrev pub HasWholeCommands : Controls → Type 0
+HasWholeCommands v = AllByRecursion IsWholeOutgoing v.outgoing
+
+-- a command that comes has
+abbrev pub IsWholeMove : Move → Type 0
+IsWholeMove (Comes a) = IsWhole a.command
+IsWholeMove (Takes outstation) = Unit {0}
+IsWholeMove (Ends ended) = Unit {0}
+IsWholeMove (Loses outstation) = Unit {0}
+IsWholeMove (Leaves client) = Unit {0}

@@ -1,0 +1,480 @@
+//! Selections and orders of all clients.
+ghost use Rattle.std.specs.Prelude.{◌≡◌, ◌<◌, ◌+◌, ◌^◌, true, false, map, replicate, slice_get, IfOk};
+ghost use Rattle.gw_model.specs.Places.{change};
+ghost use Rattle.gw_control.specs.Orders.{nothing_outgoing, outgoing_after_end, outgoing_after_ended, outgoing_after_lost, outgoing_after_taking, outgoing_with};
+ghost use Rattle.gw_control.specs.Selections.{asked, unselected_by};
+ghost use Rattle.gw_control.specs.Controls.{
+  act_accepted,
+  accepted_by,
+  answer_for,
+  answer_of,
+  confirmed_if,
+  controls_after_command,
+  controls_after_end,
+  controls_after_ended,
+  controls_after_for,
+  controls_after_lost,
+  controls_after_taking,
+  controls_ordering,
+  controls_selecting,
+  controls_unselecting,
+  is_full_at,
+  is_order,
+  is_selectable,
+  no_controls,
+  order_at,
+  outcome_among,
+  outcome_lost_at,
+  standing_at,
+  CanAnswer,
+};
+
+use crate::accepted::Accepted;
+use crate::answer::{Answer, Outcome};
+use crate::asked::{Asked, is_select};
+use crate::intent::{act_of, control_for};
+use crate::outgoing::Outgoing;
+use crate::selection::{Selection, is_own, is_selected, is_taken};
+use gw_map::{Control, Mode, Settings};
+use gw_model::{Act, Ended, Intent, Memory, Order};
+use iec_command::Command;
+use iec_command::causes::DEACTIVATION;
+use std::alloc::Global;
+use std::marker::Model;
+
+/// How many clients there can be.
+const CLIENTS: usize = 8;
+
+/// The clients' selections of controls, and their orders on the way to outstations. Only `new` and `copy` take memory.
+/// Moments are in milliseconds; an interval that would begin after it ended counts as 0.
+#[derive(Debug, Drop)]
+pub struct Controls {
+    /// For each client the session that stands, where a control was selected in it.
+    sessions: [Option<u64>; CLIENTS],
+    /// For each control, by its position, the last selection: it stands as long as its client's session does, and for
+    /// as long as the settings tell.
+    selections: Vec<Option<Selection>>,
+    /// For each outstation its orders.
+    outgoing: Vec<Outgoing>,
+    /// How many orders there were.
+    ordered: u64,
+}
+
+impl Model for Controls {
+    ghost use Rattle.gw_control.specs.Controls.{Controls as Seen, AreInOrder};
+
+    ghost Value = { Seen };
+
+    ghost view = { λ c. record {
+      sessions = c.sessions;
+      selections = c.selections.items;
+      outgoing = c.outgoing.items;
+      ordered = c.ordered;
+    } };
+
+    // At most 16 orders wait for each outstation, and their numbers rise.
+    ghost invariant = { λ c. AreInOrder c.ordered c.outgoing.items };
+}
+
+impl Controls {
+    /// No selection, and no order.
+    pub fn new(alloc: Global, settings: &Settings) -> Result<Controls, Memory>
+        ensures { IfOk result (λ controls. controls ≡ no_controls settings.now) }
+    {
+        let selections = no_selections(alloc, settings.controls().len())?;
+        let outgoing = nothing_outgoing(alloc, settings.outstations().len())?;
+        Ok(Controls {
+            sessions: [None; CLIENTS],
+            selections,
+            outgoing,
+            ordered: 0,
+        })
+    }
+
+    /// An equal value, or `Memory` where there is no room for its selections and orders.
+    pub fn copy(&self, alloc: Global) -> Result<Controls, Memory>
+        ensures { IfOk result (λ copy. copy ≡ self.now) }
+    {
+        let selections = Vec::from_slice(alloc, self.selections.as_slice())?;
+        let outgoing = copied(alloc, self.outgoing.as_slice())?;
+        Ok(Controls {
+            sessions: self.sessions,
+            selections,
+            outgoing,
+            ordered: self.ordered,
+        })
+    }
+
+    /// How many orders there were.
+    pub fn ordered(&self) -> u64
+        ensures { result ≡ self.now.ordered }
+    {
+        self.ordered
+    }
+
+    /// Whether a command would be an order: what `command` would answer.
+    #[tactic(auto, using(crate::proofs::Keeps::confirmed_no_order))]
+    pub fn orders(
+        &self,
+        client: u8,
+        session: u64,
+        command: &Command,
+        settings: &Settings,
+        up: bool,
+        moment: u64,
+    ) -> bool
+        ensures { result ≡ is_order (answer_of settings.now (asked client session command.now up moment) self.now) }
+    {
+        let Some((position, control)) = control_for(command, settings) else {
+            return false;
+        };
+        let asked = Asked {
+            client,
+            session,
+            command: *command,
+            up,
+            moment,
+        };
+        if command.cause == DEACTIVATION {
+            return false;
+        }
+        if is_select(&command.action) {
+            return false;
+        }
+        let standing = self.standing(position, settings, moment);
+        self.act_accepted(&asked, &control, &standing).is_some()
+    }
+
+    /// Takes a command of a client in a session, at a moment; `up` tells whether its outstation is.
+    pub fn command(
+        &mut self,
+        client: u8,
+        session: u64,
+        command: &Command,
+        settings: &Settings,
+        up: bool,
+        moment: u64,
+    ) -> Answer
+        requires { CanAnswer settings.now (asked client session command.now up moment) self.old }
+        ensures answer { result ≡ answer_of settings.now (asked client session command.now up moment) self.old }
+        ensures after { self.new
+            ≡ controls_after_command settings.now (asked client session command.now up moment) self.old }
+    {
+        let Some((position, control)) = control_for(command, settings) else {
+            return Answer::Unknown;
+        };
+        let asked = Asked {
+            client,
+            session,
+            command: *command,
+            up,
+            moment,
+        };
+        let standing = self.standing(position, settings, moment);
+        self.answer(&asked, position, &control, &standing)
+    }
+
+    /// Takes a command for a control, of which this selection stands.
+    fn answer(
+        &mut self,
+        asked: &Asked,
+        position: usize,
+        control: &Control,
+        standing: &Option<Selection>,
+    ) -> Answer
+        requires { is_order (answer_for asked.now control.now standing.now self.old) ≡ true
+            → self.old.ordered + 1 < 2 ^ 64 }
+        ensures answer { result ≡ answer_for asked.now control.now standing.now self.old }
+        ensures after { self.new ≡ controls_after_for asked.now position control.now standing.now self.old }
+    {
+        if asked.command.cause == DEACTIVATION {
+            self.unselect(asked, position);
+            return confirmed_if(is_own(asked, standing));
+        }
+        if is_select(&asked.command.action) {
+            let selectable = is_selectable(asked, control, standing);
+            if selectable {
+                self.select(asked, position);
+            }
+            return confirmed_if(selectable);
+        }
+        let act = self.act_accepted(asked, control, standing);
+        self.unselect(asked, position);
+        match act {
+            Some(act) => Answer::Ordered(self.order(asked, control, act)),
+            None => Answer::Negative,
+        }
+    }
+
+    /// The selection of a control that stands at a moment.
+    fn standing(&self, position: usize, settings: &Settings, moment: u64) -> Option<Selection>
+        ensures { result ≡ standing_at settings.now moment position self.now }
+    {
+        let selection = (*self.selections.get(position)?)?;
+        let session = *self.sessions.get(usize::from(selection.client))?;
+        if session == Some(selection.session)
+            && selection.is_fresh(settings.station().select_ms, moment)
+        {
+            Some(selection)
+        } else {
+            None
+        }
+    }
+
+    /// What an execute does to its control, where it is accepted.
+    fn act_accepted(
+        &self,
+        asked: &Asked,
+        control: &Control,
+        standing: &Option<Selection>,
+    ) -> Option<Act>
+        ensures { result ≡ act_accepted asked.now control.now standing.now self.now }
+    {
+        let act = act_of(&asked.command.action, &control.operates)?;
+        if !asked.up
+            || is_taken(asked, standing)
+            || (control.select && !is_selected(asked, standing))
+            || is_full_at(self.outgoing.as_slice(), control.outstation)
+        {
+            return None;
+        }
+        Some(act)
+    }
+
+    /// The client has a control selected no more.
+    fn unselect(&mut self, asked: &Asked, position: usize)
+        ensures { self.new ≡ controls_unselecting asked.now position self.old }
+    {
+        unselect_at(&mut self.selections, position, asked.client);
+    }
+
+    /// The client selects a control.
+    fn select(&mut self, asked: &Asked, position: usize)
+        ensures { self.new ≡ controls_selecting asked.now position self.old }
+    {
+        set_session(&mut self.sessions, asked.client, Some(asked.session));
+        select_at(
+            &mut self.selections,
+            position,
+            Selection {
+                client: asked.client,
+                session: asked.session,
+                action: asked.command.action,
+                since: asked.moment,
+            },
+        );
+    }
+
+    /// An execute that was accepted is an order, with this number.
+    fn order(&mut self, asked: &Asked, control: &Control, act: Act) -> u64
+        requires count { self.old.ordered + 1 < 2 ^ 64 }
+        requires place { is_full_at (slice_get self.old.outgoing control.now.outstation) ≡ false }
+        ensures number { result ≡ self.old.ordered + 1 }
+        ensures after { self.new ≡ controls_ordering asked.now control.now (Some act) self.old }
+    {
+        self.ordered += 1;
+        let accepted = accepted_by(asked, control, act, self.ordered);
+        push_at(&mut self.outgoing, control.outstation, accepted);
+        self.ordered
+    }
+
+    /// Gives the oldest order that waits for an outstation, where none is under way to it; then it is.
+    pub fn take_order(&mut self, outstation: u8) -> Option<Order>
+        ensures order { result ≡ order_at (slice_get self.old.outgoing outstation) }
+        ensures after { self.new ≡ controls_after_taking outstation self.old }
+    {
+        take_at(&mut self.outgoing, outstation)
+    }
+
+    /// An order that was under way ended: its outcome, where its session stands.
+    pub fn outcome(&mut self, ended: Ended) -> Option<Outcome>
+        ensures outcome { result ≡ outcome_among ended self.old.outgoing }
+        ensures after { self.new ≡ controls_after_ended ended self.old }
+    {
+        end_order(&mut self.outgoing, ended)
+    }
+
+    /// An outstation is lost: the oldest order that waits for it fails. None waits any more where nothing is answered.
+    pub fn lost(&mut self, outstation: u8) -> Option<Outcome>
+        ensures outcome { result ≡ outcome_lost_at (slice_get self.old.outgoing outstation) }
+        ensures after { self.new ≡ controls_after_lost outstation self.old }
+    {
+        lose_at(&mut self.outgoing, outstation)
+    }
+
+    /// A client's session ends: its selections and its orders that wait go, and nobody is told what becomes of those
+    /// that are under way.
+    pub fn end(&mut self, client: u8)
+        ensures { self.new ≡ controls_after_end client self.old }
+    {
+        set_session(&mut self.sessions, client, None);
+        end_session(&mut self.outgoing, client);
+    }
+}
+
+/// So many controls that nobody has selected.
+fn no_selections(alloc: Global, count: usize) -> Result<Vec<Option<Selection>>, Memory>
+    ensures { IfOk result (λ selections. selections.items ≡ replicate count None) }
+{
+    Ok(vec![in alloc; None; count]?)
+}
+
+/// So many outstations without orders.
+fn nothing_outgoing(alloc: Global, count: usize) -> Result<Vec<Outgoing>, Memory>
+    ensures { IfOk result (λ outgoing. outgoing.items ≡ replicate count nothing_outgoing) }
+{
+    let mut outgoing = Vec::with_capacity(alloc, count)?;
+    for _ in 0..count {
+        outgoing.push(Outgoing::new(alloc)?)?;
+    }
+    Ok(outgoing)
+}
+
+fn copied(alloc: Global, outgoing: &[Outgoing]) -> Result<Vec<Outgoing>, Memory>
+    ensures { IfOk result (λ copy. copy.items ≡ outgoing.now) }
+{
+    let mut copy = Vec::with_capacity(alloc, outgoing.len())?;
+    for one in outgoing {
+        copy.push(one.copy(alloc)?)?;
+    }
+    Ok(copy)
+}
+
+fn confirmed_if(told: bool) -> Answer
+    ensures { result ≡ confirmed_if told }
+{
+    if told {
+        Answer::Confirm
+    } else {
+        Answer::Negative
+    }
+}
+
+/// Whether a select is confirmed.
+fn is_selectable(asked: &Asked, control: &Control, standing: &Option<Selection>) -> bool
+    ensures { result ≡ is_selectable asked.now control.now standing.now }
+{
+    act_of(&asked.command.action, &control.operates).is_some() && !is_taken(asked, standing)
+}
+
+/// An execute that is accepted, with its number.
+fn accepted_by(asked: &Asked, control: &Control, act: Act, number: u64) -> Accepted
+    ensures { result ≡ accepted_by asked.now control.now act number }
+{
+    let intent = Intent {
+        outstation: control.outstation,
+        index: control.index,
+        act,
+    };
+    let sbo = matches!(control.mode, Mode::Sbo);
+    Accepted {
+        order: Order {
+            number,
+            intent,
+            sbo,
+        },
+        client: asked.client,
+        session: asked.session,
+        command: asked.command,
+    }
+}
+
+/// The session that stands for a client.
+fn set_session(sessions: &mut [Option<u64>; CLIENTS], client: u8, session: Option<u64>)
+    ensures { sessions.new ≡ change client (λ _. session) sessions.old }
+{
+    let position = usize::from(client);
+    if position < CLIENTS {
+        sessions[position] = session;
+    }
+}
+
+fn unselect_at(selections: &mut [Option<Selection>], position: usize, client: u8)
+    ensures { selections.new ≡ change position (unselected_by client) selections.old }
+{
+    if position < selections.len() {
+        selections[position] = unselected_by(client, selections[position]);
+    }
+}
+
+/// What is left of a selection once a client has its control selected no more.
+fn unselected_by(client: u8, selection: Option<Selection>) -> Option<Selection>
+    ensures { result ≡ unselected_by client selection }
+{
+    match selection {
+        Some(selection) if selection.client != client => Some(selection),
+        _ => None,
+    }
+}
+
+fn select_at(selections: &mut [Option<Selection>], position: usize, selection: Selection)
+    ensures { selections.new ≡ change position (λ _. Some selection) selections.old }
+{
+    if position < selections.len() {
+        selections[position] = Some(selection);
+    }
+}
+
+/// Whether no further order may wait for an outstation; none may where there is no such one.
+fn is_full_at(outgoing: &[Outgoing], outstation: u8) -> bool
+    ensures { result ≡ is_full_at (slice_get outgoing.now outstation) }
+{
+    match outgoing.get(usize::from(outstation)) {
+        Some(orders) => orders.is_full(),
+        None => true,
+    }
+}
+
+fn push_at(outgoing: &mut [Outgoing], outstation: u8, accepted: Accepted)
+    requires { is_full_at (slice_get outgoing.old outstation) ≡ false }
+    ensures { outgoing.new ≡ change outstation (outgoing_with accepted) outgoing.old }
+{
+    let position = usize::from(outstation);
+    if position < outgoing.len() {
+        outgoing[position].push(accepted);
+    }
+}
+
+fn take_at(outgoing: &mut [Outgoing], outstation: u8) -> Option<Order>
+    ensures order { result ≡ order_at (slice_get outgoing.old outstation) }
+    ensures after { outgoing.new ≡ change outstation outgoing_after_taking outgoing.old }
+{
+    let position = usize::from(outstation);
+    if position < outgoing.len() {
+        outgoing[position].take()
+    } else {
+        None
+    }
+}
+
+fn end_order(outgoing: &mut [Outgoing], ended: Ended) -> Option<Outcome>
+    ensures outcome { result ≡ outcome_among ended outgoing.old }
+    ensures after { outgoing.new ≡ map (outgoing_after_ended ended) outgoing.old }
+{
+    let mut outcome = None;
+    for position in 0..outgoing.len() {
+        let told = outgoing[position].end_order(ended);
+        outcome = outcome.or(told);
+    }
+    outcome
+}
+
+fn lose_at(outgoing: &mut [Outgoing], outstation: u8) -> Option<Outcome>
+    ensures outcome { result ≡ outcome_lost_at (slice_get outgoing.old outstation) }
+    ensures after { outgoing.new ≡ change outstation outgoing_after_lost outgoing.old }
+{
+    let position = usize::from(outstation);
+    if position < outgoing.len() {
+        outgoing[position].lose()
+    } else {
+        None
+    }
+}
+
+fn end_session(outgoing: &mut [Outgoing], client: u8)
+    ensures { outgoing.new ≡ map (outgoing_after_end client) outgoing.old }
+{
+    for position in 0..outgoing.len() {
+        outgoing[position].end_session(client);
+    }
+}

@@ -1,0 +1,159 @@
+//! Worked examples, computed by the definitions.
+ghost use Rattle.std.specs.Prelude.{◌≡◌, ◌-◌, ◌^◌, [], ◌∷◌, Some, None, pos, negsuc, map, true, false};
+ghost use Rattle.gw_model.specs.declared.control.Act.TheVariants.{Set, Switch};
+ghost use Rattle.gw_model.specs.declared.control.Shape.TheVariants.{Latch, Pulse};
+ghost use Rattle.iec_command.specs.declared.command.Action.TheVariants.{Read};
+ghost use Rattle.iec_command.specs.Example.{command, double, setpoint, single};
+ghost use Rattle.gw_control.specs.declared.answer.Answer.TheVariants.{Confirm, Negative, Ordered, Unknown};
+ghost use Rattle.gw_control.specs.Controls.{answer_of, controls_after_command, controls_after_end, controls_after_lost, no_controls};
+ghost use Rattle.gw_control.specs.Example.{
+  after,
+  after_end,
+  answered,
+  cancels,
+  done,
+  doubled,
+  executes,
+  loss,
+  next,
+  of_client,
+  operates,
+  order,
+  outcome,
+  selects,
+  selects_value,
+  sent,
+  sets,
+  setup,
+  setup_with,
+  sixteen,
+  told,
+  two_thirds,
+  while_down,
+};
+
+/// Selections, and executes that need one.
+pub fn selections_by_example()
+    // Client 0 selects and executes; the execute ends the selection.
+    ensures select { answered [] (selects 0 true 0 0) ≡ Confirm }
+    ensures execute { answered (selects 0 true 0 0 ∷ []) (executes 0 true 0 0) ≡ Ordered 1 }
+    ensures execute_again { answered (selects 0 true 0 0 ∷ executes 0 true 0 0 ∷ []) (executes 0 true 0 0) ≡ Negative }
+    ensures not_selected { answered [] (executes 0 true 0 0) ≡ Negative }
+    // It keeps client 1 out, who changes nothing by that.
+    ensures select_of_another { answered (selects 0 true 0 0 ∷ []) (selects 1 true 0 0) ≡ Negative }
+    ensures execute_of_another { answered (selects 0 true 0 0 ∷ []) (executes 1 true 0 0) ≡ Negative }
+    ensures still_there { answered (selects 0 true 0 0 ∷ selects 1 true 0 0 ∷ executes 1 true 0 0 ∷ [])
+        (executes 0 true 0 0) ≡ Ordered 1 }
+    ensures also_without_select { answered (selects_value 1 (pos 1) 0 ∷ []) (sets 0 (pos 1)) ≡ Negative }
+    // Another QU, or another state, is another command; it ends the selection too.
+    ensures other_qualifier { answered (selects 0 true 0 0 ∷ []) (executes 0 true 1 0) ≡ Negative }
+    ensures other_state { answered (selects 0 true 0 0 ∷ []) (executes 0 false 0 0) ≡ Negative }
+    ensures then_selected_no_more { answered (selects 0 true 0 0 ∷ executes 0 true 1 0 ∷ []) (executes 0 true 0 0)
+        ≡ Negative }
+    // The reserved bit of an SCO is neither read nor compared.
+    ensures reserved { answered (of_client 0 6 5001 (single true true 0 true) 0 ∷ []) (executes 0 true 0 0)
+        ≡ Ordered 1 }
+    // A select of the same client replaces and renews its selection.
+    ensures replaced { answered (selects 0 true 0 0 ∷ selects 0 false 0 0 ∷ []) (executes 0 true 0 0) ≡ Negative }
+    ensures renewed { answered (selects 0 true 0 0 ∷ selects 0 true 0 9999 ∷ []) (executes 0 true 0 19998) ≡ Ordered 1 }
+    // It stands for 10,000 ms.
+    ensures stands { answered (selects 0 true 0 0 ∷ []) (executes 0 true 0 9999) ≡ Ordered 1 }
+    ensures lapsed { answered (selects 0 true 0 0 ∷ []) (executes 0 true 0 10000) ≡ Negative }
+    ensures still_taken { answered (selects 0 true 0 0 ∷ []) (selects 1 true 0 9999) ≡ Negative }
+    ensures free { answered (selects 0 true 0 0 ∷ []) (selects 1 true 0 10000) ≡ Confirm }
+    ensures late { answered (selects 0 true 0 (2 ^ 64 - 5000) ∷ []) (executes 0 true 0 (2 ^ 64 - 1)) ≡ Ordered 1 }
+    // Cause 8 ends it, and is confirmed once, for the client alone that selected.
+    ensures cancel { answered (selects 0 true 0 0 ∷ []) (cancels 0 0) ≡ Confirm }
+    ensures cancel_again { answered (selects 0 true 0 0 ∷ cancels 0 0 ∷ []) (cancels 0 0) ≡ Negative }
+    ensures cancelled { answered (selects 0 true 0 0 ∷ cancels 0 0 ∷ []) (executes 0 true 0 0) ≡ Negative }
+    ensures cancel_of_another { answered (selects 0 true 0 0 ∷ []) (cancels 1 0) ≡ Negative }
+    ensures not_cancelled { answered (selects 0 true 0 0 ∷ cancels 1 0 ∷ []) (executes 0 true 0 0) ≡ Ordered 1 }
+    // Its session's end ends it, another one's doesn't.
+    ensures session_ended { answer_of setup (executes 0 true 0 0) (after_end 0 (selects 0 true 0 0 ∷ []))
+        ≡ Negative }
+    ensures free_again { answer_of setup (selects 1 true 0 0) (after_end 0 (selects 0 true 0 0 ∷ []))
+        ≡ Confirm }
+    ensures other_session_ended { answer_of setup (executes 0 true 0 0) (after_end 1 (selects 0 true 0 0 ∷ []))
+        ≡ Ordered 1 }
+{}
+
+/// What is refused whoever selected, and what is unknown.
+pub fn refusals_by_example()
+    // QU 4, a DCS of 0 and of 3, QL 1: of a select and of an execute.
+    ensures qualifier { map (answered []) (selects 0 true 4 0 ∷ operates 1 4 false ∷ []) ≡ Negative ∷ Negative ∷ [] }
+    ensures intermediate { map (answered []) (operates 0 0 true ∷ operates 0 0 false ∷ []) ≡ Negative ∷ Negative ∷ [] }
+    ensures indeterminate { map (answered []) (operates 3 0 true ∷ operates 3 0 false ∷ []) ≡ Negative ∷ Negative ∷ [] }
+    ensures states { map (answered []) (operates 1 0 true ∷ operates 1 0 false ∷ operates 2 0 false ∷ [])
+        ≡ Confirm ∷ Ordered 1 ∷ Ordered 1 ∷ [] }
+    ensures level { map (answered []) (selects_value 0 (pos 1) 1 ∷ of_client 0 6 5002 (setpoint (pos 1) 1 false) 0 ∷ [])
+        ≡ Negative ∷ Negative ∷ [] }
+    // A set point that leaves 16 bits.
+    ensures too_large { answer_of (setup_with doubled) (sets 0 (pos 20000)) (no_controls setup) ≡ Negative }
+    ensures too_large_selected { answer_of (setup_with doubled) (selects_value 0 (pos 20000) 0) (no_controls setup)
+        ≡ Negative }
+    ensures too_small { map (λ z. answer_of (setup_with doubled) (sets 0 z) (no_controls setup))
+        (negsuc 16384 ∷ negsuc 16383 ∷ []) ≡ Negative ∷ Ordered 1 ∷ [] }
+    // An outstation that is down can be selected for, and not commanded.
+    ensures down { map (λ a. answered [] (while_down a)) (operates 1 0 true ∷ operates 1 0 false ∷ [])
+        ≡ Confirm ∷ Negative ∷ [] }
+    // 16 orders wait, eight of each of two clients; a seventeenth is refused, as long as none is taken.
+    ensures sixteenth { answered (sets 0 (pos 1) ∷ []) (sets 1 (pos 1)) ≡ Ordered 2 }
+    ensures seventeenth { answered sixteen (sets 1 (pos 1)) ≡ Negative }
+    ensures one_taken { answer_of setup (sets 1 (pos 1)) (sent (after sixteen)) ≡ Ordered 17 }
+    // No control of its type has the address.
+    ensures other_type { answered [] (of_client 0 6 5001 (double 1 0 false) 0) ≡ Unknown }
+    ensures other_address { answered [] (of_client 0 6 5004 (double 1 0 false) 0) ≡ Unknown }
+    ensures no_command { answered [] (of_client 0 5 5001 Read 0) ≡ Unknown }
+    ensures unknown_changes_nothing { answered (selects 0 true 0 0 ∷ of_client 0 6 5001 (double 1 0 false) 0 ∷ [])
+        (executes 0 true 0 0) ≡ Ordered 1 }
+{}
+
+/// What orders ask of the outstation.
+pub fn intents_by_example()
+    // SCO: QU 0 at rest, here a latch; 1 a short pulse, 2 a long one, 3 a latch.
+    ensures rest { next (after (selects 0 true 0 0 ∷ executes 0 true 0 0 ∷ []))
+        ≡ Some (order 1 3 (Switch true Latch) false) }
+    ensures short { next (after (selects 0 true 1 0 ∷ executes 0 true 1 0 ∷ []))
+        ≡ Some (order 1 3 (Switch true (Pulse 500)) false) }
+    ensures long { next (after (selects 0 false 2 0 ∷ executes 0 false 2 0 ∷ []))
+        ≡ Some (order 1 3 (Switch false (Pulse 2000)) false) }
+    ensures persistent { next (after (selects 0 false 3 0 ∷ executes 0 false 3 0 ∷ []))
+        ≡ Some (order 1 3 (Switch false Latch) false) }
+    // DCO: 1 off, 2 on; here a pulse at rest.
+    ensures off { next (after (operates 1 0 false ∷ []))
+        ≡ Some (order 1 5 (Switch false (Pulse 500)) false) }
+    ensures on { next (after (operates 2 0 false ∷ []))
+        ≡ Some (order 1 5 (Switch true (Pulse 500)) false) }
+    // A set point, which is selected before it is operated.
+    ensures value { next (after (sets 0 (pos 1000) ∷ []))
+        ≡ Some (order 1 4 (Set (pos 1000)) true) }
+    ensures scaled { next (controls_after_command (setup_with two_thirds) (sets 0 (negsuc 7)) (no_controls setup))
+        ≡ Some (order 1 4 (Set (negsuc 4)) true) }
+{}
+
+/// Orders on their way.
+pub fn orders_by_example()
+    // Oldest first, one at a time; each has its outcome once.
+    ensures one_at_a_time { next (sent (after (sets 0 (pos 1) ∷ sets 1 (pos 2) ∷ []))) ≡ None }
+    ensures then_next { next (done 1 (sent (after (sets 0 (pos 1) ∷ sets 1 (pos 2) ∷ []))))
+        ≡ Some (order 2 4 (Set (pos 2)) true) }
+    ensures not_yet { outcome 1 true (after (sets 0 (pos 1) ∷ [])) ≡ None }
+    ensures outcomes { map (λ is_done. outcome 1 is_done (sent (after (sets 0 (pos 1) ∷ [])))) (true ∷ false ∷ [])
+        ≡ Some (told 0 (pos 1) true) ∷ Some (told 0 (pos 1) false) ∷ [] }
+    ensures of_another { outcome 2 true (sent (after (sets 0 (pos 1) ∷ sets 0 (pos 2) ∷ []))) ≡ None }
+    ensures once { outcome 1 true (done 1 (sent (after (sets 0 (pos 1) ∷ [])))) ≡ None }
+    // The outstation is lost: those that wait fail, oldest first.
+    ensures lost { loss (after (sets 0 (pos 1) ∷ sets 1 (pos 2) ∷ [])) ≡ Some (told 0 (pos 1) false) }
+    ensures lost_next { loss (controls_after_lost 0 (after (sets 0 (pos 1) ∷ sets 1 (pos 2) ∷ [])))
+        ≡ Some (told 1 (pos 2) false) }
+    ensures under_way_stays { loss (sent (after (sets 0 (pos 1) ∷ []))) ≡ None }
+    // A session ends: its orders that wait go, and the outcome of the one under way is told nobody.
+    ensures others_stay { next (after_end 0 (sets 0 (pos 1) ∷ sets 1 (pos 2) ∷ []))
+        ≡ Some (order 2 4 (Set (pos 2)) true) }
+    ensures discarded { outcome 1 true (controls_after_end 0 (sent (after (sets 0 (pos 1) ∷ [])))) ≡ None }
+    ensures other_ended { outcome 1 true (controls_after_end 1 (sent (after (sets 0 (pos 1) ∷ []))))
+        ≡ Some (told 0 (pos 1) true) }
+    ensures still_under_way { next (controls_after_end 0 (sent (after (sets 0 (pos 1) ∷ sets 1 (pos 2) ∷ [])))) ≡ None }
+    // Numbers go on.
+    ensures number { answer_of setup (sets 0 (pos 3)) (after_end 0 (sets 0 (pos 1) ∷ sets 0 (pos 2) ∷ [])) ≡ Ordered 3 }
+{}

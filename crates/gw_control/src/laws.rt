@@ -1,0 +1,51 @@
+//! Laws of selections and orders, whatever comes.
+ghost use Rattle.std.specs.Prelude.{◌≡◌, ◌≤◌, ℕ, List, Option, Some, slice_get, IfSome};
+ghost use Rattle.gw_model.specs.declared.control.Act.{Act};
+ghost use Rattle.gw_model.specs.declared.control.Ended.{Ended};
+ghost use Rattle.gw_entries.specs.declared.control.Control.{Control};
+ghost use Rattle.gw_map.specs.Settings.{Setup};
+ghost use Rattle.iec_command.specs.Commands.{IsWhole};
+ghost use Rattle.gw_control.specs.declared.asked.Asked.{Asked};
+ghost use Rattle.gw_control.specs.declared.selection.Selection.{Selection};
+ghost use Rattle.gw_control.specs.Controls.{act_accepted, no_controls, outcome_among, outcome_lost_at, standing_at, Controls, IsAccepted};
+ghost use Rattle.gw_control.specs.Moves.{after_move, outcomes_told, HasWholeCommands, IsSoundControls, IsWholeMove, Move, Spares};
+
+/// A selection ends by time, by its client's commands for the control, or with its session, and by nothing else: it
+/// stands at a moment after whatever else came before.
+pub fn selections_stand()
+    ensures { (setup : Setup) (moment position : ℕ) (s : Selection) (move : Move) (v : Controls)
+        → standing_at setup moment position v ≡ Some s → Spares setup moment position s move
+        → standing_at setup moment position (after_move setup move v) ≡ Some s }
+{}
+
+/// An execute that is accepted asks what its command asks, of an outstation that is up and has a place for it; no other
+/// client has the control selected, and this one has where the control wants it.
+pub fn accepted_executes()
+    ensures { (a : Asked) (control : Control) (standing : Option Selection) (v : Controls) (act : Act)
+        → act_accepted a control standing v ≡ Some act → IsAccepted a control standing v act }
+{}
+
+/// An order has at most one outcome: each number is told of at most once.
+pub fn outcomes_come_once()
+    ensures { (setup : Setup) (n : ℕ) (moves : List Move) → outcomes_told setup n moves (no_controls setup) ≤ 1 }
+{}
+
+/// There is always a place for each client, control and outstation, and the orders stay in order.
+pub fn controls_stay_sound()
+    ensures first { (setup : Setup) → IsSoundControls setup (no_controls setup) }
+    ensures kept { (setup : Setup) (move : Move) (v : Controls)
+        → IsSoundControls setup v → IsSoundControls setup (after_move setup move v) }
+{}
+
+/// The commands of orders, and so of outcomes, have the bits of their places, where all that came had.
+pub fn commands_stay_whole()
+    ensures first { (setup : Setup) → HasWholeCommands (no_controls setup) }
+    ensures kept { (setup : Setup) (move : Move) (v : Controls)
+        → IsWholeMove move → HasWholeCommands v → HasWholeCommands (after_move setup move v) }
+    ensures ended { (ended : Ended) (v : Controls)
+        → HasWholeCommands v
+        → IfSome (outcome_among ended v.outgoing) (λ outcome. IsWhole outcome.command) }
+    ensures lost { (outstation : ℕ) (v : Controls)
+        → HasWholeCommands v
+        → IfSome (outcome_lost_at (slice_get v.outgoing outstation)) (λ outcome. IsWhole outcome.command) }
+{}

@@ -1,0 +1,15 @@
+//! The core's part for controls: clients' selections, and the orders on their way to outstations.
+#![tactic(auto)]
+
+mod accepted;
+mod answer;
+mod asked;
+mod controls;
+pub mod examples;
+mod intent;
+pub mod laws;
+mod outgoing;
+mod selection;
+
+pub use answer::{Answer, Outcome};
+pub use controls::Controls;
