@@ -1,5 +1,6 @@
 //! The recorder.
 ghost use Rattle.std.specs.Prelude.{◌≡◌, ◌+◌, ◌<◌, ◌^◌, ◌↔◌, Some, true, false, IfOk, IfSome, IsSome, OnErr, OnOk, length, option_map, replicate, slice_index};
+ghost use Rattle.gw_record.specs.Recorded.{IsNumbered};
 ghost use Rattle.gw_record.specs.Recording.{is_tape_full, noted, recording_off, rolled, tape_on, tape_with, HasRoom};
 
 use crate::entry::Entry;
@@ -115,6 +116,7 @@ impl Recorder {
         ensures on { IsSome result ↔ IsSome self.now.tape }
         ensures kept { IfSome result (λ d. IfSome self.now.tape (λ t.
             (d.base.now ≡ t.base) × (d.counts.now ≡ t.before) × (d.entries.now ≡ t.entries))) }
+        ensures numbered { IfSome result (λ d. IsNumbered d.counts.now d.entries.now) }
     {
         let tape = self.tape.as_ref()?;
         Some(Dump {

@@ -9,7 +9,7 @@ use gw_hub::{ApduBuf, Reply, StepFault};
 pub enum Pumped {
     /// With this answer, which is no APDU.
     Ended(Result<Reply, StepFault>),
-    /// There is no room for one more APDU.
+    /// There may be more.
     More,
 }
 

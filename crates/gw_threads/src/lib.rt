@@ -1,6 +1,6 @@
 //! The workers round the shared core: readers, which take octets from a peer, turn them into steps and make these; writers,
-//! which ask the core what goes to a peer and hand it over; and the clock. No lock is held while octets are decoded, encoded,
-//! read or handed to a client. Each worker gives its pass back when it ends, and tells why it ended.
+//! which ask the core what goes to a peer and hand it over; and the clock. The core's lock isn't held while octets are read
+//! from a peer, taken apart or handed over. Each worker gives its pass back when it ends, and tells why it ended.
 #![tactic(auto)]
 
 mod call;
