@@ -1,6 +1,7 @@
 -- What is answered to a request.
-use Rattle.std.specs.Prelude.{◌≡◌, ◌≤◌, ◌⊎◌, ◌++◌, ℕ, Bool, ◌||◌, ◌==◌, Result, Ok, Err, Option, Some, None, List, codes, false, if◌then◌else◌, length, position, take}
+use Rattle.std.specs.Prelude.{◌≡◌, ◌≤◌, ◌⊎◌, ◌++◌, ℕ, Bool, ◌||◌, ◌==◌, Result, Ok, Err, Option, Some, None, List, codes, false, if◌then◌else◌, drop, length, nat_eq, position, take}
 use Rattle.std.specs.Io.KnownBytes.{Consumes}
+use Rattle.std.specs.List.{starts_with}
 use Rattle.std.specs.Str.{bytes_eq}
 use Rattle.httparse.specs.Grammar.{HasNoRequest, MayBecomeRequest, NeverHasRequest, ReadsRequest, RequestHead}
 use Rattle.httparse.specs.Spans.{RequestOverflows}
@@ -19,9 +20,30 @@ before target (Some i) = take i target
 abbrev pub query_in : List ℕ → Option ℕ
 query_in = position (λ x. x == 63)
 
--- the path of a target: what stands before its query
+-- what stands before the query of a target
+abbrev pub before_query : List ℕ → List ℕ
+before_query target = before target (query_in target)
+
+-- what stands from a place on, or the root
+abbrev pub from_place : List ℕ → Option ℕ → List ℕ
+from_place target None = codes "/"
+from_place target (Some i) = drop i target
+
+-- where a host ends, if a path follows: at the first slash
+abbrev pub host_end : List ℕ → Option ℕ
+host_end = position (λ x. x == 47)
+
+-- the path behind a host; the root where none is written
+abbrev pub behind_host : List ℕ → List ℕ
+behind_host target = from_place target (host_end target)
+
+-- the path of what stands before a query: in absolute form (RFC 9112, 3.2.2) it stands behind the host
+abbrev pub path_in : List ℕ → List ℕ
+path_in target = if starts_with nat_eq target (codes "http://") then behind_host (drop 7 target) else target
+
+-- the path of a target, to which a query does not belong
 abbrev pub path_of : List ℕ → List ℕ
-path_of target = before target (query_in target)
+path_of target = path_in (before_query target)
 
 -- what lies at a path
 abbrev pub found_at : List ℕ → Result Asked Refusal

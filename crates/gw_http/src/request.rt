@@ -1,6 +1,6 @@
 //! What a request asks for.
 ghost use Rattle.std.specs.Prelude.{◌≡◌};
-ghost use Rattle.gw_http.specs.Requests.{found_at, path_of, query_in, refused, request_of};
+ghost use Rattle.gw_http.specs.Requests.{before_query, behind_host, found_at, host_end, path_of, query_in, refused, request_of};
 
 /// What is told of the gateway.
 #[derive(Clone, Copy)]
@@ -55,9 +55,38 @@ impl Request {
     }
 }
 
-/// The path of a target, to which a query does not belong.
+/// The path of a target: in absolute form (RFC 9112, 3.2.2) it stands behind the host.
 fn path_of(target: &[u8]) -> &[u8]
     ensures { result.now ≡ path_of target.now }
+{
+    let target = before_query(target);
+    if target.starts_with(b"http://") {
+        behind_host(&target[7..])
+    } else {
+        target
+    }
+}
+
+/// The path behind a host; the root where none is written.
+fn behind_host(target: &[u8]) -> &[u8]
+    ensures { result.now ≡ behind_host target.now }
+{
+    match host_end(target) {
+        Some(end) => &target[end..],
+        None => b"/",
+    }
+}
+
+/// Where the host ends, if a path follows.
+fn host_end(target: &[u8]) -> Option<usize>
+    ensures { result ≡ host_end target.now }
+{
+    target.iter().position(|octet| *octet == b'/')
+}
+
+/// What stands before the query of a target.
+fn before_query(target: &[u8]) -> &[u8]
+    ensures { result.now ≡ before_query target.now }
 {
     match query_in(target) {
         Some(end) => &target[..end],

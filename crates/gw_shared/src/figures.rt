@@ -1,5 +1,6 @@
 //! What is counted under the lock.
 
+use crate::dropped::Dropped;
 use crate::roused::CLIENTS;
 use gw_hub::Hub;
 
@@ -14,27 +15,25 @@ pub struct Figures {
     pub queued: [usize; 8],
     /// For each client the I formats sent that are not acknowledged.
     pub unacknowledged: [usize; 8],
-    /// For each client the news of its session that were dropped.
+    /// For each client the news that were dropped, in all its data transfers and those of the clients before it.
     pub dropped: [u64; 8],
 }
 
 impl Figures {
-    /// Those of a hub on which so many calls were made.
-    pub(crate) fn of(calls: u64, hub: &Hub) -> Figures {
+    /// Those of a hub on which so many calls were made, and so much was dropped in data transfers that have ended.
+    pub(crate) fn of(calls: u64, hub: &Hub, dropped: &Dropped) -> Figures {
         let mut queued = [0; 8];
         let mut unacknowledged = [0; 8];
-        let mut dropped = [0; 8];
         for client in 0..CLIENTS {
             queued[usize::from(client)] = hub.queued(client);
             unacknowledged[usize::from(client)] = hub.unacknowledged(client);
-            dropped[usize::from(client)] = hub.dropped(client);
         }
         Figures {
             calls,
             news: hub.news(),
             queued,
             unacknowledged,
-            dropped,
+            dropped: dropped.in_all(hub),
         }
     }
 }

@@ -5,6 +5,7 @@
 mod batch;
 mod bell;
 mod close;
+mod dropped;
 mod figures;
 mod locked;
 mod pass;

@@ -7,6 +7,7 @@ ghost use Rattle.gw_shared.specs.Pumping.{IsPumpedNext, IsPumpedRun};
 ghost use Rattle.gw_shared.specs.Turn.{last_call, Answers, IsMadeReady, Steps};
 
 use crate::batch::{Batch, LONGEST_APDU};
+use crate::dropped::{Dropped, Watch};
 use crate::figures::Figures;
 use crate::pass::Pass;
 use crate::pumped::{Pumped, apdu_in};
@@ -21,13 +22,15 @@ use std::sync::ledger::{Book, Ledger, Share};
 /// How many pumps are made at most before others may take the lock.
 const MOST_PUMPS: u32 = 64;
 
-/// A hub with its recorder, the count of calls, and the book of all passes' counts.
+/// A hub with its recorder, the count of calls, the book of all passes' counts, and what was dropped for clients, which no
+/// contract sees.
 #[derive(Drop)]
 pub struct Core<L: Ledger> {
     hub: Hub,
     recorder: Recorder,
     made: u64,
     book: Book<L>,
+    dropped: Dropped,
 }
 
 impl<L: Ledger> Model for Core<L> {
@@ -65,6 +68,7 @@ impl<L: Ledger> Core<L> {
             recorder,
             made: 0,
             book,
+            dropped: Dropped::new(),
         })
     }
 
@@ -78,7 +82,22 @@ impl<L: Ledger> Core<L> {
             return (u64::MAX, Err(StepFault::Spent));
         }
         self.make_ready();
-        self.make(pass, step)
+        let before = self.watch(&step);
+        let answer = self.make(pass, step);
+        self.note_dropped(before);
+        answer
+    }
+
+    /// What is to be watched before a step is made.
+    fn watch(&self, step: &Step) -> Watch {
+        Watch::of(Topic::of(step), &self.hub)
+    }
+
+    /// What was watched is compared with what the step left.
+    fn note_dropped(&mut self, before: Watch)
+        ensures { self.new ≡ self.old }
+    {
+        self.dropped.note(before, &self.hub);
     }
 
     /// The same call, of which the lock's taker knows what all calls keep; and whom it serves.
@@ -177,7 +196,7 @@ impl<L: Ledger> Core<L> {
 
     /// What is counted.
     pub fn figures(&self) -> Figures {
-        Figures::of(self.made, &self.hub)
+        Figures::of(self.made, &self.hub, &self.dropped)
     }
 
     /// How many calls were made, for whoever has all passes' shares.
@@ -199,6 +218,7 @@ impl<L: Ledger> Core<L> {
             recorder,
             made: _,
             book: _,
+            dropped: _,
         } = self;
         (hub, recorder)
     }

@@ -137,7 +137,7 @@ const FUNCTIONS: &str = "
 ";
 
 const NETWORK: &str =
-    "[x] connections of clients at a time: 8, each with its own session, windows, timers and queue
+    "[x] connections of clients at a time: 8, each with its own data transfer, windows, timers and queue
 [ ] redundancy groups; serial X.21 interface; other selections from RFC 2200
 [ ] TLS (IEC 62351-3), secure authentication
 ";
@@ -217,6 +217,6 @@ fn write_network<W: Write>(station: &Station, writer: &mut W) -> io::Result<()> 
         writer,
         "[x] listening over TCP: {listen} (port 2404 in the standard)"
     )?;
-    writeln!(writer, "[x] news kept for each client: {queue}")?;
+    writeln!(writer, "[x] spontaneous observations that may wait for each client: {queue}")?;
     writer.write_all(NETWORK.as_bytes())
 }
