@@ -217,6 +217,9 @@ fn write_network<W: Write>(station: &Station, writer: &mut W) -> io::Result<()> 
         writer,
         "[x] listening over TCP: {listen} (port 2404 in the standard)"
     )?;
-    writeln!(writer, "[x] spontaneous observations that may wait for each client: {queue}")?;
+    writeln!(
+        writer,
+        "[x] spontaneous observations that may wait for each client: {queue}"
+    )?;
     writer.write_all(NETWORK.as_bytes())
 }
