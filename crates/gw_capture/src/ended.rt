@@ -33,11 +33,11 @@ impl From<io::Error> for Cause {
 impl fmt::Display for Cause {
     fn fmt<W: fmt::Write>(&self, f: &mut fmt::Formatter<W>) -> fmt::Result {
         match self {
-            Cause::QueueFull => write!(f, "too much waits to be written"),
-            Cause::NotWritten => write!(f, "nothing could be written"),
-            Cause::Full { megabytes } => write!(f, "a file has reached {megabytes} MB"),
-            Cause::Memory => write!(f, "no memory"),
-            Cause::Closed => write!(f, "the gateway ends"),
+            Cause::QueueFull => f.write_str("too many steps waited to be written"),
+            Cause::NotWritten => f.write_str("it couldn't be written"),
+            Cause::Full { megabytes } => write!(f, "it has {megabytes} MB"),
+            Cause::Memory => f.write_str("no memory"),
+            Cause::Closed => f.write_str("the gateway ends"),
         }
     }
 }

@@ -20,10 +20,8 @@ pub struct ClientFigures {
     pub started: bool,
     /// Why connections of this place ended.
     pub closes: Closes,
-    /// The observations that were dropped since too many waited.
-    pub dropped: u64,
-    /// Those of this session.
-    dropped_of_session: u64,
+    /// How many observations were dropped by the last look.
+    dropped: u64,
     dropped_told: Throttle,
 }
 
@@ -48,7 +46,6 @@ impl ClientFigures {
                 lost: 0,
             },
             dropped: 0,
-            dropped_of_session: 0,
             dropped_told: Throttle::new(MINUTE_MS),
         }
     }
@@ -58,21 +55,7 @@ impl ClientFigures {
         self.address = Some(address);
         self.connected_since = Some(wall);
         self.started = false;
-        self.dropped_of_session = 0;
         self.dropped_told = Throttle::new(MINUTE_MS);
-    }
-
-    /// It starts data transfer, unless it has: a session begins.
-    pub fn started(&mut self) {
-        if !self.started {
-            self.started = true;
-            self.dropped_of_session = 0;
-        }
-    }
-
-    /// It stops data transfer.
-    pub fn stopped(&mut self) {
-        self.started = false;
     }
 
     /// Its connection ended.
@@ -103,27 +86,10 @@ impl ClientFigures {
         }
     }
 
-    /// So many observations of its session were dropped by now. Where that is to be told, how many weren't told yet.
+    /// So many observations were dropped at this place by now. Where that is to be told, how many weren't told yet.
     pub fn dropped(&mut self, wall: u64, total: u64) -> Option<u64> {
-        self.count_dropped(total);
+        self.dropped_told.add(total.saturating_sub(self.dropped));
+        self.dropped = self.dropped.max(total);
         self.dropped_told.pending(wall)
-    }
-
-    /// So many were dropped in all, and the session ends; how many weren't told yet, if some weren't.
-    pub fn dropped_in_all(&mut self, total: u64) -> Option<u64> {
-        self.count_dropped(total);
-        self.dropped_told.pending(u64::MAX)
-    }
-
-    /// So many observations of its session were dropped by now.
-    fn count_dropped(&mut self, total: u64) {
-        let more = match total.checked_sub(self.dropped_of_session) {
-            Some(more) => more,
-            // Another session has begun.
-            None => total,
-        };
-        self.dropped_of_session = total;
-        self.dropped = self.dropped.saturating_add(more);
-        self.dropped_told.add(more);
     }
 }

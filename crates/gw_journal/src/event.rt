@@ -4,6 +4,7 @@ use crate::cause::Cause;
 use crate::doubt::Doubt;
 use crate::failure::Failure;
 use crate::unreadable::Unreadable;
+use gw_capture::Ended;
 use std::net::{IpAddr, SocketAddr};
 
 /// How much an event matters. Its number is the priority that journald reads in front of a line, as in `<4>`.
@@ -15,22 +16,6 @@ pub enum Priority {
     Warning = 4,
     /// All is as it should be.
     Information = 6,
-}
-
-/// Why the recording ended before the gateway did.
-#[derive(Clone, Copy)]
-pub enum RecordingEnd {
-    /// More steps waited to be written than there is room for.
-    QueueFull,
-    /// The file couldn't be written.
-    NotWritten,
-    /// The file has as many megabytes as it may have.
-    Full {
-        /// So many.
-        megabytes: u64,
-    },
-    /// Memory ran out.
-    Memory,
 }
 
 /// What happened. Outstations and clients go by their positions.
@@ -151,13 +136,6 @@ pub enum Event {
         /// How many, since they were told last.
         count: u64,
     },
-    /// The oldest idle connection of an address is shut, since a newer one of it took the last place.
-    GaveWay {
-        /// Its place.
-        client: u8,
-        /// Where it connects from.
-        address: SocketAddr,
-    },
     /// Further control centres have to wait.
     AllPlacesTaken,
     /// The next control centre is served again.
@@ -172,12 +150,7 @@ pub enum Event {
     /// A connection of a control centre couldn't be accepted.
     NotAccepted(Failure),
     /// The recording ended.
-    RecordingEnded {
-        /// At which step of the core.
-        step: u64,
-        /// Why.
-        cause: RecordingEnd,
-    },
+    RecordingEnded(Ended),
     /// So many events weren't told, since they came faster than they were written.
     LeftOut(u64),
     /// All workers have ended.
@@ -221,10 +194,9 @@ impl Event {
             | Event::OctetsSkipped { .. }
             | Event::ClientLost { .. }
             | Event::NewsDropped { .. }
-            | Event::GaveWay { .. }
             | Event::AllPlacesTaken
             | Event::NotAllowed { .. }
-            | Event::RecordingEnded { .. }
+            | Event::RecordingEnded(_)
             | Event::LeftOut(_) => Priority::Warning,
         }
     }
@@ -239,7 +211,7 @@ impl Event {
             | Event::PlaceFree
             | Event::NotAllowed { .. }
             | Event::NotAccepted(_)
-            | Event::RecordingEnded { .. }
+            | Event::RecordingEnded(_)
             | Event::LeftOut(_)
             | Event::Stopped => Subject::Gateway,
             Event::OutstationConnected { outstation }
@@ -263,8 +235,7 @@ impl Event {
                 client,
                 address,
                 ..
-            }
-            | Event::GaveWay { client, address } => Subject::Client(*client, *address),
+            } => Subject::Client(*client, *address),
         }
     }
 }

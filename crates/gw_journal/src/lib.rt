@@ -18,7 +18,7 @@ mod waiting;
 pub use cause::Cause;
 pub use client_figures::ClientFigures;
 pub use doubt::Doubt;
-pub use event::{Event, Priority, RecordingEnd};
+pub use event::{Event, Priority};
 pub use failure::Failure;
 pub use journal::Journal;
 pub use note_line::{Note, NoteLine};

@@ -2,7 +2,7 @@
 
 use crate::counted::{AndMore, Counted};
 use crate::doubt::Doubt;
-use crate::event::{Event, RecordingEnd, Subject};
+use crate::event::{Event, Subject};
 use gw_text::Plain;
 use jiff::Timestamp;
 use std::fmt;
@@ -96,7 +96,7 @@ impl<'a> NoteLine<'a> {
                 write!(f, "{address} isn't allowed to connect{more}")
             }
             Event::NotAccepted(cause) => write!(f, "no connection accepted: {cause}"),
-            Event::RecordingEnded { step, cause } => write_recording_end(f, *step, *cause),
+            Event::RecordingEnded(ended) => write!(f, "the {ended}"),
             Event::LeftOut(count) => {
                 let events = Counted(*count, "event");
                 write!(f, "{events} left out")
@@ -194,23 +194,7 @@ impl<'a> NoteLine<'a> {
                 let observations = Counted(*count, "observation");
                 write!(f, "{observations} dropped, since too many waited")
             }
-            Event::GaveWay { .. } => f.write_str("gives way to a newer connection of its address"),
             _ => Ok(()),
         }
-    }
-}
-
-/// Writes why the recording ended.
-fn write_recording_end<W: fmt::Write>(
-    f: &mut fmt::Formatter<W>,
-    step: u64,
-    cause: RecordingEnd,
-) -> fmt::Result {
-    write!(f, "the recording ended at step {step}: ")?;
-    match cause {
-        RecordingEnd::QueueFull => f.write_str("too many steps waited to be written"),
-        RecordingEnd::NotWritten => f.write_str("it couldn't be written"),
-        RecordingEnd::Full { megabytes } => write!(f, "it has {megabytes} megabytes"),
-        RecordingEnd::Memory => f.write_str("no memory"),
     }
 }

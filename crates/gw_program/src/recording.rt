@@ -2,7 +2,7 @@
 
 use gw_capture::{Capture, Cause, Ended, Kept, Pumps};
 use gw_hub::{Step, StepFault};
-use gw_journal::{Event, Journal, RecordingEnd};
+use gw_journal::{Event, Journal};
 use gw_server::{Gate, Place};
 use gw_threads::{Call, Pumped, Run};
 use std::sync::Wait;
@@ -61,13 +61,7 @@ impl<'a, R: Wait> Gate for Recording<'a, R> {
 
 /// Tells the journal that a recording ended before the gateway did.
 pub fn tell_end<R: Wait>(rt: &R, journal: &Journal, wall: u64, ended: Ended) {
-    let cause = match ended.cause {
-        Cause::QueueFull => RecordingEnd::QueueFull,
-        Cause::NotWritten => RecordingEnd::NotWritten,
-        Cause::Full { megabytes } => RecordingEnd::Full { megabytes },
-        Cause::Memory => RecordingEnd::Memory,
-        Cause::Closed => return,
-    };
-    let step = ended.step;
-    journal.tell(rt, wall, Event::RecordingEnded { step, cause });
+    if ended.cause != Cause::Closed {
+        journal.tell(rt, wall, Event::RecordingEnded(ended));
+    }
 }

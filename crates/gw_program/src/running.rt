@@ -206,6 +206,9 @@ impl<'a, H: Host> Site<'a, H> {
             move || self.write_record(kept, files),
             move || self.serve_into(kept, settings),
         );
+        // The journal's thread has ended before the capture did.
+        self.journal.close(self.host);
+        self.journal.write_on(self.host);
         Ok(closed?)
     }
 

@@ -41,18 +41,13 @@ impl ClientCard {
         self.hold.lock(rt).leaves()
     }
 
-    /// So many news of the client's session were dropped by now. Where that is to be told, where it connects from, and how many
-    /// weren't told yet.
+    /// So many observations were dropped at this place by now. Where that is to be told, where its client connects from, and how
+    /// many weren't told yet.
     pub fn dropped<R: Wait>(&self, rt: &R, wall: u64, total: u64) -> Option<(SocketAddr, u64)> {
         let mut figures = self.figures.lock(rt);
         let address = figures.address?;
         let count = figures.dropped(wall, total)?;
         Some((address, count))
-    }
-
-    /// So many were dropped in all, and the session ends; how many weren't told yet, if some weren't.
-    pub fn dropped_in_all<R: Wait>(&self, rt: &R, total: u64) -> Option<u64> {
-        self.figures.lock(rt).dropped_in_all(total)
     }
 
     /// The client has started or stopped data transfer; where it connects from, if it hadn't before.
@@ -62,11 +57,7 @@ impl ClientCard {
         if figures.started == starts {
             return None;
         }
-        if starts {
-            figures.started();
-        } else {
-            figures.stopped();
-        }
+        figures.started = starts;
         figures.address
     }
 }

@@ -1,10 +1,12 @@
 //! One place for clients: its workers, client after client.
+ghost use Rattle.std.specs.Thread.{IsSend, IsSync};
 
 use crate::board::ClientCard;
 use crate::ending::Ending;
 use crate::host::Host;
 use crate::house::House;
 use crate::lobby::{Lobby, Visit};
+use crate::lookout::{ANY_TIME, tell_dropped};
 use crate::sockets::{ClientSocket, shut};
 use gw_hub::{Step, Why};
 use gw_journal::{Cause, Event};
@@ -67,15 +69,7 @@ fn serve_visit<L: Ledger + Send + Sync, R: Host, C: Clock + Sync, G: Gate + Sync
     house.tell(Event::ClientConnected { client, address });
     let (passes, cause) = exchange(house, client, passes, &stream);
     let cause = told_as(house, card, cause);
-    let dropped = house.shared.figures(house.rt).dropped;
-    let total = dropped.get(usize::from(client)).copied().unwrap_or(0);
-    if let Some(count) = card.dropped_in_all(house.rt, total) {
-        house.tell(Event::NewsDropped {
-            client,
-            address,
-            count,
-        });
-    }
+    tell_last_dropped(house, card, client);
     card.figures.lock(house.rt).ended(&cause);
     card.free(house.rt);
     house.tell(Event::ClientLost {
@@ -84,6 +78,18 @@ fn serve_visit<L: Ledger + Send + Sync, R: Host, C: Clock + Sync, G: Gate + Sync
         cause,
     });
     passes
+}
+
+/// Tells how many observations were dropped for a client whose connection has ended, and weren't told yet.
+fn tell_last_dropped<L: Ledger, R: Host, C: Clock, G: Gate>(
+    house: &House<'_, L, R, C, G>,
+    card: &ClientCard,
+    client: u8,
+) {
+    let dropped = house.shared.figures(house.rt).dropped;
+    if let Some(total) = dropped.get(usize::from(client)) {
+        tell_dropped(house, card, client, ANY_TIME, *total);
+    }
 }
 
 /// Why a connection ended, by what its workers met.
@@ -113,10 +119,24 @@ fn exchange<L: Ledger + Send + Sync, R: Host, C: Clock + Sync, G: Gate + Sync>(
     let Passes { reader, writer } = passes;
     let ending = Ending::new();
     let ended = &ending;
-    let ((writer, written), (reader, read)) = thread::join(
+    let ((reader, read), (writer, written)) = thread::scope(
+        thread::scope_env(),
         house.rt,
-        move || write(house, client, writer, stream, ended),
-        move || read_from(house, client, reader, stream, ended),
+        move |scope| -> ((Pass<L>, WorkerEnd), (Pass<L>, WorkerEnd))
+            requires { IsSend L.row × IsSync L.row × IsSync R.row × IsSync C.row × IsSync G.row }
+        {
+            let writing = scope.spawn(move || write(house, client, writer, stream, ended));
+            if writing.is_err() {
+                // No thread can be made: the reader finds the connection shut, and the writer its peer down.
+                ended.writer();
+                shut(stream);
+            }
+            let read = read_from(house, client, reader, stream, ended);
+            match writing {
+                Ok(thread) => (read, thread.join(house.rt)),
+                Err(refused) => (read, ((refused.value)().0, WorkerEnd::Memory)),
+            }
+        },
     );
     let cause = ending.cause(read, written);
     (Passes { reader, writer }, cause)

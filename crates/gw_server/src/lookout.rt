@@ -1,5 +1,6 @@
 //! What is told once in a while.
 
+use crate::board::ClientCard;
 use crate::host::Host;
 use crate::house::House;
 use gw_journal::{Due, Event, Refused};
@@ -14,6 +15,9 @@ const PIECE_MS: u64 = 100;
 /// How many pieces a second has.
 const PIECES: u32 = 10;
 
+/// A time at which whatever waits for its time is due.
+pub const ANY_TIME: u64 = u64::MAX;
+
 /// Looks at what is known of all peers each second, and tells what is due, until the server ends.
 pub fn look_out<L: Ledger, R: Host, C: Clock, G: Gate>(house: &House<'_, L, R, C, G>) {
     for _ in house.rt.forever() {
@@ -22,10 +26,7 @@ pub fn look_out<L: Ledger, R: Host, C: Clock, G: Gate>(house: &House<'_, L, R, C
             return;
         }
         let wall = house.clock.wall();
-        for (outstation, card) in (0u8..).zip(house.board.outstations()) {
-            let due = card.figures.lock(house.rt).due(wall);
-            tell_of_outstation(house, outstation, due);
-        }
+        look_at_outstations(house, wall);
         look_at_clients(house, wall);
     }
 }
@@ -37,6 +38,17 @@ pub fn pause<L: Ledger, R: Host, C: Clock, G: Gate>(house: &House<'_, L, R, C, G
             return;
         }
         thread::sleep(house.rt, Duration::from_millis(PIECE_MS));
+    }
+}
+
+/// Tells what is due of the outstations.
+pub fn look_at_outstations<L: Ledger, R: Host, C: Clock, G: Gate>(
+    house: &House<'_, L, R, C, G>,
+    wall: u64,
+) {
+    for (outstation, card) in (0u8..).zip(house.board.outstations()) {
+        let due = card.figures.lock(house.rt).due(wall);
+        tell_of_outstation(house, outstation, due);
     }
 }
 
@@ -61,19 +73,30 @@ fn tell_of_outstation<L: Ledger, R: Host, C: Clock, G: Gate>(
     }
 }
 
-/// Tells how many news were dropped for clients.
+/// Tells how many observations were dropped for clients.
 fn look_at_clients<L: Ledger, R: Host, C: Clock, G: Gate>(
     house: &House<'_, L, R, C, G>,
     wall: u64,
 ) {
     let dropped = house.shared.figures(house.rt).dropped;
     for (client, (card, total)) in (0u8..).zip(house.board.clients().iter().zip(&dropped)) {
-        if let Some((address, count)) = card.dropped(house.rt, wall, *total) {
-            house.tell(Event::NewsDropped {
-                client,
-                address,
-                count,
-            });
-        }
+        tell_dropped(house, card, client, wall, *total);
+    }
+}
+
+/// Tells how many observations were dropped for a client, where that is due: so many were at its place by now.
+pub fn tell_dropped<L: Ledger, R: Host, C: Clock, G: Gate>(
+    house: &House<'_, L, R, C, G>,
+    card: &ClientCard,
+    client: u8,
+    wall: u64,
+    total: u64,
+) {
+    if let Some((address, count)) = card.dropped(house.rt, wall, total) {
+        house.tell(Event::NewsDropped {
+            client,
+            address,
+            count,
+        });
     }
 }

@@ -1,4 +1,5 @@
 //! One outstation: its workers, connection after connection.
+ghost use Rattle.std.specs.Thread.{IsSend, IsSync};
 
 use crate::client::Passes;
 use crate::ending::Ending;
@@ -51,11 +52,15 @@ pub fn serve_outstation<L: Ledger + Send + Sync, R: Host, C: Clock + Sync, G: Ga
     passes
 }
 
-/// Whether it is to be told that no connection could be made: for another reason than it was told, or an hour later.
+/// Whether it is to be told that no connection could be made: for another reason than it was told, or an hour later. An hour
+/// has passed where the clock was set back.
 fn is_news(told: Option<(Failure, u64)>, cause: Failure, wall: u64) -> bool {
     match told {
-        Some((before, at)) => before != cause || wall.saturating_sub(at) >= AGAIN_MS,
-        None => true,
+        Some((before, at)) if before == cause => match wall.checked_sub(at) {
+            Some(passed) => passed >= AGAIN_MS,
+            None => true,
+        },
+        _ => true,
     }
 }
 
@@ -116,10 +121,25 @@ fn exchange<L: Ledger + Send + Sync, R: Host, C: Clock + Sync, G: Gate + Sync>(
     let socket = OutstationSocket::new(stream, &ending, plan.silence, plan.response);
     let line = Line::new(socket, plan.own, plan.peer);
     let (ended, shared_line) = (&ending, &line);
-    let ((writer, written), (reader, read)) = thread::join(
+    let ((reader, read), (writer, written)) = thread::scope(
+        thread::scope_env(),
         house.rt,
-        move || write(house, outstation, writer, shared_line, stream, ended),
-        move || read_from(house, outstation, plan, reader, shared_line, stream, ended),
+        move |scope| -> ((Pass<L>, WorkerEnd), (Pass<L>, WorkerEnd))
+            requires { IsSend L.row × IsSync L.row × IsSync R.row × IsSync C.row × IsSync G.row }
+        {
+            let work = move || write(house, outstation, writer, shared_line, stream, ended);
+            let writing = scope.spawn(work);
+            if writing.is_err() {
+                // No thread can be made: the reader finds the connection shut, and the writer its peer down.
+                ended.writer();
+                shut(stream);
+            }
+            let read = read_from(house, outstation, plan, reader, shared_line, stream, ended);
+            match writing {
+                Ok(thread) => (read, thread.join(house.rt)),
+                Err(refused) => (read, ((refused.value)().0, WorkerEnd::Memory)),
+            }
+        },
     );
     let cause = if house.shared.stopping() {
         Cause::GatewayEnds

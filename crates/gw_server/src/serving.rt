@@ -8,6 +8,7 @@ use crate::duty::{Duty, Returned, duties_of};
 use crate::host::Host;
 use crate::house::{CLIENTS, House, OUTSTATIONS, Site};
 use crate::lobby::Lobby;
+use crate::lookout::{ANY_TIME, look_at_outstations};
 use crate::options::Options;
 use crate::plan::{Plan, plans_of};
 use gw_hub::Hub;
@@ -191,9 +192,9 @@ fn perform_all<L: Ledger + Send + Sync, R: Host, C: Clock + Sync, G: Gate + Sync
     )
 }
 
-/// Lets the threads end once no further client is accepted: those of the places, then the others, and the journal's behind all.
-/// The passes come back. The thread that reads standard input was started last, behind those of the places, and the journal's
-/// first.
+/// Lets the threads end once no further client is accepted: those of the places, then the others, and behind what still waited
+/// to be told the journal's. The passes come back. The thread that reads standard input was started last, behind those of the
+/// places, and the journal's first.
 fn end_all<L: Ledger, R: Host, C: Clock, G: Gate>(
     house: &House<'_, L, R, C, G>,
     site: Site<'_>,
@@ -209,6 +210,7 @@ fn end_all<L: Ledger, R: Host, C: Clock, G: Gate>(
     house.shared.stop();
     let others = threads.len().saturating_sub(1);
     join_last(house.rt, threads, others, passes);
+    look_at_outstations(house, ANY_TIME);
     house.tell(Event::Stopped);
     house.journal.close(house.rt);
     join_last(house.rt, threads, 1, passes);

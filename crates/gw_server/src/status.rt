@@ -16,19 +16,19 @@ use std::net::{TcpListener, TcpStream};
 use std::sync::ledger::Ledger;
 use std::time::Duration;
 
-/// The milliseconds that a request may take to come, and those of one write of its answer.
+/// The milliseconds that a request may take to come, and those that its answer may take to be sent.
 const LONGEST_MS: u64 = 2000;
 
-/// The milliseconds of one wait for octets of a request.
+/// The milliseconds of one wait for octets of a request, or until octets of an answer are taken.
 const LOOK_MS: u64 = 200;
 
-/// How many such waits a read has at most.
+/// How many such waits a read or a write has at most.
 const LOOKS: u32 = 10;
 
 /// The milliseconds in which the first octets of a request have to come: browsers also connect without a request.
 const FIRST_MS: u64 = 500;
 
-/// A connection that gives octets up to a moment.
+/// A connection that gives octets, or takes them, up to a moment.
 #[derive(Clone, Copy)]
 struct Punctual<'a, C> {
     stream: &'a TcpStream,
@@ -38,7 +38,17 @@ struct Punctual<'a, C> {
 }
 
 impl<'a, C: Clock> Punctual<'a, C> {
-    /// Whether it may be waited for more octets.
+    /// One that is waited for from now on.
+    fn new(stream: &'a TcpStream, clock: &'a C, has_begun: bool) -> Punctual<'a, C> {
+        Punctual {
+            stream,
+            clock,
+            began: clock.moment(),
+            has_begun,
+        }
+    }
+
+    /// Whether it may be waited on.
     fn is_in_time(&self) -> bool {
         let passed = self.clock.moment().saturating_sub(self.began);
         passed < if self.has_begun { LONGEST_MS } else { FIRST_MS }
@@ -63,6 +73,26 @@ impl<'a, C: Clock> Read for Punctual<'a, C> {
             }
         }
         Err(io::Error::from(ErrorKind::TimedOut))
+    }
+}
+
+impl<'a, C: Clock> Write for Punctual<'a, C> {
+    fn write(&mut self, octets: &[u8]) -> io::Result<usize> {
+        let mut stream = self.stream;
+        for _ in 0..LOOKS {
+            if !self.is_in_time() {
+                break;
+            }
+            match stream.write(octets) {
+                Err(error) if error.kind() == ErrorKind::WouldBlock => {}
+                other => return other,
+            }
+        }
+        Err(io::Error::from(ErrorKind::TimedOut))
+    }
+
+    fn flush(&mut self) -> io::Result<()> {
+        Ok(())
     }
 }
 
@@ -92,16 +122,11 @@ fn serve_request<L: Ledger, R: Host, C: Clock, G: Gate>(
     stream: &TcpStream,
 ) {
     let _ = stream.set_read_timeout(Some(Duration::from_millis(LOOK_MS)));
-    let _ = stream.set_write_timeout(Some(Duration::from_millis(LONGEST_MS)));
-    let mut reader = Punctual {
-        stream,
-        clock: house.clock,
-        began: house.clock.moment(),
-        has_begun: false,
-    };
+    let _ = stream.set_write_timeout(Some(Duration::from_millis(LOOK_MS)));
+    let mut reader = Punctual::new(stream, house.clock, false);
     if let Some(request) = receive(&mut reader) {
         if let Ok(text) = answer_to(house, site, request) {
-            let mut writer = stream;
+            let mut writer = Punctual::new(stream, house.clock, true);
             let _ = writer.write_all(text.as_bytes());
         }
     }
@@ -181,10 +206,11 @@ fn clients_of<L: Ledger, R: Host, C: Clock, G: Gate>(
 ) -> Result<Vec<ClientStatus>, Memory> {
     let cards = house.board.clients();
     let mut clients = Vec::with_capacity(house.alloc, cards.len())?;
-    for (card, (queued, unacknowledged)) in cards
+    let of_core = counted
+        .queued
         .iter()
-        .zip(counted.queued.iter().zip(&counted.unacknowledged))
-    {
+        .zip(counted.unacknowledged.iter().zip(&counted.dropped));
+    for (card, (queued, (unacknowledged, dropped))) in cards.iter().zip(of_core) {
         let figures = card.figures.lock(house.rt);
         clients.push(ClientStatus {
             address: figures.address,
@@ -192,7 +218,7 @@ fn clients_of<L: Ledger, R: Host, C: Clock, G: Gate>(
             session: figures.started,
             unacknowledged: *unacknowledged as u64,
             queued: *queued as u64,
-            dropped: figures.dropped,
+            dropped: *dropped,
             closes: figures.closes,
         })?;
     }

@@ -30,7 +30,7 @@ const UPTIME: Family = Family::Gauge("gateway_uptime_seconds", "Time since the g
 const STEPS: Family = Family::Counter("gateway_steps_total", "Steps of the core.");
 
 /// What was news for clients.
-const NEWS: Family = Family::Counter("gateway_news_total", "Observations that were news.");
+const NEWS: Family = Family::Counter("gateway_news_total", "Spontaneous observations.");
 
 /// Writes the gateway's version.
 fn write_version<W: fmt::Write>(f: &mut fmt::Formatter<W>, version: &'static str) -> fmt::Result {

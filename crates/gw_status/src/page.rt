@@ -104,7 +104,7 @@ fn write_top<W: fmt::Write>(
     let (version, steps, news) = (Html(status.version), status.steps, status.news);
     writeln!(
         f,
-        "<p>Version {version}, {steps} steps of the core, {news} observations that were news.</p>"
+        "<p>Version {version}, {steps} steps of the core, {news} spontaneous observations.</p>"
     )
 }
 

@@ -413,9 +413,9 @@ fn flushed_where_nothing_waits(rt: HostRuntime) -> Result<(), Fail> {
 
 /// How a capture ended, in words.
 const ENDINGS: &[(Cause, &str)] = &[
-    (Cause::QueueFull, "too much waits to be written"),
-    (Cause::NotWritten, "nothing could be written"),
-    (Cause::Full { megabytes: 100 }, "a file has reached 100 MB"),
+    (Cause::QueueFull, "too many steps waited to be written"),
+    (Cause::NotWritten, "it couldn't be written"),
+    (Cause::Full { megabytes: 100 }, "it has 100 MB"),
     (Cause::Memory, "no memory"),
     (Cause::Closed, "the gateway ends"),
 ];

@@ -1,10 +1,11 @@
 //! Tests of printed lines, of figures by example, and of a journal that overflows.
 
 use dnp_app::read_response;
+use gw_capture::Ended;
 use gw_hub::Why;
 use gw_journal::{
     Cause, ClientFigures, Doubt, Due, Event, Failure, Journal, MOST, Next, Note, NoteLine, Noticed,
-    OutstationFigures, RecordingEnd, Refused, Throttle, Unreadable, Waiting,
+    OutstationFigures, Refused, Throttle, Unreadable, Waiting,
 };
 use iec_apci::ApciFault;
 use std::alloc::{AllocError, Global};
@@ -103,25 +104,11 @@ const DOUBTS: &[(Doubt, &str)] = &[
     ),
 ];
 
-/// Why the recording ended at step 9.
-const ENDS_OF_RECORDING: &[(RecordingEnd, &str)] = &[
-    (
-        RecordingEnd::QueueFull,
-        "the recording ended at step 9: too many steps waited to be written",
-    ),
-    (
-        RecordingEnd::NotWritten,
-        "the recording ended at step 9: it couldn't be written",
-    ),
-    (
-        RecordingEnd::Full { megabytes: 64 },
-        "the recording ended at step 9: it has 64 megabytes",
-    ),
-    (
-        RecordingEnd::Memory,
-        "the recording ended at step 9: no memory",
-    ),
-];
+/// A recording ended before the gateway did.
+const FULL: Ended = Ended {
+    step: 9,
+    cause: gw_capture::Cause::Full { megabytes: 64 },
+};
 
 const LEFT_OUT: &[(u64, &str)] = &[(1, "1 event left out"), (12, "12 events left out")];
 
@@ -130,13 +117,8 @@ fn warnings(rt: HostRuntime) -> Result<(), Fail> {
     for (doubt, words) in DOUBTS {
         check_line(&rt, rt.alloc(), Event::Doubtful(*doubt), "<4>", words)?;
     }
-    for (cause, words) in ENDS_OF_RECORDING {
-        let event = Event::RecordingEnded {
-            step: 9,
-            cause: *cause,
-        };
-        check_line(&rt, rt.alloc(), event, "<4>", words)?;
-    }
+    let words = "the recording ended at step 9: it has 64 MB";
+    check_line(&rt, rt.alloc(), Event::RecordingEnded(FULL), "<4>", words)?;
     for (count, words) in LEFT_OUT {
         check_line(&rt, rt.alloc(), Event::LeftOut(*count), "<4>", words)?;
     }
@@ -280,11 +262,6 @@ fn clients(rt: HostRuntime) -> Result<(), Fail> {
             },
             "<4>",
             "client 2 10.0.0.7:51234 1 observation dropped, since too many waited",
-        ),
-        (
-            Event::GaveWay { client, address },
-            "<4>",
-            "client 2 10.0.0.7:51234 gives way to a newer connection of its address",
         ),
         (
             Event::ClientLost {
@@ -738,7 +715,7 @@ fn closes(rt: HostRuntime) {
     let mut figures = ClientFigures::new();
     for (cause, counts) in ENDS {
         figures.connected(address(), WALL);
-        figures.started();
+        figures.started = true;
         let status = (figures.address, figures.connected_since, figures.started);
         assert_eq!(rt; status, (Some(address()), Some(WALL), true));
         figures.ended(cause);
@@ -766,6 +743,8 @@ const DROPPED: &[(u64, u64, Option<u64>)] = &[
     (WALL, 0, None),
     (WALL + 1000, 5, Some(5)),
     (WALL + 2000, 9, None),
+    // This look was earlier than the one before it, and came behind it.
+    (WALL + 1900, 8, None),
     (WALL + 60_999, 9, None),
     (WALL + 61_000, 10, Some(5)),
 ];
@@ -774,19 +753,15 @@ const DROPPED: &[(u64, u64, Option<u64>)] = &[
 fn dropped_news(rt: HostRuntime) {
     let mut figures = ClientFigures::new();
     figures.connected(address(), WALL);
-    figures.started();
     for (wall, total, told) in DROPPED {
         assert_eq!(rt; figures.dropped(*wall, *total), *told, "at {wall}");
     }
-    // Another session counts from 0 again.
-    figures.stopped();
-    figures.started();
-    assert_eq!(rt; figures.dropped(WALL + 200_000, 12), Some(12));
-    assert_eq!(rt; figures.dropped, 22);
-    figures.connected(address(), WALL + 200_001);
-    assert_eq!(rt; figures.dropped(WALL + 200_001, 3), Some(3));
-    assert_eq!(rt; figures.dropped(WALL + 200_002, 5), None);
-    assert_eq!(rt; figures.dropped_in_all(9), Some(6));
+    // The next client at the place is told at once of the first that is dropped for it.
+    figures.connected(address(), WALL + 70_000);
+    assert_eq!(rt; figures.dropped(WALL + 70_000, 10), None);
+    assert_eq!(rt; figures.dropped(WALL + 70_001, 13), Some(3));
+    assert_eq!(rt; figures.dropped(WALL + 70_002, 15), None);
+    assert_eq!(rt; figures.dropped(u64::MAX, 19), Some(6));
 }
 
 /// When the next note was, and how many notes it tells of that were left out, if it does.

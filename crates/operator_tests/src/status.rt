@@ -118,6 +118,15 @@ const GRANTED: &[(&str, &str)] = &[
     ("\r\nHEAD /metrics? HTTP/1.1\r\n\r\n", "metrics, head"),
 ];
 
+/// Targets in absolute form.
+const ABSOLUTE: &[(&str, &str)] = &[
+    ("GET http://a/ HTTP/1.1\r\n\r\n", "page"),
+    ("GET http://a:80/metrics?b=/ HTTP/1.1\r\n\r\n", "metrics"),
+    ("HEAD http://a?b=/metrics HTTP/1.1\r\n\r\n", "page, head"),
+    ("GET http://a//metrics HTTP/1.1\r\n\r\n", "not found"),
+    ("GET /http://a/metrics HTTP/1.1\r\n\r\n", "not found"),
+];
+
 const REFUSED: &[(&str, &str)] = &[
     ("GET /metrics/ HTTP/1.1\r\n\r\n", "not found"),
     ("HEAD /page HTTP/1.1\r\n\r\n", "not found, head"),
@@ -146,6 +155,7 @@ fn check_received(rt: &impl Abort, table: &[(&str, &str)]) {
 #[test]
 fn received(rt: HostRuntime) {
     check_received(&rt, GRANTED);
+    check_received(&rt, ABSOLUTE);
     check_received(&rt, REFUSED);
     check_received(&rt, NO_REQUEST);
 }
@@ -275,7 +285,7 @@ gateway_uptime_seconds 90061.500\n\
 # HELP gateway_steps_total Steps of the core.\n\
 # TYPE gateway_steps_total counter\n\
 gateway_steps_total 123456\n\
-# HELP gateway_news_total Observations that were news.\n\
+# HELP gateway_news_total Spontaneous observations.\n\
 # TYPE gateway_news_total counter\n\
 gateway_news_total 789\n";
 
@@ -403,7 +413,7 @@ fn answered(rt: HostRuntime) -> Result<(), Fail> {
 const PAGE_TOP: &str = "\
 <h1><span class=wrong>Not all is well:</span> <strong>1 of 2 outstations connected</strong>, <strong>1 with trouble</strong>, 1 of 2 clients, 1 in data transfer</h1>\n\
 <p>At 2023-11-14T22:13:20Z. The gateway runs for 1 d 1 h, since 2023-11-13T21:12:18Z.</p>\n\
-<p>Version 1.2.3, 123456 steps of the core, 789 observations that were news.</p>\n\
+<p>Version 1.2.3, 123456 steps of the core, 789 spontaneous observations.</p>\n\
 <h2>Outstations</h2>\n\
 <table>\n\
 <thead><tr><th>Outstation</th><th>State</th><th>Last answer</th><th>Indications</th><th class=number>Events</th><th class=number>Requests</th><th class=number>Unanswered</th><th class=number>Refused fragments</th><th class=number>Skipped octets</th></tr></thead>\n\

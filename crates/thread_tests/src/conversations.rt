@@ -64,26 +64,40 @@ ticked
 ok
 ";
 
-/// A single command: select, and execute.
-const COMMAND: &str = "open 0 0
+/// A single command of two clients: one selects, the other executes, and then the first. Each is confirmed negatively.
+const COMMAND: &str = "up 0 0
+poll 0 0 0
+frag 0 0 C0 81 00 00
+open 0 0
 frame 0 0 68 04 07 00 00 00
 pump 0 0
-frame 0 1 68 0E 00 00 00 00 2D 01 06 00 01 00 89 13 00 81
-pump 0 1
-frame 0 2 68 0E 02 00 02 00 2D 01 06 00 01 00 89 13 00 01
-pump 0 2
-pump 0 2
-tick 2
-close 0 2";
+open 1 0
+frame 1 0 68 04 07 00 00 00
+pump 1 0
+frame 0 0 68 0E 00 00 00 00 2D 01 06 00 01 00 89 13 00 81
+pump 0 0
+frame 1 0 68 0E 00 00 00 00 2D 01 06 00 01 00 89 13 00 01
+pump 1 0
+frame 0 0 68 0E 02 00 02 00 2D 01 06 00 01 00 89 13 00 01
+pump 0 0
+tick 0
+close 0 0";
 
 const COMMAND_REPLIES: &str = "ok
+request C0 01 3C 02 06 3C 03 06 3C 04 06 3C 01 06
+accepted end
+ok
+taken
+apdu 68 04 0B 00 00 00
+ok
 taken
 apdu 68 04 0B 00 00 00
 taken
 apdu 68 0E 00 00 02 00 2D 01 47 00 01 00 89 13 00 81
 taken
+apdu 68 0E 00 00 02 00 2D 01 47 00 01 00 89 13 00 01
+taken
 apdu 68 0E 02 00 04 00 2D 01 47 00 01 00 89 13 00 01
-nothing
 ticked
 ok
 ";
@@ -164,6 +178,7 @@ const WHOLE: Recording = Recording {
         (1, 7),
         (0, 8),
         (1, 8),
+        (0, 9),
     ],
     forgotten: 0,
     counts: [0, 0],
