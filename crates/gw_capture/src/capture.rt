@@ -1,14 +1,13 @@
 //! What workers and the thread that writes share.
 
-use crate::ended::{Cause, Ended};
 use crate::files::Files;
 use crate::kept::Kept;
 use crate::lines::Lines;
 use crate::pumps::Pumps;
 use crate::waiting::{Turn, Waiting};
-use gw_hub::{Reply, Step, StepFault};
 use gw_model::Memory;
-use gw_shared::Bell;
+use gw_shared::{Bell, Reply, Step, StepFault};
+use gw_text::{RecordEnd, RecordEndCause};
 use std::alloc::Global;
 use std::io::Write;
 use std::sync::atomic::{AtomicBool, Ordering};
@@ -40,7 +39,7 @@ impl Capture {
     /// One that captures nothing.
     pub fn off(alloc: Global) -> Capture {
         let mut waiting = Waiting::new(alloc);
-        waiting.end(Cause::Closed);
+        waiting.end(RecordEndCause::Closed);
         Capture {
             alloc,
             megabytes: 0,
@@ -88,7 +87,7 @@ impl Capture {
 
     /// Nothing more is handed over.
     pub fn close<R: Wait>(&self, rt: &R) {
-        self.end(rt, Cause::Closed);
+        self.end(rt, RecordEndCause::Closed);
     }
 
     /// Hands over lines, if there was memory for them.
@@ -101,7 +100,7 @@ impl Capture {
                 }
                 self.bell.ring();
             }
-            Err(_) => self.end(rt, Cause::Memory),
+            Err(_) => self.end(rt, RecordEndCause::Memory),
         }
     }
 
@@ -111,7 +110,7 @@ impl Capture {
     }
 
     /// Nothing more is captured.
-    fn end<R: Wait>(&self, rt: &R, cause: Cause) {
+    fn end<R: Wait>(&self, rt: &R, cause: RecordEndCause) {
         self.is_on.store(false, Ordering::SeqCst);
         self.waiting.lock(rt).end(cause);
         self.bell.ring();
@@ -119,12 +118,12 @@ impl Capture {
 
     /// Writes the lines of steps and those of the replies as they come, in the order of the steps' numbers, until the
     /// capture is closed and all is written, or it can't go on. Both files are flushed where nothing waits.
-    pub fn write_on<R: Wait, W: Write>(&self, rt: &R, steps: &mut W, answers: &mut W) -> Ended {
+    pub fn write_on<R: Wait, W: Write>(&self, rt: &R, steps: &mut W, answers: &mut W) -> RecordEnd {
         let ended = match Files::new(self.alloc, self.megabytes, steps, answers) {
             Ok(mut files) => self.write_all(rt, &mut files),
-            Err(_) => Ended {
+            Err(_) => RecordEnd {
                 step: 1,
-                cause: Cause::Memory,
+                cause: RecordEndCause::Memory,
             },
         };
         self.end(rt, ended.cause);
@@ -133,7 +132,7 @@ impl Capture {
     }
 
     /// Batch after batch.
-    fn write_all<R: Wait, W: Write + Drop>(&self, rt: &R, files: &mut Files<W>) -> Ended {
+    fn write_all<R: Wait, W: Write + Drop>(&self, rt: &R, files: &mut Files<W>) -> RecordEnd {
         let mut batch = Vec::new(self.alloc);
         for _ in rt.forever() {
             if let Some(ended) = self.write_next(rt, files, &mut batch) {
@@ -149,7 +148,7 @@ impl Capture {
         rt: &R,
         files: &mut Files<W>,
         batch: &mut Vec<Lines>,
-    ) -> Option<Ended> {
+    ) -> Option<RecordEnd> {
         let rung = self.bell.rung();
         let done = match self.turn(rt, files, batch) {
             Turn::Write => write_batch(files, batch),
@@ -181,7 +180,10 @@ impl Capture {
 }
 
 /// Writes the lines of a batch.
-fn write_batch<W: Write + Drop>(files: &mut Files<W>, batch: &mut Vec<Lines>) -> Result<(), Cause> {
+fn write_batch<W: Write + Drop>(
+    files: &mut Files<W>,
+    batch: &mut Vec<Lines>,
+) -> Result<(), RecordEndCause> {
     for lines in batch.drain(..) {
         files.take(lines)?;
     }

@@ -1,10 +1,10 @@
 //! The two files of a capture.
 ghost use Rattle.std.specs.Prelude.{◌≡◌};
 
-use crate::ended::{Cause, Ended};
 use crate::lines::Lines;
 use crate::sorter::Sorter;
 use crate::waiting::Amount;
+use gw_text::{RecordEnd, RecordEndCause};
 use std::alloc::Global;
 use std::io::{self, BufWriter, Write};
 
@@ -81,7 +81,7 @@ impl<W: Write + Drop> Files<W> {
     }
 
     /// Adds lines, and those that came before and stand behind them.
-    pub fn take(&mut self, lines: Lines) -> Result<(), Cause> {
+    pub fn take(&mut self, lines: Lines) -> Result<(), RecordEndCause> {
         self.sorter.add(lines)?;
         while let Some(lines) = self.sorter.next() {
             self.add(&lines)?;
@@ -90,11 +90,11 @@ impl<W: Write + Drop> Files<W> {
     }
 
     /// Adds the lines whose turn it is.
-    fn add(&mut self, lines: &Lines) -> Result<(), Cause>
+    fn add(&mut self, lines: &Lines) -> Result<(), RecordEndCause>
         ensures { self.new.sorter ≡ self.old.sorter }
     {
         if !self.steps.has_room(&lines.steps) || !self.answers.has_room(&lines.answers) {
-            return Err(Cause::Full {
+            return Err(RecordEndCause::Full {
                 megabytes: self.megabytes,
             });
         }
@@ -106,7 +106,7 @@ impl<W: Write + Drop> Files<W> {
     }
 
     /// Writes what was added.
-    pub fn flush(&mut self) -> Result<(), Cause> {
+    pub fn flush(&mut self) -> Result<(), RecordEndCause> {
         self.steps.writer.flush()?;
         self.answers.writer.flush()?;
         self.flushed = self.next;
@@ -114,13 +114,13 @@ impl<W: Write + Drop> Files<W> {
     }
 
     /// Writes what was added, and tells how the capture ended.
-    pub fn end(&mut self, cause: Cause) -> Ended {
+    pub fn end(&mut self, cause: RecordEndCause) -> RecordEnd {
         match self.flush() {
-            Ok(()) => Ended {
+            Ok(()) => RecordEnd {
                 step: self.next,
                 cause,
             },
-            Err(cause) => Ended {
+            Err(cause) => RecordEnd {
                 step: self.flushed,
                 cause,
             },

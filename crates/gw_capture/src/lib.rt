@@ -5,7 +5,6 @@
 #![tactic(auto)]
 
 mod capture;
-mod ended;
 mod files;
 mod kept;
 mod lines;
@@ -15,7 +14,6 @@ mod step_line;
 mod waiting;
 
 pub use capture::Capture;
-pub use ended::{Cause, Ended};
 pub use kept::Kept;
 pub use lines::Lines;
 pub use pumps::Pumps;

@@ -5,9 +5,9 @@ ghost use Rattle.gw_capture.specs.Lines.{apdu_line, is_refused, unless_refused};
 
 use crate::pumps::{Apdus, Pumps};
 use crate::step_line::push_step;
-use gw_hub::{Reply, Step, StepFault};
 use gw_model::Memory;
 use gw_replay::push_reply;
+use gw_shared::{Reply, Step, StepFault};
 use gw_text::push_spaced;
 use std::alloc::Global;
 

@@ -2,7 +2,7 @@
 ghost use Rattle.std.specs.Prelude.{length};
 ghost use Rattle.std.specs.Iterator.{at_most};
 
-use gw_hub::{Reply, StepFault};
+use gw_shared::{Reply, StepFault};
 
 /// Pumps for a client under one hold of the core's lock: their numbers follow one another, and their moment is the same.
 #[derive(Clone, Copy, Debug)]

@@ -3,8 +3,8 @@ ghost use Rattle.std.specs.Prelude.{◌≡◌, ◌++◌, ◌↔◌, IsTrue, OnOk
 ghost use Rattle.iec_apci.specs.Content.{IsNumbered};
 ghost use Rattle.gw_capture.specs.StepLines.{step_line, words_at, words_of_tick, words_of_wall, HasLine};
 
-use gw_hub::{Apdu, ApduBuf, Step};
 use gw_model::Memory;
+use gw_shared::{Apdu, ApduBuf, Step};
 use gw_text::push_spaced;
 use std::io::Write;
 

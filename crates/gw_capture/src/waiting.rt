@@ -1,7 +1,7 @@
 //! What waits to be written.
 
-use crate::ended::Cause;
 use crate::lines::Lines;
+use gw_text::RecordEndCause;
 use std::alloc::Global;
 use std::mem;
 
@@ -63,7 +63,7 @@ pub enum Turn {
     /// To wait.
     Wait,
     /// To end.
-    End(Cause),
+    End(RecordEndCause),
 }
 
 /// What was handed over and isn't written yet.
@@ -73,7 +73,7 @@ pub struct Waiting {
     /// How much isn't written yet, with what the thread that writes has taken.
     amount: Amount,
     /// Why nothing more is taken.
-    ended: Option<Cause>,
+    ended: Option<RecordEndCause>,
 }
 
 impl Waiting {
@@ -93,11 +93,11 @@ impl Waiting {
         }
         let amount = self.amount.with(Amount::of(&lines));
         if !amount.may_wait() {
-            self.end(Cause::QueueFull);
+            self.end(RecordEndCause::QueueFull);
             return false;
         }
         if self.lines.push(lines).is_err() {
-            self.end(Cause::Memory);
+            self.end(RecordEndCause::Memory);
             return false;
         }
         self.amount = amount;
@@ -105,7 +105,7 @@ impl Waiting {
     }
 
     /// Takes nothing more.
-    pub fn end(&mut self, cause: Cause) {
+    pub fn end(&mut self, cause: RecordEndCause) {
         if self.ended.is_none() {
             self.ended = Some(cause);
         }

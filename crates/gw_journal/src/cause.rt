@@ -1,7 +1,7 @@
 //! Why a connection ended.
 
 use crate::failure::Failure;
-use gw_hub::Why;
+use gw_shared::Why;
 use iec_apci::ApciFault;
 use std::fmt;
 

@@ -4,7 +4,7 @@ use crate::cause::Cause;
 use crate::doubt::Doubt;
 use crate::failure::Failure;
 use crate::unreadable::Unreadable;
-use gw_capture::Ended;
+use gw_text::RecordEnd;
 use std::net::{IpAddr, SocketAddr};
 
 /// How much an event matters. Its number is the priority that journald reads in front of a line, as in `<4>`.
@@ -150,7 +150,7 @@ pub enum Event {
     /// A connection of a control centre couldn't be accepted.
     NotAccepted(Failure),
     /// The recording ended.
-    RecordingEnded(Ended),
+    RecordingEnded(RecordEnd),
     /// So many events weren't told, since they came faster than they were written.
     LeftOut(u64),
     /// All workers have ended.

@@ -1,10 +1,10 @@
 //! `gateway run --record`: a run that is taken down as lines of a replay.
 
-use gw_capture::{Capture, Cause, Ended, Kept, Pumps};
-use gw_hub::{Step, StepFault};
+use gw_capture::{Capture, Kept, Pumps};
 use gw_journal::{Event, Journal};
 use gw_server::{Gate, Place};
-use gw_threads::{Call, Pumped, Run};
+use gw_text::{RecordEnd, RecordEndCause};
+use gw_threads::{Call, Pumped, Run, Step, StepFault};
 use std::sync::Wait;
 
 /// A gate that holds nobody, and takes down each step.
@@ -60,8 +60,8 @@ impl<'a, R: Wait> Gate for Recording<'a, R> {
 }
 
 /// Tells the journal that a recording ended before the gateway did.
-pub fn tell_end<R: Wait>(rt: &R, journal: &Journal, wall: u64, ended: Ended) {
-    if ended.cause != Cause::Closed {
+pub fn tell_end<R: Wait>(rt: &R, journal: &Journal, wall: u64, ended: RecordEnd) {
+    if ended.cause != RecordEndCause::Closed {
         journal.tell(rt, wall, Event::RecordingEnded(ended));
     }
 }

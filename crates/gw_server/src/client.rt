@@ -8,9 +8,10 @@ use crate::house::House;
 use crate::lobby::{Lobby, Visit};
 use crate::lookout::{ANY_TIME, tell_dropped};
 use crate::sockets::{ClientSocket, shut};
-use gw_hub::{Step, Why};
 use gw_journal::{Cause, Event};
-use gw_threads::{Clock, Gate, Pass, WorkerEnd, client_reader, client_writer, make_call};
+use gw_threads::{
+    Clock, Gate, Pass, Step, Why, WorkerEnd, client_reader, client_writer, make_call,
+};
 use std::net::TcpStream;
 use std::sync::ledger::Ledger;
 use std::thread;

@@ -9,10 +9,9 @@ use crate::lookout::pause;
 use crate::plan::Plan;
 use crate::sockets::{OutstationSocket, shut};
 use dnp_receive::Receiver;
-use gw_hub::Step;
 use gw_journal::{Cause, Event, Failure};
 use gw_threads::{
-    Clock, Gate, Line, Pass, WorkerEnd, make_call, outstation_reader, outstation_writer,
+    Clock, Gate, Line, Pass, Step, WorkerEnd, make_call, outstation_reader, outstation_writer,
 };
 use std::net::{TcpStream, ToSocketAddrs};
 use std::sync::ledger::Ledger;

@@ -3,9 +3,8 @@
 
 use crate::board::Board;
 use dnp_app::AppFault;
-use gw_hub::{Reply, Step, Verdict};
 use gw_journal::{Event, Journal, Noticed, Unreadable};
-use gw_threads::{About, Call, Clock, Gate, Place, Run};
+use gw_threads::{About, Call, Clock, Gate, Place, Reply, Run, Step, Verdict};
 use iec_apci::{Apdu, Signal};
 use std::sync::Wait;
 

@@ -17,6 +17,7 @@ pub use batch::{Batch, LONGEST_APDU};
 pub use bell::Bell;
 pub use close::{CloseFault, Closed};
 pub use figures::Figures;
+pub use gw_hub::{Apdu, ApduBuf, Hub, Reply, Step, StepFault, Verdict, Why};
 pub use locked::Core;
 pub use pass::Pass;
 pub use pumped::{Pumped, apdu_in};

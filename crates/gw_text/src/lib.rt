@@ -1,13 +1,15 @@
-//! Texts that the gateway's programs share: octets in hexadecimal, numbers in decimal digits, texts from outside, and the
-//! lines that are written for a fragment and its ASDUs.
+//! Texts that the gateway's programs share: octets in hexadecimal, numbers in decimal digits, texts from outside, the
+//! lines that are written for a fragment and its ASDUs, and how a record ends.
 #![tactic(auto)]
 
 mod decimal;
 mod hex;
 mod plain;
+mod record_end;
 mod text;
 
 pub use decimal::{number_8, number_64};
 pub use hex::{LONGEST_LINE, kept_is_enough, line_octets, push_spaced};
 pub use plain::Plain;
+pub use record_end::{RecordEnd, RecordEndCause};
 pub use text::{push_accepted, write_refusal};

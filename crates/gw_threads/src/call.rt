@@ -3,8 +3,7 @@ ghost use Rattle.std.specs.Prelude.{◌≡◌};
 
 use crate::gate::Gate;
 use dnp_app::Response;
-use gw_hub::{Reply, Step, StepFault};
-use gw_shared::{Pass, Pumped, Shared};
+use gw_shared::{Pass, Pumped, Reply, Shared, Step, StepFault};
 use iec_apci::{Apdu, Signal};
 use std::sync::Wait;
 use std::sync::ledger::Ledger;

@@ -2,7 +2,7 @@
 
 use crate::call::{Call, Run};
 use dnp_app::AppFault;
-use gw_hub::Step;
+use gw_shared::Step;
 
 /// A place on the way of a worker.
 #[derive(Clone, Copy, Debug, PartialEq, Eq)]

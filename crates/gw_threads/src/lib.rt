@@ -25,7 +25,10 @@ pub use client_reading::client_reader;
 pub use client_writing::client_writer;
 pub use ends::{Arrival, Incoming, Outgoing, Unwritten};
 pub use gate::{Gate, OpenGate, Place};
-pub use gw_shared::{Batch, Bell, CloseFault, Closed, Core, Figures, Pass, Pumped, Shared};
+pub use gw_shared::{
+    Batch, Bell, CloseFault, Closed, Core, Figures, Hub, Pass, Pumped, Reply, Shared, Step,
+    StepFault, Verdict, Why,
+};
 pub use line::Line;
 pub use outstation_reading::outstation_reader;
 pub use outstation_writing::outstation_writer;

@@ -7,8 +7,7 @@ ghost use Rattle.gw_threads.specs.Ends.{CanFail};
 ghost use Rattle.gw_threads.specs.PutOut.{IsGathered, IsPut, IsPutNext, MayBePut};
 
 use crate::ends::{Outgoing, Unwritten};
-use gw_hub::{Reply, StepFault};
-use gw_shared::Batch;
+use gw_shared::{Batch, Reply, StepFault};
 
 /// How it ended that a source was asked for replies.
 #[derive(Clone, Copy, Debug, PartialEq, Eq)]

@@ -1,6 +1,6 @@
 //! How workers end.
 
-use gw_hub::Why;
+use gw_shared::Why;
 use iec_apci::ApciFault;
 
 /// Why a worker ended.

@@ -1,8 +1,9 @@
 //! Tests of what is written, and of how a capture ends.
 
-use gw_capture::{Capture, Cause, Ended, Kept, Lines, Pumps, push_step};
-use gw_hub::{Apdu, Reply, Step, StepFault};
+use gw_capture::{Capture, Kept, Lines, Pumps, push_step};
 use gw_replay::{Instruction, read_instruction};
+use gw_shared::{Apdu, Reply, Step, StepFault};
+use gw_text::{RecordEnd, RecordEndCause};
 use std::alloc::{AllocError, Global};
 use std::io::{self, ErrorKind, Write};
 use std::process::Abort;
@@ -196,9 +197,9 @@ fn check_written<R: Abort + Wait + AllocGlobal>(
     assert_eq!(rt; answers.octets.as_slice(), wanted_answers.as_bytes());
     assert_eq!(rt;
         ended,
-        Ended {
+        RecordEnd {
             step: 10,
-            cause: Cause::Closed
+            cause: RecordEndCause::Closed
         }
     );
 }
@@ -213,7 +214,7 @@ struct Case {
     /// How many octets each file takes.
     most_steps: usize,
     most_answers: usize,
-    ended: Ended,
+    ended: RecordEnd,
     /// How many octets are written of the lines.
     written: usize,
 }
@@ -225,9 +226,9 @@ const CASES: &[Case] = &[
         count: 3,
         most_steps: usize::MAX,
         most_answers: usize::MAX,
-        ended: Ended {
+        ended: RecordEnd {
             step: 3,
-            cause: Cause::Full { megabytes: 1 },
+            cause: RecordEndCause::Full { megabytes: 1 },
         },
         written: 800_000,
     },
@@ -237,9 +238,9 @@ const CASES: &[Case] = &[
         count: 4,
         most_steps: usize::MAX,
         most_answers: usize::MAX,
-        ended: Ended {
+        ended: RecordEnd {
             step: 3,
-            cause: Cause::QueueFull,
+            cause: RecordEndCause::QueueFull,
         },
         written: 10_800_000,
     },
@@ -249,9 +250,9 @@ const CASES: &[Case] = &[
         count: 65_537,
         most_steps: usize::MAX,
         most_answers: usize::MAX,
-        ended: Ended {
+        ended: RecordEnd {
             step: 65_537,
-            cause: Cause::QueueFull,
+            cause: RecordEndCause::QueueFull,
         },
         written: 65_536,
     },
@@ -261,9 +262,9 @@ const CASES: &[Case] = &[
         count: 3,
         most_steps: 12,
         most_answers: usize::MAX,
-        ended: Ended {
+        ended: RecordEnd {
             step: 1,
-            cause: Cause::NotWritten,
+            cause: RecordEndCause::NotWritten,
         },
         written: 12,
     },
@@ -273,9 +274,9 @@ const CASES: &[Case] = &[
         count: 3,
         most_steps: usize::MAX,
         most_answers: 8,
-        ended: Ended {
+        ended: RecordEnd {
             step: 1,
-            cause: Cause::NotWritten,
+            cause: RecordEndCause::NotWritten,
         },
         written: 15,
     },
@@ -320,16 +321,16 @@ fn step_without_line(rt: HostRuntime) {
     let (ended, steps) = ended_of(&rt, &capture);
     assert_eq!(rt;
         ended,
-        Ended {
+        RecordEnd {
             step: 2,
-            cause: Cause::NotWritten
+            cause: RecordEndCause::NotWritten
         }
     );
     assert_eq!(rt; steps.as_slice(), b"tick 10\n".as_slice());
 }
 
 /// How a capture ends, and the lines of its steps.
-fn ended_of<R: Wait + AllocGlobal>(rt: &R, capture: &Capture) -> (Ended, Vec<u8>) {
+fn ended_of<R: Wait + AllocGlobal>(rt: &R, capture: &Capture) -> (RecordEnd, Vec<u8>) {
     let mut steps = File::new(rt.alloc(), usize::MAX);
     let mut answers = File::new(rt.alloc(), usize::MAX);
     let ended = capture.write_on(rt, &mut steps, &mut answers);
@@ -395,9 +396,9 @@ fn flushed_where_nothing_waits(rt: HostRuntime) -> Result<(), Fail> {
     let ended = capture.write_on(&rt, &mut steps, &mut answers);
     assert_eq!(rt;
         ended,
-        Ended {
+        RecordEnd {
             step: 80_001,
-            cause: Cause::Closed
+            cause: RecordEndCause::Closed
         }
     );
     assert_eq!(rt;
@@ -412,18 +413,21 @@ fn flushed_where_nothing_waits(rt: HostRuntime) -> Result<(), Fail> {
 }
 
 /// How a capture ended, in words.
-const ENDINGS: &[(Cause, &str)] = &[
-    (Cause::QueueFull, "too many steps waited to be written"),
-    (Cause::NotWritten, "it couldn't be written"),
-    (Cause::Full { megabytes: 100 }, "it has 100 MB"),
-    (Cause::Memory, "no memory"),
-    (Cause::Closed, "the gateway ends"),
+const ENDINGS: &[(RecordEndCause, &str)] = &[
+    (
+        RecordEndCause::QueueFull,
+        "too many steps waited to be written",
+    ),
+    (RecordEndCause::NotWritten, "it couldn't be written"),
+    (RecordEndCause::Full { megabytes: 100 }, "it has 100 MB"),
+    (RecordEndCause::Memory, "no memory"),
+    (RecordEndCause::Closed, "the gateway ends"),
 ];
 
 #[test]
 fn endings_are_told(rt: HostRuntime) -> Result<(), Fail> {
     for (cause, words) in ENDINGS {
-        let ended = Ended {
+        let ended = RecordEnd {
             step: 17,
             cause: *cause,
         };
@@ -442,9 +446,9 @@ fn nothing_is_captured(rt: HostRuntime) {
     let (ended, steps) = ended_of(&rt, &capture);
     assert_eq!(rt;
         ended,
-        Ended {
+        RecordEnd {
             step: 1,
-            cause: Cause::Closed
+            cause: RecordEndCause::Closed
         }
     );
     assert_eq!(rt; steps.len(), 0);
@@ -483,9 +487,9 @@ fn workers_beside_the_writer(rt: HostRuntime) -> Result<(), Fail> {
     );
     assert_eq!(rt;
         ended,
-        Ended {
+        RecordEnd {
             step: 2001,
-            cause: Cause::Closed
+            cause: RecordEndCause::Closed
         }
     );
     assert_eq!(rt; steps.as_slice(), wanted.as_slice());

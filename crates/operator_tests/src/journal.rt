@@ -1,12 +1,12 @@
 //! Tests of printed lines, of figures by example, and of a journal that overflows.
 
 use dnp_app::read_response;
-use gw_capture::Ended;
-use gw_hub::Why;
 use gw_journal::{
     Cause, ClientFigures, Doubt, Due, Event, Failure, Journal, MOST, Next, Note, NoteLine, Noticed,
     OutstationFigures, Refused, Throttle, Unreadable, Waiting,
 };
+use gw_shared::Why;
+use gw_text::{RecordEnd, RecordEndCause};
 use iec_apci::ApciFault;
 use std::alloc::{AllocError, Global};
 use std::fmt::Display;
@@ -105,9 +105,9 @@ const DOUBTS: &[(Doubt, &str)] = &[
 ];
 
 /// A recording ended before the gateway did.
-const FULL: Ended = Ended {
+const FULL: RecordEnd = RecordEnd {
     step: 9,
-    cause: gw_capture::Cause::Full { megabytes: 64 },
+    cause: RecordEndCause::Full { megabytes: 64 },
 };
 
 const LEFT_OUT: &[(u64, &str)] = &[(1, "1 event left out"), (12, "12 events left out")];

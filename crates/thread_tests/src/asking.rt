@@ -1,8 +1,8 @@
 //! Steps as the lines of a replay, and calls of them on a shared core.
 
-use gw_hub::{Reply, Step, StepFault};
 use gw_replay::{Instruction, push_reply, read_instruction};
 use gw_shared::{Pass, Shared};
+use gw_threads::{Reply, Step, StepFault};
 use std::process::Abort;
 use std::sync::Wait;
 use std::sync::ledger::Ledger;

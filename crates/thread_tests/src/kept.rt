@@ -5,8 +5,8 @@ use crate::memory::has_termination;
 use crate::peers::{MASTER, SOURCES, Source};
 use dnp_app::Response;
 use dnp_receive::responses_of;
-use gw_hub::{Reply, Step};
 use gw_record::Entry;
+use gw_threads::{Reply, Step};
 use std::process::Abort;
 use std::sync::{Mutex, Wait};
 

@@ -1,10 +1,10 @@
 //! Cores to test on, and their end.
 ghost use Rattle.std.specs.Prelude.{◌≡◌, ◌<◌};
 
-use gw_hub::Hub;
 use gw_map::Settings;
 use gw_record::Recorder;
 use gw_shared::{Pass, Shared};
+use gw_threads::Hub;
 use std::alloc::Global;
 use std::process::Abort;
 use std::sync::Wait;

@@ -4,10 +4,9 @@ use crate::asking::{step_of, steps_of};
 use crate::memory::Client;
 use crate::opening::{copy_of, hub_on};
 use crate::telling::answer_of;
-use gw_hub::{Hub, Reply};
 use gw_map::DEFAULT_SETTINGS;
 use gw_shared::{Batch, apdu_in};
-use gw_threads::{HubSource, Put, put_out};
+use gw_threads::{Hub, HubSource, Put, Reply, put_out};
 use std::process::Abort;
 use std::sync::atomic::AtomicBool;
 

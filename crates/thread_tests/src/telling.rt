@@ -2,8 +2,8 @@
 
 use crate::asking::{Answer, Turn};
 use crate::opening::copy_of;
-use gw_hub::{Hub, Step};
 use gw_record::{Entry, Recorder};
+use gw_threads::{Hub, Step};
 use std::fmt::Write;
 use std::process::Abort;
 

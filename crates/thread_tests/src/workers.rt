@@ -13,10 +13,11 @@ use crate::opening::{end, hub_on, open};
 use crate::peers::{FROM_CLIENT, MASTER, SOURCES, Still, TWO_OUTSTATIONS};
 use crate::telling::entries_since;
 use dnp_receive::Receiver;
-use gw_hub::Hub;
 use gw_record::Recorder;
 use gw_shared::{CloseFault, Pass, Shared};
-use gw_threads::{Line, WorkerEnd, client_writer, clock, outstation_reader, outstation_writer};
+use gw_threads::{
+    Hub, Line, WorkerEnd, client_writer, clock, outstation_reader, outstation_writer,
+};
 use std::marker::Brand;
 use std::process::Abort;
 use std::rt::Clock as Sleeps;
