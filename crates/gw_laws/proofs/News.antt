@@ -46,7 +46,7 @@ use Rattle.gw_laws.specs.Fates.{spontaneous_of, spontaneous_in, Element, is_put_
 use Rattle.gw_laws.specs.News.{IsOfStation, TellsNews, Speaks, News}
 use Rattle.gw_laws.proofs.Offered.{IsOffered, offered_is, news_first, part_first}
 use Rattle.gw_laws.proofs.Parts.{IsRequested, answer_no_news, part_no_news}
-use Rattle.gw_laws.proofs.Opens.{open_i}
+use Rattle.gw_station.proofs.Opens.{open_i}
 use Rattle.gw_laws.proofs.Settled.{put, AreSettled, before_queue, queue_shrinks, settled_more, kept_in, queued_in, dropped_in, put_out_more, dropped_same, grown}
 use Rattle.gw_laws.proofs.Numbers.{says, counts_tied}
 

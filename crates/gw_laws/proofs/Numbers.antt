@@ -19,14 +19,14 @@ use Rattle.gw_station.specs.declared.sending.Sending.TheVariants as sendings
 use Rattle.gw_station.specs.Client.{Client, is_started, limits_of}
 use Rattle.gw_station.specs.Frames.{close_of, judged_asdu, client_taking, client_with_signal, window_with_signal, command_in, event_taking}
 use Rattle.gw_station.specs.Pump.{has_room, content_of, client_with_sent}
-use Rattle.gw_station.proofs.Windows.{right_split, right_names, named_right, right_sent, sent_one_more}
+use Rattle.iec_window.proofs.Right.{right_split, right_names, named_right, right_sent, sent_one_more}
 use Rattle.gw_steps.specs.Steps.{client_answered}
 use Rattle.gw_steps.specs.Said.{Said, said_by}
 use Rattle.gw_history.specs.Life.{Taking, Turn, Idle, Takes, PutsOut, Ends}
 use Rattle.gw_history.proofs.Lives.{Becomes, IsFresh, Lives, lives_all}
 use Rattle.gw_laws.specs.Numbers.{Names, SaysNumbers, sent, taken, last_receive_number, KeepsWindow, IsRightReceive, HasNumbers, HasRightNumbers}
 use Rattle.gw_laws.proofs.Offered.{IsOffered, offered_is}
-use Rattle.gw_laws.proofs.Opens.{open_s, IsOpen, open_i}
+use Rattle.gw_station.proofs.Opens.{open_s, IsOpen, open_i}
 
 pub record WindowTied (setup : Setup) (ts : List Turn) (w : Counts) : Type 0 where
   pub limits : w.limits ≡ limits_of setup.station

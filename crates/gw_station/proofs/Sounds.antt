@@ -39,7 +39,7 @@ use Rattle.gw_station.specs.Sound.{CanAnswer, IsSoundClient, IsSoundWindow}
 use Rattle.gw_station.proofs.All.{all-append, all-drop}
 use Rattle.gw_station.proofs.Places.{answers_few, confirmations_few, not_flooded}
 use Rattle.gw_station.proofs.Line.{offered_roomy}
-use Rattle.gw_station.proofs.Windows.{right_sent, sent_one_more}
+use Rattle.iec_window.proofs.Right.{right_sent, sent_one_more}
 
 pub sendable-append : (offset : ℤ) (xs ys : List Observation) → AllByRecursion (IsSendable offset) xs → AllByRecursion (IsSendable offset) ys
     → AllByRecursion (IsSendable offset) (xs ++ ys)

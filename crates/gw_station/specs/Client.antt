@@ -1,6 +1,7 @@
 -- A client's part of the core's state, as its contracts see it.
-use Rattle.std.specs.Prelude.{ℕ, ◌+◌, ◌-◌, Bool, true, false, ◌&&◌, List, [], ◌++◌, length, if◌then◌else◌}
+use Rattle.std.specs.Prelude.{ℕ, ◌+◌, ◌-◌, Bool, true, false, ◌&&◌, List, [], ◌++◌, length, Option, if◌then◌else◌}
 use Rattle.circular_buffer.specs.Buffer.{keep_last}
+use Rattle.gw_model.specs.First.{when}
 use Rattle.gw_model.specs.declared.observation.Observation.{Observation}
 use Rattle.gw_entries.specs.Setup.{StationSetup}
 use Rattle.iec_apci.specs.declared.apdu.Signal.{Signal}
@@ -12,6 +13,8 @@ use Rattle.gw_answers.specs.declared.outgoing.Answer.{Answer}
 use Rattle.gw_answers.specs.declared.outgoing.Outgoing.{Outgoing}
 use Rattle.gw_station.specs.declared.client.Stage.{Stage}
 use Rattle.gw_station.specs.declared.client.Stage.TheVariants.{Down, Stopped, Started}
+use Rattle.gw_station.specs.declared.event.Why.{Why}
+use Rattle.gw_station.specs.declared.event.Why.TheVariants.{Timer}
 
 pub record Client : Type 0 where
   pub stage : Stage
@@ -91,6 +94,10 @@ client_with_news xs c = record c {
 -- t1 has passed for a client that is up
 abbrev pub is_timed_out : ℕ → Client → Bool
 is_timed_out moment c = is_up c.stage && ran_out moment c.window
+
+-- why time that has passed closes the connection, if it does
+abbrev pub close_by_tick : ℕ → Client → Option Why
+close_by_tick moment c = when (is_timed_out moment c) Timer
 
 -- time has passed
 abbrev pub client_after_tick : ℕ → Client → Client

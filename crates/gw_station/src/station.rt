@@ -8,8 +8,8 @@ ghost use Rattle.iec_window.specs.Counts.{sent_in_all};
 ghost use Rattle.iec_window.specs.Sequence.{receive_number, send_number};
 ghost use Rattle.iec_window.specs.Steps.{counts_after_sending_i};
 ghost use Rattle.gw_station.specs.Answers.{client_judging, client_told, is_asking, is_pending};
-ghost use Rattle.gw_station.specs.Client.{client_after_close, client_after_tick, client_after_up, client_anew, client_down, client_with_news, is_started, is_timed_out, is_up};
-ghost use Rattle.gw_station.specs.Frames.{asks, begins, client_after_apdu, client_with_session, client_with_signal, closes_judged, event_of, floods, given_command, overfills, wants_memory, HasPlace};
+ghost use Rattle.gw_station.specs.Client.{client_after_close, client_after_tick, client_after_up, client_anew, client_down, client_with_news, close_by_tick, is_started, is_up};
+ghost use Rattle.gw_station.specs.Frames.{asks, begins, client_after_apdu, client_with_session, client_with_signal, closes_judged, event_of, floods, given_command, judged_asdu, overfills, wants_memory, HasPlace};
 ghost use Rattle.circular_buffer.specs.Buffer.{buffer};
 ghost use Rattle.gw_station.specs.Kept.{items_in, IsQueue};
 ghost use Rattle.gw_station.specs.Pump.{client_after_pump, client_with_sent, content_of, given, information, information_offered, line, offered, IsRoomy};
@@ -70,7 +70,9 @@ pub struct Station {
 
 impl Model for Station {
     ghost use Rattle.std.specs.Prelude.{◌≤◌, length};
+    ghost use Rattle.std.specs.List.{AllByRecursion};
     ghost use Rattle.std.specs.VecDeque.{deque_capacity};
+    ghost use Rattle.gw_answers.specs.Octets.{IsReturnable};
     ghost use Rattle.gw_station.specs.Client.{Client};
     ghost use Rattle.gw_station.specs.Kept.{items_in, IsQueue};
 
@@ -88,10 +90,10 @@ impl Model for Station {
       rest = s.rest;
     } };
 
-    // There is room for 32 confirmations and 32 answers, and in a session for the news that may wait.
+    // There is room for 32 confirmations and 32 answers, which can be spelled, and in a session for the news that may wait.
     ghost invariant = { λ s. (length s.confirmations.items ≤ 32) × (32 ≤ deque_capacity s.confirmations)
         × (length s.answers.items ≤ 32) × (32 ≤ deque_capacity s.answers)
-        × IsQueue s.limit s.stage s.queue };
+        × AllByRecursion IsReturnable s.answers.items × IsQueue s.limit s.stage s.queue };
 }
 
 impl Station {
@@ -329,8 +331,7 @@ impl Station {
     /// that came before the interrogation that is pending, the next part of its answer, or later news; an S format
     /// where one is due.
     pub fn pump(&mut self, settings: &Settings, moment: u64) -> Option<ApduBuf>
-        requires count { sent_in_all self.old.window + 1 < 2 ^ 64 }
-        requires answers { AllByRecursion IsReturnable self.old.answers }
+        requires { sent_in_all self.old.window + 1 < 2 ^ 64 }
         ensures apdu { result ≡ option_map buffer_of
             (given settings.now.station.offset_minutes settings.now.station.common_address moment self.old) }
         ensures client { self.new ≡ client_after_pump moment self.old }
@@ -339,16 +340,17 @@ impl Station {
         Some(self.send(sending, settings, moment))
     }
 
-    /// Time has passed: whether the connection is closed, since t1 ran out.
-    pub fn tick(&mut self, moment: u64) -> bool
-        ensures closed { result ≡ is_timed_out moment self.old }
+    /// Time has passed: why the connection is closed, if it is.
+    pub fn tick(&mut self, moment: u64) -> Option<Why>
+        ensures closed { result ≡ close_by_tick moment self.old }
         ensures client { self.new ≡ client_after_tick moment self.old }
     {
-        let is_timed_out = self.is_up() && self.window.ran_out(moment);
-        if is_timed_out {
+        if self.is_up() && self.window.ran_out(moment) {
             self.down();
+            Some(Why::Timer)
+        } else {
+            None
         }
-        is_timed_out
     }
 
     fn is_started(&self) -> bool
@@ -378,7 +380,7 @@ impl Station {
         if !self.is_started() {
             return Some(Why::NotStarted);
         }
-        if !(self.window.is_right_send(ns) && self.window.is_right_receive(nr)) {
+        if self.window.check_numbers(ns, nr).is_err() {
             return Some(Why::Sequence);
         }
         if *judged == Judged::Malformed {
@@ -425,8 +427,7 @@ impl Station {
             return Ok(self.close(why));
         }
         self.take_asdu(asdu, &judged, settings, picture)?;
-        // Both numbers were judged before.
-        let _ = self.window.received(ns, nr, moment);
+        self.window.received(ns, nr, moment);
         Ok(match command_by(&judged) {
             Some(command) => Event::Command(command),
             None => Event::Taken,
@@ -442,7 +443,8 @@ impl Station {
         settings: &Settings,
         picture: &[Observation],
     ) -> Result<(), Memory>
-        requires { overfills judged.now self.old ≡ false }
+        requires judged { judged.now ≡ judged_asdu settings.now asdu.now }
+        requires room { overfills judged.now self.old ≡ false }
         ensures client { OnOk result
             (self.new ≡ client_judging settings.now picture.now asdu.now judged.now self.old) }
         ensures memory { OnErr result (is_asking judged.now self.old ≡ true) }
@@ -502,6 +504,8 @@ impl Station {
     fn offered(&self, moment: u64) -> Option<Sending>
         ensures sending { result ≡ offered moment self.now }
         ensures room { IfSome result (IsRoomy self.now.window) }
+        // What the type keeps.
+        ensures answers { AllByRecursion IsReturnable self.now.answers }
     {
         if let Some(signal) = self.confirmations.front() {
             return Some(Sending::Confirm(*signal));

@@ -7,7 +7,8 @@ use Rattle.iec_window.specs.Counts.{Counts}
 use Rattle.iec_window.specs.Sequence.{Acknowledges, new_acknowledgements, is_right_send, is_right_receive, receive_number}
 use Rattle.iec_window.specs.Steps.{first_of, counts_after_s, counts_after_i}
 use Rattle.iec_window.specs.History.{Frame, SentI, SentS, SentTest, GotI, GotS, GotConfirmation, GotOther, sent_at, got_at, acknowledged_by, receipted_by, waiting_at, owed_at, heard_at, test_at, counts_of, IsLegal, step, window_counts}
-use Rattle.iec_window.proofs.Numbers.{new_acknowledgements-within, new_acknowledgements-means, ahead_of-number}
+use Rattle.iec_window.proofs.Numbers.{ahead_of-number}
+use Rattle.iec_window.proofs.Right.{right_names, named_right}
 
 -- one more at the end
 length-more : (xs : List ℕ) (x : ℕ) → length (xs ++ x ∷ []) ≡ length xs + 1
@@ -64,15 +65,6 @@ Acknowledges-legal : (limits : Limits) (start n : ℕ) (older : List Frame) → 
 Acknowledges-legal limits start n older low high =
     record { not_fewer = low; not_more = omega (arith, length-drop (acknowledged_by older) (sent_at older)); number = refl }
 
--- the number of a count is right
-is_right_receive-number : (nr n : ℕ) (c : Counts) → length c.waiting < 32768 → Acknowledges nr c n
-    → is_right_receive nr c ≡ true
-is_right_receive-number nr n c small a =
-    let below : nat_lt nr 32768 ≡ true = le-leb (suc nr) 32768 (omega (arith, a.number)) in
-    let within : nat_le (new_acknowledgements nr c) (length c.waiting) ≡ true =
-    le-leb (new_acknowledgements nr c) (length c.waiting) (new_acknowledgements-within nr c n small a) in
-    rw (below, within) refl
-
 -- a choice whose test is true
 chosen : (b : Bool) (x y : Counts) → b ≡ true → cond b x y ≡ x
 chosen true x y e = refl
@@ -117,7 +109,7 @@ new_acknowledgements-number n c small a =
 counts_after_s-number : (n moment : ℕ) (c : Counts) → length c.waiting < 32768 → Acknowledges (n % 32768) c n →
     counts_after_s (n % 32768) moment c ≡ made c.limits n (drop (n - c.acknowledged) c.waiting) c.received c.owed c.owed_since moment c.test
 counts_after_s-number n moment c small a =
-    chosen (is_right_receive (n % 32768) c) _ c (is_right_receive-number (n % 32768) n c small a)
+    chosen (is_right_receive (n % 32768) c) _ c (named_right (n % 32768) c n small a)
     ∙ moved c (new_acknowledgements (n % 32768) c) n c.received c.owed c.owed_since moment a.not_fewer (new_acknowledgements-number n c small a)
 
 -- what the right I format with the number of a count leaves
@@ -126,7 +118,7 @@ counts_after_i-number : (n moment : ℕ) (c : Counts) → length c.waiting < 327
     ≡ made c.limits n (drop (n - c.acknowledged) c.waiting) (c.received + 1) (c.owed + 1) (Some (first_of c.owed_since moment)) moment c.test
 counts_after_i-number n moment c small a =
     chosen (is_right_send (receive_number c) c) _ c (search rules)
-    ∙ (chosen (is_right_receive (n % 32768) c) _ c (is_right_receive-number (n % 32768) n c small a)
+    ∙ (chosen (is_right_receive (n % 32768) c) _ c (named_right (n % 32768) c n small a)
     ∙ moved c (new_acknowledgements (n % 32768) c) n (c.received + 1) (c.owed + 1) (Some (first_of c.owed_since moment)) moment a.not_fewer (new_acknowledgements-number n c small a))
 
 -- the first of moments of which one more came
@@ -191,25 +183,6 @@ window_counts-counts_of limits start (frame ∷ older) small legal =
     ap (step frame) (window_counts-counts_of limits start older small (legal_before limits frame older legal))
     ∙ step-counts_of limits start frame older small legal
 
--- two tests that are both true
-both : (a b : Bool) → IsTrue (a && b) → IsTrue a × IsTrue b
-both true true t = (refl, refl)
-both true false t = let no : ⊥ = cc in absurd no
-both false b t = let no : ⊥ = cc in absurd no
-
--- a right N(R) names a count
-right-names : (nr : ℕ) (c : Counts) → length c.waiting < 32768 → IsTrue (is_right_receive nr c)
-    → (n : ℕ) × Acknowledges nr c n
-right-names nr c small t =
-    let tests : IsTrue (nat_lt nr 32768) × IsTrue (nat_le (new_acknowledgements nr c) (length c.waiting)) =
-    both _ _ t in
-    let below : nr < 32768 = search (rules, tests.0) in
-    (new_acknowledgements-means nr c (new_acknowledgements nr c) (length c.waiting) below small refl refl).0 tests.1
-
--- the number of a count is right
-names-right : (nr n : ℕ) (c : Counts) → length c.waiting < 32768 → Acknowledges nr c n → IsTrue (is_right_receive nr c)
-names-right nr n c small a = is_right_receive-number nr n c small a
-
 -- N(R) is right where the connection may go on with it
 right-legal_of : (limits : Limits) (start nr moment : ℕ) (frames : List Frame) → limits.k < 32768
     → IsLegal limits frames →
@@ -219,10 +192,9 @@ right-legal_of limits start nr moment frames small legal =
     let sent : length (waiting_at frames) ≡ length (sent_at frames) - acknowledged_by frames =
     length-drop (acknowledged_by frames) (sent_at frames) in
     let least : acknowledged_by frames ≤ length (sent_at frames) = acknowledged_by-le limits frames legal in (
-      λ t. let a : (n : ℕ) × Acknowledges nr (counts_of limits start frames) n =
-          right-names nr (counts_of limits start frames) bound t in
-          (a.0, a.1.number, (a.1.not_fewer, omega (arith, a.1.not_more, sent, least), legal)),
-      λ g. names-right nr g.0 (counts_of limits start frames) bound
+      λ t. let a = right_names nr (counts_of limits start frames) t in
+          (_, a.number, (a.not_fewer, omega (arith, a.not_more, sent, least), legal)),
+      λ g. named_right nr (counts_of limits start frames) g.0 bound
           (record { not_fewer = g.2.0; not_more = omega (arith, g.2.1, sent, least); number = g.1 }),
     )
 
