@@ -12,9 +12,9 @@ use Rattle.gw_judge.specs.declared.judging.Judged.{Judged}
 use Rattle.gw_judge.specs.declared.judging.Judged.TheVariants.{Malformed, Refuse, Accepted}
 use Rattle.gw_judge.specs.Judging.{IsWholeJudged}
 use Rattle.gw_judge.proofs.Refused.{header_whole, cause_within}
-use Rattle.gw_answers.specs.declared.outgoing.Answer.{Answer}
-use Rattle.gw_answers.specs.declared.outgoing.Answer.TheVariants.{Made}
-use Rattle.gw_answers.specs.declared.outgoing.Outgoing.TheVariants as outgoing
+use Rattle.gw_answers.specs.declared.outgoing.AsduAnswer.{AsduAnswer}
+use Rattle.gw_answers.specs.declared.outgoing.AsduAnswer.TheVariants.{Made}
+use Rattle.gw_answers.specs.declared.outgoing.OwnAsdu.TheVariants as outgoing
 use Rattle.gw_answers.specs.Outgoing.{confirmed}
 use Rattle.gw_answers.specs.Interrogations.{is_accepted_act}
 use Rattle.gw_answers.specs.Answers.{shown_at, refused_act, answered_action, answered}
@@ -28,7 +28,7 @@ use Rattle.gw_station.specs.Sound.{CanAnswer}
 use Rattle.gw_station.proofs.All.{all-append}
 
 -- one more of a kind, where there is one
-one_more : (P : Answer → Type 0) (answer : Option Answer) (waiting : List Answer) → IfSome answer P
+one_more : (P : AsduAnswer → Type 0) (answer : Option AsduAnswer) (waiting : List AsduAnswer) → IfSome answer P
     → AllByRecursion P waiting → AllByRecursion P (answers_with answer waiting)
 one_more P None waiting is all = all
 one_more P (Some answer) waiting is all = all-append P waiting (answer ∷ []) all (is, tt)
@@ -88,10 +88,10 @@ answered_returnable setup picture pending asdu (Accepted command) e =
 
 -- the answers that wait, and that to an ASDU that was judged so
 pub returnable_more : (setup : Setup) (picture : List Observation) (pending : Bool) (asdu : Asdu) (j : Judged)
-    (answer : Answer) (waiting more : List Answer) → judged_asdu setup asdu ≡ j
+    (answer : AsduAnswer) (waiting more : List AsduAnswer) → judged_asdu setup asdu ≡ j
     → answered setup picture pending asdu j ≡ Some answer → more ≡ waiting ++ answer ∷ []
     → AllByRecursion IsReturnable waiting → AllByRecursion IsReturnable more
 returnable_more setup picture pending asdu j answer waiting more judged gets is all =
-    let one = subst (λ (x : Option Answer). IfSome x IsReturnable) gets
+    let one = subst (λ (x : Option AsduAnswer). IfSome x IsReturnable) gets
     (answered_returnable setup picture pending asdu j judged) in
     subst (AllByRecursion IsReturnable) (sym is) (all-append IsReturnable waiting (answer ∷ []) all (one, tt))

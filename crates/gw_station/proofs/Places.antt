@@ -16,9 +16,9 @@ use Rattle.iec_command.specs.declared.command.Action.TheVariants as actions
 use Rattle.gw_judge.specs.Judging.{is_execute}
 use Rattle.gw_judge.specs.declared.judging.Judged.{Judged}
 use Rattle.gw_judge.specs.declared.judging.Judged.TheVariants.{Malformed, Refuse, Accepted}
-use Rattle.gw_answers.specs.declared.outgoing.Answer.{Answer}
-use Rattle.gw_answers.specs.declared.outgoing.Answer.TheVariants.{Made}
-use Rattle.gw_answers.specs.declared.outgoing.Outgoing.TheVariants as outgoing
+use Rattle.gw_answers.specs.declared.outgoing.AsduAnswer.{AsduAnswer}
+use Rattle.gw_answers.specs.declared.outgoing.AsduAnswer.TheVariants.{Made}
+use Rattle.gw_answers.specs.declared.outgoing.OwnAsdu.TheVariants as outgoing
 use Rattle.gw_answers.specs.Interrogations.{is_accepted_act}
 use Rattle.gw_answers.specs.Answers.{places_for, refused_act, shown_at, answered_action, answered}
 use Rattle.gw_station.specs.declared.event.Why.TheVariants.{Flooded}
@@ -89,7 +89,7 @@ answered_needs setup picture pending asdu Malformed = tt
 answered_needs setup picture pending asdu (Refuse cause execute) = at_least_one execute
 answered_needs setup picture pending asdu (Accepted c) = action_needs setup picture pending c c.action refl
 
-answers_within : (answer : Option Answer) (waiting : List Answer) (n : ℕ) → IfSome answer (λ _. 1 ≤ n) → length (answers_with answer waiting) ≤ length waiting + n
+answers_within : (answer : Option AsduAnswer) (waiting : List AsduAnswer) (n : ℕ) → IfSome answer (λ _. 1 ≤ n) → length (answers_with answer waiting) ≤ length waiting + n
 answers_within None waiting n needs = omega arith
 answers_within (Some answer) waiting n needs = omega (arith, needs, length-append waiting (answer ∷ []))
 

@@ -23,11 +23,11 @@ ghost use Rattle.iec_apci.specs.declared.apdu.Signal.TheVariants as signals;
 
 use crate::client::Stage;
 use crate::event::{Event, Said, Why};
-use crate::rest::Rest;
+use crate::rest::PartsLeft;
 use crate::sending::Sending;
 use circular_buffer::HeapCircularBuffer;
 use gw_answers::{
-    Answer, Outgoing, answer_asdu, answer_to, answered, command_by, confirmed, is_accepted_act,
+    AsduAnswer, OwnAsdu, answer_asdu, answer_to, answered, command_by, confirmed, is_accepted_act,
     places_for,
 };
 use gw_judge::{Judged, judge};
@@ -55,7 +55,7 @@ pub struct Station {
     /// Confirmations of U formats that wait, oldest first.
     confirmations: VecDeque<Signal>,
     /// The answers to its ASDUs that wait, oldest first.
-    answers: VecDeque<Answer>,
+    answers: VecDeque<AsduAnswer>,
     /// How many news may wait.
     limit: usize,
     /// In a session: the news that aren't put out yet, oldest first.
@@ -65,7 +65,7 @@ pub struct Station {
     /// How many of the queue came before the interrogation that is pending.
     older: usize,
     /// What is left of its answer.
-    rest: Rest,
+    rest: PartsLeft,
 }
 
 impl Model for Station {
@@ -90,7 +90,8 @@ impl Model for Station {
       rest = s.rest;
     } };
 
-    // There is room for 32 confirmations and 32 answers, which can be spelled, and in a session for the news that may wait.
+    // There is room for 32 confirmations, for 32 answers, which can be spelled, and in a session for the news that may
+    // wait.
     ghost invariant = { λ s. (length s.confirmations.items ≤ 32) × (32 ≤ deque_capacity s.confirmations)
         × (length s.answers.items ≤ 32) × (32 ≤ deque_capacity s.answers)
         × AllByRecursion IsReturnable s.answers.items × IsQueue s.limit s.stage s.queue };
@@ -115,7 +116,7 @@ impl Station {
             queue: None,
             dropped: 0,
             older: 0,
-            rest: Rest::none(),
+            rest: PartsLeft::none(),
         })
     }
 
@@ -217,7 +218,7 @@ impl Station {
         self.answers.clear();
         self.dropped = 0;
         self.older = 0;
-        self.rest = Rest::none();
+        self.rest = PartsLeft::none();
     }
 
     /// Whether a session would begin by an APDU.
@@ -264,7 +265,7 @@ impl Station {
         // Its answers can be sent, where they could before, and the picture's observations can.
         ensures sendable { (offset : ℤ) → AllByRecursion (IsSendable offset) picture.now → CanAnswer offset self.old
             → OnOk result (CanAnswer offset self.new) }
-        // A command that is given has the bits of its places.
+        // A command that is given has fields that fit.
         ensures whole { IfOk result (λ event. IsWholeEvent event) }
         ensures memory { OnErr result (wants_memory settings.now apdu.now self.old ≡ true) }
         ensures same { OnErr result (self.new ≡ self.old) }
@@ -297,11 +298,11 @@ impl Station {
     /// Says something of a command for a control that `frame` gave.
     pub fn answer(&mut self, command: &Command, said: Said)
         requires { length self.old.answers < 32 }
-        ensures { self.new ≡ client_told said command.now self.old }
+        ensures { self.new ≡ client_told command.now said self.old }
     {
         let negative = said == Said::Negative;
         let confirmation = confirmed(negative, command);
-        self.answers.push_back_reserved(Answer::Made(confirmation));
+        self.answers.push_back_reserved(AsduAnswer::Made(confirmation));
     }
 
     /// Takes news: they join the queue of a started client, and the oldest are dropped where too many would wait.
@@ -345,7 +346,7 @@ impl Station {
         ensures closed { result ≡ close_by_tick moment self.old }
         ensures client { self.new ≡ client_after_tick moment self.old }
     {
-        if self.is_up() && self.window.ran_out(moment) {
+        if self.is_up() && self.window.t1_passed(moment) {
             self.down();
             Some(Why::Timer)
         } else {
@@ -386,7 +387,7 @@ impl Station {
         if *judged == Judged::Malformed {
             return Some(Why::Malformed);
         }
-        if self.answers.len() + places_for(judged, self.is_pending()) > MOST_ANSWERS {
+        if self.answers.len() + places_for(self.is_pending(), judged) > MOST_ANSWERS {
             return Some(Why::Flooded);
         }
         None
@@ -417,7 +418,7 @@ impl Station {
         // Its answers can be sent, where they could before, and the picture's observations can.
         ensures sendable { (offset : ℤ) → AllByRecursion (IsSendable offset) picture.now → CanAnswer offset self.old
             → OnOk result (CanAnswer offset self.new) }
-        // A command that is given has the bits of its places.
+        // A command that is given has fields that fit.
         ensures whole { IfOk result (λ event. IsWholeEvent event) }
         ensures memory { OnErr result (asks settings.now (formats.I ns nr asdu.now) self.old ≡ true) }
         ensures same { OnErr result (self.new ≡ self.old) }
@@ -426,7 +427,7 @@ impl Station {
         if let Some(why) = self.close_by_information(ns, nr, &judged) {
             return Ok(self.close(why));
         }
-        self.take_asdu(asdu, &judged, settings, picture)?;
+        self.take_asdu(settings, picture, asdu, &judged)?;
         self.window.received(ns, nr, moment);
         Ok(match command_by(&judged) {
             Some(command) => Event::Command(command),
@@ -434,14 +435,14 @@ impl Station {
         })
     }
 
-    /// Takes an ASDU for whose answer there are places: an interrogation that is accepted copies the picture, all else is
-    /// answered at once, or waits for what is said of it.
+    /// Takes an ASDU for whose answer there are places: an interrogation that is accepted copies the picture, all else
+    /// is answered at once, or waits for what is said of it.
     fn take_asdu(
         &mut self,
-        asdu: &Asdu,
-        judged: &Judged,
         settings: &Settings,
         picture: &[Observation],
+        asdu: &Asdu,
+        judged: &Judged,
     ) -> Result<(), Memory>
         requires judged { judged.now ≡ judged_asdu settings.now asdu.now }
         requires room { overfills judged.now self.old ≡ false }
@@ -452,13 +453,13 @@ impl Station {
     {
         let pending = self.is_pending();
         if let Judged::Accepted(command) = judged {
-            if is_accepted_act(command, pending) {
-                self.rest = Rest::of(answer_to(self.alloc, command, picture)?)?;
+            if is_accepted_act(pending, command) {
+                self.rest = PartsLeft::of(answer_to(self.alloc, command, picture)?)?;
                 self.older = self.queued();
                 return Ok(());
             }
         }
-        if let Some(answer) = answered(asdu, judged, pending, settings, picture) {
+        if let Some(answer) = answered(settings, picture, pending, asdu, judged) {
             self.answers.push_back_reserved(answer);
         }
         Ok(())
@@ -515,7 +516,7 @@ impl Station {
         }
         let information = self.information_offered();
         if information.is_none() && self.window.owes_ack(moment) {
-            return Some(Sending::Receipt);
+            return Some(Sending::SFormat);
         }
         information
     }
@@ -582,13 +583,13 @@ impl Station {
             }
             Sending::News(observation) => {
                 self.forget_news();
-                self.send_answer(&Answer::Made(Outgoing::news(observation)), settings, moment)
+                self.send_answer(&AsduAnswer::Made(OwnAsdu::news(observation)), settings, moment)
             }
             Sending::Part(part) => {
                 self.forget_part();
-                self.send_answer(&Answer::Made(part), settings, moment)
+                self.send_answer(&AsduAnswer::Made(part), settings, moment)
             }
-            Sending::Receipt => {
+            Sending::SFormat => {
                 let nr = self.window.ack_sent();
                 ApduBuf::of(&Apdu::S { nr })
             }
@@ -596,7 +597,7 @@ impl Station {
     }
 
     /// Puts out an answer, or what else goes out, in an I format.
-    fn send_answer(&mut self, answer: &Answer, settings: &Settings, moment: u64) -> ApduBuf
+    fn send_answer(&mut self, answer: &AsduAnswer, settings: &Settings, moment: u64) -> ApduBuf
         requires room { length self.old.window.waiting < self.old.window.limits.k }
         requires count { sent_in_all self.old.window + 1 < 2 ^ 64 }
         requires answer { IsReturnable answer.now }

@@ -1,9 +1,9 @@
 //! The window of one end of a connection.
 ghost use Rattle.std.specs.Prelude.{◌≡◌, ℕ, ◌+◌, ◌^◌, ◌<◌, ◌≤◌, ◌↔◌, true, IsTrue, IfOk, OnOk, nat_lt, length, slice_get, drop};
 ghost use Rattle.std.specs.VecDeque.{deque_capacity};
-ghost use Rattle.iec_window.specs.Counts.{Counts, sent_in_all};
+ghost use Rattle.iec_window.specs.Counts.{WindowCounts, sent_in_all};
 ghost use Rattle.iec_window.specs.Sequence.{Acknowledges, send_number, receive_number, is_right_send, new_acknowledgements, is_right_receive};
-ghost use Rattle.iec_window.specs.Timers.{has_passed, ran_out, owes_ack, owes_test, due_at};
+ghost use Rattle.iec_window.specs.Timers.{has_passed, t1_passed, owes_ack, owes_test, due_at};
 ghost use Rattle.iec_window.specs.Steps.{counts_at_start, counts_after_frame, answer_to_s, counts_after_s, counts_after_right_s, answer_to_i, counts_after_i, counts_after_sending_s, counts_after_sending_i, counts_after_sending_test, counts_after_confirmation};
 
 use crate::due::Due;
@@ -39,15 +39,15 @@ pub struct Window {
 }
 
 impl Model for Window {
-    ghost use Rattle.iec_window.specs.Counts.{Counts};
+    ghost use Rattle.iec_window.specs.Counts.{WindowCounts};
 
-    ghost Value = { Counts };
+    ghost Value = { WindowCounts };
 
-    ghost use Rattle.iec_window.specs.View.{counts_in, IsSound};
+    ghost use Rattle.iec_window.specs.View.{counts_in, IsWindow};
 
     ghost view = { counts_in };
 
-    ghost invariant = { IsSound };
+    ghost invariant = { IsWindow };
 }
 
 impl Window {
@@ -254,8 +254,8 @@ impl Window {
 
     /// Whether t1 has passed since the oldest I format that isn't acknowledged, or the TESTFR act that isn't
     /// confirmed. Then the connection is to be closed.
-    pub fn ran_out(&self, moment: u64) -> bool
-        ensures { result ≡ ran_out moment self.now }
+    pub fn t1_passed(&self, moment: u64) -> bool
+        ensures { result ≡ t1_passed moment self.now }
     {
         has_passed(self.limits.t1, oldest(&self.waiting), moment)
             || has_passed(self.limits.t1, self.test, moment)
@@ -272,7 +272,7 @@ impl Window {
     pub fn tick(&self, moment: u64) -> Due
         ensures { result ≡ due_at moment self.now }
     {
-        if self.ran_out(moment) {
+        if self.t1_passed(moment) {
             Due::Close
         } else if self.owes_test(moment) {
             Due::Test
