@@ -17,10 +17,10 @@ use Rattle.iec_command.specs.declared.command.Action.TheVariants as actions
 use Rattle.iec_command.specs.declared.fault.CommandFault.{CommandFault}
 use Rattle.iec_command.specs.Commands.{spelling as command_spelling, cause_octet, command_in, command_of, faults, mirrored, unless, IsWhole}
 use Rattle.iec_command.proofs.Again.{command_of-spelling}
-use Rattle.gw_answers.specs.declared.outgoing.Answer.{Answer}
-use Rattle.gw_answers.specs.declared.outgoing.Answer.TheVariants.{Returned, Made}
-use Rattle.gw_answers.specs.declared.outgoing.Outgoing.{Outgoing}
-use Rattle.gw_answers.specs.declared.outgoing.Outgoing.TheVariants as outgoing
+use Rattle.gw_answers.specs.declared.outgoing.AsduAnswer.{AsduAnswer}
+use Rattle.gw_answers.specs.declared.outgoing.AsduAnswer.TheVariants.{Returned, Made}
+use Rattle.gw_answers.specs.declared.outgoing.OwnAsdu.{OwnAsdu}
+use Rattle.gw_answers.specs.declared.outgoing.OwnAsdu.TheVariants as outgoing
 use Rattle.gw_answers.specs.Outgoing.{at_station}
 use Rattle.gw_answers.specs.Octets.{octets_in, answer_octets, outgoing_octets}
 use Rattle.gw_answers.specs.Meaning.{Tells, Commands, meant_by, meaning_of, meant_outgoing, asdu_of, HasCause, ComesBack, Means, CanSendOutgoing, CanSendAnswer}
@@ -154,13 +154,13 @@ comes_back offset cause (t ∷ v ∷ old ∷ rest) few long = by_asdu (asdu_mean
 
 -- ---- what goes out
 
-pub outgoing_means : (offset : ℤ) (common : ℕ) (x : Outgoing) → common < 65536 → CanSendOutgoing offset x
+pub outgoing_means : (offset : ℤ) (common : ℕ) (x : OwnAsdu) → common < 65536 → CanSendOutgoing offset x
     → meaning_of offset (outgoing_octets offset common x) ≡ meant_outgoing offset common x
 outgoing_means offset common (outgoing.Command c) small can = commands_mean offset (at_station common c) (whole_here common c small can.1)
 outgoing_means offset common (outgoing.Observation cause originator x) small can =
     observations_mean offset common cause originator x small can.width can.fit
 
-pub answer_means : (offset : ℤ) (common : ℕ) (answer : Answer) → common < 65536 → CanSendAnswer offset answer
+pub answer_means : (offset : ℤ) (common : ℕ) (answer : AsduAnswer) → common < 65536 → CanSendAnswer offset answer
     → Means offset common answer (meaning_of offset (answer_octets offset common answer))
 answer_means offset common (Returned asdu cause) small can = comes_back offset cause (octets_in asdu) (omega (arith, can.2)) can.0
 answer_means offset common (Made (outgoing.Command c)) small can = outgoing_means offset common (outgoing.Command c) small can

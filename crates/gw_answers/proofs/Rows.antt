@@ -5,14 +5,14 @@ use Rattle.std.proofs.lemmas.Bool.{cases_Bool}
 use Rattle.std.proofs.lemmas.List.{take_more}
 use Rattle.gw_model.specs.declared.observation.Observation.{Observation}
 use Rattle.iec_command.specs.declared.command.Action.{Action}
-use Rattle.gw_answers.specs.declared.outgoing.Outgoing.{Outgoing}
-use Rattle.gw_answers.specs.declared.outgoing.Outgoing.TheVariants as outgoing
+use Rattle.gw_answers.specs.declared.outgoing.OwnAsdu.{OwnAsdu}
+use Rattle.gw_answers.specs.declared.outgoing.OwnAsdu.TheVariants as outgoing
 use Rattle.gw_answers.specs.Interrogations.{cause_for, is_asked_by, rows_of}
 
 rows-append : (action : Action) (xs ys : List Observation) → rows_of action (xs ++ ys) ≡ rows_of action xs ++ rows_of action ys
 rows-append action [] ys = refl
 rows-append action (x ∷ xs) ys = elim (cases_Bool (is_asked_by action x)) [
-  | inl is ↦ rw is (ap (λ (parts : List Outgoing). outgoing.Observation (cause_for action) 0 x ∷ parts) (rows-append action xs ys))
+  | inl is ↦ rw is (ap (λ (parts : List OwnAsdu). outgoing.Observation (cause_for action) 0 x ∷ parts) (rows-append action xs ys))
   | inr isnt ↦ rw isnt (rows-append action xs ys)
 ]
 

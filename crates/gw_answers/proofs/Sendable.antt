@@ -15,8 +15,8 @@ use Rattle.gw_judge.specs.declared.judging.Judged.{Judged}
 use Rattle.gw_judge.specs.declared.judging.Judged.TheVariants.{Malformed, Refuse, Accepted}
 use Rattle.gw_judge.specs.Judging.{judged, IsWholeJudged}
 use Rattle.gw_judge.proofs.Refused.{header_whole, cause_within}
-use Rattle.gw_answers.specs.declared.outgoing.Answer.TheVariants.{Made}
-use Rattle.gw_answers.specs.declared.outgoing.Outgoing.TheVariants as outgoing
+use Rattle.gw_answers.specs.declared.outgoing.AsduAnswer.TheVariants.{Made}
+use Rattle.gw_answers.specs.declared.outgoing.OwnAsdu.TheVariants as outgoing
 use Rattle.gw_answers.specs.Outgoing.{command_with, at_station, confirmed}
 use Rattle.gw_answers.specs.Interrogations.{cause_for, is_accepted_act, is_asked_by, rows_of, answer_to}
 use Rattle.gw_answers.specs.Answers.{shown_by, refused_act, answered_action, answered}

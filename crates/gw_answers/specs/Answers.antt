@@ -11,9 +11,9 @@ use Rattle.iec_command.specs.declared.command.Action.TheVariants as actions
 use Rattle.gw_judge.specs.Judging.{is_execute}
 use Rattle.gw_judge.specs.declared.judging.Judged.{Judged}
 use Rattle.gw_judge.specs.declared.judging.Judged.TheVariants.{Malformed, Refuse, Accepted}
-use Rattle.gw_answers.specs.declared.outgoing.Answer.{Answer}
-use Rattle.gw_answers.specs.declared.outgoing.Answer.TheVariants.{Returned, Made}
-use Rattle.gw_answers.specs.declared.outgoing.Outgoing.TheVariants as outgoing
+use Rattle.gw_answers.specs.declared.outgoing.AsduAnswer.{AsduAnswer}
+use Rattle.gw_answers.specs.declared.outgoing.AsduAnswer.TheVariants.{Returned, Made}
+use Rattle.gw_answers.specs.declared.outgoing.OwnAsdu.TheVariants as outgoing
 use Rattle.gw_answers.specs.Outgoing.{confirmed}
 use Rattle.gw_answers.specs.Interrogations.{is_accepted_act}
 
@@ -38,18 +38,18 @@ abbrev pub shown_at : Setup → List Observation → ℕ → Option Observation
 shown_at setup picture address = shown_by picture (row_at_from 0 address setup.rows)
 
 -- an interrogation that isn't accepted, and each deactivation of one, is confirmed negatively
-abbrev pub refused_act : Bool → Command → Option Answer
+abbrev pub refused_act : Bool → Command → Option AsduAnswer
 refused_act pending c = if is_accepted_act pending c then None else Some (Made (confirmed true c))
 
 -- a command for a control waits for what is said of it
-abbrev pub answered_action : Setup → List Observation → Bool → Command → Action → Option Answer
+abbrev pub answered_action : Setup → List Observation → Bool → Command → Action → Option AsduAnswer
 answered_action setup picture pending c (actions.Interrogation qualifier) = refused_act pending c
 answered_action setup picture pending c (actions.CounterInterrogation qualifier) = refused_act pending c
 answered_action setup picture pending c actions.Read =
     option_map (λ x. Made (outgoing.Observation 5 c.originator x)) (shown_at setup picture c.address)
 answered_action setup picture pending c _ = None
 
-abbrev pub answered : Setup → List Observation → Bool → Asdu → Judged → Option Answer
+abbrev pub answered : Setup → List Observation → Bool → Asdu → Judged → Option AsduAnswer
 answered setup picture pending asdu Malformed = None
 answered setup picture pending asdu (Refuse cause execute) = Some (Returned asdu cause)
 answered setup picture pending asdu (Accepted c) = answered_action setup picture pending c c.action

@@ -28,7 +28,8 @@ picture =
 
 -- octets at the front of an ASDU's
 abbrev pub asdu_with : (octets : List ℕ) → length octets ≤ 249 → Asdu
-asdu_with octets fits = record { octets = octets ++ replicate (249 - length octets) 0; len = length octets; fits = fits }
+asdu_with octets fits =
+    record { octets = octets ++ replicate (249 - length octets) 0; len = length octets; fits = fits }
 
 -- what an ASDU gets at once, where an interrogation is pending or not
 abbrev pub reply : Bool → (octets : List ℕ) → length octets ≤ 249 → Option (List ℕ)

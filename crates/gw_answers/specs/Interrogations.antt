@@ -6,8 +6,8 @@ use Rattle.gw_model.specs.declared.observation.Value.TheVariants.{Single, Double
 use Rattle.iec_command.specs.declared.command.Command.{Command}
 use Rattle.iec_command.specs.declared.command.Action.{Action}
 use Rattle.iec_command.specs.declared.command.Action.TheVariants.{Interrogation, CounterInterrogation}
-use Rattle.gw_answers.specs.declared.outgoing.Outgoing.{Outgoing}
-use Rattle.gw_answers.specs.declared.outgoing.Outgoing.TheVariants as outgoing
+use Rattle.gw_answers.specs.declared.outgoing.OwnAsdu.{OwnAsdu}
+use Rattle.gw_answers.specs.declared.outgoing.OwnAsdu.TheVariants as outgoing
 use Rattle.gw_answers.specs.Outgoing.{command_with}
 
 -- the station interrogation (QOI 20), and the general request of counters without freeze (QCC 5)
@@ -38,9 +38,9 @@ cause_for (CounterInterrogation qualifier) = 37
 cause_for _ = 20
 
 -- what the picture shows of what is asked, in the order of its rows
-abbrev pub rows_of : Action → List Observation → List Outgoing
+abbrev pub rows_of : Action → List Observation → List OwnAsdu
 rows_of action picture = map (outgoing.Observation (cause_for action) 0) (filter (is_asked_by action) picture)
 
 -- the confirmation (7), the rows, and the termination (10)
-abbrev pub answer_to : Command → List Observation → List Outgoing
+abbrev pub answer_to : Command → List Observation → List OwnAsdu
 answer_to c picture = command_with 7 false c ∷ (rows_of c.action picture ++ command_with 10 false c ∷ [])

@@ -9,10 +9,10 @@ use Rattle.iec_asdu.specs.Spelling.{type_of}
 use Rattle.iec_command.specs.declared.command.Command.{Command}
 use Rattle.iec_command.specs.declared.fault.CommandFault.{CommandFault}
 use Rattle.iec_command.specs.Commands.{command_of, IsWhole}
-use Rattle.gw_answers.specs.declared.outgoing.Answer.{Answer}
-use Rattle.gw_answers.specs.declared.outgoing.Answer.TheVariants.{Returned, Made}
-use Rattle.gw_answers.specs.declared.outgoing.Outgoing.{Outgoing}
-use Rattle.gw_answers.specs.declared.outgoing.Outgoing.TheVariants as outgoing
+use Rattle.gw_answers.specs.declared.outgoing.AsduAnswer.{AsduAnswer}
+use Rattle.gw_answers.specs.declared.outgoing.AsduAnswer.TheVariants.{Returned, Made}
+use Rattle.gw_answers.specs.declared.outgoing.OwnAsdu.{OwnAsdu}
+use Rattle.gw_answers.specs.declared.outgoing.OwnAsdu.TheVariants as outgoing
 use Rattle.gw_answers.specs.Outgoing.{at_station}
 use Rattle.gw_answers.specs.Octets.{IsReturnable}
 
@@ -54,11 +54,12 @@ ComesBack cause (Commands c) = (c.cause ≡ cause) × (c.negative ≡ true)
 ComesBack cause (Unread octets) = HasCause cause (slice_index octets 2)
 
 -- what goes out means what it is
-abbrev pub meant_outgoing : ℤ → ℕ → Outgoing → Meant
+abbrev pub meant_outgoing : ℤ → ℕ → OwnAsdu → Meant
 meant_outgoing offset common (outgoing.Command c) = Commands (at_station common c)
-meant_outgoing offset common (outgoing.Observation cause originator x) = Tells (asdu_of offset common cause originator x)
+meant_outgoing offset common (outgoing.Observation cause originator x) =
+    Tells (asdu_of offset common cause originator x)
 
-abbrev pub Means : ℤ → ℕ → Answer → Meant → Type 0
+abbrev pub Means : ℤ → ℕ → AsduAnswer → Meant → Type 0
 Means offset common (Returned asdu cause) meant = ComesBack cause meant
 Means offset common (Made x) meant = meant ≡ meant_outgoing offset common x
 
@@ -73,13 +74,13 @@ pub record IsSendable (offset : ℤ) (x : Observation) : Type 0 where
 abbrev pub is_answering : ℕ → Bool
 is_answering cause = cause == 7 || cause == 9 || cause == 10
 
--- a command that goes out has such a cause and the bits of its places; an ASDU can carry an observation that does
-abbrev pub CanSendOutgoing : ℤ → Outgoing → Type 0
+-- a command that goes out has such a cause and fields that fit; an ASDU can carry an observation that does
+abbrev pub CanSendOutgoing : ℤ → OwnAsdu → Type 0
 CanSendOutgoing offset (outgoing.Command c) = IsTrue (is_answering c.cause) × IsWhole c
 CanSendOutgoing offset (outgoing.Observation cause originator x) = IsSendable offset x
 
 -- what comes back has a whole header and a cause from 44 to 47; an observation answers a read, with cause 5
-abbrev pub CanSendAnswer : ℤ → Answer → Type 0
+abbrev pub CanSendAnswer : ℤ → AsduAnswer → Type 0
 CanSendAnswer offset (Returned asdu cause) = IsReturnable (Returned asdu cause)
 CanSendAnswer offset (Made (outgoing.Command c)) = CanSendOutgoing offset (outgoing.Command c)
 CanSendAnswer offset (Made (outgoing.Observation cause originator x)) = (cause ≡ 5) × IsSendable offset x

@@ -4,10 +4,10 @@ use Rattle.std.specs.Prelude.{ℕ, ℤ, ◌≤◌, true, List, length, take, sli
 use Rattle.iec_apci.specs.declared.apdu.Asdu.{Asdu}
 use Rattle.iec_asdu.specs.Spelling.{spelling}
 use Rattle.iec_command.specs.Commands.{spelling as command_spelling, mirrored}
-use Rattle.gw_answers.specs.declared.outgoing.Answer.{Answer}
-use Rattle.gw_answers.specs.declared.outgoing.Answer.TheVariants.{Returned, Made}
-use Rattle.gw_answers.specs.declared.outgoing.Outgoing.{Outgoing}
-use Rattle.gw_answers.specs.declared.outgoing.Outgoing.TheVariants as outgoing
+use Rattle.gw_answers.specs.declared.outgoing.AsduAnswer.{AsduAnswer}
+use Rattle.gw_answers.specs.declared.outgoing.AsduAnswer.TheVariants.{Returned, Made}
+use Rattle.gw_answers.specs.declared.outgoing.OwnAsdu.{OwnAsdu}
+use Rattle.gw_answers.specs.declared.outgoing.OwnAsdu.TheVariants as outgoing
 use Rattle.gw_answers.specs.Outgoing.{at_station}
 
 -- the octets of an ASDU
@@ -15,17 +15,17 @@ abbrev pub octets_in : Asdu → List ℕ
 octets_in asdu = take asdu.len asdu.octets
 
 -- the originator is the fourth octet
-abbrev pub outgoing_octets : ℤ → ℕ → Outgoing → List ℕ
+abbrev pub outgoing_octets : ℤ → ℕ → OwnAsdu → List ℕ
 outgoing_octets offset common (outgoing.Command c) = command_spelling (at_station common c)
 outgoing_octets offset common (outgoing.Observation cause originator x) =
     slice_set (spelling offset common cause x) 3 originator
 
 -- what is unknown comes back as it came, with its cause and P/N set
-abbrev pub answer_octets : ℤ → ℕ → Answer → List ℕ
+abbrev pub answer_octets : ℤ → ℕ → AsduAnswer → List ℕ
 answer_octets offset common (Returned asdu cause) = mirrored cause true (octets_in asdu)
 answer_octets offset common (Made x) = outgoing_octets offset common x
 
 -- an ASDU comes back with a whole header, and a cause from 44 to 47
-abbrev pub IsReturnable : Answer → Type 0
+abbrev pub IsReturnable : AsduAnswer → Type 0
 IsReturnable (Returned asdu cause) = (6 ≤ length (octets_in asdu)) × (44 ≤ cause) × (cause ≤ 47)
 IsReturnable (Made x) = Unit {0}

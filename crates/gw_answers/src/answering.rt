@@ -4,7 +4,7 @@ ghost use Rattle.gw_answers.specs.Answers.{answered, answered_action, command_by
 ghost use Rattle.gw_answers.specs.Outgoing.{command_with, confirmed};
 
 use crate::interrogation::is_accepted_act;
-use crate::outgoing::{Answer, Outgoing};
+use crate::outgoing::{AsduAnswer, OwnAsdu};
 use gw_judge::{Judged, is_execute};
 use gw_map::Settings;
 use gw_model::Observation;
@@ -15,10 +15,10 @@ use iec_command::causes::{
 use iec_command::{Action, Command};
 
 /// A command as it goes out with a cause of transmission and P/N.
-pub fn command_with(cause: u8, negative: bool, command: &Command) -> Outgoing
+pub fn command_with(cause: u8, negative: bool, command: &Command) -> OwnAsdu
     ensures { result ≡ command_with cause negative command.now }
 {
-    Outgoing::Command(Command {
+    OwnAsdu::Command(Command {
         cause,
         negative,
         ..*command
@@ -26,7 +26,7 @@ pub fn command_with(cause: u8, negative: bool, command: &Command) -> Outgoing
 }
 
 /// The confirmation of a command's activation or deactivation.
-pub fn confirmed(negative: bool, command: &Command) -> Outgoing
+pub fn confirmed(negative: bool, command: &Command) -> OwnAsdu
     ensures { result ≡ confirmed negative command.now }
 {
     let cause = if command.cause == DEACTIVATION {
@@ -39,14 +39,14 @@ pub fn confirmed(negative: bool, command: &Command) -> Outgoing
 
 /// How many places have to be free for the answer to an ASDU, where an interrogation is pending or not: none for an
 /// interrogation that is accepted, two for a command to be executed, one for all else.
-pub fn places_for(judged: &Judged, pending: bool) -> usize
+pub fn places_for(pending: bool, judged: &Judged) -> usize
     ensures { result ≡ places_for pending judged.now }
 {
     match judged {
         Judged::Malformed => 0,
         Judged::Refuse { execute, .. } => { if *execute { 2 } else { 1 } }
         Judged::Accepted(command) => {
-            if is_accepted_act(command, pending) {
+            if is_accepted_act(pending, command) {
                 0
             } else if is_execute(command) {
                 2
@@ -60,42 +60,42 @@ pub fn places_for(judged: &Judged, pending: bool) -> usize
 /// The answer that an ASDU gets at once, if any, while `picture` shows the rows of `settings`, and an interrogation is
 /// pending or not.
 pub fn answered(
-    asdu: &Asdu,
-    judged: &Judged,
-    pending: bool,
     settings: &Settings,
     picture: &[Observation],
-) -> Option<Answer>
+    pending: bool,
+    asdu: &Asdu,
+    judged: &Judged,
+) -> Option<AsduAnswer>
     ensures { result ≡ answered settings.now picture.now pending asdu.now judged.now }
 {
     match judged {
         Judged::Malformed => None,
-        Judged::Refuse { cause, .. } => Some(Answer::Returned {
+        Judged::Refuse { cause, .. } => Some(AsduAnswer::Returned {
             asdu: *asdu,
             cause: *cause,
         }),
-        Judged::Accepted(command) => answered_action(command, pending, settings, picture),
+        Judged::Accepted(command) => answered_action(settings, picture, pending, command),
     }
 }
 
 fn answered_action(
-    command: &Command,
-    pending: bool,
     settings: &Settings,
     picture: &[Observation],
-) -> Option<Answer>
+    pending: bool,
+    command: &Command,
+) -> Option<AsduAnswer>
     ensures { result ≡ answered_action settings.now picture.now pending command.now command.now.action }
 {
     match command.action {
         Action::Interrogation { .. } | Action::CounterInterrogation { .. } => {
-            if is_accepted_act(command, pending) {
+            if is_accepted_act(pending, command) {
                 None
             } else {
-                Some(Answer::Made(confirmed(true, command)))
+                Some(AsduAnswer::Made(confirmed(true, command)))
             }
         }
-        Action::Read => shown_at(command.address, settings, picture).map(|observation| {
-            Answer::Made(Outgoing::Observation {
+        Action::Read => shown_at(settings, picture, command.address).map(|observation| {
+            AsduAnswer::Made(OwnAsdu::Observation {
                 cause: REQUEST,
                 originator: command.originator,
                 observation,
@@ -106,7 +106,7 @@ fn answered_action(
 }
 
 /// What the picture shows of the row with an address, if there is one.
-fn shown_at(address: u32, settings: &Settings, picture: &[Observation]) -> Option<Observation>
+fn shown_at(settings: &Settings, picture: &[Observation], address: u32) -> Option<Observation>
     ensures { result ≡ shown_at settings.now picture.now address }
 {
     let (position, _) = settings.row_at(address)?;

@@ -3,7 +3,7 @@ ghost use Rattle.std.specs.Prelude.{◌≡◌, ◌<◌, [], ◌∷◌, ◌++◌,
 ghost use Rattle.gw_answers.specs.Interrogations.{answer_to, cause_for, is_accepted_act, is_asked_by, is_general, rows_of};
 
 use crate::answering::command_with;
-use crate::outgoing::Outgoing;
+use crate::outgoing::OwnAsdu;
 use gw_model::{Memory, Observation, Value};
 use iec_command::causes::{
     ACTIVATION, ACTIVATION_CONFIRMATION, ACTIVATION_TERMINATION, COUNTER_INTERROGATION,
@@ -30,7 +30,7 @@ fn is_general(action: Action) -> bool
 }
 
 /// Whether a command is the activation of an interrogation that is accepted: none is pending.
-pub fn is_accepted_act(command: &Command, pending: bool) -> bool
+pub fn is_accepted_act(pending: bool, command: &Command) -> bool
     ensures { result ≡ is_accepted_act pending command.now }
 {
     command.cause == ACTIVATION && is_general(command.action) && !pending
@@ -62,7 +62,7 @@ pub fn answer_to(
     alloc: Global,
     command: &Command,
     picture: &[Observation],
-) -> Result<Vec<Outgoing>, Memory>
+) -> Result<Vec<OwnAsdu>, Memory>
     ensures { IfOk result (λ parts. parts.items ≡ answer_to command.now picture.now) }
 {
     let mut parts = Vec::with_capacity(alloc, picture.len() + 2)?;
@@ -75,13 +75,13 @@ pub fn answer_to(
 }
 
 /// A row, where it answers the interrogation.
-fn push_row(parts: &mut Vec<Outgoing>, action: Action, observation: Observation)
+fn push_row(parts: &mut Vec<OwnAsdu>, action: Action, observation: Observation)
     requires { length parts.old.items < vec_capacity parts.old }
     ensures parts { parts.new.items ≡ parts.old.items ++ rows_of action (observation ∷ []) }
     ensures room { vec_capacity parts.new ≡ vec_capacity parts.old }
 {
     if is_asked_by(action, &observation) {
-        parts.push_reserved(Outgoing::Observation {
+        parts.push_reserved(OwnAsdu::Observation {
             cause: cause_for(action),
             originator: 0,
             observation,

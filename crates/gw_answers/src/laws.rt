@@ -1,6 +1,6 @@
 //! What holds of every answer.
 ghost use Rattle.std.specs.Prelude.{◌<◌, ℕ, ℤ};
-ghost use Rattle.gw_answers.specs.declared.outgoing.Answer.{Answer as AnyAnswer};
+ghost use Rattle.gw_answers.specs.declared.outgoing.AsduAnswer.{AsduAnswer as AnyAnswer};
 ghost use Rattle.gw_answers.specs.Meaning.{CanSendAnswer, Means, meaning_of};
 ghost use Rattle.gw_answers.specs.Octets.{answer_octets};
 

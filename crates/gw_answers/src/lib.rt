@@ -11,4 +11,4 @@ mod outgoing;
 pub use answering::{answered, command_by, command_with, confirmed, places_for};
 pub use interrogation::{answer_to, is_accepted_act};
 pub use octets::answer_asdu;
-pub use outgoing::{Answer, Outgoing};
+pub use outgoing::{AsduAnswer, OwnAsdu};

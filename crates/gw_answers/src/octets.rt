@@ -5,7 +5,7 @@ ghost use Rattle.iec_command.specs.Commands.{mirrored, spelling as command_spell
 ghost use Rattle.gw_answers.specs.Octets.{IsReturnable, answer_octets, octets_in, outgoing_octets};
 ghost use Rattle.gw_answers.specs.Outgoing.{at_station};
 
-use crate::outgoing::{Answer, Outgoing};
+use crate::outgoing::{AsduAnswer, OwnAsdu};
 use gw_model::Observation;
 use gw_time::Zone;
 use iec_apci::Asdu;
@@ -65,12 +65,12 @@ fn returned_asdu(asdu: &Asdu, cause: u8) -> Asdu
     }
 }
 
-fn outgoing_asdu(common: u16, zone: &Zone, outgoing: &Outgoing) -> Asdu
+fn outgoing_asdu(common: u16, zone: &Zone, outgoing: &OwnAsdu) -> Asdu
     ensures { octets_in result ≡ outgoing_octets zone.now.offset_minutes common outgoing.now }
 {
     match outgoing {
-        Outgoing::Command(command) => command_asdu(common, command),
-        Outgoing::Observation {
+        OwnAsdu::Command(command) => command_asdu(common, command),
+        OwnAsdu::Observation {
             cause,
             originator,
             observation,
@@ -79,12 +79,12 @@ fn outgoing_asdu(common: u16, zone: &Zone, outgoing: &Outgoing) -> Asdu
 }
 
 /// The ASDU of an answer, by the station that has a common address.
-pub fn answer_asdu(common: u16, zone: &Zone, answer: &Answer) -> Asdu
+pub fn answer_asdu(common: u16, zone: &Zone, answer: &AsduAnswer) -> Asdu
     requires { IsReturnable answer.now }
     ensures { octets_in result ≡ answer_octets zone.now.offset_minutes common answer.now }
 {
     match answer {
-        Answer::Returned { asdu, cause } => returned_asdu(asdu, *cause),
-        Answer::Made(outgoing) => outgoing_asdu(common, zone, outgoing),
+        AsduAnswer::Returned { asdu, cause } => returned_asdu(asdu, *cause),
+        AsduAnswer::Made(outgoing) => outgoing_asdu(common, zone, outgoing),
     }
 }

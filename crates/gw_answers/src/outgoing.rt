@@ -8,9 +8,9 @@ use iec_apci::Asdu;
 use iec_asdu::SPONTANEOUS;
 use iec_command::Command;
 
-/// What goes out of the station's own: whole when it is made, but for the common address, which is the station's in all of it.
+/// An ASDU of the station's own: whole when it is made, but for the common address, which is the station's in all of it.
 #[derive(Clone, Copy, Debug, PartialEq, Eq)]
-pub enum Outgoing {
+pub enum OwnAsdu {
     /// A command with the cause of transmission and P/N of its confirmation or termination.
     Command(Command),
     /// An observation, with its cause of transmission and the originator of the request that it answers, or 0.
@@ -21,12 +21,12 @@ pub enum Outgoing {
     },
 }
 
-impl Outgoing {
+impl OwnAsdu {
     /// News: spontaneous.
-    pub fn news(observation: Observation) -> Outgoing
+    pub fn news(observation: Observation) -> OwnAsdu
         ensures { result ≡ news observation }
     {
-        Outgoing::Observation {
+        OwnAsdu::Observation {
             cause: SPONTANEOUS,
             originator: 0,
             observation,
@@ -34,12 +34,12 @@ impl Outgoing {
     }
 }
 
-/// What answers an ASDU of the client. What comes back stays apart from `Outgoing`, since its octets would widen each row
-/// of the answer to an interrogation.
+/// What answers an ASDU of the client. What comes back stays apart from `OwnAsdu`, since its octets would widen each
+/// row of the answer to an interrogation.
 #[derive(Clone, Copy, Debug, PartialEq, Eq)]
-pub enum Answer {
+pub enum AsduAnswer {
     /// The ASDU as it came, with the cause of transmission that tells what of it is unknown (44 to 47) and P/N set.
     Returned { asdu: Asdu, cause: u8 },
     /// A confirmation, a termination, or what the picture showed of a row that was read.
-    Made(Outgoing),
+    Made(OwnAsdu),
 }

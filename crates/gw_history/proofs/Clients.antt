@@ -33,7 +33,7 @@ use Rattle.gw_steps.specs.declared.step.StepFault.TheVariants.{NoClient, NoOutst
 use Rattle.gw_steps.specs.State.{State}
 use Rattle.gw_steps.specs.Steps.{Allowed, outcome, needs, can_rise, reply_to, fault_of, client_reply, client_answered, client_after_frame, reply_of_event, reply_giving, is_accepting, one_if, bits_of, latest, after}
 use Rattle.gw_steps.specs.Runs.{Entry, state_after}
-use Rattle.gw_steps.specs.Sound.{IsSound, LeavesSound}
+use Rattle.gw_steps.specs.Sound.{IsSoundState, LeavesSound}
 use Rattle.gw_steps.proofs.Inversion.{answered, who_is_up, who_is_down}
 use Rattle.gw_steps.proofs.Running.{entry}
 use Rattle.gw_steps.proofs.Saying.{said-content}
@@ -67,7 +67,7 @@ sound_at station n i (x ∷ ks) zero k at all = subst (IsSoundClient station n i
 sound_at station n i (x ∷ ks) (suc c) k at all = sound_at station n i ks c k at all.1
 
 -- nothing happens to it
-idle_slot : (setup : Setup) (s : State) (d : ℕ) (turn : Option Turn) → IsSound setup s → turn ≡ Some (bringing [])
+idle_slot : (setup : Setup) (s : State) (d : ℕ) (turn : Option Turn) → IsSoundState setup s → turn ≡ Some (bringing [])
     → SlotGoes setup turn (slice_get s.clients d) (slice_get s.clients d)
 idle_slot setup s d turn sound idle = by (slice_get s.clients d) refl
   where
@@ -77,7 +77,7 @@ idle_slot setup s d turn sound idle = by (slice_get s.clients d) refl
         let mine = sound_at setup.station s.counts.steps s.counts.news s.clients d k at sound.clients in
         (k, refl, subst (λ (t : Option Turn). Goes setup t k k) (sym idle) (sym (came-nil k mine.few)))
 
-nothing_goes : (setup : Setup) (past : List Entry) (e : Entry) (s new : State) → IsSound setup s
+nothing_goes : (setup : Setup) (past : List Entry) (e : Entry) (s new : State) → IsSoundState setup s
     → new.clients ≡ s.clients
     → ((d : ℕ) → turn_of setup d past e ≡ Some (bringing [])) → AllGo setup past e s new
 nothing_goes setup past e s new sound same idle d = rw same
@@ -96,7 +96,7 @@ all_come setup past e s new xs clients turn d = rw (clients, turn d, map-get (cl
 
 -- the other clients idle
 one_client : (setup : Setup) (past : List Entry) (e : Entry) (s new : State) (c : ℕ) (f : Client → Client)
-    (k : Client) → IsSound setup s
+    (k : Client) → IsSoundState setup s
     → slice_get s.clients c ≡ Some k → new.clients ≡ change c f s.clients
     → ((d : ℕ) → (c ≡ d → ⊥) → turn_of setup d past e ≡ Some (bringing []))
     → Goes setup (turn_of setup c past e) k (f k) → AllGo setup past e s new
@@ -118,7 +118,7 @@ outstation_down setup past o m r s tied =
     d. refl)
 
 fragment : (setup : Setup) (past : List Entry) (f : Fragment) (m : ℕ) (r : Reply) (s : State)
-    → HasSingleAddresses setup.rows setup.controls → IsSound setup s
+    → HasSingleAddresses setup.rows setup.controls → IsSoundState setup s
     → outcome setup s (steps.Fragment f m) ≡ Ok r → Tied setup past s
     → AllGo setup past (entry (steps.Fragment f m) (Ok r)) s (after setup s (steps.Fragment f m))
 fragment setup past f m r s single sound e tied =
@@ -143,7 +143,7 @@ fragment setup past f m r s single sound e tied =
 
 -- ---- ClientUp and ClientDown
 
-client_up : (setup : Setup) (past : List Entry) (c m : ℕ) (r : Reply) (s : State) → IsSound setup s
+client_up : (setup : Setup) (past : List Entry) (c m : ℕ) (r : Reply) (s : State) → IsSoundState setup s
     → outcome setup s (steps.ClientUp c m) ≡ Ok r
     → AllGo setup past (entry (steps.ClientUp c m) (Ok r)) s (after setup s (steps.ClientUp c m))
 client_up setup past c m r s sound e =
@@ -157,7 +157,7 @@ client_up setup past c m r s sound e =
     (rw (eq-eqb c c refl) (fresh_up setup s.counts.steps s.counts.news (latest s m) down.0
     (sound_at setup.station s.counts.steps s.counts.news s.clients c down.0 down.1 sound.clients))))
 
-client_down : (setup : Setup) (past : List Entry) (c m : ℕ) (r : Reply) (s : State) → IsSound setup s
+client_down : (setup : Setup) (past : List Entry) (c m : ℕ) (r : Reply) (s : State) → IsSoundState setup s
     → outcome setup s (steps.ClientDown c m) ≡ Ok r
     → AllGo setup past (entry (steps.ClientDown c m) (Ok r)) s (after setup s (steps.ClientDown c m))
 client_down setup past c m r s sound e =
@@ -194,7 +194,7 @@ frame_apart setup past c d m a None None ne = rw (ne_eqb c d ne) refl
 frame_apart setup past c d m a None (Some command) ne = rw (ne_eqb c d ne) refl
 frame_apart setup past c d m a (Some why) command ne = rw (ne_eqb c d ne) refl
 
-frame : (setup : Setup) (past : List Entry) (c m : ℕ) (a : Apdu) (r : Reply) (s : State) → IsSound setup s
+frame : (setup : Setup) (past : List Entry) (c m : ℕ) (a : Apdu) (r : Reply) (s : State) → IsSoundState setup s
     → outcome setup s (steps.Frame c a m) ≡ Ok r
     → s.picture ≡ picture_of setup.rows (log_of setup past)
     → AllGo setup past (entry (steps.Frame c a m) (Ok r)) s (after setup s (steps.Frame c a m))
@@ -235,7 +235,7 @@ pump_apart : (setup : Setup) (past : List Entry) (c d m : ℕ) (given : Option C
 pump_apart setup past c d m None ne = rw (ne_eqb c d ne) refl
 pump_apart setup past c d m (Some content) ne = rw (ne_eqb c d ne) refl
 
-pump : (setup : Setup) (past : List Entry) (c m : ℕ) (r : Reply) (s : State) → IsSound setup s
+pump : (setup : Setup) (past : List Entry) (c m : ℕ) (r : Reply) (s : State) → IsSoundState setup s
     → outcome setup s (steps.Pump c m) ≡ Ok r
     → AllGo setup past (entry (steps.Pump c m) (Ok r)) s (after setup s (steps.Pump c m))
 pump setup past c m r s sound e =
@@ -281,7 +281,7 @@ bit_told moment (k ∷ ks) (suc c) = ap (has_bit c) (others (is_timed_out moment
     others true = omega arith
     others false = omega arith
 
-tick : (setup : Setup) (past : List Entry) (m : ℕ) (r : Reply) (s : State) → IsSound setup s
+tick : (setup : Setup) (past : List Entry) (m : ℕ) (r : Reply) (s : State) → IsSoundState setup s
     → outcome setup s (steps.Tick m) ≡ Ok r
     → AllGo setup past (entry (steps.Tick m) (Ok r)) s (after setup s (steps.Tick m))
 tick setup past m r s sound e d =
@@ -311,7 +311,7 @@ tick setup past m r s sound e d =
 -- ---- each step
 
 step_goes : (setup : Setup) (past : List Entry) (step : Step) (r : Reply) (s : State)
-    → HasSingleAddresses setup.rows setup.controls → IsSound setup s
+    → HasSingleAddresses setup.rows setup.controls → IsSoundState setup s
     → outcome setup s step ≡ Ok r → Tied setup past s → AllGo setup past (entry step (Ok r)) s (after setup s step)
 step_goes setup past (steps.OutstationUp o m) r s single sound e tied =
     nothing_goes setup past (entry (steps.OutstationUp o m) (Ok r)) s

@@ -8,7 +8,7 @@ use Rattle.gw_station.specs.Frames.{close_of, client_taking, command_in, event_t
 use Rattle.gw_station.specs.Pump.{offered, content_of, client_with_sent}
 use Rattle.gw_station.specs.Sound.{CanSend, IsSoundClient}
 use Rattle.gw_steps.specs.Steps.{client_answered}
-use Rattle.gw_steps.specs.Said.{Said, said_by}
+use Rattle.gw_steps.specs.Said.{ApduMeaning, said_by}
 use Rattle.gw_history.specs.Life.{Taking, Turn, Idle, Takes, PutsOut, Ends}
 
 -- an APDU was taken at a moment, and a command in it answered
@@ -19,7 +19,7 @@ pub record Took (setup : Setup) (a : Apdu) (taking : Taking) (k new : Client) : 
       (client_taking setup taking.picture moment a k)
 
 -- what is offered at a moment was put out, and said this
-pub record Gave (setup : Setup) (said : Said) (k new : Client) : Type 0 where
+pub record Gave (setup : Setup) (said : ApduMeaning) (k new : Client) : Type 0 where
   pub moment : ℕ
   pub sending : Sending
   pub first : offered moment k ≡ Some sending

@@ -12,7 +12,7 @@ use Rattle.gw_steps.specs.declared.step.Reply.{Reply}
 use Rattle.gw_steps.specs.declared.step.Reply.TheVariants as replies
 use Rattle.gw_steps.specs.declared.step.StepFault.{StepFault}
 use Rattle.gw_steps.specs.Runs.{Entry}
-use Rattle.gw_steps.specs.Said.{Said, said}
+use Rattle.gw_steps.specs.Said.{ApduMeaning, said}
 use Rattle.gw_steps.proofs.Running.{entry}
 use Rattle.gw_history.specs.Log.{log_of}
 use Rattle.gw_history.specs.Life.{Turn, Idle, bringing, Takes, PutsOut, Ends, puts_out, turn_taking, turn_giving, is_closed_in, turn_of, lived, life}
@@ -44,7 +44,7 @@ taking setup log a (replies.Closed why) ts logged = logged
 taking setup log a replies.Nothing ts logged = (refl, logged)
 taking setup log a (replies.Ticked bits) ts logged = (refl, logged)
 
-putting : (setup : Setup) (log : List Observation) (x : Option Said) → IsQuiet setup log (puts_out x)
+putting : (setup : Setup) (log : List Observation) (x : Option ApduMeaning) → IsQuiet setup log (puts_out x)
 putting setup log None = idle setup log
 putting setup log (Some x) = λ ts logged. logged
 

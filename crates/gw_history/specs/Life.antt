@@ -12,7 +12,7 @@ use Rattle.gw_steps.specs.declared.step.Reply.{Reply}
 use Rattle.gw_steps.specs.declared.step.Reply.TheVariants as replies
 use Rattle.gw_steps.specs.State.{client_limit}
 use Rattle.gw_steps.specs.Runs.{Entry, unless_fault}
-use Rattle.gw_steps.specs.Said.{Said, said}
+use Rattle.gw_steps.specs.Said.{ApduMeaning, said}
 use Rattle.gw_history.specs.Log.{log_of, news_of_step}
 
 -- what a step brought to all clients
@@ -31,7 +31,7 @@ pub data Turn : Type 0 where
   -- its APDU was taken so
   Takes : Apdu → Taking → Turn
   -- this was put out to it
-  PutsOut : Said → Turn
+  PutsOut : ApduMeaning → Turn
   -- its connection was closed, or is lost
   Ends : Turn
 
@@ -40,7 +40,7 @@ abbrev pub bringing : List Observation → Turn
 bringing xs = Idle (record { news = xs })
 
 -- octets that aren't one APDU say nothing: a run puts out none
-abbrev pub puts_out : Option Said → Turn
+abbrev pub puts_out : Option ApduMeaning → Turn
 puts_out None = bringing []
 puts_out (Some said) = PutsOut said
 

@@ -15,10 +15,6 @@ use Rattle.gw_entries.specs.Setup.{StationSetup}
 use Rattle.gw_picture.specs.Picture.{news_of, news_of_report, picture_after_report, picture_after}
 use Rattle.gw_picture.specs.Shown.{IsShown}
 use Rattle.gw_picture.proofs.Shows.{shown_fit}
-use Rattle.gw_answers.specs.declared.outgoing.Answer.{Answer}
-use Rattle.gw_answers.specs.declared.outgoing.Answer.TheVariants.{Returned, Made}
-use Rattle.gw_answers.specs.Octets.{IsReturnable}
-use Rattle.gw_answers.specs.Meaning.{CanSendAnswer}
 use Rattle.gw_station.specs.Client.{Client, client_with_news}
 use Rattle.gw_answers.specs.Meaning.{IsSendable}
 use Rattle.gw_station.specs.Sound.{IsSoundClient, CanTake}
@@ -120,17 +116,11 @@ pub counts_can : (station : StationSetup) (n i : ℕ) (cs : List Client) → n +
 counts_can station n i [] lt all = tt
 counts_can station n i (c ∷ cs) lt all = (record { received = omega (arith, lt, all.0.window.received) }, counts_can station n i cs lt all.1)
 
--- answers that can be sent can be spelled
-answers_can : (offset : ℤ) (answers : List Answer) → AllByRecursion (CanSendAnswer offset) answers → AllByRecursion IsReturnable answers
-answers_can offset [] all = tt
-answers_can offset (Returned asdu cause ∷ answers) all = (all.0, answers_can offset answers all.1)
-answers_can offset (Made x ∷ answers) all = (tt, answers_can offset answers all.1)
-
--- so what waits for each client can be put out
+-- so one more can be put out to each client
 pub pumps_can : (station : StationSetup) (n i : ℕ) (cs : List Client) → n + 1 < 2 ^ 64 → AllByRecursion (IsSoundClient station n i) cs → AllByRecursion CanPump cs
 pumps_can station n i [] lt all = tt
 pumps_can station n i (c ∷ cs) lt all =
-    (record { sent = omega (arith, lt, all.0.window.sent); answers = answers_can station.offset_minutes c.answers all.0.answers }, pumps_can station n i cs lt all.1)
+    (record { sent = omega (arith, lt, all.0.window.sent) }, pumps_can station n i cs lt all.1)
 
 -- where so many news more can be counted, each client can take them
 pub news_can : (station : StationSetup) (n i news : ℕ) (cs : List Client) → i + news < 2 ^ 64 → AllByRecursion (IsSoundClient station n i) cs → AllByRecursion (CanTake news) cs

@@ -13,7 +13,7 @@ ghost use Rattle.gw_steps.specs.declared.step.StepFault.TheVariants.{NoClient, N
 ghost use Rattle.gw_steps.specs.State.{at_first};
 ghost use Rattle.gw_steps.specs.Steps.{client_up, fault_unless_up, latest, one_if, outstation_up, Allowed};
 ghost use Rattle.gw_steps.specs.Runs.{history, state_after, AtEach, IsRun};
-ghost use Rattle.gw_steps.specs.Sound.{IsSound};
+ghost use Rattle.gw_steps.specs.Sound.{IsSoundState};
 ghost use Rattle.gw_history.specs.Premises.{IsSoundRun};
 ghost use Rattle.gw_laws.specs.Promises.{Promises};
 ghost use Rattle.gw_parts.specs.Clients.{dropped_at, has_offer, queued_at, unacknowledged_at};
@@ -52,7 +52,7 @@ pub struct Hub {
 
 impl Model for Hub {
     ghost use Rattle.gw_hub.specs.Hub.{Hub as Seen};
-    ghost use Rattle.gw_steps.specs.Sound.{IsSound};
+    ghost use Rattle.gw_steps.specs.Sound.{IsSoundState};
 
     ghost Value = { Seen };
 
@@ -67,7 +67,7 @@ impl Model for Hub {
       };
     } };
 
-    ghost invariant = { λ h. IsSound h.settings (record {
+    ghost invariant = { λ h. IsSoundState h.settings (record {
       outstations = h.outstations;
       picture = h.picture;
       clients = h.clients;
@@ -252,8 +252,8 @@ impl Hub {
         ensures step { Allowed self.old.setup self.old.state step.now result self.new.state }
         ensures setup { self.new.setup ≡ self.old.setup }
         // What every state keeps, before and after.
-        ensures was_sound { IsSound self.old.setup self.old.state }
-        ensures sound { IsSound self.new.setup self.new.state }
+        ensures was_sound { IsSoundState self.old.setup self.old.state }
+        ensures sound { IsSoundState self.new.setup self.new.state }
     {
         let _ = &self.clients;
         let reply = match step {

@@ -32,7 +32,7 @@ use Rattle.gw_laws.specs.Interrogations.{is_pending, interrogation}
 use Rattle.gw_laws.specs.Fates.{fates}
 use Rattle.gw_laws.specs.Line.{owed}
 use Rattle.gw_laws.specs.Frames.{IsRight, IsWrong, JudgesBy, Frames}
-use Rattle.gw_laws.proofs.Opens.{open_s, IsOpen, open_i}
+use Rattle.gw_station.proofs.Opens.{open_s, IsOpen, open_i}
 use Rattle.gw_laws.proofs.Numbers.{CountsTied, counts_tied, receive_is_right, right_receive_is}
 use Rattle.gw_laws.proofs.News.{NewsTied, news_tied, stands}
 use Rattle.gw_laws.proofs.Line.{LineTied, pending_told, line_tied}

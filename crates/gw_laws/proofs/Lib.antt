@@ -1,5 +1,4 @@
 pub mod Offered
-pub mod Opens
 pub mod Settled
 pub mod Parts
 pub mod Known

@@ -18,11 +18,11 @@ use Rattle.iec_command.specs.declared.command.Action.{Action}
 use Rattle.iec_command.specs.declared.command.Action.TheVariants as actions
 use Rattle.gw_judge.specs.declared.judging.Judged.{Judged}
 use Rattle.gw_judge.specs.declared.judging.Judged.TheVariants as judgements
-use Rattle.gw_answers.specs.declared.outgoing.Answer.{Answer}
-use Rattle.gw_answers.specs.declared.outgoing.Answer.TheVariants.{Made}
-use Rattle.gw_answers.specs.declared.outgoing.Outgoing.TheVariants as outgoing
+use Rattle.gw_answers.specs.declared.outgoing.AsduAnswer.{AsduAnswer}
+use Rattle.gw_answers.specs.declared.outgoing.AsduAnswer.TheVariants.{Made}
+use Rattle.gw_answers.specs.declared.outgoing.OwnAsdu.TheVariants as outgoing
 use Rattle.gw_answers.specs.Outgoing.{confirmed, news as told_news}
-use Rattle.gw_answers.specs.declared.outgoing.Outgoing.{Outgoing}
+use Rattle.gw_answers.specs.declared.outgoing.OwnAsdu.{OwnAsdu}
 use Rattle.gw_answers.specs.Interrogations.{is_accepted_act, answer_to}
 use Rattle.gw_answers.specs.Answers.{answered, answered_action, refused_act, shown_at, command_by}
 use Rattle.gw_answers.specs.Octets.{answer_octets, outgoing_octets}
@@ -38,11 +38,11 @@ use Rattle.gw_station.specs.Frames.{close_of, judged_asdu, client_taking, client
 use Rattle.gw_station.specs.Pump.{line as line_in, client_with_sent}
 use Rattle.gw_station.specs.Sound.{CanSend}
 use Rattle.gw_steps.specs.Steps.{client_answered}
-use Rattle.gw_steps.specs.Said.{Said}
+use Rattle.gw_steps.specs.Said.{ApduMeaning}
 use Rattle.gw_history.specs.Life.{Brought, Taking, Turn, Idle, Takes, PutsOut, Ends, session_with, session, turns_in}
 use Rattle.gw_history.proofs.Lives.{Becomes, Lives, lives_all}
 use Rattle.gw_laws.specs.Fates.{spontaneous_of, Element, is_queued, items_of, fates, fates_with_put_out}
-use Rattle.gw_laws.specs.Interrogations.{Interrogation, parts_in, is_pending, as_told, answer_told, interrogation_telling, IsAnswered, begun, interrogation, AnswersInterrogation}
+use Rattle.gw_laws.specs.Interrogations.{Interrogation, parts_in, is_pending, as_told, answer_told, interrogation_telling, IsAnsweredInOrder, begun, interrogation, AnswersInterrogation}
 use Rattle.gw_laws.specs.Line.{answers_to, since_of, left_of, SaysFirst, owed, line, KeepsLine}
 use Rattle.gw_laws.proofs.Offered.{IsOffered, offered_is, news_first, part_first}
 use Rattle.gw_laws.proofs.Settled.{queued, take_queued, drop_queued, length-came, length-gone}
@@ -53,7 +53,7 @@ use Rattle.gw_laws.proofs.News.{InSession, NewsTied, news_tied}
 -- ---- the tie
 
 -- what waits for a client where these answers are owed, this is the interrogation, and so many news came
-pub record LineIs (common : ℕ) (owes : List Answer) (q : Option Interrogation) (n : ℕ) (k : Client) : Type 0 where
+pub record LineIs (common : ℕ) (owes : List AsduAnswer) (q : Option Interrogation) (n : ℕ) (k : Client) : Type 0 where
   pub answers : k.answers ≡ owes
   pub apart : AllByRecursion IsApart k.answers
   pub rest : k.rest ≡ left_of q
@@ -71,7 +71,7 @@ LineTied setup (Some hs) k = LineIs setup.station.common_address (owed setup hs)
 
 -- ---- what it tells
 
-pub pending_told : (common : ℕ) (owes : List Answer) (q : Option Interrogation) (n : ℕ) (k : Client)
+pub pending_told : (common : ℕ) (owes : List AsduAnswer) (q : Option Interrogation) (n : ℕ) (k : Client)
     → LineIs common owes q n k → is_pending q ≡ is_asked k.rest
 pending_told common owes None n k tied = ap is_asked (sym tied.rest)
 pending_told common owes (Some q) n k tied = pending_is common q k.rest tied.said
@@ -83,7 +83,7 @@ split_anywhere zero queue = refl
 split_anywhere (suc n) [] = refl
 split_anywhere (suc n) (x ∷ queue) = ap (λ (s : List Sending). sendings.News x ∷ s) (split_anywhere n queue)
 
-same_split : (pending : Bool) (n m : ℕ) (queue : List Observation) (rest : List Outgoing) → is_asked rest ≡ pending
+same_split : (pending : Bool) (n m : ℕ) (queue : List Observation) (rest : List OwnAsdu) → is_asked rest ≡ pending
     → (pending ≡ true → n ≡ m)
     → map sendings.News (take n queue) ++ (map sendings.Part rest ++ map sendings.News (drop n queue))
     ≡ map sendings.News (take m queue) ++ (map sendings.Part rest ++ map sendings.News (drop m queue))
@@ -129,14 +129,14 @@ record Waits (k new : Client) : Type 0 where
   older : new.older ≡ k.older
   queue : new.queue ≡ k.queue
 
-waits_on : (common : ℕ) (owes : List Answer) (q : Option Interrogation) (n : ℕ) (k new : Client) → Waits k new
+waits_on : (common : ℕ) (owes : List AsduAnswer) (q : Option Interrogation) (n : ℕ) (k new : Client) → Waits k new
     → LineIs common owes q n k → LineIs common owes q n new
 waits_on common owes q n k new same tied = record {
   answers = same.answers ∙ tied.answers;
   apart = subst (AllByRecursion IsApart) (sym same.answers) tied.apart;
   rest = same.rest ∙ tied.rest;
   asked = subst (AllByRecursion IsOfInterrogation) (sym same.rest) tied.asked;
-  said = subst (λ (rest : List Outgoing). IfSome q (λ i. i.said ++ map (as_told common) rest ≡ answer_told common i)) (sym same.rest) tied.said;
+  said = subst (λ (rest : List OwnAsdu). IfSome q (λ i. i.said ++ map (as_told common) rest ≡ answer_told common i)) (sym same.rest) tied.said;
   since = tied.since;
   older = λ is. omega (arith, same.older, tied.older (ap is_asked (sym same.rest) ∙ is), ap length same.queue);
 }
@@ -208,7 +208,7 @@ and_false : (b : Bool) → b && false ≡ false
 and_false true = refl
 and_false false = refl
 
-all_joined : (xs ys : List Answer) → AllByRecursion IsApart xs → AllByRecursion IsApart ys
+all_joined : (xs ys : List AsduAnswer) → AllByRecursion IsApart xs → AllByRecursion IsApart ys
     → AllByRecursion IsApart (xs ++ ys)
 all_joined [] ys ax ay = ay
 all_joined (x ∷ xs) ys ax ay = (ax.0, all_joined xs ys ax.1 ay)
@@ -246,13 +246,13 @@ command_apart None = tt
 command_apart (Some command) = (and_false _, tt)
 
 -- a command for a control is answered
-joined : (answer : Option Answer) (command : Option Command) (k : Client) (xs : List Answer)
+joined : (answer : Option AsduAnswer) (command : Option Command) (k : Client) (xs : List AsduAnswer)
     → k.answers ≡ answers_with answer xs
     → (client_answered (event_taking command) k).answers ≡ xs ++ (option_to_list answer ++ map (λ x. Made (confirmed true x)) (option_to_list command))
 joined None None k xs e = e ∙ sym (append-nil xs)
 joined (Some answer) None k xs e = e
-joined None (Some command) k xs e = ap (λ (l : List Answer). l ++ Made (confirmed true command) ∷ []) e
-joined (Some answer) (Some command) k xs e = ap (λ (l : List Answer). l ++ Made (confirmed true command) ∷ []) e ∙ append_assoc xs (answer ∷ []) (Made (confirmed true command) ∷ [])
+joined None (Some command) k xs e = ap (λ (l : List AsduAnswer). l ++ Made (confirmed true command) ∷ []) e
+joined (Some answer) (Some command) k xs e = ap (λ (l : List AsduAnswer). l ++ Made (confirmed true command) ∷ []) e ∙ append_assoc xs (answer ∷ []) (Made (confirmed true command) ∷ [])
 
 answered_waits : (event : Event) (k : Client)
     → ((client_answered event k).rest ≡ k.rest) × ((client_answered event k).older ≡ k.older)
@@ -262,14 +262,14 @@ answered_waits (events.Command command) k = (refl, refl, refl)
 answered_waits (events.Closed why) k = (refl, refl, refl)
 
 -- the rest of an answer, and the mark of the queue, where this is the interrogation
-record Asks (common : ℕ) (q : Option Interrogation) (n : ℕ) (queue : List Observation) (rest : List Outgoing) (mark : ℕ) : Type 0 where
+record Asks (common : ℕ) (q : Option Interrogation) (n : ℕ) (queue : List Observation) (rest : List OwnAsdu) (mark : ℕ) : Type 0 where
   is : rest ≡ left_of q
   asked : AllByRecursion IsOfInterrogation rest
   said : IfSome q (λ i. i.said ++ map (as_told common) rest ≡ answer_told common i)
   since : since_of q ≤ n
   older : is_asked rest ≡ true → mark ≡ since_of q - (n - length queue)
 
-as_before : (common : ℕ) (owes : List Answer) (q : Option Interrogation) (n : ℕ) (k : Client)
+as_before : (common : ℕ) (owes : List AsduAnswer) (q : Option Interrogation) (n : ℕ) (k : Client)
     → LineIs common owes q n k → Asks common q n k.queue k.rest k.older
 as_before common owes q n k tied = record {
   is = tied.rest;
@@ -279,7 +279,7 @@ as_before common owes q n k tied = record {
   older = tied.older;
 }
 
-asks : (common : ℕ) (picture : List Observation) (owes : List Answer) (q : Option Interrogation) (n : ℕ) (k : Client)
+asks : (common : ℕ) (picture : List Observation) (owes : List AsduAnswer) (q : Option Interrogation) (n : ℕ) (k : Client)
     (j : Judged) → length k.queue ≤ n → LineIs common owes q n k
     → Asks common (begun n picture j q) n k.queue (rest_with picture j (is_asking j k) k)
     (older_with j (is_asking j k) k)
@@ -318,7 +318,7 @@ asdu_taken setup taking moment ns nr asdu hs k news tied =
     ++ answers_to setup picture (is_asked k.rest) asdu j =
     joined (answered setup picture (is_asked k.rest) asdu j) (command_by j) between k.answers refl in
     record {
-      answers = answers ∙ (ap (λ (xs : List Answer). xs ++ answers_to setup picture (is_asked k.rest) asdu j)
+      answers = answers ∙ (ap (λ (xs : List AsduAnswer). xs ++ answers_to setup picture (is_asked k.rest) asdu j)
           tied.answers
           ∙ ap (λ (b : Bool). owed setup hs ++ answers_to setup picture b asdu j)
           (sym (pending_told common (owed setup hs) q n k tied)));
@@ -327,7 +327,7 @@ asdu_taken setup taking moment ns nr asdu hs k news tied =
           (all_joined (option_to_list (answered setup picture (is_asked k.rest) asdu j)) (map (λ x. Made (confirmed true x)) (option_to_list (command_by j))) (at_once_apart setup picture (is_asked k.rest) asdu j) (command_apart (command_by j))));
       rest = waits.0 ∙ is.is;
       asked = subst (AllByRecursion IsOfInterrogation) (sym waits.0) is.asked;
-      said = subst (λ (rest : List Outgoing). IfSome (begun n picture j q) (λ i. i.said ++ map (as_told common) rest ≡ answer_told common i)) (sym waits.0) is.said;
+      said = subst (λ (rest : List OwnAsdu). IfSome (begun n picture j q) (λ i. i.said ++ map (as_told common) rest ≡ answer_told common i)) (sym waits.0) is.said;
       since = is.since;
       older = λ asked. omega (arith, waits.1, is.older (ap is_asked (sym waits.0) ∙ asked), ap length waits.2);
     }
@@ -347,24 +347,24 @@ took setup (U signal) taking moment s k opens news tied = signal_taken setup tak
 
 -- ---- something is put out
 
-all_dropped : (xs : List Answer) → AllByRecursion IsApart xs → AllByRecursion IsApart (drop 1 xs)
+all_dropped : (xs : List AsduAnswer) → AllByRecursion IsApart xs → AllByRecursion IsApart (drop 1 xs)
 all_dropped [] all = tt
 all_dropped (x ∷ xs) all = all.1
 
-answer_is_first : (a b : Answer) → Some (sendings.Answer a) ≡ Some (sendings.Answer b) → a ≡ b
+answer_is_first : (a b : AsduAnswer) → Some (sendings.Answer a) ≡ Some (sendings.Answer b) → a ≡ b
 answer_is_first a b e = ap value e
   where
-    value : Option Sending → Answer
+    value : Option Sending → AsduAnswer
     value (Some (sendings.Answer z)) = z
     value _ = a
 
-abbrev front : List Answer → ℕ → List Observation → List Outgoing → List Sending
+abbrev front : List AsduAnswer → ℕ → List Observation → List OwnAsdu → List Sending
 front answers older queue rest =
     map sendings.Answer answers ++ (map sendings.News (take older queue)
     ++ (map sendings.Part rest ++ map sendings.News (drop older queue)))
 
 -- no answer is behind news or a part
-news_before : (older : ℕ) (queue : List Observation) (rest : List Outgoing) (answer : Answer)
+news_before : (older : ℕ) (queue : List Observation) (rest : List OwnAsdu) (answer : AsduAnswer)
     → slice_get (front [] older queue rest) 0 ≡ Some (sendings.Answer answer) → ⊥
 news_before zero queue (part ∷ rest) answer e = absurd cc
 news_before zero (y ∷ queue) [] answer e = absurd cc
@@ -373,14 +373,14 @@ news_before (suc n) (y ∷ queue) rest answer e = absurd cc
 news_before (suc n) [] (part ∷ rest) answer e = absurd cc
 news_before (suc n) [] [] answer e = absurd cc
 
-answer_first : (k : Client) (answer : Answer) → slice_get (line_in k) 0 ≡ Some (sendings.Answer answer)
-    → (more : List Answer) × (k.answers ≡ answer ∷ more)
+answer_first : (k : Client) (answer : AsduAnswer) → slice_get (line_in k) 0 ≡ Some (sendings.Answer answer)
+    → (more : List AsduAnswer) × (k.answers ≡ answer ∷ more)
 answer_first k answer e = go k.answers e
   where
-    go : (answers : List Answer) → slice_get (front answers k.older k.queue k.rest) 0 ≡ Some (sendings.Answer answer)
-        → (more : List Answer) × (answers ≡ answer ∷ more)
+    go : (answers : List AsduAnswer) → slice_get (front answers k.older k.queue k.rest) 0 ≡ Some (sendings.Answer answer)
+        → (more : List AsduAnswer) × (answers ≡ answer ∷ more)
     go [] e = absurd (news_before k.older k.queue k.rest answer e)
-    go (a ∷ answers) e = (answers, ap (λ (x : Answer). x ∷ answers) (answer_is_first a answer e))
+    go (a ∷ answers) e = (answers, ap (λ (x : AsduAnswer). x ∷ answers) (answer_is_first a answer e))
 
 -- one part more was said
 record More (common : ℕ) (k : Client) (q next : Option Interrogation) : Type 0 where
@@ -388,7 +388,7 @@ record More (common : ℕ) (k : Client) (q next : Option Interrogation) : Type 0
   said : IfSome next (λ i. i.said ++ map (as_told common) (drop 1 k.rest) ≡ answer_told common i)
   since : since_of next ≡ since_of q
 
-told_more : (common : ℕ) (k : Client) (q : Option Interrogation) (meant : Meant) (part : Outgoing) (rest : List Outgoing)
+told_more : (common : ℕ) (k : Client) (q : Option Interrogation) (meant : Meant) (part : OwnAsdu) (rest : List OwnAsdu)
     → k.rest ≡ part ∷ rest
     → parts_in meant ≡ as_told common part ∷ [] → k.rest ≡ left_of q
     → IfSome q (λ i. i.said ++ map (as_told common) k.rest ≡ answer_told common i)
@@ -400,12 +400,12 @@ told_more common k (Some q) meant part rest is told left said =
     omega (arith, length-append q.said (parts_in meant), ap length told) in
     record {
       rest = left_more (length q.said) k.rest (answer_to q.command q.rows) left ∙ ap (λ (n : ℕ). drop n (answer_to q.command q.rows)) (sym one);
-      said = rw (told, behind) (said_more common q.said part rest ∙ (ap (λ (l : List Outgoing). q.said ++ map (as_told common) l) (sym is) ∙ said));
+      said = rw (told, behind) (said_more common q.said part rest ∙ (ap (λ (l : List OwnAsdu). q.said ++ map (as_told common) l) (sym is) ∙ said));
       since = refl;
     }
 
 -- an answer, or older news: nothing was put out of an interrogation
-same_asked : (common : ℕ) (owes : List Answer) (q : Option Interrogation) (n m : ℕ) (meant : Meant) (k : Client)
+same_asked : (common : ℕ) (owes : List AsduAnswer) (q : Option Interrogation) (n m : ℕ) (meant : Meant) (k : Client)
     → parts_in meant ≡ [] → n ≡ m → LineIs common owes q n k
     → LineIs common owes (option_map (interrogation_telling meant) q) m k
 same_asked common owes q n m meant k none same tied =
@@ -423,8 +423,8 @@ gave setup moment (sendings.Confirm signal) (Some hs) k small is can news tied =
 gave setup moment sendings.Test (Some hs) k small is can news tied =
     waits_on _ _ _ _ k (client_with_sent moment sendings.Test k)
     (record { answers = refl; rest = refl; older = refl; queue = refl }) tied
-gave setup moment sendings.Receipt (Some hs) k small is can news tied =
-    waits_on _ _ _ _ k (client_with_sent moment sendings.Receipt k)
+gave setup moment sendings.SFormat (Some hs) k small is can news tied =
+    waits_on _ _ _ _ k (client_with_sent moment sendings.SFormat k)
     (record { answers = refl; rest = refl; older = refl; queue = refl }) tied
 gave setup moment (sendings.Answer answer) (Some hs) k small is can news tied =
     let offset : ℤ = setup.station.offset_minutes in
@@ -512,7 +512,7 @@ line_more setup some small (Takes a taking) ts k new lives is tied =
     (took setup a taking is.moment (session ts) k is.opens (news_tied setup some small ts k lives) tied)
 line_more setup some small (PutsOut said) ts k new lives is tied =
     subst (LineTied setup (session (PutsOut said ∷ ts))) (sym is.becomes)
-    (subst (λ (x : Said). LineTied setup (session (PutsOut x ∷ ts)) (client_with_sent is.moment is.sending k))
+    (subst (λ (x : ApduMeaning). LineTied setup (session (PutsOut x ∷ ts)) (client_with_sent is.moment is.sending k))
     (sym is.says)
     (gave setup is.moment is.sending (session ts) k small (offered_is is.moment k is.sending is.first) is.can
     (news_tied setup some small ts k lives) tied))
@@ -530,7 +530,7 @@ says_first : (setup : Setup) (x : Sending) (s : Option (List Turn)) (k : Client)
     → NewsTied setup s k → LineTied setup s k → SaysFirst setup (line setup (turns_in s)) (says setup k x)
 says_first setup (sendings.Confirm signal) s k small is can news tied = tt
 says_first setup sendings.Test s k small is can news tied = tt
-says_first setup sendings.Receipt s k small is can news tied = tt
+says_first setup sendings.SFormat s k small is can news tied = tt
 says_first setup (sendings.Answer answer) None k small is can news tied =
     absurd (true≢false (sym is.in_session ∙ news.stopped))
 says_first setup (sendings.News x) None k small is can news tied =
@@ -567,12 +567,12 @@ keeps_line setup some small (PutsOut said ∷ ts) k lives =
     (news_tied setup some small ts lives.0 lives.1) (line_tied setup some small ts lives.0 lives.1))
 
 answered_so : (setup : Setup) (s : Option (List Turn)) (k : Client) → LineTied setup s k
-    → IfSome (interrogation setup (turns_in s)) (IsAnswered setup)
+    → IfSome (interrogation setup (turns_in s)) (IsAnsweredInOrder setup)
 answered_so setup None k tied = tt
 answered_so setup (Some hs) k tied = by (interrogation setup hs) (owed setup hs) (length (fates setup.station hs)) tied
   where
-    by : (q : Option Interrogation) (owes : List Answer) (n : ℕ) → LineIs setup.station.common_address owes q n k
-        → IfSome q (IsAnswered setup)
+    by : (q : Option Interrogation) (owes : List AsduAnswer) (n : ℕ) → LineIs setup.station.common_address owes q n k
+        → IfSome q (IsAnsweredInOrder setup)
     by None owes n is = tt
     by (Some q) owes n is = record {
       rest = map (as_told setup.station.common_address) k.rest;

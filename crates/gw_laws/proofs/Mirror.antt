@@ -19,11 +19,11 @@ use Rattle.iec_command.specs.declared.command.Action.{Action}
 use Rattle.iec_command.specs.declared.command.Action.TheVariants as actions
 use Rattle.gw_judge.specs.declared.judging.Judged.{Judged}
 use Rattle.gw_judge.specs.declared.judging.Judged.TheVariants.{Malformed, Refuse, Accepted}
-use Rattle.gw_answers.specs.declared.outgoing.Answer.{Answer}
-use Rattle.gw_answers.specs.declared.outgoing.Answer.TheVariants.{Made}
-use Rattle.gw_answers.specs.declared.outgoing.Outgoing.TheVariants as outgoing
+use Rattle.gw_answers.specs.declared.outgoing.AsduAnswer.{AsduAnswer}
+use Rattle.gw_answers.specs.declared.outgoing.AsduAnswer.TheVariants.{Made}
+use Rattle.gw_answers.specs.declared.outgoing.OwnAsdu.TheVariants as outgoing
 use Rattle.gw_answers.specs.Outgoing.{confirmed, news as told_news}
-use Rattle.gw_answers.specs.declared.outgoing.Outgoing.{Outgoing}
+use Rattle.gw_answers.specs.declared.outgoing.OwnAsdu.{OwnAsdu}
 use Rattle.gw_answers.specs.Interrogations.{is_general, is_accepted_act}
 use Rattle.gw_answers.specs.Answers.{shown_by, refused_act, answered_action, answered, command_by}
 use Rattle.gw_answers.specs.Meaning.{Meant}
@@ -38,7 +38,7 @@ use Rattle.gw_station.proofs.All.{all-append, all-first, all-given}
 use Rattle.gw_station.proofs.Line.{line_so}
 use Rattle.gw_station.proofs.Moves.{moves}
 use Rattle.gw_steps.specs.Runs.{Entry}
-use Rattle.gw_steps.specs.Said.{Said, Numbered}
+use Rattle.gw_steps.specs.Said.{ApduMeaning, IFormat}
 use Rattle.gw_history.specs.Log.{log_of}
 use Rattle.gw_history.specs.Premises.{client_at, IsSoundSetup}
 use Rattle.gw_history.specs.Life.{Brought, Taking, Turn, Idle, Takes, PutsOut, Ends, session_with, session, life}
@@ -70,10 +70,10 @@ view setup log hs = record {
 -- ---- the answers to an ASDU
 
 -- what an answer shows, the picture shows
-abbrev IsOfPicture : List AnyRow → List Observation → Answer → Type 0
+abbrev IsOfPicture : List AnyRow → List Observation → AsduAnswer → Type 0
 IsOfPicture rows log answer = AllByRecursion (IsShown rows log) (observations_of (sendings.Answer answer))
 
-answers_shown : (rows : List AnyRow) (log : List Observation) (answers : List Answer)
+answers_shown : (rows : List AnyRow) (log : List Observation) (answers : List AsduAnswer)
     → AllByRecursion (IsOfPicture rows log) answers
     → AllByRecursion (IsShown rows log) (waiting_in (map sendings.Answer answers))
 answers_shown rows log [] all = tt
@@ -82,7 +82,7 @@ answers_shown rows log (answer ∷ answers) all =
     (waiting_in (map sendings.Answer answers)) all.0
     (answers_shown rows log answers all.1)
 
-one_shown : (rows : List AnyRow) (log : List Observation) (answer : Option Answer)
+one_shown : (rows : List AnyRow) (log : List Observation) (answer : Option AsduAnswer)
     → IfSome answer (IsOfPicture rows log)
     → AllByRecursion (IsOfPicture rows log) (option_to_list answer)
 one_shown rows log None is = tt
@@ -161,7 +161,7 @@ kept_begun rows since (Some heard) v q single within quiet left is kept =
     heard_begun rows since heard v q single within left is kept
 kept_begun rows since None v q single within quiet left is kept =
     let pending : is_pending v.asked ≡ true =
-    ap is_pending kept.watched.is ∙ ap (λ (said : List Outgoing). not (list_any is_termination said)) kept.watched.said in
+    ap is_pending kept.watched.is ∙ ap (λ (said : List OwnAsdu). not (list_any is_termination said)) kept.watched.said in
     absurd (true≢false (sym pending ∙ quiet))
 
 -- ---- what the ties tell
@@ -252,7 +252,7 @@ asdu_keeps setup log taking ns nr asdu hs k single lined =
     v : View
     v = view setup log hs
 
-    more : Judged → List Answer
+    more : Judged → List AsduAnswer
     more j = answers_to setup (picture_of setup.rows log) (is_pending v.asked) asdu j
 
     next : Judged → View
@@ -346,7 +346,7 @@ takes setup log taking (U signals.TestCon) (Some hs) k single shown lined tied =
 numbered : (setup : Setup) (log : List Observation) (ns nr : ℕ) (meant : Meant) (hs : List Turn)
     → PutsFirst setup.station.offset_minutes setup.station.common_address (view setup log hs)
     (put_out meant (spontaneous_of setup.station.common_address meant) (view setup log hs)) meant
-    → Keeps setup log log (PutsOut (Numbered ns nr meant)) hs
+    → Keeps setup log log (PutsOut (IFormat ns nr meant)) hs
 numbered setup log ns nr meant hs puts = record {
   begins = λ act. absurd (true≢false (sym act));
   goes = λ since newer kept.
@@ -367,8 +367,8 @@ puts setup log moment (sendings.Confirm signal) (Some hs) k small is can news li
 puts setup log moment sendings.Test (Some hs) k small is can news lined news_then then tied =
     mirrored setup log log (PutsOut (says setup k sendings.Test)) hs
     (record { begins = λ act. absurd (true≢false (sym act)); goes = λ since newer kept. kept }) tied
-puts setup log moment sendings.Receipt (Some hs) k small is can news lined news_then then tied =
-    mirrored setup log log (PutsOut (says setup k sendings.Receipt)) hs
+puts setup log moment sendings.SFormat (Some hs) k small is can news lined news_then then tied =
+    mirrored setup log log (PutsOut (says setup k sendings.SFormat)) hs
     (record { begins = λ act. absurd (true≢false (sym act)); goes = λ since newer kept. kept }) tied
 puts setup log moment (sendings.Answer answer) (Some hs) k small is can news lined news_then then tied =
     let x : Sending = sendings.Answer answer in
@@ -419,16 +419,16 @@ session_mirrored setup fit log (Takes a taking ∷ ts) k lives logged =
 session_mirrored setup fit log (PutsOut said ∷ ts) k lives logged =
     let gave = lives.2 in
     let old : Client = lives.0 in
-    let t : Said → Turn = λ x. PutsOut x in
+    let t : ApduMeaning → Turn = λ x. PutsOut x in
     let new : Client = client_with_sent gave.moment gave.sending old in
-    subst (λ (x : Said). SessionMirrored setup log (session (PutsOut x ∷ ts))) (sym gave.says)
+    subst (λ (x : ApduMeaning). SessionMirrored setup log (session (PutsOut x ∷ ts))) (sym gave.says)
     (puts setup log gave.moment gave.sending (session ts) old fit.station
     (offered_is gave.moment old gave.sending gave.first) gave.can
     (news_tied setup fit.queue fit.station ts old lives.1) (line_tied setup fit.queue fit.station ts old lives.1)
-    (subst (λ (x : Said). NewsTied setup (session (PutsOut x ∷ ts)) new) gave.says
+    (subst (λ (x : ApduMeaning). NewsTied setup (session (PutsOut x ∷ ts)) new) gave.says
     (subst (NewsTied setup (session (PutsOut said ∷ ts))) gave.becomes
     (news_tied setup fit.queue fit.station (PutsOut said ∷ ts) k lives)))
-    (subst (λ (x : Said). LineTied setup (session (PutsOut x ∷ ts)) new) gave.says
+    (subst (λ (x : ApduMeaning). LineTied setup (session (PutsOut x ∷ ts)) new) gave.says
     (subst (LineTied setup (session (PutsOut said ∷ ts))) gave.becomes
     (line_tied setup fit.queue fit.station (PutsOut said ∷ ts) k lives)))
     (session_mirrored setup fit log ts old lives.1 logged))

@@ -17,10 +17,10 @@ use Rattle.iec_command.specs.declared.command.Action.{Action}
 use Rattle.iec_command.specs.declared.command.Action.TheVariants as actions
 use Rattle.gw_judge.specs.declared.judging.Judged.{Judged}
 use Rattle.gw_judge.specs.declared.judging.Judged.TheVariants as judgements
-use Rattle.gw_answers.specs.declared.outgoing.Answer.{Answer}
-use Rattle.gw_answers.specs.declared.outgoing.Answer.TheVariants.{Returned, Made}
-use Rattle.gw_answers.specs.declared.outgoing.Outgoing.{Outgoing}
-use Rattle.gw_answers.specs.declared.outgoing.Outgoing.TheVariants as outgoing
+use Rattle.gw_answers.specs.declared.outgoing.AsduAnswer.{AsduAnswer}
+use Rattle.gw_answers.specs.declared.outgoing.AsduAnswer.TheVariants.{Returned, Made}
+use Rattle.gw_answers.specs.declared.outgoing.OwnAsdu.{OwnAsdu}
+use Rattle.gw_answers.specs.declared.outgoing.OwnAsdu.TheVariants as outgoing
 use Rattle.gw_answers.specs.Interrogations.{is_asked_by, cause_for, rows_of}
 use Rattle.gw_answers.specs.Outgoing.{command_with, news as told_news}
 use Rattle.gw_answers.specs.Octets.{answer_octets, outgoing_octets}
@@ -37,7 +37,7 @@ use Rattle.gw_station.specs.Pump.{client_with_sent}
 use Rattle.gw_station.specs.Sound.{CanSend}
 use Rattle.gw_steps.specs.Steps.{client_answered}
 use Rattle.gw_steps.specs.Runs.{Entry}
-use Rattle.gw_steps.specs.Said.{Said}
+use Rattle.gw_steps.specs.Said.{ApduMeaning}
 use Rattle.gw_history.specs.Premises.{client_at}
 use Rattle.gw_history.specs.Life.{Brought, Taking, Turn, Idle, Takes, PutsOut, Ends, session_with, session, turns_in, life}
 use Rattle.gw_history.proofs.Places.{Place, SlotLives, of_each}
@@ -46,7 +46,7 @@ use Rattle.gw_laws.specs.Fates.{spontaneous_of, spontaneous_in, Element, is_put_
 use Rattle.gw_laws.specs.News.{IsOfStation, TellsNews, Speaks, News}
 use Rattle.gw_laws.proofs.Offered.{IsOffered, offered_is, news_first, part_first}
 use Rattle.gw_laws.proofs.Parts.{IsRequested, answer_no_news, part_no_news}
-use Rattle.gw_laws.proofs.Opens.{open_i}
+use Rattle.gw_station.proofs.Opens.{open_i}
 use Rattle.gw_laws.proofs.Settled.{put, AreSettled, before_queue, queue_shrinks, settled_more, kept_in, queued_in, dropped_in, put_out_more, dropped_same, grown}
 use Rattle.gw_laws.proofs.Numbers.{says, counts_tied}
 
@@ -77,7 +77,7 @@ NewsTied setup (Some hs) k = InSession setup hs k
 
 -- ---- what an I format says
 
-answer_of_station : (offset : ℤ) (common : ℕ) (answer : Answer) (meant : Meant) → CanSendAnswer offset answer
+answer_of_station : (offset : ℤ) (common : ℕ) (answer : AsduAnswer) (meant : Meant) → CanSendAnswer offset answer
     → Means offset common answer meant → IsOfStation common meant
 answer_of_station offset common (Returned asdu cause) (Tells told) can means = inr (cause, can.1, can.2, means)
 answer_of_station offset common (Returned asdu cause) (Commands c) can means = inr (cause, can.1, can.2, means)
@@ -87,7 +87,7 @@ answer_of_station offset common (Made (outgoing.Observation cause originator x))
     subst (IsOfStation common) (sym means)
     (subst (λ (n : ℕ). IsOfStation common (Tells (asdu_of offset common n originator x))) (sym can.0) (inl (refl, refl)))
 
-part_of_station : (offset : ℤ) (common : ℕ) (part : Outgoing) (meant : Meant) → CanSendOutgoing offset part → IsRequested part
+part_of_station : (offset : ℤ) (common : ℕ) (part : OwnAsdu) (meant : Meant) → CanSendOutgoing offset part → IsRequested part
     → Means offset common (Made part) meant → IsOfStation common meant
 part_of_station offset common (outgoing.Command c) meant can is means = subst (IsOfStation common) (sym means) (inl (can.0, refl))
 part_of_station offset common (outgoing.Observation cause originator x) meant can (inl is) means =
@@ -118,7 +118,7 @@ rows_requested action (x ∷ xs) = elim (cases_Bool (is_asked_by action x)) [
     cause_is (actions.CounterInterrogation qualifier) = inr refl
     cause_is actions.Read = inl refl
 
-and_termination : (parts : List Outgoing) (c : Command) → AllByRecursion IsRequested parts
+and_termination : (parts : List OwnAsdu) (c : Command) → AllByRecursion IsRequested parts
     → AllByRecursion IsRequested (parts ++ command_with 10 false c ∷ [])
 and_termination [] c all = (tt, tt)
 and_termination (part ∷ parts) c all = (all.0, and_termination parts c all.1)
@@ -131,7 +131,7 @@ parts_with picture (judgements.Accepted c) false k all = all
 parts_with picture judgements.Malformed asks k all = all
 parts_with picture (judgements.Refuse cause execute) asks k all = all
 
-all_drop : (parts : List Outgoing) → AllByRecursion IsRequested parts → AllByRecursion IsRequested (drop 1 parts)
+all_drop : (parts : List OwnAsdu) → AllByRecursion IsRequested parts → AllByRecursion IsRequested (drop 1 parts)
 all_drop [] all = tt
 all_drop (part ∷ parts) all = all.1
 
@@ -280,7 +280,7 @@ took setup (S nr) taking moment (Some hs) k opens tied =
 took setup (U signal) taking moment s k opens tied = signal_taken setup taking moment signal s k tied
 
 -- something is put out that is no news
-put_still : (setup : Setup) (said : Said) (hs : List Turn) (k new : Client)
+put_still : (setup : Setup) (said : ApduMeaning) (hs : List Turn) (k new : Client)
     → spontaneous_in setup.station.common_address said ≡ [] → Alike k new
     → AllByRecursion IsRequested new.rest → InSession setup hs k → InSession setup (PutsOut said ∷ hs) new
 put_still setup said hs k new none alike parts tied =
@@ -294,7 +294,7 @@ gave : (setup : Setup) (moment : ℕ) (x : Sending) (s : Option (List Turn)) (k 
     → NewsTied setup s k → NewsTied setup (session_with (PutsOut (says setup k x)) s) (client_with_sent moment x k)
 gave setup moment (sendings.Confirm signal) None k small is can tied = no_session k _ refl refl refl refl refl tied
 gave setup moment sendings.Test None k small is can tied = no_session k _ refl refl refl refl refl tied
-gave setup moment sendings.Receipt None k small is can tied = no_session k _ refl refl refl refl refl tied
+gave setup moment sendings.SFormat None k small is can tied = no_session k _ refl refl refl refl refl tied
 gave setup moment (sendings.Answer answer) None k small is can tied =
     absurd (true≢false (sym is.in_session ∙ tied.stopped))
 gave setup moment (sendings.Part part) None k small is can tied = absurd (true≢false (sym is.in_session ∙ tied.stopped))
@@ -305,8 +305,8 @@ gave setup moment (sendings.Confirm signal) (Some hs) k small is can tied =
 gave setup moment sendings.Test (Some hs) k small is can tied =
     put_still setup (says setup k sendings.Test) hs k _ refl
     (record { stage = refl; limit = refl; queue = refl; dropped = refl }) tied.parts tied
-gave setup moment sendings.Receipt (Some hs) k small is can tied =
-    put_still setup (says setup k sendings.Receipt) hs k _ refl
+gave setup moment sendings.SFormat (Some hs) k small is can tied =
+    put_still setup (says setup k sendings.SFormat) hs k _ refl
     (record { stage = refl; limit = refl; queue = refl; dropped = refl }) tied.parts tied
 gave setup moment (sendings.Answer answer) (Some hs) k small is can tied =
     let offset : ℤ = setup.station.offset_minutes in
@@ -370,7 +370,7 @@ news_more setup some small (Takes a taking) ts k new lives is tied =
     (took setup a taking is.moment (session ts) k is.opens tied)
 news_more setup some small (PutsOut said) ts k new lives is tied =
     subst (NewsTied setup (session (PutsOut said ∷ ts))) (sym is.becomes)
-    (subst (λ (x : Said). NewsTied setup (session (PutsOut x ∷ ts)) (client_with_sent is.moment is.sending k))
+    (subst (λ (x : ApduMeaning). NewsTied setup (session (PutsOut x ∷ ts)) (client_with_sent is.moment is.sending k))
     (sym is.says)
     (gave setup is.moment is.sending (session ts) k small (offered_is is.moment k is.sending is.first) is.can tied))
 
@@ -399,7 +399,7 @@ says_of_station : (setup : Setup) (x : Sending) (ts : List Turn) (k : Client) �
     → NewsTied setup (session ts) k → Speaks setup.station (PutsOut (says setup k x) ∷ ts)
 says_of_station setup (sendings.Confirm signal) ts k small is can tied = tt
 says_of_station setup sendings.Test ts k small is can tied = tt
-says_of_station setup sendings.Receipt ts k small is can tied = tt
+says_of_station setup sendings.SFormat ts k small is can tied = tt
 says_of_station setup (sendings.Answer answer) ts k small is can tied =
     let offset : ℤ = setup.station.offset_minutes in
     let common : ℕ = setup.station.common_address in (
@@ -430,7 +430,7 @@ speaks setup some small (Takes a taking ∷ ts) k lives = tt
 speaks setup some small (Ends ∷ ts) k lives = tt
 speaks setup some small (PutsOut said ∷ ts) k lives =
     let gave = lives.2 in
-    subst (λ (x : Said). Speaks setup.station (PutsOut x ∷ ts)) (sym gave.says)
+    subst (λ (x : ApduMeaning). Speaks setup.station (PutsOut x ∷ ts)) (sym gave.says)
     (says_of_station setup gave.sending ts lives.0 small
     (offered_is gave.moment lives.0 gave.sending gave.first) gave.can
     (news_tied setup some small ts lives.0 lives.1))

@@ -8,7 +8,7 @@ use Rattle.iec_apci.specs.declared.apdu.Apdu.TheVariants.{I, S, U}
 use Rattle.iec_apci.specs.declared.apdu.Signal.{Signal}
 use Rattle.iec_apci.specs.declared.apdu.Signal.TheVariants.{StartAct, StartCon, StopAct, StopCon, TestAct, TestCon}
 use Rattle.iec_window.specs.declared.limits.Limits.{Limits}
-use Rattle.iec_window.specs.Counts.{Counts, sent_in_all}
+use Rattle.iec_window.specs.Counts.{WindowCounts, sent_in_all}
 use Rattle.iec_window.specs.Sequence.{Acknowledges, new_acknowledgements, is_right_send, is_right_receive}
 use Rattle.iec_window.specs.Steps.{counts_after_s, counts_after_i, counts_after_sending_i}
 use Rattle.iec_window.proofs.Numbers.{number_of-ahead}
@@ -19,16 +19,16 @@ use Rattle.gw_station.specs.declared.sending.Sending.TheVariants as sendings
 use Rattle.gw_station.specs.Client.{Client, is_started, limits_of}
 use Rattle.gw_station.specs.Frames.{close_of, judged_asdu, client_taking, client_with_signal, window_with_signal, command_in, event_taking}
 use Rattle.gw_station.specs.Pump.{has_room, content_of, client_with_sent}
-use Rattle.gw_station.proofs.Windows.{right_split, right_names, named_right, right_sent, sent_one_more}
+use Rattle.iec_window.proofs.Right.{right_split, right_names, named_right, right_sent, sent_one_more}
 use Rattle.gw_steps.specs.Steps.{client_answered}
-use Rattle.gw_steps.specs.Said.{Said, said_by}
+use Rattle.gw_steps.specs.Said.{ApduMeaning, said_by}
 use Rattle.gw_history.specs.Life.{Taking, Turn, Idle, Takes, PutsOut, Ends}
 use Rattle.gw_history.proofs.Lives.{Becomes, IsFresh, Lives, lives_all}
-use Rattle.gw_laws.specs.Numbers.{Names, SaysNumbers, sent, taken, last_receive_number, KeepsWindow, IsRightReceive, HasNumbers, HasRightNumbers}
+use Rattle.gw_laws.specs.Numbers.{NamesCount, SaysNumbers, sent, taken, last_receive_number, KeepsWindow, IsRightReceive, HasNumbers, HasRightNumbers}
 use Rattle.gw_laws.proofs.Offered.{IsOffered, offered_is}
-use Rattle.gw_laws.proofs.Opens.{open_s, IsOpen, open_i}
+use Rattle.gw_station.proofs.Opens.{open_s, IsOpen, open_i}
 
-pub record WindowTied (setup : Setup) (ts : List Turn) (w : Counts) : Type 0 where
+pub record WindowTied (setup : Setup) (ts : List Turn) (w : WindowCounts) : Type 0 where
   pub limits : w.limits ≡ limits_of setup.station
   pub sent : sent_in_all w ≡ sent ts
   pub received : w.received ≡ taken ts
@@ -43,16 +43,16 @@ pub record CountsTied (setup : Setup) (ts : List Turn) (k : Client) : Type 0 whe
 -- ---- one turn more
 
 -- a window whose counts stay
-pub record SameCounts (w new : Counts) : Type 0 where
+pub record SameCounts (w new : WindowCounts) : Type 0 where
   pub limits : new.limits ≡ w.limits
   pub acknowledged : new.acknowledged ≡ w.acknowledged
   pub waiting : new.waiting ≡ w.waiting
   pub received : new.received ≡ w.received
 
-same_counts : (w : Counts) → SameCounts w w
+same_counts : (w : WindowCounts) → SameCounts w w
 same_counts w = record { limits = refl; acknowledged = refl; waiting = refl; received = refl }
 
-window_same : (setup : Setup) (ts us : List Turn) (w new : Counts) → sent us ≡ sent ts → taken us ≡ taken ts
+window_same : (setup : Setup) (ts us : List Turn) (w new : WindowCounts) → sent us ≡ sent ts → taken us ≡ taken ts
     → last_receive_number us ≡ last_receive_number ts
     → SameCounts w new → WindowTied setup ts w → WindowTied setup us new
 window_same setup ts us w new es et er same tied = record {
@@ -64,7 +64,7 @@ window_same setup ts us w new es et er same tied = record {
 }
 
 -- an I format was put out
-window_sent : (setup : Setup) (ts us : List Turn) (moment : ℕ) (w : Counts) → sent us ≡ sent ts + 1
+window_sent : (setup : Setup) (ts us : List Turn) (moment : ℕ) (w : WindowCounts) → sent us ≡ sent ts + 1
     → taken us ≡ taken ts → last_receive_number us ≡ last_receive_number ts
     → has_room w ≡ true → WindowTied setup ts w → WindowTied setup us (counts_after_sending_i moment w)
 window_sent setup ts us moment w es et er room tied =
@@ -80,7 +80,7 @@ window_sent setup ts us moment w es et er room tied =
     }
 
 -- an S format was taken
-window_with_s : (setup : Setup) (ts : List Turn) (taking : Taking) (nr moment : ℕ) (w : Counts)
+window_with_s : (setup : Setup) (ts : List Turn) (taking : Taking) (nr moment : ℕ) (w : WindowCounts)
     → is_right_receive nr w ≡ true
     → WindowTied setup ts w → WindowTied setup (Takes (S nr) taking ∷ ts) (counts_after_s nr moment w)
 window_with_s setup ts taking nr moment w right tied =
@@ -94,7 +94,7 @@ window_with_s setup ts taking nr moment w right tied =
     })
 
 -- an I format was taken
-window_with_i : (setup : Setup) (ts us : List Turn) (ns nr moment : ℕ) (w : Counts) → sent us ≡ sent ts
+window_with_i : (setup : Setup) (ts us : List Turn) (ns nr moment : ℕ) (w : WindowCounts) → sent us ≡ sent ts
     → taken us ≡ taken ts + 1 → last_receive_number us ≡ nr
     → is_right_send ns w ≡ true → is_right_receive nr w ≡ true → WindowTied setup ts w
     → WindowTied setup us (counts_after_i ns nr moment w)
@@ -126,7 +126,7 @@ answered_same events.Taken k = (refl, refl)
 answered_same (events.Command command) k = (refl, refl)
 answered_same (events.Closed why) k = (refl, refl)
 
-signal_counts : (moment : ℕ) (signal : Signal) (w : Counts) → SameCounts w (window_with_signal moment signal w)
+signal_counts : (moment : ℕ) (signal : Signal) (w : WindowCounts) → SameCounts w (window_with_signal moment signal w)
 signal_counts moment StartAct w = record { limits = refl; acknowledged = refl; waiting = refl; received = refl }
 signal_counts moment StopAct w = record { limits = refl; acknowledged = refl; waiting = refl; received = refl }
 signal_counts moment TestAct w = record { limits = refl; acknowledged = refl; waiting = refl; received = refl }
@@ -167,7 +167,7 @@ took setup ts (U signal) taking moment k opens tied =
 
 -- ---- something is put out
 
-abbrev pub says : Setup → Client → Sending → Said
+abbrev pub says : Setup → Client → Sending → ApduMeaning
 says setup k s = said_by setup.station.offset_minutes
     (content_of setup.station.offset_minutes setup.station.common_address k.window s)
 
@@ -180,9 +180,9 @@ gave setup ts moment sendings.Test k is tied =
     counts_same setup ts (PutsOut (says setup k sendings.Test) ∷ ts) k
     (client_with_sent moment sendings.Test k) refl refl refl
     (record { limits = refl; acknowledged = refl; waiting = refl; received = refl }) refl tied
-gave setup ts moment sendings.Receipt k is tied =
-    counts_same setup ts (PutsOut (says setup k sendings.Receipt) ∷ ts) k
-    (client_with_sent moment sendings.Receipt k) refl refl refl
+gave setup ts moment sendings.SFormat k is tied =
+    counts_same setup ts (PutsOut (says setup k sendings.SFormat) ∷ ts) k
+    (client_with_sent moment sendings.SFormat k) refl refl refl
     (record { limits = refl; acknowledged = refl; waiting = refl; received = refl }) refl tied
 gave setup ts moment (sendings.Answer answer) k is tied =
     record {
@@ -228,7 +228,7 @@ counts_more setup (Takes a taking) ts k new lives is tied =
     subst (CountsTied setup (Takes a taking ∷ ts)) (sym is.becomes) (took setup ts a taking is.moment k is.opens tied)
 counts_more setup (PutsOut said) ts k new lives is tied =
     subst (CountsTied setup (PutsOut said ∷ ts)) (sym is.becomes)
-    (subst (λ (x : Said). CountsTied setup (PutsOut x ∷ ts) (client_with_sent is.moment is.sending k)) (sym is.says)
+    (subst (λ (x : ApduMeaning). CountsTied setup (PutsOut x ∷ ts) (client_with_sent is.moment is.sending k)) (sym is.says)
     (gave setup ts is.moment is.sending k (offered_is is.moment k is.sending is.first) tied))
 
 pub counts_tied : (setup : Setup) (ts : List Turn) (k : Client) → Lives setup ts k → CountsTied setup ts k
@@ -237,18 +237,18 @@ counts_tied setup = lives_all setup (CountsTied setup) (fresh setup) (counts_mor
 -- ---- what N(R) names
 
 -- one number names one count
-same_count : (nr sent n m : ℕ) → Names nr sent n → Names nr sent m → n ≡ m
+same_count : (nr sent n m : ℕ) → NamesCount nr sent n → NamesCount nr sent m → n ≡ m
 same_count nr sent n m a b = omega (arith, a.not_more, a.latest, a.number, b.not_more, b.latest, b.number)
 
-last_named : (setup : Setup) (ts : List Turn) (w : Counts) → setup.station.k < 32768 → WindowTied setup ts w
-    → Names (last_receive_number ts) (sent ts) w.acknowledged
+last_named : (setup : Setup) (ts : List Turn) (w : WindowCounts) → setup.station.k < 32768 → WindowTied setup ts w
+    → NamesCount (last_receive_number ts) (sent ts) w.acknowledged
 last_named setup ts w small tied = record {
   not_more = omega (arith, tied.sent);
   latest = omega (arith, tied.sent, tied.few, small);
   number = tied.acknowledged;
 }
 
-window_kept : (setup : Setup) (ts : List Turn) (w : Counts) → setup.station.k < 32768 → WindowTied setup ts w
+window_kept : (setup : Setup) (ts : List Turn) (w : WindowCounts) → setup.station.k < 32768 → WindowTied setup ts w
     → KeepsWindow setup.station.k ts
 window_kept setup ts w small tied = record {
   acknowledged = w.acknowledged;
@@ -256,7 +256,7 @@ window_kept setup ts w small tied = record {
   within = omega (arith, tied.sent, tied.few);
 }
 
-pub receive_is_right : (setup : Setup) (ts : List Turn) (nr : ℕ) (w : Counts) → setup.station.k < 32768
+pub receive_is_right : (setup : Setup) (ts : List Turn) (nr : ℕ) (w : WindowCounts) → setup.station.k < 32768
     → WindowTied setup ts w
     → is_right_receive nr w ≡ true → IsRightReceive ts nr
 receive_is_right setup ts nr w small tied right =
@@ -273,7 +273,7 @@ receive_is_right setup ts nr w small tied right =
       not_fewer = omega arith;
     }
 
-pub right_receive_is : (setup : Setup) (ts : List Turn) (nr : ℕ) (w : Counts) → setup.station.k < 32768
+pub right_receive_is : (setup : Setup) (ts : List Turn) (nr : ℕ) (w : WindowCounts) → setup.station.k < 32768
     → WindowTied setup ts w
     → IsRightReceive ts nr → is_right_receive nr w ≡ true
 right_receive_is setup ts nr w small tied right =
@@ -293,7 +293,7 @@ says_numbers : (setup : Setup) (ts : List Turn) (s : Sending) (k : Client) → W
     → SaysNumbers (sent ts) (taken ts) (says setup k s)
 says_numbers setup ts (sendings.Confirm signal) k tied = tt
 says_numbers setup ts sendings.Test k tied = tt
-says_numbers setup ts sendings.Receipt k tied = ap (λ (n : ℕ). n % 32768) tied.received
+says_numbers setup ts sendings.SFormat k tied = ap (λ (n : ℕ). n % 32768) tied.received
 says_numbers setup ts (sendings.Answer answer) k tied =
     (ap (λ (n : ℕ). n % 32768) tied.sent, ap (λ (n : ℕ). n % 32768) tied.received)
 says_numbers setup ts (sendings.Part part) k tied = (

@@ -6,8 +6,8 @@ use Rattle.gw_model.specs.declared.observation.Observation.{Observation}
 use Rattle.gw_picture.proofs.Lists.{some_is}
 use Rattle.iec_apci.specs.declared.apdu.Signal.{Signal}
 use Rattle.iec_window.specs.Timers.{owes_ack, owes_test}
-use Rattle.gw_answers.specs.declared.outgoing.Answer.{Answer}
-use Rattle.gw_answers.specs.declared.outgoing.Outgoing.{Outgoing}
+use Rattle.gw_answers.specs.declared.outgoing.AsduAnswer.{AsduAnswer}
+use Rattle.gw_answers.specs.declared.outgoing.OwnAsdu.{OwnAsdu}
 use Rattle.gw_station.specs.declared.sending.Sending.{Sending}
 use Rattle.gw_station.specs.declared.sending.Sending.TheVariants as sendings
 use Rattle.gw_station.specs.Client.{Client, is_started as is_in_session}
@@ -25,7 +25,7 @@ IsOffered k sendings.Test = Unit {0}
 IsOffered k (sendings.Answer answer) = IsFirst k (sendings.Answer answer)
 IsOffered k (sendings.News x) = IsFirst k (sendings.News x)
 IsOffered k (sendings.Part part) = IsFirst k (sendings.Part part)
-IsOffered k sendings.Receipt = Unit {0}
+IsOffered k sendings.SFormat = Unit {0}
 
 first_offered : (k : Client) (s : Sending) → IsFirst k s → IsOffered k s
 first_offered k (sendings.Confirm signal) is = tt
@@ -33,7 +33,7 @@ first_offered k sendings.Test is = tt
 first_offered k (sendings.Answer answer) is = is
 first_offered k (sendings.News x) is = is
 first_offered k (sendings.Part part) is = is
-first_offered k sendings.Receipt is = tt
+first_offered k sendings.SFormat is = tt
 
 pub offered_is : (moment : ℕ) (k : Client) (s : Sending) → offered moment k ≡ Some s → IsOffered k s
 offered_is moment k s e =
@@ -43,23 +43,23 @@ offered_is moment k s e =
     by : (confirmation : Option Signal) (test started room : Bool) (first : Option Sending) (ack : Bool)
         → is_in_session k.stage ≡ started → has_room k.window ≡ room → slice_get (line k) 0 ≡ first
         → first_of (option_map sendings.Confirm confirmation ∷ when test sendings.Test ∷ cond
-        (started && room) first None ∷ when ack sendings.Receipt ∷ []) ≡ Some s
+        (started && room) first None ∷ when ack sendings.SFormat ∷ []) ≡ Some s
         → IsOffered k s
     by (Some signal) test started room first ack es er el e =
         subst (IsOffered k) (some_is (sendings.Confirm signal) s e) tt
     by None true started room first ack es er el e = subst (IsOffered k) (some_is sendings.Test s e) tt
     by None false true true (Some x) ack es er el e =
         subst (IsOffered k) (some_is x s e) (first_offered k x (record { in_session = es; room = er; first = el }))
-    by None false true true None true es er el e = subst (IsOffered k) (some_is sendings.Receipt s e) tt
+    by None false true true None true es er el e = subst (IsOffered k) (some_is sendings.SFormat s e) tt
     by None false true true None false es er el e = absurd cc
-    by None false true false first true es er el e = subst (IsOffered k) (some_is sendings.Receipt s e) tt
+    by None false true false first true es er el e = subst (IsOffered k) (some_is sendings.SFormat s e) tt
     by None false true false first false es er el e = absurd cc
-    by None false false room first true es er el e = subst (IsOffered k) (some_is sendings.Receipt s e) tt
+    by None false false room first true es er el e = subst (IsOffered k) (some_is sendings.SFormat s e) tt
     by None false false room first false es er el e = absurd cc
 
 -- ---- what is first in line
 
-abbrev front : List Answer → ℕ → List Observation → List Outgoing → List Sending
+abbrev front : List AsduAnswer → ℕ → List Observation → List OwnAsdu → List Sending
 front answers older queue rest =
     map sendings.Answer answers ++ (map sendings.News (take older queue)
     ++ (map sendings.Part rest ++ map sendings.News (drop older queue)))
@@ -71,10 +71,10 @@ news_is x y e = ap value e
     value (Some (sendings.News z)) = z
     value _ = x
 
-part_is : (p q : Outgoing) → Some (sendings.Part p) ≡ Some (sendings.Part q) → p ≡ q
+part_is : (p q : OwnAsdu) → Some (sendings.Part p) ≡ Some (sendings.Part q) → p ≡ q
 part_is p q e = ap value e
   where
-    value : Option Sending → Outgoing
+    value : Option Sending → OwnAsdu
     value (Some (sendings.Part r)) = r
     value _ = p
 
@@ -83,7 +83,7 @@ pub news_first : (k : Client) (x : Observation) → slice_get (line k) 0 ≡ Som
     → (queue : List Observation) × (k.queue ≡ x ∷ queue)
 news_first k x e = go k.answers k.older k.queue k.rest e
   where
-    go : (answers : List Answer) (older : ℕ) (queue : List Observation) (rest : List Outgoing)
+    go : (answers : List AsduAnswer) (older : ℕ) (queue : List Observation) (rest : List OwnAsdu)
         → slice_get (front answers older queue rest) 0 ≡ Some (sendings.News x)
         → (more : List Observation) × (queue ≡ x ∷ more)
     go (answer ∷ answers) older queue rest e = absurd cc
@@ -94,17 +94,17 @@ news_first k x e = go k.answers k.older k.queue k.rest e
     go [] (suc n) [] (part ∷ rest) e = absurd cc
     go [] (suc n) [] [] e = absurd cc
 
-pub part_first : (k : Client) (p : Outgoing) → slice_get (line k) 0 ≡ Some (sendings.Part p)
-    → (rest : List Outgoing) × (k.rest ≡ p ∷ rest)
+pub part_first : (k : Client) (p : OwnAsdu) → slice_get (line k) 0 ≡ Some (sendings.Part p)
+    → (rest : List OwnAsdu) × (k.rest ≡ p ∷ rest)
 part_first k p e = go k.answers k.older k.queue k.rest e
   where
-    go : (answers : List Answer) (older : ℕ) (queue : List Observation) (rest : List Outgoing)
+    go : (answers : List AsduAnswer) (older : ℕ) (queue : List Observation) (rest : List OwnAsdu)
         → slice_get (front answers older queue rest) 0 ≡ Some (sendings.Part p)
-        → (more : List Outgoing) × (rest ≡ p ∷ more)
+        → (more : List OwnAsdu) × (rest ≡ p ∷ more)
     go (answer ∷ answers) older queue rest e = absurd cc
-    go [] zero queue (part ∷ rest) e = (rest, ap (λ (z : Outgoing). z ∷ rest) (part_is part p e))
+    go [] zero queue (part ∷ rest) e = (rest, ap (λ (z : OwnAsdu). z ∷ rest) (part_is part p e))
     go [] zero (y ∷ queue) [] e = absurd cc
     go [] zero [] [] e = absurd cc
     go [] (suc n) (y ∷ queue) rest e = absurd cc
-    go [] (suc n) [] (part ∷ rest) e = (rest, ap (λ (z : Outgoing). z ∷ rest) (part_is part p e))
+    go [] (suc n) [] (part ∷ rest) e = (rest, ap (λ (z : OwnAsdu). z ∷ rest) (part_is part p e))
     go [] (suc n) [] [] e = absurd cc

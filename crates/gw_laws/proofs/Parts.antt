@@ -10,10 +10,10 @@ use Rattle.iec_command.specs.declared.command.Action.{Action}
 use Rattle.iec_command.specs.declared.command.Action.TheVariants as actions
 use Rattle.iec_command.specs.declared.command.Action.TheVariants as actions
 use Rattle.iec_command.specs.declared.command.Action.TheVariants as actions
-use Rattle.gw_answers.specs.declared.outgoing.Answer.{Answer}
-use Rattle.gw_answers.specs.declared.outgoing.Answer.TheVariants.{Returned, Made}
-use Rattle.gw_answers.specs.declared.outgoing.Outgoing.{Outgoing}
-use Rattle.gw_answers.specs.declared.outgoing.Outgoing.TheVariants as outgoing
+use Rattle.gw_answers.specs.declared.outgoing.AsduAnswer.{AsduAnswer}
+use Rattle.gw_answers.specs.declared.outgoing.AsduAnswer.TheVariants.{Returned, Made}
+use Rattle.gw_answers.specs.declared.outgoing.OwnAsdu.{OwnAsdu}
+use Rattle.gw_answers.specs.declared.outgoing.OwnAsdu.TheVariants as outgoing
 use Rattle.gw_answers.specs.Interrogations.{is_asked_by, is_general, is_accepted_act, rows_of, answer_to}
 use Rattle.gw_answers.specs.Outgoing.{command_with, at_station, news}
 use Rattle.gw_answers.specs.Meaning.{Meant, Tells, Commands, Unread, asdu_of, Means, CanSendAnswer}
@@ -29,18 +29,18 @@ use Rattle.gw_laws.specs.Fates.{spontaneous_of}
 -- ---- kinds of answers and parts
 
 -- a part of an answer to an interrogation has a cause of one: 20 or 37
-abbrev pub IsRequested : Outgoing → Type 0
+abbrev pub IsRequested : OwnAsdu → Type 0
 IsRequested (outgoing.Command c) = Unit {0}
 IsRequested (outgoing.Observation cause originator x) = (cause ≡ 20) ⊎ (cause ≡ 37)
 
 -- an answer that isn't taken for a part of the answer to an interrogation
-abbrev pub IsApart : Answer → Type 0
+abbrev pub IsApart : AsduAnswer → Type 0
 IsApart (Returned asdu cause) = Unit {0}
 IsApart (Made (outgoing.Command c)) = is_interrogation c.action && not c.negative ≡ false
 IsApart (Made (outgoing.Observation cause originator x)) = cause ≡ 5
 
 -- a part of the answer to an interrogation
-abbrev pub IsOfInterrogation : Outgoing → Type 0
+abbrev pub IsOfInterrogation : OwnAsdu → Type 0
 IsOfInterrogation (outgoing.Command c) =
     is_interrogation c.action && not c.negative && (eqb c.cause 7 || eqb c.cause 10) ≡ true
 IsOfInterrogation (outgoing.Observation cause originator x) = Unit {0}
@@ -51,7 +51,7 @@ IsOfInterrogation (outgoing.Observation cause originator x) = Unit {0}
 not_spontaneous : (cause octet : ℕ) → octet % 64 ≡ cause → 44 ≤ cause → eqb octet 3 ≡ false
 not_spontaneous cause octet e from = ne_eqb octet 3 (λ (is : octet ≡ 3). omega (arith, e, from, is))
 
-pub answer_no_news : (offset : ℤ) (common : ℕ) (answer : Answer) (meant : Meant) → CanSendAnswer offset answer
+pub answer_no_news : (offset : ℤ) (common : ℕ) (answer : AsduAnswer) (meant : Meant) → CanSendAnswer offset answer
     → Means offset common answer meant → spontaneous_of common meant ≡ []
 answer_no_news offset common (Returned asdu cause) (Tells told) can means = rw (not_spontaneous cause told.cause means.0 can.1) refl
 answer_no_news offset common (Returned asdu cause) (Commands c) can means = refl
@@ -60,7 +60,7 @@ answer_no_news offset common (Made (outgoing.Command c)) meant can means = ap (s
 answer_no_news offset common (Made (outgoing.Observation cause originator x)) meant can means =
     ap (spontaneous_of common) means ∙ ap (λ (n : ℕ). spontaneous_of common (Tells (asdu_of offset common n originator x))) can.0
 
-pub part_no_news : (offset : ℤ) (common : ℕ) (part : Outgoing) (meant : Meant) → IsRequested part
+pub part_no_news : (offset : ℤ) (common : ℕ) (part : OwnAsdu) (meant : Meant) → IsRequested part
     → Means offset common (Made part) meant → spontaneous_of common meant ≡ []
 part_no_news offset common (outgoing.Command c) meant is means = ap (spontaneous_of common) means
 part_no_news offset common (outgoing.Observation cause originator x) meant (inl is) means =
@@ -90,7 +90,7 @@ neither cause octet e from =
           37 (λ (is : octet ≡ 37). omega (arith, e, from, is)),
     ) refl
 
-pub answer_apart : (offset : ℤ) (common : ℕ) (answer : Answer) (meant : Meant) → CanSendAnswer offset answer
+pub answer_apart : (offset : ℤ) (common : ℕ) (answer : AsduAnswer) (meant : Meant) → CanSendAnswer offset answer
     → IsApart answer → Means offset common answer meant → parts_in meant ≡ []
 answer_apart offset common (Returned asdu cause) (Tells told) can is means = rw (neither cause told.cause means.0 can.1) refl
 answer_apart offset common (Returned asdu cause) (Commands c) can is means = negative_apart c means.1
@@ -107,11 +107,11 @@ news_apart offset common x meant means = ap parts_in means
 pub told_nothing : (meant : Meant) (q : Option Interrogation) → parts_in meant ≡ []
     → option_map (interrogation_telling meant) q ≡ q
 told_nothing meant None none = refl
-told_nothing meant (Some q) none = ap (λ (parts : List Outgoing). Some (record q { said = parts })) (ap (λ (parts : List Outgoing). q.said ++ parts) none ∙ append-nil q.said)
+told_nothing meant (Some q) none = ap (λ (parts : List OwnAsdu). Some (record q { said = parts })) (ap (λ (parts : List OwnAsdu). q.said ++ parts) none ∙ append-nil q.said)
 
 -- ---- what is of it
 
-pub part_told : (offset : ℤ) (common : ℕ) (part : Outgoing) (meant : Meant) → IsOfInterrogation part → IsRequested part
+pub part_told : (offset : ℤ) (common : ℕ) (part : OwnAsdu) (meant : Meant) → IsOfInterrogation part → IsRequested part
     → Means offset common (Made part) meant
     → parts_in meant ≡ as_told common part ∷ []
 part_told offset common (outgoing.Command c) meant is requested means = ap parts_in means ∙ rw is refl
@@ -138,7 +138,7 @@ accepted_is pending c e = general c.action (middle (eqb c.cause 6) (is_general c
     general (actions.CounterInterrogation qualifier) e = refl
     general actions.Read e = absurd cc
 
-rows_are : (action : Action) (xs : List Observation) (rest : List Outgoing) → AllByRecursion IsOfInterrogation rest
+rows_are : (action : Action) (xs : List Observation) (rest : List OwnAsdu) → AllByRecursion IsOfInterrogation rest
     → AllByRecursion IsOfInterrogation (rows_of action xs ++ rest)
 rows_are action [] rest all = all
 rows_are action (x ∷ xs) rest all = elim (cases_Bool (is_asked_by action x)) [
@@ -161,7 +161,7 @@ rows_go_on common action (x ∷ xs) = elim (cases_Bool (is_asked_by action x)) [
 ]
 
 -- of parts that end with the only termination, something is left exactly while it wasn't said
-last_said : (xs said rest : List Outgoing) (t : Outgoing) → list_any is_termination xs ≡ false → is_termination t ≡ true
+last_said : (xs said rest : List OwnAsdu) (t : OwnAsdu) → list_any is_termination xs ≡ false → is_termination t ≡ true
     → said ++ rest ≡ xs ++ t ∷ []
     → not (list_any is_termination said) ≡ is_asked rest
 last_said [] [] [] t none is e = absurd cc
@@ -172,11 +172,11 @@ last_said [] (s ∷ said) rest t none is e =
     let others : said ++ rest ≡ [] = ap (drop 1) e in
     rw (same, is) (nothing_left said rest others)
   where
-    first : Outgoing → List Outgoing → Outgoing
+    first : OwnAsdu → List OwnAsdu → OwnAsdu
     first d [] = d
     first d (p ∷ ps) = p
 
-    nothing_left : (said rest : List Outgoing) → said ++ rest ≡ [] → false ≡ is_asked rest
+    nothing_left : (said rest : List OwnAsdu) → said ++ rest ≡ [] → false ≡ is_asked rest
     nothing_left [] [] e = refl
     nothing_left [] (r ∷ rest) e = absurd cc
     nothing_left (s ∷ said) rest e = absurd cc
@@ -186,7 +186,7 @@ last_said (x ∷ xs) (s ∷ said) rest t none is e =
     let parts = neither_of (is_termination x) (list_any is_termination xs) none in
     rw (same, parts.0) (last_said xs said rest t parts.1 is others)
   where
-    first : Outgoing → List Outgoing → Outgoing
+    first : OwnAsdu → List OwnAsdu → OwnAsdu
     first d [] = d
     first d (p ∷ ps) = p
 
@@ -194,38 +194,38 @@ last_said (x ∷ xs) (s ∷ said) rest t none is e =
     neither_of true b e = absurd cc
     neither_of false b e = (refl, e)
 
-map-end : (f : Outgoing → Outgoing) (xs : List Outgoing) (t : Outgoing) → map f (xs ++ t ∷ []) ≡ map f xs ++ f t ∷ []
+map-end : (f : OwnAsdu → OwnAsdu) (xs : List OwnAsdu) (t : OwnAsdu) → map f (xs ++ t ∷ []) ≡ map f xs ++ f t ∷ []
 map-end f [] t = refl
-map-end f (x ∷ xs) t = ap (λ (ys : List Outgoing). f x ∷ ys) (map-end f xs t)
+map-end f (x ∷ xs) t = ap (λ (ys : List OwnAsdu). f x ∷ ys) (map-end f xs t)
 
-told_asked : (common : ℕ) (rest : List Outgoing) → is_asked (map (as_told common) rest) ≡ is_asked rest
+told_asked : (common : ℕ) (rest : List OwnAsdu) → is_asked (map (as_told common) rest) ≡ is_asked rest
 told_asked common [] = refl
 told_asked common (part ∷ rest) = refl
 
 -- an interrogation is pending while something is left of its answer
-pub pending_is : (common : ℕ) (q : Interrogation) (rest : List Outgoing)
+pub pending_is : (common : ℕ) (q : Interrogation) (rest : List OwnAsdu)
     → q.said ++ map (as_told common) rest ≡ answer_told common q → is_pending (Some q) ≡ is_asked rest
 pending_is common q rest e =
     let c : Command = q.command in
-    let confirmation : Outgoing = as_told common (command_with 7 false c) in
-    let termination : Outgoing = as_told common (command_with 10 false c) in
-    let front : List Outgoing = confirmation ∷ map (as_told common) (rows_of c.action q.rows) in
+    let confirmation : OwnAsdu = as_told common (command_with 7 false c) in
+    let termination : OwnAsdu = as_told common (command_with 10 false c) in
+    let front : List OwnAsdu = confirmation ∷ map (as_told common) (rows_of c.action q.rows) in
     let whole : answer_told common q ≡ front ++ termination ∷ [] =
-    ap (λ (parts : List Outgoing). confirmation ∷ parts) (map-end (as_told common) (rows_of c.action q.rows) (command_with 10 false c)) in
+    ap (λ (parts : List OwnAsdu). confirmation ∷ parts) (map-end (as_told common) (rows_of c.action q.rows) (command_with 10 false c)) in
     last_said front q.said (map (as_told common) rest) termination (rows_go_on common c.action q.rows) refl (e ∙ whole)
     ∙ told_asked common rest
 
 -- one part more was said
-pub said_more : (common : ℕ) (said : List Outgoing) (part : Outgoing) (rest : List Outgoing)
+pub said_more : (common : ℕ) (said : List OwnAsdu) (part : OwnAsdu) (rest : List OwnAsdu)
     → (said ++ as_told common part ∷ []) ++ map (as_told common) rest ≡ said ++ map (as_told common) (part ∷ rest)
 said_more common [] part rest = refl
-said_more common (s ∷ said) part rest = ap (λ (parts : List Outgoing). s ∷ parts) (said_more common said part rest)
+said_more common (s ∷ said) part rest = ap (λ (parts : List OwnAsdu). s ∷ parts) (said_more common said part rest)
 
 -- what is left is what is behind as many as were said
-pub left_more : (said : ℕ) (rest answer : List Outgoing) → rest ≡ drop said answer → drop 1 rest ≡ drop (said + 1) answer
+pub left_more : (said : ℕ) (rest answer : List OwnAsdu) → rest ≡ drop said answer → drop 1 rest ≡ drop (said + 1) answer
 left_more said rest answer is = ap (drop 1) is ∙ drop_twice said (said + 1) answer refl
   where
-    drop_twice : (n m : ℕ) (parts : List Outgoing) → m ≡ n + 1 → drop 1 (drop n parts) ≡ drop m parts
+    drop_twice : (n m : ℕ) (parts : List OwnAsdu) → m ≡ n + 1 → drop 1 (drop n parts) ≡ drop m parts
     drop_twice zero m parts e = let one : 1 ≡ m = omega (arith, e) in ap (λ (i : ℕ). drop i parts) one
     drop_twice (suc n) zero parts e = absurd (omega (arith, e))
     drop_twice (suc n) (suc m) [] e = refl
@@ -233,11 +233,11 @@ left_more said rest answer is = ap (drop 1) is ∙ drop_twice said (said + 1) an
 
 -- ---- what waits before
 
-pub nothing_asked : (rest : List Outgoing) → is_asked rest ≡ false → rest ≡ []
+pub nothing_asked : (rest : List OwnAsdu) → is_asked rest ≡ false → rest ≡ []
 nothing_asked [] e = refl
 nothing_asked (part ∷ rest) e = absurd cc
 
-abbrev front : List Answer → ℕ → List Observation → List Outgoing → List Sending
+abbrev front : List AsduAnswer → ℕ → List Observation → List OwnAsdu → List Sending
 front answers older queue rest =
     map sendings.Answer answers ++ (map sendings.News (take older queue)
     ++ (map sendings.Part rest ++ map sendings.News (drop older queue)))
@@ -246,15 +246,15 @@ front answers older queue rest =
 pub no_answer : (k : Client) (x : Observation) → slice_get (line k) 0 ≡ Some (sendings.News x) → k.answers ≡ []
 no_answer k x e = go k.answers e
   where
-    go : (answers : List Answer) → slice_get (front answers k.older k.queue k.rest) 0 ≡ Some (sendings.News x)
+    go : (answers : List AsduAnswer) → slice_get (front answers k.older k.queue k.rest) 0 ≡ Some (sendings.News x)
         → answers ≡ []
     go [] e = refl
     go (a ∷ answers) e = absurd cc
 
-pub no_answer_before : (k : Client) (part : Outgoing) → slice_get (line k) 0 ≡ Some (sendings.Part part) → k.answers ≡ []
+pub no_answer_before : (k : Client) (part : OwnAsdu) → slice_get (line k) 0 ≡ Some (sendings.Part part) → k.answers ≡ []
 no_answer_before k part e = go k.answers e
   where
-    go : (answers : List Answer) → slice_get (front answers k.older k.queue k.rest) 0 ≡ Some (sendings.Part part)
+    go : (answers : List AsduAnswer) → slice_get (front answers k.older k.queue k.rest) 0 ≡ Some (sendings.Part part)
         → answers ≡ []
     go [] e = refl
     go (a ∷ answers) e = absurd cc

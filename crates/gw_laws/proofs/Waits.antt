@@ -5,10 +5,10 @@ use Rattle.std.proofs.lemmas.Bool.{cases_Bool, ne_eqb}
 use Rattle.std.proofs.lemmas.List.{take-append-le, drop-append-le}
 use Rattle.gw_model.specs.declared.observation.Observation.{Observation}
 use Rattle.iec_command.specs.declared.command.Command.{Command}
-use Rattle.gw_answers.specs.declared.outgoing.Answer.{Answer}
-use Rattle.gw_answers.specs.declared.outgoing.Answer.TheVariants.{Returned, Made}
-use Rattle.gw_answers.specs.declared.outgoing.Outgoing.{Outgoing}
-use Rattle.gw_answers.specs.declared.outgoing.Outgoing.TheVariants as outgoing
+use Rattle.gw_answers.specs.declared.outgoing.AsduAnswer.{AsduAnswer}
+use Rattle.gw_answers.specs.declared.outgoing.AsduAnswer.TheVariants.{Returned, Made}
+use Rattle.gw_answers.specs.declared.outgoing.OwnAsdu.{OwnAsdu}
+use Rattle.gw_answers.specs.declared.outgoing.OwnAsdu.TheVariants as outgoing
 use Rattle.gw_answers.specs.Outgoing.{command_with}
 use Rattle.gw_answers.specs.Interrogations.{is_asked_by, cause_for, answer_to}
 use Rattle.gw_answers.specs.Meaning.{Meant, Tells, Commands, Unread, asdu_of}
@@ -58,7 +58,7 @@ waiting_from q es =
     waiting_in-append parts (map sendings.News later)
     ∙ ap (λ (xs : List Observation). waiting_in parts ++ xs) (waiting_news later)
 
-pub waiting_line : (owed : List Answer) (q : Option Interrogation) (es : List Element)
+pub waiting_line : (owed : List AsduAnswer) (q : Option Interrogation) (es : List Element)
     → waiting_in (line_with owed q es)
     ≡ waiting_in (map sendings.Answer owed) ++ (items_of is_queued (take (since_of q) es)
     ++ waiting_in (from_answer q es))
@@ -89,7 +89,7 @@ from_answer_joined q es fs xs e =
     ∙ (sym (append_assoc parts later xs) ∙ ap (λ (ys : List Observation). ys ++ xs) (sym (waiting_from q es))))
 
 -- what waits in all, where news joined all
-pub line_joined : (owed : List Answer) (q : Option Interrogation) (es : List Element) (xs : List Observation)
+pub line_joined : (owed : List AsduAnswer) (q : Option Interrogation) (es : List Element) (xs : List Observation)
     → since_of q ≤ length es
     → waiting_in (line_with owed q (es ++ map queued xs)) ≡ waiting_in (line_with owed q es) ++ xs
 line_joined owed q es xs within =
@@ -127,7 +127,7 @@ returnable offset (sendings.News x) can = tt
 returnable offset (sendings.Part part) can = tt
 returnable offset (sendings.Confirm signal) can = tt
 returnable offset sendings.Test can = tt
-returnable offset sendings.Receipt can = tt
+returnable offset sendings.SFormat can = tt
 
 -- none of the causes of observations is one of what is unknown
 other_causes : (cause octet : ℕ) → octet % 64 ≡ cause → 44 ≤ cause → cause ≤ 47
@@ -163,7 +163,7 @@ told_as offset common (sendings.Part (outgoing.Observation cause originator x)) 
     ap observations_in means ∙ ap (λ (n : ℕ). observations_in (Tells (asdu_of offset common n originator x))) is
 told_as offset common (sendings.Confirm signal) meant plain can means = absurd means
 told_as offset common sendings.Test meant plain can means = absurd means
-told_as offset common sendings.Receipt meant plain can means = absurd means
+told_as offset common sendings.SFormat meant plain can means = absurd means
 
 -- only parts are taken for parts
 pub apart : (offset : ℤ) (common : ℕ) (s : Sending) (meant : Meant) → IsPlain s → IsReturnableSending s
@@ -188,10 +188,10 @@ apart offset common (sendings.News x) meant plain can other means = ap parts_in 
 apart offset common (sendings.Part part) meant plain can other means = absurd cc
 apart offset common (sendings.Confirm signal) meant plain can other means = absurd means
 apart offset common sendings.Test meant plain can other means = absurd means
-apart offset common sendings.Receipt meant plain can other means = absurd means
+apart offset common sendings.SFormat meant plain can other means = absurd means
 
 -- a part is first where no answer and no older news wait
-pub part_first : (owed : List Answer) (xs : List Observation) (rest : List Sending) (p : Outgoing)
+pub part_first : (owed : List AsduAnswer) (xs : List Observation) (rest : List Sending) (p : OwnAsdu)
     → slice_get (map sendings.Answer owed ++ (map sendings.News xs ++ rest)) 0 ≡ Some (sendings.Part p)
     → (owed ≡ []) × (xs ≡ [])
 part_first (answer ∷ owed) xs rest p e = absurd cc
@@ -203,7 +203,7 @@ abbrev pub from_part : List Sending → List Sending
 from_part [] = []
 from_part (s ∷ line) = cond (is_part s) (s ∷ line) (from_part line)
 
-pub from_part_of : (owed : List Answer) (xs : List Observation) (p : Outgoing) (rest : List Sending)
+pub from_part_of : (owed : List AsduAnswer) (xs : List Observation) (p : OwnAsdu) (rest : List Sending)
     → from_part (map sendings.Answer owed ++ (map sendings.News xs ++ (sendings.Part p ∷ rest))) ≡ sendings.Part p ∷ rest
 from_part_of (answer ∷ owed) xs p rest = from_part_of owed xs p rest
 from_part_of [] (x ∷ xs) p rest = from_part_of [] xs p rest

@@ -11,8 +11,8 @@ use Rattle.gw_picture.proofs.Addresses.{is_single}
 use Rattle.gw_picture.proofs.Logs.{shown_by}
 use Rattle.iec_command.specs.declared.command.Action.{Action}
 use Rattle.iec_command.specs.declared.command.Action.TheVariants as actions
-use Rattle.gw_answers.specs.declared.outgoing.Answer.{Answer}
-use Rattle.gw_answers.specs.declared.outgoing.Outgoing.{Outgoing}
+use Rattle.gw_answers.specs.declared.outgoing.AsduAnswer.{AsduAnswer}
+use Rattle.gw_answers.specs.declared.outgoing.OwnAsdu.{OwnAsdu}
 use Rattle.gw_answers.specs.Interrogations.{is_total, is_asked_by, rows_of, answer_to}
 use Rattle.gw_answers.specs.Meaning.{Meant}
 use Rattle.gw_answers.specs.Outgoing.{command_with}
@@ -35,7 +35,7 @@ pub record View : Type 0 where
   pub log : List Observation
   pub elements : List Element
   pub asked : Option Interrogation
-  pub owed : List Answer
+  pub owed : List AsduAnswer
 
 abbrev pub line_in : View → List Sending
 line_in v = line_with v.owed v.asked v.elements
@@ -165,7 +165,7 @@ heard_put_out rows offset common since told meant ys v puts kept =
 -- before the confirmation the answer is whole
 watched_left : (asked : Option Interrogation) (since : ℕ) (is : IsWatched asked since)
     → left_of asked ≡ answer_to is.q.command is.q.rows
-watched_left asked since is = ap left_of is.is ∙ ap (λ (said : List Outgoing). drop (length said) (answer_to is.q.command is.q.rows)) is.said
+watched_left asked since is = ap left_of is.is ∙ ap (λ (said : List OwnAsdu). drop (length said) (answer_to is.q.command is.q.rows)) is.said
 
 -- what is behind its first part
 abbrev behind : Interrogation → List Element → List Sending
@@ -176,7 +176,7 @@ watched_from : (asked : Option Interrogation) (es : List Element) (since : ℕ) 
     → from_answer asked es ≡ sendings.Part (command_with 7 false is.q.command) ∷ behind is.q es
 watched_from asked es since is =
     let news : Option Interrogation → List Sending = λ q. map sendings.News (items_of is_queued (drop (since_of q) es)) in
-    ap (λ (parts : List Outgoing). map sendings.Part parts ++ news asked) (watched_left asked since is)
+    ap (λ (parts : List OwnAsdu). map sendings.Part parts ++ news asked) (watched_left asked since is)
     ∙ ap (λ (q : Option Interrogation). map sendings.Part (answer_to is.q.command is.q.rows) ++ news q) is.is
 
 -- something else than a part
@@ -197,7 +197,7 @@ unheard_put_out rows offset common since meant ys v puts other kept = rw none_sa
       q = interrogation_telling meant kept.watched.q;
       is = ap (option_map (interrogation_telling meant)) kept.watched.is;
       mark = kept.watched.mark;
-      said = ap (λ (parts : List Outgoing). parts ++ parts_in meant) kept.watched.said ∙ none_said;
+      said = ap (λ (parts : List OwnAsdu). parts ++ parts_in meant) kept.watched.said ∙ none_said;
       kind = kept.watched.kind;
     }
 
@@ -224,7 +224,7 @@ unheard_put_out rows offset common since meant ys v puts other kept = rw none_sa
 
 -- its confirmation
 confirmed : (rows : List Row) (offset : ℤ) (common since : ℕ) (meant : Meant) (ys : List Observation) (v : View)
-    (p : Outgoing)
+    (p : OwnAsdu)
     → slice_get (line_in v) 0 ≡ Some (sendings.Part p) → MeansSending offset common (sendings.Part p) meant
     → line_in (put_out meant ys v) ≡ drop 1 (line_in v) → Unheard rows v since
     → IsKept rows (put_out meant ys v) since (told_with meant None)
@@ -247,20 +247,20 @@ confirmed rows offset common since meant ys v p first means moved kept = rw is_s
 
     whole : line_in v ≡ sendings.Part (command_with 7 false q.command) ∷ behind q v.elements
     whole =
-        ap (λ (owed : List Answer). map sendings.Answer owed
+        ap (λ (owed : List AsduAnswer). map sendings.Answer owed
         ++ (map sendings.News older ++ from_answer v.asked v.elements)) none.0
         ∙ (ap (λ (xs : List Observation). map sendings.News xs ++ from_answer v.asked v.elements) none.1 ∙ from)
 
     part_is : p ≡ command_with 7 false q.command
     part_is = ap of (sym first ∙ ap (λ (l : List Sending). slice_get l 0) whole)
       where
-        of : Option Sending → Outgoing
+        of : Option Sending → OwnAsdu
         of (Some (sendings.Part part)) = part
         of _ = p
 
     is_said : parts_in meant ≡ as_told common (command_with 7 false q.command) ∷ []
     is_said =
-        ap parts_in (subst (λ (part : Outgoing). MeansSending offset common (sendings.Part part) meant) part_is means)
+        ap parts_in (subst (λ (part : OwnAsdu). MeansSending offset common (sendings.Part part) meant) part_is means)
         ∙ rw kept.watched.kind refl
 
     mark : since_of v.asked ≡ since
@@ -292,19 +292,19 @@ kept_put_out rows offset common since None meant ys v puts kept = by puts.sendin
     by (sendings.News x) is = unheard_put_out rows offset common since meant ys v puts (ap is_part is) kept
     by (sendings.Confirm signal) is = unheard_put_out rows offset common since meant ys v puts (ap is_part is) kept
     by sendings.Test is = unheard_put_out rows offset common since meant ys v puts (ap is_part is) kept
-    by sendings.Receipt is = unheard_put_out rows offset common since meant ys v puts (ap is_part is) kept
+    by sendings.SFormat is = unheard_put_out rows offset common since meant ys v puts (ap is_part is) kept
 
 -- ---- an ASDU is taken
 
 -- its answers join the others
-abbrev pub taken : List Answer → View → View
+abbrev pub taken : List AsduAnswer → View → View
 taken more v = record v { owed = v.owed ++ more }
 
 -- an interrogation begins by it
 abbrev pub begun : Interrogation → View → View
 begun q v = record v { asked = Some q }
 
-pub kept_taken : (rows : List Row) (since : ℕ) (told : Option (List Observation)) (more : List Answer) (v : View)
+pub kept_taken : (rows : List Row) (since : ℕ) (told : Option (List Observation)) (more : List AsduAnswer) (v : View)
     → AllByRecursion (IsShown rows v.log) (waiting_in (map sendings.Answer more)) → IsKept rows v since told
     → IsKept rows (taken more v) since told
 kept_taken rows since None more v shown kept = record { watched = kept.watched; knows = kept.knows }
@@ -353,7 +353,7 @@ pub record IsNew (rows : List Row) (v : View) (q : Interrogation) : Type 0 where
 new_left : (rows : List Row) (v : View) (q : Interrogation) → IsNew rows v q
     → waiting_in (map sendings.Part (left_of (Some q))) ≡ filter (is_asked_by q.command.action) (picture_of rows v.log)
 new_left rows v q is =
-    ap (λ (said : List Outgoing). waiting_in (map sendings.Part (drop (length said) (answer_to q.command q.rows)))) is.said
+    ap (λ (said : List OwnAsdu). waiting_in (map sendings.Part (drop (length said) (answer_to q.command q.rows)))) is.said
     ∙ (waiting_answer q.command q.rows ∙ ap (filter (is_asked_by q.command.action)) is.rows_are)
 
 new_from : (rows : List Row) (v : View) (q : Interrogation) → IsNew rows v q
@@ -407,7 +407,7 @@ whole_line v none =
     let older : List Observation = items_of is_queued (take s v.elements) in
     waiting_line v.owed v.asked v.elements
     ∙ (ap (λ (xs : List Observation). answers ++ (older ++ xs)) (waiting_from v.asked v.elements)
-    ∙ (ap (λ (parts : List Outgoing). answers ++ (older ++ (waiting_in (map sendings.Part parts) ++ items_of is_queued (drop s v.elements)))) none
+    ∙ (ap (λ (parts : List OwnAsdu). answers ++ (older ++ (waiting_in (map sendings.Part parts) ++ items_of is_queued (drop s v.elements)))) none
     ∙ ap (λ (xs : List Observation). answers ++ xs)
     (sym (items_of-append is_queued (take s v.elements) (drop s v.elements))
     ∙ ap (items_of is_queued) (take-append-drop s v.elements))))

@@ -6,7 +6,7 @@ use Rattle.gw_translate.specs.Example.{good}
 use Rattle.gw_picture.specs.Example.{observation_at, unknown}
 use Rattle.iec_command.specs.declared.command.Command.{Command}
 use Rattle.iec_command.specs.declared.command.Action.TheVariants as actions
-use Rattle.gw_answers.specs.declared.outgoing.Outgoing.{Outgoing}
+use Rattle.gw_answers.specs.declared.outgoing.OwnAsdu.{OwnAsdu}
 use Rattle.gw_answers.specs.Example.{act}
 use Rattle.gw_steps.specs.Example.{setup}
 use Rattle.gw_history.specs.Example.{pumped}
@@ -30,7 +30,7 @@ analog_read = observation_at 4201 (Scaled (pos 7)) good
 abbrev pub command : Command
 command = act (actions.Interrogation 20)
 
-abbrev pub said_of : Option Interrogation → List Outgoing
+abbrev pub said_of : Option Interrogation → List OwnAsdu
 said_of None = []
 said_of (Some q) = q.said
 

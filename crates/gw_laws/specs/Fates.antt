@@ -3,7 +3,7 @@ use Rattle.std.specs.Prelude.{ℕ, zero, suc, ◌+◌, ◌-◌, Bool, true, fals
 use Rattle.gw_model.specs.declared.observation.Observation.{Observation}
 use Rattle.gw_entries.specs.Setup.{StationSetup}
 use Rattle.gw_answers.specs.Meaning.{Meant, Tells, Commands, Unread}
-use Rattle.gw_steps.specs.Said.{Said, Numbered, Receipt, Function}
+use Rattle.gw_steps.specs.Said.{ApduMeaning, IFormat, SFormat, UFormat}
 use Rattle.gw_history.specs.Life.{Turn, Idle, PutsOut}
 
 -- ---- news that are put out
@@ -15,10 +15,10 @@ spontaneous_of common (Tells asdu) =
 spontaneous_of common (Commands command) = []
 spontaneous_of common (Unread octets) = []
 
-abbrev pub spontaneous_in : ℕ → Said → List Observation
-spontaneous_in common (Numbered ns nr meant) = spontaneous_of common meant
-spontaneous_in common (Receipt nr) = []
-spontaneous_in common (Function signal) = []
+abbrev pub spontaneous_in : ℕ → ApduMeaning → List Observation
+spontaneous_in common (IFormat ns nr meant) = spontaneous_of common meant
+spontaneous_in common (SFormat nr) = []
+spontaneous_in common (UFormat signal) = []
 
 -- ---- fates
 

@@ -11,14 +11,14 @@ use Rattle.iec_command.specs.declared.command.Action.{Action}
 use Rattle.iec_command.specs.declared.command.Action.TheVariants as actions
 use Rattle.gw_judge.specs.declared.judging.Judged.{Judged}
 use Rattle.gw_judge.specs.declared.judging.Judged.TheVariants.{Accepted}
-use Rattle.gw_answers.specs.declared.outgoing.Outgoing.{Outgoing}
-use Rattle.gw_answers.specs.declared.outgoing.Outgoing.TheVariants as outgoing
+use Rattle.gw_answers.specs.declared.outgoing.OwnAsdu.{OwnAsdu}
+use Rattle.gw_answers.specs.declared.outgoing.OwnAsdu.TheVariants as outgoing
 use Rattle.gw_answers.specs.Outgoing.{at_station}
 use Rattle.gw_answers.specs.Interrogations.{is_accepted_act, answer_to}
 use Rattle.gw_answers.specs.Meaning.{Meant, Tells, Commands, Unread}
 use Rattle.gw_station.specs.Frames.{judged_asdu}
 use Rattle.gw_steps.specs.Runs.{Entry}
-use Rattle.gw_steps.specs.Said.{Numbered}
+use Rattle.gw_steps.specs.Said.{IFormat}
 use Rattle.gw_history.specs.Life.{Turn, Takes, PutsOut, session, turns_in, OfEachLife}
 use Rattle.gw_laws.specs.Fates.{fates}
 
@@ -29,7 +29,7 @@ pub record Interrogation : Type 0 where
   pub since : ℕ
   pub rows : List Observation
   -- what was put out of its answer
-  pub said : List Outgoing
+  pub said : List OwnAsdu
 
 -- ---- what is put out of an answer
 
@@ -39,12 +39,13 @@ is_interrogation (actions.CounterInterrogation qualifier) = true
 is_interrogation _ = false
 
 -- the station's confirmation (7) or termination (10) of an interrogation, not negative
-abbrev pub parts_of_command : Command → List Outgoing
+abbrev pub parts_of_command : Command → List OwnAsdu
 parts_of_command c =
-    if is_interrogation c.action && not c.negative && (c.cause == 7 || c.cause == 10) then outgoing.Command c ∷ [] else []
+    if is_interrogation c.action && not c.negative && (c.cause == 7 || c.cause == 10)
+    then outgoing.Command c ∷ [] else []
 
 -- observations of cause 20 (interrogated by station interrogation) or 37 (requested by general counter request)
-abbrev pub parts_in : Meant → List Outgoing
+abbrev pub parts_in : Meant → List OwnAsdu
 parts_in (Tells asdu) =
     if asdu.cause == 20 || asdu.cause == 37 then
     map (outgoing.Observation asdu.cause asdu.originator) asdu.observations
@@ -52,7 +53,7 @@ parts_in (Tells asdu) =
 parts_in (Commands c) = parts_of_command c
 parts_in (Unread octets) = []
 
-abbrev pub is_termination : Outgoing → Bool
+abbrev pub is_termination : OwnAsdu → Bool
 is_termination (outgoing.Command c) = c.cause == 10
 is_termination (outgoing.Observation cause originator x) = false
 
@@ -64,12 +65,12 @@ is_pending (Some q) = not (list_any is_termination q.said)
 -- ---- the answer that it gets
 
 -- a part as it is put out, by the station with this common address
-abbrev pub as_told : ℕ → Outgoing → Outgoing
+abbrev pub as_told : ℕ → OwnAsdu → OwnAsdu
 as_told common (outgoing.Command c) = outgoing.Command (at_station common c)
 as_told common (outgoing.Observation cause originator x) = outgoing.Observation cause originator x
 
 -- the confirmation, what the picture showed of what is asked, and the termination
-abbrev pub answer_told : ℕ → Interrogation → List Outgoing
+abbrev pub answer_told : ℕ → Interrogation → List OwnAsdu
 answer_told common q = map (as_told common) (answer_to q.command q.rows)
 
 -- ---- the interrogation of a session
@@ -91,20 +92,20 @@ abbrev pub interrogation : Setup → List Turn → Option Interrogation
 interrogation setup [] = None
 interrogation setup (Takes (I ns nr asdu) taking ∷ ts) =
     begun (length (fates setup.station ts)) taking.picture (judged_asdu setup asdu) (interrogation setup ts)
-interrogation setup (PutsOut (Numbered ns nr meant) ∷ ts) =
+interrogation setup (PutsOut (IFormat ns nr meant) ∷ ts) =
     option_map (interrogation_telling meant) (interrogation setup ts)
 interrogation setup (_ ∷ ts) = interrogation setup ts
 
 -- ---- the law
 
 -- what was put out is the front of its answer, and all of it once it isn't pending
-pub record IsAnswered (setup : Setup) (q : Interrogation) : Type 0 where
-  pub rest : List Outgoing
+pub record IsAnsweredInOrder (setup : Setup) (q : Interrogation) : Type 0 where
+  pub rest : List OwnAsdu
   pub in_order : q.said ++ rest ≡ answer_told setup.station.common_address q
   pub whole : is_pending (Some q) ≡ false → rest ≡ []
 
 abbrev pub AnswersInterrogation : Setup → List Turn → Type 0
-AnswersInterrogation setup ts = IfSome (interrogation setup (turns_in (session ts))) (IsAnswered setup)
+AnswersInterrogation setup ts = IfSome (interrogation setup (turns_in (session ts))) (IsAnsweredInOrder setup)
 
 abbrev pub Interrogations : Setup → List Entry → Type 0
 Interrogations setup past = OfEachLife (AnswersInterrogation setup) setup past

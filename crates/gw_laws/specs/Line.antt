@@ -7,9 +7,9 @@ use Rattle.gw_map.specs.Settings.{Setup}
 use Rattle.iec_apci.specs.declared.apdu.Asdu.{Asdu}
 use Rattle.iec_apci.specs.declared.apdu.Apdu.TheVariants.{I}
 use Rattle.gw_judge.specs.declared.judging.Judged.{Judged}
-use Rattle.gw_answers.specs.declared.outgoing.Answer.{Answer}
-use Rattle.gw_answers.specs.declared.outgoing.Answer.TheVariants.{Made}
-use Rattle.gw_answers.specs.declared.outgoing.Outgoing.{Outgoing}
+use Rattle.gw_answers.specs.declared.outgoing.AsduAnswer.{AsduAnswer}
+use Rattle.gw_answers.specs.declared.outgoing.AsduAnswer.TheVariants.{Made}
+use Rattle.gw_answers.specs.declared.outgoing.OwnAsdu.{OwnAsdu}
 use Rattle.gw_answers.specs.Outgoing.{confirmed, news}
 use Rattle.gw_answers.specs.Interrogations.{answer_to}
 use Rattle.gw_answers.specs.Answers.{answered, command_by}
@@ -19,7 +19,7 @@ use Rattle.gw_station.specs.declared.sending.Sending.TheVariants as sendings
 use Rattle.gw_station.specs.Answers.{is_negative, outcome_of}
 use Rattle.gw_station.specs.Frames.{judged_asdu}
 use Rattle.gw_steps.specs.Runs.{Entry}
-use Rattle.gw_steps.specs.Said.{Said, Numbered, Receipt, Function}
+use Rattle.gw_steps.specs.Said.{ApduMeaning, IFormat, SFormat, UFormat}
 use Rattle.gw_history.specs.Life.{Turn, Takes, PutsOut, session, turns_in, OfEachLife}
 use Rattle.gw_laws.specs.Fates.{Element, items_of, is_queued, fates}
 use Rattle.gw_laws.specs.Interrogations.{Interrogation, is_pending, interrogation}
@@ -27,17 +27,17 @@ use Rattle.gw_laws.specs.Interrogations.{Interrogation, is_pending, interrogatio
 -- ---- the answers to ASDUs
 
 -- what an ASDU gets at once, or by the outcome of the command for a control that it is
-abbrev pub answers_to : Setup → List Observation → Bool → Asdu → Judged → List Answer
+abbrev pub answers_to : Setup → List Observation → Bool → Asdu → Judged → List AsduAnswer
 answers_to setup picture pending asdu j =
     option_to_list (answered setup picture pending asdu j)
     ++ map (λ command. Made (confirmed (is_negative (outcome_of command)) command)) (option_to_list (command_by j))
 
 -- the answers that wait, oldest first: what is put out in an I format is the one that waits longest, where one waits
-abbrev pub owed : Setup → List Turn → List Answer
+abbrev pub owed : Setup → List Turn → List AsduAnswer
 owed setup [] = []
 owed setup (Takes (I ns nr asdu) taking ∷ ts) =
     owed setup ts ++ answers_to setup taking.picture (is_pending (interrogation setup ts)) asdu (judged_asdu setup asdu)
-owed setup (PutsOut (Numbered ns nr meant) ∷ ts) = drop 1 (owed setup ts)
+owed setup (PutsOut (IFormat ns nr meant) ∷ ts) = drop 1 (owed setup ts)
 owed setup (_ ∷ ts) = owed setup ts
 
 -- ---- the line
@@ -47,11 +47,11 @@ abbrev pub since_of : Option Interrogation → ℕ
 since_of None = 0
 since_of (Some q) = q.since
 
-abbrev pub left_of : Option Interrogation → List Outgoing
+abbrev pub left_of : Option Interrogation → List OwnAsdu
 left_of None = []
 left_of (Some q) = drop (length q.said) (answer_to q.command q.rows)
 
-abbrev pub line_with : List Answer → Option Interrogation → List Element → List Sending
+abbrev pub line_with : List AsduAnswer → Option Interrogation → List Element → List Sending
 line_with owed q elements =
     map sendings.Answer owed
     ++ (map sendings.News (items_of is_queued (take (since_of q) elements))
@@ -75,10 +75,10 @@ pub record IsFirst (setup : Setup) (line : List Sending) (meant : Meant) : Type 
   pub first : slice_get line 0 ≡ Some sending
   pub means : MeansSending setup.station.offset_minutes setup.station.common_address sending meant
 
-abbrev pub SaysFirst : Setup → List Sending → Said → Type 0
-SaysFirst setup line (Numbered ns nr meant) = IsFirst setup line meant
-SaysFirst setup line (Receipt nr) = Unit {0}
-SaysFirst setup line (Function signal) = Unit {0}
+abbrev pub SaysFirst : Setup → List Sending → ApduMeaning → Type 0
+SaysFirst setup line (IFormat ns nr meant) = IsFirst setup line meant
+SaysFirst setup line (SFormat nr) = Unit {0}
+SaysFirst setup line (UFormat signal) = Unit {0}
 
 -- what is put out last in an I format is the first of what waited before
 abbrev pub KeepsLine : Setup → List Turn → Type 0

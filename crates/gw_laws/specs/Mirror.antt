@@ -13,16 +13,16 @@ use Rattle.iec_command.specs.declared.command.Action.{Action}
 use Rattle.iec_command.specs.declared.command.Action.TheVariants as actions
 use Rattle.gw_judge.specs.declared.judging.Judged.{Judged}
 use Rattle.gw_judge.specs.declared.judging.Judged.TheVariants.{Accepted}
-use Rattle.gw_answers.specs.declared.outgoing.Answer.TheVariants.{Made}
-use Rattle.gw_answers.specs.declared.outgoing.Outgoing.{Outgoing}
-use Rattle.gw_answers.specs.declared.outgoing.Outgoing.TheVariants as outgoing
+use Rattle.gw_answers.specs.declared.outgoing.AsduAnswer.TheVariants.{Made}
+use Rattle.gw_answers.specs.declared.outgoing.OwnAsdu.{OwnAsdu}
+use Rattle.gw_answers.specs.declared.outgoing.OwnAsdu.TheVariants as outgoing
 use Rattle.gw_answers.specs.Interrogations.{is_total, is_accepted_act}
 use Rattle.gw_answers.specs.Meaning.{Meant, Tells, Commands, Unread}
 use Rattle.gw_station.specs.declared.sending.Sending.{Sending}
 use Rattle.gw_station.specs.declared.sending.Sending.TheVariants as sendings
 use Rattle.gw_station.specs.Frames.{judged_asdu}
 use Rattle.gw_steps.specs.Runs.{Entry}
-use Rattle.gw_steps.specs.Said.{Numbered}
+use Rattle.gw_steps.specs.Said.{IFormat}
 use Rattle.gw_history.specs.Log.{log_of}
 use Rattle.gw_history.specs.Life.{Turn, Takes, PutsOut, session, OfEachLife}
 use Rattle.gw_laws.specs.Fates.{Element, items_of, is_dropped, fates}
@@ -71,7 +71,7 @@ waiting_in (s ∷ line) = observations_of s ++ waiting_in line
 -- ---- what is told
 
 -- the first confirmation of an interrogation that is put out is its own, since no other is accepted before
-abbrev pub is_confirmed_by : List Outgoing → Bool
+abbrev pub is_confirmed_by : List OwnAsdu → Bool
 is_confirmed_by (outgoing.Command c ∷ parts) = c.cause == 7
 is_confirmed_by _ = false
 
@@ -82,7 +82,7 @@ told_with meant (Some told) = Some (told ++ observations_in meant)
 -- the observations put out in turns, from the first confirmation of an interrogation on; none before that
 abbrev pub told : List Turn → Option (List Observation)
 told [] = None
-told (PutsOut (Numbered ns nr meant) ∷ ts) = told_with meant (told ts)
+told (PutsOut (IFormat ns nr meant) ∷ ts) = told_with meant (told ts)
 told (_ ∷ ts) = told ts
 
 -- ---- an act

@@ -1,4 +1,4 @@
--- News: at each place of a run the picture is that of the log, and for each client's session the observations that
+-- News: at each point of a run the picture is that of the log, and for each client's session the observations that
 -- were put out with cause 3 (spontaneous), followed by those queued, are the news since its STARTDT, in order, less
 -- those dropped. An I format is put out in a session alone, and carries what a station may say.
 use Rattle.std.specs.Prelude.{◌≡◌, ◌⊎◌, ℕ, ◌≤◌, ◌==◌, true, ◌||◌, IsTrue, is_some, List, ◌∷◌, ◌++◌, length, IfSome}
@@ -10,7 +10,7 @@ use Rattle.iec_command.specs.declared.command.Command.{Command}
 use Rattle.gw_answers.specs.Meaning.{Meant, Tells, Commands, Unread, ComesBack}
 use Rattle.gw_station.specs.Client.{Client, is_started}
 use Rattle.gw_steps.specs.Runs.{Entry, state_after}
-use Rattle.gw_steps.specs.Said.{Numbered}
+use Rattle.gw_steps.specs.Said.{IFormat}
 use Rattle.gw_history.specs.Log.{log_of}
 use Rattle.gw_history.specs.Life.{Turn, PutsOut, life, session, turns_in, OfEachLife}
 use Rattle.gw_history.specs.Premises.{client_at}
@@ -47,7 +47,7 @@ pub record TellsNews (station : StationSetup) (hs : List Turn) (k : Client) : Ty
 
 -- an I format is put out in a session alone, and carries what the station says
 abbrev pub Speaks : StationSetup → List Turn → Type 0
-Speaks station (PutsOut (Numbered ns nr meant) ∷ ts) =
+Speaks station (PutsOut (IFormat ns nr meant) ∷ ts) =
     (is_some (session ts) ≡ true) × IsOfStation station.common_address meant
 Speaks station _ = Unit {0}
 

@@ -5,7 +5,7 @@ use Rattle.std.specs.Prelude.{◌≡◌, ℕ, ◌+◌, ◌%◌, ◌<◌, ◌≤�
 use Rattle.gw_map.specs.Settings.{Setup}
 use Rattle.iec_apci.specs.declared.apdu.Apdu.TheVariants.{I, S}
 use Rattle.gw_steps.specs.Runs.{Entry}
-use Rattle.gw_steps.specs.Said.{Said, Numbered, Receipt, Function}
+use Rattle.gw_steps.specs.Said.{ApduMeaning, IFormat, SFormat, UFormat}
 use Rattle.gw_history.specs.Life.{Turn, Takes, PutsOut, OfEachLife}
 
 -- ---- what was taken and put out
@@ -13,7 +13,7 @@ use Rattle.gw_history.specs.Life.{Turn, Takes, PutsOut, OfEachLife}
 -- how many I formats were put out
 abbrev pub sent : List Turn → ℕ
 sent [] = 0
-sent (PutsOut (Numbered ns nr meant) ∷ ts) = sent ts + 1
+sent (PutsOut (IFormat ns nr meant) ∷ ts) = sent ts + 1
 sent (_ ∷ ts) = sent ts
 
 -- how many I formats were taken
@@ -32,7 +32,7 @@ last_receive_number (_ ∷ ts) = last_receive_number ts
 -- ---- what N(R) names
 
 -- of so many I formats that were sent, a number names n: the latest count that has it
-pub record Names (nr sent n : ℕ) : Type 0 where
+pub record NamesCount (nr sent n : ℕ) : Type 0 where
   pub not_more : n ≤ sent
   pub latest : sent < n + 32768
   pub number : nr ≡ n % 32768
@@ -40,26 +40,26 @@ pub record Names (nr sent n : ℕ) : Type 0 where
 -- at most k of those put out lie beyond the client's last N(R)
 pub record KeepsWindow (k : ℕ) (ts : List Turn) : Type 0 where
   pub acknowledged : ℕ
-  pub named : Names (last_receive_number ts) (sent ts) acknowledged
+  pub named : NamesCount (last_receive_number ts) (sent ts) acknowledged
   pub within : sent ts ≤ acknowledged + k
 
 -- a number names no fewer than the client's last N(R), and no more than were put out
 pub record IsRightReceive (ts : List Turn) (nr : ℕ) : Type 0 where
   pub acknowledged : ℕ
   pub count : ℕ
-  pub last : Names (last_receive_number ts) (sent ts) acknowledged
-  pub named : Names nr (sent ts) count
+  pub last : NamesCount (last_receive_number ts) (sent ts) acknowledged
+  pub named : NamesCount nr (sent ts) count
   pub not_fewer : acknowledged ≤ count
 
 -- ---- the law
 
 -- what is put out behind so many I formats, where so many were taken
-abbrev pub SaysNumbers : ℕ → ℕ → Said → Type 0
-SaysNumbers sent taken (Numbered ns nr meant) = (ns ≡ sent % 32768) × (nr ≡ taken % 32768)
-SaysNumbers sent taken (Receipt nr) = nr ≡ taken % 32768
-SaysNumbers sent taken (Function signal) = Unit {0}
+abbrev pub SaysNumbers : ℕ → ℕ → ApduMeaning → Type 0
+SaysNumbers sent taken (IFormat ns nr meant) = (ns ≡ sent % 32768) × (nr ≡ taken % 32768)
+SaysNumbers sent taken (SFormat nr) = nr ≡ taken % 32768
+SaysNumbers sent taken (UFormat signal) = Unit {0}
 
--- what is put out last has the numbers of its place
+-- what is put out last has the numbers that are due then
 abbrev pub HasNumbers : List Turn → Type 0
 HasNumbers [] = Unit {0}
 HasNumbers (PutsOut said ∷ ts) = SaysNumbers (sent ts) (taken ts) said

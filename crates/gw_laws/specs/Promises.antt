@@ -1,4 +1,4 @@
--- What the core promises at each place of a run.
+-- What the core promises at each point of a run.
 use Rattle.std.specs.Prelude.{List}
 use Rattle.gw_map.specs.Settings.{Setup}
 use Rattle.gw_steps.specs.Carried.{AreMeant}

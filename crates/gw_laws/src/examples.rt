@@ -1,6 +1,6 @@
 //! A worked run, told by the definitions.
 ghost use Rattle.std.specs.Prelude.{◌≡◌, [], ◌∷◌, map, true, false, Some, None};
-ghost use Rattle.gw_answers.specs.declared.outgoing.Outgoing.TheVariants.{Observation as Told};
+ghost use Rattle.gw_answers.specs.declared.outgoing.OwnAsdu.TheVariants.{Observation as Told};
 ghost use Rattle.gw_answers.specs.Outgoing.{at_station, command_with};
 ghost use Rattle.gw_station.specs.declared.sending.Sending.TheVariants.{News, Part};
 ghost use Rattle.gw_station.specs.Example.{switched_on};

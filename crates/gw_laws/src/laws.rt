@@ -7,7 +7,7 @@ ghost use Rattle.gw_steps.specs.Runs.{AtEach, Entry};
 ghost use Rattle.gw_history.specs.Premises.{IsSoundRun};
 ghost use Rattle.gw_laws.specs.Promises.{Promises};
 
-/// At each place of a run all promises hold.
+/// At each point of a run all promises hold.
 pub fn runs_keep_promises()
     ensures { (setup : Setup) (past : List Entry) → IsSoundRun setup past → AtEach (Promises setup) past }
 {}

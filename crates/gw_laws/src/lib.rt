@@ -1,4 +1,4 @@
-//! What the core promises of every run of the step relation, at each of its places: laws on each client's life and
+//! What the core promises of every run of the step relation, at each of its points: laws on each client's life and
 //! session, and on steps. `specs/Promises.antt` lists them; each has a file of its own.
 #![tactic(auto)]
 

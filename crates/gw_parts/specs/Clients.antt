@@ -1,10 +1,8 @@
 -- What is asked of the clients.
 use Rattle.std.specs.Prelude.{ℕ, ◌+◌, ◌^◌, ◌<◌, Bool, false, ◌&&◌, is_some, length, Option, Some, None}
-use Rattle.std.specs.List.{AllByRecursion}
 use Rattle.gw_map.specs.Settings.{Setup}
 use Rattle.iec_apci.specs.declared.apdu.Apdu.{Apdu}
 use Rattle.iec_window.specs.Counts.{sent_in_all}
-use Rattle.gw_answers.specs.Octets.{IsReturnable}
 use Rattle.gw_station.specs.Client.{Client, is_up}
 use Rattle.gw_station.specs.Frames.{event_of}
 use Rattle.gw_station.specs.Pump.{given, offered}
@@ -29,10 +27,9 @@ has_offer moment (Some k) = is_up k.stage && is_some (offered moment k)
 pub record CanCount (k : Client) : Type 0 where
   pub received : k.window.received + 1 < 2 ^ 64
 
--- one more I format that is sent can be counted in 64 bits, and the answers that wait can be spelled
+-- one more I format that is sent can be counted in 64 bits
 pub record CanPump (k : Client) : Type 0 where
   pub sent : sent_in_all k.window + 1 < 2 ^ 64
-  pub answers : AllByRecursion IsReturnable k.answers
 
 -- how many news wait at a place, and how many were dropped
 abbrev pub queued_at : Option Client → ℕ

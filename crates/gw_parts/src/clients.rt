@@ -362,7 +362,7 @@ fn tick_all(stations: &mut [Station], moment: u64) -> u8
 {
     let mut closed = 0;
     for position in 0..stations.len() {
-        closed += u8::from(stations[position].tick(moment)) << position;
+        closed += u8::from(stations[position].tick(moment).is_some()) << position;
     }
     closed
 }

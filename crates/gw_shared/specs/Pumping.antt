@@ -10,7 +10,7 @@ use Rattle.gw_steps.specs.declared.step.StepFault.{StepFault}
 use Rattle.gw_steps.specs.declared.step.StepFault.TheVariants.{Spent}
 use Rattle.gw_steps.specs.State.{State}
 use Rattle.gw_steps.specs.Steps.{Allowed}
-use Rattle.gw_steps.specs.Sound.{IsSound}
+use Rattle.gw_steps.specs.Sound.{IsSoundState}
 use Rattle.gw_shared.specs.declared.pumped.Pumped.{Pumped}
 use Rattle.gw_shared.specs.declared.pumped.Pumped.TheVariants.{Ended, More}
 
@@ -27,7 +27,7 @@ joined (apdu ∷ more) = octets_in apdu ++ joined more
 pub record IsPumped (client : ℕ) (reply : Result Reply StepFault) : Type 0 where
   pub setup : Setup
   pub state : State
-  pub sound : IsSound setup state
+  pub sound : IsSoundState setup state
   pub moment : ℕ
   pub next : State
   pub allowed : Allowed setup state (Pump client moment) reply next

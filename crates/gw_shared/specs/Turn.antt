@@ -6,7 +6,7 @@ use Rattle.gw_steps.specs.declared.step.StepFault.{StepFault}
 use Rattle.gw_steps.specs.declared.step.StepFault.TheVariants.{Spent}
 use Rattle.gw_steps.specs.State.{State}
 use Rattle.gw_steps.specs.Steps.{Allowed}
-use Rattle.gw_steps.specs.Sound.{IsSound}
+use Rattle.gw_steps.specs.Sound.{IsSoundState}
 use Rattle.gw_map.specs.Settings.{Setup}
 use Rattle.gw_hub.specs.Hub.{Hub}
 use Rattle.gw_record.specs.Recording.{Recording, is_tape_full, noted, recording_off, rolled}
@@ -46,7 +46,7 @@ pub record IsNoted (hub : Hub) (old new : Recording) (actor : ℕ) (step : Step)
 -- noted; the call was counted under the lock and on the pass; its number is the count, which no earlier call of the pass
 -- had
 pub record IsTurn (old new : Core) (mine after : Pass) (step : Step) (number : ℕ) (reply : Result Reply StepFault) : Type 0 where
-  pub sound : IsSound old.hub.setup old.hub.state
+  pub sound : IsSoundState old.hub.setup old.hub.state
   pub allowed : Allowed old.hub.setup old.hub.state step reply new.hub.state
   pub setup : new.hub.setup ≡ old.hub.setup
   pub recorded : IsNoted old.hub old.recording new.recording mine.actor step reply
@@ -73,7 +73,7 @@ Steps old new mine after step answer =
 pub record IsAnswered (mine after : Pass) (step : Step) (number : ℕ) (reply : Result Reply StepFault) : Type 0 where
   pub setup : Setup
   pub state : State
-  pub sound : IsSound setup state
+  pub sound : IsSoundState setup state
   pub next : State
   pub allowed : Allowed setup state step reply next
   pub above : mine.made < number

@@ -1,6 +1,6 @@
 //! What lies under the lock.
 ghost use Rattle.std.specs.Prelude.{◌≡◌, ◌+◌, ◌<◌, ◌≤◌, false, IfOk};
-ghost use Rattle.gw_steps.specs.Sound.{IsSound};
+ghost use Rattle.gw_steps.specs.Sound.{IsSoundState};
 ghost use Rattle.gw_steps.specs.Steps.{Allowed};
 ghost use Rattle.gw_record.specs.Recording.{is_tape_full, noted};
 ghost use Rattle.gw_shared.specs.Pumping.{IsPumpedNext, IsPumpedRun};
@@ -173,7 +173,7 @@ impl<L: Ledger> Core<L> {
         requires counts { self.old.made < last_call }
         requires room { is_tape_full self.old.recording.tape ≡ false }
         ensures step { Allowed self.old.hub.setup self.old.hub.state step result.1 self.new.hub.state }
-        ensures sound { IsSound self.old.hub.setup self.old.hub.state }
+        ensures sound { IsSoundState self.old.hub.setup self.old.hub.state }
         ensures setup { self.new.hub.setup ≡ self.old.hub.setup }
         ensures noted { self.new.recording ≡ noted self.old.recording pass.old.actor step result.1 }
         ensures made { self.new.made ≡ self.old.made + 1 }

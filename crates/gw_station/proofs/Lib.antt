@@ -1,6 +1,5 @@
 pub mod All
 pub mod Queues
-pub mod Windows
 pub mod Sounds
 pub mod Line
 pub mod Moves
@@ -8,3 +7,4 @@ pub mod Answered
 pub mod Sends
 pub mod Places
 pub mod Rests
+pub mod Opens

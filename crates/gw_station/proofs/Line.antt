@@ -7,10 +7,10 @@ use Rattle.std.proofs.lemmas.Bool.{ltb-true}
 use Rattle.gw_model.specs.First.{when, first_of}
 use Rattle.gw_model.specs.declared.observation.Observation.{Observation}
 use Rattle.iec_apci.specs.declared.apdu.Signal.{Signal}
-use Rattle.iec_window.specs.Counts.{Counts}
+use Rattle.iec_window.specs.Counts.{WindowCounts}
 use Rattle.iec_window.specs.Timers.{owes_ack, owes_test}
-use Rattle.gw_answers.specs.declared.outgoing.Answer.{Answer}
-use Rattle.gw_answers.specs.declared.outgoing.Outgoing.{Outgoing}
+use Rattle.gw_answers.specs.declared.outgoing.AsduAnswer.{AsduAnswer}
+use Rattle.gw_answers.specs.declared.outgoing.OwnAsdu.{OwnAsdu}
 use Rattle.gw_answers.specs.Octets.{IsReturnable}
 use Rattle.gw_station.specs.declared.sending.Sending.{Sending}
 use Rattle.gw_station.specs.declared.sending.Sending.TheVariants as sendings
@@ -35,42 +35,42 @@ line_so P c answers queue rest =
     all-append P (map sendings.Answer c.answers) _ (all-map P sendings.Answer c.answers answers) news
 
 -- so are U and S formats
-pub offered_so : (P : Sending → Type 0) → ((signal : Signal) → P (sendings.Confirm signal)) → P sendings.Test → P sendings.Receipt
+pub offered_so : (P : Sending → Type 0) → ((signal : Signal) → P (sendings.Confirm signal)) → P sendings.Test → P sendings.SFormat
     → (moment : ℕ) (c : Client) → AllByRecursion P (line c) → IfSome (offered moment c) P
 offered_so P confirm test receipt moment c all = by_confirmation (slice_get c.confirmations 0)
   where
-    by_receipt : (owes : Bool) → IfSome (first_of (when owes sendings.Receipt ∷ [])) P
+    by_receipt : (owes : Bool) → IfSome (first_of (when owes sendings.SFormat ∷ [])) P
     by_receipt true = receipt
     by_receipt false = tt
 
-    by_first : (x : Option Sending) → IfSome x P → IfSome (first_of (x ∷ when (owes_ack moment c.window) sendings.Receipt ∷ [])) P
+    by_first : (x : Option Sending) → IfSome x P → IfSome (first_of (x ∷ when (owes_ack moment c.window) sendings.SFormat ∷ [])) P
     by_first None is = by_receipt (owes_ack moment c.window)
     by_first (Some x) is = is
 
-    by_line : (may : Bool) → IfSome (first_of (cond may (slice_get (line c) 0) None ∷ when (owes_ack moment c.window) sendings.Receipt ∷ [])) P
+    by_line : (may : Bool) → IfSome (first_of (cond may (slice_get (line c) 0) None ∷ when (owes_ack moment c.window) sendings.SFormat ∷ [])) P
     by_line true = by_first (slice_get (line c) 0) (all-first P (line c) all)
     by_line false = by_receipt (owes_ack moment c.window)
 
     by_test : (owes : Bool)
-        → IfSome (first_of (when owes sendings.Test ∷ information_offered c ∷ when (owes_ack moment c.window) sendings.Receipt ∷ [])) P
+        → IfSome (first_of (when owes sendings.Test ∷ information_offered c ∷ when (owes_ack moment c.window) sendings.SFormat ∷ [])) P
     by_test true = test
     by_test false = by_line (is_started c.stage && has_room c.window)
 
     by_confirmation : (x : Option Signal)
         → IfSome (first_of (option_map sendings.Confirm x ∷ when (owes_test moment c.window) sendings.Test ∷ information_offered c
-        ∷ when (owes_ack moment c.window) sendings.Receipt ∷ [])) P
+        ∷ when (owes_ack moment c.window) sendings.SFormat ∷ [])) P
     by_confirmation None = by_test (owes_test moment c.window)
     by_confirmation (Some signal) = confirm signal
 
 -- ---- an I format has room
 
-roomy : (w : Counts) (sending : Sending) → length w.waiting < w.limits.k → IsRoomy w sending
+roomy : (w : WindowCounts) (sending : Sending) → length w.waiting < w.limits.k → IsRoomy w sending
 roomy w (sendings.Confirm signal) room = tt
 roomy w sendings.Test room = tt
 roomy w (sendings.Answer answer) room = room
 roomy w (sendings.News x) room = room
 roomy w (sendings.Part part) room = room
-roomy w sendings.Receipt room = tt
+roomy w sendings.SFormat room = tt
 
 information_roomy : (c : Client) → IfSome (information_offered c) (IsRoomy c.window)
 information_roomy c = go (is_started c.stage) (has_room c.window) refl
@@ -88,7 +88,7 @@ pub offered_roomy : (moment : ℕ) (c : Client) → IfSome (offered moment c) (I
 offered_roomy moment c = go (slice_get c.confirmations 0) (owes_test moment c.window) (owes_ack moment c.window) (information_offered c) (information_roomy c)
   where
     go : (confirmation : Option Signal) (test ack : Bool) (information : Option Sending) → IfSome information (IsRoomy c.window)
-        → IfSome (first_of (option_map sendings.Confirm confirmation ∷ when test sendings.Test ∷ information ∷ when ack sendings.Receipt ∷ [])) (IsRoomy c.window)
+        → IfSome (first_of (option_map sendings.Confirm confirmation ∷ when test sendings.Test ∷ information ∷ when ack sendings.SFormat ∷ [])) (IsRoomy c.window)
     go (Some signal) test ack information room = tt
     go None true ack information room = tt
     go None false ack (Some sending) room = room
@@ -101,15 +101,15 @@ offered_roomy moment c = go (slice_get c.confirmations 0) (owes_test moment c.wi
 pub offered_returnable : (moment : ℕ) (c : Client) → AllByRecursion IsReturnable c.answers → IfSome (offered moment c) IsReturnableSending
 offered_returnable moment c all =
     let news = all-given (λ (x : Observation). IsReturnableSending (sendings.News x)) (λ x. tt) c.queue in
-    let parts = all-given (λ (part : Outgoing). IsReturnableSending (sendings.Part part)) (λ part. tt) c.rest in
+    let parts = all-given (λ (part : OwnAsdu). IsReturnableSending (sendings.Part part)) (λ part. tt) c.rest in
     offered_so IsReturnableSending (λ signal. tt) tt tt moment c (line_so IsReturnableSending c all news parts)
 
 -- ---- what is first
 
-pub first_answer : (c : Client) (answer : Answer) → slice_get c.answers 0 ≡ Some answer → Some (sendings.Answer answer) ≡ slice_get (line c) 0
+pub first_answer : (c : Client) (answer : AsduAnswer) → slice_get c.answers 0 ≡ Some answer → Some (sendings.Answer answer) ≡ slice_get (line c) 0
 first_answer c answer first = by c.answers first
   where
-    by : (answers : List Answer) → slice_get answers 0 ≡ Some answer → Some (sendings.Answer answer) ≡ slice_get (line (record c { answers = answers })) 0
+    by : (answers : List AsduAnswer) → slice_get answers 0 ≡ Some answer → Some (sendings.Answer answer) ≡ slice_get (line (record c { answers = answers })) 0
     by [] first = absurd cc
     by (x ∷ answers) first = ap (option_map sendings.Answer) (sym first)
 
@@ -124,11 +124,11 @@ first_older c none some waits = rw none (by c.older c.queue some waits)
     by (suc older) (x ∷ queue) some waits = refl
 
 -- a part, where neither an answer nor such news wait
-pub first_part : (c : Client) (part : Outgoing) → c.answers ≡ [] → (c.older ≤ 0) ⊎ (is_some (slice_get c.queue 0) ≡ false) → slice_get c.rest 0 ≡ Some part
+pub first_part : (c : Client) (part : OwnAsdu) → c.answers ≡ [] → (c.older ≤ 0) ⊎ (is_some (slice_get c.queue 0) ≡ false) → slice_get c.rest 0 ≡ Some part
     → Some (sendings.Part part) ≡ slice_get (line c) 0
 first_part c part none no_news first = rw none (by c.older c.queue c.rest no_news first)
   where
-    by : (older : ℕ) (queue : List Observation) (rest : List Outgoing) → (older ≤ 0) ⊎ (is_some (slice_get queue 0) ≡ false) → slice_get rest 0 ≡ Some part
+    by : (older : ℕ) (queue : List Observation) (rest : List OwnAsdu) → (older ≤ 0) ⊎ (is_some (slice_get queue 0) ≡ false) → slice_get rest 0 ≡ Some part
         → Some (sendings.Part part) ≡ slice_get (line (record c { answers = []; older = older; queue = queue; rest = rest })) 0
     by older queue [] no_news first = absurd cc
     by zero queue (x ∷ rest) no_news first = ap (option_map sendings.Part) (sym first)

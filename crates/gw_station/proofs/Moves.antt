@@ -6,8 +6,8 @@ use Rattle.gw_model.specs.declared.observation.Observation.{Observation}
 use Rattle.iec_apci.specs.declared.apdu.Signal.{Signal}
 use Rattle.iec_apci.specs.Apdu.{Content}
 use Rattle.iec_window.specs.Timers.{owes_ack, owes_test}
-use Rattle.gw_answers.specs.declared.outgoing.Answer.{Answer}
-use Rattle.gw_answers.specs.declared.outgoing.Outgoing.{Outgoing}
+use Rattle.gw_answers.specs.declared.outgoing.AsduAnswer.{AsduAnswer}
+use Rattle.gw_answers.specs.declared.outgoing.OwnAsdu.{OwnAsdu}
 use Rattle.gw_station.specs.declared.sending.Sending.{Sending}
 use Rattle.gw_station.specs.declared.sending.Sending.TheVariants as sendings
 use Rattle.gw_station.specs.Client.{Client, is_started}
@@ -27,7 +27,7 @@ quiet offset common moment c e =
   where
     by : (test started room ack : Bool) (confirmations : List Signal) (l : List Sending)
         → owes_test moment c.window ≡ test → is_started c.stage ≡ started → has_room c.window ≡ room → owes_ack moment c.window ≡ ack → c.confirmations ≡ confirmations → line c ≡ l
-        → first_of (option_map sendings.Confirm (slice_get confirmations 0) ∷ when test sendings.Test ∷ cond (started && room) (slice_get l 0) None ∷ when ack sendings.Receipt ∷ []) ≡ None
+        → first_of (option_map sendings.Confirm (slice_get confirmations 0) ∷ when test sendings.Test ∷ cond (started && room) (slice_get l 0) None ∷ when ack sendings.SFormat ∷ []) ≡ None
         → IsQuiet moment c
     by test started room ack (x ∷ xs) l et es er ea ec el e = absurd cc
     by true started room ack [] l et es er ea ec el e = absurd cc
@@ -49,7 +49,7 @@ is_first a b e = ap value e
     value (Some x) = x
 
 -- where no answer waits
-behind : (moment : ℕ) (c : Client) (first : Sending) (older : ℕ) (queue : List Observation) (rest : List Outgoing)
+behind : (moment : ℕ) (c : Client) (first : Sending) (older : ℕ) (queue : List Observation) (rest : List OwnAsdu)
     → slice_get (line (record c { answers = []; older = older; queue = queue; rest = rest })) 0 ≡ Some first
     → line (client_with_sent moment first (record c { answers = []; older = older; queue = queue; rest = rest })) ≡ drop 1 (line (record c { answers = []; older = older; queue = queue; rest = rest }))
 behind moment c first (suc n) (x ∷ queue) rest e =
@@ -72,14 +72,14 @@ behind moment c first zero [] [] e = absurd cc
 pub moves : (moment : ℕ) (c : Client) (first : Sending) → slice_get (line c) 0 ≡ Some first → line (client_with_sent moment first c) ≡ drop 1 (line c)
 moves moment c first e = go c.answers refl
   where
-    go : (answers : List Answer) → c.answers ≡ answers → line (client_with_sent moment first c) ≡ drop 1 (line c)
+    go : (answers : List AsduAnswer) → c.answers ≡ answers → line (client_with_sent moment first c) ≡ drop 1 (line c)
     go [] is =
-        let same : c ≡ record c { answers = [] } = ap (λ (xs : List Answer). record c { answers = xs }) is in
+        let same : c ≡ record c { answers = [] } = ap (λ (xs : List AsduAnswer). record c { answers = xs }) is in
         subst (λ (d : Client). line (client_with_sent moment first d) ≡ drop 1 (line d)) (sym same)
         (behind moment c first c.older c.queue c.rest (subst (λ (d : Client). slice_get (line d) 0 ≡ Some first) same e))
     go (answer ∷ answers) is =
         let d : Client = record c { answers = answer ∷ answers } in
-        let same : c ≡ d = ap (λ (xs : List Answer). record c { answers = xs }) is in
+        let same : c ≡ d = ap (λ (xs : List AsduAnswer). record c { answers = xs }) is in
         let head : slice_get (line d) 0 ≡ Some first = subst (λ (x : Client). slice_get (line x) 0 ≡ Some first) same e in
         subst (λ (x : Client). line (client_with_sent moment first x) ≡ drop 1 (line x)) (sym same)
         (subst (λ (y : Sending). line (client_with_sent moment y d) ≡ drop 1 (line d)) (is_first (sendings.Answer answer) first head) refl)

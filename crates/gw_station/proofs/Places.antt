@@ -16,15 +16,16 @@ use Rattle.iec_command.specs.declared.command.Action.TheVariants as actions
 use Rattle.gw_judge.specs.Judging.{is_execute}
 use Rattle.gw_judge.specs.declared.judging.Judged.{Judged}
 use Rattle.gw_judge.specs.declared.judging.Judged.TheVariants.{Malformed, Refuse, Accepted}
-use Rattle.gw_answers.specs.declared.outgoing.Answer.{Answer}
-use Rattle.gw_answers.specs.declared.outgoing.Answer.TheVariants.{Made}
-use Rattle.gw_answers.specs.declared.outgoing.Outgoing.TheVariants as outgoing
+use Rattle.gw_answers.specs.declared.outgoing.AsduAnswer.{AsduAnswer}
+use Rattle.gw_answers.specs.declared.outgoing.AsduAnswer.TheVariants.{Made}
+use Rattle.gw_answers.specs.declared.outgoing.OwnAsdu.TheVariants as outgoing
 use Rattle.gw_answers.specs.Interrogations.{is_accepted_act}
 use Rattle.gw_answers.specs.Answers.{places_for, refused_act, shown_at, answered_action, answered}
-use Rattle.gw_station.specs.declared.event.Why.TheVariants.{Sequence, NotStarted, Malformed as WrongForm, Flooded}
+use Rattle.gw_station.specs.declared.event.Why.TheVariants.{Flooded}
 use Rattle.gw_station.specs.Client.{Client}
 use Rattle.gw_station.specs.Answers.{is_pending, answers_with, client_judging}
 use Rattle.gw_station.specs.Frames.{floods, closes_judged, confirmations_with}
+use Rattle.gw_station.proofs.Opens.{open_i}
 
 -- ---- nothing closes
 
@@ -32,12 +33,6 @@ use Rattle.gw_station.specs.Frames.{floods, closes_judged, confirmations_with}
 pub not_flooded : (b : Bool) → first_of (when b Flooded ∷ []) ≡ None → b ≡ false
 not_flooded true e = absurd cc
 not_flooded false e = refl
-
-last_holds_not : (a b d e : Bool) → first_of (when a NotStarted ∷ when b Sequence ∷ when d WrongForm ∷ when e Flooded ∷ []) ≡ None → e ≡ false
-last_holds_not true b d e none = absurd cc
-last_holds_not false true d e none = absurd cc
-last_holds_not false false true e none = absurd cc
-last_holds_not false false false e none = not_flooded e none
 
 -- ---- confirmations
 
@@ -94,7 +89,7 @@ answered_needs setup picture pending asdu Malformed = tt
 answered_needs setup picture pending asdu (Refuse cause execute) = at_least_one execute
 answered_needs setup picture pending asdu (Accepted c) = action_needs setup picture pending c c.action refl
 
-answers_within : (answer : Option Answer) (waiting : List Answer) (n : ℕ) → IfSome answer (λ _. 1 ≤ n) → length (answers_with answer waiting) ≤ length waiting + n
+answers_within : (answer : Option AsduAnswer) (waiting : List AsduAnswer) (n : ℕ) → IfSome answer (λ _. 1 ≤ n) → length (answers_with answer waiting) ≤ length waiting + n
 answers_within None waiting n needs = omega arith
 answers_within (Some answer) waiting n needs = omega (arith, needs, length-append waiting (answer ∷ []))
 
@@ -102,6 +97,6 @@ answers_within (Some answer) waiting n needs = omega (arith, needs, length-appen
 pub answers_few : (setup : Setup) (picture : List Observation) (ns nr : ℕ) (asdu : Asdu) (j : Judged) (c : Client) → first_of (closes_judged ns nr j c) ≡ None
     → length (client_judging setup picture asdu j c).answers ≤ 32
 answers_few setup picture ns nr asdu j c taken =
-    let fits : length c.answers + places_for (is_pending c.rest) j ≤ 32 = ltb-false 32 (length c.answers + places_for (is_pending c.rest) j) (last_holds_not _ _ _ _ taken) in
+    let fits : length c.answers + places_for (is_pending c.rest) j ≤ 32 = ltb-false 32 (length c.answers + places_for (is_pending c.rest) j) (open_i ns nr j c taken).places in
     let answer = answered setup picture (is_pending c.rest) asdu j in
     omega (arith, fits, answers_within answer c.answers _ (answered_needs setup picture (is_pending c.rest) asdu j))

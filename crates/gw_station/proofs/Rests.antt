@@ -1,11 +1,11 @@
 -- What is left of an answer, behind the parts that were put out.
 use Rattle.std.proofs.Common.{◌≡◌, ◌+◌, ◌<◌, ◌≤◌, ℕ, zero, suc, true, List, [], ◌∷◌, length, drop, refl, sym, ◌∙◌, arith}
 use Rattle.std.proofs.lemmas.List.{drop-drop, drop_all}
-use Rattle.gw_answers.specs.declared.outgoing.Outgoing.{Outgoing}
+use Rattle.gw_answers.specs.declared.outgoing.OwnAsdu.{OwnAsdu}
 use Rattle.gw_station.specs.Answers.{is_pending}
 
 -- where not all parts were put out, one is left
-pub pending_before_last : (done : ℕ) (parts : List Outgoing) → done < length parts → is_pending (drop done parts) ≡ true
+pub pending_before_last : (done : ℕ) (parts : List OwnAsdu) → done < length parts → is_pending (drop done parts) ≡ true
 pending_before_last done [] more = absurd (omega (arith, more))
 pending_before_last zero (part ∷ parts) more = refl
 pending_before_last (suc done) (part ∷ parts) more = pending_before_last done parts (omega (arith, more))

@@ -11,11 +11,11 @@ use Rattle.iec_command.specs.declared.command.Command.{Command}
 use Rattle.iec_command.specs.declared.command.Action.{Action}
 use Rattle.iec_command.specs.declared.command.Action.TheVariants as actions
 use Rattle.iec_command.specs.Commands.{spelling as command_spelling, cause_octet}
-use Rattle.iec_window.specs.Counts.{Counts}
-use Rattle.gw_answers.specs.declared.outgoing.Answer.{Answer}
-use Rattle.gw_answers.specs.declared.outgoing.Answer.TheVariants.{Returned, Made}
-use Rattle.gw_answers.specs.declared.outgoing.Outgoing.{Outgoing}
-use Rattle.gw_answers.specs.declared.outgoing.Outgoing.TheVariants as outgoing
+use Rattle.iec_window.specs.Counts.{WindowCounts}
+use Rattle.gw_answers.specs.declared.outgoing.AsduAnswer.{AsduAnswer}
+use Rattle.gw_answers.specs.declared.outgoing.AsduAnswer.TheVariants.{Returned, Made}
+use Rattle.gw_answers.specs.declared.outgoing.OwnAsdu.{OwnAsdu}
+use Rattle.gw_answers.specs.declared.outgoing.OwnAsdu.TheVariants as outgoing
 use Rattle.gw_answers.specs.Outgoing.{at_station, news}
 use Rattle.gw_answers.specs.Octets.{octets_in, answer_octets, outgoing_octets}
 use Rattle.gw_station.specs.declared.sending.Sending.{Sending}
@@ -42,22 +42,22 @@ command_short c (actions.Interrogation qualifier) = omega arith
 command_short c (actions.CounterInterrogation qualifier) = omega arith
 command_short c actions.Read = omega arith
 
-outgoing_short : (offset : ℤ) (common : ℕ) (x : Outgoing) → length (outgoing_octets offset common x) ≤ 249
+outgoing_short : (offset : ℤ) (common : ℕ) (x : OwnAsdu) → length (outgoing_octets offset common x) ≤ 249
 outgoing_short offset common (outgoing.Command c) = omega (arith, command_short (at_station common c) c.action)
 outgoing_short offset common (outgoing.Observation cause originator x) =
     omega (arith, length-set (spelling offset common cause x) 3 originator, spelling_short offset common cause x)
 
-answer_short : (offset : ℤ) (common : ℕ) (answer : Answer) → length (answer_octets offset common answer) ≤ 249
+answer_short : (offset : ℤ) (common : ℕ) (answer : AsduAnswer) → length (answer_octets offset common answer) ≤ 249
 answer_short offset common (Returned asdu cause) =
     let came : List ℕ = octets_in asdu in
     let back = cause_octet cause true (is_set 7 (slice_index came 2)) in
     omega (arith, length-set came 2 back, length-take asdu.len asdu.octets, asdu.fits)
 answer_short offset common (Made x) = outgoing_short offset common x
 
-pub content_fits : (offset : ℤ) (common : ℕ) (w : Counts) (sending : Sending) → Fits (content_of offset common w sending)
+pub content_fits : (offset : ℤ) (common : ℕ) (w : WindowCounts) (sending : Sending) → Fits (content_of offset common w sending)
 content_fits offset common w (sendings.Confirm signal) = tt
 content_fits offset common w sendings.Test = tt
 content_fits offset common w (sendings.Answer answer) = (omega arith, omega arith, answer_short offset common answer)
 content_fits offset common w (sendings.News x) = (omega arith, omega arith, outgoing_short offset common (news x))
 content_fits offset common w (sendings.Part part) = (omega arith, omega arith, outgoing_short offset common part)
-content_fits offset common w sendings.Receipt = omega arith
+content_fits offset common w sendings.SFormat = omega arith

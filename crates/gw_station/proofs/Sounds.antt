@@ -18,16 +18,16 @@ use Rattle.gw_station.specs.declared.event.Why.{Why}
 use Rattle.iec_command.specs.declared.command.Command.{Command}
 use Rattle.iec_command.specs.Commands.{IsWhole}
 use Rattle.iec_window.specs.declared.limits.Limits.{Limits}
-use Rattle.iec_window.specs.Counts.{Counts}
+use Rattle.iec_window.specs.Counts.{WindowCounts}
 use Rattle.iec_window.specs.Sequence.{is_right_send, is_right_receive, new_acknowledgements}
 use Rattle.iec_window.specs.Steps.{counts_at_start, counts_after_right_s, counts_after_right_i, counts_after_s, counts_after_i, counts_after_sending_s, counts_after_sending_i, counts_after_sending_test}
 use Rattle.gw_map.specs.Settings.{Setup}
 use Rattle.gw_station.specs.declared.event.Said.{Said}
-use Rattle.gw_answers.specs.declared.outgoing.Answer.{Answer}
-use Rattle.gw_answers.specs.declared.outgoing.Answer.TheVariants.{Made}
+use Rattle.gw_answers.specs.declared.outgoing.AsduAnswer.{AsduAnswer}
+use Rattle.gw_answers.specs.declared.outgoing.AsduAnswer.TheVariants.{Made}
 use Rattle.gw_answers.specs.Outgoing.{confirmed}
 use Rattle.gw_answers.proofs.Sendable.{confirmed_can}
-use Rattle.gw_answers.specs.declared.outgoing.Outgoing.{Outgoing}
+use Rattle.gw_answers.specs.declared.outgoing.OwnAsdu.{OwnAsdu}
 use Rattle.gw_answers.specs.Meaning.{CanSendAnswer, CanSendOutgoing, IsSendable}
 use Rattle.gw_station.specs.declared.sending.Sending.{Sending}
 use Rattle.gw_station.specs.declared.sending.Sending.TheVariants as sendings
@@ -39,7 +39,7 @@ use Rattle.gw_station.specs.Sound.{CanAnswer, IsSoundClient, IsSoundWindow}
 use Rattle.gw_station.proofs.All.{all-append, all-drop}
 use Rattle.gw_station.proofs.Places.{answers_few, confirmations_few, not_flooded}
 use Rattle.gw_station.proofs.Line.{offered_roomy}
-use Rattle.gw_station.proofs.Windows.{right_sent, sent_one_more}
+use Rattle.iec_window.proofs.Right.{right_sent, sent_one_more}
 
 pub sendable-append : (offset : ℤ) (xs ys : List Observation) → AllByRecursion (IsSendable offset) xs → AllByRecursion (IsSendable offset) ys
     → AllByRecursion (IsSendable offset) (xs ++ ys)
@@ -47,7 +47,7 @@ sendable-append offset xs ys ax ay = all-append (IsSendable offset) xs ys ax ay
 
 -- ---- a window
 
-window_later : (station : StationSetup) (n m : ℕ) (w : Counts) → n ≤ m → IsSoundWindow station n w → IsSoundWindow station m w
+window_later : (station : StationSetup) (n m : ℕ) (w : WindowCounts) → n ≤ m → IsSoundWindow station n w → IsSoundWindow station m w
 window_later station n m w le sound = record {
   limits = sound.limits;
   waiting = sound.waiting;
@@ -56,7 +56,7 @@ window_later station n m w le sound = record {
 }
 
 -- a right N(R) came
-window_after_right : (station : StationSetup) (n nr moment : ℕ) (w : Counts) → is_right_receive nr w ≡ true → IsSoundWindow station n w → IsSoundWindow station n (counts_after_right_s nr moment w)
+window_after_right : (station : StationSetup) (n nr moment : ℕ) (w : WindowCounts) → is_right_receive nr w ≡ true → IsSoundWindow station n w → IsSoundWindow station n (counts_after_right_s nr moment w)
 window_after_right station n nr moment w right sound = record {
   limits = sound.limits;
   waiting = omega (arith, length-drop (new_acknowledgements nr w) w.waiting, sound.waiting);
@@ -64,14 +64,14 @@ window_after_right station n nr moment w right sound = record {
   sent = omega (arith, right_sent nr moment w right, sound.sent);
 }
 
-window_after_s : (station : StationSetup) (n nr moment : ℕ) (w : Counts) → IsSoundWindow station n w → IsSoundWindow station n (counts_after_s nr moment w)
+window_after_s : (station : StationSetup) (n nr moment : ℕ) (w : WindowCounts) → IsSoundWindow station n w → IsSoundWindow station n (counts_after_s nr moment w)
 window_after_s station n nr moment w sound = elim (cases_Bool (is_right_receive nr w)) [
   | inl right ↦ rw right (window_after_right station n nr moment w right sound)
   | inr wrong ↦ rw wrong sound
 ]
 
 -- an I format came in a step
-window_after_i : (station : StationSetup) (n ns nr moment : ℕ) (w : Counts) → IsSoundWindow station n w → IsSoundWindow station (n + 1) (counts_after_i ns nr moment w)
+window_after_i : (station : StationSetup) (n ns nr moment : ℕ) (w : WindowCounts) → IsSoundWindow station n w → IsSoundWindow station (n + 1) (counts_after_i ns nr moment w)
 window_after_i station n ns nr moment w sound = elim (cases_Bool (is_right_send ns w)) [
   | inl next ↦ elim (cases_Bool (is_right_receive nr w)) [
     | inl right ↦ rw (next, right) (one_more (window_after_right station n nr moment w right sound))
@@ -87,7 +87,7 @@ window_after_i station n ns nr moment w sound = elim (cases_Bool (is_right_send 
     one_more after = record { limits = after.limits; waiting = after.waiting; received = omega (arith, after.received); sent = omega (arith, after.sent) }
 
 -- an I format was sent in a step, where one may be sent
-window_after_sending : (station : StationSetup) (n moment : ℕ) (w : Counts) → length w.waiting < w.limits.k → IsSoundWindow station n w
+window_after_sending : (station : StationSetup) (n moment : ℕ) (w : WindowCounts) → length w.waiting < w.limits.k → IsSoundWindow station n w
     → IsSoundWindow station (n + 1) (counts_after_sending_i moment w)
 window_after_sending station n moment w room sound = record {
   limits = sound.limits;
@@ -112,7 +112,7 @@ sound_later station n m i j c le few sound = record {
   rest = sound.rest;
 }
 
-with_window : (station : StationSetup) (n m i : ℕ) (w : Counts) (c : Client) → IsSoundWindow station m w → IsSoundClient station n i c → IsSoundClient station m i (record c { window = w })
+with_window : (station : StationSetup) (n m i : ℕ) (w : WindowCounts) (c : Client) → IsSoundWindow station m w → IsSoundClient station n i c → IsSoundClient station m i (record c { window = w })
 with_window station n m i w c window sound = record {
   window = window;
   confirmations = sound.confirmations;
@@ -139,7 +139,7 @@ with_confirmations station n i waiting c few sound = record {
 }
 
 -- what answers it, and how many of the queue came before the interrogation that is pending
-with_answers : (station : StationSetup) (n i older : ℕ) (answers : List Answer) (rest : List Outgoing) (c : Client)
+with_answers : (station : StationSetup) (n i older : ℕ) (answers : List AsduAnswer) (rest : List OwnAsdu) (c : Client)
     → length answers ≤ 32 → AllByRecursion (CanSendAnswer station.offset_minutes) answers → AllByRecursion (CanSendOutgoing station.offset_minutes) rest → IsSoundClient station n i c
     → IsSoundClient station n i (record c { answers = answers; older = older; rest = rest })
 with_answers station n i older answers rest c few can can_rest sound = record {
@@ -231,13 +231,13 @@ with_session station n i StartCon c sound = sound
 with_session station n i StopCon c sound = sound
 with_session station n i TestCon c sound = sound
 
-window_after_signal : (station : StationSetup) (n moment : ℕ) (signal : Signal) (w : Counts) → IsSoundWindow station n w → IsSoundWindow station n (window_with_signal moment signal w)
+window_after_signal : (station : StationSetup) (n moment : ℕ) (signal : Signal) (w : WindowCounts) → IsSoundWindow station n w → IsSoundWindow station n (window_with_signal moment signal w)
 window_after_signal station n moment TestCon w sound = record { limits = sound.limits; waiting = sound.waiting; received = sound.received; sent = sound.sent }
 window_after_signal station n moment _ w sound = record { limits = sound.limits; waiting = sound.waiting; received = sound.received; sent = sound.sent }
 
 with_signal : (station : StationSetup) (n i moment : ℕ) (signal : Signal) (c : Client) → floods signal c ≡ false → IsSoundClient station n i c → IsSoundClient station n i (client_with_signal moment signal c)
 with_signal station n i moment signal c fits sound =
-    let w : Counts = window_with_signal moment signal c.window in
+    let w : WindowCounts = window_with_signal moment signal c.window in
     with_confirmations station n i (confirmations_with (confirmation_of signal) c.confirmations) (record (client_with_session signal c) { window = w })
     (confirmations_few signal c fits sound.confirmations)
     (with_window station n n i w (client_with_session signal c) (window_after_signal station n moment signal c.window sound.window) (with_session station n i signal c sound))
@@ -266,9 +266,9 @@ sound_after_apdu station n i setup picture moment a c answers sound = go (close_
 
 -- something was said of a command, for which there is a place
 pub sound_told : (station : StationSetup) (n i : ℕ) (said : Said) (command : Command) (c : Client) → IsWhole command → length c.answers < 32 → IsSoundClient station n i c
-    → IsSoundClient station n i (client_told said command c)
+    → IsSoundClient station n i (client_told command said c)
 sound_told station n i said command c whole room sound =
-    let answers : List Answer = (client_told said command c).answers in
+    let answers : List AsduAnswer = (client_told command said c).answers in
     with_answers station n i c.older answers c.rest c (omega (arith, room, length-append c.answers (Made (confirmed (is_negative said) command) ∷ [])))
     (all-append (CanSendAnswer station.offset_minutes) c.answers _ sound.answers (confirmed_can station.offset_minutes (is_negative said) command whole, tt)) sound.rest sound
 
@@ -311,7 +311,7 @@ sound_after_pump station n i moment c sound = go (offered moment c) (offered_roo
     go (Some (sendings.Part part)) room =
         numbered (record c { rest = drop 1 c.rest }) room
         (with_answers station (n + 1) i c.older c.answers (drop 1 c.rest) c sound.places sound.answers (all-drop (CanSendOutgoing station.offset_minutes) 1 c.rest sound.rest) later)
-    go (Some sendings.Receipt) room =
+    go (Some sendings.SFormat) room =
         let w = later.window in
         with_window station (n + 1) (n + 1) i (counts_after_sending_s c.window) c (record { limits = w.limits; waiting = w.waiting; received = w.received; sent = w.sent }) later
 

@@ -6,9 +6,9 @@ use Rattle.iec_apci.specs.declared.apdu.Asdu.{Asdu}
 use Rattle.iec_command.specs.declared.command.Command.{Command}
 use Rattle.gw_judge.specs.declared.judging.Judged.{Judged}
 use Rattle.gw_judge.specs.declared.judging.Judged.TheVariants.{Accepted}
-use Rattle.gw_answers.specs.declared.outgoing.Answer.{Answer}
-use Rattle.gw_answers.specs.declared.outgoing.Answer.TheVariants.{Made}
-use Rattle.gw_answers.specs.declared.outgoing.Outgoing.{Outgoing}
+use Rattle.gw_answers.specs.declared.outgoing.AsduAnswer.{AsduAnswer}
+use Rattle.gw_answers.specs.declared.outgoing.AsduAnswer.TheVariants.{Made}
+use Rattle.gw_answers.specs.declared.outgoing.OwnAsdu.{OwnAsdu}
 use Rattle.gw_answers.specs.Outgoing.{confirmed}
 use Rattle.gw_answers.specs.Interrogations.{is_accepted_act, answer_to}
 use Rattle.gw_answers.specs.Answers.{answered}
@@ -17,12 +17,12 @@ use Rattle.gw_station.specs.declared.event.Said.TheVariants.{Confirm, Negative}
 use Rattle.gw_station.specs.Client.{Client}
 
 -- an interrogation is pending: something is left of its answer
-abbrev pub is_pending : List Outgoing → Bool
+abbrev pub is_pending : List OwnAsdu → Bool
 is_pending [] = false
 is_pending (part ∷ rest) = true
 
 -- answers, one more where there is one
-abbrev pub answers_with : Option Answer → List Answer → List Answer
+abbrev pub answers_with : Option AsduAnswer → List AsduAnswer → List AsduAnswer
 answers_with None waiting = waiting
 answers_with (Some answer) waiting = waiting ++ answer ∷ []
 
@@ -36,7 +36,7 @@ abbrev pub older_with : Judged → Bool → Client → ℕ
 older_with j true c = length c.queue
 older_with j false c = c.older
 
-abbrev pub rest_with : List Observation → Judged → Bool → Client → List Outgoing
+abbrev pub rest_with : List Observation → Judged → Bool → Client → List OwnAsdu
 rest_with picture (Accepted command) true c = answer_to command picture
 rest_with picture _ _ c = c.rest
 
@@ -57,5 +57,5 @@ abbrev pub is_negative : Said → Bool
 is_negative Confirm = false
 is_negative Negative = true
 
-abbrev pub client_told : Said → Command → Client → Client
-client_told said command c = record c { answers = c.answers ++ Made (confirmed (is_negative said) command) ∷ [] }
+abbrev pub client_told : Command → Said → Client → Client
+client_told command said c = record c { answers = c.answers ++ Made (confirmed (is_negative said) command) ∷ [] }

@@ -1,35 +1,38 @@
 -- A client's part of the core's state, as its contracts see it.
-use Rattle.std.specs.Prelude.{ℕ, ◌+◌, ◌-◌, Bool, true, false, ◌&&◌, List, [], ◌++◌, length, if◌then◌else◌}
+use Rattle.std.specs.Prelude.{ℕ, ◌+◌, ◌-◌, Bool, true, false, ◌&&◌, List, [], ◌++◌, length, Option, if◌then◌else◌}
 use Rattle.circular_buffer.specs.Buffer.{keep_last}
+use Rattle.gw_model.specs.First.{when}
 use Rattle.gw_model.specs.declared.observation.Observation.{Observation}
 use Rattle.gw_entries.specs.Setup.{StationSetup}
 use Rattle.iec_apci.specs.declared.apdu.Signal.{Signal}
 use Rattle.iec_window.specs.declared.limits.Limits.{Limits}
-use Rattle.iec_window.specs.Counts.{Counts}
+use Rattle.iec_window.specs.Counts.{WindowCounts}
 use Rattle.iec_window.specs.Steps.{counts_at_start}
-use Rattle.iec_window.specs.Timers.{ran_out}
-use Rattle.gw_answers.specs.declared.outgoing.Answer.{Answer}
-use Rattle.gw_answers.specs.declared.outgoing.Outgoing.{Outgoing}
+use Rattle.iec_window.specs.Timers.{t1_passed}
+use Rattle.gw_answers.specs.declared.outgoing.AsduAnswer.{AsduAnswer}
+use Rattle.gw_answers.specs.declared.outgoing.OwnAsdu.{OwnAsdu}
 use Rattle.gw_station.specs.declared.client.Stage.{Stage}
 use Rattle.gw_station.specs.declared.client.Stage.TheVariants.{Down, Stopped, Started}
+use Rattle.gw_station.specs.declared.event.Why.{Why}
+use Rattle.gw_station.specs.declared.event.Why.TheVariants.{Timer}
 
 pub record Client : Type 0 where
   pub stage : Stage
   -- what was sent and received, and since when the timers run
-  pub window : Counts
+  pub window : WindowCounts
   -- confirmations of U formats that wait to be put out, oldest first
   pub confirmations : List Signal
   -- how many news may wait
   pub limit : ℕ
   -- of a started client: the answers to its ASDUs that wait, oldest first
-  pub answers : List Answer
+  pub answers : List AsduAnswer
   -- the news that wait, oldest first, and how many were dropped
   pub queue : List Observation
   pub dropped : ℕ
   -- of the interrogation that is pending: how many of the queue came before it, and what is left of its answer; nothing
   -- is left where none is pending
   pub older : ℕ
-  pub rest : List Outgoing
+  pub rest : List OwnAsdu
 
 abbrev pub is_up : Stage → Bool
 is_up Down = false
@@ -90,7 +93,11 @@ client_with_news xs c = record c {
 
 -- t1 has passed for a client that is up
 abbrev pub is_timed_out : ℕ → Client → Bool
-is_timed_out moment c = is_up c.stage && ran_out moment c.window
+is_timed_out moment c = is_up c.stage && t1_passed moment c.window
+
+-- why time that has passed closes the connection, if it does
+abbrev pub close_by_tick : ℕ → Client → Option Why
+close_by_tick moment c = when (is_timed_out moment c) Timer
 
 -- time has passed
 abbrev pub client_after_tick : ℕ → Client → Client

@@ -80,7 +80,8 @@ overflown = client_with_news (switched_on ∷ switched_off ∷ switched_off ∷ 
 -- two news were put out at moment 0, and an I format came
 abbrev pub narrow_full : Client
 narrow_full =
-    taking 0 (I 0 0 command ∷ []) (pumped 0 2 (client_with_news (switched_on ∷ switched_on ∷ switched_on ∷ []) (started_from narrow)))
+    taking 0 (I 0 0 command ∷ [])
+    (pumped 0 2 (client_with_news (switched_on ∷ switched_on ∷ switched_on ∷ []) (started_from narrow)))
 
 -- so many TESTFR acts came
 abbrev pub tested : ℕ → Client → Client

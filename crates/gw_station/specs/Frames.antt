@@ -9,7 +9,7 @@ use Rattle.iec_apci.specs.declared.apdu.Apdu.TheVariants.{I, S, U}
 use Rattle.iec_apci.specs.declared.apdu.Signal.{Signal}
 use Rattle.iec_apci.specs.declared.apdu.Signal.TheVariants.{StartAct, StopAct, TestCon}
 use Rattle.iec_apci.specs.Apdu.{confirmation_of}
-use Rattle.iec_window.specs.Counts.{Counts}
+use Rattle.iec_window.specs.Counts.{WindowCounts}
 use Rattle.iec_window.specs.Sequence.{is_right_send, is_right_receive}
 use Rattle.iec_window.specs.Steps.{counts_after_frame, counts_after_s, counts_after_i, counts_after_confirmation}
 use Rattle.iec_command.specs.declared.command.Command.{Command}
@@ -76,7 +76,7 @@ client_with_session StopAct c =
 client_with_session _ c = c
 
 -- TESTFR con ends the t1 of the test; t3 runs anew from every one
-abbrev pub window_with_signal : ℕ → Signal → Counts → Counts
+abbrev pub window_with_signal : ℕ → Signal → WindowCounts → WindowCounts
 window_with_signal moment TestCon w = counts_after_confirmation moment w
 window_with_signal moment _ w = counts_after_frame moment w
 
@@ -94,7 +94,9 @@ client_with_signal moment signal c = record (client_with_session signal c) {
 -- an APDU was taken, while the picture showed this
 abbrev pub client_taking : Setup → List Observation → ℕ → Apdu → Client → Client
 client_taking setup picture moment (I ns nr asdu) c =
-    record (client_judging setup picture asdu (judged_asdu setup asdu) c) { window = counts_after_i ns nr moment c.window }
+    record (client_judging setup picture asdu (judged_asdu setup asdu) c) {
+      window = counts_after_i ns nr moment c.window;
+    }
 client_taking setup picture moment (S nr) c = record c { window = counts_after_s nr moment c.window }
 client_taking setup picture moment (U signal) c = client_with_signal moment signal c
 

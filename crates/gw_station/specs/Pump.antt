@@ -3,12 +3,12 @@ use Rattle.std.specs.Prelude.{ℕ, ℤ, ◌-◌, Bool, ◌&&◌, nat_lt, ◌<◌
 use Rattle.gw_model.specs.First.{when, first_of}
 use Rattle.iec_apci.specs.declared.apdu.Signal.TheVariants.{TestAct}
 use Rattle.iec_apci.specs.Apdu.{Content, Information, Supervisory, Unnumbered}
-use Rattle.iec_window.specs.Counts.{Counts}
+use Rattle.iec_window.specs.Counts.{WindowCounts}
 use Rattle.iec_window.specs.Sequence.{send_number, receive_number}
 use Rattle.iec_window.specs.Timers.{owes_ack, owes_test}
 use Rattle.iec_window.specs.Steps.{counts_after_sending_s, counts_after_sending_i, counts_after_sending_test}
-use Rattle.gw_answers.specs.declared.outgoing.Answer.{Answer}
-use Rattle.gw_answers.specs.declared.outgoing.Answer.TheVariants.{Made}
+use Rattle.gw_answers.specs.declared.outgoing.AsduAnswer.{AsduAnswer}
+use Rattle.gw_answers.specs.declared.outgoing.AsduAnswer.TheVariants.{Made}
 use Rattle.gw_answers.specs.Outgoing.{news}
 use Rattle.gw_answers.specs.Octets.{answer_octets}
 use Rattle.gw_station.specs.declared.sending.Sending.{Sending}
@@ -16,7 +16,7 @@ use Rattle.gw_station.specs.declared.sending.Sending.TheVariants as sendings
 use Rattle.gw_station.specs.Client.{Client, is_started}
 
 -- fewer than k I formats wait for their acknowledgement
-abbrev pub has_room : Counts → Bool
+abbrev pub has_room : WindowCounts → Bool
 has_room w = nat_lt (length w.waiting) w.limits.k
 
 -- what waits for an I format: the answers, the news that came before the interrogation that is pending, the rest of its
@@ -24,7 +24,8 @@ has_room w = nat_lt (length w.waiting) w.limits.k
 abbrev pub line : Client → List Sending
 line c =
     map sendings.Answer c.answers
-    ++ (map sendings.News (take c.older c.queue) ++ (map sendings.Part c.rest ++ map sendings.News (drop c.older c.queue)))
+    ++ (map sendings.News (take c.older c.queue)
+    ++ (map sendings.Part c.rest ++ map sendings.News (drop c.older c.queue)))
 
 -- the first of it, in a session, where an I format may be sent
 abbrev pub information_offered : Client → Option Sending
@@ -36,33 +37,33 @@ offers moment c =
     option_map sendings.Confirm (slice_get c.confirmations 0)
     ∷ when (owes_test moment c.window) sendings.Test
     ∷ information_offered c
-    ∷ when (owes_ack moment c.window) sendings.Receipt
+    ∷ when (owes_ack moment c.window) sendings.SFormat
     ∷ []
 
 abbrev pub offered : ℕ → Client → Option Sending
 offered moment c = first_of (offers moment c)
 
 -- an I format has room
-abbrev pub IsRoomy : Counts → Sending → Type 0
+abbrev pub IsRoomy : WindowCounts → Sending → Type 0
 IsRoomy w (sendings.Confirm signal) = Unit {0}
 IsRoomy w sendings.Test = Unit {0}
 IsRoomy w (sendings.Answer answer) = length w.waiting < w.limits.k
 IsRoomy w (sendings.News x) = length w.waiting < w.limits.k
 IsRoomy w (sendings.Part part) = length w.waiting < w.limits.k
-IsRoomy w sendings.Receipt = Unit {0}
+IsRoomy w sendings.SFormat = Unit {0}
 
 -- an I format with this ASDU
-abbrev pub information : ℤ → ℕ → Counts → Answer → Content
+abbrev pub information : ℤ → ℕ → WindowCounts → AsduAnswer → Content
 information offset common w answer = Information (send_number w) (receive_number w) (answer_octets offset common answer)
 
 -- what it carries
-abbrev pub content_of : ℤ → ℕ → Counts → Sending → Content
+abbrev pub content_of : ℤ → ℕ → WindowCounts → Sending → Content
 content_of offset common w (sendings.Confirm signal) = Unnumbered signal
 content_of offset common w sendings.Test = Unnumbered TestAct
 content_of offset common w (sendings.Answer answer) = information offset common w answer
 content_of offset common w (sendings.News x) = information offset common w (Made (news x))
 content_of offset common w (sendings.Part part) = information offset common w (Made part)
-content_of offset common w sendings.Receipt = Supervisory (receive_number w)
+content_of offset common w sendings.SFormat = Supervisory (receive_number w)
 
 -- what is put out next at a moment, if anything
 abbrev pub given : ℤ → ℕ → ℕ → Client → Option Content
@@ -78,7 +79,7 @@ client_with_sent moment (sendings.News x) c =
     record c { window = counts_after_sending_i moment c.window; queue = drop 1 c.queue; older = c.older - 1 }
 client_with_sent moment (sendings.Part part) c =
     record c { window = counts_after_sending_i moment c.window; rest = drop 1 c.rest }
-client_with_sent moment sendings.Receipt c = record c { window = counts_after_sending_s c.window }
+client_with_sent moment sendings.SFormat c = record c { window = counts_after_sending_s c.window }
 
 abbrev pub client_by_offer : ℕ → Option Sending → Client → Client
 client_by_offer moment None c = c

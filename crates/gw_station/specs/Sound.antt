@@ -4,7 +4,7 @@ use Rattle.std.specs.Prelude.{◌≡◌, ℕ, ℤ, ◌+◌, ◌^◌, ◌<◌, �
 use Rattle.std.specs.List.{AllByRecursion}
 use Rattle.gw_entries.specs.Setup.{StationSetup}
 use Rattle.iec_command.specs.Commands.{IsWhole}
-use Rattle.iec_window.specs.Counts.{Counts, sent_in_all}
+use Rattle.iec_window.specs.Counts.{WindowCounts, sent_in_all}
 use Rattle.gw_answers.specs.Octets.{IsReturnable}
 use Rattle.gw_answers.specs.Meaning.{CanSendAnswer, CanSendOutgoing, IsSendable}
 use Rattle.gw_station.specs.declared.event.Event.{Event}
@@ -25,7 +25,7 @@ CanSend offset (sendings.News x) = IsSendable offset x
 CanSend offset (sendings.Part part) = CanSendOutgoing offset part
 CanSend offset _ = Unit {0}
 
--- a command that an APDU carried has the bits of its places
+-- a command that an APDU carried has fields that fit
 abbrev pub IsWholeEvent : Event → Type 0
 IsWholeEvent (events.Command command) = IsWhole command
 IsWholeEvent _ = Unit {0}
@@ -35,7 +35,7 @@ abbrev pub CanAnswer : ℤ → Client → Type 0
 CanAnswer offset c = AllByRecursion (CanSendAnswer offset) c.answers × AllByRecursion (CanSendOutgoing offset) c.rest
 
 -- after so many steps: at most k I formats wait for their acknowledgement
-pub record IsSoundWindow (station : StationSetup) (steps : ℕ) (w : Counts) : Type 0 where
+pub record IsSoundWindow (station : StationSetup) (steps : ℕ) (w : WindowCounts) : Type 0 where
   pub limits : w.limits ≡ limits_of station
   pub waiting : length w.waiting ≤ station.k
   pub received : w.received ≤ steps

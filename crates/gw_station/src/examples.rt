@@ -77,7 +77,8 @@ pub fn numbered_formats()
     ensures second_receive { close_of setup (I 0 1 cut) started ≡ Some Sequence }
     ensures third { close_of setup (I 0 0 cut) started ≡ Some Malformed }
     ensures none { close_of setup (I 0 0 header_alone) started ≡ None }
-    ensures repeated { close_of setup (I 0 0 header_alone) (taking 0 (I 0 0 header_alone ∷ []) started) ≡ Some Sequence }
+    ensures repeated { close_of setup (I 0 0 header_alone) (taking 0 (I 0 0 header_alone ∷ []) started)
+        ≡ Some Sequence }
     // An S format is judged by its number alone, started or not.
     ensures receipt { close_of setup (S 0) connected ≡ None }
     ensures beyond { close_of setup (S 1) connected ≡ Some Sequence }

@@ -2,24 +2,24 @@
 ghost use Rattle.std.specs.Prelude.{◌≡◌, [], drop, slice_get, IfOk};
 ghost use Rattle.gw_station.specs.Answers.{is_pending};
 
-use gw_answers::Outgoing;
+use gw_answers::OwnAsdu;
 use gw_model::Memory;
 use std::marker::Model;
 use std::sync::ArcSlice;
 
 /// The parts that aren't put out yet. Copies share them, for they never change.
 #[derive(Debug, Drop)]
-pub struct Rest {
+pub struct PartsLeft {
     /// All parts of the answer, as long as one is left.
-    parts: Option<ArcSlice<Outgoing>>,
+    parts: Option<ArcSlice<OwnAsdu>>,
     /// How many of them were put out.
     done: usize,
 }
 
-impl Model for Rest {
+impl Model for PartsLeft {
     ghost use Rattle.std.specs.Prelude.{List, length, option_map, ◌<◌, IfSome};
     ghost use Rattle.std.specs.Arc.{arc_slice_items};
-    ghost use Rattle.gw_answers.specs.declared.outgoing.Outgoing.{Outgoing as Left};
+    ghost use Rattle.gw_answers.specs.declared.outgoing.OwnAsdu.{OwnAsdu as Left};
     ghost use Rattle.gw_station.specs.Kept.{parts_left};
 
     ghost Value = { List Left };
@@ -30,37 +30,37 @@ impl Model for Rest {
     ghost invariant = { λ r. IfSome r.parts (λ parts. r.done < length (arc_slice_items parts)) };
 }
 
-impl Rest {
+impl PartsLeft {
     /// No answer is pending.
-    pub fn none() -> Rest
+    pub fn none() -> PartsLeft
         ensures { result ≡ [] }
     {
-        Rest {
+        PartsLeft {
             parts: None,
             done: 0,
         }
     }
 
     /// All parts of an answer.
-    pub fn of(parts: Vec<Outgoing>) -> Result<Rest, Memory>
+    pub fn of(parts: Vec<OwnAsdu>) -> Result<PartsLeft, Memory>
         ensures { IfOk result (λ rest. rest ≡ parts.items) }
     {
         if parts.is_empty() {
-            return Ok(Rest::none());
+            return Ok(PartsLeft::none());
         }
         let parts = Some(ArcSlice::from_vec(parts)?);
-        Ok(Rest { parts, done: 0 })
+        Ok(PartsLeft { parts, done: 0 })
     }
 
     /// The same parts.
-    pub fn copy(&self) -> Result<Rest, Memory>
+    pub fn copy(&self) -> Result<PartsLeft, Memory>
         ensures { IfOk result (λ rest. rest ≡ self.now) }
     {
         let parts = match &self.parts {
             None => None,
             Some(parts) => Some(parts.clone()?),
         };
-        Ok(Rest {
+        Ok(PartsLeft {
             parts,
             done: self.done,
         })
@@ -75,7 +75,7 @@ impl Rest {
     }
 
     /// The first that is left.
-    pub fn first(&self) -> Option<Outgoing>
+    pub fn first(&self) -> Option<OwnAsdu>
         ensures { result ≡ slice_get self.now 0 }
     {
         match &self.parts {
@@ -93,7 +93,7 @@ impl Rest {
             if self.done + 1 < parts.len() {
                 self.done += 1;
             } else {
-                *self = Rest::none();
+                *self = PartsLeft::none();
             }
         }
     }

@@ -1,6 +1,6 @@
 //! What can be put out to a client.
 
-use gw_answers::{Answer, Outgoing};
+use gw_answers::{AsduAnswer, OwnAsdu};
 use gw_model::Observation;
 use iec_apci::Signal;
 
@@ -12,11 +12,11 @@ pub enum Sending {
     /// TESTFR act: t3 has passed.
     Test,
     /// The answer to an ASDU of the client, in I format.
-    Answer(Answer),
+    Answer(AsduAnswer),
     /// The oldest news, in I format.
     News(Observation),
     /// A part of the answer to an interrogation, in I format.
-    Part(Outgoing),
+    Part(OwnAsdu),
     /// An S format: w I formats were received, or t2 has passed.
-    Receipt,
+    SFormat,
 }

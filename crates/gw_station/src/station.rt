@@ -8,8 +8,8 @@ ghost use Rattle.iec_window.specs.Counts.{sent_in_all};
 ghost use Rattle.iec_window.specs.Sequence.{receive_number, send_number};
 ghost use Rattle.iec_window.specs.Steps.{counts_after_sending_i};
 ghost use Rattle.gw_station.specs.Answers.{client_judging, client_told, is_asking, is_pending};
-ghost use Rattle.gw_station.specs.Client.{client_after_close, client_after_tick, client_after_up, client_anew, client_down, client_with_news, is_started, is_timed_out, is_up};
-ghost use Rattle.gw_station.specs.Frames.{asks, begins, client_after_apdu, client_with_session, client_with_signal, closes_judged, event_of, floods, given_command, overfills, wants_memory, HasPlace};
+ghost use Rattle.gw_station.specs.Client.{client_after_close, client_after_tick, client_after_up, client_anew, client_down, client_with_news, close_by_tick, is_started, is_up};
+ghost use Rattle.gw_station.specs.Frames.{asks, begins, client_after_apdu, client_with_session, client_with_signal, closes_judged, event_of, floods, given_command, judged_asdu, overfills, wants_memory, HasPlace};
 ghost use Rattle.circular_buffer.specs.Buffer.{buffer};
 ghost use Rattle.gw_station.specs.Kept.{items_in, IsQueue};
 ghost use Rattle.gw_station.specs.Pump.{client_after_pump, client_with_sent, content_of, given, information, information_offered, line, offered, IsRoomy};
@@ -23,11 +23,11 @@ ghost use Rattle.iec_apci.specs.declared.apdu.Signal.TheVariants as signals;
 
 use crate::client::Stage;
 use crate::event::{Event, Said, Why};
-use crate::rest::Rest;
+use crate::rest::PartsLeft;
 use crate::sending::Sending;
 use circular_buffer::HeapCircularBuffer;
 use gw_answers::{
-    Answer, Outgoing, answer_asdu, answer_to, answered, command_by, confirmed, is_accepted_act,
+    AsduAnswer, OwnAsdu, answer_asdu, answer_to, answered, command_by, confirmed, is_accepted_act,
     places_for,
 };
 use gw_judge::{Judged, judge};
@@ -55,7 +55,7 @@ pub struct Station {
     /// Confirmations of U formats that wait, oldest first.
     confirmations: VecDeque<Signal>,
     /// The answers to its ASDUs that wait, oldest first.
-    answers: VecDeque<Answer>,
+    answers: VecDeque<AsduAnswer>,
     /// How many news may wait.
     limit: usize,
     /// In a session: the news that aren't put out yet, oldest first.
@@ -65,12 +65,14 @@ pub struct Station {
     /// How many of the queue came before the interrogation that is pending.
     older: usize,
     /// What is left of its answer.
-    rest: Rest,
+    rest: PartsLeft,
 }
 
 impl Model for Station {
     ghost use Rattle.std.specs.Prelude.{◌≤◌, length};
+    ghost use Rattle.std.specs.List.{AllByRecursion};
     ghost use Rattle.std.specs.VecDeque.{deque_capacity};
+    ghost use Rattle.gw_answers.specs.Octets.{IsReturnable};
     ghost use Rattle.gw_station.specs.Client.{Client};
     ghost use Rattle.gw_station.specs.Kept.{items_in, IsQueue};
 
@@ -88,10 +90,11 @@ impl Model for Station {
       rest = s.rest;
     } };
 
-    // There is room for 32 confirmations and 32 answers, and in a session for the news that may wait.
+    // There is room for 32 confirmations, for 32 answers, which can be spelled, and in a session for the news that may
+    // wait.
     ghost invariant = { λ s. (length s.confirmations.items ≤ 32) × (32 ≤ deque_capacity s.confirmations)
         × (length s.answers.items ≤ 32) × (32 ≤ deque_capacity s.answers)
-        × IsQueue s.limit s.stage s.queue };
+        × AllByRecursion IsReturnable s.answers.items × IsQueue s.limit s.stage s.queue };
 }
 
 impl Station {
@@ -113,7 +116,7 @@ impl Station {
             queue: None,
             dropped: 0,
             older: 0,
-            rest: Rest::none(),
+            rest: PartsLeft::none(),
         })
     }
 
@@ -215,7 +218,7 @@ impl Station {
         self.answers.clear();
         self.dropped = 0;
         self.older = 0;
-        self.rest = Rest::none();
+        self.rest = PartsLeft::none();
     }
 
     /// Whether a session would begin by an APDU.
@@ -262,7 +265,7 @@ impl Station {
         // Its answers can be sent, where they could before, and the picture's observations can.
         ensures sendable { (offset : ℤ) → AllByRecursion (IsSendable offset) picture.now → CanAnswer offset self.old
             → OnOk result (CanAnswer offset self.new) }
-        // A command that is given has the bits of its places.
+        // A command that is given has fields that fit.
         ensures whole { IfOk result (λ event. IsWholeEvent event) }
         ensures memory { OnErr result (wants_memory settings.now apdu.now self.old ≡ true) }
         ensures same { OnErr result (self.new ≡ self.old) }
@@ -295,11 +298,11 @@ impl Station {
     /// Says something of a command for a control that `frame` gave.
     pub fn answer(&mut self, command: &Command, said: Said)
         requires { length self.old.answers < 32 }
-        ensures { self.new ≡ client_told said command.now self.old }
+        ensures { self.new ≡ client_told command.now said self.old }
     {
         let negative = said == Said::Negative;
         let confirmation = confirmed(negative, command);
-        self.answers.push_back_reserved(Answer::Made(confirmation));
+        self.answers.push_back_reserved(AsduAnswer::Made(confirmation));
     }
 
     /// Takes news: they join the queue of a started client, and the oldest are dropped where too many would wait.
@@ -329,8 +332,7 @@ impl Station {
     /// that came before the interrogation that is pending, the next part of its answer, or later news; an S format
     /// where one is due.
     pub fn pump(&mut self, settings: &Settings, moment: u64) -> Option<ApduBuf>
-        requires count { sent_in_all self.old.window + 1 < 2 ^ 64 }
-        requires answers { AllByRecursion IsReturnable self.old.answers }
+        requires { sent_in_all self.old.window + 1 < 2 ^ 64 }
         ensures apdu { result ≡ option_map buffer_of
             (given settings.now.station.offset_minutes settings.now.station.common_address moment self.old) }
         ensures client { self.new ≡ client_after_pump moment self.old }
@@ -339,16 +341,17 @@ impl Station {
         Some(self.send(sending, settings, moment))
     }
 
-    /// Time has passed: whether the connection is closed, since t1 ran out.
-    pub fn tick(&mut self, moment: u64) -> bool
-        ensures closed { result ≡ is_timed_out moment self.old }
+    /// Time has passed: why the connection is closed, if it is.
+    pub fn tick(&mut self, moment: u64) -> Option<Why>
+        ensures closed { result ≡ close_by_tick moment self.old }
         ensures client { self.new ≡ client_after_tick moment self.old }
     {
-        let is_timed_out = self.is_up() && self.window.ran_out(moment);
-        if is_timed_out {
+        if self.is_up() && self.window.t1_passed(moment) {
             self.down();
+            Some(Why::Timer)
+        } else {
+            None
         }
-        is_timed_out
     }
 
     fn is_started(&self) -> bool
@@ -378,13 +381,13 @@ impl Station {
         if !self.is_started() {
             return Some(Why::NotStarted);
         }
-        if !(self.window.is_right_send(ns) && self.window.is_right_receive(nr)) {
+        if self.window.check_numbers(ns, nr).is_err() {
             return Some(Why::Sequence);
         }
         if *judged == Judged::Malformed {
             return Some(Why::Malformed);
         }
-        if self.answers.len() + places_for(judged, self.is_pending()) > MOST_ANSWERS {
+        if self.answers.len() + places_for(self.is_pending(), judged) > MOST_ANSWERS {
             return Some(Why::Flooded);
         }
         None
@@ -415,7 +418,7 @@ impl Station {
         // Its answers can be sent, where they could before, and the picture's observations can.
         ensures sendable { (offset : ℤ) → AllByRecursion (IsSendable offset) picture.now → CanAnswer offset self.old
             → OnOk result (CanAnswer offset self.new) }
-        // A command that is given has the bits of its places.
+        // A command that is given has fields that fit.
         ensures whole { IfOk result (λ event. IsWholeEvent event) }
         ensures memory { OnErr result (asks settings.now (formats.I ns nr asdu.now) self.old ≡ true) }
         ensures same { OnErr result (self.new ≡ self.old) }
@@ -424,25 +427,25 @@ impl Station {
         if let Some(why) = self.close_by_information(ns, nr, &judged) {
             return Ok(self.close(why));
         }
-        self.take_asdu(asdu, &judged, settings, picture)?;
-        // Both numbers were judged before.
-        let _ = self.window.received(ns, nr, moment);
+        self.take_asdu(settings, picture, asdu, &judged)?;
+        self.window.received(ns, nr, moment);
         Ok(match command_by(&judged) {
             Some(command) => Event::Command(command),
             None => Event::Taken,
         })
     }
 
-    /// Takes an ASDU for whose answer there are places: an interrogation that is accepted copies the picture, all else is
-    /// answered at once, or waits for what is said of it.
+    /// Takes an ASDU for whose answer there are places: an interrogation that is accepted copies the picture, all else
+    /// is answered at once, or waits for what is said of it.
     fn take_asdu(
         &mut self,
-        asdu: &Asdu,
-        judged: &Judged,
         settings: &Settings,
         picture: &[Observation],
+        asdu: &Asdu,
+        judged: &Judged,
     ) -> Result<(), Memory>
-        requires { overfills judged.now self.old ≡ false }
+        requires judged { judged.now ≡ judged_asdu settings.now asdu.now }
+        requires room { overfills judged.now self.old ≡ false }
         ensures client { OnOk result
             (self.new ≡ client_judging settings.now picture.now asdu.now judged.now self.old) }
         ensures memory { OnErr result (is_asking judged.now self.old ≡ true) }
@@ -450,13 +453,13 @@ impl Station {
     {
         let pending = self.is_pending();
         if let Judged::Accepted(command) = judged {
-            if is_accepted_act(command, pending) {
-                self.rest = Rest::of(answer_to(self.alloc, command, picture)?)?;
+            if is_accepted_act(pending, command) {
+                self.rest = PartsLeft::of(answer_to(self.alloc, command, picture)?)?;
                 self.older = self.queued();
                 return Ok(());
             }
         }
-        if let Some(answer) = answered(asdu, judged, pending, settings, picture) {
+        if let Some(answer) = answered(settings, picture, pending, asdu, judged) {
             self.answers.push_back_reserved(answer);
         }
         Ok(())
@@ -502,6 +505,8 @@ impl Station {
     fn offered(&self, moment: u64) -> Option<Sending>
         ensures sending { result ≡ offered moment self.now }
         ensures room { IfSome result (IsRoomy self.now.window) }
+        // What the type keeps.
+        ensures answers { AllByRecursion IsReturnable self.now.answers }
     {
         if let Some(signal) = self.confirmations.front() {
             return Some(Sending::Confirm(*signal));
@@ -511,7 +516,7 @@ impl Station {
         }
         let information = self.information_offered();
         if information.is_none() && self.window.owes_ack(moment) {
-            return Some(Sending::Receipt);
+            return Some(Sending::SFormat);
         }
         information
     }
@@ -578,13 +583,13 @@ impl Station {
             }
             Sending::News(observation) => {
                 self.forget_news();
-                self.send_answer(&Answer::Made(Outgoing::news(observation)), settings, moment)
+                self.send_answer(&AsduAnswer::Made(OwnAsdu::news(observation)), settings, moment)
             }
             Sending::Part(part) => {
                 self.forget_part();
-                self.send_answer(&Answer::Made(part), settings, moment)
+                self.send_answer(&AsduAnswer::Made(part), settings, moment)
             }
-            Sending::Receipt => {
+            Sending::SFormat => {
                 let nr = self.window.ack_sent();
                 ApduBuf::of(&Apdu::S { nr })
             }
@@ -592,7 +597,7 @@ impl Station {
     }
 
     /// Puts out an answer, or what else goes out, in an I format.
-    fn send_answer(&mut self, answer: &Answer, settings: &Settings, moment: u64) -> ApduBuf
+    fn send_answer(&mut self, answer: &AsduAnswer, settings: &Settings, moment: u64) -> ApduBuf
         requires room { length self.old.window.waiting < self.old.window.limits.k }
         requires count { sent_in_all self.old.window + 1 < 2 ^ 64 }
         requires answer { IsReturnable answer.now }

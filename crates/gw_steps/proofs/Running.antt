@@ -15,7 +15,7 @@ use Rattle.gw_steps.specs.declared.step.StepFault.{StepFault}
 use Rattle.gw_steps.specs.State.{State, at_first, client_limit}
 use Rattle.gw_steps.specs.Steps.{Allowed}
 use Rattle.gw_steps.specs.Runs.{Entry, history, state_after, IsRun, AtEach}
-use Rattle.gw_steps.specs.Sound.{IsSound, LeavesSound}
+use Rattle.gw_steps.specs.Sound.{IsSoundState, LeavesSound}
 
 abbrev pub entry : Step → Result Reply StepFault → Entry
 entry step reply = record { step = step; reply = reply }
@@ -45,7 +45,7 @@ all_down station (suc n) = (
   all_down station n,
 )
 
-pub sound_first : (setup : Setup) → IsSound setup (at_first setup)
+pub sound_first : (setup : Setup) → IsSoundState setup (at_first setup)
 sound_first setup = record {
   picture = opening_shown setup.rows _ refl;
   rows = opening_rows setup.rows;
@@ -59,13 +59,13 @@ ran_first setup = record { run = tt; state = refl; sound = sound_first setup }
 -- ---- one step more
 
 pub ran_step : (setup : Setup) (past : List Entry) (s new : State) (step : Step) (reply : Result Reply StepFault)
-    → Allowed setup s step reply new → IsSound setup new → Ran setup past s → Ran setup (entry step reply ∷ past) new
+    → Allowed setup s step reply new → IsSoundState setup new → Ran setup past s → Ran setup (entry step reply ∷ past) new
 ran_step setup past s new step (Ok r) allowed sound so_far =
     let here : Allowed setup (state_after setup past) step (Ok r) new = subst (λ (x : State). Allowed setup x step (Ok r) new) so_far.state allowed in
-    record { run = ((here.0, refl), so_far.run); state = here.1; sound = (subst (IsSound setup) here.1 sound, so_far.sound) }
+    record { run = ((here.0, refl), so_far.run); state = here.1; sound = (subst (IsSoundState setup) here.1 sound, so_far.sound) }
 ran_step setup past s new step (Err f) allowed sound so_far =
     let here : Allowed setup (state_after setup past) step (Err f) new = subst (λ (x : State). Allowed setup x step (Err f) new) so_far.state allowed in
-    record { run = ((here.0, refl), so_far.run); state = here.1; sound = (subst (IsSound setup) here.1 sound, so_far.sound) }
+    record { run = ((here.0, refl), so_far.run); state = here.1; sound = (subst (IsSoundState setup) here.1 sound, so_far.sound) }
 
 history-push : (past : List Entry) (ss : List Step) (rs : List (Result Reply StepFault)) (s : Step) (r : Result Reply StepFault) → length ss ≡ length rs
     → history past (ss ++ s ∷ []) (rs ++ r ∷ []) ≡ entry s r ∷ history past ss rs
@@ -76,7 +76,7 @@ history-push past (x ∷ ss) (y ∷ rs) s r e = history-push (entry x y ∷ past
 
 -- one more step of a list of steps
 pub run_on : (setup : Setup) (ss : List Step) (rs more : List (Result Reply StepFault)) (i : ℕ) (step : Step) (reply : Result Reply StepFault) (s new : State)
-    → Allowed setup s step reply new → IsSound setup new → i < length ss → step ≡ get_or ss i step → length rs ≡ i → more ≡ rs ++ reply ∷ []
+    → Allowed setup s step reply new → IsSoundState setup new → i < length ss → step ≡ get_or ss i step → length rs ≡ i → more ≡ rs ++ reply ∷ []
     → Ran setup (history [] (take i ss) rs) s → Ran setup (history [] (take (i + 1) ss) more) new
 run_on setup ss rs more i step reply s new allowed sound within is len push so_far =
     let front : List Step = take i ss in

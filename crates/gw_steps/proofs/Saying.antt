@@ -7,7 +7,7 @@ use Rattle.iec_apci.specs.Buffer.{buffer_of}
 use Rattle.iec_apci.specs.Stream.{Reading, Open, reading}
 use Rattle.iec_apci.proofs.Drained.{reading_nil}
 use Rattle.iec_apci.proofs.Round.{reading-apdu}
-use Rattle.gw_steps.specs.Said.{Said, said, said_by, only_one}
+use Rattle.gw_steps.specs.Said.{ApduMeaning, said, said_by, only_one}
 
 -- an APDU's octets, as they lie in their buffer
 buffered : (octets : List ℕ) → take (length octets) (octets ++ replicate (255 - length octets) 0) ≡ octets
@@ -24,5 +24,5 @@ pub said-content : (offset : ℤ) (c : Content) → Fits c → said offset (buff
 said-content offset c fits =
     ap (λ (octets : List ℕ). said_in (reading octets)) (buffered (octets_of c)) ∙ ap said_in (one_apdu c fits)
   where
-    said_in : Reading → Option Said
+    said_in : Reading → Option ApduMeaning
     said_in read = option_map (said_by offset) (only_one read.apdus read.ending)

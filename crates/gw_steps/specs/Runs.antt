@@ -35,7 +35,7 @@ IsRun setup [] = Unit {0}
 IsRun setup (e ∷ past) =
     Allowed setup (state_after setup past) e.step e.reply (state_after setup (e ∷ past)) × IsRun setup past
 
--- at each place of a history
+-- at each point of a history
 abbrev pub AtEach : (List Entry → Type 0) → List Entry → Type 0
 AtEach P [] = P []
 AtEach P (e ∷ past) = P (e ∷ past) × AtEach P past

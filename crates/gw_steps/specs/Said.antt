@@ -6,18 +6,18 @@ use Rattle.iec_apci.specs.Apdu.{Content, Information, Supervisory, Unnumbered}
 use Rattle.iec_apci.specs.Stream.{Ending, Open, reading}
 use Rattle.gw_answers.specs.Meaning.{Meant, meaning_of}
 
-pub data Said : Type 0 where
+pub data ApduMeaning : Type 0 where
   -- N(S), N(R), and what the ASDU means
-  Numbered : ℕ → ℕ → Meant → Said
+  IFormat : ℕ → ℕ → Meant → ApduMeaning
   -- N(R)
-  Receipt : ℕ → Said
-  Function : Signal → Said
+  SFormat : ℕ → ApduMeaning
+  UFormat : Signal → ApduMeaning
 
 -- what is carried says this, where clocks are offset minutes ahead of UTC
-abbrev pub said_by : ℤ → Content → Said
-said_by offset (Information ns nr asdu) = Numbered ns nr (meaning_of offset asdu)
-said_by offset (Supervisory nr) = Receipt nr
-said_by offset (Unnumbered signal) = Function signal
+abbrev pub said_by : ℤ → Content → ApduMeaning
+said_by offset (Information ns nr asdu) = IFormat ns nr (meaning_of offset asdu)
+said_by offset (Supervisory nr) = SFormat nr
+said_by offset (Unnumbered signal) = UFormat signal
 
 -- the one APDU that is read, with nothing behind it
 abbrev pub only_one : List Content → Ending → Option Content
@@ -25,6 +25,6 @@ only_one (c ∷ []) (Open []) = Some c
 only_one _ _ = None
 
 -- octets that are one APDU say what it carries
-abbrev pub said : ℤ → ApduBuf → Option Said
+abbrev pub said : ℤ → ApduBuf → Option ApduMeaning
 said offset apdu =
     let read = reading (take apdu.len apdu.octets) in option_map (said_by offset) (only_one read.apdus read.ending)

@@ -8,7 +8,7 @@ use Rattle.gw_station.specs.Sound.{IsSoundClient}
 use Rattle.gw_steps.specs.State.{State}
 use Rattle.gw_steps.specs.Runs.{Entry, state_after}
 
-pub record IsSound (setup : Setup) (s : State) : Type 0 where
+pub record IsSoundState (setup : Setup) (s : State) : Type 0 where
   pub picture : AllByRecursion IsShown s.picture
   pub rows : ShowsRows setup.rows s.picture
   pub masters : length s.outstations ≡ length setup.outstations
@@ -16,4 +16,4 @@ pub record IsSound (setup : Setup) (s : State) : Type 0 where
 
 -- the state after a history is sound
 abbrev pub LeavesSound : Setup → List Entry → Type 0
-LeavesSound setup past = IsSound setup (state_after setup past)
+LeavesSound setup past = IsSoundState setup (state_after setup past)

@@ -205,7 +205,7 @@ moment_of (steps.Tick moment) = moment
 
 -- no control is operated: a command for one is confirmed negatively
 abbrev pub client_answered : Event → Client → Client
-client_answered (events.Command command) k = client_told (outcome_of command) command k
+client_answered (events.Command command) k = client_told command (outcome_of command) k
 client_answered _ k = k
 
 -- an APDU came at a moment, while the picture showed this, and a command in it was answered

@@ -122,8 +122,8 @@ pub fn runs_by_example()
         ∷ 0x1E ∷ 1 ∷ 3 ∷ 0 ∷ 1 ∷ 0 ∷ 0x05 ∷ 0x10 ∷ 0 ∷ 0x01 ∷ 0x20 ∷ 0x4E ∷ 0x0D ∷ 0x17 ∷ 0x0E ∷ 0x0B ∷ 0x17 ∷ []))) }
 {}
 
-/// A station interrogation while news wait: older news, its confirmation, the picture of its moment, its termination, and
-/// then later news.
+/// A station interrogation while news wait: older news, its confirmation, the picture of its moment, its termination,
+/// and then later news.
 #[tactic(auto, unfolding(iec_command::specs::Commands::command_of))]
 pub fn interrogations_by_example()
     ensures taken { outcome setup (reached (started ++ fragment_of event ∷ [])) (interrogate 0) ≡ Ok replies.Taken }

@@ -11,11 +11,11 @@ use Rattle.iec_apci.specs.Buffer.{buffer_of}
 use Rattle.iec_asdu.specs.Spelling.{type_of, element_spelling, tag_octets, spelling}
 use Rattle.iec_command.specs.declared.command.Command.{Command}
 use Rattle.iec_command.specs.Commands.{type_of as command_type, element_of, cause_octet, spelling as command_spelling}
-use Rattle.iec_window.specs.Counts.{Counts}
-use Rattle.gw_answers.specs.declared.outgoing.Answer.{Answer}
-use Rattle.gw_answers.specs.declared.outgoing.Answer.TheVariants.{Returned, Made}
-use Rattle.gw_answers.specs.declared.outgoing.Outgoing.{Outgoing}
-use Rattle.gw_answers.specs.declared.outgoing.Outgoing.TheVariants as outgoing
+use Rattle.iec_window.specs.Counts.{WindowCounts}
+use Rattle.gw_answers.specs.declared.outgoing.AsduAnswer.{AsduAnswer}
+use Rattle.gw_answers.specs.declared.outgoing.AsduAnswer.TheVariants.{Returned, Made}
+use Rattle.gw_answers.specs.declared.outgoing.OwnAsdu.{OwnAsdu}
+use Rattle.gw_answers.specs.declared.outgoing.OwnAsdu.TheVariants as outgoing
 use Rattle.gw_answers.specs.Outgoing.{at_station, news}
 use Rattle.gw_answers.specs.Octets.{answer_octets, outgoing_octets}
 use Rattle.gw_answers.specs.Meaning.{Meant, Tells, Commands, Unread, meaning_of, meant_outgoing, asdu_of, Means, CanSendAnswer, CanSendOutgoing}
@@ -31,7 +31,7 @@ use Rattle.gw_steps.specs.declared.step.Step.TheVariants.{Pump}
 use Rattle.gw_steps.specs.declared.step.Reply.{Reply}
 use Rattle.gw_steps.specs.declared.step.Reply.TheVariants.{Apdu}
 use Rattle.gw_steps.specs.declared.step.StepFault.TheVariants.{NoClient}
-use Rattle.gw_steps.specs.Said.{Said, said_by}
+use Rattle.gw_steps.specs.Said.{ApduMeaning, said_by}
 use Rattle.gw_steps.specs.State.{State}
 use Rattle.gw_steps.specs.Steps.{can_rise, client_reply, fault_of, latest, needs, reply_giving, reply_to}
 use Rattle.gw_steps.proofs.Inversion.{answered, who_is_up}
@@ -64,12 +64,12 @@ command_within common c =
     ∷ (word ++ take 3 (to_le_bytes w32 c.address) ++ element_of c.action))
     (words_within common)
 
-outgoing_within : (offset : ℤ) (common : ℕ) (x : Outgoing) → outgoing_octets offset common x ≡ outgoing_octets offset (common % 65536) x
+outgoing_within : (offset : ℤ) (common : ℕ) (x : OwnAsdu) → outgoing_octets offset common x ≡ outgoing_octets offset (common % 65536) x
 outgoing_within offset common (outgoing.Command c) = command_within common c
 outgoing_within offset common (outgoing.Observation cause originator x) =
     ap (λ (octets : List ℕ). slice_set octets 3 originator) (spelling_within offset common cause x)
 
-answer_within : (offset : ℤ) (common : ℕ) (answer : Answer) → answer_octets offset common answer ≡ answer_octets offset (common % 65536) answer
+answer_within : (offset : ℤ) (common : ℕ) (answer : AsduAnswer) → answer_octets offset common answer ≡ answer_octets offset (common % 65536) answer
 answer_within offset common (Returned asdu cause) = refl
 answer_within offset common (Made x) = outgoing_within offset common x
 
@@ -85,13 +85,13 @@ unknown_apart cause high =
       ne_eqb cause 37 (λ e. omega (arith, e, high)),
     ) refl
 
-outgoing_tells : (offset : ℤ) (common : ℕ) (x : Outgoing) (meant : Meant) → CanSendOutgoing offset x
+outgoing_tells : (offset : ℤ) (common : ℕ) (x : OwnAsdu) (meant : Meant) → CanSendOutgoing offset x
     → meant ≡ meant_outgoing offset common x → TellsFit offset meant
 outgoing_tells offset common (outgoing.Command c) meant can means = subst (TellsFit offset) (sym means) tt
 outgoing_tells offset common (outgoing.Observation cause originator x) meant can means =
     subst (TellsFit offset) (sym means) (λ reports. (can.fit, tt))
 
-answer_tells : (offset : ℤ) (common : ℕ) (answer : Answer) (meant : Meant) → CanSendAnswer offset answer
+answer_tells : (offset : ℤ) (common : ℕ) (answer : AsduAnswer) (meant : Meant) → CanSendAnswer offset answer
     → Means offset common answer meant → TellsFit offset meant
 answer_tells offset common (Returned asdu cause) (Tells told) can means = λ reports.
     absurd (true≢false (sym reports ∙ unknown_apart (told.cause % 64) (omega (arith, means.0, can.1))))
@@ -103,7 +103,7 @@ answer_tells offset common (Made (outgoing.Observation cause originator x)) mean
 
 -- ---- what is put out
 
-outgoing_says : (offset : ℤ) (common : ℕ) (x : Outgoing) → CanSendOutgoing offset x
+outgoing_says : (offset : ℤ) (common : ℕ) (x : OwnAsdu) → CanSendOutgoing offset x
     → TellsFit offset (meaning_of offset (outgoing_octets offset common x))
 outgoing_says offset common x can =
     subst (λ (octets : List ℕ). TellsFit offset (meaning_of offset octets)) (sym (outgoing_within offset common x))
@@ -111,7 +111,7 @@ outgoing_says offset common x can =
     (outgoing_means offset (common % 65536) x (omega arith) can))
 
 -- what can be sent says so
-says : (offset : ℤ) (common : ℕ) (w : Counts) (s : Sending) → CanSend offset s → SaysFit offset (said_by offset (content_of offset common w s))
+says : (offset : ℤ) (common : ℕ) (w : WindowCounts) (s : Sending) → CanSend offset s → SaysFit offset (said_by offset (content_of offset common w s))
 says offset common w (sendings.Confirm signal) can = tt
 says offset common w sendings.Test can = tt
 says offset common w (sendings.Answer answer) can =
@@ -120,11 +120,11 @@ says offset common w (sendings.Answer answer) can =
     (answer_means offset (common % 65536) answer (omega arith) can))
 says offset common w (sendings.News x) can = outgoing_says offset common (news x) can
 says offset common w (sendings.Part part) can = outgoing_says offset common part can
-says offset common w sendings.Receipt can = tt
+says offset common w sendings.SFormat can = tt
 
-carries : (offset : ℤ) (common : ℕ) (w : Counts) (s : Sending) → CanSend offset s → CarriesFit offset (buffer_of (content_of offset common w s))
+carries : (offset : ℤ) (common : ℕ) (w : WindowCounts) (s : Sending) → CanSend offset s → CarriesFit offset (buffer_of (content_of offset common w s))
 carries offset common w s can =
-    subst (λ (x : Option Said). IsSomeAnd x (SaysFit offset))
+    subst (λ (x : Option ApduMeaning). IsSomeAnd x (SaysFit offset))
     (sym (said-content offset (content_of offset common w s) (content_fits offset common w s))) (says offset common w s can)
 
 apdu_is : (a b : ApduBuf) → Apdu a ≡ Apdu b → a ≡ b
@@ -134,7 +134,7 @@ apdu_is a b e = ap value e
     value (Apdu c) = c
     value _ = a
 
-given_carries : (offset : ℤ) (common : ℕ) (w : Counts) (x : Option Sending) (apdu : ApduBuf) → IfSome x (CanSend offset)
+given_carries : (offset : ℤ) (common : ℕ) (w : WindowCounts) (x : Option Sending) (apdu : ApduBuf) → IfSome x (CanSend offset)
     → reply_giving (option_map (content_of offset common w) x) ≡ Apdu apdu → CarriesFit offset apdu
 given_carries offset common w None apdu can e = absurd cc
 given_carries offset common w (Some s) apdu can e =

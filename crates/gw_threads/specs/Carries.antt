@@ -4,7 +4,7 @@ use Rattle.std.specs.List.{AllByRecursion}
 use Rattle.gw_model.specs.Fit.{IsFit}
 use Rattle.iec_apci.specs.declared.buffer.ApduBuf.{ApduBuf}
 use Rattle.gw_answers.specs.Meaning.{Meant, Tells, Commands, Unread}
-use Rattle.gw_steps.specs.Said.{Said, Numbered, Receipt, Function, said}
+use Rattle.gw_steps.specs.Said.{ApduMeaning, IFormat, SFormat, UFormat, said}
 
 -- the causes of process information: spontaneous (3), request (5), interrogated by station interrogation (20) and requested
 -- by general counter request (37)
@@ -19,10 +19,10 @@ TellsFit offset (Tells asdu) =
 TellsFit offset (Commands command) = Unit {0}
 TellsFit offset (Unread octets) = Unit {0}
 
-abbrev pub SaysFit : ℤ → Said → Type 0
-SaysFit offset (Numbered ns nr meant) = TellsFit offset meant
-SaysFit offset (Receipt nr) = Unit {0}
-SaysFit offset (Function signal) = Unit {0}
+abbrev pub SaysFit : ℤ → ApduMeaning → Type 0
+SaysFit offset (IFormat ns nr meant) = TellsFit offset meant
+SaysFit offset (SFormat nr) = Unit {0}
+SaysFit offset (UFormat signal) = Unit {0}
 
 -- the octets are one APDU, and its process information is so
 abbrev pub CarriesFit : ℤ → ApduBuf → Type 0

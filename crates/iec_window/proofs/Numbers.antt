@@ -1,6 +1,6 @@
 -- A number modulo 32,768 names one count within a window that is smaller.
 use Rattle.std.proofs.Common.{◌≡◌, ℕ, ◌+◌, ◌-◌, ◌%◌, ◌<◌, ◌≤◌, ◌↔◌, IsTrue, nat_le, length, arith, rules}
-use Rattle.iec_window.specs.Counts.{Counts}
+use Rattle.iec_window.specs.Counts.{WindowCounts}
 use Rattle.iec_window.specs.Sequence.{Acknowledges, new_acknowledgements}
 
 -- the count that is as far ahead of another as the number says has that number
@@ -13,13 +13,13 @@ pub ahead_of-number : (nr from count width : ℕ) → width < 32768 → from ≤
 ahead_of-number nr from count width h low high e = omega arith
 
 -- N(R) that is no further ahead than what waits names a count
-pub Acknowledges-new_acknowledgements : (nr : ℕ) (c : Counts) → nr < 32768
+pub Acknowledges-new_acknowledgements : (nr : ℕ) (c : WindowCounts) → nr < 32768
     → new_acknowledgements nr c ≤ length c.waiting → Acknowledges nr c (c.acknowledged + new_acknowledgements nr c)
 Acknowledges-new_acknowledgements nr c h le =
     record { not_fewer = omega arith; not_more = omega arith; number = number_of-ahead nr c.acknowledged h }
 
 -- the count that N(R) names is no further ahead than what waits
-pub new_acknowledgements-within : (nr : ℕ) (c : Counts) (n : ℕ) → length c.waiting < 32768 → Acknowledges nr c n
+pub new_acknowledgements-within : (nr : ℕ) (c : WindowCounts) (n : ℕ) → length c.waiting < 32768 → Acknowledges nr c n
     → new_acknowledgements nr c ≤ length c.waiting
 new_acknowledgements-within nr c n h a =
     let e : new_acknowledgements nr c ≡ n - c.acknowledged =
@@ -27,7 +27,7 @@ new_acknowledgements-within nr c n h a =
     omega (arith, e, a.not_fewer, a.not_more)
 
 -- N(R) is right where it names a count
-pub new_acknowledgements-means : (nr : ℕ) (c : Counts) (ahead width : ℕ) → nr < 32768 → length c.waiting < 32768
+pub new_acknowledgements-means : (nr : ℕ) (c : WindowCounts) (ahead width : ℕ) → nr < 32768 → length c.waiting < 32768
     → ahead ≡ new_acknowledgements nr c → width ≡ length c.waiting →
     IsTrue (nat_le ahead width) ↔ ((n : ℕ) × Acknowledges nr c n)
 new_acknowledgements-means nr c ahead width h small e f = (

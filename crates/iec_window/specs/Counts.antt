@@ -8,7 +8,7 @@ use Rattle.iec_window.specs.declared.limits.Limits.{Limits}
 -- owed: how many of these are not yet acknowledged, and owed_since: when the oldest of them came
 -- last_heard: when the connection began, or the last frame came
 -- test: when the TESTFR act that is not yet confirmed was sent
-pub record Counts : Type 0 where
+pub record WindowCounts : Type 0 where
   pub limits : Limits
   pub acknowledged : ℕ
   pub waiting : List ℕ
@@ -19,5 +19,5 @@ pub record Counts : Type 0 where
   pub test : Option ℕ
 
 -- how many I formats were sent
-abbrev pub sent_in_all : Counts → ℕ
+abbrev pub sent_in_all : WindowCounts → ℕ
 sent_in_all c = c.acknowledged + length c.waiting

@@ -1,59 +1,59 @@
--- A connection as the list of its frames, the newest first, with counts in place of sequence numbers
+-- A connection as the list of what was sent and received, the newest first, with counts instead of sequence numbers
 -- (IEC 60870-5-104, 5.1 and 5.2); and what it comes to, read off the whole list.
 use Rattle.std.specs.Prelude.{ℕ, ◌%◌, ◌<◌, ◌≤◌, List, [], ◌∷◌, ◌++◌, length, drop, Option, Some, None, slice_get}
 use Rattle.iec_window.specs.declared.limits.Limits.{Limits}
-use Rattle.iec_window.specs.Counts.{Counts}
+use Rattle.iec_window.specs.Counts.{WindowCounts}
 use Rattle.iec_window.specs.Sequence.{numbers, receive_number}
 use Rattle.iec_window.specs.Steps.{counts_at_start, first_of, counts_after_frame, counts_after_s, counts_after_i, counts_after_sending_s, counts_after_sending_i, counts_after_sending_test, counts_after_confirmation}
 
 -- SentI: an I format was sent, at that moment; SentS: an S format; SentTest: a TESTFR act, at that moment
 -- GotI: an I format came that acknowledges so many in all, at that moment; GotS: an S format
 -- GotConfirmation: a TESTFR con came, at that moment; GotOther: another U format
-pub data Frame : Type 0 where
-  SentI : ℕ → Frame
-  SentS : Frame
-  SentTest : ℕ → Frame
-  GotI : ℕ → ℕ → Frame
-  GotS : ℕ → ℕ → Frame
-  GotConfirmation : ℕ → Frame
-  GotOther : ℕ → Frame
+pub data Transmission : Type 0 where
+  SentI : ℕ → Transmission
+  SentS : Transmission
+  SentTest : ℕ → Transmission
+  GotI : ℕ → ℕ → Transmission
+  GotS : ℕ → ℕ → Transmission
+  GotConfirmation : ℕ → Transmission
+  GotOther : ℕ → Transmission
 
 -- when each I format was sent, the oldest first
-abbrev pub sent_at : List Frame → List ℕ
+abbrev pub sent_at : List Transmission → List ℕ
 sent_at [] = []
 sent_at (SentI moment ∷ older) = sent_at older ++ moment ∷ []
 sent_at (_ ∷ older) = sent_at older
 
 -- when each I format came, the oldest first
-abbrev pub got_at : List Frame → List ℕ
+abbrev pub got_at : List Transmission → List ℕ
 got_at [] = []
 got_at (GotI n moment ∷ older) = got_at older ++ moment ∷ []
 got_at (_ ∷ older) = got_at older
 
 -- how many I formats are acknowledged by the newest frame that came with N(R)
-abbrev pub acknowledged_by : List Frame → ℕ
+abbrev pub acknowledged_by : List Transmission → ℕ
 acknowledged_by [] = 0
 acknowledged_by (GotI n moment ∷ older) = n
 acknowledged_by (GotS n moment ∷ older) = n
 acknowledged_by (_ ∷ older) = acknowledged_by older
 
 -- how many I formats had come when the newest frame with N(R) was sent
-abbrev pub receipted_by : List Frame → ℕ
+abbrev pub receipted_by : List Transmission → ℕ
 receipted_by [] = 0
 receipted_by (SentI moment ∷ older) = length (got_at older)
 receipted_by (SentS ∷ older) = length (got_at older)
 receipted_by (_ ∷ older) = receipted_by older
 
 -- when the I formats were sent that are not acknowledged
-abbrev pub waiting_at : List Frame → List ℕ
+abbrev pub waiting_at : List Transmission → List ℕ
 waiting_at frames = drop (acknowledged_by frames) (sent_at frames)
 
 -- when the I formats came that are not acknowledged
-abbrev pub owed_at : List Frame → List ℕ
+abbrev pub owed_at : List Transmission → List ℕ
 owed_at frames = drop (receipted_by frames) (got_at frames)
 
 -- when the newest frame came, or else the connection began
-abbrev pub heard_at : ℕ → List Frame → ℕ
+abbrev pub heard_at : ℕ → List Transmission → ℕ
 heard_at start [] = start
 heard_at start (GotI n moment ∷ older) = moment
 heard_at start (GotS n moment ∷ older) = moment
@@ -62,14 +62,14 @@ heard_at start (GotOther moment ∷ older) = moment
 heard_at start (_ ∷ older) = heard_at start older
 
 -- when the first TESTFR act was sent since the newest TESTFR con
-abbrev pub test_at : List Frame → Option ℕ
+abbrev pub test_at : List Transmission → Option ℕ
 test_at [] = None
 test_at (SentTest moment ∷ older) = Some (first_of (test_at older) moment)
 test_at (GotConfirmation moment ∷ older) = None
 test_at (_ ∷ older) = test_at older
 
 -- the counts of a connection that began at that moment and had these frames
-abbrev pub counts_of : Limits → ℕ → List Frame → Counts
+abbrev pub counts_of : Limits → ℕ → List Transmission → WindowCounts
 counts_of limits start frames = record {
   limits = limits;
   acknowledged = acknowledged_by frames;
@@ -83,7 +83,7 @@ counts_of limits start frames = record {
 
 -- No I format was sent with k others not acknowledged, and each N(R) that came acknowledges no fewer than the
 -- one before, and no more than were sent.
-abbrev pub IsLegal : Limits → List Frame → Type 0
+abbrev pub IsLegal : Limits → List Transmission → Type 0
 IsLegal limits [] = Unit {0}
 IsLegal limits (SentI moment ∷ older) = (length (waiting_at older) < limits.k) × IsLegal limits older
 IsLegal limits (GotI n moment ∷ older) =
@@ -93,7 +93,7 @@ IsLegal limits (GotS n moment ∷ older) =
 IsLegal limits (_ ∷ older) = IsLegal limits older
 
 -- what a window makes of a frame: it sees the numbers alone, the counts modulo 32,768
-abbrev pub step : Frame → Counts → Counts
+abbrev pub step : Transmission → WindowCounts → WindowCounts
 step (SentI moment) c = counts_after_sending_i moment c
 step SentS c = counts_after_sending_s c
 step (SentTest moment) c = counts_after_sending_test moment c
@@ -103,6 +103,6 @@ step (GotConfirmation moment) c = counts_after_confirmation moment c
 step (GotOther moment) c = counts_after_frame moment c
 
 -- what a window makes of these frames, one after another
-abbrev pub window_counts : Limits → ℕ → List Frame → Counts
+abbrev pub window_counts : Limits → ℕ → List Transmission → WindowCounts
 window_counts limits start [] = counts_at_start limits start
 window_counts limits start (frame ∷ older) = step frame (window_counts limits start older)

@@ -2,9 +2,9 @@
 use Rattle.std.specs.Prelude.{◌≡◌, ◌+◌, ◌^◌, ◌<◌, ◌≤◌, nat_lt, is_some, length}
 use Rattle.std.specs.VecDeque.{deque_capacity}
 use Rattle.iec_window.specs.declared.window.Window.TheInside.{Inside}
-use Rattle.iec_window.specs.Counts.{Counts}
+use Rattle.iec_window.specs.Counts.{WindowCounts}
 
-abbrev pub counts_in : Inside → Counts
+abbrev pub counts_in : Inside → WindowCounts
 counts_in s = record {
   limits = s.limits;
   acknowledged = s.acknowledged;
@@ -17,7 +17,7 @@ counts_in s = record {
 }
 
 -- Sequence numbers name the counts within the window; there is room for k moments; the counts fit 64 bits.
-pub record IsSound (s : Inside) : Type 0 where
+pub record IsWindow (s : Inside) : Type 0 where
   pub numbered : s.limits.k < 32768
   pub bounded : length s.waiting.items ≤ s.limits.k
   pub roomy : s.limits.k ≤ deque_capacity s.waiting

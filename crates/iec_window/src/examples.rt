@@ -1,7 +1,7 @@
 //! Worked examples, computed with the definitions that the contracts cite.
 ghost use Rattle.std.specs.Prelude.{◌≡◌, ◌∷◌, [], true, false, map, Some, Ok, Err};
 ghost use Rattle.iec_window.specs.Sequence.{send_number, is_right_send, is_right_receive};
-ghost use Rattle.iec_window.specs.Timers.{ran_out, owes_ack, due_at};
+ghost use Rattle.iec_window.specs.Timers.{t1_passed, owes_ack, due_at};
 ghost use Rattle.iec_window.specs.Steps.{counts_at_start, counts_after_s, answer_to_i, counts_after_i, counts_after_sending_i, counts_after_sending_test};
 ghost use Rattle.iec_window.specs.Examples.{usual, sender_counts, receiver_counts};
 ghost use Rattle.iec_window.specs.declared.fault.WindowFault.TheVariants.{WrongSend, WrongReceive};
@@ -33,14 +33,16 @@ pub fn receive_numbers()
 /// t1, t2 and t3 one millisecond before their time and at it, and w.
 pub fn timers()
     // The oldest I format counts, and the TESTFR act.
-    ensures t1 { map (λ moment. ran_out moment (sender_counts 0 (1000 ∷ 2000 ∷ []))) (15999 ∷ 16000 ∷ [])
+    ensures t1 { map (λ moment. t1_passed moment (sender_counts 0 (1000 ∷ 2000 ∷ []))) (15999 ∷ 16000 ∷ [])
         ≡ false ∷ true ∷ [] }
-    ensures t1_of_test { map (λ moment. ran_out moment (counts_after_sending_test 4000 (counts_after_sending_test 500 (sender_counts 0 (1000 ∷ [])))))
+    ensures t1_of_test { map (λ moment. t1_passed moment
+        (counts_after_sending_test 4000 (counts_after_sending_test 500 (sender_counts 0 (1000 ∷ [])))))
         (15499 ∷ 15500 ∷ []) ≡ false ∷ true ∷ [] }
     ensures t2 { map (λ moment. owes_ack moment (receiver_counts 3 1 10)) (9 ∷ 10009 ∷ 10010 ∷ [])
         ≡ false ∷ false ∷ true ∷ [] }
     // The oldest of those that aren't acknowledged counts.
-    ensures t2_of_the_oldest { map (λ moment. owes_ack moment (counts_after_i 1 0 9000 (counts_after_i 0 0 10 (counts_at_start usual 0))))
+    ensures t2_of_the_oldest { map (λ moment. owes_ack moment
+        (counts_after_i 1 0 9000 (counts_after_i 0 0 10 (counts_at_start usual 0))))
         (10009 ∷ 10010 ∷ []) ≡ false ∷ true ∷ [] }
     ensures w { map (λ owed. owes_ack 10 (receiver_counts 30 owed 10)) (7 ∷ 8 ∷ 9 ∷ []) ≡ false ∷ true ∷ true ∷ [] }
     ensures sent { owes_ack 99999 (counts_after_sending_i 20 (receiver_counts 30 8 10)) ≡ false }

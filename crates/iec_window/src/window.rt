@@ -1,10 +1,10 @@
 //! The window of one end of a connection.
-ghost use Rattle.std.specs.Prelude.{◌≡◌, ℕ, ◌+◌, ◌^◌, ◌<◌, ◌≤◌, ◌↔◌, IsTrue, IfOk, OnOk, nat_lt, length, slice_get, drop};
+ghost use Rattle.std.specs.Prelude.{◌≡◌, ℕ, ◌+◌, ◌^◌, ◌<◌, ◌≤◌, ◌↔◌, true, IsTrue, IfOk, OnOk, nat_lt, length, slice_get, drop};
 ghost use Rattle.std.specs.VecDeque.{deque_capacity};
-ghost use Rattle.iec_window.specs.Counts.{Counts, sent_in_all};
+ghost use Rattle.iec_window.specs.Counts.{WindowCounts, sent_in_all};
 ghost use Rattle.iec_window.specs.Sequence.{Acknowledges, send_number, receive_number, is_right_send, new_acknowledgements, is_right_receive};
-ghost use Rattle.iec_window.specs.Timers.{has_passed, ran_out, owes_ack, owes_test, due_at};
-ghost use Rattle.iec_window.specs.Steps.{counts_at_start, counts_after_frame, answer_to_s, counts_after_s, answer_to_i, counts_after_i, counts_after_sending_s, counts_after_sending_i, counts_after_sending_test, counts_after_confirmation};
+ghost use Rattle.iec_window.specs.Timers.{has_passed, t1_passed, owes_ack, owes_test, due_at};
+ghost use Rattle.iec_window.specs.Steps.{counts_at_start, counts_after_frame, answer_to_s, counts_after_s, counts_after_right_s, answer_to_i, counts_after_i, counts_after_sending_s, counts_after_sending_i, counts_after_sending_test, counts_after_confirmation};
 
 use crate::due::Due;
 use crate::fault::WindowFault;
@@ -39,15 +39,15 @@ pub struct Window {
 }
 
 impl Model for Window {
-    ghost use Rattle.iec_window.specs.Counts.{Counts};
+    ghost use Rattle.iec_window.specs.Counts.{WindowCounts};
 
-    ghost Value = { Counts };
+    ghost Value = { WindowCounts };
 
-    ghost use Rattle.iec_window.specs.View.{counts_in, IsSound};
+    ghost use Rattle.iec_window.specs.View.{counts_in, IsWindow};
 
     ghost view = { counts_in };
 
-    ghost invariant = { IsSound };
+    ghost invariant = { IsWindow };
 }
 
 impl Window {
@@ -123,24 +123,43 @@ impl Window {
         u64::from(nr) < NUMBERS && self.new_acknowledgements(nr) <= self.waiting.len() as u64
     }
 
-    /// An I format came with these numbers. At `Err` nothing changes.
-    pub fn received(&mut self, ns: u16, nr: u16, moment: u64) -> Result<(), WindowFault>
-        requires { self.old.received + 1 < 2 ^ 64 }
-        ensures answer { result ≡ answer_to_i ns nr self.old }
-        ensures after { self.new ≡ counts_after_i ns nr moment self.old }
-        // N(R) names the count that is acknowledged then.
-        ensures counted { OnOk result (Acknowledges nr self.old self.new.acknowledged) }
+    /// What is wrong with the numbers of an I format, if anything: N(S) is judged first.
+    pub fn check_numbers(&self, ns: u16, nr: u16) -> Result<(), WindowFault>
+        ensures { result ≡ answer_to_i ns nr self.now }
     {
         if !self.is_right_send(ns) {
             return Err(WindowFault::WrongSend);
         }
-        self.acknowledged(nr, moment)?;
+        self.check_receive(nr)
+    }
+
+    /// What is wrong with this N(R), if anything.
+    fn check_receive(&self, nr: u16) -> Result<(), WindowFault>
+        ensures { result ≡ answer_to_s nr self.now }
+    {
+        if self.is_right_receive(nr) {
+            Ok(())
+        } else {
+            Err(WindowFault::WrongReceive)
+        }
+    }
+
+    /// An I format came whose numbers are right.
+    pub fn received(&mut self, ns: u16, nr: u16, moment: u64)
+        requires send { is_right_send ns self.old ≡ true }
+        requires receive { is_right_receive nr self.old ≡ true }
+        requires count { self.old.received + 1 < 2 ^ 64 }
+        ensures after { self.new ≡ counts_after_i ns nr moment self.old }
+        // N(R) names the count that is acknowledged then.
+        ensures counted { Acknowledges nr self.old self.new.acknowledged }
+    {
+        prove!(self.is_right_send(ns));
+        self.acknowledge(nr, moment);
         self.received += 1;
         if self.owed == 0 {
             self.owed_since = Some(moment);
         }
         self.owed += 1;
-        Ok(())
     }
 
     /// An S format came with this N(R). At `Err` nothing changes.
@@ -150,14 +169,21 @@ impl Window {
         // N(R) names the count that is acknowledged then.
         ensures counted { OnOk result (Acknowledges nr self.old self.new.acknowledged) }
     {
-        if !self.is_right_receive(nr) {
-            return Err(WindowFault::WrongReceive);
-        }
+        self.check_receive(nr)?;
+        self.acknowledge(nr, moment);
+        Ok(())
+    }
+
+    /// A frame came whose N(R) is right.
+    fn acknowledge(&mut self, nr: u16, moment: u64)
+        requires { is_right_receive nr self.old ≡ true }
+        ensures after { self.new ≡ counts_after_right_s nr moment self.old }
+        ensures counted { Acknowledges nr self.old self.new.acknowledged }
+    {
         let count = self.new_acknowledgements(nr);
         forget(&mut self.waiting, count as usize);
         self.acknowledged += count;
         self.heard(moment);
-        Ok(())
     }
 
     /// How many I formats sent are not acknowledged.
@@ -228,8 +254,8 @@ impl Window {
 
     /// Whether t1 has passed since the oldest I format that isn't acknowledged, or the TESTFR act that isn't
     /// confirmed. Then the connection is to be closed.
-    pub fn ran_out(&self, moment: u64) -> bool
-        ensures { result ≡ ran_out moment self.now }
+    pub fn t1_passed(&self, moment: u64) -> bool
+        ensures { result ≡ t1_passed moment self.now }
     {
         has_passed(self.limits.t1, oldest(&self.waiting), moment)
             || has_passed(self.limits.t1, self.test, moment)
@@ -246,7 +272,7 @@ impl Window {
     pub fn tick(&self, moment: u64) -> Due
         ensures { result ≡ due_at moment self.now }
     {
-        if self.ran_out(moment) {
+        if self.t1_passed(moment) {
             Due::Close
         } else if self.owes_test(moment) {
             Due::Test

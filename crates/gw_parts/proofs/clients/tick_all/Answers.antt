@@ -1,5 +1,7 @@
-use Rattle.std.proofs.Common.{◌≡◌, ◌<◌, length, get_or, ap, arith, rules}
+use Rattle.std.proofs.Common.{◌≡◌, ◌<◌, length, get_or, ap, ◌∙◌, arith, rules}
+use Rattle.std.specs.Prelude.{is_some}
 use Rattle.gw_station.specs.Client.{client_after_tick, is_timed_out}
+use Rattle.gw_station.proofs.Opens.{closed_late}
 use Rattle.gw_parts.proofs.Bits.{shifted, bits_next, bits_fit, get_over}
 use Rattle.gw_parts.proofs.Walks.{next_changed}
 use Rattle.gw_parts.proofs.clients.tick_all.Goals as goal
@@ -7,7 +9,7 @@ use Rattle.gw_parts.proofs.clients.tick_all.Goals as goal
 pub overflow_add-closed : goal.overflow_add-closed
 overflow_add-closed c =
     let n = c.loop-position.position in
-    let fits = bits_fit (is_timed_out c.args.moment) c.args.stations.now n c.tick.result
+    let fits = bits_fit (is_timed_out c.args.moment) c.args.stations.now n c.is_some.result
     (omega (arith, c.requires, c.loop-position.auto, c.loop-position-test.true)) (omega (arith, c.loop-position.auto, c.loop-position-test.true)) in
     search (rules, fits, c.from.ensures, c.loop-position.invariant.1)
 
@@ -19,8 +21,9 @@ loop-position-preserved c =
     let before = c.loop-position.stations in
     let within : n < length old = omega (arith, c.loop-position.auto, c.loop-position-test.true) in
     let client : get_or before n d ≡ get_or old n d = get_over (client_after_tick c.args.moment) old before n d within c.loop-position.invariant.0 in
-    let late : c.tick.result ≡ is_timed_out c.args.moment (get_or old n d) = search (rules, c.tick.ensures.closed, ap (is_timed_out c.args.moment) client) in
-    let shift = shifted c.tick.result n (omega (arith, c.requires, c.loop-position.auto, c.loop-position-test.true)) in (
+    let late : c.is_some.result ≡ is_timed_out c.args.moment (get_or old n d) =
+    c.is_some.ensures ∙ (ap is_some c.tick.ensures.closed ∙ (closed_late c.args.moment _ ∙ ap (is_timed_out c.args.moment) client)) in
+    let shift = shifted c.is_some.result n (omega (arith, c.requires, c.loop-position.auto, c.loop-position-test.true)) in (
       next_changed n (client_after_tick c.args.moment) old before d c.tick.new.self within c.loop-position.invariant.0 c.tick.ensures.client,
       search (rules, c.from.ensures, shift, c.loop-position.invariant.1, late, bits_next (is_timed_out c.args.moment) old n d within),
     )

@@ -1,6 +1,6 @@
 use Rattle.std.proofs.Common.{[], length, refl, sym, ap, subst, ◌∙◌, arith}
 use Rattle.gw_map.specs.Settings.{Setup}
-use Rattle.gw_steps.specs.Sound.{IsSound}
+use Rattle.gw_steps.specs.Sound.{IsSoundState}
 use Rattle.gw_steps.specs.State.{State}
 use Rattle.gw_steps.specs.Steps.{Allowed}
 use Rattle.gw_steps.proofs.Running.{Ran, ran_first, run_on, run_all}
@@ -24,7 +24,7 @@ loop-step-preserved c =
     let same = c.loop-step.invariant.1 in
     let allowed : Allowed setup before c.step-item.result c.step.result new =
     subst (λ (s : Setup). Allowed s before c.step-item.result c.step.result new) same c.step.ensures.step in
-    let sound : IsSound setup new = subst (λ (s : Setup). IsSound s new) (c.step.ensures.setup ∙ same) c.step.ensures.sound in (
+    let sound : IsSoundState setup new = subst (λ (s : Setup). IsSoundState s new) (c.step.ensures.setup ∙ same) c.step.ensures.sound in (
       omega (arith, c.loop-step.invariant.0, c.in_ok-push.ensures.len),
       c.step.ensures.setup ∙ same,
       run_on setup c.args.steps.now c.loop-step.replies.items c.push.new.self.items c.loop-step.step-index c.step-item.result c.step.result before new

@@ -1,13 +1,13 @@
 use Rattle.std.proofs.Common.{◌≡◌, ℕ, List, refl, ap, ◌∙◌, rules}
 use Rattle.iec_apci.specs.Apdu.{Information}
 use Rattle.iec_apci.specs.Buffer.{buffer_of}
-use Rattle.iec_window.specs.Counts.{Counts}
+use Rattle.iec_window.specs.Counts.{WindowCounts}
 use Rattle.iec_window.specs.Sequence.{receive_number, send_number}
 use Rattle.iec_window.specs.Steps.{counts_after_sending_i}
 use Rattle.gw_station.specs.Client.{Client}
 use Rattle.gw_station.proofs.station.Station.send_answer.Goals as goal
 
-same_format : (ns nr : ℕ) (w v : Counts) (octets : List ℕ) → ns ≡ send_number w → nr ≡ receive_number w → w ≡ v
+same_format : (ns nr : ℕ) (w v : WindowCounts) (octets : List ℕ) → ns ≡ send_number w → nr ≡ receive_number w → w ≡ v
     → buffer_of (Information ns nr octets) ≡ buffer_of (Information (send_number v) (receive_number v) octets)
 same_format ns nr w v octets send receive same = rw (send, receive, same) refl
 

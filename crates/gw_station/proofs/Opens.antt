@@ -1,13 +1,13 @@
--- What an APDU tells that doesn't close.
+-- What an APDU tells that doesn't close the connection, and a tick that does.
 use Rattle.std.proofs.Common.{◌≡◌, ℕ, Bool, true, false, [], ◌∷◌, None, refl}
-use Rattle.std.specs.Prelude.{◌&&◌, not}
+use Rattle.std.specs.Prelude.{◌&&◌, not, is_some}
 use Rattle.gw_model.specs.First.{when, first_of}
 use Rattle.gw_map.specs.Settings.{Setup}
 use Rattle.iec_apci.specs.declared.apdu.Apdu.TheVariants.{S}
 use Rattle.iec_window.specs.Sequence.{is_right_send, is_right_receive}
 use Rattle.gw_judge.specs.declared.judging.Judged.{Judged}
-use Rattle.gw_station.specs.declared.event.Why.TheVariants.{Sequence, NotStarted, Malformed, Flooded}
-use Rattle.gw_station.specs.Client.{Client, is_started as is_in_session}
+use Rattle.gw_station.specs.declared.event.Why.TheVariants.{Sequence, NotStarted, Malformed, Flooded, Timer}
+use Rattle.gw_station.specs.Client.{Client, is_started as is_in_session, is_timed_out, close_by_tick}
 use Rattle.gw_station.specs.Frames.{close_of, closes_judged, is_malformed, overfills}
 
 pub open_s : (setup : Setup) (nr : ℕ) (k : Client) → close_of setup (S nr) k ≡ None
@@ -47,3 +47,10 @@ open_i ns nr j k e = go (is_in_session k.stage) (is_right_send ns k.window) (is_
     go true true false malformed full es en er em ef e = absurd cc
     go true false receive malformed full es en er em ef e = absurd cc
     go false send receive malformed full es en er em ef e = absurd cc
+
+pub closed_late : (moment : ℕ) (k : Client) → is_some (close_by_tick moment k) ≡ is_timed_out moment k
+closed_late moment k = go (is_timed_out moment k)
+  where
+    go : (late : Bool) → is_some (when late Timer) ≡ late
+    go true = refl
+    go false = refl
