@@ -23,6 +23,7 @@ ghost use Rattle.gw_hub.specs.Hub.{can_count, can_take, news_of_all, news_of_one
 use crate::common::Common;
 use crate::counts::Counts;
 use dnp_app::Response;
+use dnp_master::Verdict;
 use gw_map::{Settings, Station};
 use gw_model::{Memory, Observation, Report};
 use gw_parts::{Clients, Outstations};
@@ -404,7 +405,7 @@ impl Hub {
             return Err(StepFault::NotUp);
         }
         let verdict = master.judge(response);
-        if master.accepts(response) {
+        if let Verdict::Accepted { .. } = verdict {
             self.accept(response, moment)?;
         } else {
             self.count(moment)?;
