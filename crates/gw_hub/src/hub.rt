@@ -23,6 +23,7 @@ ghost use Rattle.gw_hub.specs.Hub.{can_count, can_take, news_of_all, news_of_one
 use crate::common::Common;
 use crate::counts::Counts;
 use dnp_app::Response;
+use dnp_master::Verdict;
 use gw_map::{Settings, Station};
 use gw_model::{Memory, Observation, Report};
 use gw_parts::{Clients, Outstations};
@@ -144,21 +145,30 @@ impl Hub {
     pub fn queued(&self, client: u8) -> usize
         ensures { result ≡ queued_at (slice_get self.now.state.clients client) }
     {
-        self.clients.queued(client)
+        match self.clients.get(client) {
+            Some(station) => station.queued(),
+            None => 0,
+        }
     }
 
     /// How many news of a client's session were dropped; 0 where there is no such client.
     pub fn dropped(&self, client: u8) -> u64
         ensures { result ≡ dropped_at (slice_get self.now.state.clients client) }
     {
-        self.clients.dropped(client)
+        match self.clients.get(client) {
+            Some(station) => station.dropped(),
+            None => 0,
+        }
     }
 
     /// How many I formats sent to a client are not acknowledged; 0 where there is no such client.
     pub fn unacknowledged(&self, client: u8) -> usize
         ensures { result ≡ unacknowledged_at (slice_get self.now.state.clients client) }
     {
-        self.clients.unacknowledged(client)
+        match self.clients.get(client) {
+            Some(station) => station.unacknowledged(),
+            None => 0,
+        }
     }
 
     /// How many observations were news since the hub began.
@@ -179,14 +189,20 @@ impl Hub {
     pub fn is_poll_due(&self, outstation: u8) -> bool
         ensures { result ≡ is_due self.now.state.moment (slice_get self.now.state.outstations outstation) }
     {
-        self.outstations.is_due(outstation, self.moment)
+        match self.outstations.get(outstation) {
+            Some(master) => master.is_due(self.moment),
+            None => false,
+        }
     }
 
     /// Whether a pump for a client would give an APDU at the largest moment so far.
     pub fn is_pump_due(&self, client: u8) -> bool
         ensures { result ≡ has_offer self.now.state.moment (slice_get self.now.state.clients client) }
     {
-        self.clients.has_offer(client, self.moment)
+        match self.clients.get(client) {
+            Some(station) => station.has_offer(self.moment),
+            None => false,
+        }
     }
 
     /// Makes steps one after the other on a new hub; gives it with a reply for each of them.
@@ -389,7 +405,7 @@ impl Hub {
             return Err(StepFault::NotUp);
         }
         let verdict = master.judge(response);
-        if master.accepts(response) {
+        if let Verdict::Accepted { .. } = verdict {
             self.accept(response, moment)?;
         } else {
             self.count(moment)?;

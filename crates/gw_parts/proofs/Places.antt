@@ -1,22 +1,34 @@
--- A write to one place of a list.
-use Rattle.std.specs.Prelude.{replicate}
-use Rattle.std.proofs.Common.{◌≡◌, ℕ, zero, suc, ◌+◌, ◌<◌, ◌≤◌, List, [], ◌∷◌, ◌++◌, map, length, get_or, refl, sym, ap, ◌∙◌, arith}
+-- A place of a list that was lent, and a walk over all of them.
+use Rattle.std.specs.Prelude.{replicate, slice_get}
+use Rattle.std.specs.List.{AllByRecursion}
+use Rattle.std.proofs.Common.{◌≡◌, ℕ, zero, suc, ◌+◌, List, [], ◌∷◌, ◌++◌, map, Some, None, refl, sym, ap, subst, ◌∙◌, arith}
 use Rattle.std.proofs.Math.ListN.{set}
 use Rattle.gw_model.specs.Places.{change}
-use Rattle.gw_picture.proofs.Lists.{change-past}
+use Rattle.gw_picture.proofs.Lists.{some_is}
 
-set_is_change : {A : Type 0} (n : ℕ) (f : A → A) (xs : List A) (d y : A) → n < length xs → y ≡ f (get_or xs n d) → set xs n y ≡ change n f xs
-set_is_change n f [] d y lt e = absurd (omega arith)
-set_is_change zero f (x ∷ xs) d y lt e = ap (λ (z : _). z ∷ xs) e
-set_is_change (suc n) f (x ∷ xs) d y lt e = ap (λ (zs : List _). x ∷ zs) (set_is_change n f xs d y (omega arith) e)
+-- x stood there, and f x was left
+pub lent_changed : {A : Type 0} (n : ℕ) (f : A → A) (xs : List A) (x y : A) → Some x ≡ slice_get xs n → y ≡ f x → set xs n y ≡ change n f xs
+lent_changed n f [] x y there e = refl
+lent_changed zero f (z ∷ xs) x y there e = ap (λ (w : _). w ∷ xs) (e ∙ ap f (some_is x z there))
+lent_changed (suc n) f (z ∷ xs) x y there e = ap (λ (zs : List _). z ∷ zs) (lent_changed n f xs x y there e)
 
--- the place is there
-pub changed_at : {A : Type 0} (n p : ℕ) (f : A → A) (xs : List A) (d y : A) → p ≡ n → p < length xs → y ≡ f (get_or xs p d) → set xs p y ≡ change n f xs
-changed_at n p f xs d y same lt e = set_is_change p f xs d y lt e ∙ ap (λ (m : ℕ). change m f xs) same
+-- x was left as it stood there
+pub lent_same : {A : Type 0} (n : ℕ) (xs : List A) (x y : A) → Some x ≡ slice_get xs n → y ≡ x → set xs n y ≡ xs
+lent_same n [] x y there e = refl
+lent_same zero (z ∷ xs) x y there e = ap (λ (w : _). w ∷ xs) (e ∙ some_is x z there)
+lent_same (suc n) (z ∷ xs) x y there e = ap (λ (zs : List _). z ∷ zs) (lent_same n xs x y there e)
 
--- it is not
-pub changed_past : {A : Type 0} (n : ℕ) (f : A → A) (xs : List A) → length xs ≤ n → xs ≡ change n f xs
-changed_past n f xs le = sym (change-past n f xs le)
+-- there is no such place
+pub none_changed : {A : Type 0} (n : ℕ) (f : A → A) (xs : List A) → None ≡ slice_get xs n → xs ≡ change n f xs
+none_changed n f [] none = refl
+none_changed zero f (z ∷ xs) none = absurd cc
+none_changed (suc n) f (z ∷ xs) none = ap (λ (zs : List _). z ∷ zs) (none_changed n f xs none)
+
+-- what all have, x has
+pub has_too : {A : Type 0} (P : A → Type 0) (n : ℕ) (xs : List A) (x : A) → Some x ≡ slice_get xs n → AllByRecursion P xs → P x
+has_too P n [] x there all = absurd cc
+has_too P zero (z ∷ xs) x there all = subst P (sym (some_is x z there)) all.0
+has_too P (suc n) (z ∷ xs) x there all = has_too P n xs x there all.1
 
 -- ---- so many alike
 

@@ -1,25 +1,18 @@
--- A write to one place of the clients, and a walk over all of them.
-use Rattle.std.proofs.Common.{◌≡◌, ℕ, zero, suc, ◌+◌, ◌<◌, ◌≤◌, List, [], ◌∷◌, ◌++◌, map, take, drop, length, get_or, Some, None, refl, ap, subst, ◌∙◌, arith}
-use Rattle.std.specs.Prelude.{slice_get}
+-- A walk over all places of a list.
+use Rattle.std.proofs.Common.{◌≡◌, ℕ, zero, suc, ◌+◌, ◌<◌, ◌≤◌, List, [], ◌∷◌, ◌++◌, map, take, drop, length, get_or, ap, subst, ◌∙◌, arith}
 use Rattle.std.specs.List.{AllByRecursion}
 use Rattle.std.proofs.Math.ListN.{set}
+use Rattle.std.proofs.lemmas.List.{length-append, length-map, length-take, length-drop}
 use Rattle.std.proofs.lemmas.List.Edits.{map_over_more}
 
--- no such place
-pub past_none : {A : Type 0} (n : ℕ) (xs : List A) → length xs ≤ n → slice_get xs n ≡ None
-past_none n [] le = refl
-past_none zero (x ∷ xs) le = absurd (omega arith)
-past_none (suc n) (x ∷ xs) le = past_none n xs (omega arith)
-
 -- every place changed, one after the other
-pub next_changed : {A : Type 0} (n : ℕ) (f : A → A) (xs ys : List A) (d y : A) → n < length xs
-    → ys ≡ map f (take n xs) ++ drop n xs → y ≡ f (get_or ys n d) → set ys n y ≡ map f (take (n + 1) xs) ++ drop (n + 1) xs
-next_changed n f xs ys d y lt so_far e = ap (set ys n) e ∙ map_over_more f xs ys n (get_or ys n d) lt so_far (get_again n ys d)
-  where
-    get_again : {A : Type 0} (n : ℕ) (ys : List A) (d : A) → get_or ys n d ≡ get_or ys n (get_or ys n d)
-    get_again n [] d = refl
-    get_again zero (y ∷ ys) d = refl
-    get_again (suc n) (y ∷ ys) d = get_again n ys d
+pub next_changed : {A : Type 0} (n : ℕ) (f : A → A) (xs ys : List A) (x y : A) → n < length xs
+    → ys ≡ map f (take n xs) ++ drop n xs → x ≡ get_or ys n x → y ≡ f x → set ys n y ≡ map f (take (n + 1) xs) ++ drop (n + 1) xs
+next_changed n f xs ys x y lt so_far there e = ap (set ys n) e ∙ map_over_more f xs ys n x lt so_far there
+
+pub length_walked : {A : Type 0} (n : ℕ) (f : A → A) (xs ys : List A) → ys ≡ map f (take n xs) ++ drop n xs → length ys ≡ length xs
+length_walked n f xs ys e =
+    omega (arith, ap length e, length-append (map f (take n xs)) (drop n xs), length-map (take n xs) f, length-take n xs, length-drop n xs)
 
 -- the first n places have P, the others Q
 abbrev pub Halves : {A : Type 0} → (A → Type 0) → (A → Type 0) → ℕ → List A → Type 0
@@ -48,17 +41,3 @@ pub halves_all : {A : Type 0} (P Q : A → Type 0) (n : ℕ) (ys : List A) → l
 halves_all P Q n [] le all = tt
 halves_all P Q zero (y ∷ ys) le all = absurd (omega arith)
 halves_all P Q (suc n) (y ∷ ys) le all = (all.0, halves_all P Q n ys (omega arith) all.1)
-
--- one of the places
-pub one_of : {A : Type 0} (P : A → Type 0) (n : ℕ) (ys : List A) (d : A) → n < length ys → AllByRecursion P ys → P (get_or ys n d)
-one_of P n [] d lt all = absurd (omega arith)
-one_of P zero (y ∷ ys) d lt all = all.0
-one_of P (suc n) (y ∷ ys) d lt all = one_of P n ys d (omega arith) all.1
-
-pub one_found : {A : Type 0} (n p : ℕ) (ys : List A) (d : A) → p ≡ n → p < length ys → slice_get ys n ≡ Some (get_or ys p d)
-one_found n p ys d same lt = subst (λ (m : ℕ). slice_get ys m ≡ Some (get_or ys p d)) same (found p ys d lt)
-  where
-    found : {A : Type 0} (p : ℕ) (ys : List A) (d : A) → p < length ys → slice_get ys p ≡ Some (get_or ys p d)
-    found p [] d lt = absurd (omega arith)
-    found zero (y ∷ ys) d lt = refl
-    found (suc p) (y ∷ ys) d lt = found p ys d (omega arith)

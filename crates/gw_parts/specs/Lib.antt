@@ -1,2 +1,3 @@
 pub mod Clients
+pub mod Lending
 pub mod Outstations

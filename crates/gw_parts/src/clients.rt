@@ -1,15 +1,18 @@
 //! All clients, by their position.
-ghost use Rattle.std.specs.Prelude.{◌≡◌, ◌+◌, ◌<◌, ◌≤◌, ℕ, [], ◌∷◌, length, map, option_map, replicate, slice_get, true, IfOk, OnErr, OnOk};
+ghost use Rattle.std.specs.Prelude.{◌≡◌, ◌+◌, ◌<◌, ◌≤◌, ℕ, [], ◌∷◌, length, map, option_copied, option_map, replicate, slice_get, true, IfOk, OnErr, OnOk};
+ghost use Rattle.std.specs.Borrow.{sem};
 ghost use Rattle.std.specs.List.{AllByRecursion};
+ghost use Rattle.std.specs.Option.{option_copied_mut};
 ghost use Rattle.gw_model.specs.Places.{change};
 ghost use Rattle.gw_map.specs.Settings.{Setup};
 ghost use Rattle.gw_station.specs.Client.{client_after_close, client_after_tick, client_after_up, client_down, client_with_news, is_timed_out, is_up};
-ghost use Rattle.gw_station.specs.Frames.{event_of, wants_memory};
-ghost use Rattle.gw_station.specs.Pump.{client_after_pump, given};
+ghost use Rattle.gw_station.specs.Frames.{HasPlace};
+ghost use Rattle.gw_station.specs.Pump.{client_after_pump};
 ghost use Rattle.gw_answers.specs.Meaning.{IsSendable};
 ghost use Rattle.gw_station.specs.Sound.{CanTake, IsSoundClient};
-ghost use Rattle.gw_steps.specs.Steps.{begun_by, bits_of, client_after_frame, reply_giving, reply_of_event, wanted_by};
-ghost use Rattle.gw_parts.specs.Clients.{dropped_at, has_offer, queued_at, reply_to_apdu, reply_to_pump, unacknowledged_at, CanCount, CanPump};
+ghost use Rattle.gw_steps.specs.Steps.{begun_by, bits_of, client_after_frame, client_answered, reply_of_event, wanted_by};
+ghost use Rattle.gw_parts.specs.Clients.{reply_to_apdu, reply_to_pump, CanCount, CanPump};
+ghost use Rattle.gw_parts.specs.Lending.{LendsClient};
 
 use gw_map::Settings;
 use gw_model::{Memory, Observation};
@@ -55,66 +58,71 @@ impl Clients {
     pub fn copy(&self) -> Result<Clients, Memory>
         ensures { IfOk result (λ copy. copy ≡ self.now) }
     {
-        let alloc = *self.stations.allocator();
-        let stations = copied(alloc, &self.stations, Vec::new(alloc))?;
-        Ok(Clients { stations })
+        let stations = Vec::new(*self.stations.allocator());
+        self.copy_over(Clients { stations })
     }
 
     /// The same, in the memory of what isn't needed any more, so that little is asked for where that suffices.
     pub fn copy_over(&self, spare: Clients) -> Result<Clients, Memory>
         ensures { IfOk result (λ copy. copy ≡ self.now) }
     {
-        let stations = copied(*self.stations.allocator(), &self.stations, spare.stations)?;
+        let alloc = *self.stations.allocator();
+        let mut stations = Vec::with_capacity(alloc, self.stations.len())?;
+        let mut spares = spare.stations.into_iter();
+        for station in &self.stations {
+            stations.push(copied(station, spares.next())?)?;
+        }
         Ok(Clients { stations })
+    }
+
+    /// A client's station; none where there is no such client.
+    pub fn get(&self, client: u8) -> Option<&Station>
+        ensures { option_copied result ≡ slice_get self.now client }
+    {
+        self.stations.get(usize::from(client))
     }
 
     /// Whether a client is up; none where there is no such client.
     pub fn presence(&self, client: u8) -> Option<bool>
         ensures { result ≡ option_map (λ k. is_up k.stage) (slice_get self.now client) }
     {
-        presence_at(&self.stations, client)
-    }
-
-    /// How many news wait for a client; 0 where there is no such client.
-    pub fn queued(&self, client: u8) -> usize
-        ensures { result ≡ queued_at (slice_get self.now client) }
-    {
-        queued_at(&self.stations, client)
-    }
-
-    /// How many news were dropped for a client; 0 where there is no such client.
-    pub fn dropped(&self, client: u8) -> u64
-        ensures { result ≡ dropped_at (slice_get self.now client) }
-    {
-        dropped_at(&self.stations, client)
-    }
-
-    /// How many I formats sent to a client are not acknowledged; 0 where there is no such client.
-    pub fn unacknowledged(&self, client: u8) -> usize
-        ensures { result ≡ unacknowledged_at (slice_get self.now client) }
-    {
-        unacknowledged_at(&self.stations, client)
-    }
-
-    /// A client comes up at a moment.
-    pub fn come_up(&mut self, client: u8, moment: u64)
-        ensures { self.new ≡ change client (client_after_up moment) self.old }
-    {
-        come_up_at(&mut self.stations, client, moment);
-    }
-
-    /// The connection to a client is lost.
-    pub fn go_down(&mut self, client: u8)
-        ensures { self.new ≡ change client client_after_close self.old }
-    {
-        go_down_at(&mut self.stations, client);
+        Some(self.get(client)?.is_up())
     }
 
     /// Whether a session would begin by an APDU of a client.
     pub fn begins(&self, client: u8, apdu: &Apdu) -> bool
         ensures { result ≡ begun_by apdu.now (slice_get self.now client) }
     {
-        begins_at(&self.stations, client, apdu)
+        match self.get(client) {
+            Some(station) => station.begins(apdu),
+            None => false,
+        }
+    }
+
+    /// A client's station, to be changed.
+    fn get_mut(&mut self, client: u8) -> Option<&mut Station>
+        ensures* lent { sem 𝓛 (LendsClient self.entry client result) }
+        ensures value { option_copied_mut result ≡ slice_get self.old client }
+    {
+        self.stations.get_mut(usize::from(client))
+    }
+
+    /// A client comes up at a moment.
+    pub fn come_up(&mut self, client: u8, moment: u64)
+        ensures { self.new ≡ change client (client_after_up moment) self.old }
+    {
+        if let Some(station) = self.get_mut(client) {
+            station.up(moment);
+        }
+    }
+
+    /// The connection to a client is lost.
+    pub fn go_down(&mut self, client: u8)
+        ensures { self.new ≡ change client client_after_close self.old }
+    {
+        if let Some(station) = self.get_mut(client) {
+            station.down();
+        }
     }
 
     /// Takes an APDU that came from a client at a moment; a command for a control is answered negatively at once.
@@ -140,14 +148,11 @@ impl Clients {
             → AllByRecursion (IsSoundClient any.station n i) self.old
             → OnOk result (AllByRecursion (IsSoundClient any.station (n + 1) i) self.new) }
     {
-        frame_at(&mut self.stations, client, apdu, moment, settings, picture)
-    }
-
-    /// Whether a client is up, and a pump at a moment would give it an APDU.
-    pub fn has_offer(&self, client: u8, moment: u64) -> bool
-        ensures { result ≡ has_offer moment (slice_get self.now client) }
-    {
-        has_offer_at(&self.stations, client, moment)
+        let Some(station) = self.get_mut(client) else {
+            return Ok(Reply::Nothing);
+        };
+        let event = station.frame(apdu, moment, settings, picture)?;
+        Ok(replied(event, station))
     }
 
     /// The next APDU for a client.
@@ -156,7 +161,13 @@ impl Clients {
         ensures reply { result ≡ reply_to_pump settings.now moment (slice_get self.old client) }
         ensures clients { self.new ≡ change client (client_after_pump moment) self.old }
     {
-        pump_at(&mut self.stations, client, settings, moment)
+        let Some(station) = self.get_mut(client) else {
+            return Reply::Nothing;
+        };
+        match station.pump(settings, moment) {
+            Some(apdu) => Reply::Apdu(apdu),
+            None => Reply::Nothing,
+        }
     }
 
     /// Time has passed, for every client: a bit for each whose connection is closed, the lowest for the first.
@@ -164,7 +175,11 @@ impl Clients {
         ensures closed { result ≡ bits_of (map (is_timed_out moment) self.old) }
         ensures clients { self.new ≡ map (client_after_tick moment) self.old }
     {
-        tick_all(&mut self.stations, moment)
+        let mut closed = 0;
+        for position in 0..self.stations.len() {
+            closed += u8::from(self.stations[position].tick(moment).is_some()) << position;
+        }
+        closed
     }
 
     /// Puts news into the queue of every started client.
@@ -173,23 +188,14 @@ impl Clients {
         ensures clients { self.new ≡ map (client_with_news (news ∷ [])) self.old }
         ensures more { (n : ℕ) → AllByRecursion (CanTake (n + 1)) self.old → AllByRecursion (CanTake n) self.new }
     {
-        put_all(&mut self.stations, news);
+        for position in 0..self.stations.len() {
+            self.stations[position].put(news);
+        }
     }
 }
 
-/// The same stations, each in the memory of a spare one, as far as there are such.
-fn copied(alloc: Global, stations: &[Station], spares: Vec<Station>) -> Result<Vec<Station>, Memory>
-    ensures { IfOk result (λ copy. copy.items ≡ stations.now) }
-{
-    let mut copy = Vec::with_capacity(alloc, stations.len())?;
-    let mut spares = spares.into_iter();
-    for station in stations {
-        copy.push(copied_one(station, spares.next())?)?;
-    }
-    Ok(copy)
-}
-
-fn copied_one(station: &Station, spare: Option<Station>) -> Result<Station, Memory>
+/// An equal station, in the memory of a spare one if there is one.
+fn copied(station: &Station, spare: Option<Station>) -> Result<Station, Memory>
     ensures { IfOk result (λ copy. copy ≡ station.now) }
 {
     match spare {
@@ -198,181 +204,18 @@ fn copied_one(station: &Station, spare: Option<Station>) -> Result<Station, Memo
     }
 }
 
-fn presence_at(stations: &[Station], client: u8) -> Option<bool>
-    ensures { result ≡ option_map (λ k. is_up k.stage) (slice_get stations.now client) }
-{
-    let station = stations.get(usize::from(client))?;
-    Some(station.is_up())
-}
-
-fn queued_at(stations: &[Station], client: u8) -> usize
-    ensures { result ≡ queued_at (slice_get stations.now client) }
-{
-    match stations.get(usize::from(client)) {
-        Some(station) => station.queued(),
-        None => 0,
-    }
-}
-
-fn dropped_at(stations: &[Station], client: u8) -> u64
-    ensures { result ≡ dropped_at (slice_get stations.now client) }
-{
-    match stations.get(usize::from(client)) {
-        Some(station) => station.dropped(),
-        None => 0,
-    }
-}
-
-fn unacknowledged_at(stations: &[Station], client: u8) -> usize
-    ensures { result ≡ unacknowledged_at (slice_get stations.now client) }
-{
-    match stations.get(usize::from(client)) {
-        Some(station) => station.unacknowledged(),
-        None => 0,
-    }
-}
-
-fn come_up_at(stations: &mut [Station], client: u8, moment: u64)
-    ensures { stations.new ≡ change client (client_after_up moment) stations.old }
-{
-    let position = usize::from(client);
-    if position < stations.len() {
-        stations[position].up(moment);
-    }
-}
-
-fn go_down_at(stations: &mut [Station], client: u8)
-    ensures { stations.new ≡ change client client_after_close stations.old }
-{
-    let position = usize::from(client);
-    if position < stations.len() {
-        stations[position].down();
-    }
-}
-
-fn begins_at(stations: &[Station], client: u8, apdu: &Apdu) -> bool
-    ensures { result ≡ begun_by apdu.now (slice_get stations.now client) }
-{
-    match stations.get(usize::from(client)) {
-        Some(station) => station.begins(apdu),
-        None => false,
-    }
-}
-
-fn frame_at(
-    stations: &mut [Station],
-    client: u8,
-    apdu: &Apdu,
-    moment: u64,
-    settings: &Settings,
-    picture: &[Observation],
-) -> Result<Reply, Memory>
-    requires { AllByRecursion CanCount stations.old }
-    ensures reply { IfOk result
-        (λ reply. reply ≡ reply_to_apdu settings.now apdu.now (slice_get stations.old client)) }
-    ensures clients { OnOk result
-        (stations.new ≡ change client (client_after_frame settings.now picture.now moment apdu.now) stations.old) }
-    ensures memory { OnErr result (wanted_by settings.now apdu.now (slice_get stations.old client) ≡ true) }
-    ensures same { OnErr result (stations.new ≡ stations.old) }
-    ensures sound { (any : Setup) (n i : ℕ)
-        → AllByRecursion (IsSendable any.station.offset_minutes) picture.now
-        → AllByRecursion (IsSoundClient any.station n i) stations.old
-        → OnOk result (AllByRecursion (IsSoundClient any.station (n + 1) i) stations.new) }
-{
-    let position = usize::from(client);
-    if position < stations.len() {
-        frame_one(&mut stations[position], apdu, moment, settings, picture)
-    } else {
-        Ok(Reply::Nothing)
-    }
-}
-
-fn frame_one(
-    station: &mut Station,
-    apdu: &Apdu,
-    moment: u64,
-    settings: &Settings,
-    picture: &[Observation],
-) -> Result<Reply, Memory>
-    requires { CanCount station.old }
-    ensures reply { IfOk result (λ reply. reply ≡ reply_of_event (event_of settings.now apdu.now station.old)) }
-    ensures client { OnOk result
-        (station.new ≡ client_after_frame settings.now picture.now moment apdu.now station.old) }
-    ensures memory { OnErr result (wants_memory settings.now apdu.now station.old ≡ true) }
-    ensures same { OnErr result (station.new ≡ station.old) }
-    ensures sound { (any : Setup) (n i : ℕ)
-        → AllByRecursion (IsSendable any.station.offset_minutes) picture.now
-        → IsSoundClient any.station n i station.old → OnOk result (IsSoundClient any.station (n + 1) i station.new) }
-{
-    let event = station.frame(apdu, moment, settings, picture)?;
-    if let Event::Command(command) = event {
-        station.answer(&command, outcome_of(&command));
-    }
-    Ok(reply_to(event))
-}
-
-/// The reply to what became of an APDU.
-fn reply_to(event: Event) -> Reply
-    ensures { result ≡ reply_of_event event }
+/// The reply to what became of an APDU of a client; a command for a control is answered negatively.
+fn replied(event: Event, station: &mut Station) -> Reply
+    requires { HasPlace event station.old }
+    ensures reply { result ≡ reply_of_event event }
+    ensures client { station.new ≡ client_answered event station.old }
 {
     match event {
-        Event::Taken | Event::Command(_) => Reply::Taken,
+        Event::Taken => Reply::Taken,
+        Event::Command(command) => {
+            station.answer(&command, outcome_of(&command));
+            Reply::Taken
+        }
         Event::Closed(why) => Reply::Closed(why),
-    }
-}
-
-fn has_offer_at(stations: &[Station], client: u8, moment: u64) -> bool
-    ensures { result ≡ has_offer moment (slice_get stations.now client) }
-{
-    match stations.get(usize::from(client)) {
-        Some(station) => station.has_offer(moment),
-        None => false,
-    }
-}
-
-fn pump_at(stations: &mut [Station], client: u8, settings: &Settings, moment: u64) -> Reply
-    requires { AllByRecursion CanPump stations.old }
-    ensures reply { result ≡ reply_to_pump settings.now moment (slice_get stations.old client) }
-    ensures clients { stations.new ≡ change client (client_after_pump moment) stations.old }
-{
-    let position = usize::from(client);
-    if position < stations.len() {
-        pump_one(&mut stations[position], settings, moment)
-    } else {
-        Reply::Nothing
-    }
-}
-
-fn pump_one(station: &mut Station, settings: &Settings, moment: u64) -> Reply
-    requires { CanPump station.old }
-    ensures reply { result ≡ reply_giving
-        (given settings.now.station.offset_minutes settings.now.station.common_address moment station.old) }
-    ensures client { station.new ≡ client_after_pump moment station.old }
-{
-    match station.pump(settings, moment) {
-        Some(apdu) => Reply::Apdu(apdu),
-        None => Reply::Nothing,
-    }
-}
-
-fn tick_all(stations: &mut [Station], moment: u64) -> u8
-    requires { length stations.old ≤ 8 }
-    ensures closed { result ≡ bits_of (map (is_timed_out moment) stations.old) }
-    ensures clients { stations.new ≡ map (client_after_tick moment) stations.old }
-{
-    let mut closed = 0;
-    for position in 0..stations.len() {
-        closed += u8::from(stations[position].tick(moment).is_some()) << position;
-    }
-    closed
-}
-
-fn put_all(stations: &mut [Station], news: Observation)
-    requires { AllByRecursion (CanTake 1) stations.old }
-    ensures clients { stations.new ≡ map (client_with_news (news ∷ [])) stations.old }
-    ensures more { (n : ℕ) → AllByRecursion (CanTake (n + 1)) stations.old → AllByRecursion (CanTake n) stations.new }
-{
-    for position in 0..stations.len() {
-        stations[position].put(news);
     }
 }

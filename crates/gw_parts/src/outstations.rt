@@ -1,10 +1,12 @@
 //! All outstations, by their position.
-ghost use Rattle.std.specs.Prelude.{◌≡◌, IfOk, map, option_map, slice_get};
+ghost use Rattle.std.specs.Prelude.{◌≡◌, map, option_copied, slice_get, IfOk};
+ghost use Rattle.std.specs.Borrow.{sem};
+ghost use Rattle.std.specs.Option.{option_copied_mut};
 ghost use Rattle.gw_model.specs.Places.{change};
-ghost use Rattle.dnp_master.specs.Master.{master_after_next, master_after_tick, master_after_up, master_down, request_given};
+ghost use Rattle.dnp_master.specs.Master.{master_after_next, master_after_tick, master_after_up, master_down};
 ghost use Rattle.dnp_master.specs.Fragments.{master_after_fragment};
-ghost use Rattle.gw_steps.specs.Steps.{reply_asking};
-ghost use Rattle.gw_parts.specs.Outstations.{is_due, reply_to_poll};
+ghost use Rattle.gw_parts.specs.Lending.{LendsMaster};
+ghost use Rattle.gw_parts.specs.Outstations.{reply_to_poll};
 
 use dnp_app::Response;
 use dnp_master::Master;
@@ -45,52 +47,63 @@ impl Outstations {
     pub fn copy(&self) -> Result<Outstations, Memory>
         ensures { IfOk result (λ copy. copy ≡ self.now) }
     {
-        let none = Vec::new(*self.masters.allocator());
-        let masters = refilled(none, &self.masters)?;
-        Ok(Outstations { masters })
+        let masters = Vec::new(*self.masters.allocator());
+        self.copy_over(Outstations { masters })
     }
 
     /// The same, in the memory of what isn't needed any more, so that none is asked for where that suffices.
     pub fn copy_over(&self, spare: Outstations) -> Result<Outstations, Memory>
         ensures { IfOk result (λ copy. copy ≡ self.now) }
     {
-        let masters = refilled(spare.masters, &self.masters)?;
+        let mut masters = spare.masters;
+        masters.clear();
+        masters.reserve(self.masters.len())?;
+        for master in &self.masters {
+            masters.push(master.copy()?)?;
+        }
         Ok(Outstations { masters })
     }
 
-    /// An outstation, if there is such.
+    /// The master towards an outstation; none where there is no such outstation.
     pub fn get(&self, outstation: u8) -> Option<&Master>
-        ensures { option_map (λ master. master.now) result ≡ slice_get self.now outstation }
+        ensures { option_copied result ≡ slice_get self.now outstation }
     {
         self.masters.get(usize::from(outstation))
     }
 
-    /// Whether a poll of an outstation at a moment would give a request.
-    pub fn is_due(&self, outstation: u8, moment: u64) -> bool
-        ensures { result ≡ is_due moment (slice_get self.now outstation) }
+    /// The master towards an outstation, to be changed.
+    fn get_mut(&mut self, outstation: u8) -> Option<&mut Master>
+        ensures* lent { sem 𝓛 (LendsMaster self.entry outstation result) }
+        ensures value { option_copied_mut result ≡ slice_get self.old outstation }
     {
-        is_due_at(&self.masters, outstation, moment)
+        self.masters.get_mut(usize::from(outstation))
     }
 
     /// An outstation comes up at a moment.
     pub fn come_up(&mut self, outstation: u8, moment: u64)
         ensures { self.new ≡ change outstation (master_after_up moment) self.old }
     {
-        come_up_at(&mut self.masters, outstation, moment);
+        if let Some(master) = self.get_mut(outstation) {
+            master.up(moment);
+        }
     }
 
     /// An outstation is lost.
     pub fn go_down(&mut self, outstation: u8)
         ensures { self.new ≡ change outstation (λ master. master_down master.poll) self.old }
     {
-        go_down_at(&mut self.masters, outstation);
+        if let Some(master) = self.get_mut(outstation) {
+            master.down();
+        }
     }
 
     /// A response of its outstation comes at a moment.
     pub fn take(&mut self, response: &Response, moment: u64)
         ensures { self.new ≡ change response.now.outstation (master_after_fragment moment response.now) self.old }
     {
-        take_at(&mut self.masters, response, moment);
+        if let Some(master) = self.get_mut(response.outstation()) {
+            let _verdict = master.take(response, moment);
+        }
     }
 
     /// The next request of an outstation, at a moment and a wall time.
@@ -98,92 +111,21 @@ impl Outstations {
         ensures reply { result ≡ reply_to_poll moment wall (slice_get self.old outstation) }
         ensures masters { self.new ≡ change outstation (master_after_next moment wall) self.old }
     {
-        next_at(&mut self.masters, outstation, moment, wall)
+        let Some(master) = self.get_mut(outstation) else {
+            return Reply::Nothing;
+        };
+        match master.next(moment, wall) {
+            Some(request) => Reply::Request(request),
+            None => Reply::Nothing,
+        }
     }
 
     /// Time has passed, for every outstation.
     pub fn tick(&mut self, moment: u64)
         ensures { self.new ≡ map (master_after_tick moment) self.old }
     {
-        tick_all(&mut self.masters, moment);
-    }
-}
-
-/// The same masters, in the memory of spare ones where that suffices.
-fn refilled(mut copy: Vec<Master>, masters: &[Master]) -> Result<Vec<Master>, Memory>
-    ensures { IfOk result (λ copy. copy.items ≡ masters.now) }
-{
-    copy.clear();
-    copy.reserve(masters.len())?;
-    for master in masters {
-        copy.push(master.copy()?)?;
-    }
-    Ok(copy)
-}
-
-fn is_due_at(masters: &[Master], outstation: u8, moment: u64) -> bool
-    ensures { result ≡ is_due moment (slice_get masters.now outstation) }
-{
-    match masters.get(usize::from(outstation)) {
-        Some(master) => master.is_due(moment),
-        None => false,
-    }
-}
-
-fn come_up_at(masters: &mut [Master], outstation: u8, moment: u64)
-    ensures { masters.new ≡ change outstation (master_after_up moment) masters.old }
-{
-    let position = usize::from(outstation);
-    if position < masters.len() {
-        masters[position].up(moment);
-    }
-}
-
-fn go_down_at(masters: &mut [Master], outstation: u8)
-    ensures { masters.new ≡ change outstation (λ master. master_down master.poll) masters.old }
-{
-    let position = usize::from(outstation);
-    if position < masters.len() {
-        masters[position].down();
-    }
-}
-
-fn take_at(masters: &mut [Master], response: &Response, moment: u64)
-    ensures { masters.new
-        ≡ change response.now.outstation (master_after_fragment moment response.now) masters.old }
-{
-    let position = usize::from(response.outstation());
-    if position < masters.len() {
-        let _verdict = masters[position].take(response, moment);
-    }
-}
-
-fn next_at(masters: &mut [Master], outstation: u8, moment: u64, wall: u64) -> Reply
-    ensures reply { result ≡ reply_to_poll moment wall (slice_get masters.old outstation) }
-    ensures masters { masters.new ≡ change outstation (master_after_next moment wall) masters.old }
-{
-    let position = usize::from(outstation);
-    if position < masters.len() {
-        next_one(&mut masters[position], moment, wall)
-    } else {
-        Reply::Nothing
-    }
-}
-
-fn next_one(master: &mut Master, moment: u64, wall: u64) -> Reply
-    ensures reply { result ≡ reply_asking (request_given moment wall master.old) }
-    ensures master { master.new ≡ master_after_next moment wall master.old }
-{
-    match master.next(moment, wall) {
-        Some(request) => Reply::Request(request),
-        None => Reply::Nothing,
-    }
-}
-
-fn tick_all(masters: &mut [Master], moment: u64)
-    ensures { masters.new ≡ map (master_after_tick moment) masters.old }
-{
-    for position in 0..masters.len() {
-        masters[position].tick(moment);
+        for position in 0..self.masters.len() {
+            self.masters[position].tick(moment);
+        }
     }
 }

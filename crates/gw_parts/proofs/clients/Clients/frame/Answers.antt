@@ -1,42 +1,45 @@
-use Rattle.std.proofs.Common.{◌≡◌, ◌+◌, true, List, sym, ap, subst, ◌∙◌, arith}
-use Rattle.std.specs.Prelude.{slice_get, IfOk, OnErr}
-use Rattle.std.specs.List.{AllByRecursion}
-use Rattle.std.proofs.lemmas.List.{take_at}
-use Rattle.std.proofs.lemmas.Result.{on_err_weaker, on_ok_weaker}
-use Rattle.gw_model.specs.Places.{change}
-use Rattle.gw_station.specs.Client.{Client}
+use Rattle.std.proofs.Common.{◌≡◌, ◌+◌, rules, arith, sym, subst}
+use Rattle.std.proofs.lemmas.Result.{err_from_is_err_and}
 use Rattle.gw_station.specs.Sound.{IsSoundClient}
-use Rattle.gw_steps.specs.Steps.{client_after_frame, wanted_by}
-use Rattle.gw_parts.specs.Clients.{reply_to_apdu, CanCount}
+use Rattle.gw_station.proofs.Sounds.{all_later}
+use Rattle.gw_steps.specs.Steps.{client_after_frame}
+use Rattle.gw_parts.specs.Clients.{CanCount}
+use Rattle.gw_parts.proofs.Places.{has_too, lent_changed, lent_same, none_changed}
+use Rattle.gw_parts.proofs.Sounds.{sound_after_frame, sound_set}
 use Rattle.gw_parts.proofs.clients.Clients.frame.Goals as goal
 
-pub frame_at-requires : goal.frame_at-requires
-frame_at-requires c = subst (AllByRecursion CanCount) (sym (c.deref_mut.ensures.value ∙ c.self.view_is)) c.requires
+pub returns-in_default-clause-clients : goal.returns-in_default-clause-clients
+returns-in_default-clause-clients c =
+    none_changed c.args.client (client_after_frame c.args.settings.now c.args.picture.now c.args.moment c.args.apdu.now) c.args.self.now c.in_default.ensures.value
 
-pub returns-clause-reply : goal.returns-clause-reply
-returns-clause-reply c =
-    subst (λ (ks : List Client). IfOk c.frame_at.result (λ reply. reply ≡ reply_to_apdu c.args.settings.now c.args.apdu.now (slice_get ks c.args.client)))
-    (c.deref_mut.ensures.value ∙ c.self.view_is) c.frame_at.ensures.reply
+pub returns-in_default-clause-sound : goal.returns-in_default-clause-sound
+returns-in_default-clause-sound c = λ any n i shown all.
+    all_later any.station n (n + 1) i i c.args.self.now (omega arith) (omega arith) all
+
+pub frame-requires : goal.frame-requires
+frame-requires c = (has_too CanCount c.args.client c.args.self.now c.in-Some.station.now c.in-Some.ensures.value c.requires).received
+
+pub returns-in_err-event-clause-same : goal.returns-in_err-event-clause-same
+returns-in_err-event-clause-same c =
+    let p = err_from_is_err_and c.from_residual.result c.from_residual.ensures.1 in
+    rw p.1 (lent_same c.args.client c.args.self.now c.in-Some.station.now c.frame.new.self c.in-Some.ensures.value c.in_err-event.ensures.same)
 
 pub returns-clause-clients : goal.returns-clause-clients
 returns-clause-clients c =
     let after = client_after_frame c.args.settings.now c.args.picture.now c.args.moment c.args.apdu.now in
-    let back = take_at c.frame_at.new.stations _ c.self.inside.stations.len (omega (arith, c.frame_at.auto.stations, c.deref_mut.ensures.len)) in
-    on_ok_weaker c.frame_at.result
-    (λ e. back ∙ (e ∙ ap (change c.args.client after) (c.deref_mut.ensures.value ∙ c.self.view_is))) c.frame_at.ensures.clients
-
-pub returns-clause-memory : goal.returns-clause-memory
-returns-clause-memory c =
-    subst (λ (ks : List Client). OnErr c.frame_at.result (wanted_by c.args.settings.now c.args.apdu.now (slice_get ks c.args.client) ≡ true))
-    (c.deref_mut.ensures.value ∙ c.self.view_is) c.frame_at.ensures.memory
-
-pub returns-clause-same : goal.returns-clause-same
-returns-clause-same c =
-    let back = take_at c.frame_at.new.stations _ c.self.inside.stations.len (omega (arith, c.frame_at.auto.stations, c.deref_mut.ensures.len)) in
-    on_err_weaker c.frame_at.result (λ e. back ∙ (e ∙ (c.deref_mut.ensures.value ∙ c.self.view_is))) c.frame_at.ensures.same
+    let one : c.replied.new.station ≡ after c.in-Some.station.now = search rules in
+    lent_changed c.args.client after c.args.self.now c.in-Some.station.now c.replied.new.station c.in-Some.ensures.value one
 
 pub returns-clause-sound : goal.returns-clause-sound
 returns-clause-sound c = λ any n i shown all.
-    let back = take_at c.frame_at.new.stations _ c.self.inside.stations.len (omega (arith, c.frame_at.auto.stations, c.deref_mut.ensures.len)) in
-    let before = subst (AllByRecursion (IsSoundClient any.station n i)) (sym (c.deref_mut.ensures.value ∙ c.self.view_is)) all in
-    on_ok_weaker c.frame_at.result (λ sound. subst (AllByRecursion (IsSoundClient any.station (n + 1) i)) (sym back) sound) (c.frame_at.ensures.sound any n i shown before)
+    let setup = c.args.settings.now in
+    let picture = c.args.picture.now in
+    let moment = c.args.moment in
+    let apdu = c.args.apdu.now in
+    let old = c.in-Some.station.now in
+    let taken = c.in_ok-event.ensures in
+    let sound = has_too (IsSoundClient any.station n i) c.args.client c.args.self.now old c.in-Some.ensures.value all in
+    let answers = taken.sendable any.station.offset_minutes shown (sound.answers, sound.rest) in
+    let client : c.replied.new.station ≡ client_after_frame setup picture moment apdu old = search rules in
+    let here = sound_after_frame any n i setup picture moment apdu old c.frame.new.self c.in_ok-event.event taken.event taken.whole taken.place taken.client answers sound in
+    sound_set any n i c.args.client c.args.self.now c.replied.new.station (subst (IsSoundClient any.station (n + 1) i) (sym client) here) all

@@ -1,22 +1,36 @@
-use Rattle.std.proofs.Common.{List, sym, ap, subst, ◌∙◌, arith}
-use Rattle.std.specs.Prelude.{slice_get}
-use Rattle.std.specs.List.{AllByRecursion}
-use Rattle.std.proofs.lemmas.List.{take_at}
-use Rattle.gw_model.specs.Places.{change}
-use Rattle.gw_station.specs.Client.{Client}
-use Rattle.gw_station.specs.Pump.{client_after_pump}
+use Rattle.std.proofs.Common.{◌≡◌, rules, ap, ◌∙◌}
+use Rattle.gw_station.specs.Pump.{client_after_pump, given}
+use Rattle.gw_steps.specs.declared.step.Reply.TheVariants.{Apdu, Nothing}
+use Rattle.gw_steps.specs.Steps.{reply_giving}
 use Rattle.gw_parts.specs.Clients.{reply_to_pump, CanPump}
+use Rattle.gw_parts.proofs.Places.{has_too, lent_changed, none_changed}
 use Rattle.gw_parts.proofs.clients.Clients.pump.Goals as goal
 
-pub pump_at-requires : goal.pump_at-requires
-pump_at-requires c = subst (AllByRecursion CanPump) (sym (c.deref_mut.ensures.value ∙ c.self.view_is)) c.requires
+pub returns-in_default-clause-clients : goal.returns-in_default-clause-clients
+returns-in_default-clause-clients c = none_changed c.args.client (client_after_pump c.args.moment) c.args.self.now c.in_default.ensures.value
 
-pub returns-clause-reply : goal.returns-clause-reply
-returns-clause-reply c =
-    c.pump_at.ensures.reply
-    ∙ ap (λ (ks : List Client). reply_to_pump c.args.settings.now c.args.moment (slice_get ks c.args.client)) (c.deref_mut.ensures.value ∙ c.self.view_is)
+pub pump-requires-clause-count : goal.pump-requires-clause-count
+pump-requires-clause-count c = (has_too CanPump c.args.client c.args.self.now c.in-Some.station.now c.in-Some.ensures.value c.requires).sent
 
-pub returns-clause-clients : goal.returns-clause-clients
-returns-clause-clients c =
-    let back = take_at c.pump_at.new.stations _ c.self.inside.stations.len (omega (arith, c.pump_at.auto.stations, c.deref_mut.ensures.len)) in
-    back ∙ (c.pump_at.ensures.clients ∙ ap (change c.args.client (client_after_pump c.args.moment)) (c.deref_mut.ensures.value ∙ c.self.view_is))
+pub pump-requires-clause-answers : goal.pump-requires-clause-answers
+pump-requires-clause-answers c = (has_too CanPump c.args.client c.args.self.now c.in-Some.station.now c.in-Some.ensures.value c.requires).answers
+
+pub returns-in-Some-pump-clause-reply : goal.returns-in-Some-pump-clause-reply
+returns-in-Some-pump-clause-reply c =
+    let station = c.args.settings.now.station in
+    let one : Apdu c.in-Some-pump.apdu ≡ reply_giving (given station.offset_minutes station.common_address c.args.moment c.in-Some.station.now) = search rules in
+    one ∙ ap (reply_to_pump c.args.settings.now c.args.moment) c.in-Some.ensures.value
+
+pub returns-in-Some-pump-clause-clients : goal.returns-in-Some-pump-clause-clients
+returns-in-Some-pump-clause-clients c =
+    lent_changed c.args.client (client_after_pump c.args.moment) c.args.self.now c.in-Some.station.now c.pump.new.self c.in-Some.ensures.value c.pump.ensures.client
+
+pub returns-in-None-clause-reply : goal.returns-in-None-clause-reply
+returns-in-None-clause-reply c =
+    let station = c.args.settings.now.station in
+    let none : Nothing ≡ reply_giving (given station.offset_minutes station.common_address c.args.moment c.in-Some.station.now) = search rules in
+    none ∙ ap (reply_to_pump c.args.settings.now c.args.moment) c.in-Some.ensures.value
+
+pub returns-in-None-clause-clients : goal.returns-in-None-clause-clients
+returns-in-None-clause-clients c =
+    lent_changed c.args.client (client_after_pump c.args.moment) c.args.self.now c.in-Some.station.now c.pump.new.self c.in-Some.ensures.value c.pump.ensures.client

@@ -2,9 +2,9 @@
 use Rattle.std.proofs.Common.{◌≡◌, ◌++◌, map, take, drop}
 use Rattle.gw_station.specs.Client.{client_after_tick, is_timed_out}
 use Rattle.gw_steps.specs.Steps.{bits_of}
-use Rattle.gw_parts.proofs.clients.tick_all.Given as goal
+use Rattle.gw_parts.proofs.clients.Clients.tick.Given as goal
 
 abbrev pub invariant-loop-position : goal.invariant-loop-position
 invariant-loop-position l =
-    (l.stations ≡ map (client_after_tick l.moment) (take l.position l.fn.stations) ++ drop l.position l.fn.stations)
-    × (l.closed ≡ bits_of (map (is_timed_out l.moment) (take l.position l.fn.stations)))
+    (l.self-inside.stations.items ≡ map (client_after_tick l.moment) (take l.position l.fn.self) ++ drop l.position l.fn.self)
+    × (l.closed ≡ bits_of (map (is_timed_out l.moment) (take l.position l.fn.self)))

@@ -4,9 +4,9 @@ use Rattle.std.specs.List.{AllByRecursion}
 use Rattle.gw_station.specs.Client.{client_with_news}
 use Rattle.gw_station.specs.Sound.{CanTake}
 use Rattle.gw_parts.proofs.Walks.{Halves}
-use Rattle.gw_parts.proofs.clients.put_all.Given as goal
+use Rattle.gw_parts.proofs.clients.Clients.put.Given as goal
 
 abbrev pub invariant-loop-position : goal.invariant-loop-position
 invariant-loop-position l =
-    (l.stations ≡ map (client_with_news (l.news ∷ [])) (take l.position l.fn.stations) ++ drop l.position l.fn.stations)
-    × ((n : ℕ) → AllByRecursion (CanTake (n + 1)) l.fn.stations → Halves (CanTake n) (CanTake (n + 1)) l.position l.stations)
+    (l.self-inside.stations.items ≡ map (client_with_news (l.news ∷ [])) (take l.position l.fn.self) ++ drop l.position l.fn.self)
+    × ((n : ℕ) → AllByRecursion (CanTake (n + 1)) l.fn.self → Halves (CanTake n) (CanTake (n + 1)) l.position l.self-inside.stations.items)
