@@ -11,8 +11,10 @@ pub const CLIENTS: u8 = 8;
 /// What a step is about.
 #[derive(Clone, Copy, Debug, PartialEq, Eq)]
 pub enum Topic {
-    /// A poll or a pump, which changes nothing that another waits for.
-    Question,
+    /// A poll, which changes nothing that another waits for.
+    Poll,
+    /// A pump for a client, which changes nothing either.
+    Pump(u8),
     /// A fragment of an outstation.
     Fragment(u8),
     /// An outstation comes up.
@@ -36,7 +38,8 @@ impl Topic {
             | Step::ClientDown { client, .. }
             | Step::Frame { client, .. } => Topic::Client(*client),
             Step::Tick { .. } => Topic::Tick,
-            Step::Poll { .. } | Step::Pump { .. } => Topic::Question,
+            Step::Poll { .. } => Topic::Poll,
+            Step::Pump { client, .. } => Topic::Pump(*client),
         }
     }
 }
@@ -65,8 +68,8 @@ impl Roused {
         }
     }
 
-    /// Whom a step serves that left the hub so with this reply: a peer that came, went or sent something finds its own
-    /// writer awake; besides these, whoever has something to hand over now. A step with a fault, and a fragment that wasn't
+    /// Whom a step serves that left the hub so with this reply: the writer of a peer that came, went or had its connection
+    /// closed; besides these, whoever has something to hand over now. A step with a fault, and a fragment that wasn't
     /// accepted, serve nobody.
     pub fn by(topic: Topic, reply: &Result<Reply, StepFault>, hub: &Hub) -> Roused {
         match (topic, reply) {
@@ -89,11 +92,38 @@ impl Roused {
                 outstations: outstation_bit(outstation),
                 clients: due_clients(hub),
             },
+            (Topic::Client(client), Ok(Reply::Taken)) if !hub.is_pump_due(client) => {
+                Roused::nobody()
+            }
             (Topic::Client(client), Ok(_)) => Roused {
                 outstations: 0,
                 clients: client_bit(client),
             },
-            (Topic::Question | Topic::Tick, Ok(_)) => Roused::nobody(),
+            (Topic::Poll | Topic::Pump(_) | Topic::Tick, Ok(_)) => Roused::nobody(),
+        }
+    }
+
+    /// These but for the writers of clients that others have already.
+    pub fn without_clients_of(self, others: Roused) -> Roused {
+        Roused {
+            clients: self.clients & !others.clients,
+            ..self
+        }
+    }
+
+    /// These, and the writers of clients that others have.
+    pub fn with_clients_of(self, others: Roused) -> Roused {
+        Roused {
+            clients: self.clients | others.clients,
+            ..self
+        }
+    }
+
+    /// These but for a client's writer.
+    pub fn without_client(self, client: u8) -> Roused {
+        Roused {
+            clients: self.clients & !client_bit(client),
+            ..self
         }
     }
 
