@@ -92,12 +92,9 @@ impl Roused {
                 outstations: outstation_bit(outstation),
                 clients: due_clients(hub),
             },
-            (Topic::Client(client), Ok(Reply::Taken)) if !hub.is_pump_due(client) => {
-                Roused::nobody()
-            }
-            (Topic::Client(client), Ok(_)) => Roused {
+            (Topic::Client(client), Ok(reply)) => Roused {
                 outstations: 0,
-                clients: client_bit(client),
+                clients: served_client(client, reply, hub),
             },
             (Topic::Poll | Topic::Pump(_) | Topic::Tick, Ok(_)) => Roused::nobody(),
         }
@@ -157,6 +154,23 @@ fn client_bit(client: u8) -> u8 {
     if client < CLIENTS { 1 << client } else { 0 }
 }
 
+/// The client itself, unless an APDU of it was taken that makes nothing due.
+fn served_client(client: u8, reply: &Reply, hub: &Hub) -> u8 {
+    match reply {
+        Reply::Taken => due_client(hub, client),
+        _ => client_bit(client),
+    }
+}
+
+/// The client, where something is to be handed over for it.
+fn due_client(hub: &Hub, client: u8) -> u8 {
+    if hub.is_pump_due(client) {
+        client_bit(client)
+    } else {
+        0
+    }
+}
+
 /// The outstations towards which a request is due.
 fn due_outstations(hub: &Hub) -> u32 {
     let mut due = 0;
@@ -172,9 +186,7 @@ fn due_outstations(hub: &Hub) -> u32 {
 fn due_clients(hub: &Hub) -> u8 {
     let mut due = 0;
     for client in 0..CLIENTS {
-        if hub.is_pump_due(client) {
-            due |= client_bit(client);
-        }
+        due |= due_client(hub, client);
     }
     due
 }
