@@ -2,6 +2,7 @@
 //! the lock alike, so that whoever has all passes again knows how many steps were made.
 #![tactic(auto)]
 
+mod awake;
 mod batch;
 mod bell;
 mod close;

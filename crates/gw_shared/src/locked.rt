@@ -6,6 +6,7 @@ ghost use Rattle.gw_record.specs.Recording.{is_tape_full, noted};
 ghost use Rattle.gw_shared.specs.Pumping.{IsPumpedNext, IsPumpedRun};
 ghost use Rattle.gw_shared.specs.Turn.{last_call, Answers, IsMadeReady, Steps};
 
+use crate::awake::Awake;
 use crate::batch::{Batch, LONGEST_APDU};
 use crate::dropped::{Dropped, Watch};
 use crate::figures::Figures;
@@ -22,8 +23,8 @@ use std::sync::ledger::{Book, Ledger, Share};
 /// How many pumps are made at most before others may take the lock.
 const MOST_PUMPS: u32 = 64;
 
-/// A hub with its recorder, the count of calls, the book of all passes' counts, and what was dropped for clients, which no
-/// contract sees.
+/// A hub with its recorder, the count of calls, and the book of all passes' counts; what was dropped for clients, and which
+/// writers are awake, which no contract sees.
 #[derive(Drop)]
 pub struct Core<L: Ledger> {
     hub: Hub,
@@ -31,6 +32,7 @@ pub struct Core<L: Ledger> {
     made: u64,
     book: Book<L>,
     dropped: Dropped,
+    awake: Awake,
 }
 
 impl<L: Ledger> Model for Core<L> {
@@ -69,6 +71,7 @@ impl<L: Ledger> Core<L> {
             made: 0,
             book,
             dropped: Dropped::new(),
+            awake: Awake::nobody(),
         })
     }
 
@@ -110,8 +113,16 @@ impl<L: Ledger> Core<L> {
     {
         let topic = Topic::of(&step);
         let answer = self.step(pass, step);
-        let roused = Roused::by(topic, &answer.1, &self.hub);
+        let roused = self.rouse(topic, &answer.1);
         (answer, roused)
+    }
+
+    /// Those of the workers whom a call serves for whom the bell has to ring.
+    fn rouse(&mut self, topic: Topic, reply: &Result<Reply, StepFault>) -> Roused
+        ensures { self.new ≡ self.old }
+    {
+        self.awake.told(topic, reply);
+        self.awake.rouse(Roused::by(topic, reply, &self.hub))
     }
 
     /// Pumps for a client at a moment, one call after another, and puts the APDUs into a batch: until an answer is none, or
@@ -219,6 +230,7 @@ impl<L: Ledger> Core<L> {
             made: _,
             book: _,
             dropped: _,
+            awake: _,
         } = self;
         (hub, recorder)
     }

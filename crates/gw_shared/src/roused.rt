@@ -11,8 +11,10 @@ pub const CLIENTS: u8 = 8;
 /// What a step is about.
 #[derive(Clone, Copy, Debug, PartialEq, Eq)]
 pub enum Topic {
-    /// A poll or a pump, which changes nothing that another waits for.
-    Question,
+    /// A poll, which changes nothing that another waits for.
+    Poll,
+    /// A pump for a client, which changes nothing either.
+    Pump(u8),
     /// A fragment of an outstation.
     Fragment(u8),
     /// An outstation comes up.
@@ -36,7 +38,8 @@ impl Topic {
             | Step::ClientDown { client, .. }
             | Step::Frame { client, .. } => Topic::Client(*client),
             Step::Tick { .. } => Topic::Tick,
-            Step::Poll { .. } | Step::Pump { .. } => Topic::Question,
+            Step::Poll { .. } => Topic::Poll,
+            Step::Pump { client, .. } => Topic::Pump(*client),
         }
     }
 }
@@ -65,8 +68,8 @@ impl Roused {
         }
     }
 
-    /// Whom a step serves that left the hub so with this reply: a peer that came, went or sent something finds its own
-    /// writer awake; besides these, whoever has something to hand over now. A step with a fault, and a fragment that wasn't
+    /// Whom a step serves that left the hub so with this reply: the writer of a peer that came, went or had its connection
+    /// closed; besides these, whoever has something to hand over now. A step with a fault, and a fragment that wasn't
     /// accepted, serve nobody.
     pub fn by(topic: Topic, reply: &Result<Reply, StepFault>, hub: &Hub) -> Roused {
         match (topic, reply) {
@@ -89,11 +92,35 @@ impl Roused {
                 outstations: outstation_bit(outstation),
                 clients: due_clients(hub),
             },
-            (Topic::Client(client), Ok(_)) => Roused {
+            (Topic::Client(client), Ok(reply)) => Roused {
                 outstations: 0,
-                clients: client_bit(client),
+                clients: served_client(client, reply, hub),
             },
-            (Topic::Question | Topic::Tick, Ok(_)) => Roused::nobody(),
+            (Topic::Poll | Topic::Pump(_) | Topic::Tick, Ok(_)) => Roused::nobody(),
+        }
+    }
+
+    /// These but for the writers of clients that others have already.
+    pub fn without_clients_of(self, others: Roused) -> Roused {
+        Roused {
+            clients: self.clients & !others.clients,
+            ..self
+        }
+    }
+
+    /// These, and the writers of clients that others have.
+    pub fn with_clients_of(self, others: Roused) -> Roused {
+        Roused {
+            clients: self.clients | others.clients,
+            ..self
+        }
+    }
+
+    /// These but for a client's writer.
+    pub fn without_client(self, client: u8) -> Roused {
+        Roused {
+            clients: self.clients & !client_bit(client),
+            ..self
         }
     }
 
@@ -127,6 +154,23 @@ fn client_bit(client: u8) -> u8 {
     if client < CLIENTS { 1 << client } else { 0 }
 }
 
+/// The client itself, unless an APDU of it was taken that makes nothing due.
+fn served_client(client: u8, reply: &Reply, hub: &Hub) -> u8 {
+    match reply {
+        Reply::Taken => due_client(hub, client),
+        _ => client_bit(client),
+    }
+}
+
+/// The client, where something is to be handed over for it.
+fn due_client(hub: &Hub, client: u8) -> u8 {
+    if hub.is_pump_due(client) {
+        client_bit(client)
+    } else {
+        0
+    }
+}
+
 /// The outstations towards which a request is due.
 fn due_outstations(hub: &Hub) -> u32 {
     let mut due = 0;
@@ -142,9 +186,7 @@ fn due_outstations(hub: &Hub) -> u32 {
 fn due_clients(hub: &Hub) -> u8 {
     let mut due = 0;
     for client in 0..CLIENTS {
-        if hub.is_pump_due(client) {
-            due |= client_bit(client);
-        }
+        due |= due_client(hub, client);
     }
     due
 }
