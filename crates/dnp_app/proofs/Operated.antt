@@ -100,7 +100,7 @@ whole_request operation index (Switch on shape) sequence = refl
 whole_request operation index (Set value) sequence = refl
 
 -- a request of an operation is read as that operation of its act
-operates_again : (operation : Operation) (index : ℕ) (act : Act) (sequence : ℕ) → sequence < 16 → index < 2 ^ 16
+pub operates_again : (operation : Operation) (index : ℕ) (act : Act) (sequence : ℕ) → sequence < 16 → index < 2 ^ 16
     → FitsObject act
     → operating_of (octets_of (request (control_octets operation index act sequence)))
     ≡ operates_for sequence operation index act

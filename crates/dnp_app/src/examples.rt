@@ -196,8 +196,8 @@ pub fn control_requests_by_example()
     ensures negative { control_octets Operate 258 (Set (negsuc 1)) 2
         ≡ 0xC2 ∷ 0x04 ∷ 0x29 ∷ 0x02 ∷ 0x28 ∷ 0x01 ∷ 0x00 ∷ 0x02 ∷ 0x01 ∷ 0xFE ∷ 0xFF ∷ 0x00 ∷ [] }
     // Read from octets alone: a latch off, and the least value that there is.
-    ensures latch_off { operating_of (0xC1 ∷ 0x04 ∷ 0x0C ∷ 0x01 ∷ 0x28 ∷ 0x01 ∷ 0x00 ∷ 0x03 ∷ 0x00 ∷ 0x04 ∷ 0x01 ∷ 0
-        ∷ 0 ∷ 0 ∷ 0 ∷ 0 ∷ 0 ∷ 0 ∷ 0 ∷ 0 ∷ []) ≡ operates_for 1 Operate 3 (Switch false Latch) }
+    ensures latch_off { operating_of (0xC1 ∷ 0x04 ∷ 0x0C ∷ 0x01 ∷ 0x28 ∷ 0x01 ∷ 0x00 ∷ 0x03 ∷ 0x00 ∷ 0x04 ∷ 0x01
+        ∷ 0 ∷ 0 ∷ 0 ∷ 0 ∷ 0 ∷ 0 ∷ 0 ∷ 0 ∷ 0 ∷ []) ≡ operates_for 1 Operate 3 (Switch false Latch) }
     ensures least { operating_of (0xC0 ∷ 0x03 ∷ 0x29 ∷ 0x02 ∷ 0x28 ∷ 0x01 ∷ 0x00 ∷ 0x00 ∷ 0x01 ∷ 0x00 ∷ 0x80 ∷ 0x00
         ∷ []) ≡ operates_for 0 Select 256 (Set (negsuc 32767)) }
     // A pulse by CLOSE alone; a latch with an on-time; twice; an off-time; a status; two outputs; an index of one octet;

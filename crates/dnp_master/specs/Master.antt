@@ -1,13 +1,14 @@
 -- The master's part for one outstation, as an engineer draws it: what is due, the request that awaits its answer, and
 -- what is known of the fragments that were accepted (IEEE Std 1815, clause 4).
-use Rattle.std.specs.Prelude.{ℕ, ◌+◌, ◌-◌, ◌%◌, ◌==◌, nat_le, Bool, true, false, ◌&&◌, ◌||◌, not, List, [], ◌∷◌, ◌++◌, slice_get, Option, Some, None, option_map, if◌then◌else◌}
+use Rattle.std.specs.Prelude.{◌≡◌, ℕ, ◌+◌, ◌-◌, ◌%◌, ◌==◌, nat_le, Bool, true, false, ◌&&◌, ◌||◌, not, List, [], ◌∷◌, ◌++◌, slice_get, Option, Some, None, option_map, if◌then◌else◌}
 use Rattle.gw_model.specs.declared.control.Ended.{Ended}
 use Rattle.gw_model.specs.declared.control.Order.{Order}
 use Rattle.gw_model.specs.declared.poll.Poll.{Poll}
 use Rattle.dnp_app.specs.declared.operation.Operation.{Operation}
 use Rattle.dnp_app.specs.declared.operation.Operation.TheVariants.{Select, Operate, DirectOperate}
 use Rattle.dnp_app.specs.declared.request.Request.{Request}
-use Rattle.dnp_app.specs.Requests.{request, read_octets, enable_octets, disable_octets, clear_restart_octets, record_time_octets, write_time_octets, control_octets}
+use Rattle.dnp_app.specs.Operating.{request_intent}
+use Rattle.dnp_app.specs.Requests.{octets_of, request, read_octets, enable_octets, disable_octets, clear_restart_octets, record_time_octets, write_time_octets, control_octets}
 use Rattle.dnp_master.specs.declared.task.Task.{Task}
 use Rattle.dnp_master.specs.declared.task.Task.TheVariants.{ClearRestart, WriteTime, RecordTime, Disable, Integrity, Enable, EventPoll, Command}
 use Rattle.dnp_master.specs.declared.due.Due.{Due}
@@ -131,6 +132,10 @@ order_of _ = None
 abbrev pub task_request : Task → ℕ → Request
 task_request task sequence =
     record (request (task_octets task sequence)) { bond = option_map (λ order. order.number) (order_of task) }
+
+-- by its octets a request means the intent of an order
+abbrev pub MeantBy : Request → Order → Type 0
+MeantBy r order = request_intent order.intent.outstation (octets_of r) ≡ Some order.intent
 
 -- OPERATE where it is due comes before all tasks
 abbrev pub first_task : Exchange → List Task → Option Task

@@ -1,5 +1,7 @@
 //! The master towards one outstation.
-ghost use Rattle.std.specs.Prelude.{◌≡◌, is_some, IfOk, IsOk, IsTrue};
+ghost use Rattle.std.specs.Prelude.{◌≡◌, is_some, IfOk, IfSome, IsOk, IsTrue, Some};
+ghost use Rattle.dnp_app.specs.Operating.{request_intent};
+ghost use Rattle.dnp_app.specs.Requests.{octets_of};
 ghost use Rattle.dnp_master.specs.Master.{
   ended_by_loss,
   ended_by_tick,
@@ -10,6 +12,8 @@ ghost use Rattle.dnp_master.specs.Master.{
   master_after_up,
   master_asking,
   master_down,
+  order_of,
+  MeantBy,
   request_given,
   request_ordered,
   task_given,
@@ -165,6 +169,7 @@ impl Master {
     /// Gives the request of a task at a moment. It awaits its answer from then on.
     fn ask(&mut self, task: Task, moment: u64) -> Request
         ensures request { result ≡ task_request task self.old.sequence }
+        ensures intent { IfSome (order_of task) (MeantBy result) }
         ensures after { self.new ≡ master_asking moment task self.old }
     {
         let request = task.request(self.sequence);
@@ -179,11 +184,12 @@ impl Master {
         request
     }
 
-    /// Takes an order at a moment, and gives its first request: SELECT, after which OPERATE is due once it succeeded, or
-    /// DIRECT_OPERATE.
+    /// Takes an order at a moment, and gives its first request: SELECT, after which OPERATE is due once that succeeded,
+    /// or DIRECT_OPERATE.
     pub fn order(&mut self, order: Order, moment: u64) -> Request
         requires { IsTrue (is_ready self.old) }
         ensures request { result ≡ request_ordered order self.old }
+        ensures intent { request_intent order.intent.outstation (octets_of result) ≡ Some order.intent }
         ensures after { self.new ≡ master_after_order moment order self.old }
     {
         self.ask(Task::of_order(order), moment)

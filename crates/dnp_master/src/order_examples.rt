@@ -40,11 +40,13 @@ pub fn direct_operate_by_example()
     // the number that follows.
     ensures awaits { given plain latched 4999 0 ≡ None }
     ensures busy { is_ready (after plain latched) ≡ false }
-    ensures taken { judged plain latched (latch_answer (0xC1 ∷ 0x81 ∷ 0 ∷ 0 ∷ []) 0) ≡ Accepted None true (Some succeeded) }
+    ensures taken { judged plain latched (latch_answer (0xC1 ∷ 0x81 ∷ 0 ∷ 0 ∷ []) 0)
+        ≡ Accepted None true (Some succeeded) }
     ensures after_it { given plain (latched ++ Comes 0 (latch_answer (0xC1 ∷ 0x81 ∷ 0 ∷ 0 ∷ []) 0) ∷ []) 2000 0
         ≡ Some (read_octets false 2) }
     // A status of 4 (control operation not supported).
-    ensures refused { judged plain latched (latch_answer (0xC1 ∷ 0x81 ∷ 0 ∷ 0 ∷ []) 4) ≡ Accepted None true (Some failed) }
+    ensures refused { judged plain latched (latch_answer (0xC1 ∷ 0x81 ∷ 0 ∷ 0 ∷ []) 4)
+        ≡ Accepted None true (Some failed) }
     // An echo of another output, of a latch off, of two operations, of a set point; none; two; beside another object.
     ensures other_index { judged plain latched (0xC1 ∷ 0x81 ∷ 0 ∷ 0 ∷ 0x0C ∷ 0x01 ∷ 0x28 ∷ 0x01 ∷ 0x00 ∷ 0x04 ∷ 0x00
         ∷ 0x03 ∷ 0x01 ∷ 0 ∷ 0 ∷ 0 ∷ 0 ∷ 0 ∷ 0 ∷ 0 ∷ 0 ∷ 0 ∷ []) ≡ Accepted None true (Some failed) }
@@ -92,9 +94,11 @@ pub fn select_and_operate_by_example()
     ensures select { judged plain selecting (setpoint_answer (0xC1 ∷ 0x81 ∷ 0 ∷ 0 ∷ []) 0) ≡ Accepted None true None }
     ensures operate { given plain selected 0 0 ≡ Some (0xC2 ∷ 0x04 ∷ setpoint_object 0) }
     ensures busy { is_ready (after plain selected) ≡ false }
-    ensures taken { judged plain operating (setpoint_answer (0xC2 ∷ 0x81 ∷ 0 ∷ 0 ∷ []) 0) ≡ Accepted None true (Some succeeded) }
+    ensures taken { judged plain operating (setpoint_answer (0xC2 ∷ 0x81 ∷ 0 ∷ 0 ∷ []) 0)
+        ≡ Accepted None true (Some succeeded) }
     ensures once { given plain operating 4999 0 ≡ None }
-    ensures over { given plain (operating ++ Comes 0 (setpoint_answer (0xC2 ∷ 0x81 ∷ 0 ∷ 0 ∷ []) 0) ∷ []) 1999 0 ≡ None }
+    ensures over { given plain (operating ++ Comes 0 (setpoint_answer (0xC2 ∷ 0x81 ∷ 0 ∷ 0 ∷ []) 0) ∷ []) 1999 0
+        ≡ None }
     // A status of 4 to SELECT: no OPERATE; to OPERATE.
     ensures refused { judged plain selecting (setpoint_answer (0xC1 ∷ 0x81 ∷ 0 ∷ 0 ∷ []) 4)
         ≡ Accepted None true (Some failed) }
@@ -136,7 +140,8 @@ pub fn select_and_operate_by_example()
     // OPERATE that is due has no time of its own; given, it has.
     ensures no_time { late plain selected 1000000 ≡ None }
     ensures operate_unanswered { late plain operating 5000 ≡ Some failed }
-    // The outstation is lost while SELECT awaits its answer, while OPERATE is due, while it awaits its answer, and after.
+    // The outstation is lost while SELECT awaits its answer, while OPERATE is due, while that awaits its own, and
+    // after it.
     ensures lost_selecting { lost plain selecting ≡ Some failed }
     ensures lost_selected { lost plain selected ≡ Some failed }
     ensures lost_operating { lost plain operating ≡ Some failed }

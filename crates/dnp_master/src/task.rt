@@ -1,7 +1,7 @@
 //! What the master asks an outstation for.
-ghost use Rattle.std.specs.Prelude.{◌≡◌, ◌<◌, false, option_map};
+ghost use Rattle.std.specs.Prelude.{◌≡◌, ◌<◌, false, option_map, IfSome};
 ghost use Rattle.dnp_master.specs.Fragments.{ended_answered, ended_with, is_done};
-ghost use Rattle.dnp_master.specs.Master.{ended, order_of, order_task, task_request};
+ghost use Rattle.dnp_master.specs.Master.{ended, order_of, order_task, task_request, MeantBy};
 
 use dnp_app::{
     Operation, Request, Response, clear_restart, control_request, disable, enable, read_poll,
@@ -34,7 +34,8 @@ impl Task {
     /// The request of the task.
     pub fn request(self, sequence: u8) -> Request
         requires { sequence < 16 }
-        ensures { result ≡ task_request self sequence }
+        ensures request { result ≡ task_request self sequence }
+        ensures intent { IfSome (order_of self) (MeantBy result) }
     {
         match self {
             Task::ClearRestart => clear_restart(sequence),
