@@ -4,3 +4,4 @@ pub mod Within
 pub mod Echoes
 pub mod EchoLaws
 pub mod Written
+pub mod Operated

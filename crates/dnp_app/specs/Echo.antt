@@ -1,14 +1,17 @@
 -- The command that a response echoes (IEEE Std 1815, 4.2.2.7 and Annex A): a response to SELECT, OPERATE or
 -- DIRECT_OPERATE gives the command's objects back, each with a status in its last octet.
-use Rattle.std.specs.Prelude.{◌≡◌, ℕ, ◌+◌, ◌-◌, ◌*◌, ◌≤◌, ◌==◌, List, [], ◌∷◌, ◌++◌, length, take, drop, replicate, slice_index, Option, Some, None, option_map, option_and_then, if◌then◌else◌, IfSome}
+use Rattle.std.specs.Prelude.{◌≡◌, ℕ, ◌+◌, ◌-◌, ◌*◌, ◌≤◌, ◌==◌, Bool, false, ◌&&◌, List, [], ◌∷◌, ◌++◌, length, take, drop, replicate, slice_index, Option, Some, None, option_map, option_and_then, if◌then◌else◌, IfSome}
 use Rattle.std.specs.List.{All, filter_map}
 use Rattle.std.specs.Result.{result_unwrap_or}
+use Rattle.std.specs.Str.{bytes_eq}
+use Rattle.gw_model.specs.declared.control.Act.{Act}
 use Rattle.dnp_objects.specs.declared.header.Header.{Header}
 use Rattle.dnp_objects.specs.declared.object.Size.{Size}
 use Rattle.dnp_objects.specs.declared.object.Size.TheVariants.{Octets, Bits}
 use Rattle.dnp_objects.specs.Library.{Variation, Role, Point, CommonTime, Echo as Command, SteppedOver, object_of, size_of}
 use Rattle.dnp_objects.specs.Headers.{number, headers_of, IsPart}
 use Rattle.dnp_app.specs.declared.echoed.Echo.{Echo}
+use Rattle.dnp_app.specs.Requests.{group_of, command_object}
 
 -- ---- what an echo is
 
@@ -102,3 +105,22 @@ pub record HasCommandsWithin (part : List ℕ) (h : Header) : Type 0 where
   pub prefix : h.prefix ≤ 2
   pub inside :
       IfSome (command_length h.group h.variation) (λ octets. h.start + h.count * (h.prefix + octets) ≤ length part)
+
+-- ---- what was sent, given back
+
+-- the command in an object part
+abbrev pub command_in : List ℕ → Option Echo
+command_in part = only_one (lone_echoes part (result_unwrap_or (headers_of part) []))
+
+-- the echo of an act on an output that the outstation took: the object as it was sent, with status 0
+abbrev pub echo_taken : ℕ → Act → Echo
+echo_taken index act = record { index = index; group = group_of act; body = body_of (command_object act); status = 0 }
+
+abbrev pub is_same_echo : Echo → Echo → Bool
+is_same_echo e other =
+    (e.index == other.index) && (e.group == other.group) && (e.status == other.status) && bytes_eq e.body other.body
+
+-- an echo says that the outstation took an act on an output
+abbrev pub is_taken : ℕ → Act → Option Echo → Bool
+is_taken index act None = false
+is_taken index act (Some e) = is_same_echo e (echo_taken index act)

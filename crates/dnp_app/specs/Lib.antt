@@ -4,3 +4,4 @@ pub mod Echo
 pub mod SteppedOver
 pub mod Requests
 pub mod Asking
+pub mod Operating

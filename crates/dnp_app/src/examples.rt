@@ -1,5 +1,5 @@
 //! Worked examples of the definitions, computed by the definitions themselves.
-ghost use Rattle.std.specs.Prelude.{◌≡◌, ℕ, [], ◌∷◌, Ok, Err, Some, None, true, false};
+ghost use Rattle.std.specs.Prelude.{◌≡◌, ℕ, pos, negsuc, [], ◌∷◌, Ok, Err, Some, None, true, false};
 ghost use Rattle.dnp_objects.specs.Headers.{number};
 ghost use Rattle.dnp_objects.specs.declared.fault.Why.TheVariants.{UnknownObject, ShortData};
 ghost use Rattle.dnp_points.specs.Objects.{binary_report};
@@ -10,6 +10,11 @@ ghost use Rattle.dnp_app.specs.Response.{response_of, fragment_of};
 ghost use Rattle.dnp_app.specs.SteppedOver.{stepped_over_count_of};
 ghost use Rattle.dnp_app.specs.Requests.{clear_restart_octets, disable_octets, enable_octets, read_octets, record_time_octets, write_time_octets};
 ghost use Rattle.dnp_app.specs.Asking.{asking_of, asks_for, Read, WriteIndication};
+ghost use Rattle.gw_model.specs.declared.control.Act.TheVariants.{Switch, Set};
+ghost use Rattle.gw_model.specs.declared.control.Shape.TheVariants.{Latch, Pulse};
+ghost use Rattle.dnp_app.specs.declared.operation.Operation.TheVariants.{Select, Operate, DirectOperate};
+ghost use Rattle.dnp_app.specs.Requests.{control_octets};
+ghost use Rattle.dnp_app.specs.Operating.{operates_for, operating_of};
 
 /// What some fragments are, read for an outstation, and which fault others have.
 #[tactic(auto, unfolding(dnp_objects::specs::Headers::headers_from, dnp_objects::specs::Library::object_of, dnp_points::specs::Objects::point_report))]
@@ -171,4 +176,47 @@ pub fn requests_by_example()
     ensures two { asking_of (0xC0 ∷ 2 ∷ 0x50 ∷ 1 ∷ 0 ∷ 4 ∷ 7 ∷ 0 ∷ []) ≡ None }
     ensures recorded_more { asking_of (0xC0 ∷ 24 ∷ 0 ∷ []) ≡ None }
     ensures no_function { asking_of (0xC0 ∷ []) ≡ None }
+{}
+
+/// The octets of requests that operate an output, and what octets operate that this master doesn't write.
+pub fn control_requests_by_example()
+    // A latch on of output 3; pulses of half a second on and of two seconds off.
+    ensures latch { control_octets DirectOperate 3 (Switch true Latch) 1
+        ≡ 0xC1 ∷ 0x05 ∷ 0x0C ∷ 0x01 ∷ 0x28 ∷ 0x01 ∷ 0x00 ∷ 0x03 ∷ 0x00 ∷ 0x03 ∷ 0x01 ∷ 0x00 ∷ 0x00 ∷ 0x00 ∷ 0x00
+        ∷ 0x00 ∷ 0x00 ∷ 0x00 ∷ 0x00 ∷ 0x00 ∷ [] }
+    ensures pulse_on { control_octets DirectOperate 3 (Switch true (Pulse 500)) 1
+        ≡ 0xC1 ∷ 0x05 ∷ 0x0C ∷ 0x01 ∷ 0x28 ∷ 0x01 ∷ 0x00 ∷ 0x03 ∷ 0x00 ∷ 0x41 ∷ 0x01 ∷ 0xF4 ∷ 0x01 ∷ 0x00 ∷ 0x00
+        ∷ 0x00 ∷ 0x00 ∷ 0x00 ∷ 0x00 ∷ 0x00 ∷ [] }
+    ensures pulse_off { control_octets Select 3 (Switch false (Pulse 2000)) 15
+        ≡ 0xCF ∷ 0x03 ∷ 0x0C ∷ 0x01 ∷ 0x28 ∷ 0x01 ∷ 0x00 ∷ 0x03 ∷ 0x00 ∷ 0x81 ∷ 0x01 ∷ 0xD0 ∷ 0x07 ∷ 0x00 ∷ 0x00
+        ∷ 0x00 ∷ 0x00 ∷ 0x00 ∷ 0x00 ∷ 0x00 ∷ [] }
+    // Output 4 set to 1000, and output 258 to -2.
+    ensures setpoint { control_octets Select 4 (Set (pos 1000)) 1
+        ≡ 0xC1 ∷ 0x03 ∷ 0x29 ∷ 0x02 ∷ 0x28 ∷ 0x01 ∷ 0x00 ∷ 0x04 ∷ 0x00 ∷ 0xE8 ∷ 0x03 ∷ 0x00 ∷ [] }
+    ensures negative { control_octets Operate 258 (Set (negsuc 1)) 2
+        ≡ 0xC2 ∷ 0x04 ∷ 0x29 ∷ 0x02 ∷ 0x28 ∷ 0x01 ∷ 0x00 ∷ 0x02 ∷ 0x01 ∷ 0xFE ∷ 0xFF ∷ 0x00 ∷ [] }
+    // Read from octets alone: a latch off, and the least value that there is.
+    ensures latch_off { operating_of (0xC1 ∷ 0x04 ∷ 0x0C ∷ 0x01 ∷ 0x28 ∷ 0x01 ∷ 0x00 ∷ 0x03 ∷ 0x00 ∷ 0x04 ∷ 0x01
+        ∷ 0 ∷ 0 ∷ 0 ∷ 0 ∷ 0 ∷ 0 ∷ 0 ∷ 0 ∷ 0 ∷ []) ≡ operates_for 1 Operate 3 (Switch false Latch) }
+    ensures least { operating_of (0xC0 ∷ 0x03 ∷ 0x29 ∷ 0x02 ∷ 0x28 ∷ 0x01 ∷ 0x00 ∷ 0x00 ∷ 0x01 ∷ 0x00 ∷ 0x80 ∷ 0x00
+        ∷ []) ≡ operates_for 0 Select 256 (Set (negsuc 32767)) }
+    // A pulse by CLOSE alone; a latch with an on-time; twice; an off-time; a status; two outputs; an index of one octet;
+    // no acknowledgement asked for (function 6); a request that reads.
+    ensures other_code { operating_of (0xC0 ∷ 0x05 ∷ 0x0C ∷ 0x01 ∷ 0x28 ∷ 0x01 ∷ 0x00 ∷ 0x03 ∷ 0x00 ∷ 0x40 ∷ 0x01 ∷ 1
+        ∷ 0 ∷ 0 ∷ 0 ∷ 0 ∷ 0 ∷ 0 ∷ 0 ∷ 0 ∷ []) ≡ None }
+    ensures timed_latch { operating_of (0xC0 ∷ 0x05 ∷ 0x0C ∷ 0x01 ∷ 0x28 ∷ 0x01 ∷ 0x00 ∷ 0x03 ∷ 0x00 ∷ 0x03 ∷ 0x01 ∷ 1
+        ∷ 0 ∷ 0 ∷ 0 ∷ 0 ∷ 0 ∷ 0 ∷ 0 ∷ 0 ∷ []) ≡ None }
+    ensures twice { operating_of (0xC0 ∷ 0x05 ∷ 0x0C ∷ 0x01 ∷ 0x28 ∷ 0x01 ∷ 0x00 ∷ 0x03 ∷ 0x00 ∷ 0x41 ∷ 0x02 ∷ 1
+        ∷ 0 ∷ 0 ∷ 0 ∷ 0 ∷ 0 ∷ 0 ∷ 0 ∷ 0 ∷ []) ≡ None }
+    ensures off_time { operating_of (0xC0 ∷ 0x05 ∷ 0x0C ∷ 0x01 ∷ 0x28 ∷ 0x01 ∷ 0x00 ∷ 0x03 ∷ 0x00 ∷ 0x41 ∷ 0x01 ∷ 1
+        ∷ 0 ∷ 0 ∷ 0 ∷ 0 ∷ 0 ∷ 0 ∷ 1 ∷ 0 ∷ []) ≡ None }
+    ensures with_status { operating_of (0xC0 ∷ 0x05 ∷ 0x29 ∷ 0x02 ∷ 0x28 ∷ 0x01 ∷ 0x00 ∷ 0x04 ∷ 0x00 ∷ 0xE8 ∷ 0x03
+        ∷ 0x04 ∷ []) ≡ None }
+    ensures two_outputs { operating_of (0xC0 ∷ 0x05 ∷ 0x29 ∷ 0x02 ∷ 0x28 ∷ 0x02 ∷ 0x00 ∷ 0x04 ∷ 0x00 ∷ 0xE8 ∷ 0x03
+        ∷ 0x00 ∷ 0x05 ∷ 0x00 ∷ 0xE8 ∷ 0x03 ∷ 0x00 ∷ []) ≡ None }
+    ensures short_index { operating_of (0xC0 ∷ 0x05 ∷ 0x29 ∷ 0x02 ∷ 0x17 ∷ 0x01 ∷ 0x04 ∷ 0xE8 ∷ 0x03 ∷ 0x00 ∷ [])
+        ≡ None }
+    ensures unanswered { operating_of (0xC0 ∷ 0x06 ∷ 0x29 ∷ 0x02 ∷ 0x28 ∷ 0x01 ∷ 0x00 ∷ 0x04 ∷ 0x00 ∷ 0xE8 ∷ 0x03
+        ∷ 0x00 ∷ []) ≡ None }
+    ensures reads { operating_of (0xC0 ∷ 0x01 ∷ 0x3C ∷ 0x02 ∷ 0x06 ∷ []) ≡ None }
 {}

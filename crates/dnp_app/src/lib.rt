@@ -7,6 +7,7 @@ mod echoed;
 mod examples;
 mod fault;
 mod law;
+mod operation;
 mod request;
 mod response;
 mod skipped;
@@ -14,10 +15,11 @@ mod skipped;
 pub use confirmation::confirm;
 pub use echoed::Echo;
 pub use examples::{
-    controls_by_example, echoes_by_example, fragments_by_example, requests_by_example,
-    stepped_over_by_example,
+    control_requests_by_example, controls_by_example, echoes_by_example, fragments_by_example,
+    requests_by_example, stepped_over_by_example,
 };
 pub use fault::AppFault;
-pub use law::one_echo;
+pub use law::{controls_apart, one_echo, taken_as_sent};
+pub use operation::{Operation, control_request};
 pub use request::{Request, clear_restart, disable, enable, read_poll, record_time, write_time};
 pub use response::{Control, Response, read_response};

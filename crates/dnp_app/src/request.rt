@@ -53,7 +53,7 @@ impl Request {
 }
 
 /// A request of these octets.
-fn request_from(octets: &[u8]) -> Request
+pub fn request_from(octets: &[u8]) -> Request
     requires { length octets.now ≤ 32 }
     ensures { result ≡ request_of octets.now }
 {
@@ -67,7 +67,7 @@ fn request_from(octets: &[u8]) -> Request
 }
 
 /// Application control of a request: FIR and FIN, and a sequence number.
-fn control(sequence: u8) -> u8
+pub fn control(sequence: u8) -> u8
     requires { sequence < 16 }
     ensures { result ≡ 192 + sequence }
 {

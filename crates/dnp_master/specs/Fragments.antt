@@ -1,21 +1,25 @@
 -- What becomes of a fragment, and what an accepted one changes (IEEE Std 1815, 4.2.2 and clause 5).
 use Rattle.std.specs.Prelude.{ℕ, ◌/◌, ◌%◌, ◌==◌, Bool, true, false, ◌&&◌, ◌||◌, not, List, slice_index, Option, Some, None, if◌then◌else◌}
 use Rattle.std.specs.Str.{bytes_eq}
+use Rattle.gw_model.specs.declared.control.Ended.{Ended}
+use Rattle.gw_model.specs.declared.control.Order.{Order}
 use Rattle.gw_model.specs.declared.poll.Poll.{Poll}
+use Rattle.dnp_app.specs.declared.operation.Operation.TheVariants.{Select, Operate, DirectOperate}
 use Rattle.dnp_app.specs.declared.response.Control.{Control}
 use Rattle.dnp_app.specs.Control.{confirm_of, control_of}
+use Rattle.dnp_app.specs.Echo.{echo_of, is_taken}
 use Rattle.dnp_app.specs.Response.{Fragment, is_unsolicited}
 use Rattle.dnp_master.specs.declared.verdict.Verdict.{Verdict}
 use Rattle.dnp_master.specs.declared.verdict.Verdict.TheVariants.{Accepted, Repeated, Ignored}
 use Rattle.dnp_master.specs.declared.verdict.Ignored.TheVariants.{NoRequest, WrongSequence, WrongFirst}
 use Rattle.dnp_master.specs.declared.task.Task.{Task}
-use Rattle.dnp_master.specs.declared.task.Task.TheVariants.{ClearRestart, WriteTime, RecordTime, Disable, Integrity, Enable, EventPoll}
+use Rattle.dnp_master.specs.declared.task.Task.TheVariants.{ClearRestart, WriteTime, RecordTime, Disable, Integrity, Enable, EventPoll, Command}
 use Rattle.dnp_master.specs.declared.due.Due.{Due}
 use Rattle.dnp_master.specs.declared.exchange.Awaited.{Awaited}
 use Rattle.dnp_master.specs.declared.exchange.Exchange.{Exchange}
-use Rattle.dnp_master.specs.declared.exchange.Exchange.TheVariants.{Idle, Waiting}
+use Rattle.dnp_master.specs.declared.exchange.Exchange.TheVariants.{Idle, Waiting, Selected}
 use Rattle.dnp_master.specs.declared.indications.Indications.{Indications}
-use Rattle.dnp_master.specs.Master.{Master, following}
+use Rattle.dnp_master.specs.Master.{Master, ended, following}
 
 -- ---- the verdict
 
@@ -29,7 +33,23 @@ control_in f = control_of (slice_index f.octets 0)
 
 abbrev pub verdict_of_unsolicited : Option (List ℕ) → List ℕ → Verdict
 verdict_of_unsolicited last octets =
-    if is_last last octets then Repeated (confirm_of octets) else Accepted (confirm_of octets) false
+    if is_last last octets then Repeated (confirm_of octets) else Accepted (confirm_of octets) false None
+
+-- the outstation took what was asked for: the last fragment of the answer echoes the command, with status 0. Where no
+-- command was sent there is nothing to take
+abbrev pub is_done : Task → Fragment → Bool
+is_done (Command operation order) f = is_taken order.intent.index order.intent.act (echo_of f.octets)
+is_done _ f = false
+
+-- how an order ends with the answer to its task, which did it or not: after SELECT it goes on where that succeeded
+abbrev pub ended_answered : Task → Bool → Option Ended
+ended_answered (Command Select order) done = if done then None else Some (ended false order)
+ended_answered (Command Operate order) done = Some (ended done order)
+ended_answered (Command DirectOperate order) done = Some (ended done order)
+ended_answered _ done = None
+
+abbrev pub ended_with : Task → Fragment → Option Ended
+ended_with task f = if (control_in f).fin then ended_answered task (is_done task f) else None
 
 -- an answer's first fragment has FIR, its others don't
 abbrev pub is_begun_rightly : Bool → Bool → Bool
@@ -41,8 +61,11 @@ verdict_of_answer Idle f = Ignored NoRequest
 verdict_of_answer (Waiting w) f =
     let control = control_in f in
     if control.sequence == w.expected then
-    (if is_begun_rightly w.begun control.fir then Accepted (confirm_of f.octets) control.fin else Ignored WrongFirst)
+    (if is_begun_rightly w.begun control.fir
+    then Accepted (confirm_of f.octets) control.fin (ended_with w.task f)
+    else Ignored WrongFirst)
     else Ignored WrongSequence
+verdict_of_answer (Selected order) f = Ignored NoRequest
 
 -- what becomes of a fragment
 abbrev pub verdict_of : Master → Fragment → Verdict
@@ -50,7 +73,7 @@ verdict_of m f =
     if is_unsolicited f then verdict_of_unsolicited m.last f.octets else verdict_of_answer m.exchange f
 
 abbrev pub is_acceptance : Verdict → Bool
-is_acceptance (Accepted confirm end) = true
+is_acceptance (Accepted confirm end control) = true
 is_acceptance (Repeated confirm) = false
 is_acceptance (Ignored why) = false
 
@@ -105,10 +128,17 @@ due_once_answered Disable due = due
 due_once_answered Integrity due = due
 due_once_answered Enable due = due
 due_once_answered EventPoll due = due
+due_once_answered (Command operation order) due = due
 
-abbrev pub exchange_after : ℕ → Bool → Awaited → Exchange
-exchange_after moment fin w =
-    if fin then Idle else Waiting (record w { expected = following w.expected; begun = true; since = moment })
+-- a SELECT that succeeded makes OPERATE due
+abbrev pub exchange_once_answered : Task → Bool → Exchange
+exchange_once_answered (Command Select order) done = if done then Selected order else Idle
+exchange_once_answered _ done = Idle
+
+abbrev pub exchange_after : ℕ → Fragment → Awaited → Exchange
+exchange_after moment f w =
+    if (control_in f).fin then exchange_once_answered w.task (is_done w.task f)
+    else Waiting (record w { expected = following w.expected; begun = true; since = moment })
 
 -- a fragment of an answer was accepted at a moment
 abbrev pub master_after_answer : ℕ → Fragment → Exchange → Master → Master
@@ -119,9 +149,10 @@ master_after_answer moment f (Waiting w) m =
     record m {
       before = indications_in f;
       sequence = following w.expected;
-      exchange = exchange_after moment fin w;
+      exchange = exchange_after moment f w;
       due = if fin then due_once_answered w.task due else due;
     }
+master_after_answer moment f (Selected order) m = m
 
 -- an unsolicited response was accepted
 abbrev pub master_after_unsolicited : Fragment → Master → Master

@@ -84,8 +84,8 @@ impl Due {
         self.events || moment.saturating_sub(self.events_since) >= poll.poll_ms
     }
 
-    /// The first of the tasks that are due at a moment; a control's OPERATE will come before all of them, and its
-    /// first request between that and these.
+    /// The first of the tasks that are due at a moment. OPERATE comes before all of them, and an order is given between
+    /// that and these.
     pub fn first(&self, moment: u64, wall: u64, poll: &Poll) -> Option<Task>
         ensures { result ≡ slice_get (tasks_due moment wall poll.now self.now) 0 }
     {
@@ -132,6 +132,7 @@ impl Due {
                 due.events = false;
                 due.events_since = moment;
             }
+            Task::Command(_, _) => {}
         }
         due
     }

@@ -11,17 +11,17 @@ ghost use Rattle.dnp_master.specs.Example.{after, given, hasty, judged, plain, r
 pub fn verdicts_by_example()
     // F0 82: unsolicited, asks for a confirmation; D1 82: unsolicited, asks for none. The same octets again are a
     // repeat; other indications, another one in between or a connection that came up again, and it is accepted.
-    ensures unsolicited { judged plain [] (0xF0 ∷ 0x82 ∷ 0 ∷ 0 ∷ []) ≡ Accepted (Some (0xD0 ∷ 0 ∷ [])) false }
-    ensures unconfirmed { judged plain [] (0xD1 ∷ 0x82 ∷ 0 ∷ 0 ∷ []) ≡ Accepted None false }
+    ensures unsolicited { judged plain [] (0xF0 ∷ 0x82 ∷ 0 ∷ 0 ∷ []) ≡ Accepted (Some (0xD0 ∷ 0 ∷ [])) false None }
+    ensures unconfirmed { judged plain [] (0xD1 ∷ 0x82 ∷ 0 ∷ 0 ∷ []) ≡ Accepted None false None }
     ensures repeated { judged plain (Comes 0 (0xF0 ∷ 0x82 ∷ 0 ∷ 0 ∷ []) ∷ []) (0xF0 ∷ 0x82 ∷ 0 ∷ 0 ∷ [])
         ≡ Repeated (Some (0xD0 ∷ 0 ∷ [])) }
     ensures other_body { judged plain (Comes 0 (0xF0 ∷ 0x82 ∷ 0 ∷ 0 ∷ []) ∷ []) (0xF0 ∷ 0x82 ∷ 0 ∷ 1 ∷ [])
-        ≡ Accepted (Some (0xD0 ∷ 0 ∷ [])) false }
+        ≡ Accepted (Some (0xD0 ∷ 0 ∷ [])) false None }
     ensures another { judged plain
         (Comes 0 (0xF0 ∷ 0x82 ∷ 0 ∷ 0 ∷ []) ∷ Comes 0 (0xD1 ∷ 0x82 ∷ 0 ∷ 0 ∷ []) ∷ [])
-        (0xF0 ∷ 0x82 ∷ 0 ∷ 0 ∷ []) ≡ Accepted (Some (0xD0 ∷ 0 ∷ [])) false }
+        (0xF0 ∷ 0x82 ∷ 0 ∷ 0 ∷ []) ≡ Accepted (Some (0xD0 ∷ 0 ∷ [])) false None }
     ensures again_up { verdict_of (master_after_up 7 (after plain (Comes 0 (0xF0 ∷ 0x82 ∷ 0 ∷ 0 ∷ []) ∷ [])))
-        (response (0xF0 ∷ 0x82 ∷ 0 ∷ 0 ∷ [])) ≡ Accepted (Some (0xD0 ∷ 0 ∷ [])) false }
+        (response (0xF0 ∷ 0x82 ∷ 0 ∷ 0 ∷ [])) ≡ Accepted (Some (0xD0 ∷ 0 ∷ [])) false None }
     // No request awaits an answer, before a poll and after the answer's end.
     ensures no_request { judged plain [] (0xC0 ∷ 0x81 ∷ 0 ∷ 0 ∷ []) ≡ Ignored NoRequest }
     ensures answered_already { judged plain (Polls 0 0 ∷ Comes 0 (0xC0 ∷ 0x81 ∷ 0 ∷ 0 ∷ []) ∷ [])
@@ -30,19 +30,19 @@ pub fn verdicts_by_example()
     ensures wrong_sequence { judged plain (Polls 0 0 ∷ []) (0xC1 ∷ 0x81 ∷ 0 ∷ 0 ∷ []) ≡ Ignored WrongSequence }
     ensures wrong_first { judged plain (Polls 0 0 ∷ []) (0x40 ∷ 0x81 ∷ 0 ∷ 0 ∷ []) ≡ Ignored WrongFirst }
     ensures wrong_both { judged plain (Polls 0 0 ∷ []) (0x41 ∷ 0x81 ∷ 0 ∷ 0 ∷ []) ≡ Ignored WrongSequence }
-    ensures first_part { judged plain (Polls 0 0 ∷ []) (0x80 ∷ 0x81 ∷ 0 ∷ 0 ∷ []) ≡ Accepted None false }
+    ensures first_part { judged plain (Polls 0 0 ∷ []) (0x80 ∷ 0x81 ∷ 0 ∷ 0 ∷ []) ≡ Accepted None false None }
     ensures next_part { judged plain (Polls 0 0 ∷ Comes 0 (0x80 ∷ 0x81 ∷ 0 ∷ 0 ∷ []) ∷ [])
-        (0x61 ∷ 0x81 ∷ 0 ∷ 0 ∷ []) ≡ Accepted (Some (0xC1 ∷ 0 ∷ [])) true }
+        (0x61 ∷ 0x81 ∷ 0 ∷ 0 ∷ []) ≡ Accepted (Some (0xC1 ∷ 0 ∷ [])) true None }
     ensures first_again { judged plain (Polls 0 0 ∷ Comes 0 (0x80 ∷ 0x81 ∷ 0 ∷ 0 ∷ []) ∷ [])
         (0xC1 ∷ 0x81 ∷ 0 ∷ 0 ∷ []) ≡ Ignored WrongFirst }
     ensures same_again { judged plain (Polls 0 0 ∷ Comes 0 (0x80 ∷ 0x81 ∷ 0 ∷ 0 ∷ []) ∷ [])
         (0x80 ∷ 0x81 ∷ 0 ∷ 0 ∷ []) ≡ Ignored WrongSequence }
     // An unsolicited response between the fragments of an answer changes nothing for it.
     ensures between { judged plain (Polls 0 0 ∷ Comes 0 (0x80 ∷ 0x81 ∷ 0 ∷ 0 ∷ [])
-        ∷ Comes 0 (0xF0 ∷ 0x82 ∷ 0 ∷ 0 ∷ []) ∷ []) (0x41 ∷ 0x81 ∷ 0 ∷ 0 ∷ []) ≡ Accepted None true }
+        ∷ Comes 0 (0xF0 ∷ 0x82 ∷ 0 ∷ 0 ∷ []) ∷ []) (0x41 ∷ 0x81 ∷ 0 ∷ 0 ∷ []) ≡ Accepted None true None }
     // The first fragment was accepted 4,999 ms after the request, so the time for the next one is not over at 5,000.
     ensures patient { judged plain (Polls 0 0 ∷ Comes 4999 (0x80 ∷ 0x81 ∷ 0 ∷ 0 ∷ []) ∷ Ticks 9998 ∷ [])
-        (0x41 ∷ 0x81 ∷ 0 ∷ 0 ∷ []) ≡ Accepted None true }
+        (0x41 ∷ 0x81 ∷ 0 ∷ 0 ∷ []) ≡ Accepted None true None }
     ensures too_late { judged plain (Polls 0 0 ∷ Comes 4999 (0x80 ∷ 0x81 ∷ 0 ∷ 0 ∷ []) ∷ Ticks 9999 ∷ [])
         (0x41 ∷ 0x81 ∷ 0 ∷ 0 ∷ []) ≡ Ignored NoRequest }
 {}

@@ -1,9 +1,11 @@
 //! The request that awaits its answer.
-ghost use Rattle.std.specs.Prelude.{◌≡◌, ◌<◌};
-ghost use Rattle.dnp_master.specs.Master.{following, is_late};
+ghost use Rattle.std.specs.Prelude.{◌≡◌, ◌<◌, false, option_map};
+ghost use Rattle.dnp_master.specs.Fragments.{exchange_once_answered};
+ghost use Rattle.dnp_master.specs.Master.{ended, following, is_late, order_taken};
 
 use crate::task::Task;
-use gw_model::Poll;
+use dnp_app::Operation;
+use gw_model::{Ended, Order, Poll};
 
 /// A request that awaits its answer, or the next fragment of it.
 #[derive(Clone, Copy, Debug, PartialEq, Eq)]
@@ -33,6 +35,34 @@ pub enum Exchange {
     Idle,
     /// A request awaits its answer.
     Waiting(Awaited),
+    /// SELECT of an order succeeded, and its OPERATE is due.
+    Selected(Order),
+}
+
+impl Exchange {
+    /// What goes on once the answer to a task ended, which did what was asked for or not.
+    pub fn once_answered(task: Task, done: bool) -> Exchange
+        ensures { result ≡ exchange_once_answered task done }
+    {
+        match task {
+            Task::Command(Operation::Select, order) if done => Exchange::Selected(order),
+            _ => Exchange::Idle,
+        }
+    }
+
+    /// The order that was taken and has not ended, as one that failed.
+    pub fn failed(self) -> Option<Ended>
+        ensures { result ≡ option_map (ended false) (order_taken self) }
+    {
+        match self {
+            Exchange::Idle => None,
+            Exchange::Waiting(awaited) => awaited.task.failed(),
+            Exchange::Selected(order) => Some(Ended {
+                number: order.number,
+                done: false,
+            }),
+        }
+    }
 }
 
 /// The sequence number that follows, of four bits (IEEE Std 1815, 4.2.2.4).

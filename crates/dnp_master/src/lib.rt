@@ -8,9 +8,11 @@ mod exchange;
 mod indications;
 mod kept;
 mod master;
+mod order_examples;
 mod task;
 mod verdict;
 
 pub use examples::{requests_by_example, tasks_by_example, verdicts_by_example};
 pub use master::Master;
+pub use order_examples::{direct_operate_by_example, select_and_operate_by_example};
 pub use verdict::{Ignored, Verdict};

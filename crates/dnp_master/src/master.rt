@@ -1,13 +1,23 @@
 //! The master towards one outstation.
-ghost use Rattle.std.specs.Prelude.{◌≡◌, is_some, IfOk, IsOk};
+ghost use Rattle.std.specs.Prelude.{◌≡◌, is_some, IfOk, IfSome, IsOk, IsTrue, Some};
+ghost use Rattle.dnp_app.specs.Operating.{request_intent};
+ghost use Rattle.dnp_app.specs.Requests.{octets_of};
 ghost use Rattle.dnp_master.specs.Master.{
+  ended_by_loss,
+  ended_by_tick,
   is_ready,
   master_after_next,
+  master_after_order,
   master_after_tick,
   master_after_up,
+  master_asking,
   master_down,
+  order_of,
+  MeantBy,
   request_given,
+  request_ordered,
   task_given,
+  task_request,
 };
 ghost use Rattle.dnp_master.specs.Fragments.{
   accepts,
@@ -27,9 +37,10 @@ use crate::due::Due;
 use crate::exchange::{Awaited, Exchange, following};
 use crate::indications::Indications;
 use crate::kept::KeptOctets;
+use crate::task::Task;
 use crate::verdict::{Ignored, Verdict};
-use dnp_app::{Request, Response};
-use gw_model::{Memory, Poll};
+use dnp_app::{Operation, Request, Response};
+use gw_model::{Ended, Memory, Order, Poll};
 use std::marker::Model;
 
 /// The master towards one outstation (IEEE Std 1815, clause 4). It takes no memory. Moments are in milliseconds; an
@@ -116,15 +127,18 @@ impl Master {
         };
     }
 
-    /// The outstation is lost: all is as at first.
-    pub fn down(&mut self)
-        ensures { self.new ≡ master_down self.old.poll }
+    /// The outstation is lost: all is as at first. An order that was taken and has not ended has failed.
+    pub fn down(&mut self) -> Option<Ended>
+        ensures ended { result ≡ ended_by_loss self.old }
+        ensures after { self.new ≡ master_down self.old.poll }
     {
         let poll = self.poll;
+        let ended = self.exchange.failed();
         *self = Master::new(&poll);
+        ended
     }
 
-    /// Whether a request can be given: the outstation is up, and no other awaits its answer.
+    /// Whether an order can be taken: the outstation is up, no request awaits its answer, and no OPERATE is due.
     pub fn ready(&self) -> bool
         ensures { result ≡ is_ready self.now }
     {
@@ -135,19 +149,29 @@ impl Master {
     pub fn is_due(&self, moment: u64) -> bool
         ensures { result ≡ is_some (task_given moment 0 self.now) }
     {
-        self.ready() && self.due.first(moment, 0, &self.poll).is_some()
+        self.first(moment, 0).is_some()
     }
 
-    /// Gives the request of the first task that is due, at a moment and a wall time in milliseconds since 1970 in UTC.
-    /// Nothing where a request awaits its answer or none is due.
-    pub fn next(&mut self, moment: u64, wall: u64) -> Option<Request>
-        ensures request { result ≡ request_given moment wall self.old }
-        ensures after { self.new ≡ master_after_next moment wall self.old }
+    /// The first task that is due at a moment, where one can be given.
+    fn first(&self, moment: u64, wall: u64) -> Option<Task>
+        ensures { result ≡ task_given moment wall self.now }
     {
-        if !self.ready() {
+        if !self.up {
             return None;
         }
-        let task = self.due.first(moment, wall, &self.poll)?;
+        match self.exchange {
+            Exchange::Idle => self.due.first(moment, wall, &self.poll),
+            Exchange::Waiting(_) => None,
+            Exchange::Selected(order) => Some(Task::Command(Operation::Operate, order)),
+        }
+    }
+
+    /// Gives the request of a task at a moment. It awaits its answer from then on.
+    fn ask(&mut self, task: Task, moment: u64) -> Request
+        ensures request { result ≡ task_request task self.old.sequence }
+        ensures intent { IfSome (order_of task) (MeantBy result) }
+        ensures after { self.new ≡ master_asking moment task self.old }
+    {
         let request = task.request(self.sequence);
         self.due = self.due.without(moment, task);
         self.exchange = Exchange::Waiting(Awaited {
@@ -157,7 +181,28 @@ impl Master {
             since: moment,
         });
         self.sequence = following(self.sequence);
-        Some(request)
+        request
+    }
+
+    /// Takes an order at a moment, and gives its first request: SELECT, after which OPERATE is due once that succeeded,
+    /// or DIRECT_OPERATE.
+    pub fn order(&mut self, order: Order, moment: u64) -> Request
+        requires { IsTrue (is_ready self.old) }
+        ensures request { result ≡ request_ordered order self.old }
+        ensures intent { request_intent order.intent.outstation (octets_of result) ≡ Some order.intent }
+        ensures after { self.new ≡ master_after_order moment order self.old }
+    {
+        self.ask(Task::of_order(order), moment)
+    }
+
+    /// Gives the request of the first task that is due, at a moment and a wall time in milliseconds since 1970 in UTC.
+    /// Nothing where a request awaits its answer or none is due.
+    pub fn next(&mut self, moment: u64, wall: u64) -> Option<Request>
+        ensures request { result ≡ request_given moment wall self.old }
+        ensures after { self.new ≡ master_after_next moment wall self.old }
+    {
+        let task = self.first(moment, wall)?;
+        Some(self.ask(task, moment))
     }
 
     /// Whether these are the octets of the last accepted unsolicited response.
@@ -181,6 +226,7 @@ impl Master {
             Verdict::Accepted {
                 confirm,
                 end: false,
+                control: None,
             }
         }
     }
@@ -202,6 +248,7 @@ impl Master {
         Verdict::Accepted {
             confirm: response.confirmation(),
             end: control.fin,
+            control: awaited.task.ended_with(response),
         }
     }
 
@@ -269,7 +316,8 @@ impl Master {
         self.before = now;
         self.sequence = number;
         if response.control().fin {
-            self.exchange = Exchange::Idle;
+            let done = awaited.task.is_done(response);
+            self.exchange = Exchange::once_answered(awaited.task, done);
             self.due = due.once_answered(awaited.task);
         } else {
             self.exchange = Exchange::Waiting(Awaited {
@@ -282,15 +330,19 @@ impl Master {
         }
     }
 
-    /// A request ends without an answer where its time has passed at a moment.
-    pub fn tick(&mut self, moment: u64)
-        ensures { self.new ≡ master_after_tick moment self.old }
+    /// A request ends without an answer where its time has passed at a moment. Its order, if it is of one, has failed.
+    pub fn tick(&mut self, moment: u64) -> Option<Ended>
+        ensures ended { result ≡ ended_by_tick moment self.old }
+        ensures after { self.new ≡ master_after_tick moment self.old }
     {
-        if let Exchange::Waiting(awaited) = self.exchange {
-            if awaited.is_late(moment, &self.poll) {
-                self.exchange = Exchange::Idle;
-                self.due = self.due.unanswered(awaited.task);
-            }
+        let Exchange::Waiting(awaited) = self.exchange else {
+            return None;
+        };
+        if !awaited.is_late(moment, &self.poll) {
+            return None;
         }
+        self.exchange = Exchange::Idle;
+        self.due = self.due.unanswered(awaited.task);
+        awaited.task.failed()
     }
 }

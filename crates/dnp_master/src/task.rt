@@ -1,9 +1,13 @@
 //! What the master asks an outstation for.
-ghost use Rattle.std.specs.Prelude.{◌≡◌, ◌<◌};
-ghost use Rattle.dnp_app.specs.Requests.{request as request_of};
-ghost use Rattle.dnp_master.specs.Master.{task_octets};
+ghost use Rattle.std.specs.Prelude.{◌≡◌, ◌<◌, false, option_map, IfSome};
+ghost use Rattle.dnp_master.specs.Fragments.{ended_answered, ended_with, is_done};
+ghost use Rattle.dnp_master.specs.Master.{ended, order_of, order_task, task_request, MeantBy};
 
-use dnp_app::{Request, clear_restart, disable, enable, read_poll, record_time, write_time};
+use dnp_app::{
+    Operation, Request, Response, clear_restart, control_request, disable, enable, read_poll,
+    record_time, write_time,
+};
+use gw_model::{Ended, Order};
 
 /// A task of the master towards one outstation. Times are wall times in milliseconds since 1970 in UTC.
 #[derive(Clone, Copy, Debug, PartialEq, Eq)]
@@ -22,13 +26,16 @@ pub enum Task {
     Enable,
     /// Polls for events.
     EventPoll,
+    /// Operates an output, as an order wants it.
+    Command(Operation, Order),
 }
 
 impl Task {
     /// The request of the task.
     pub fn request(self, sequence: u8) -> Request
         requires { sequence < 16 }
-        ensures { result ≡ request_of (task_octets self sequence) }
+        ensures request { result ≡ task_request self sequence }
+        ensures intent { IfSome (order_of self) (MeantBy result) }
     {
         match self {
             Task::ClearRestart => clear_restart(sequence),
@@ -38,6 +45,68 @@ impl Task {
             Task::Integrity => read_poll(sequence, true),
             Task::Enable => enable(sequence),
             Task::EventPoll => read_poll(sequence, false),
+            Task::Command(operation, order) => control_request(sequence, operation, order),
+        }
+    }
+
+    /// The first task of an order.
+    pub fn of_order(order: Order) -> Task
+        ensures { result ≡ order_task order }
+    {
+        if order.sbo {
+            Task::Command(Operation::Select, order)
+        } else {
+            Task::Command(Operation::DirectOperate, order)
+        }
+    }
+
+    /// The order that the task is a part of, as one that failed.
+    pub fn failed(self) -> Option<Ended>
+        ensures { result ≡ option_map (ended false) (order_of self) }
+    {
+        match self {
+            Task::Command(_, order) => Some(Ended {
+                number: order.number,
+                done: false,
+            }),
+            _ => None,
+        }
+    }
+
+    /// Whether the outstation took the command of the task, by the last fragment of the answer.
+    pub fn is_done(self, response: &Response) -> bool
+        ensures { result ≡ is_done self response.now }
+    {
+        match (self, response.echo()) {
+            (Task::Command(_, order), Some(echo)) => {
+                echo.is_taken(order.intent.index, order.intent.act)
+            }
+            _ => false,
+        }
+    }
+
+    /// How the order of the task ends with an answer.
+    fn ended(self, done: bool) -> Option<Ended>
+        ensures { result ≡ ended_answered self done }
+    {
+        match self {
+            Task::Command(Operation::Select, _) if done => None,
+            Task::Command(_, order) => Some(Ended {
+                number: order.number,
+                done,
+            }),
+            _ => None,
+        }
+    }
+
+    /// How the order of the task ends with a fragment of its answer.
+    pub fn ended_with(self, response: &Response) -> Option<Ended>
+        ensures { result ≡ ended_with self response.now }
+    {
+        if response.control().fin {
+            self.ended(self.is_done(response))
+        } else {
+            None
         }
     }
 }

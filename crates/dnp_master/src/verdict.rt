@@ -1,4 +1,5 @@
 //! What becomes of a fragment.
+use gw_model::Ended;
 
 /// Why a fragment isn't taken; the first of these in this order.
 #[derive(Clone, Copy, Debug, PartialEq, Eq)]
@@ -14,10 +15,16 @@ pub enum Ignored {
 /// What became of a fragment. A confirmation is to be sent where there is one.
 #[derive(Clone, Copy, Debug, PartialEq, Eq)]
 pub enum Verdict {
-    /// It was taken; and the answer that it is of ended with it.
-    Accepted { confirm: Option<[u8; 2]>, end: bool },
+    /// It was taken; whether the answer that it is of ended with it, and the order that ended with that.
+    Accepted {
+        confirm: Option<[u8; 2]>,
+        end: bool,
+        control: Option<Ended>,
+    },
     /// It is the last unsolicited response again, and was not taken again.
-    Repeated { confirm: Option<[u8; 2]> },
+    Repeated {
+        confirm: Option<[u8; 2]>,
+    },
     /// It was not taken: no news, and no confirmation.
     Ignored(Ignored),
 }
