@@ -1,20 +1,21 @@
 -- What ties an outstation's part of the state to its history, and how each step keeps it.
 use Rattle.std.proofs.Common.{◌≡◌, ℕ, ◌+◌, ◌%◌, ◌<◌, Bool, true, false, not, cond, eqb, List, ◌∷◌, Option, Some, None, Ok, refl, sym, ap, subst, ◌∙◌, arith, inl, inr}
-use Rattle.std.specs.Prelude.{slice_index, option_map}
+use Rattle.std.specs.Prelude.{◌++◌, slice_get, slice_index, option_map}
+use Rattle.std.proofs.Math.Option.{some-injective}
 use Rattle.std.proofs.lemmas.Bool.{cases_Bool, ne_eqb, eq-eqb, true≢false}
 use Rattle.std.proofs.lemmas.Slice.Eq.{bytes_eq-Decides}
 use Rattle.gw_model.specs.declared.poll.Poll.{Poll}
 use Rattle.gw_map.specs.Settings.{Setup}
-use Rattle.dnp_app.specs.Requests.{request}
 use Rattle.dnp_app.specs.declared.request.Request.{Request}
 use Rattle.dnp_app.specs.Response.{Fragment, is_unsolicited}
+use Rattle.dnp_master.specs.declared.due.Due.{Due}
 use Rattle.dnp_master.specs.declared.exchange.Awaited.{Awaited}
 use Rattle.dnp_master.specs.declared.exchange.Exchange.{Exchange}
-use Rattle.dnp_master.specs.declared.exchange.Exchange.TheVariants.{Idle, Waiting}
+use Rattle.dnp_master.specs.declared.exchange.Exchange.TheVariants.{Idle, Waiting, Selected}
 use Rattle.dnp_master.specs.declared.task.Task.{Task}
-use Rattle.dnp_master.specs.declared.task.Task.TheVariants.{ClearRestart, WriteTime, RecordTime, Disable, Integrity, Enable, EventPoll}
-use Rattle.dnp_master.specs.Master.{Master, master_down, master_after_up, master_after_next, master_after_tick, master_with_exchange_after, task_given, task_octets, request_given, is_late, following}
-use Rattle.dnp_master.specs.Fragments.{is_last, is_begun_rightly, verdict_of_answer, verdict_of, is_acceptance, accepts, exchange_after, master_after_answer, master_after_accepted, master_after_fragment}
+use Rattle.dnp_master.specs.declared.task.Task.TheVariants.{ClearRestart, WriteTime, RecordTime, Disable, Integrity, Enable, EventPoll, Command}
+use Rattle.dnp_master.specs.Master.{Master, master_down, master_after_up, master_after_next, master_after_tick, master_with_exchange_after, first_task, if_due, order_of, task_given, task_octets, task_request, tasks_due, time_due, request_given, is_event_poll_due, is_integrity_due, is_late, following}
+use Rattle.dnp_master.specs.Fragments.{is_last, is_begun_rightly, verdict_of_answer, verdict_of, is_acceptance, accepts, ended_answered, ended_with, exchange_after, exchange_once_answered, is_done, master_after_answer, master_after_accepted, master_after_fragment}
 use Rattle.gw_steps.specs.declared.step.Step.TheVariants as steps
 use Rattle.gw_steps.specs.declared.step.Reply.{Reply}
 use Rattle.gw_steps.specs.declared.step.Reply.TheVariants as replies
@@ -32,12 +33,15 @@ pub record AwaitsAlike (w : Awaited) (a : Asked) : Type 0 where
   pub expected : w.expected ≡ (a.sequence + a.fragments) % 16
   pub begun : w.begun ≡ not (eqb a.fragments 0)
   pub since : w.since ≡ a.since
+  -- no order is given yet
+  pub plain : order_of w.task ≡ None
 
 abbrev pub AwaitsAs : Exchange → Option Asked → Type 0
 AwaitsAs Idle None = Unit {0}
 AwaitsAs Idle (Some a) = ⊥
 AwaitsAs (Waiting w) None = ⊥
 AwaitsAs (Waiting w) (Some a) = AwaitsAlike w a
+AwaitsAs (Selected order) asked = ⊥
 
 pub record MasterIs (setup : Setup) (o : ℕ) (past : List Entry) (m : Master) : Type 0 where
   pub poll : poll_at setup o ≡ Some m.poll
@@ -101,7 +105,7 @@ master_lost setup o m r past (Some x) tied =
 -- ---- polls
 
 -- the first octet of each request has its sequence number
-first_octet : (task : Task) (n : ℕ) → slice_index (request (task_octets task n)).octets 0 ≡ 192 + n
+first_octet : (task : Task) (n : ℕ) → slice_index (task_request task n).octets 0 ≡ 192 + n
 first_octet ClearRestart n = refl
 first_octet (WriteTime time) n = refl
 first_octet (RecordTime wall) n = refl
@@ -109,6 +113,43 @@ first_octet Disable n = refl
 first_octet Integrity n = refl
 first_octet Enable n = refl
 first_octet EventPoll n = refl
+first_octet (Command operation order) n = refl
+
+-- the first of tasks, if there is one, is no part of an order
+abbrev IsPlain : List Task → Type 0
+IsPlain tasks = (task : Task) → slice_get tasks 0 ≡ Some task → order_of task ≡ None
+
+plain_before : (due : Bool) (first : Task) (tasks : List Task) → order_of first ≡ None → IsPlain tasks
+    → IsPlain (if_due due first ++ tasks)
+plain_before true first tasks plain rest task e = subst (λ (x : Task). order_of x ≡ None) (some-injective first task e) plain
+plain_before false first tasks plain rest task e = rest task e
+
+plain_time : (time : Option ℕ) (tasks : List Task) → IsPlain tasks → IsPlain (time_due time ++ tasks)
+plain_time None tasks rest task e = rest task e
+plain_time (Some time) tasks rest task e = subst (λ (x : Task). order_of x ≡ None) (some-injective (WriteTime time) task e) refl
+
+plain_last : (due : Bool) → IsPlain (if_due due EventPoll)
+plain_last true task e = subst (λ (x : Task). order_of x ≡ None) (some-injective EventPoll task e) refl
+plain_last false task e = absurd cc
+
+plain_due : (moment wall : ℕ) (poll : Poll) (due : Due) → IsPlain (tasks_due moment wall poll due)
+plain_due moment wall poll due =
+    plain_before due.clear_restart ClearRestart _ refl
+    (plain_time due.write_time _
+    (plain_before due.record_time (RecordTime wall) _ refl
+    (plain_before due.disable Disable _ refl
+    (plain_before (is_integrity_due moment poll due) Integrity _ refl
+    (plain_before due.enable Enable _ refl
+    (plain_last (is_event_poll_due moment poll due)))))))
+
+-- so is the one that is given
+plain_given : (up : Bool) (exchange : Exchange) (asked : Option Asked) (tasks : List Task) (task : Task)
+    → IsPlain tasks → AwaitsAs exchange asked → cond up (first_task exchange tasks) None ≡ Some task
+    → order_of task ≡ None
+plain_given true Idle asked tasks task plain alike e = plain task e
+plain_given true (Waiting w) asked tasks task plain alike e = absurd cc
+plain_given true (Selected order) asked tasks task plain alike e = absurd alike
+plain_given false exchange asked tasks task plain alike e = absurd cc
 
 abbrev asked_by : Request → ℕ → Asked
 asked_by r moment = record { sequence = slice_index r.octets 0 % 16; fragments = 0; since = moment }
@@ -126,12 +167,18 @@ pub master_polled : (setup : Setup) (o m wall moment : ℕ) (past : List Entry) 
 master_polled setup o m wall moment past x None given at tied =
     rw given (same_is setup o past (entry (steps.Poll o m wall) (Ok replies.Nothing)) x refl refl tied)
 master_polled setup o m wall moment past x (Some task) given at tied =
-    let r : Request = request (task_octets task x.sequence) in
+    let r : Request = task_request task x.sequence in
     let first : slice_index r.octets 0 ≡ 192 + x.sequence = first_octet task x.sequence in
     let expected : x.sequence ≡ (slice_index r.octets 0 % 16 + 0) % 16 = omega (arith, first, tied.number) in
     let alike : AwaitsAlike (record { task = task; expected = x.sequence; begun = false; since = moment })
     (asked_by r (later (moment_after past) m)) =
-    record { expected = expected; begun = refl; since = at } in
+    record {
+      expected = expected;
+      begun = refl;
+      since = at;
+      plain = plain_given x.up x.exchange (asked_of setup o past) (tasks_due moment wall x.poll x.due) task
+          (plain_due moment wall x.poll x.due) tied.awaits given;
+    } in
     rw given (record {
       poll = tied.poll;
       last = tied.last;
@@ -168,6 +215,7 @@ master_ticked setup o m moment r past (Some x) at tied = go x.exchange (asked_of
         same_is setup o past e x refl none tied
     go Idle (Some a) ea alike = absurd alike
     go (Waiting w) None ea alike = absurd alike
+    go (Selected order) asked ea alike = absurd alike
     go (Waiting w) (Some a) ea alike =
         let there : asked_of setup o (e ∷ past) ≡ cond (is_late moment x.poll a.since) None (Some a) =
         told ∙ ap (asked_at moment (Some x.poll)) ea in
@@ -198,6 +246,32 @@ in_place : (first fir : Bool) → is_begun_rightly (not first) fir ≡ cond firs
 in_place true fir = refl
 in_place false fir = refl
 
+-- where no order is given none ends
+ended_none : (task : Task) (f : Fragment) → order_of task ≡ None → ended_with task f ≡ None
+ended_none task f plain = go task (control_in f).fin plain
+  where
+    go : (task : Task) (fin : Bool) → order_of task ≡ None → cond fin (ended_answered task (is_done task f)) None ≡ None
+    go ClearRestart true plain = refl
+    go (WriteTime time) true plain = refl
+    go (RecordTime wall) true plain = refl
+    go Disable true plain = refl
+    go Integrity true plain = refl
+    go Enable true plain = refl
+    go EventPoll true plain = refl
+    go (Command operation order) true plain = absurd cc
+    go task false plain = refl
+
+-- and no OPERATE is due
+once_idle : (task : Task) (done : Bool) → order_of task ≡ None → exchange_once_answered task done ≡ Idle
+once_idle ClearRestart done plain = refl
+once_idle (WriteTime time) done plain = refl
+once_idle (RecordTime wall) done plain = refl
+once_idle Disable done plain = refl
+once_idle Integrity done plain = refl
+once_idle Enable done plain = refl
+once_idle EventPoll done plain = refl
+once_idle (Command operation order) done plain = absurd cc
+
 pub verdict_to_answer : (exchange : Exchange) (asked : Option Asked) (f : Fragment) → AwaitsAs exchange asked
     → verdict_of_answer exchange f ≡ verdict_due_to_answer asked f
 verdict_to_answer Idle None f alike = refl
@@ -207,7 +281,8 @@ verdict_to_answer (Waiting w) (Some a) f alike =
     let rightly : is_begun_rightly w.begun (control_in f).fir ≡ is_in_place a f =
     ap (λ (b : Bool). is_begun_rightly b (control_in f).fir) alike.begun
     ∙ in_place (eqb a.fragments 0) (control_in f).fir in
-    rw (alike.expected, rightly) refl
+    rw (alike.expected, rightly, ended_none w.task f alike.plain) refl
+verdict_to_answer (Selected order) asked f alike = absurd alike
 
 unsolicited_verdict : (past : List Entry) (f : Fragment) (m : Master) → m.last ≡ last_text f.outstation past
     → is_last m.last f.octets ≡ is_text (last_text f.outstation past) f.octets
@@ -289,6 +364,7 @@ awaits_more : (moment : ℕ) (f : Fragment) (exchange : Exchange) (asked : Optio
 awaits_more moment f Idle None m small answers alike = absurd cc
 awaits_more moment f Idle (Some a) m small answers alike = absurd alike
 awaits_more moment f (Waiting w) None m small answers alike = absurd alike
+awaits_more moment f (Selected order) asked m small answers alike = absurd alike
 awaits_more moment f (Waiting w) (Some a) m small answers alike = (go (control_in f).fin, omega arith)
   where
     next : following w.expected ≡ (a.sequence + (a.fragments + 1)) % 16
@@ -297,20 +373,24 @@ awaits_more moment f (Waiting w) (Some a) m small answers alike = (go (control_i
     begun : true ≡ not (eqb (a.fragments + 1) 0)
     begun = ap not (sym (ne_eqb (a.fragments + 1) 0 (λ e. omega (arith, e))))
 
-    go : (fin : Bool) → AwaitsAs (exchange_after moment fin w)
+    go : (fin : Bool) → AwaitsAs
+        (cond fin (exchange_once_answered w.task (is_done w.task f))
+        (Waiting (record w { expected = following w.expected; begun = true; since = moment })))
         (cond fin None (Some (record a { fragments = a.fragments + 1; since = moment })))
-    go true = tt
-    go false = record { expected = next; begun = begun; since = refl }
+    go true = subst (λ (x : Exchange). AwaitsAs x None) (sym (once_idle w.task (is_done w.task f) alike.plain)) tt
+    go false = record { expected = next; begun = begun; since = refl; plain = alike.plain }
 
 after_answer_poll : (moment : ℕ) (f : Fragment) (exchange : Exchange) (m : Master)
     → (master_after_answer moment f exchange m).poll ≡ m.poll
 after_answer_poll moment f Idle m = refl
 after_answer_poll moment f (Waiting w) m = refl
+after_answer_poll moment f (Selected order) m = refl
 
 after_answer_last : (moment : ℕ) (f : Fragment) (exchange : Exchange) (m : Master)
     → (master_after_answer moment f exchange m).last ≡ m.last
 after_answer_last moment f Idle m = refl
 after_answer_last moment f (Waiting w) m = refl
+after_answer_last moment f (Selected order) m = refl
 
 -- an accepted fragment
 pub master_accepted : (setup : Setup) (past : List Entry) (f : Fragment) (m moment : ℕ) (r : Reply) (x : Master)

@@ -29,16 +29,16 @@ verdict_in (replies.Ticked closed) = None
 -- the confirmation in it
 abbrev pub confirmation_in : Option Verdict → Option (List ℕ)
 confirmation_in None = None
-confirmation_in (Some (verdicts.Accepted confirmation end)) = confirmation
+confirmation_in (Some (verdicts.Accepted confirmation end control)) = confirmation
 confirmation_in (Some (verdicts.Repeated confirmation)) = confirmation
 confirmation_in (Some (verdicts.Ignored why)) = None
 
--- what is to be said of an answer to the request that awaits one
+-- what is to be said of an answer to the request that awaits one; no order ends with it, since none is given yet
 abbrev pub verdict_due_to_answer : Option Asked → Fragment → Verdict
 verdict_due_to_answer None f = verdicts.Ignored NoRequest
 verdict_due_to_answer (Some a) f =
     if is_in_sequence a f then
-    (if is_in_place a f then verdicts.Accepted (confirm_of f.octets) (control_in f).fin
+    (if is_in_place a f then verdicts.Accepted (confirm_of f.octets) (control_in f).fin None
     else verdicts.Ignored WrongFirst)
     else verdicts.Ignored WrongSequence
 
@@ -47,7 +47,7 @@ abbrev pub verdict_due : Setup → List Entry → Fragment → Verdict
 verdict_due setup past f =
     if is_unsolicited f then
     (if is_repeated past f then verdicts.Repeated (confirm_of f.octets)
-    else verdicts.Accepted (confirm_of f.octets) false)
+    else verdicts.Accepted (confirm_of f.octets) false None)
     else verdict_due_to_answer (asked_of setup f.outstation past) f
 
 -- of other steps nothing is said

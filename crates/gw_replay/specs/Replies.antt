@@ -44,7 +44,7 @@ end_words true = codes " end"
 end_words false = []
 
 abbrev pub verdict_words : Verdict → List ℕ
-verdict_words (verdicts.Accepted confirm end) = with_confirm (codes "accepted") confirm ++ end_words end
+verdict_words (verdicts.Accepted confirm end control) = with_confirm (codes "accepted") confirm ++ end_words end
 verdict_words (verdicts.Repeated confirm) = with_confirm (codes "repeated") confirm
 verdict_words (verdicts.Ignored why) = codes "ignored " ++ ignored_name why
 

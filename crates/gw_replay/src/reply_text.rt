@@ -76,7 +76,7 @@ fn push_verdict(text: &mut Vec<u8>, verdict: &Verdict) -> Result<(), Memory>
     ensures { OnOk result (text.new.items ≡ text.old.items ++ verdict_words verdict.now) }
 {
     match verdict {
-        Verdict::Accepted { confirm, end } => {
+        Verdict::Accepted { confirm, end, .. } => {
             push_confirmed(text, b"accepted", *confirm)?;
             text.extend_from_slice(if *end { b" end" } else { b"" })?;
             Ok(())
