@@ -1,7 +1,6 @@
 -- What ties an outstation's part of the state to its history, and how each step keeps it.
 use Rattle.std.proofs.Common.{◌≡◌, ℕ, ◌+◌, ◌%◌, ◌<◌, Bool, true, false, not, cond, eqb, List, ◌∷◌, Option, Some, None, Ok, refl, sym, ap, subst, ◌∙◌, arith, inl, inr}
 use Rattle.std.specs.Prelude.{◌++◌, slice_get, slice_index, option_map}
-use Rattle.std.proofs.Math.Option.{some-injective}
 use Rattle.std.proofs.lemmas.Bool.{cases_Bool, ne_eqb, eq-eqb, true≢false}
 use Rattle.std.proofs.lemmas.Slice.Eq.{bytes_eq-Decides}
 use Rattle.gw_model.specs.declared.poll.Poll.{Poll}
@@ -119,17 +118,21 @@ first_octet (Command operation order) n = refl
 abbrev IsPlain : List Task → Type 0
 IsPlain tasks = (task : Task) → slice_get tasks 0 ≡ Some task → order_of task ≡ None
 
+abbrev task_in : Task → Option Task → Task
+task_in other None = other
+task_in other (Some task) = task
+
 plain_before : (due : Bool) (first : Task) (tasks : List Task) → order_of first ≡ None → IsPlain tasks
     → IsPlain (if_due due first ++ tasks)
-plain_before true first tasks plain rest task e = subst (λ (x : Task). order_of x ≡ None) (some-injective first task e) plain
+plain_before true first tasks plain rest task e = subst (λ (x : Task). order_of x ≡ None) (ap (task_in task) e) plain
 plain_before false first tasks plain rest task e = rest task e
 
 plain_time : (time : Option ℕ) (tasks : List Task) → IsPlain tasks → IsPlain (time_due time ++ tasks)
 plain_time None tasks rest task e = rest task e
-plain_time (Some time) tasks rest task e = subst (λ (x : Task). order_of x ≡ None) (some-injective (WriteTime time) task e) refl
+plain_time (Some time) tasks rest task e = subst (λ (x : Task). order_of x ≡ None) (ap (task_in task) e) refl
 
 plain_last : (due : Bool) → IsPlain (if_due due EventPoll)
-plain_last true task e = subst (λ (x : Task). order_of x ≡ None) (some-injective EventPoll task e) refl
+plain_last true task e = subst (λ (x : Task). order_of x ≡ None) (ap (task_in task) e) refl
 plain_last false task e = absurd cc
 
 plain_due : (moment wall : ℕ) (poll : Poll) (due : Due) → IsPlain (tasks_due moment wall poll due)

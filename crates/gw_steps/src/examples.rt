@@ -33,7 +33,7 @@ pub fn replies_by_example()
     ensures step_left { outcome setup (counting (last_count - 1) 0 (reached started)) pump ≡ Ok replies.Nothing }
     ensures last_news { outcome setup (counting 0 last_count (reached started)) (fragment_of event) ≡ Err Spent }
     ensures news_left { outcome setup (counting 0 (last_count - 1) (reached started)) (fragment_of event)
-        ≡ Ok (replies.Verdict (verdicts.Accepted (Some (0xD0 ∷ 0 ∷ [])) false)) }
+        ≡ Ok (replies.Verdict (verdicts.Accepted (Some (0xD0 ∷ 0 ∷ [])) false None)) }
     ensures no_news { outcome setup (counting 0 last_count (reached started)) (fragment_of solicited)
         ≡ Ok (replies.Verdict (verdicts.Ignored NoRequest)) }
     ensures last_loss { outcome setup (counting 0 last_count (reached (started ++ fragment_of event ∷ [])))
@@ -74,7 +74,7 @@ pub fn runs_by_example()
         ≡ Ok (replies.Apdu (buffer (0x68 ∷ 4 ∷ 0x0B ∷ 0 ∷ 0 ∷ 0 ∷ []))) }
     // The event is accepted and confirmed, its repeat is confirmed again, a solicited response is ignored.
     ensures accepted { outcome setup (reached started) (fragment_of event)
-        ≡ Ok (replies.Verdict (verdicts.Accepted (Some (0xD0 ∷ 0 ∷ [])) false)) }
+        ≡ Ok (replies.Verdict (verdicts.Accepted (Some (0xD0 ∷ 0 ∷ [])) false None)) }
     ensures repeated { outcome setup (reached (started ++ fragment_of event ∷ [])) (fragment_of event)
         ≡ Ok (replies.Verdict (verdicts.Repeated (Some (0xD0 ∷ 0 ∷ [])))) }
     ensures ignored { outcome setup (reached started) (fragment_of solicited)
@@ -107,13 +107,13 @@ pub fn runs_by_example()
     ensures polled { outcome setup (reached returned) poll ≡ Ok (replies.Request (request (read_octets true 0))) }
     ensures polled_once { outcome setup (reached (returned ++ poll ∷ [])) poll ≡ Ok replies.Nothing }
     ensures answered { outcome setup (reached (returned ++ poll ∷ [])) (fragment_of integrity_answer)
-        ≡ Ok (replies.Verdict (verdicts.Accepted None true)) }
+        ≡ Ok (replies.Verdict (verdicts.Accepted None true None)) }
     ensures back { outcome setup (reached (returned ++ poll ∷ fragment_of integrity_answer ∷ [])) pump
         ≡ Ok (replies.Apdu (buffer (0x68 ∷ 0x0E ∷ 4 ∷ 0 ∷ 0 ∷ 0
         ∷ 1 ∷ 1 ∷ 3 ∷ 0 ∷ 1 ∷ 0 ∷ 0x05 ∷ 0x10 ∷ 0 ∷ 0x01 ∷ []))) }
     // A moment that goes back counts as the largest so far: 5 seconds after 9 the request is late, not before.
     ensures late { outcome setup (reached (outstation_up ∷ steps.Tick 9 ∷ poll ∷ steps.Tick 5008 ∷ []))
-        (fragment_of integrity_answer) ≡ Ok (replies.Verdict (verdicts.Accepted None true)) }
+        (fragment_of integrity_answer) ≡ Ok (replies.Verdict (verdicts.Accepted None true None)) }
     ensures too_late { outcome setup (reached (outstation_up ∷ steps.Tick 9 ∷ poll ∷ steps.Tick 5009 ∷ []))
         (fragment_of integrity_answer) ≡ Ok (replies.Verdict (verdicts.Ignored NoRequest)) }
     // An event's time, at a station whose clocks are an hour ahead of UTC: 23:13:20 on 14 November 2023.
