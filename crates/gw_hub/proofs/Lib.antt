@@ -1,4 +1,5 @@
 pub mod Taking
 pub mod Losing
+pub mod Sessions
 pub mod Made
 pub mod Meant

@@ -1,21 +1,37 @@
 -- The hub, as its contracts see it: the settings that it runs with, and its state.
-use Rattle.std.specs.Prelude.{◌≡◌, ℕ, ◌+◌, ◌^◌, ◌<◌, Bool, List, length, Option, Some, None, Result, Ok, Err}
+use Rattle.std.specs.Prelude.{◌≡◌, ℕ, ◌+◌, ◌^◌, ◌<◌, Bool, false, List, [], length, Option, Some, None, Result, Ok, Err}
 use Rattle.std.specs.List.{AllByRecursion}
 use Rattle.gw_model.specs.declared.point.Report.{Report}
 use Rattle.gw_map.specs.Settings.{Setup}
 use Rattle.gw_model.specs.declared.observation.Observation.{Observation}
 use Rattle.gw_picture.specs.Picture.{news_of, news_of_report}
 use Rattle.dnp_app.specs.Response.{Fragment}
+use Rattle.gw_station.specs.Client.{Client, is_started}
 use Rattle.gw_station.specs.Sound.{IsSoundClient}
 use Rattle.gw_steps.specs.declared.step.Step.{Step}
 use Rattle.gw_steps.specs.declared.step.Reply.{Reply}
 use Rattle.gw_steps.specs.declared.step.StepFault.{StepFault}
+use Rattle.gw_steps.specs.Sound.{IsSoundState}
 use Rattle.gw_steps.specs.State.{State, Counts}
 use Rattle.gw_steps.specs.Steps.{Allowed, can_rise, raised, latest, parts_after_fragment}
 
 pub record Hub : Type 0 where
   pub setup : Setup
   pub state : State
+
+-- outside of a session no news wait, and none were dropped
+pub record KeepsToSession (k : Client) : Type 0 where
+  pub outside : is_started k.stage ≡ false → (k.queue ≡ []) × (k.dropped ≡ 0)
+
+-- what a hub keeps in every state
+pub record IsKept (setup : Setup) (s : State) : Type 0 where
+  pub sound : IsSoundState setup s
+  pub sessions : AllByRecursion KeepsToSession s.clients
+
+-- a client is started; no absent one is
+abbrev pub started_at : Option Client → Bool
+started_at None = false
+started_at (Some k) = is_started k.stage
 
 -- a step is answered so, and leads from one hub to the other
 abbrev pub Answers : Hub → Step → Result Reply StepFault → Hub → Type 0

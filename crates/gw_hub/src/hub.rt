@@ -18,7 +18,7 @@ ghost use Rattle.gw_history.specs.Premises.{IsSoundRun};
 ghost use Rattle.gw_laws.specs.Promises.{Promises};
 ghost use Rattle.gw_parts.specs.Clients.{dropped_at, has_offer, queued_at, unacknowledged_at};
 ghost use Rattle.gw_parts.specs.Outstations.{is_due};
-ghost use Rattle.gw_hub.specs.Hub.{can_count, can_take, news_of_all, news_of_one, state_counting, state_with_response, unless, Answers, IsCounted};
+ghost use Rattle.gw_hub.specs.Hub.{can_count, can_take, news_of_all, news_of_one, started_at, state_counting, state_with_response, unless, Answers, IsCounted};
 
 use crate::common::Common;
 use crate::counts::Counts;
@@ -52,8 +52,7 @@ pub struct Hub {
 }
 
 impl Model for Hub {
-    ghost use Rattle.gw_hub.specs.Hub.{Hub as Seen};
-    ghost use Rattle.gw_steps.specs.Sound.{IsSoundState};
+    ghost use Rattle.gw_hub.specs.Hub.{Hub as Seen, IsKept};
 
     ghost Value = { Seen };
 
@@ -68,7 +67,7 @@ impl Model for Hub {
       };
     } };
 
-    ghost invariant = { λ h. IsSoundState h.settings (record {
+    ghost invariant = { λ h. IsKept h.settings (record {
       outstations = h.outstations;
       picture = h.picture;
       clients = h.clients;
@@ -141,9 +140,10 @@ impl Hub {
         self.picture.rows()
     }
 
-    /// How many news wait for a client; 0 where there is no such client.
+    /// How many news wait for a client; 0 where it isn't started, or there is no such client.
     pub fn queued(&self, client: u8) -> usize
-        ensures { result ≡ queued_at (slice_get self.now.state.clients client) }
+        ensures count { result ≡ queued_at (slice_get self.now.state.clients client) }
+        ensures outside { started_at (slice_get self.now.state.clients client) ≡ false → result ≡ 0 }
     {
         match self.clients.get(client) {
             Some(station) => station.queued(),
@@ -151,9 +151,10 @@ impl Hub {
         }
     }
 
-    /// How many news of a client's session were dropped; 0 where there is no such client.
+    /// How many news of a client's session were dropped; 0 where it isn't started, or there is no such client.
     pub fn dropped(&self, client: u8) -> u64
-        ensures { result ≡ dropped_at (slice_get self.now.state.clients client) }
+        ensures count { result ≡ dropped_at (slice_get self.now.state.clients client) }
+        ensures outside { started_at (slice_get self.now.state.clients client) ≡ false → result ≡ 0 }
     {
         match self.clients.get(client) {
             Some(station) => station.dropped(),

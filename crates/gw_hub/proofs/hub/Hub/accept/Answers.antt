@@ -4,22 +4,26 @@ use Rattle.gw_picture.proofs.ByType.{reports_rows}
 use Rattle.gw_picture.proofs.Lists.{change-length}
 use Rattle.gw_steps.specs.State.{Counts}
 use Rattle.gw_hub.proofs.Taking.{can_rise_news, news_can, sound_came}
+use Rattle.gw_hub.proofs.Sessions.{kept_mapped, kept_with_news}
 use Rattle.gw_hub.proofs.hub.Hub.accept.Goals as goal
 
 pub take_reports-news-requires : goal.take_reports-news-requires
 take_reports-news-requires c =
     let few = can_rise_news c.self.inside.counts _ 0 (search (rules, c.can_rise.ensures, c.if-not-can_rise.false)) in
-    news_can _ _ _ _ _ few c.self.invariant.clients
+    news_can _ _ _ _ _ few c.self.invariant.sound.clients
 
 pub invariant_of-self : goal.invariant_of-self
 invariant_of-self c =
-    let before = rw (← c.get.ensures) at c.self.invariant in
+    let before = rw (← c.get.ensures) at c.self.invariant.sound in
     rw (← c.get.ensures)
     (record {
-      picture = c.rows-shown.ensures.sendable;
-      rows = subst (ShowsRows _) (sym c.take_reports-news.ensures.picture) (reports_rows c.get.result.now.station.offset_minutes _ _ c.reports-reports.result.now before.rows);
-      masters = ap length c.take.ensures ∙ (change-length _ _ _ ∙ before.masters);
-      clients =
-          sound_came _ c.self.inside.counts.steps _ c.self.inside.counts.news _ _ _ _ c.take_reports-news.ensures.clients c.take_reports-news.ensures.sendable
-          (omega (arith, ap (λ (counts : Counts). counts.steps) c.raise.ensures)) (omega (arith, c.take_reports-news.ensures.count, ap (λ (counts : Counts). counts.news) c.raise.ensures)) before.clients;
+      sound = record {
+        picture = c.rows-shown.ensures.sendable;
+        rows = subst (ShowsRows _) (sym c.take_reports-news.ensures.picture) (reports_rows c.get.result.now.station.offset_minutes _ _ c.reports-reports.result.now before.rows);
+        masters = ap length c.take.ensures ∙ (change-length _ _ _ ∙ before.masters);
+        clients =
+            sound_came _ c.self.inside.counts.steps _ c.self.inside.counts.news _ _ _ _ c.take_reports-news.ensures.clients c.take_reports-news.ensures.sendable
+            (omega (arith, ap (λ (counts : Counts). counts.steps) c.raise.ensures)) (omega (arith, c.take_reports-news.ensures.count, ap (λ (counts : Counts). counts.news) c.raise.ensures)) before.clients;
+      };
+      sessions = kept_mapped _ _ _ c.take_reports-news.ensures.clients (kept_with_news _) c.self.invariant.sessions;
     })

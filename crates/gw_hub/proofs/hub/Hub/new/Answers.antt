@@ -1,6 +1,8 @@
 use Rattle.std.proofs.Common.{◌≡◌, rules}
-use Rattle.gw_steps.specs.State.{at_first}
+use Rattle.gw_station.specs.Client.{limits_of}
+use Rattle.gw_steps.specs.State.{at_first, client_limit}
 use Rattle.gw_steps.proofs.Running.{sound_first}
+use Rattle.gw_hub.proofs.Sessions.{kept_at_first}
 use Rattle.gw_hub.proofs.hub.Hub.new.Goals as goal
 
 pub invariant_of-result : goal.invariant_of-result
@@ -11,4 +13,5 @@ invariant_of-result c =
     let clients : c.in_ok-clients.clients ≡ (at_first settings).clients = search rules in
     let common : c.in_ok-common.common ≡ settings = search rules in
     let counts : c.new-counts.result ≡ (at_first settings).counts = search rules in
-    rw (outstations, picture, clients, counts, common) (sound_first settings)
+    rw (outstations, picture, clients, counts, common)
+    (record { sound = sound_first settings; sessions = kept_at_first (limits_of settings.station) settings.station.queue client_limit })

@@ -4,10 +4,13 @@ use Rattle.gw_hub.proofs.hub.Hub.outstation_up.Goals as goal
 
 pub invariant_of-self : goal.invariant_of-self
 invariant_of-self c =
-    let before = c.self-2.invariant in
+    let before = c.self-2.invariant.sound in
     record {
-      picture = before.picture;
-      rows = before.rows;
-      masters = ap length c.come_up.ensures ∙ (change-length c.args.outstation _ _ ∙ before.masters);
-      clients = before.clients;
+      sound = record {
+        picture = before.picture;
+        rows = before.rows;
+        masters = ap length c.come_up.ensures ∙ (change-length c.args.outstation _ _ ∙ before.masters);
+        clients = before.clients;
+      };
+      sessions = c.self-2.invariant.sessions;
     }

@@ -10,6 +10,7 @@ use Rattle.gw_steps.specs.Steps.{fault_of, can_rise, latest, outcome}
 use Rattle.gw_parts.specs.Clients.{reply_to_pump}
 use Rattle.gw_hub.specs.Hub.{Hub, IsCounted, step_with}
 use Rattle.gw_hub.proofs.Taking.{sound_change, pumps_can}
+use Rattle.gw_hub.proofs.Sessions.{kept_after_pump, kept_changed}
 use Rattle.gw_hub.proofs.hub.Hub.pump.Goals as goal
 
 pub pump-requires : goal.pump-requires
@@ -18,12 +19,15 @@ pump-requires c = let counted = subst IsCounted (sym c.self.view_is) c.in_ok-cou
 pub invariant_of-self : goal.invariant_of-self
 invariant_of-self c =
     let counted = subst IsCounted (sym c.self.view_is) c.in_ok-count.ensures.counted in
-    let before = c.self.invariant in
+    let before = c.self.invariant.sound in
     record {
-      picture = before.picture;
-      rows = before.rows;
-      masters = before.masters;
-      clients = sound_change _ counted.before _ _ _ c.args.client _ _ _ c.pump.ensures.clients counted.counted (omega arith) (sound_after_pump _ _ _ c.self.inside.moment) counted.sound;
+      sound = record {
+        picture = before.picture;
+        rows = before.rows;
+        masters = before.masters;
+        clients = sound_change _ counted.before _ _ _ c.args.client _ _ _ c.pump.ensures.clients counted.counted (omega arith) (sound_after_pump _ _ _ c.self.inside.moment) counted.sound;
+      };
+      sessions = kept_changed c.args.client _ _ _ c.pump.ensures.clients (kept_after_pump c.self.inside.moment) c.self.invariant.sessions;
     }
 
 same_reply : (c : ℕ) (a b : Setup) (m l : ℕ) (ks js : List Client) → a ≡ b → m ≡ l → ks ≡ js

@@ -7,16 +7,20 @@ use Rattle.gw_steps.specs.State.{State}
 use Rattle.gw_steps.specs.Steps.{bits_of, latest}
 use Rattle.gw_hub.specs.Hub.{Hub}
 use Rattle.gw_hub.proofs.Taking.{sound_changed}
+use Rattle.gw_hub.proofs.Sessions.{kept_after_tick, kept_mapped}
 use Rattle.gw_hub.proofs.hub.Hub.tick.Goals as goal
 
 pub invariant_of-self : goal.invariant_of-self
 invariant_of-self c =
-    let before = c.self.invariant in
+    let before = c.self.invariant.sound in
     record {
-      picture = before.picture;
-      rows = before.rows;
-      masters = ap length c.tick.ensures ∙ (length-map _ _ ∙ before.masters);
-      clients = sound_changed _ _ _ _ _ _ _ c.tick-closed.ensures.clients (sound_after_tick _ _ _ c.self.inside.moment) before.clients;
+      sound = record {
+        picture = before.picture;
+        rows = before.rows;
+        masters = ap length c.tick.ensures ∙ (length-map _ _ ∙ before.masters);
+        clients = sound_changed _ _ _ _ _ _ _ c.tick-closed.ensures.clients (sound_after_tick _ _ _ c.self.inside.moment) before.clients;
+      };
+      sessions = kept_mapped _ _ _ c.tick-closed.ensures.clients (kept_after_tick c.self.inside.moment) c.self.invariant.sessions;
     }
 
 same_bits : (m l : ℕ) (ks js : List Client) → m ≡ l → ks ≡ js → bits_of (map (is_timed_out m) ks) ≡ bits_of (map (is_timed_out l) js)

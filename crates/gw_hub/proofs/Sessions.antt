@@ -1,0 +1,112 @@
+-- What every hub keeps of its clients: outside of a session no news wait, and none were dropped.
+use Rattle.std.specs.Prelude.{replicate}
+use Rattle.std.proofs.Common.{◌≡◌, ℕ, zero, suc, Option, Some, None, List, [], ◌∷◌, map, drop, inl, inr, refl, sym, ap, subst, arith}
+use Rattle.std.specs.List.{AllByRecursion}
+use Rattle.std.proofs.lemmas.Bool.{cases_Bool}
+use Rattle.gw_model.specs.declared.observation.Observation.{Observation}
+use Rattle.gw_model.specs.Places.{change}
+use Rattle.gw_map.specs.Settings.{Setup}
+use Rattle.iec_apci.specs.declared.apdu.Apdu.{Apdu}
+use Rattle.iec_apci.specs.declared.apdu.Apdu.TheVariants.{I, S, U}
+use Rattle.iec_apci.specs.declared.apdu.Signal.{Signal}
+use Rattle.iec_apci.specs.declared.apdu.Signal.TheVariants.{StartAct, StartCon, StopAct, StopCon, TestAct, TestCon}
+use Rattle.iec_window.specs.declared.limits.Limits.{Limits}
+use Rattle.gw_station.specs.declared.event.Event.{Event}
+use Rattle.gw_station.specs.declared.event.Event.TheVariants as events
+use Rattle.gw_station.specs.declared.event.Why.{Why}
+use Rattle.gw_station.specs.declared.sending.Sending.{Sending}
+use Rattle.gw_station.specs.declared.sending.Sending.TheVariants as sendings
+use Rattle.gw_station.specs.Client.{Client, client_after_close, client_after_tick, client_after_up, client_down, client_with_news, is_started, is_timed_out}
+use Rattle.gw_station.specs.Frames.{client_after_apdu, client_by, client_taking, client_with_session, close_of, event_of}
+use Rattle.gw_station.specs.Pump.{client_after_pump, client_by_offer, offered}
+use Rattle.gw_steps.specs.Steps.{client_after_frame, client_answered}
+use Rattle.gw_hub.specs.Hub.{KeepsToSession}
+
+-- ---- one client
+
+pub kept_after_close : (c : Client) → KeepsToSession (client_after_close c)
+kept_after_close c = record { outside = λ _. (refl, refl) }
+
+pub kept_after_up : (moment : ℕ) (c : Client) → KeepsToSession (client_after_up moment c)
+kept_after_up moment c = record { outside = λ _. (refl, refl) }
+
+pub kept_after_tick : (moment : ℕ) (c : Client) → KeepsToSession c → KeepsToSession (client_after_tick moment c)
+kept_after_tick moment c holds = elim (cases_Bool (is_timed_out moment c)) [
+  | inl late ↦ rw late (kept_after_close c)
+  | inr on ↦ rw on holds
+]
+
+pub kept_with_news : (xs : List Observation) (c : Client) → KeepsToSession c → KeepsToSession (client_with_news xs c)
+kept_with_news xs c holds = record {
+  outside = λ idle. rw idle ((holds.outside idle).0, omega (arith, (holds.outside idle).1));
+}
+
+with_session : (signal : Signal) (c : Client) → KeepsToSession c → KeepsToSession (client_with_session signal c)
+with_session StartAct c holds = elim (cases_Bool (is_started c.stage)) [
+  | inl is ↦ rw is holds
+  | inr isnt ↦ rw isnt (record { outside = λ e. absurd cc })
+]
+with_session StopAct c holds = elim (cases_Bool (is_started c.stage)) [
+  | inl is ↦ rw is (record { outside = λ _. (refl, refl) })
+  | inr isnt ↦ rw isnt holds
+]
+with_session TestAct c holds = holds
+with_session StartCon c holds = holds
+with_session StopCon c holds = holds
+with_session TestCon c holds = holds
+
+taking : (setup : Setup) (picture : List Observation) (moment : ℕ) (apdu : Apdu) (c : Client) → KeepsToSession c → KeepsToSession (client_taking setup picture moment apdu c)
+taking setup picture moment (I ns nr asdu) c holds = record { outside = holds.outside }
+taking setup picture moment (S nr) c holds = record { outside = holds.outside }
+taking setup picture moment (U signal) c holds = record { outside = (with_session signal c holds).outside }
+
+after_apdu : (why : Option Why) (c d : Client) → KeepsToSession d → KeepsToSession (client_by why c d)
+after_apdu None c d holds = holds
+after_apdu (Some why) c d holds = kept_after_close c
+
+answered : (event : Event) (c : Client) → KeepsToSession c → KeepsToSession (client_answered event c)
+answered events.Taken c holds = holds
+answered (events.Command command) c holds = record { outside = holds.outside }
+answered (events.Closed why) c holds = holds
+
+pub kept_after_frame : (setup : Setup) (picture : List Observation) (moment : ℕ) (apdu : Apdu) (c : Client) → KeepsToSession c → KeepsToSession (client_after_frame setup picture moment apdu c)
+kept_after_frame setup picture moment apdu c holds =
+    answered (event_of setup apdu c) (client_after_apdu setup picture moment apdu c)
+    (after_apdu (close_of setup apdu c) c (client_taking setup picture moment apdu c) (taking setup picture moment apdu c holds))
+
+pub kept_after_pump : (moment : ℕ) (c : Client) → KeepsToSession c → KeepsToSession (client_after_pump moment c)
+kept_after_pump moment c holds = go (offered moment c)
+  where
+    go : (x : Option Sending) → KeepsToSession (client_by_offer moment x c)
+    go None = holds
+    go (Some (sendings.Confirm signal)) = record { outside = holds.outside }
+    go (Some sendings.Test) = record { outside = holds.outside }
+    go (Some (sendings.Answer answer)) = record { outside = holds.outside }
+    go (Some (sendings.News x)) = record { outside = λ idle. (ap (drop 1) (holds.outside idle).0, (holds.outside idle).1) }
+    go (Some (sendings.Part part)) = record { outside = holds.outside }
+    go (Some sendings.Receipt) = record { outside = holds.outside }
+
+-- ---- all clients
+
+pub kept_at_first : (limits : Limits) (queue n : ℕ) → AllByRecursion KeepsToSession (replicate n (client_down limits queue))
+kept_at_first limits queue zero = tt
+kept_at_first limits queue (suc n) = (record { outside = λ _. (refl, refl) }, kept_at_first limits queue n)
+
+-- one client changed
+pub kept_changed : (p : ℕ) (f : Client → Client) (cs changed : List Client) → changed ≡ change p f cs → ((c : Client) → KeepsToSession c → KeepsToSession (f c))
+    → AllByRecursion KeepsToSession cs → AllByRecursion KeepsToSession changed
+kept_changed p f cs changed e keeps all = subst (AllByRecursion KeepsToSession) (sym e) (go p cs all)
+  where
+    go : (p : ℕ) (cs : List Client) → AllByRecursion KeepsToSession cs → AllByRecursion KeepsToSession (change p f cs)
+    go p [] all = tt
+    go zero (c ∷ cs) all = (keeps c all.0, all.1)
+    go (suc p) (c ∷ cs) all = (all.0, go p cs all.1)
+
+-- every client changed
+pub kept_mapped : (f : Client → Client) (cs changed : List Client) → changed ≡ map f cs → ((c : Client) → KeepsToSession c → KeepsToSession (f c))
+    → AllByRecursion KeepsToSession cs → AllByRecursion KeepsToSession changed
+kept_mapped f cs changed e keeps all = subst (AllByRecursion KeepsToSession) (sym e) (go cs all)
+  where
+    go : (cs : List Client) → AllByRecursion KeepsToSession cs → AllByRecursion KeepsToSession (map f cs)
+    go [] all = tt
+    go (c ∷ cs) all = (keeps c all.0, go cs all.1)
