@@ -7,3 +7,4 @@ pub mod Places
 pub mod First
 pub mod Bits
 pub mod Octets
+pub mod Values
