@@ -7,7 +7,8 @@ use Rattle.dnp_link.specs.declared.event.Why.{Why}
 use Rattle.dnp_link.specs.Crc.{crc_of}
 use Rattle.dnp_link.specs.Frame.{Content, block_count, header, octets_with_crc, blocks, frame, frame_length, is_sealed, are_sealed, user_data_in_blocks}
 use Rattle.dnp_link.specs.Stream.{Event, Framed, Dropped, is_bad_start, user_length, content_at, event_at_front}
-use Rattle.dnp_link.specs.Laws.{AreOctets, BeginsWith}
+use Rattle.gw_model.specs.Octets.{AreOctets}
+use Rattle.dnp_link.specs.Laws.{BeginsWith}
 use Rattle.dnp_link.proofs.Front.{chain, length-user_data_in_blocks}
 use Rattle.dnp_link.proofs.Round.{front_frame-append}
 

@@ -1,10 +1,11 @@
 //! What holds of every stream and every frame, and a whole stream read through a feed.
 ghost use Rattle.std.specs.Prelude.{◌≡◌, Bool, List, ℕ, [], ◌++◌, drop, map, Some, IfOk, OnOk, ◌↔◌};
 ghost use Rattle.std.specs.List.{flat_map};
+ghost use Rattle.gw_model.specs.Octets.{AreOctets};
 ghost use Rattle.dnp_link.specs.Polynomial.{IsRemainder, remainder};
 ghost use Rattle.dnp_link.specs.Frame.{Content, frame};
 ghost use Rattle.dnp_link.specs.Stream.{Framed, octets_used_if_any, event_at_front, reading, reading_with_front, reading_with_first, joined_readings};
-ghost use Rattle.dnp_link.specs.Laws.{AreOctets, BeginsWith};
+ghost use Rattle.dnp_link.specs.Laws.{BeginsWith};
 ghost use Rattle.dnp_link.specs.Content.{event_content};
 
 use crate::event::LinkEvent;

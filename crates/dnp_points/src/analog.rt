@@ -8,7 +8,7 @@ ghost use Rattle.dnp_objects.specs.Library.{entry, Point, static, events, flags,
 use crate::object::{Layout, Object, Time};
 use gw_model::{Kind, Report, Stamp};
 
-/// An analog input of 32 bits with flags (group 30, variation 1).
+/// An analog input of 32 bits with flags (group 30, variation 1; g30v1).
 pub struct Analog32WithFlag;
 
 impl Object for Analog32WithFlag {
@@ -29,7 +29,7 @@ impl Object for Analog32WithFlag {
     ghost small = { Prim.search rules };
 }
 
-/// An analog input of 16 bits with flags (group 30, variation 2).
+/// An analog input of 16 bits with flags (group 30, variation 2; g30v2).
 pub struct Analog16WithFlag;
 
 impl Object for Analog16WithFlag {
@@ -50,7 +50,7 @@ impl Object for Analog16WithFlag {
     ghost small = { Prim.search rules };
 }
 
-/// An analog input of 32 bits without flags (group 30, variation 3).
+/// An analog input of 32 bits without flags (group 30, variation 3; g30v3).
 pub struct Analog32WithoutFlag;
 
 impl Object for Analog32WithoutFlag {
@@ -71,7 +71,7 @@ impl Object for Analog32WithoutFlag {
     ghost small = { Prim.search rules };
 }
 
-/// An analog input of 16 bits without flags (group 30, variation 4).
+/// An analog input of 16 bits without flags (group 30, variation 4; g30v4).
 pub struct Analog16WithoutFlag;
 
 impl Object for Analog16WithoutFlag {
@@ -92,7 +92,7 @@ impl Object for Analog16WithoutFlag {
     ghost small = { Prim.search rules };
 }
 
-/// An analog input event of 32 bits without time (group 32, variation 1).
+/// An analog input event of 32 bits without time (group 32, variation 1; g32v1).
 pub struct AnalogEvent32;
 
 impl Object for AnalogEvent32 {
@@ -113,7 +113,7 @@ impl Object for AnalogEvent32 {
     ghost small = { Prim.search rules };
 }
 
-/// An analog input event of 16 bits without time (group 32, variation 2).
+/// An analog input event of 16 bits without time (group 32, variation 2; g32v2).
 pub struct AnalogEvent16;
 
 impl Object for AnalogEvent16 {
@@ -134,7 +134,7 @@ impl Object for AnalogEvent16 {
     ghost small = { Prim.search rules };
 }
 
-/// An analog input event of 32 bits with time (group 32, variation 3).
+/// An analog input event of 32 bits with time (group 32, variation 3; g32v3).
 pub struct AnalogEvent32WithTime;
 
 impl Object for AnalogEvent32WithTime {
@@ -155,7 +155,7 @@ impl Object for AnalogEvent32WithTime {
     ghost small = { Prim.search rules };
 }
 
-/// An analog input event of 16 bits with time (group 32, variation 4).
+/// An analog input event of 16 bits with time (group 32, variation 4; g32v4).
 pub struct AnalogEvent16WithTime;
 
 impl Object for AnalogEvent16WithTime {

@@ -8,7 +8,7 @@ ghost use Rattle.dnp_objects.specs.Library.{entry, Point, static, events, flags,
 use crate::object::{Layout, Object, Time};
 use gw_model::{Kind, Report, Stamp};
 
-/// A binary input with flags (group 1, variation 2).
+/// A binary input with flags (group 1, variation 2; g1v2).
 pub struct BinaryWithFlags;
 
 impl Object for BinaryWithFlags {
@@ -29,7 +29,7 @@ impl Object for BinaryWithFlags {
     ghost small = { Prim.search rules };
 }
 
-/// A binary input event without time (group 2, variation 1).
+/// A binary input event without time (group 2, variation 1; g2v1).
 pub struct BinaryEvent;
 
 impl Object for BinaryEvent {
@@ -50,7 +50,7 @@ impl Object for BinaryEvent {
     ghost small = { Prim.search rules };
 }
 
-/// A binary input event with absolute time (group 2, variation 2).
+/// A binary input event with absolute time (group 2, variation 2; g2v2).
 pub struct BinaryEventWithTime;
 
 impl Object for BinaryEventWithTime {
@@ -71,7 +71,7 @@ impl Object for BinaryEventWithTime {
     ghost small = { Prim.search rules };
 }
 
-/// A binary input event with relative time (group 2, variation 3).
+/// A binary input event with relative time (group 2, variation 3; g2v3).
 pub struct BinaryEventWithRelativeTime;
 
 impl Object for BinaryEventWithRelativeTime {
@@ -92,7 +92,7 @@ impl Object for BinaryEventWithRelativeTime {
     ghost small = { Prim.search rules };
 }
 
-/// A double-bit binary input with flags (group 3, variation 2).
+/// A double-bit binary input with flags (group 3, variation 2; g3v2).
 pub struct DoubleWithFlags;
 
 impl Object for DoubleWithFlags {
@@ -113,7 +113,7 @@ impl Object for DoubleWithFlags {
     ghost small = { Prim.search rules };
 }
 
-/// A double-bit binary input event without time (group 4, variation 1).
+/// A double-bit binary input event without time (group 4, variation 1; g4v1).
 pub struct DoubleEvent;
 
 impl Object for DoubleEvent {
@@ -134,7 +134,7 @@ impl Object for DoubleEvent {
     ghost small = { Prim.search rules };
 }
 
-/// A double-bit binary input event with absolute time (group 4, variation 2).
+/// A double-bit binary input event with absolute time (group 4, variation 2; g4v2).
 pub struct DoubleEventWithTime;
 
 impl Object for DoubleEventWithTime {
@@ -155,7 +155,7 @@ impl Object for DoubleEventWithTime {
     ghost small = { Prim.search rules };
 }
 
-/// A double-bit binary input event with relative time (group 4, variation 3).
+/// A double-bit binary input event with relative time (group 4, variation 3; g4v3).
 pub struct DoubleEventWithRelativeTime;
 
 impl Object for DoubleEventWithRelativeTime {
@@ -176,7 +176,7 @@ impl Object for DoubleEventWithRelativeTime {
     ghost small = { Prim.search rules };
 }
 
-/// A binary output status with flags (group 10, variation 2).
+/// A binary output status with flags (group 10, variation 2; g10v2).
 pub struct OutputWithFlags;
 
 impl Object for OutputWithFlags {
@@ -197,7 +197,7 @@ impl Object for OutputWithFlags {
     ghost small = { Prim.search rules };
 }
 
-/// A binary output event without time (group 11, variation 1).
+/// A binary output event without time (group 11, variation 1; g11v1).
 pub struct OutputEvent;
 
 impl Object for OutputEvent {
@@ -218,7 +218,7 @@ impl Object for OutputEvent {
     ghost small = { Prim.search rules };
 }
 
-/// A binary output event with time (group 11, variation 2).
+/// A binary output event with time (group 11, variation 2; g11v2).
 pub struct OutputEventWithTime;
 
 impl Object for OutputEventWithTime {

@@ -8,7 +8,7 @@ ghost use Rattle.dnp_objects.specs.Library.{entry, Point, static, events, flags,
 use crate::object::{Layout, Object, Time};
 use gw_model::{Kind, Report, Stamp};
 
-/// A counter of 32 bits with flags (group 20, variation 1).
+/// A counter of 32 bits with flags (group 20, variation 1; g20v1).
 pub struct Counter32WithFlag;
 
 impl Object for Counter32WithFlag {
@@ -29,7 +29,7 @@ impl Object for Counter32WithFlag {
     ghost small = { Prim.search rules };
 }
 
-/// A counter of 16 bits with flags (group 20, variation 2).
+/// A counter of 16 bits with flags (group 20, variation 2; g20v2).
 pub struct Counter16WithFlag;
 
 impl Object for Counter16WithFlag {
@@ -50,7 +50,7 @@ impl Object for Counter16WithFlag {
     ghost small = { Prim.search rules };
 }
 
-/// A counter of 32 bits without flags (group 20, variation 5).
+/// A counter of 32 bits without flags (group 20, variation 5; g20v5).
 pub struct Counter32WithoutFlag;
 
 impl Object for Counter32WithoutFlag {
@@ -71,7 +71,7 @@ impl Object for Counter32WithoutFlag {
     ghost small = { Prim.search rules };
 }
 
-/// A counter of 16 bits without flags (group 20, variation 6).
+/// A counter of 16 bits without flags (group 20, variation 6; g20v6).
 pub struct Counter16WithoutFlag;
 
 impl Object for Counter16WithoutFlag {
@@ -92,7 +92,7 @@ impl Object for Counter16WithoutFlag {
     ghost small = { Prim.search rules };
 }
 
-/// A counter event of 32 bits with flags (group 22, variation 1).
+/// A counter event of 32 bits with flags (group 22, variation 1; g22v1).
 pub struct CounterEvent32;
 
 impl Object for CounterEvent32 {
@@ -113,7 +113,7 @@ impl Object for CounterEvent32 {
     ghost small = { Prim.search rules };
 }
 
-/// A counter event of 16 bits with flags (group 22, variation 2).
+/// A counter event of 16 bits with flags (group 22, variation 2; g22v2).
 pub struct CounterEvent16;
 
 impl Object for CounterEvent16 {
@@ -134,7 +134,7 @@ impl Object for CounterEvent16 {
     ghost small = { Prim.search rules };
 }
 
-/// A counter event of 32 bits with flags and time (group 22, variation 5).
+/// A counter event of 32 bits with flags and time (group 22, variation 5; g22v5).
 pub struct CounterEvent32WithTime;
 
 impl Object for CounterEvent32WithTime {
@@ -155,7 +155,7 @@ impl Object for CounterEvent32WithTime {
     ghost small = { Prim.search rules };
 }
 
-/// A counter event of 16 bits with flags and time (group 22, variation 6).
+/// A counter event of 16 bits with flags and time (group 22, variation 6; g22v6).
 pub struct CounterEvent16WithTime;
 
 impl Object for CounterEvent16WithTime {

@@ -68,7 +68,7 @@ fn online(outstation: u8, kind: Kind, index: u16, raw: Raw) -> Report
     }
 }
 
-/// A packed binary input (group 1, variation 1).
+/// A packed binary input (group 1, variation 1; g1v1).
 pub struct PackedBinary;
 
 impl PackedObject for PackedBinary {
@@ -89,7 +89,7 @@ impl PackedObject for PackedBinary {
     ghost few = { refl };
 }
 
-/// A packed double-bit binary input (group 3, variation 1).
+/// A packed double-bit binary input (group 3, variation 1; g3v1).
 pub struct PackedDouble;
 
 impl PackedObject for PackedDouble {
@@ -110,7 +110,7 @@ impl PackedObject for PackedDouble {
     ghost few = { refl };
 }
 
-/// A packed binary output status (group 10, variation 1).
+/// A packed binary output status (group 10, variation 1; g10v1).
 pub struct PackedOutput;
 
 impl PackedObject for PackedOutput {

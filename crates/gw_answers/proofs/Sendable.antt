@@ -17,8 +17,8 @@ use Rattle.gw_judge.specs.Judging.{judged, IsWholeJudged}
 use Rattle.gw_judge.proofs.Refused.{header_whole, cause_within}
 use Rattle.gw_answers.specs.declared.outgoing.AsduAnswer.TheVariants.{Made}
 use Rattle.gw_answers.specs.declared.outgoing.OwnAsdu.TheVariants as outgoing
-use Rattle.gw_answers.specs.Outgoing.{command_with, at_station, confirmed}
-use Rattle.gw_answers.specs.Interrogations.{cause_for, is_accepted_act, is_asked_by, rows_of, answer_to}
+use Rattle.gw_answers.specs.Outgoing.{command_with, confirmed}
+use Rattle.gw_answers.specs.Interrogations.{is_accepted_act, is_asked_by, rows_of, answer_to}
 use Rattle.gw_answers.specs.Answers.{shown_by, refused_act, answered_action, answered}
 use Rattle.gw_answers.specs.Octets.{octets_in}
 use Rattle.gw_answers.specs.Meaning.{IsSendable, is_answering, CanSendOutgoing, CanSendAnswer}

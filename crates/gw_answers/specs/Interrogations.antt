@@ -1,8 +1,7 @@
 -- The answer to an interrogation (IEC 60870-5-101, 7.4.5 and 7.4.8).
-use Rattle.std.specs.Prelude.{ℕ, Bool, true, false, not, ◌&&◌, ◌==◌, List, [], ◌∷◌, ◌++◌, map, filter}
+use Rattle.std.specs.Prelude.{ℕ, Bool, false, not, ◌&&◌, ◌==◌, List, [], ◌∷◌, ◌++◌, map, filter}
 use Rattle.gw_model.specs.declared.observation.Observation.{Observation}
-use Rattle.gw_model.specs.declared.observation.Value.{Value}
-use Rattle.gw_model.specs.declared.observation.Value.TheVariants.{Single, Double, Scaled, Word, Total}
+use Rattle.gw_model.specs.Values.{is_total}
 use Rattle.iec_command.specs.declared.command.Command.{Command}
 use Rattle.iec_command.specs.declared.command.Action.{Action}
 use Rattle.iec_command.specs.declared.command.Action.TheVariants.{Interrogation, CounterInterrogation}
@@ -19,13 +18,6 @@ is_general _ = false
 -- the activation of one is accepted where none is pending
 abbrev pub is_accepted_act : Bool → Command → Bool
 is_accepted_act pending c = c.cause == 6 && is_general c.action && not pending
-
-abbrev pub is_total : Value → Bool
-is_total (Single on) = false
-is_total (Double state) = false
-is_total (Scaled value) = false
-is_total (Word word) = false
-is_total (Total count) = true
 
 -- totals answer a counter interrogation, all else a station interrogation
 abbrev pub is_asked_by : Action → Observation → Bool

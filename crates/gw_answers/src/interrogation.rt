@@ -4,7 +4,7 @@ ghost use Rattle.gw_answers.specs.Interrogations.{answer_to, cause_for, is_accep
 
 use crate::answering::command_with;
 use crate::outgoing::OwnAsdu;
-use gw_model::{Memory, Observation, Value};
+use gw_model::{Memory, Observation};
 use iec_command::causes::{
     ACTIVATION, ACTIVATION_CONFIRMATION, ACTIVATION_TERMINATION, COUNTER_INTERROGATION,
     STATION_INTERROGATION,
@@ -40,10 +40,9 @@ pub fn is_accepted_act(pending: bool, command: &Command) -> bool
 fn is_asked_by(action: Action, observation: &Observation) -> bool
     ensures { result ≡ is_asked_by action observation.now }
 {
-    let is_total = matches!(observation.value, Value::Total(_));
     match action {
-        Action::CounterInterrogation { .. } => is_total,
-        _ => !is_total,
+        Action::CounterInterrogation { .. } => observation.value.is_total(),
+        _ => !observation.value.is_total(),
     }
 }
 

@@ -26,7 +26,9 @@ usual_show kind.Analog = show.Scaled
 -- only scaled values have a scale
 abbrev pub is_scaled : Show → Bool
 is_scaled show.Scaled = true
-is_scaled show.Single = false
-is_scaled show.Double = false
-is_scaled show.Word = false
-is_scaled show.Total = false
+is_scaled _ = false
+
+-- a row is shown as a total
+abbrev pub is_total : Show → Bool
+is_total show.Total = true
+is_total _ = false

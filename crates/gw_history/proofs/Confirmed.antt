@@ -6,7 +6,7 @@ use Rattle.dnp_app.specs.Response.{Fragment, is_unsolicited}
 use Rattle.dnp_app.specs.Control.{confirm_of}
 use Rattle.dnp_app.specs.declared.request.Request.{Request}
 use Rattle.dnp_master.specs.Master.{Master, request_given}
-use Rattle.dnp_master.specs.Fragments.{verdict_of}
+use Rattle.dnp_master.specs.Fragments.{is_last, verdict_of}
 use Rattle.iec_apci.specs.Apdu.{Content}
 use Rattle.gw_station.specs.declared.event.Event.{Event}
 use Rattle.gw_station.specs.declared.event.Event.TheVariants as events
@@ -22,7 +22,7 @@ use Rattle.gw_steps.specs.State.{State}
 use Rattle.gw_steps.specs.Steps.{Allowed, outcome, needs, can_rise, reply_to, fault_of, reply_of_event, reply_asking, reply_giving, latest}
 use Rattle.gw_steps.specs.Runs.{Entry, state_after}
 use Rattle.gw_steps.proofs.Inversion.{answered, who_is_up}
-use Rattle.gw_history.specs.Accepted.{last_text, is_text, Asked, is_in_sequence, is_in_place, is_answer, asked_of}
+use Rattle.gw_history.specs.Accepted.{last_text, Asked, is_in_sequence, is_in_place, is_answer, asked_of}
 use Rattle.gw_history.specs.Confirmations.{verdict_in, verdict_due_to_answer, verdict_due, confirmation_in, confirmation_due, Confirms, ConfirmsBy, Confirmations}
 use Rattle.gw_history.proofs.Masters.{MasterIs, MasterTied, verdict_is}
 use Rattle.gw_history.proofs.Tied.{Tied}
@@ -47,9 +47,9 @@ or_false false = refl
 -- the confirmation in what is to be said of a fragment is the one that is due
 due_confirms : (setup : Setup) (past : List Entry) (f : Fragment) (m : ℕ)
     → confirmation_in (Some (verdict_due setup past f)) ≡ confirmation_due setup past (steps.Fragment f m)
-due_confirms setup past f m = go (is_unsolicited f) (is_text (last_text f.outstation past) f.octets) refl refl
+due_confirms setup past f m = go (is_unsolicited f) (is_last (last_text f.outstation past) f.octets) refl refl
   where
-    go : (b text : Bool) → is_unsolicited f ≡ b → is_text (last_text f.outstation past) f.octets ≡ text
+    go : (b text : Bool) → is_unsolicited f ≡ b → is_last (last_text f.outstation past) f.octets ≡ text
         → confirmation_in (Some (verdict_due setup past f)) ≡ confirmation_due setup past (steps.Fragment f m)
     go true true e et = rw (e, et) refl
     go true false e et = rw (e, et) refl

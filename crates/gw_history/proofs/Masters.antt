@@ -14,7 +14,7 @@ use Rattle.dnp_master.specs.declared.exchange.Exchange.TheVariants.{Idle, Waitin
 use Rattle.dnp_master.specs.declared.task.Task.{Task}
 use Rattle.dnp_master.specs.declared.task.Task.TheVariants.{ClearRestart, WriteTime, RecordTime, Disable, Integrity, Enable, EventPoll, Command}
 use Rattle.dnp_master.specs.Master.{Master, master_down, master_after_up, master_after_next, master_after_tick, master_with_exchange_after, first_task, if_due, order_of, task_given, task_octets, task_request, tasks_due, time_due, request_given, is_event_poll_due, is_integrity_due, is_late, following}
-use Rattle.dnp_master.specs.Fragments.{is_last, is_begun_rightly, verdict_of_answer, verdict_of, is_acceptance, accepts, ended_answered, ended_with, exchange_after, exchange_once_answered, is_done, master_after_answer, master_after_accepted, master_after_fragment}
+use Rattle.dnp_master.specs.Fragments.{control_in, is_last, is_begun_rightly, verdict_of_answer, verdict_of, is_acceptance, accepts, ended_answered, ended_with, exchange_after, exchange_once_answered, is_done, master_after_answer, master_after_accepted, master_after_fragment}
 use Rattle.gw_steps.specs.declared.step.Step.TheVariants as steps
 use Rattle.gw_steps.specs.declared.step.Reply.{Reply}
 use Rattle.gw_steps.specs.declared.step.Reply.TheVariants as replies
@@ -22,7 +22,7 @@ use Rattle.gw_steps.specs.State.{later}
 use Rattle.gw_steps.specs.Steps.{reply_asking}
 use Rattle.gw_steps.specs.Runs.{Entry}
 use Rattle.gw_steps.proofs.Running.{entry}
-use Rattle.gw_history.specs.Accepted.{moment_after, last_text, is_text, Asked, control_in, is_in_sequence, is_in_place, is_answer, asked_with, asked_at, poll_at, asked_of, is_accepted}
+use Rattle.gw_history.specs.Accepted.{moment_after, last_text, Asked, is_in_sequence, is_in_place, is_answer, asked_with, asked_at, poll_at, asked_of, is_accepted}
 use Rattle.gw_history.specs.Confirmations.{verdict_due_to_answer, verdict_due}
 
 -- ---- the tie
@@ -241,14 +241,6 @@ master_ticked setup o m moment r past (Some x) at tied = go x.exchange (asked_of
 
 -- ---- fragments
 
-text_is_last : (last : Option (List ℕ)) (octets : List ℕ) → is_last last octets ≡ is_text last octets
-text_is_last None octets = refl
-text_is_last (Some l) octets = refl
-
-in_place : (first fir : Bool) → is_begun_rightly (not first) fir ≡ cond first fir (not fir)
-in_place true fir = refl
-in_place false fir = refl
-
 -- where no order is given none ends
 ended_none : (task : Task) (f : Fragment) → order_of task ≡ None → ended_with task f ≡ None
 ended_none task f plain = go task (control_in f).fin plain
@@ -282,15 +274,13 @@ verdict_to_answer Idle (Some a) f alike = absurd alike
 verdict_to_answer (Waiting w) None f alike = absurd alike
 verdict_to_answer (Waiting w) (Some a) f alike =
     let rightly : is_begun_rightly w.begun (control_in f).fir ≡ is_in_place a f =
-    ap (λ (b : Bool). is_begun_rightly b (control_in f).fir) alike.begun
-    ∙ in_place (eqb a.fragments 0) (control_in f).fir in
+    ap (λ (b : Bool). is_begun_rightly b (control_in f).fir) alike.begun in
     rw (alike.expected, rightly, ended_none w.task f alike.plain) refl
 verdict_to_answer (Selected order) asked f alike = absurd alike
 
 unsolicited_verdict : (past : List Entry) (f : Fragment) (m : Master) → m.last ≡ last_text f.outstation past
-    → is_last m.last f.octets ≡ is_text (last_text f.outstation past) f.octets
-unsolicited_verdict past f m same = text_is_last m.last f.octets
-    ∙ ap (λ (last : Option (List ℕ)). is_text last f.octets) same
+    → is_last m.last f.octets ≡ is_last (last_text f.outstation past) f.octets
+unsolicited_verdict past f m same = ap (λ (last : Option (List ℕ)). is_last last f.octets) same
 
 -- a fragment is judged as the history tells
 pub verdict_is : (setup : Setup) (past : List Entry) (f : Fragment) (m : Master) → MasterIs setup f.outstation past m
@@ -315,9 +305,9 @@ answer_accepted (Some a) f = go (is_in_sequence a f) (is_in_place a f) refl refl
 -- and accepted as the history tells
 pub same_accepted : (setup : Setup) (past : List Entry) (f : Fragment) (m : Master)
     → MasterIs setup f.outstation past m → accepts m f ≡ is_accepted setup past f
-same_accepted setup past f m tied = go (is_unsolicited f) (is_text (last_text f.outstation past) f.octets) refl refl
+same_accepted setup past f m tied = go (is_unsolicited f) (is_last (last_text f.outstation past) f.octets) refl refl
   where
-    go : (b last : Bool) → is_unsolicited f ≡ b → is_text (last_text f.outstation past) f.octets ≡ last
+    go : (b last : Bool) → is_unsolicited f ≡ b → is_last (last_text f.outstation past) f.octets ≡ last
         → accepts m f ≡ is_accepted setup past f
     go true true e el = rw (e, unsolicited_verdict past f m tied.last, el) refl
     go true false e el = rw (e, unsolicited_verdict past f m tied.last, el) refl
@@ -442,8 +432,8 @@ master_left setup past f m r x left tied = go (is_unsolicited f) refl
 
     go : (b : Bool) → is_unsolicited f ≡ b → MasterIs setup f.outstation (e ∷ past) x
     go true eb =
-        let again : is_text (last_text f.outstation past) f.octets ≡ true =
-        elim (cases_Bool (is_text (last_text f.outstation past) f.octets)) [
+        let again : is_last (last_text f.outstation past) f.octets ≡ true =
+        elim (cases_Bool (is_last (last_text f.outstation past) f.octets)) [
           | inl known ↦ known
           | inr other ↦ absurd (true≢false (sym (rw (eb, other) refl) ∙ refused))
         ] in

@@ -1,11 +1,10 @@
 -- Which fragments were accepted, by steps and replies alone (IEEE Std 1815, 4.2.2 and clause 5).
-use Rattle.std.specs.Prelude.{ℕ, ◌+◌, ◌-◌, ◌%◌, nat_le, Bool, false, ◌&&◌, not, ◌==◌, List, [], ◌∷◌, Option, Some, None, option_map, slice_get, slice_index, if◌then◌else◌}
-use Rattle.std.specs.Str.{bytes_eq}
+use Rattle.std.specs.Prelude.{ℕ, ◌+◌, ◌%◌, Bool, false, ◌&&◌, not, ◌==◌, List, [], ◌∷◌, Option, Some, None, option_map, slice_get, slice_index, if◌then◌else◌}
 use Rattle.gw_model.specs.declared.poll.Poll.{Poll}
 use Rattle.gw_map.specs.Settings.{Setup}
-use Rattle.dnp_app.specs.declared.response.Control.{Control}
-use Rattle.dnp_app.specs.Control.{control_of}
 use Rattle.dnp_app.specs.Response.{Fragment, is_unsolicited}
+use Rattle.dnp_master.specs.Master.{is_late}
+use Rattle.dnp_master.specs.Fragments.{control_in, is_begun_rightly, is_last}
 use Rattle.gw_steps.specs.declared.step.Step.{Step}
 use Rattle.gw_steps.specs.declared.step.Step.TheVariants as steps
 use Rattle.gw_steps.specs.declared.step.Reply.{Reply}
@@ -38,13 +37,9 @@ abbrev pub last_text : ℕ → List Entry → Option (List ℕ)
 last_text o [] = None
 last_text o (e ∷ past) = let last = last_text o past in unless_fault last (λ reply. last_after o last e.step) e.reply
 
-abbrev pub is_text : Option (List ℕ) → List ℕ → Bool
-is_text None octets = false
-is_text (Some text) octets = bytes_eq text octets
-
 -- an unsolicited response that is the last accepted one again
 abbrev pub is_repeated : List Entry → Fragment → Bool
-is_repeated past f = is_unsolicited f && is_text (last_text f.outstation past) f.octets
+is_repeated past f = is_unsolicited f && is_last (last_text f.outstation past) f.octets
 
 -- ---- requests and their answers
 
@@ -55,15 +50,12 @@ pub record Asked : Type 0 where
   pub fragments : ℕ
   pub since : ℕ
 
-abbrev pub control_in : Fragment → Control
-control_in f = control_of (slice_index f.octets 0)
-
 -- the sequence number is the next one, and FIR is set in the first fragment alone
 abbrev pub is_in_sequence : Asked → Fragment → Bool
 is_in_sequence a f = (control_in f).sequence == (a.sequence + a.fragments) % 16
 
 abbrev pub is_in_place : Asked → Fragment → Bool
-is_in_place a f = if a.fragments == 0 then (control_in f).fir else not (control_in f).fir
+is_in_place a f = is_begun_rightly (not (a.fragments == 0)) (control_in f).fir
 
 abbrev pub is_answer : Option Asked → Fragment → Bool
 is_answer None f = false
@@ -75,14 +67,10 @@ asked_with moment f None = None
 asked_with moment f (Some a) =
     if (control_in f).fin then None else Some (record a { fragments = a.fragments + 1; since = moment })
 
--- the time for an answer of an outstation that is polled so
-abbrev pub response_time_passed : ℕ → Option Poll → Asked → Bool
-response_time_passed moment None a = false
-response_time_passed moment (Some poll) a = nat_le poll.response_ms (moment - a.since)
-
+-- what awaits its answer at a moment, of an outstation that is polled so: no request that is late
 abbrev pub asked_at : ℕ → Option Poll → Option Asked → Option Asked
-asked_at moment poll None = None
-asked_at moment poll (Some a) = if response_time_passed moment poll a then None else Some a
+asked_at moment (Some poll) (Some a) = if is_late moment poll a.since then None else Some a
+asked_at moment poll asked = asked
 
 -- how an outstation is polled
 abbrev pub poll_at : Setup → ℕ → Option Poll
@@ -113,5 +101,5 @@ asked_of setup o (e ∷ past) =
 -- an unsolicited response that isn't the last one again, or the next fragment of the answer that is awaited
 abbrev pub is_accepted : Setup → List Entry → Fragment → Bool
 is_accepted setup past f =
-    if is_unsolicited f then not (is_text (last_text f.outstation past) f.octets)
+    if is_unsolicited f then not (is_last (last_text f.outstation past) f.octets)
     else is_answer (asked_of setup f.outstation past) f

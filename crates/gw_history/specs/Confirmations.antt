@@ -7,13 +7,14 @@ use Rattle.dnp_app.specs.Response.{Fragment, is_unsolicited}
 use Rattle.dnp_master.specs.declared.verdict.Verdict.{Verdict}
 use Rattle.dnp_master.specs.declared.verdict.Verdict.TheVariants as verdicts
 use Rattle.dnp_master.specs.declared.verdict.Ignored.TheVariants.{NoRequest, WrongSequence, WrongFirst}
+use Rattle.dnp_master.specs.Fragments.{control_in}
 use Rattle.gw_steps.specs.declared.step.Step.{Step}
 use Rattle.gw_steps.specs.declared.step.Step.TheVariants as steps
 use Rattle.gw_steps.specs.declared.step.Reply.{Reply}
 use Rattle.gw_steps.specs.declared.step.Reply.TheVariants as replies
 use Rattle.gw_steps.specs.declared.step.StepFault.{StepFault}
 use Rattle.gw_steps.specs.Runs.{Entry}
-use Rattle.gw_history.specs.Accepted.{Asked, control_in, is_in_sequence, is_in_place, asked_of, is_accepted, is_repeated}
+use Rattle.gw_history.specs.Accepted.{Asked, is_in_sequence, is_in_place, asked_of, is_accepted, is_repeated}
 
 -- what a reply says of a fragment
 abbrev pub verdict_in : Reply → Option Verdict

@@ -1,6 +1,7 @@
 -- What the laws suppose of a run, and its clients.
 use Rattle.std.specs.Prelude.{ℕ, ◌<◌, List, slice_get, Option}
 use Rattle.gw_map.specs.Settings.{Setup, HasSingleAddresses}
+use Rattle.iec_window.specs.Sequence.{numbers}
 use Rattle.gw_station.specs.Client.{Client}
 use Rattle.gw_steps.specs.Carried.{AreMeant}
 use Rattle.gw_steps.specs.Runs.{Entry, state_after, IsRun, AtEach}
@@ -11,7 +12,7 @@ use Rattle.gw_steps.specs.Sound.{LeavesSound}
 pub record IsSoundSetup (setup : Setup) : Type 0 where
   pub addresses : HasSingleAddresses setup.rows setup.controls
   pub station : setup.station.common_address < 65536
-  pub window : setup.station.k < 32768
+  pub window : setup.station.k < numbers
   pub queue : 0 < setup.station.queue
 
 pub record IsSoundRun (setup : Setup) (past : List Entry) : Type 0 where

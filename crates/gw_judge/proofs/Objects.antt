@@ -11,6 +11,7 @@ use Rattle.gw_entries.specs.declared.control.Control.{Control}
 use Rattle.gw_entries.specs.declared.control.Pulses.{Pulses}
 use Rattle.gw_entries.specs.declared.control.Operates.{Operates}
 use Rattle.gw_entries.specs.declared.control.Operates.TheVariants as operated
+use Rattle.gw_entries.specs.Shown.{is_total}
 use Rattle.gw_map.specs.Sections.{repeated, same_number}
 use Rattle.gw_map.specs.Settings.{Setup, row_at_from, control_at_from, HasSingleAddresses}
 use Rattle.gw_map.proofs.Repeats.{repeated-append}
@@ -19,7 +20,7 @@ use Rattle.iec_command.specs.declared.command.Action.TheVariants.{Single, Double
 use Rattle.iec_command.specs.declared.command.SingleCommand.{SingleCommand}
 use Rattle.iec_command.specs.declared.command.DoubleCommand.{DoubleCommand}
 use Rattle.iec_command.specs.declared.command.SetpointCommand.{SetpointCommand}
-use Rattle.gw_judge.specs.Judging.{is_total, is_readable, is_operated, is_operated_by, is_object_of}
+use Rattle.gw_judge.specs.Judging.{is_readable, is_operated, is_operated_by, is_object_of}
 use Rattle.gw_judge.specs.Acceptable.{HasObject}
 use Rattle.gw_judge.proofs.Found.{any-first, first-any}
 

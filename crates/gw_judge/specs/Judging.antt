@@ -2,11 +2,10 @@
 use Rattle.std.specs.Prelude.{ℕ, Bool, true, false, not, ◌&&◌, ◌||◌, ◌==◌, List, [], ◌∷◌, Option, Some, None, Result, Ok, Err}
 use Rattle.gw_model.specs.First.{when, first_of}
 use Rattle.gw_entries.specs.declared.row.Row.{Row}
-use Rattle.gw_entries.specs.declared.row.Show.{Show}
-use Rattle.gw_entries.specs.declared.row.Show.TheVariants.{Total}
 use Rattle.gw_entries.specs.declared.control.Control.{Control}
 use Rattle.gw_entries.specs.declared.control.Operates.{Operates}
 use Rattle.gw_entries.specs.declared.control.Operates.TheVariants as operated
+use Rattle.gw_entries.specs.Shown.{is_total}
 use Rattle.gw_map.specs.Settings.{Setup, row_at_from, control_at_from}
 use Rattle.iec_command.specs.declared.command.Command.{Command}
 use Rattle.iec_command.specs.declared.command.Action.{Action}
@@ -42,10 +41,6 @@ is_addressed setup c =
     c.common_address == setup.station.common_address || (is_for_all c.action && c.common_address == 65535)
 
 -- ---- the information object
-
-abbrev pub is_total : Show → Bool
-is_total Total = true
-is_total _ = false
 
 -- a row that isn't shown as a total
 abbrev pub is_readable : Option (ℕ × Row) → Bool

@@ -4,6 +4,7 @@ use Rattle.std.specs.Prelude.{slice_get, option_map, not, filter}
 use Rattle.std.specs.List.{AllByRecursion}
 use Rattle.std.proofs.lemmas.Bool.{and_parts, cases_Bool, true≢false, not-true, eqb-true, eq-eqb}
 use Rattle.gw_model.specs.declared.observation.Observation.{Observation}
+use Rattle.gw_model.specs.Values.{is_total}
 use Rattle.gw_entries.specs.declared.row.Row.{Row}
 use Rattle.gw_map.specs.Settings.{Setup}
 use Rattle.gw_picture.specs.Opening.{opening}
@@ -12,7 +13,6 @@ use Rattle.gw_picture.specs.Log.{last_observation, picture_of}
 use Rattle.gw_picture.proofs.Addresses.{is_fresh, is_single}
 use Rattle.gw_picture.proofs.Lists.{some_is, map-get}
 use Rattle.gw_picture.proofs.Logs.{shown_by}
-use Rattle.gw_answers.specs.Interrogations.{is_total}
 use Rattle.gw_laws.specs.Mirror.{Known, known_of, last_known, last_value, KnowsPicture}
 
 -- ---- what is known after more

@@ -5,6 +5,7 @@ use Rattle.std.specs.List.{AllByRecursion}
 use Rattle.std.proofs.lemmas.List.{append-nil, map-append, take-append-drop}
 use Rattle.std.proofs.Math.Seq.{take-length, drop-length}
 use Rattle.gw_model.specs.declared.observation.Observation.{Observation}
+use Rattle.gw_model.specs.Values.{is_total}
 use Rattle.gw_entries.specs.declared.row.Row.{Row}
 use Rattle.gw_picture.specs.Log.{picture_of}
 use Rattle.gw_picture.proofs.Addresses.{is_single}
@@ -13,7 +14,7 @@ use Rattle.iec_command.specs.declared.command.Action.{Action}
 use Rattle.iec_command.specs.declared.command.Action.TheVariants as actions
 use Rattle.gw_answers.specs.declared.outgoing.AsduAnswer.{AsduAnswer}
 use Rattle.gw_answers.specs.declared.outgoing.OwnAsdu.{OwnAsdu}
-use Rattle.gw_answers.specs.Interrogations.{is_total, is_asked_by, rows_of, answer_to}
+use Rattle.gw_answers.specs.Interrogations.{is_asked_by, rows_of, answer_to}
 use Rattle.gw_answers.specs.Meaning.{Meant}
 use Rattle.gw_answers.specs.Outgoing.{command_with}
 use Rattle.gw_station.specs.declared.sending.Sending.{Sending}

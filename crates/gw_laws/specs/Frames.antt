@@ -7,7 +7,8 @@ use Rattle.iec_apci.specs.declared.apdu.Apdu.TheVariants.{I, S, U}
 use Rattle.gw_judge.specs.declared.judging.Judged.{Judged}
 use Rattle.gw_judge.specs.declared.judging.Judged.TheVariants.{Malformed}
 use Rattle.gw_answers.specs.Answers.{places_for}
-use Rattle.gw_station.specs.Frames.{judged_asdu}
+use Rattle.iec_window.specs.Sequence.{numbers}
+use Rattle.gw_station.specs.Frames.{judged_asdu, places}
 use Rattle.gw_steps.specs.declared.step.Step.{Step}
 use Rattle.gw_steps.specs.declared.step.Step.TheVariants as steps
 use Rattle.gw_steps.specs.declared.step.Reply.{Reply}
@@ -19,15 +20,15 @@ use Rattle.gw_laws.specs.Numbers.{taken, IsRightReceive}
 use Rattle.gw_laws.specs.Interrogations.{is_pending, interrogation}
 use Rattle.gw_laws.specs.Line.{owed}
 
--- no more than 32 answers wait then
+-- no more answers wait then than there are places
 abbrev pub HasPlaces : Setup → List Turn → Judged → Type 0
-HasPlaces setup hs j = length (owed setup hs) + places_for (is_pending (interrogation setup hs)) j ≤ 32
+HasPlaces setup hs j = length (owed setup hs) + places_for (is_pending (interrogation setup hs)) j ≤ places
 
 -- an I format in a session: N(S) is the number of those taken, N(R) is right, the ASDU is not malformed, and there are
 -- places for its answer
 pub record IsRightInformation (setup : Setup) (ts : List Turn) (ns nr : ℕ) (j : Judged) : Type 0 where
   pub started : is_some (session ts) ≡ true
-  pub send : ns ≡ taken ts % 32768
+  pub send : ns ≡ taken ts % numbers
   pub receive : IsRightReceive ts nr
   pub whole : j ≢ Malformed
   pub places : HasPlaces setup (turns_in (session ts)) j

@@ -5,6 +5,7 @@ use Rattle.std.specs.Prelude.{◌≡◌, ℕ, ◌==◌, Bool, true, false, ◌&&
 use Rattle.gw_model.specs.declared.observation.Value.{Value}
 use Rattle.gw_model.specs.declared.observation.Quality.{Quality}
 use Rattle.gw_model.specs.declared.observation.Observation.{Observation}
+use Rattle.gw_model.specs.Values.{is_total}
 use Rattle.gw_entries.specs.declared.row.Row.{Row}
 use Rattle.gw_map.specs.Settings.{Setup}
 use Rattle.gw_picture.specs.Log.{picture_of}
@@ -16,7 +17,7 @@ use Rattle.gw_judge.specs.declared.judging.Judged.TheVariants.{Accepted}
 use Rattle.gw_answers.specs.declared.outgoing.AsduAnswer.TheVariants.{Made}
 use Rattle.gw_answers.specs.declared.outgoing.OwnAsdu.{OwnAsdu}
 use Rattle.gw_answers.specs.declared.outgoing.OwnAsdu.TheVariants as outgoing
-use Rattle.gw_answers.specs.Interrogations.{is_total, is_accepted_act}
+use Rattle.gw_answers.specs.Interrogations.{is_accepted_act}
 use Rattle.gw_answers.specs.Meaning.{Meant, Tells, Commands, Unread}
 use Rattle.gw_station.specs.declared.sending.Sending.{Sending}
 use Rattle.gw_station.specs.declared.sending.Sending.TheVariants as sendings

@@ -4,6 +4,7 @@
 use Rattle.std.specs.Prelude.{◌≡◌, ℕ, ◌+◌, ◌%◌, ◌<◌, ◌≤◌, List, [], ◌∷◌}
 use Rattle.gw_map.specs.Settings.{Setup}
 use Rattle.iec_apci.specs.declared.apdu.Apdu.TheVariants.{I, S}
+use Rattle.iec_window.specs.Sequence.{numbers}
 use Rattle.gw_steps.specs.Runs.{Entry}
 use Rattle.gw_steps.specs.Said.{ApduMeaning, IFormat, SFormat, UFormat}
 use Rattle.gw_history.specs.Life.{Turn, Takes, PutsOut, OfEachLife}
@@ -34,8 +35,8 @@ last_receive_number (_ ∷ ts) = last_receive_number ts
 -- of so many I formats that were sent, a number names n: the latest count that has it
 pub record NamesCount (nr sent n : ℕ) : Type 0 where
   pub not_more : n ≤ sent
-  pub latest : sent < n + 32768
-  pub number : nr ≡ n % 32768
+  pub latest : sent < n + numbers
+  pub number : nr ≡ n % numbers
 
 -- at most k of those put out lie beyond the client's last N(R)
 pub record KeepsWindow (k : ℕ) (ts : List Turn) : Type 0 where
@@ -55,8 +56,8 @@ pub record IsRightReceive (ts : List Turn) (nr : ℕ) : Type 0 where
 
 -- what is put out behind so many I formats, where so many were taken
 abbrev pub SaysNumbers : ℕ → ℕ → ApduMeaning → Type 0
-SaysNumbers sent taken (IFormat ns nr meant) = (ns ≡ sent % 32768) × (nr ≡ taken % 32768)
-SaysNumbers sent taken (SFormat nr) = nr ≡ taken % 32768
+SaysNumbers sent taken (IFormat ns nr meant) = (ns ≡ sent % numbers) × (nr ≡ taken % numbers)
+SaysNumbers sent taken (SFormat nr) = nr ≡ taken % numbers
 SaysNumbers sent taken (UFormat signal) = Unit {0}
 
 -- what is put out last has the numbers that are due then

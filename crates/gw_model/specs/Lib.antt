@@ -6,3 +6,5 @@ pub mod Optional
 pub mod Places
 pub mod First
 pub mod Bits
+pub mod Octets
+pub mod Values

@@ -1,6 +1,7 @@
 //! What clients are told of a point.
 ghost use Rattle.std.specs.Prelude.{◌≡◌};
 ghost use Rattle.gw_model.specs.Keys.{same_shown, same_value, same_quality};
+ghost use Rattle.gw_model.specs.Values.{is_total};
 
 use crate::point::Stamp;
 
@@ -17,6 +18,15 @@ pub enum Value {
     Word(u32),
     /// An integrated total.
     Total(u32),
+}
+
+impl Value {
+    /// Whether it is an integrated total.
+    pub fn is_total(self) -> bool
+        ensures { result ≡ is_total self }
+    {
+        matches!(self, Value::Total(_))
+    }
 }
 
 /// The quality bits of IEC 60870-5-101: the quality descriptor (7.2.6.3) and those of a binary

@@ -33,11 +33,8 @@ use Rattle.gw_picture.proofs.Rows.{row_at}
 -- ---- at first
 
 opening_value : (show : Show) → IsTrue (is_value_of show (value_at_first show))
-opening_value shows.Single = refl
-opening_value shows.Double = refl
-opening_value shows.Scaled = refl
-opening_value shows.Word = refl
 opening_value shows.Total = refl
+opening_value _ = refl
 
 pub opening_rows : (rows : List Row) → ShowsRows rows (map opening rows)
 opening_rows [] = tt

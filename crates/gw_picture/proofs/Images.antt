@@ -27,11 +27,8 @@ raw_address : (show : Show) (scale : Scale) (raw : Raw) (q : Quality) (address :
 raw_address show scale (Bit on) q address stamp = refl
 raw_address show scale (Two state) q address stamp = refl
 raw_address show scale (Count n) q address stamp = refl
-raw_address shows.Single scale (Number z) q address stamp = refl
-raw_address shows.Double scale (Number z) q address stamp = refl
-raw_address shows.Scaled scale (Number z) q address stamp = refl
 raw_address shows.Word scale (Number z) q address stamp = refl
-raw_address shows.Total scale (Number z) q address stamp = refl
+raw_address _ scale (Number z) q address stamp = refl
 
 pub image_address : (offset : ℤ) (row : Row) (r : Report) → (image_of offset row r).address ≡ row.address
 image_address offset row r = raw_address row.show row.scale r.raw (quality_of r.key.kind r.flags) row.address (stamp_image offset r.stamp)

@@ -8,7 +8,7 @@ use Rattle.gw_model.specs.declared.point.Stamp.TheVariants.{Untimed}
 use Rattle.gw_entries.specs.declared.row.Row.{Row}
 use Rattle.gw_entries.specs.declared.control.Control.{Control}
 use Rattle.gw_model.specs.declared.observation.Value.{Value}
-use Rattle.gw_model.specs.declared.observation.Value.TheVariants.{Single, Double, Scaled, Word, Total}
+use Rattle.gw_model.specs.declared.observation.Value.TheVariants.{Total}
 use Rattle.gw_model.specs.declared.observation.Quality.{Quality}
 use Rattle.gw_model.specs.declared.observation.Observation.{Observation}
 use Rattle.gw_map.specs.Settings.{HasSingleAddresses}
@@ -192,11 +192,8 @@ loss_shows outstation (row ∷ rows) (x ∷ picture) zero = refl
 loss_shows outstation (row ∷ rows) (x ∷ picture) (suc n) = loss_shows outstation rows picture n
 
 lost_tells : (value : Value) (q : Quality) → tells_loss value (quality_lost value q) ≡ true
-lost_tells (Single on) q = refl
-lost_tells (Double state) q = refl
-lost_tells (Scaled number) q = refl
-lost_tells (Word word) q = refl
 lost_tells (Total count) q = refl
+lost_tells _ q = refl
 
 abbrev tells : Observation → Bool
 tells x = tells_loss x.value x.quality

@@ -7,7 +7,7 @@ use Rattle.gw_entries.specs.declared.row.Row.{Row}
 use Rattle.gw_entries.specs.declared.row.Show.{Show}
 use Rattle.gw_entries.specs.declared.row.Show.TheVariants as shows
 use Rattle.gw_model.specs.declared.observation.Value.{Value}
-use Rattle.gw_model.specs.declared.observation.Value.TheVariants.{Single, Double, Scaled, Word, Total}
+use Rattle.gw_model.specs.declared.observation.Value.TheVariants.{Scaled, Total}
 use Rattle.gw_model.specs.declared.observation.Quality.{Quality}
 use Rattle.gw_model.specs.declared.observation.Observation.{Observation}
 use Rattle.gw_model.specs.Fit.{is_of_element, HasWidth, IsFit, IsInWindow}
@@ -21,11 +21,8 @@ use Rattle.gw_picture.proofs.Rows.{all_get, all_change}
 -- ---- at first
 
 opening_element : (show : Show) → IsTrue (is_of_element (value_at_first show) (quality_at_first show))
-opening_element shows.Single = refl
-opening_element shows.Double = refl
-opening_element shows.Scaled = refl
-opening_element shows.Word = refl
 opening_element shows.Total = refl
+opening_element _ = refl
 
 zero_fits : HasWidth (Scaled (pos 0))
 zero_fits = omega arith
@@ -54,11 +51,8 @@ image_shown offset n image picture fit width all =
 -- ---- after a loss
 
 lost_element : (value : Value) (q : Quality) → IsTrue (is_of_element value q) → IsTrue (is_of_element value (quality_lost value q))
-lost_element (Single on) q e = e
-lost_element (Double state) q e = e
-lost_element (Scaled number) q e = e
-lost_element (Word word) q e = e
 lost_element (Total count) q e = e
+lost_element _ q e = e
 
 lost_shown : (x : Observation) → IsShown x → IsShown (lost x)
 lost_shown x is = record { address = is.address; element = lost_element x.value x.quality is.element; width = is.width; untimed = refl }

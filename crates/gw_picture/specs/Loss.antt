@@ -4,25 +4,17 @@ use Rattle.std.specs.Prelude.{ℕ, ◌==◌, Bool, true, ◌&&◌, not, List, []
 use Rattle.gw_model.specs.declared.point.Stamp.TheVariants.{Untimed}
 use Rattle.gw_entries.specs.declared.row.Row.{Row}
 use Rattle.gw_model.specs.declared.observation.Value.{Value}
-use Rattle.gw_model.specs.declared.observation.Value.TheVariants.{Single, Double, Scaled, Word, Total}
 use Rattle.gw_model.specs.declared.observation.Quality.{Quality}
 use Rattle.gw_model.specs.declared.observation.Observation.{Observation}
 use Rattle.gw_model.specs.Places.{change}
+use Rattle.gw_model.specs.Values.{is_total}
 
 abbrev pub quality_lost : Value → Quality → Quality
-quality_lost (Single on) q = record q { nt = true }
-quality_lost (Double state) q = record q { nt = true }
-quality_lost (Scaled number) q = record q { nt = true }
-quality_lost (Word word) q = record q { nt = true }
-quality_lost (Total count) q = record q { iv = true }
+quality_lost value q = if is_total value then record q { iv = true } else record q { nt = true }
 
 -- the quality says so already
 abbrev pub tells_loss : Value → Quality → Bool
-tells_loss (Single on) q = q.nt
-tells_loss (Double state) q = q.nt
-tells_loss (Scaled number) q = q.nt
-tells_loss (Word word) q = q.nt
-tells_loss (Total count) q = q.iv
+tells_loss value q = if is_total value then q.iv else q.nt
 
 abbrev pub lost : Observation → Observation
 lost x = record x { quality = quality_lost x.value x.quality; stamp = Untimed }

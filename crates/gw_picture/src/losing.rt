@@ -10,15 +10,16 @@ use gw_model::{Observation, Quality, Stamp, Value};
 fn quality_lost(value: Value, quality: Quality) -> Quality
     ensures { result ≡ quality_lost value quality }
 {
-    match value {
-        Value::Total(_) => Quality {
+    if value.is_total() {
+        Quality {
             iv: true,
             ..quality
-        },
-        Value::Single(_) | Value::Double(_) | Value::Scaled(_) | Value::Word(_) => Quality {
+        }
+    } else {
+        Quality {
             nt: true,
             ..quality
-        },
+        }
     }
 }
 
@@ -26,9 +27,10 @@ fn quality_lost(value: Value, quality: Quality) -> Quality
 fn tells_loss(value: Value, quality: Quality) -> bool
     ensures { result ≡ tells_loss value quality }
 {
-    match value {
-        Value::Total(_) => quality.iv,
-        Value::Single(_) | Value::Double(_) | Value::Scaled(_) | Value::Word(_) => quality.nt,
+    if value.is_total() {
+        quality.iv
+    } else {
+        quality.nt
     }
 }
 

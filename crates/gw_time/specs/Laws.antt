@@ -1,5 +1,6 @@
 -- Words of the laws.
-use Rattle.std.specs.Prelude.{◌≡◌, ℕ, ℤ, ◌<◌, pos, negsuc, ◌≤ℤ◌, List, length, slice_index}
+use Rattle.std.specs.Prelude.{◌≡◌, ℕ, ℤ, pos, negsuc, ◌≤ℤ◌, List, length}
+use Rattle.gw_model.specs.Octets.{AreOctets}
 
 -- an offset that a station can have, in minutes
 pub record IsOffset (offset : ℤ) : Type 0 where
@@ -9,4 +10,4 @@ pub record IsOffset (offset : ℤ) : Type 0 where
 -- seven octets
 pub record AreSevenOctets (octets : List ℕ) : Type 0 where
   pub seven : length octets ≡ 7
-  pub octet : (k : ℕ) → slice_index octets k < 256
+  pub octet : AreOctets octets

@@ -7,7 +7,8 @@ use Rattle.iec_apci.specs.declared.apdu.Signal.{Signal}
 use Rattle.iec_apci.specs.declared.apdu.Signal.TheVariants.{StartAct, StartCon, StopAct, StopCon, TestAct, TestCon}
 use Rattle.iec_apci.specs.Apdu.{Content, Information, Supervisory, Unnumbered, code_of, word, body, Fits}
 use Rattle.iec_apci.specs.Stream.{signal_of, content_of, answer_at_front}
-use Rattle.iec_apci.specs.Laws.{AreOctets, BeginsWith}
+use Rattle.gw_model.specs.Octets.{AreOctets}
+use Rattle.iec_apci.specs.Laws.{BeginsWith}
 use Rattle.iec_apci.proofs.Front.{none_some, some_same, fields, not_false, shown_nil, shown_one, shown}
 use Rattle.iec_apci.proofs.Round.{front_apdu-append}
 
@@ -24,12 +25,12 @@ picked false n y x more here behind h = behind h
 -- a function is found by its code
 code_is : (n : ℕ) (x : Signal) → signal_of n ≡ Some x → n ≡ code_of x
 code_is n x =
-    picked (eqb n 0x07) n StartAct x _ (eqb-true n 0x07)
-    (picked (eqb n 0x0B) n StartCon x _ (eqb-true n 0x0B)
-    (picked (eqb n 0x13) n StopAct x _ (eqb-true n 0x13)
-    (picked (eqb n 0x23) n StopCon x _ (eqb-true n 0x23)
-    (picked (eqb n 0x43) n TestAct x _ (eqb-true n 0x43)
-    (picked (eqb n 0x83) n TestCon x _ (eqb-true n 0x83) (λ e. absurd (none_some x e)))))))
+    picked (eqb n (code_of StartAct)) n StartAct x _ (eqb-true n (code_of StartAct))
+    (picked (eqb n (code_of StartCon)) n StartCon x _ (eqb-true n (code_of StartCon))
+    (picked (eqb n (code_of StopAct)) n StopAct x _ (eqb-true n (code_of StopAct))
+    (picked (eqb n (code_of StopCon)) n StopCon x _ (eqb-true n (code_of StopCon))
+    (picked (eqb n (code_of TestAct)) n TestAct x _ (eqb-true n (code_of TestAct))
+    (picked (eqb n (code_of TestCon)) n TestCon x _ (eqb-true n (code_of TestCon)) (λ e. absurd (none_some x e)))))))
 
 -- these octets are behind the length of what is carried
 record IsBody (octets : List ℕ) (c : Content) : Type 0 where

@@ -4,7 +4,8 @@ use Rattle.std.specs.List.{AllByRecursion, flat_map}
 use Rattle.std.proofs.lemmas.List.{drop_at, get_or-drop, length-drop}
 use Rattle.iec_apci.specs.Apdu.{Content, apdu, Fits}
 use Rattle.iec_apci.specs.Stream.{answer_at_front, Reading, reading_with_first, reading}
-use Rattle.iec_apci.specs.Laws.{AreOctets, Splits, reading_with_all_first}
+use Rattle.gw_model.specs.Octets.{AreOctets}
+use Rattle.iec_apci.specs.Laws.{Splits, reading_with_all_first}
 use Rattle.iec_apci.proofs.Front.{Shown, front_taken}
 use Rattle.iec_apci.proofs.Streams.{reading_apdu, reading_fault, reading_none}
 use Rattle.iec_apci.proofs.Round.{reading-apdu}

@@ -37,12 +37,20 @@ body (Information ns nr asdu) = word (2 * ns) ++ word (2 * nr) ++ asdu
 body (Supervisory nr) = word 1 ++ word (2 * nr)
 body (Unnumbered signal) = word (code_of signal) ++ word 0
 
--- the start octet 68 hex, how many octets follow, and these
-abbrev pub apdu : Content → List ℕ
-apdu c = 0x68 ∷ length (body c) ∷ body c
+-- the octet that each APDU begins with
+abbrev pub start_octet : ℕ
+start_octet = 0x68
 
--- numbers have 15 bits, and an ASDU at most 249 octets
+-- the start octet, how many octets follow, and these
+abbrev pub apdu : Content → List ℕ
+apdu c = start_octet ∷ length (body c) ∷ body c
+
+-- a sequence number has 15 bits
+abbrev pub IsNumber : ℕ → Type 0
+IsNumber n = n < 32768
+
+-- an ASDU has at most 249 octets
 abbrev pub Fits : Content → Type 0
-Fits (Information ns nr asdu) = (ns < 32768) × (nr < 32768) × (length asdu ≤ 249)
-Fits (Supervisory nr) = nr < 32768
+Fits (Information ns nr asdu) = IsNumber ns × IsNumber nr × (length asdu ≤ 249)
+Fits (Supervisory nr) = IsNumber nr
 Fits (Unnumbered signal) = Unit {0}

@@ -1,6 +1,6 @@
 -- What values of the program carry.
-use Rattle.std.specs.Prelude.{◌≡◌, ℕ, ◌-◌, ◌<◌, List, take, drop, replicate, Option, Some, None, Result, Ok, Err}
-use Rattle.iec_apci.specs.Apdu.{Content, Information, Supervisory, Unnumbered}
+use Rattle.std.specs.Prelude.{◌≡◌, ℕ, ◌-◌, List, take, drop, replicate, Option, Some, None, Result, Ok, Err}
+use Rattle.iec_apci.specs.Apdu.{Content, Information, Supervisory, Unnumbered, IsNumber}
 use Rattle.iec_apci.specs.declared.apdu.Asdu.{Asdu}
 use Rattle.iec_apci.specs.declared.apdu.Apdu.{Apdu}
 use Rattle.iec_apci.specs.declared.apdu.Apdu.TheVariants as formats
@@ -26,10 +26,10 @@ abbrev pub content_if : Option (Result Apdu ApciFault) → Option (Result Conten
 content_if None = None
 content_if (Some r) = Some (content_if_ok r)
 
--- numbers have 15 bits
+-- its numbers are sequence numbers
 abbrev pub IsNumbered : Apdu → Type 0
-IsNumbered (formats.I ns nr asdu) = (ns < 32768) × (nr < 32768)
-IsNumbered (formats.S nr) = nr < 32768
+IsNumbered (formats.I ns nr asdu) = IsNumber ns × IsNumber nr
+IsNumbered (formats.S nr) = IsNumber nr
 IsNumbered (formats.U signal) = Unit {0}
 
 -- the octets behind an ASDU are 0

@@ -1,13 +1,9 @@
 -- Words of the laws.
-use Rattle.std.specs.Prelude.{◌≡◌, ℕ, ◌<◌, List, ◌++◌, slice_index, Option, Some, None, Err}
+use Rattle.std.specs.Prelude.{◌≡◌, ℕ, List, ◌++◌, Option, Some, None, Err}
 use Rattle.std.specs.List.{AllByRecursion, flat_map}
 use Rattle.iec_apci.specs.declared.fault.ApciFault.{ApciFault}
 use Rattle.iec_apci.specs.Apdu.{Content, apdu, Fits}
 use Rattle.iec_apci.specs.Stream.{Ending, Open, Faulty, answer_at_front, Reading}
-
--- each is an octet
-abbrev pub AreOctets : List ℕ → Type 0
-AreOctets octets = (i : ℕ) → slice_index octets i < 256
 
 -- the octets begin with the APDU that carries this
 abbrev pub BeginsWith : List ℕ → Content → Type 0

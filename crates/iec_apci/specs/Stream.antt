@@ -4,17 +4,17 @@ use Rattle.iec_apci.specs.declared.apdu.Signal.{Signal}
 use Rattle.iec_apci.specs.declared.apdu.Signal.TheVariants.{StartAct, StartCon, StopAct, StopCon, TestAct, TestCon}
 use Rattle.iec_apci.specs.declared.fault.ApciFault.{ApciFault}
 use Rattle.iec_apci.specs.declared.fault.ApciFault.TheVariants as faults
-use Rattle.iec_apci.specs.Apdu.{Content, Information, Supervisory, Unnumbered, apdu}
+use Rattle.iec_apci.specs.Apdu.{Content, Information, Supervisory, Unnumbered, code_of, start_octet, apdu}
 
 -- the control function with this first control octet
 abbrev pub signal_of : ℕ → Option Signal
 signal_of n =
-    if n == 0x07 then Some StartAct
-    else if n == 0x0B then Some StartCon
-    else if n == 0x13 then Some StopAct
-    else if n == 0x23 then Some StopCon
-    else if n == 0x43 then Some TestAct
-    else if n == 0x83 then Some TestCon
+    if n == code_of StartAct then Some StartAct
+    else if n == code_of StartCon then Some StartCon
+    else if n == code_of StopAct then Some StopAct
+    else if n == code_of StopCon then Some StopCon
+    else if n == code_of TestAct then Some TestAct
+    else if n == code_of TestCon then Some TestCon
     else None
 
 -- two octets, the low one first, as a number
@@ -42,9 +42,9 @@ content_or_fault (Some c) = Ok c
 -- what the front of the octets shows, if it shows anything yet: an APDU, or the first fault
 unfoldable pub answer_at_front : List ℕ → Option (Result Content ApciFault)
 answer_at_front [] = None
-answer_at_front (start ∷ []) = if start == 0x68 then None else Some (Err faults.Start)
+answer_at_front (start ∷ []) = if start == start_octet then None else Some (Err faults.Start)
 answer_at_front (start ∷ size ∷ octets) =
-    if not (start == 0x68) then Some (Err faults.Start)
+    if not (start == start_octet) then Some (Err faults.Start)
     else if nat_lt size 4 || nat_lt 253 size then Some (Err faults.Length)
     else if nat_lt (length octets) size then None
     else Some (content_or_fault (content_of (take size octets)))

@@ -2,6 +2,9 @@
 ghost use Rattle.std.specs.Prelude.{◌≡◌, ◌+◌, ◌≤◌, take};
 ghost use Rattle.iec_apci.specs.Apdu.{confirmation_of};
 
+/// The octet that each APDU begins with (IEC 60870-5-104, clause 5).
+pub const START: u8 = 0x68;
+
 /// A function of the U format (IEC 60870-5-104, 5.2 and 5.3), numbered by its first control octet.
 #[derive(Clone, Copy, Debug, PartialEq, Eq)]
 pub enum Signal {

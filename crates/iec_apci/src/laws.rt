@@ -1,12 +1,13 @@
 //! What holds of every stream and every APDU, and a whole stream read through a feed.
 ghost use Rattle.std.specs.Prelude.{◌≡◌, List, ℕ, [], ◌++◌, length, drop, map, Some, None, Ok, Err, IfOk, OnOk, ◌↔◌};
 ghost use Rattle.std.specs.List.{AllByRecursion, flat_map};
+ghost use Rattle.gw_model.specs.Octets.{AreOctets};
 ghost use Rattle.iec_apci.specs.declared.fault.ApciFault.{ApciFault as ApciFault_lem};
 ghost use Rattle.iec_apci.specs.Apdu.{Content, apdu, Fits};
 ghost use Rattle.iec_apci.specs.Stream.{answer_at_front, Open, Faulty, reading, reading_with_first};
 ghost use Rattle.iec_apci.specs.Content.{content};
 ghost use Rattle.iec_apci.specs.Calls.{Call, ending_after_piece, reading_of_ending, answers, stream_answers};
-ghost use Rattle.iec_apci.specs.Laws.{AreOctets, BeginsWith, Splits, joined_readings, reading_with_all_first, fault_of};
+ghost use Rattle.iec_apci.specs.Laws.{BeginsWith, Splits, joined_readings, reading_with_all_first, fault_of};
 
 use crate::apdu::Apdu;
 use crate::fault::ApciFault;

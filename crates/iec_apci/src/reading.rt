@@ -4,21 +4,27 @@ ghost use Rattle.iec_apci.specs.Apdu.{apdu as apdu_octets};
 ghost use Rattle.iec_apci.specs.Stream.{answer_at_front, content_of, signal_of as signal_of_lem};
 ghost use Rattle.iec_apci.specs.Content.{octets_of, content, content_if, IsNumbered, IsPadded};
 
-use crate::apdu::{Apdu, Asdu, Signal};
+use crate::apdu::{Apdu, Asdu, START, Signal};
 use crate::fault::ApciFault;
 
 /// The control function with this first control octet.
 fn signal_of(code: u16) -> Option<Signal>
     ensures { result ≡ signal_of_lem code }
 {
-    match code {
-        0x07 => Some(Signal::StartAct),
-        0x0B => Some(Signal::StartCon),
-        0x13 => Some(Signal::StopAct),
-        0x23 => Some(Signal::StopCon),
-        0x43 => Some(Signal::TestAct),
-        0x83 => Some(Signal::TestCon),
-        _ => None,
+    if code == Signal::StartAct as u16 {
+        Some(Signal::StartAct)
+    } else if code == Signal::StartCon as u16 {
+        Some(Signal::StartCon)
+    } else if code == Signal::StopAct as u16 {
+        Some(Signal::StopAct)
+    } else if code == Signal::StopCon as u16 {
+        Some(Signal::StopCon)
+    } else if code == Signal::TestAct as u16 {
+        Some(Signal::TestAct)
+    } else if code == Signal::TestCon as u16 {
+        Some(Signal::TestCon)
+    } else {
+        None
     }
 }
 
@@ -80,7 +86,7 @@ pub fn apdu_at(octets: &[u8]) -> Option<Result<Apdu, ApciFault>>
     ensures held { IfNone result (length octets.now < 255) }
 {
     let (start, behind) = octets.split_first()?;
-    if *start != 0x68 {
+    if *start != START {
         return Some(Err(ApciFault::Start));
     }
     let (size, behind) = behind.split_first()?;

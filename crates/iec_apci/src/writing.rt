@@ -4,7 +4,7 @@ ghost use Rattle.iec_apci.specs.Apdu.{body, apdu as apdu_octets};
 ghost use Rattle.iec_apci.specs.Stream.{reading, reading_with_first};
 ghost use Rattle.iec_apci.specs.Content.{content, IsNumbered};
 
-use crate::apdu::Apdu;
+use crate::apdu::{Apdu, START};
 
 /// The control field: two numbers, the low octet of each first.
 fn control_field(apdu: &Apdu) -> [u8; 4]
@@ -32,7 +32,7 @@ fn put(apdu: &Apdu, out: &mut [u8; 255]) -> usize
         Apdu::S { .. } | Apdu::U(_) => &[],
     };
     let [a, b, c, d] = control_field(apdu);
-    out[..6].copy_from_slice(&[0x68, 4 + asdu.len() as u8, a, b, c, d]);
+    out[..6].copy_from_slice(&[START, 4 + asdu.len() as u8, a, b, c, d]);
     out[6..6 + asdu.len()].copy_from_slice(asdu);
     6 + asdu.len()
 }

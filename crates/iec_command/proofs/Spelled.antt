@@ -4,15 +4,12 @@ use Rattle.std.specs.Prelude.{slice_index}
 use Rattle.std.proofs.lemmas.Bool.{not-false}
 use Rattle.std.specs.Int.{w16, from_le_bytes}
 use Rattle.gw_model.specs.First.{when, first_of}
+use Rattle.gw_model.specs.Octets.{AreOctets}
 use Rattle.iec_command.specs.declared.command.Command.{Command}
 use Rattle.iec_command.specs.declared.fault.CommandFault.{CommandFault}
 use Rattle.iec_command.specs.declared.fault.CommandFault.TheVariants.{Short, Long, UnknownType, Count}
 use Rattle.iec_command.specs.Commands.{type_of, element_of, spelling, is_known, element_length, action_of, command_in, unless, command_of, IsWholeAction, IsWhole}
 use Rattle.iec_command.proofs.Octets.{cause_again, single_again, double_again, setpoint_again, cast_fits}
-
--- each is an octet
-abbrev pub AreOctets : List ℕ → Type 0
-AreOctets octets = (i : ℕ) → slice_index octets i < 256
 
 -- ---- an element
 
