@@ -15,28 +15,34 @@ use Rattle.dnp_link.proofs.Round.{front_frame-append}
 octets-take : (n : ℕ) (octets : List ℕ) → AreOctets octets → AreOctets (take n octets)
 octets-take n octets h i = elim (cases_lt i n) [
   | inl below ↦ subst (λ (x : ℕ). x < 256) (sym (get_or-take n octets i 0 below)) (h i)
-  | inr past ↦ subst (λ (x : ℕ). x < 256) (sym (get_or_past (take n octets) i 0 (omega (arith, length-take n octets)))) (omega arith)
+  | inr past ↦ subst (λ (x : ℕ). x < 256)
+      (sym (get_or_past (take n octets) i 0 (omega (arith, length-take n octets)))) (omega arith)
 ]
 
 octets-drop : (n : ℕ) (octets : List ℕ) → AreOctets octets → AreOctets (drop n octets)
 octets-drop n octets h i = subst (λ (x : ℕ). x < 256) (sym (get_or-drop n octets i 0)) (h (n + i))
 
-last_two : (n : ℕ) (octets : List ℕ) → length octets ≡ n + 2 → octets ≡ take n octets ++ slice_index octets n ∷ slice_index octets (n + 1) ∷ []
+last_two : (n : ℕ) (octets : List ℕ) → length octets ≡ n + 2
+    → octets ≡ take n octets ++ slice_index octets n ∷ slice_index octets (n + 1) ∷ []
 last_two n octets h =
     let one = drop_more octets n 0 (omega arith) in
     let two = drop_more octets (n + 1) 0 (omega arith) in
     let none : drop (n + 1 + 1) octets ≡ [] = drop_all (n + 1 + 1) octets (omega arith) in
-    sym (take-append-drop n octets) ∙ ap (λ t. take n octets ++ t) (one ∙ ap (λ t. slice_index octets n ∷ t) (two ∙ ap (λ t. slice_index octets (n + 1) ∷ t) none))
+    sym (take-append-drop n octets) ∙ ap (λ t. take n octets ++ t) (one
+    ∙ ap (λ t. slice_index octets n ∷ t) (two ∙ ap (λ t. slice_index octets (n + 1) ∷ t) none))
 
 -- octets that are found sealed are what sealing gives
-sealed_is : (n : ℕ) (octets : List ℕ) → length octets ≡ n + 2 → AreOctets octets → is_sealed octets ≡ true → octets ≡ octets_with_crc (take n octets)
+sealed_is : (n : ℕ) (octets : List ℕ) → length octets ≡ n + 2 → AreOctets octets → is_sealed octets ≡ true
+    → octets ≡ octets_with_crc (take n octets)
 unfolding is_sealed octets_with_crc
 sealed_is n octets h o s =
     let size : length octets - 2 ≡ n = omega arith in
-    let crc : crc_of (take n octets) ≡ slice_index octets n + 256 * slice_index octets (n + 1) = eqb-true _ _ (rw size at s) in
+    let crc : crc_of (take n octets) ≡ slice_index octets n + 256 * slice_index octets (n + 1) =
+    eqb-true _ _ (rw size at s) in
     let low : slice_index octets n ≡ crc_of (take n octets) % 256 = omega (arith, crc, o n) in
     let high : slice_index octets (n + 1) ≡ crc_of (take n octets) / 256 = omega (arith, crc, o n) in
-    last_two n octets h ∙ ap (λ x. take n octets ++ x ∷ slice_index octets (n + 1) ∷ []) low ∙ ap (λ x. take n octets ++ crc_of (take n octets) % 256 ∷ x ∷ []) high
+    last_two n octets h ∙ ap (λ x. take n octets ++ x ∷ slice_index octets (n + 1) ∷ []) low
+    ∙ ap (λ x. take n octets ++ crc_of (take n octets) % 256 ∷ x ∷ []) high
 
 and_first : (a b : Bool) → (a && b) ≡ true → a ≡ true
 and_first true b h = refl
@@ -47,7 +53,8 @@ and_second true b h = h
 and_second false b h = absurd (let no : false ≡ true → ⊥ = λ e. cc in no h)
 
 -- sixteen octets, or fewer where none are behind them
-cut_16 : (u : ℕ) (x y : List ℕ) → length x ≡ min 16 u → length y ≡ u - 16 → (take 16 (x ++ y) ≡ x) × (drop 16 (x ++ y) ≡ y)
+cut_16 : (u : ℕ) (x y : List ℕ) → length x ≡ min 16 u → length y ≡ u - 16
+    → (take 16 (x ++ y) ≡ x) × (drop 16 (x ++ y) ≡ y)
 cut_16 u x y h g = elim (cases_lt u 16) [
   | inl below ↦
       let none : y ≡ [] = nil_from_length y (omega arith) in
@@ -55,7 +62,8 @@ cut_16 u x y h g = elim (cases_lt u 16) [
   | inr from ↦ (take_at x y 16 (omega arith), drop_at x y 16 (omega arith))
 ]
 
-blocks_are : (n u : ℕ) (octets : List ℕ) → n ≡ block_count u → u + 2 * n ≤ length octets → AreOctets octets → are_sealed n u octets ≡ true → take (u + 2 * n) octets ≡ blocks n (user_data_in_blocks n u octets)
+blocks_are : (n u : ℕ) (octets : List ℕ) → n ≡ block_count u → u + 2 * n ≤ length octets → AreOctets octets
+    → are_sealed n u octets ≡ true → take (u + 2 * n) octets ≡ blocks n (user_data_in_blocks n u octets)
 blocks_are zero u octets e l o h = ap (λ k. take k octets) (let z : u + 2 * 0 ≡ 0 = omega arith in z)
 blocks_are (suc n) u octets e l o h =
     let s = min 16 u in
@@ -65,15 +73,18 @@ blocks_are (suc n) u octets e l o h =
     let count : n ≡ block_count (u - 16) = omega arith in
     let room : u - 16 + 2 * n ≤ length behind = omega (arith, length-drop (s + 2) octets) in
     let block : take (s + 2) octets ≡ octets_with_crc (take s octets) =
-    sealed_is s (take (s + 2) octets) (length-take-le (s + 2) octets (omega arith)) (octets-take (s + 2) octets o) sealed_first
+    sealed_is s (take (s + 2) octets) (length-take-le (s + 2) octets (omega arith))
+    (octets-take (s + 2) octets o) sealed_first
     ∙ ap octets_with_crc (take-take s (s + 2) octets (omega arith)) in
     let rest = user_data_in_blocks n (u - 16) behind in
-    let cut = cut_16 u (take s octets) rest (length-take-le s octets (omega arith)) (length-user_data_in_blocks n (u - 16) behind count room) in
+    let cut = cut_16 u (take s octets) rest (length-take-le s octets (omega arith))
+    (length-user_data_in_blocks n (u - 16) behind count room) in
     let split : u + 2 * suc n ≡ s + 2 + (u - 16 + 2 * n) = omega arith in
     ap (λ k. take k octets) split
     ∙ (take-add (s + 2) (u - 16 + 2 * n) octets
     ∙ (ap (λ t. t ++ take (u - 16 + 2 * n) behind) block
-    ∙ (ap (λ t. octets_with_crc (take s octets) ++ t) (blocks_are n (u - 16) behind count room (octets-drop (s + 2) octets o) sealed_rest)
+    ∙ (ap (λ t. octets_with_crc (take s octets) ++ t)
+    (blocks_are n (u - 16) behind count room (octets-drop (s + 2) octets o) sealed_rest)
     ∙ rw (cut.0, cut.1) refl)))
 
 or_false : (p q : Bool) → (p || q) ≡ false → (p ≡ false) × (q ≡ false)
@@ -88,7 +99,9 @@ same_number : (m n : ℕ) → not (eqb m n) ≡ false → m ≡ n
 same_number m n h = eqb-true m n (not_false (eqb m n) h)
 
 -- the first eight octets are the header that their fields make
-header_is : (octets : List ℕ) → 8 ≤ length octets → AreOctets octets → is_bad_start octets ≡ false → 5 ≤ slice_index octets 2 → length (content_at octets).user ≡ user_length octets → take 8 octets ≡ header (content_at octets)
+header_is : (octets : List ℕ) → 8 ≤ length octets → AreOctets octets → is_bad_start octets ≡ false
+    → 5 ≤ slice_index octets 2 → length (content_at octets).user ≡ user_length octets
+    → take 8 octets ≡ header (content_at octets)
 header_is [] l o b f u = absurd (omega arith)
 header_is (a0 ∷ []) l o b f u = absurd (omega arith)
 header_is (a0 ∷ a1 ∷ []) l o b f u = absurd (omega arith)
@@ -128,7 +141,9 @@ nothing c h = cc
 same_content : (c c' : Content) → ◌≡◌ {A = Option Event} (Some (Framed c)) (Some (Framed c')) → c ≡ c'
 same_content c c' h = cc
 
-passed : (bad short3 low short10 wrong short broken : Bool) (c c' : Content) → chain bad short3 low short10 wrong short broken c ≡ Some (Framed c') → Passed bad short3 low short10 wrong short broken c c'
+passed : (bad short3 low short10 wrong short broken : Bool) (c c' : Content)
+    → chain bad short3 low short10 wrong short broken c ≡ Some (Framed c')
+    → Passed bad short3 low short10 wrong short broken c c'
 passed true short3 low short10 wrong short broken c c' h = absurd (dropped _ c' h)
 passed false true low short10 wrong short broken c c' h = absurd (nothing c' h)
 passed false false true short10 wrong short broken c c' h = absurd (dropped _ c' h)
@@ -136,10 +151,21 @@ passed false false false true wrong short broken c c' h = absurd (nothing c' h)
 passed false false false false true short broken c c' h = absurd (dropped _ c' h)
 passed false false false false false true broken c c' h = absurd (nothing c' h)
 passed false false false false false false true c c' h = absurd (dropped _ c' h)
-passed false false false false false false false c c' h = record { start = refl; length = refl; header = refl; right = refl; whole = refl; blocks_right = refl; same = same_content c c' h }
+passed false false false false false false false c c' h = record {
+  start = refl;
+  length = refl;
+  header = refl;
+  right = refl;
+  whole = refl;
+  blocks_right = refl;
+  same = same_content c c' h;
+}
 
 -- octets whose tests all pass begin with the frame of their fields
-begins_here : (octets : List ℕ) → AreOctets octets → is_bad_start octets ≡ false → 5 ≤ slice_index octets 2 → 10 ≤ length octets → is_sealed (take 10 octets) ≡ true → frame_length (user_length octets) ≤ length octets → are_sealed (block_count (user_length octets)) (user_length octets) (drop 10 octets) ≡ true → BeginsWith octets (content_at octets)
+begins_here : (octets : List ℕ) → AreOctets octets → is_bad_start octets ≡ false → 5 ≤ slice_index octets 2
+    → 10 ≤ length octets → is_sealed (take 10 octets) ≡ true → frame_length (user_length octets) ≤ length octets
+    → are_sealed (block_count (user_length octets)) (user_length octets) (drop 10 octets) ≡ true
+    → BeginsWith octets (content_at octets)
 unfolding frame
 begins_here octets o start five ten right whole blocks_right =
     let u = user_length octets in
@@ -158,18 +184,24 @@ begins_here octets o start five ten right whole blocks_right =
         drop m body,
         sym (take-append-drop 10 octets)
             ∙ (ap (λ t. t ++ body) head
-            ∙ (ap (λ t. octets_with_crc (header (content_at octets)) ++ t) (sym (take-append-drop m body) ∙ ap (λ t. t ++ drop m body) data_blocks)
+            ∙ (ap (λ t. octets_with_crc (header (content_at octets)) ++ t)
+            (sym (take-append-drop m body) ∙ ap (λ t. t ++ drop m body) data_blocks)
             ∙ sym (append_assoc (octets_with_crc (header (content_at octets))) _ (drop m body)))),
       ),
     )
 
 -- what octets show as a frame, they begin with
-pub begins : (octets : List ℕ) (c : Content) → AreOctets octets → event_at_front octets ≡ Some (Framed c) → BeginsWith octets c
+pub begins : (octets : List ℕ) (c : Content) → AreOctets octets → event_at_front octets ≡ Some (Framed c)
+    → BeginsWith octets c
 unfolding event_at_front
 begins octets c o h =
     let u = user_length octets in
-    let p = passed (is_bad_start octets) (nat_lt (length octets) 3) (nat_lt (slice_index octets 2) 5) (nat_lt (length octets) 10) (not (is_sealed (take 10 octets))) (nat_lt (length octets) (frame_length u)) (not (are_sealed (block_count u) u (drop 10 octets))) (content_at octets) c h in
-    subst (BeginsWith octets) p.same (begins_here octets o p.start (ltb-false (slice_index octets 2) 5 p.length) (ltb-false (length octets) 10 p.header) (not_false (is_sealed (take 10 octets)) p.right) (ltb-false (length octets) (frame_length u) p.whole) (not_false _ p.blocks_right))
+    let p = passed (is_bad_start octets) (nat_lt (length octets) 3) (nat_lt (slice_index octets 2) 5)
+    (nat_lt (length octets) 10) (not (is_sealed (take 10 octets))) (nat_lt (length octets) (frame_length u))
+    (not (are_sealed (block_count u) u (drop 10 octets))) (content_at octets) c h in
+    subst (BeginsWith octets) p.same (begins_here octets o p.start (ltb-false (slice_index octets 2) 5 p.length)
+    (ltb-false (length octets) 10 p.header) (not_false (is_sealed (take 10 octets)) p.right)
+    (ltb-false (length octets) (frame_length u) p.whole) (not_false _ p.blocks_right))
 
 -- and the other way round
 pub begins_shows : (octets : List ℕ) (c : Content) → BeginsWith octets c → event_at_front octets ≡ Some (Framed c)

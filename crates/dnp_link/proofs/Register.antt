@@ -45,7 +45,12 @@ xor_bit (suc zero) (suc (suc n)) g h = absurd (omega arith)
 pub plus-bits : (k a b : ℕ) → plus (bits k a) (bits k b) ≡ bits k (bit_xor a b)
 plus-bits zero a b = refl
 plus-bits (suc k) a b =
-    rw (xor_mod a b 1, xor_shr a b 1, plus-bits k (a / 2) (b / 2), sym (xor_bit (a % 2) (b % 2) (omega arith) (omega arith))) refl
+    rw (
+      xor_mod a b 1,
+      xor_shr a b 1,
+      plus-bits k (a / 2) (b / 2),
+      sym (xor_bit (a % 2) (b % 2) (omega arith) (omega arith)),
+    ) refl
 
 xor_low : (r s a b : ℕ) → r < 2 → s < 2 → bit_xor (r + 2 * a) (s + 2 * b) ≡ bit_xor r s + 2 * bit_xor a b
 xor_low r s a b h g =
@@ -56,10 +61,14 @@ xor_low r s a b h g =
 pub number-plus : (p q : List Bool) → number (plus p q) ≡ bit_xor (number p) (number q)
 number-plus [] q = refl
 number-plus (a ∷ p) [] = sym (xor_zero_r (number (a ∷ p)))
-number-plus (false ∷ p) (false ∷ q) = ap (λ n. 0 + 2 * n) (number-plus p q) ∙ sym (xor_low 0 0 (number p) (number q) (omega arith) (omega arith))
-number-plus (false ∷ p) (true ∷ q) = ap (λ n. 1 + 2 * n) (number-plus p q) ∙ sym (xor_low 0 1 (number p) (number q) (omega arith) (omega arith))
-number-plus (true ∷ p) (false ∷ q) = ap (λ n. 1 + 2 * n) (number-plus p q) ∙ sym (xor_low 1 0 (number p) (number q) (omega arith) (omega arith))
-number-plus (true ∷ p) (true ∷ q) = ap (λ n. 0 + 2 * n) (number-plus p q) ∙ sym (xor_low 1 1 (number p) (number q) (omega arith) (omega arith))
+number-plus (false ∷ p) (false ∷ q) =
+    ap (λ n. 0 + 2 * n) (number-plus p q) ∙ sym (xor_low 0 0 (number p) (number q) (omega arith) (omega arith))
+number-plus (false ∷ p) (true ∷ q) =
+    ap (λ n. 1 + 2 * n) (number-plus p q) ∙ sym (xor_low 0 1 (number p) (number q) (omega arith) (omega arith))
+number-plus (true ∷ p) (false ∷ q) =
+    ap (λ n. 1 + 2 * n) (number-plus p q) ∙ sym (xor_low 1 0 (number p) (number q) (omega arith) (omega arith))
+number-plus (true ∷ p) (true ∷ q) =
+    ap (λ n. 0 + 2 * n) (number-plus p q) ∙ sym (xor_low 1 1 (number p) (number q) (omega arith) (omega arith))
 
 -- the bits of a number, cut in two
 pub bits-append : (j k n : ℕ) → bits j n ++ bits k (n / 2 ^ j) ≡ bits (j + k) n
@@ -101,14 +110,16 @@ unfolding remainder long_division
 TABLE_at i h = below 256 i tt h
 
 -- the remainder of octets, as the bits of its number
-bits_of_remainder : (before : List ℕ) (r : ℕ) → r ≡ number (remainder (message before)) → remainder (message before) ≡ bits 8 r ++ bits 8 (r / 256)
+bits_of_remainder : (before : List ℕ) (r : ℕ) → r ≡ number (remainder (message before))
+    → remainder (message before) ≡ bits 8 r ++ bits 8 (r / 256)
 bits_of_remainder before r e =
     sym (bits-number (remainder (message before)))
     ∙ (ap (λ n. bits n (number (remainder (message before)))) (length-remainder (message before))
     ∙ (ap (bits 16) (sym e) ∙ sym (bits-append 8 8 r)))
 
 -- the remainder of one octet more
-next_remainder : (before : List ℕ) (r o : ℕ) → r ≡ number (remainder (message before)) → remainder (message (before ++ o ∷ [])) ≡ plus (remainder (bits 8 (bit_xor r o))) (bits 8 (r / 256))
+next_remainder : (before : List ℕ) (r o : ℕ) → r ≡ number (remainder (message before))
+    → remainder (message (before ++ o ∷ [])) ≡ plus (remainder (bits 8 (bit_xor r o))) (bits 8 (r / 256))
 next_remainder before r o e =
     ap remainder (flat_map-append (bits 8) before (o ∷ []))
     ∙ (remainder-append (message before) (bits 8 o)
@@ -117,11 +128,13 @@ next_remainder before r o e =
     ∙ ap (λ p. plus (remainder p) (bits 8 (r / 256))) (plus-bits 8 r o))))
 
 -- the register's step
-pub register_step : (before : List ℕ) (r o : ℕ) → r < 2 ^ 16 → r ≡ number (remainder (message before)) → bit_xor (r / 256) (get_or TABLE (bit_and (bit_xor r o) 255) 0) ≡ number (remainder (message (before ++ o ∷ [])))
+pub register_step : (before : List ℕ) (r o : ℕ) → r < 2 ^ 16 → r ≡ number (remainder (message before))
+    → bit_xor (r / 256) (get_or TABLE (bit_and (bit_xor r o) 255) 0) ≡ number (remainder (message (before ++ o ∷ [])))
 register_step before r o h e =
     let mask : bit_and (bit_xor r o) 255 ≡ bit_xor r o % 256 = and_mask (bit_xor r o) 8 in
     let entry : get_or TABLE (bit_and (bit_xor r o) 255) 0 ≡ number (remainder (bits 8 (bit_xor r o))) =
-    ap (λ i. get_or TABLE i 0) mask ∙ (TABLE_at (bit_xor r o % 256) (omega arith) ∙ ap (λ p. number (remainder p)) (bits-mod 8 (bit_xor r o))) in
+    ap (λ i. get_or TABLE i 0) mask
+    ∙ (TABLE_at (bit_xor r o % 256) (omega arith) ∙ ap (λ p. number (remainder p)) (bits-mod 8 (bit_xor r o))) in
     let high : number (bits 8 (r / 256)) ≡ r / 256 = number-bits 8 (r / 256) (omega arith) in
     ap (bit_xor (r / 256)) entry
     ∙ (ap (λ n. bit_xor n (number (remainder (bits 8 (bit_xor r o))))) (sym high)

@@ -14,50 +14,76 @@ unfolding is_sealed octets_with_crc
 is_sealed-octets_with_crc octets =
     let lo = crc_of octets % 256 in
     let hi = crc_of octets / 256 in
-    let size : length (octets ++ lo ∷ hi ∷ []) - 2 ≡ length octets = omega (arith, length-append octets (lo ∷ hi ∷ [])) in
-    let here : take (length octets) (octets ++ lo ∷ hi ∷ []) ≡ octets = take_at octets (lo ∷ hi ∷ []) (length octets) refl in
-    let low : get_or (octets ++ lo ∷ hi ∷ []) (length octets) 0 ≡ lo = get_or_at octets lo (hi ∷ []) 0 (length octets) refl in
-    let high : get_or (octets ++ lo ∷ hi ∷ []) (length octets + 1) 0 ≡ hi = get_or-append-add octets (lo ∷ hi ∷ []) 1 0 in
+    let size : length (octets ++ lo ∷ hi ∷ []) - 2 ≡ length octets =
+    omega (arith, length-append octets (lo ∷ hi ∷ [])) in
+    let here : take (length octets) (octets ++ lo ∷ hi ∷ []) ≡ octets =
+    take_at octets (lo ∷ hi ∷ []) (length octets) refl in
+    let low : get_or (octets ++ lo ∷ hi ∷ []) (length octets) 0 ≡ lo =
+    get_or_at octets lo (hi ∷ []) 0 (length octets) refl in
+    let high : get_or (octets ++ lo ∷ hi ∷ []) (length octets + 1) 0 ≡ hi =
+    get_or-append-add octets (lo ∷ hi ∷ []) 1 0 in
     rw (size, here, low, high) (eq-eqb _ _ (omega arith))
 
 -- the blocks that user data is written to are right, and carry it
-pub are_sealed-blocks : (n : ℕ) (user : List ℕ) → n ≡ block_count (length user) → are_sealed n (length user) (blocks n user) ≡ true
+pub are_sealed-blocks : (n : ℕ) (user : List ℕ) → n ≡ block_count (length user)
+    → are_sealed n (length user) (blocks n user) ≡ true
 are_sealed-blocks zero user e = refl
 are_sealed-blocks (suc n) user e =
     let size : length (take 16 user) ≡ min 16 (length user) = length-take 16 user in
-    let whole : length (octets_with_crc (take 16 user)) ≡ min 16 (length user) + 2 = length-octets_with_crc (take 16 user) ∙ omega (arith, size) in
+    let whole : length (octets_with_crc (take 16 user)) ≡ min 16 (length user) + 2 =
+    length-octets_with_crc (take 16 user) ∙ omega (arith, size) in
     let left : length user - 16 ≡ length (drop 16 user) = sym (length-drop 16 user) in
     let here = take_at (octets_with_crc (take 16 user)) (blocks n (drop 16 user)) (min 16 (length user) + 2) whole in
     let behind = drop_at (octets_with_crc (take 16 user)) (blocks n (drop 16 user)) (min 16 (length user) + 2) whole in
-    rw (here, behind, is_sealed-octets_with_crc (take 16 user), left) (are_sealed-blocks n (drop 16 user) (omega (arith, left)))
+    rw (here, behind, is_sealed-octets_with_crc (take 16 user), left)
+    (are_sealed-blocks n (drop 16 user) (omega (arith, left)))
 
 take_sealed : (octets rest : List ℕ) (n : ℕ) → length octets ≡ n → take n (octets_with_crc octets ++ rest) ≡ octets
 unfolding octets_with_crc
 take_sealed octets rest n h = ap (take n) (append_assoc octets _ rest) ∙ take_at octets _ n h
 
-pub user_data_in_blocks-blocks : (n : ℕ) (user : List ℕ) → n ≡ block_count (length user) → user_data_in_blocks n (length user) (blocks n user) ≡ user
+pub user_data_in_blocks-blocks : (n : ℕ) (user : List ℕ) → n ≡ block_count (length user)
+    → user_data_in_blocks n (length user) (blocks n user) ≡ user
 user_data_in_blocks-blocks zero user e = sym (nil_from_length user (omega arith))
 user_data_in_blocks-blocks (suc n) user e =
     let size : length (take 16 user) ≡ min 16 (length user) = length-take 16 user in
-    let whole : length (octets_with_crc (take 16 user)) ≡ min 16 (length user) + 2 = length-octets_with_crc (take 16 user) ∙ omega (arith, size) in
+    let whole : length (octets_with_crc (take 16 user)) ≡ min 16 (length user) + 2 =
+    length-octets_with_crc (take 16 user) ∙ omega (arith, size) in
     let left : length user - 16 ≡ length (drop 16 user) = sym (length-drop 16 user) in
     let here = take_sealed (take 16 user) (blocks n (drop 16 user)) (min 16 (length user)) size in
     let behind = drop_at (octets_with_crc (take 16 user)) (blocks n (drop 16 user)) (min 16 (length user) + 2) whole in
-    rw (here, behind, left, user_data_in_blocks-blocks n (drop 16 user) (omega (arith, left))) (take-append-drop 16 user)
+    rw (here, behind, left, user_data_in_blocks-blocks n (drop 16 user) (omega (arith, left)))
+    (take-append-drop 16 user)
 
-pub length-blocks : (n : ℕ) (user : List ℕ) → n ≡ block_count (length user) → length (blocks n user) ≡ length user + 2 * n
+pub length-blocks : (n : ℕ) (user : List ℕ) → n ≡ block_count (length user)
+    → length (blocks n user) ≡ length user + 2 * n
 length-blocks zero user e = omega arith
 length-blocks (suc n) user e =
     let left : length (drop 16 user) ≡ length user - 16 = length-drop 16 user in
     let rest = length-blocks n (drop 16 user) (omega (arith, left)) in
-    omega (arith, length-append (octets_with_crc (take 16 user)) (blocks n (drop 16 user)), length-octets_with_crc (take 16 user), length-take 16 user, left, rest)
+    omega (
+      arith,
+      length-append (octets_with_crc (take 16 user)) (blocks n (drop 16 user)),
+      length-octets_with_crc (take 16 user),
+      length-take 16 user,
+      left,
+      rest,
+    )
 
 pub length-frame : (c : Content) → length (frame c) ≡ frame_length (length c.user)
 unfolding frame
-length-frame c = omega (arith, length-append (octets_with_crc (header c)) (blocks (block_count (length c.user)) c.user), length-octets_with_crc (header c), length-blocks (block_count (length c.user)) c.user refl)
+length-frame c = omega (
+  arith,
+  length-append (octets_with_crc (header c)) (blocks (block_count (length c.user)) c.user),
+  length-octets_with_crc (header c),
+  length-blocks (block_count (length c.user)) c.user refl,
+)
 
-chain_frame : (bad short3 low short10 wrong short broken : Bool) (c c' : Content) → bad ≡ false → short3 ≡ false → low ≡ false → short10 ≡ false → wrong ≡ false → short ≡ false → broken ≡ false → c ≡ c' → chain bad short3 low short10 wrong short broken c ≡ Some (Framed c')
-chain_frame bad short3 low short10 wrong short broken c c' h1 h2 h3 h4 h5 h6 h7 h8 = rw (h1, h2, h3, h4, h5, h6, h7, h8) refl
+chain_frame : (bad short3 low short10 wrong short broken : Bool) (c c' : Content) → bad ≡ false → short3 ≡ false
+    → low ≡ false → short10 ≡ false → wrong ≡ false → short ≡ false → broken ≡ false → c ≡ c'
+    → chain bad short3 low short10 wrong short broken c ≡ Some (Framed c')
+chain_frame bad short3 low short10 wrong short broken c c' h1 h2 h3 h4 h5 h6 h7 h8 =
+    rw (h1, h2, h3, h4, h5, h6, h7, h8) refl
 
 -- the front of a frame shows it
 pub front_frame : (c : Content) → event_at_front (frame c) ≡ Some (Framed c)
@@ -70,7 +96,9 @@ front_frame c =
     let told : 5 + n - 5 ≡ n = omega arith in
     let destination : c.destination % 256 + 256 * (c.destination / 256) ≡ c.destination = omega arith in
     let source : c.source % 256 + 256 * (c.source / 256) ≡ c.source = omega arith in
-    chain_frame false (nat_lt (length octets) 3) (nat_lt (5 + n) 5) (nat_lt (length octets) 10) (not (is_sealed (octets_with_crc (header c)))) (nat_lt (length octets) (frame_length (5 + n - 5))) (not (are_sealed (block_count (5 + n - 5)) (5 + n - 5) body)) (content_at octets) c
+    chain_frame false (nat_lt (length octets) 3) (nat_lt (5 + n) 5) (nat_lt (length octets) 10)
+    (not (is_sealed (octets_with_crc (header c)))) (nat_lt (length octets) (frame_length (5 + n - 5)))
+    (not (are_sealed (block_count (5 + n - 5)) (5 + n - 5) body)) (content_at octets) c
     refl
     (le-ltb (length octets) 3 (omega arith))
     (le-ltb (5 + n) 5 (omega arith))
@@ -85,7 +113,9 @@ pub front_frame-append : (c : Content) (behind : List ℕ) → event_at_front (f
 front_frame-append c behind = front-append (frame c) behind (Framed c) (front_frame c)
 
 -- a frame is read first, and then what follows it
-pub reading-frame : (c : Content) (behind : List ℕ) → reading (frame c ++ behind) ≡ reading_with_first (Framed c) (reading behind)
+pub reading-frame : (c : Content) (behind : List ℕ)
+    → reading (frame c ++ behind) ≡ reading_with_first (Framed c) (reading behind)
 reading-frame c behind =
     reading_event (frame c ++ behind) (Framed c) (front_frame-append c behind)
-    ∙ ap (λ t. reading_with_first (Framed c) (reading t)) (drop_at (frame c) behind (octets_used_by (Framed c)) (length-frame c))
+    ∙ ap (λ t. reading_with_first (Framed c) (reading t))
+    (drop_at (frame c) behind (octets_used_by (Framed c)) (length-frame c))

@@ -23,7 +23,15 @@ pub header_read : (place : ℕ) (front : List ℕ) (form : Form) (range : Range)
     → body ≡ body_length form.size r.count r.prefix
     → 3 + r.octets + body ≤ length front
     → header_at place front ≡ Ok (
-      record { group = get_or front 0 0; variation = get_or front 1 0; first = r.first; count = r.count; prefix = r.prefix; place = place; start = place + (3 + r.octets) },
+      record {
+        group = get_or front 0 0;
+        variation = get_or front 1 0;
+        first = r.first;
+        count = r.count;
+        prefix = r.prefix;
+        place = place;
+        start = place + (3 + r.octets);
+      },
       take (length front - (3 + r.octets + body)) (drop (3 + r.octets + body) front),
     )
 header_read place [] form range r body le known may ranged is long = absurd (omega arith)
@@ -31,11 +39,15 @@ header_read place (a ∷ []) form range r body le known may ranged is long = abs
 header_read place (a ∷ b ∷ []) form range r body le known may ranged is long = absurd (omega arith)
 header_read place (a ∷ b ∷ c ∷ field) form range r body le known may ranged is long =
     let front : List ℕ = a ∷ b ∷ c ∷ field in
-    let given : range_at place range field ≡ Ok r = subst (λ (f : List ℕ). range_at place range f ≡ Ok r) (all_from 3 front) ranged in
-    let enough : ltb (length (drop r.octets field)) (body_length form.size r.count r.prefix) ≡ false = le-ltb _ _ (omega (arith, length-drop r.octets field, is)) in
+    let given : range_at place range field ≡ Ok r =
+    subst (λ (f : List ℕ). range_at place range f ≡ Ok r) (all_from 3 front) ranged in
+    let enough : ltb (length (drop r.octets field)) (body_length form.size r.count r.prefix) ≡ false =
+    le-ltb _ _ (omega (arith, length-drop r.octets field, is)) in
     let together : 3 + (r.octets + body) ≡ 3 + r.octets + body = omega arith in
-    let after : drop body (drop r.octets field) ≡ take (length front - (3 + r.octets + body)) (drop (3 + r.octets + body) front) =
-    drop-drop body r.octets field ∙ (drop-drop (r.octets + body) 3 front ∙ (ap (λ (n : ℕ). drop n front) together ∙ sym (all_from (3 + r.octets + body) front))) in
+    let after : drop body (drop r.octets field)
+    ≡ take (length front - (3 + r.octets + body)) (drop (3 + r.octets + body) front) =
+    drop-drop body r.octets field ∙ (drop-drop (r.octets + body) 3 front
+    ∙ (ap (λ (n : ℕ). drop n front) together ∙ sym (all_from (3 + r.octets + body) front))) in
     rw (known, may, given, enough, ← is, after) refl
 
 -- a header whose objects are cut short
@@ -52,6 +64,8 @@ header_short place (a ∷ []) form range r body le known may ranged is short = a
 header_short place (a ∷ b ∷ []) form range r body le known may ranged is short = absurd (omega arith)
 header_short place (a ∷ b ∷ c ∷ field) form range r body le known may ranged is short =
     let front : List ℕ = a ∷ b ∷ c ∷ field in
-    let given : range_at place range field ≡ Ok r = subst (λ (f : List ℕ). range_at place range f ≡ Ok r) (all_from 3 front) ranged in
-    let cut : ltb (length (drop r.octets field)) (body_length form.size r.count r.prefix) ≡ true = lt-ltb _ _ (omega (arith, length-drop r.octets field, is)) in
+    let given : range_at place range field ≡ Ok r =
+    subst (λ (f : List ℕ). range_at place range f ≡ Ok r) (all_from 3 front) ranged in
+    let cut : ltb (length (drop r.octets field)) (body_length form.size r.count r.prefix) ≡ true =
+    lt-ltb _ _ (omega (arith, length-drop r.octets field, is)) in
     rw (known, may, given, cut) refl

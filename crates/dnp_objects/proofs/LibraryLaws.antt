@@ -4,7 +4,9 @@ use Rattle.std.proofs.lemmas.Bool.{ne_eqb}
 use Rattle.dnp_objects.specs.Library.{object_of, form_of}
 
 -- of a group that no row has, nothing is known
-pub unknown : (group number : ℕ) → group ≢ 1 → group ≢ 2 → group ≢ 3 → group ≢ 4 → group ≢ 10 → group ≢ 11 → group ≢ 12 → group ≢ 13 → group ≢ 20 → group ≢ 21 → group ≢ 22 → group ≢ 23 → group ≢ 30 → group ≢ 32 → group ≢ 40 → group ≢ 41 → group ≢ 42 → group ≢ 51 → group ≢ 110 → group ≢ 111 → form_of group number ≡ None
+pub unknown : (group number : ℕ) → group ≢ 1 → group ≢ 2 → group ≢ 3 → group ≢ 4 → group ≢ 10 → group ≢ 11 → group ≢ 12
+    → group ≢ 13 → group ≢ 20 → group ≢ 21 → group ≢ 22 → group ≢ 23 → group ≢ 30 → group ≢ 32 → group ≢ 40 → group ≢ 41
+    → group ≢ 42 → group ≢ 51 → group ≢ 110 → group ≢ 111 → form_of group number ≡ None
 unfolding object_of
 unknown group number n1 n2 n3 n4 n10 n11 n12 n13 n20 n21 n22 n23 n30 n32 n40 n41 n42 n51 n110 n111 =
     let e1 : eqb group 1 ≡ false = ne_eqb group 1 n1 in

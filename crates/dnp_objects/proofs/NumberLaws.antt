@@ -14,7 +14,8 @@ number-drop octets i some within =
     omega (arith, ap number split, ap (λ n. number (drop n octets)) back)
 
 -- one octet more
-pub one_octet_more : (value octet n more : ℕ) → value < 256 ^ n → octet < 256 → more ≡ n + 1 → 256 * value + octet < 256 ^ more
+pub one_octet_more : (value octet n more : ℕ) → value < 256 ^ n → octet < 256 → more ≡ n + 1
+    → 256 * value + octet < 256 ^ more
 one_octet_more value octet n more small byte e = rw e (omega (arith, pow_more 256 n))
 
 -- a number of so many octets is one of more octets
@@ -25,10 +26,12 @@ in_more_octets value n more small le = omega (arith, pow-le-pow_right {n = 256} 
 pub in_two_octets : (value : ℕ) (octets : List ℕ) → value < 256 ^ length octets → length octets ≤ 2 → value < 65536
 in_two_octets value octets small le = in_more_octets value (length octets) 2 small le
 
-pub in_four_octets : (value : ℕ) (octets : List ℕ) → value < 256 ^ length octets → length octets ≤ 4 → value < 4294967296
+pub in_four_octets : (value : ℕ) (octets : List ℕ) → value < 256 ^ length octets → length octets ≤ 4
+    → value < 4294967296
 in_four_octets value octets small le = in_more_octets value (length octets) 4 small le
 
-pub in_six_octets : (value : ℕ) (octets : List ℕ) → value < 256 ^ length octets → length octets ≤ 6 → value < 281474976710656
+pub in_six_octets : (value : ℕ) (octets : List ℕ) → value < 256 ^ length octets → length octets ≤ 6
+    → value < 281474976710656
 in_six_octets value octets small le = in_more_octets value (length octets) 6 small le
 
 pub ruleset in_octets = (in_two_octets, in_four_octets, in_six_octets)

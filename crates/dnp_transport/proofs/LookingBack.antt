@@ -17,7 +17,8 @@ is_open run = not (list_any is_final run) && are_consecutive run && leb (length 
 -- what an assembler keeps of a run
 abbrev pub series_of : List (List ℕ) → Option Series
 series_of [] = None
-series_of (newest ∷ older) = cond (is_open (newest ∷ older)) (Some (record { next = (sequence newest + 1) % 64; octets = octets_of (newest ∷ older) })) None
+series_of (newest ∷ older) = cond (is_open (newest ∷ older))
+    (Some (record { next = (sequence newest + 1) % 64; octets = octets_of (newest ∷ older) })) None
 
 -- the fragment that a run is
 abbrev pub fragment_at : List (List ℕ) → Option (List ℕ)
@@ -28,7 +29,8 @@ abbrev pub Agrees : Answer × Option Series → List (List ℕ) → Type 0
 Agrees taken run = (taken.1 ≡ series_of run) × (fragment_in taken.0 ≡ fragment_at run)
 
 -- a segment that goes on with a run
-join_agrees : (s : List ℕ) (older : List (List ℕ)) → list_any is_final older ≡ false → are_consecutive (s ∷ older) ≡ true
+join_agrees : (s : List ℕ) (older : List (List ℕ)) → list_any is_final older ≡ false
+    → are_consecutive (s ∷ older) ≡ true
     → Agrees (step_joining (octets_of (s ∷ older)) s) (s ∷ older)
 join_agrees s older unended consecutive =
     let octets = octets_of (s ∷ older) in
@@ -72,7 +74,8 @@ gone_long : (s : List ℕ) (older : List (List ℕ)) → leb (length (octets_of 
     → (None ≡ series_of (s ∷ older)) × (None ≡ fragment_at (s ∷ older))
 gone_long s older long =
     let above : 2048 < length (octets_of older) = leb-false _ _ long in
-    let over : leb (length (octets_of older ++ carried_octets s)) 2048 ≡ false = lt-leb _ _ (omega (arith, length-append (octets_of older) (carried_octets s))) in
+    let over : leb (length (octets_of older ++ carried_octets s)) 2048 ≡ false =
+    lt-leb _ _ (omega (arith, length-append (octets_of older) (carried_octets s))) in
     gone s older (and_right _ _ over) (and_right _ _ over)
 
 -- where the run before can't become a fragment, the run with the segment can't either
@@ -93,12 +96,15 @@ kept newest older = record { next = (sequence newest + 1) % 64; octets = octets_
 continued_open : (s before : List ℕ) (older : List (List ℕ)) → is_open (before ∷ older) ≡ true
     → Agrees (step_without_first (Some (kept before older)) s) (s ∷ before ∷ older)
 continued_open s before older fit =
-    let outer = and_parts (not (list_any is_final (before ∷ older)) && are_consecutive (before ∷ older)) (leb (length (octets_of (before ∷ older))) 2048) fit in
+    let outer = and_parts (not (list_any is_final (before ∷ older)) && are_consecutive (before ∷ older))
+    (leb (length (octets_of (before ∷ older))) 2048) fit in
     let inner = and_parts (not (list_any is_final (before ∷ older))) (are_consecutive (before ∷ older)) outer.0 in
     let unended = not-true _ inner.0 in
     elim (cases_Bool (eqb (sequence s) ((sequence before + 1) % 64))) [
       | inl next ↦
-          let goes_on : step_without_first (Some (kept before older)) s ≡ step_joining (octets_of (s ∷ before ∷ older)) s = cond-true _ _ _ next in
+          let goes_on : step_without_first (Some (kept before older)) s
+          ≡ step_joining (octets_of (s ∷ before ∷ older)) s =
+          cond-true _ _ _ next in
           rw goes_on (join_agrees s (before ∷ older) unended (and_from _ _ next inner.1))
       | inr other ↦
           let ends : step_without_first (Some (kept before older)) s ≡ (Dropped Gap, None) = cond-false _ _ _ other in
@@ -106,14 +112,18 @@ continued_open s before older fit =
     ]
 
 -- the answer to a segment without FIR
-continued_agrees : (s before : List ℕ) (older : List (List ℕ)) → Agrees (step_without_first (series_of (before ∷ older)) s) (s ∷ before ∷ older)
+continued_agrees : (s before : List ℕ) (older : List (List ℕ))
+    → Agrees (step_without_first (series_of (before ∷ older)) s) (s ∷ before ∷ older)
 continued_agrees s before older = elim (cases_Bool (is_open (before ∷ older))) [
-  | inl fit ↦ let kept_is : series_of (before ∷ older) ≡ Some (kept before older) = cond-true _ _ _ fit in rw kept_is (continued_open s before older fit)
-  | inr closed ↦ let none : series_of (before ∷ older) ≡ None = cond-false _ _ _ closed in rw none (gone_after s before older closed)
+  | inl fit ↦ let kept_is : series_of (before ∷ older) ≡ Some (kept before older) = cond-true _ _ _ fit in
+      rw kept_is (continued_open s before older fit)
+  | inr closed ↦ let none : series_of (before ∷ older) ≡ None = cond-false _ _ _ closed in
+      rw none (gone_after s before older closed)
 ]
 
 -- a run is never empty
-begun : (first : Bool) (s : List ℕ) (before : Option (List (List ℕ))) → cond first (Some (s ∷ [])) (option_map (λ run. s ∷ run) before) ≡ Some [] → ⊥
+begun : (first : Bool) (s : List ℕ) (before : Option (List (List ℕ)))
+    → cond first (Some (s ∷ [])) (option_map (λ run. s ∷ run) before) ≡ Some [] → ⊥
 begun true s before e = cc
 begun false s None e = cc
 begun false s (Some run) e = cc
@@ -125,16 +135,20 @@ back_to_first-some (newest ∷ older) e = begun (is_first newest) newest (back_t
 pub step-empty : (series : Option Series) (s : List ℕ) → is_whole s ≡ false → step series s ≡ (Dropped Empty, series)
 step-empty series s empty = rw empty refl
 
-pub step-first : (series : Option Series) (s : List ℕ) → is_whole s ≡ true → is_first s ≡ true → step series s ≡ step_joining (carried_octets s) s
+pub step-first : (series : Option Series) (s : List ℕ) → is_whole s ≡ true → is_first s ≡ true
+    → step series s ≡ step_joining (carried_octets s) s
 step-first series s whole first = rw (whole, first) refl
 
-pub step-later : (series : Option Series) (s : List ℕ) → is_whole s ≡ true → is_first s ≡ false → step series s ≡ step_without_first series s
+pub step-later : (series : Option Series) (s : List ℕ) → is_whole s ≡ true → is_first s ≡ false
+    → step series s ≡ step_without_first series s
 step-later series s whole later = rw (whole, later) refl
 
 -- the same after whatever looking back finds
 later_agrees : (s : List ℕ) (before : Option (List (List ℕ))) → (before ≡ Some [] → ⊥)
-    → ((step_without_first (option_and_then series_of before) s).1 ≡ option_and_then series_of (option_map (λ run. s ∷ run) before))
-    × (fragment_in (step_without_first (option_and_then series_of before) s).0 ≡ option_and_then fragment_at (option_map (λ run. s ∷ run) before))
+    → ((step_without_first (option_and_then series_of before) s).1
+    ≡ option_and_then series_of (option_map (λ run. s ∷ run) before))
+    × (fragment_in (step_without_first (option_and_then series_of before) s).0
+    ≡ option_and_then fragment_at (option_map (λ run. s ∷ run) before))
 later_agrees s None some = (refl, refl)
 later_agrees s (Some []) some = absurd (some refl)
 later_agrees s (Some (before ∷ older)) some = continued_agrees s before older
@@ -145,8 +159,11 @@ kept_after history = option_and_then series_of (back_to_first history)
 
 -- After a history, the answer to the next segment gives the fragment that ends with it, and keeps the run that goes on.
 pub step_agrees : (s : List ℕ) (older : List (List ℕ)) → is_whole s ≡ true
-    → ((step (kept_after older) s).1 ≡ kept_after (s ∷ older)) × (fragment_in (step (kept_after older) s).0 ≡ fragment_ended_by_newest (s ∷ older))
+    → ((step (kept_after older) s).1 ≡ kept_after (s ∷ older))
+    × (fragment_in (step (kept_after older) s).0 ≡ fragment_ended_by_newest (s ∷ older))
 step_agrees s older whole = elim (cases_Bool (is_first s)) [
-  | inl first ↦ let taken = step-first (kept_after older) s whole first in rw (taken, first) (join_agrees s [] refl refl)
-  | inr later ↦ let taken = step-later (kept_after older) s whole later in rw (taken, later) (later_agrees s (back_to_first older) (back_to_first-some older))
+  | inl first ↦ let taken = step-first (kept_after older) s whole first in
+      rw (taken, first) (join_agrees s [] refl refl)
+  | inr later ↦ let taken = step-later (kept_after older) s whole later in
+      rw (taken, later) (later_agrees s (back_to_first older) (back_to_first-some older))
 ]

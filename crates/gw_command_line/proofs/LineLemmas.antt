@@ -40,40 +40,49 @@ plain_avoids c (option id) word h = tt
 plain_avoids c idle word h = tt
 plain_avoids c positional word h = tt
 
-flag_avoids : (c : List Rule) (waiting : Waiting) (word : Text) (h : Held) (o : Outcome) → AvoidsHelp (after_flag c waiting word h o).1
+flag_avoids : (c : List Rule) (waiting : Waiting) (word : Text) (h : Held) (o : Outcome)
+    → AvoidsHelp (after_flag c waiting word h o).1
 flag_avoids c waiting word h done = tt
 flag_avoids c waiting word h (waits id) = tt
 flag_avoids c waiting word h plain = plain_avoids c waiting word h
 flag_avoids c waiting word h refused = plain_avoids c waiting word h
 
-short_avoids : (c : List Rule) (waiting : Waiting) (word : Text) (flags : Option Text) (h : Held) → AvoidsHelp (short_or_plain c waiting word flags h).1
+short_avoids : (c : List Rule) (waiting : Waiting) (word : Text) (flags : Option Text) (h : Held)
+    → AvoidsHelp (short_or_plain c waiting word flags h).1
 short_avoids c waiting word (Some flags) h = flag_avoids c waiting word (bundle c flags h).0 (bundle c flags h).1
 short_avoids c waiting word None h = plain_avoids c waiting word h
 
-long_avoids : (c : List Rule) (waiting : Waiting) (word : Text) (long : Option (Text × Option Text)) (h : Held) → AvoidsHelp (long_or_other c waiting word long h).1
+long_avoids : (c : List Rule) (waiting : Waiting) (word : Text) (long : Option (Text × Option Text)) (h : Held)
+    → AvoidsHelp (long_or_other c waiting word long h).1
 long_avoids c waiting word (Some p) h = flag_avoids c waiting word _ _
 long_avoids c waiting word None h = short_avoids c waiting word (short_of word) h
 
 -- the rules refuse `help`, where it is a subcommand
-no_help : (b disabled : Bool) → disabled ≡ false → cond (b && not disabled) (DisplayHelp ∷ InvalidSubcommand ∷ []) [] ≡ [] → b ≡ false
+no_help : (b disabled : Bool) → disabled ≡ false
+    → cond (b && not disabled) (DisplayHelp ∷ InvalidSubcommand ∷ []) [] ≡ [] → b ≡ false
 no_help false disabled enabled none = refl
 no_help true true enabled none = enabled
 no_help true false enabled none = cc
 
-word_avoids : (s : Shape) (names : Names) (is_trailing : Bool) (waiting : Waiting) (position : ℕ) (word : Text) (h : Held) → s.disable_help_subcommand ≡ false
-    → word_fault s names is_trailing waiting word h ≡ [] → AvoidsHelp (word_met s.rules names is_trailing waiting position word h).1
+word_avoids : (s : Shape) (names : Names) (is_trailing : Bool) (waiting : Waiting) (position : ℕ) (word : Text)
+    (h : Held) → s.disable_help_subcommand ≡ false
+    → word_fault s names is_trailing waiting word h ≡ []
+    → AvoidsHelp (word_met s.rules names is_trailing waiting position word h).1
 word_avoids s names true waiting position word h enabled none = tt
 word_avoids s names false waiting position word h enabled none = go (subcommand_met names waiting word) none
   where
-    go : (met : Option Text) → other_fault s met word h ≡ [] → AvoidsHelp (subcommand_or_other s.rules met waiting position word h).1
+    go : (met : Option Text) → other_fault s met word h ≡ []
+        → AvoidsHelp (subcommand_or_other s.rules met waiting position word h).1
     go (Some name) none = no_help (bytes_eq name (codes "help")) s.disable_help_subcommand enabled none
     go None none = ends (bytes_eq word (45 ∷ 45 ∷ []))
       where
-        ends : (b : Bool) → AvoidsHelp (cond b (h, trailing position) (long_or_other s.rules waiting word (long_of word) h)).1
+        ends : (b : Bool)
+            → AvoidsHelp (cond b (h, trailing position) (long_or_other s.rules waiting word (long_of word) h)).1
         ends true = tt
         ends false = long_avoids s.rules waiting word (long_of word) h
 
-step_avoids : (c : List Rule) (word : Text) (w : Walk) (h : Held) (s : Step) → w.stopped ≡ None → AvoidsHelp s → is_help (after_step c word w h s).stopped ≡ false
+step_avoids : (c : List Rule) (word : Text) (w : Walk) (h : Held) (s : Step) → w.stopped ≡ None → AvoidsHelp s
+    → is_help (after_step c word w h s).stopped ≡ false
 step_avoids c word w h (next waiting) going avoids = ap is_help going
 step_avoids c word w h (trailing position) going avoids = ap is_help going
 step_avoids c word w h (subcommand name) going avoids = avoids
@@ -93,7 +102,8 @@ rest_none [] b none = none
 rest_none (k ∷ ks) b none = let no_kind : k ∷ ks ≡ [] = none in cc
 
 -- one word more, and then all the words
-turn_avoids : (s : Shape) (names : Names) (w : Walk) (word : Text) → s.disable_help_subcommand ≡ false → is_help w.stopped ≡ false
+turn_avoids : (s : Shape) (names : Names) (w : Walk) (word : Text) → s.disable_help_subcommand ≡ false
+    → is_help w.stopped ≡ false
     → turn_fault s names w word ≡ [] → is_help (walked s.rules names w word).stopped ≡ false
 unfolding walked
 turn_avoids s names w word enabled avoids none = go w.stopped refl avoids none
@@ -102,14 +112,16 @@ turn_avoids s names w word enabled avoids none = go w.stopped refl avoids none
     met = word_met s.rules names w.is_trailing w.waiting w.position word w.held
 
     go : (stop : Option (Text × List Text)) → w.stopped ≡ stop → is_help stop ≡ false
-        → cond (is_some stop) [] (or_else (word_fault s names w.is_trailing w.waiting word w.held) (step_fault s w.position met.0 met.1)) ≡ []
+        → cond (is_some stop) []
+        (or_else (word_fault s names w.is_trailing w.waiting word w.held) (step_fault s w.position met.0 met.1)) ≡ []
         → is_help (walked_from s.rules names stop w word).stopped ≡ false
     go (Some stop) is avoids none = avoids
     go None is avoids none =
         step_avoids s.rules word w met.0 met.1 is
         (word_avoids s names w.is_trailing w.waiting w.position word w.held enabled (first_none _ _ none))
 
-walk_avoids : (s : Shape) (names : Names) (w : Walk) (words : List Text) → s.disable_help_subcommand ≡ false → is_help w.stopped ≡ false
+walk_avoids : (s : Shape) (names : Names) (w : Walk) (words : List Text) → s.disable_help_subcommand ≡ false
+    → is_help w.stopped ≡ false
     → walk_fault s names w words ≡ [] → is_help (fold (walked s.rules names) w words).stopped ≡ false
 unfolding walk_fault
 walk_avoids s names w [] enabled avoids none = avoids
@@ -120,21 +132,27 @@ walk_avoids s names w (word ∷ rest) enabled avoids none =
 -- ---- a line that is not refused asks for something
 
 -- the subcommands are `check`, `translate`, `replay`, `run` and `help`
-stop_asks : (stop : Option (Text × List Text)) → is_help stop ≡ false → is_some (entered (built gateway) stop) ≡ true → is_some (asked_of (entered (built gateway) stop)) ≡ true
+stop_asks : (stop : Option (Text × List Text)) → is_help stop ≡ false → is_some (entered (built gateway) stop) ≡ true
+    → is_some (asked_of (entered (built gateway) stop)) ≡ true
 stop_asks None avoids has = has
 stop_asks (Some stop) avoids has =
-    go (bytes_eq (codes "check") stop.0) (bytes_eq (codes "translate") stop.0) (bytes_eq (codes "replay") stop.0) (bytes_eq (codes "run") stop.0) (bytes_eq (codes "help") stop.0) refl refl refl refl refl
+    go (bytes_eq (codes "check") stop.0) (bytes_eq (codes "translate") stop.0) (bytes_eq (codes "replay") stop.0)
+    (bytes_eq (codes "run") stop.0) (bytes_eq (codes "help") stop.0) refl refl refl refl refl
   where
-    go : (k b d r h : Bool) → bytes_eq (codes "check") stop.0 ≡ k → bytes_eq (codes "translate") stop.0 ≡ b → bytes_eq (codes "replay") stop.0 ≡ d → bytes_eq (codes "run") stop.0 ≡ r → bytes_eq (codes "help") stop.0 ≡ h
+    go : (k b d r h : Bool) → bytes_eq (codes "check") stop.0 ≡ k → bytes_eq (codes "translate") stop.0 ≡ b
+        → bytes_eq (codes "replay") stop.0 ≡ d → bytes_eq (codes "run") stop.0 ≡ r → bytes_eq (codes "help") stop.0 ≡ h
         → is_some (asked_of (entered (built gateway) (Some stop))) ≡ true
     go true b d r h is_check is_translate is_replay is_run is_other = rw is_check refl
     go false true d r h is_check is_translate is_replay is_run is_other = rw (is_check, is_translate) refl
-    go false false true r h is_check is_translate is_replay is_run is_other = rw (is_check, is_translate, is_replay) refl
-    go false false false true h is_check is_translate is_replay is_run is_other = rw (is_check, is_translate, is_replay, is_run) refl
+    go false false true r h is_check is_translate is_replay is_run is_other =
+        rw (is_check, is_translate, is_replay) refl
+    go false false false true h is_check is_translate is_replay is_run is_other =
+        rw (is_check, is_translate, is_replay, is_run) refl
     go false false false false true is_check is_translate is_replay is_run is_other =
         let same : codes "help" ≡ stop.0 = (bytes_eq-Decides _ _).0 is_other in
         absurd (true≢false (rw (← same) at avoids))
-    go false false false false false is_check is_translate is_replay is_run is_other = absurd (true≢false (sym (rw (is_check, is_translate, is_replay, is_run, is_other) at has)))
+    go false false false false false is_check is_translate is_replay is_run is_other =
+        absurd (true≢false (sym (rw (is_check, is_translate, is_replay, is_run, is_other) at has)))
 
 -- the last check wants a subcommand
 has_named : (rows : List Row) (has : Bool) → check_fault (built gateway).top rows has ≡ [] → has ≡ true
@@ -142,8 +160,10 @@ has_named rows true none = refl
 has_named rows false none = let missing : MissingSubcommand ∷ [] ≡ [] = none in cc
 
 -- where a level has no fault, its walk and its last check have none
-level_none : (s : Shape) (names : Names) (words : List Text) (has : Bool) (below : Kinds) → level_fault s names nothing_held words has below ≡ []
-    → (walk_fault s names (walk_from nothing_held) words ≡ []) × (check_fault s (finished s.rules (walk s.rules names nothing_held words).held) has ≡ [])
+level_none : (s : Shape) (names : Names) (words : List Text) (has : Bool) (below : Kinds)
+    → level_fault s names nothing_held words has below ≡ []
+    → (walk_fault s names (walk_from nothing_held) words ≡ [])
+    × (check_fault s (finished s.rules (walk s.rules names nothing_held words).held) has ≡ [])
 level_none s names words has below none =
     let end = (walk s.rules names nothing_held words).held in
     let after_walk = rest_none (walk_fault s names (walk_from nothing_held) words) _ none in
@@ -158,7 +178,8 @@ line_asks words none =
     let names = names_of (built gateway) in
     let given = argument_words gateway words in
     let stop = (walk top.rules names nothing_held given).stopped in
-    let parts = level_none top names given (is_some (entered (built gateway) stop)) (entered_fault (built gateway) stop) none in
+    let parts =
+    level_none top names given (is_some (entered (built gateway) stop)) (entered_fault (built gateway) stop) none in
     let avoids : is_help stop ≡ false = walk_avoids top names (walk_from nothing_held) given refl refl parts.0 in
     stop_asks stop avoids (has_named (finished top.rules (walk top.rules names nothing_held given).held) _ parts.1)
 
@@ -204,7 +225,8 @@ is_taken : (text : Text) → is_unsigned_in 1 1000000 text ≡ true → IsUnsign
 is_taken text is = accepts-Accepts false (vp.Unsigned 1 1000000) text is
 
 -- what `parse` reads of a text is the number that can be asked for by it
-pub number_parsed : {E : Type 0} (text : Text) (r : Result ℕ E) → ParsesUnsigned 32 10 text r → number_from r ≡ number_of text
+pub number_parsed : {E : Type 0} (text : Text) (r : Result ℕ E) → ParsesUnsigned 32 10 text r
+    → number_from r ≡ number_of text
 number_parsed text (Ok n) read = go (nat_le 1 n && nat_le n 1000000) (is_unsigned_in 1 1000000 text) refl refl
   where
     d : ℕ
@@ -220,7 +242,8 @@ number_parsed text (Ok n) read = go (nat_le 1 n && nat_le n 1000000) (is_unsigne
         absurd (true≢false (sym (taken text (read.0.0, omega arith, least, most)) ∙ is_read))
     go false true is_in is_read =
         let is = is_taken text is_read in
-        absurd (not_in_range n is_in (subst (λ k. 1 ≤ k) (sym read.1) is.2) (subst (λ k. k ≤ 1000000) (sym read.1) is.3))
+        absurd (not_in_range n is_in (subst (λ k. 1 ≤ k) (sym read.1) is.2)
+        (subst (λ k. k ≤ 1000000) (sym read.1) is.3))
     go false false is_in is_read = refl
 number_parsed text (Err e) none = go (is_unsigned_in 1 1000000 text) refl
   where

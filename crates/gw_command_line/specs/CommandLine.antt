@@ -58,12 +58,14 @@ replay = file_app (codes "replay")
 -- `gateway run FILE [--sessions N] [--allow ADDRESS]... [--until-eof]`
 abbrev pub serve : App
 serve =
-    fold with_rule (file_app (codes "run")) (number_rule (codes "sessions") ∷ texts_rule (codes "allow") ∷ flag_rule (codes "until-eof") ∷ [])
+    fold with_rule (file_app (codes "run"))
+    (number_rule (codes "sessions") ∷ texts_rule (codes "allow") ∷ flag_rule (codes "until-eof") ∷ [])
 
 -- the same with `[--status ADDRESS:PORT] [--record FILE] [--record-size MB]`
 abbrev pub run : App
 run =
-    fold with_rule serve (text_rule (codes "status") ∷ text_rule (codes "record") ∷ number_rule (codes "record-size") ∷ [])
+    fold with_rule serve
+    (text_rule (codes "status") ∷ text_rule (codes "record") ∷ number_rule (codes "record-size") ∷ [])
 
 -- the program: a subcommand has to be named, and it has a version
 abbrev pub alone : App
@@ -71,7 +73,8 @@ alone = on_top (λ top. record top { subcommand_required = true; has_version = t
 
 abbrev pub gateway : App
 gateway =
-    with_subcommand (with_subcommand (with_subcommand (with_subcommand alone check.top) translate.top) replay.top) run.top
+    with_subcommand (with_subcommand (with_subcommand (with_subcommand alone check.top) translate.top) replay.top)
+    run.top
 
 -- ---- what it asks for
 

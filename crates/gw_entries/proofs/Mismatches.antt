@@ -23,31 +23,39 @@ use Rattle.gw_entries.specs.Values.{value_or, value_at, as_word, kind_in, show_i
 use Rattle.gw_entries.proofs.First.{told, first-None}
 
 -- words, where the code reads them
-pub kind_read : (ms : Members) (kind : Kind) → kind ≡ unwrap_or (as_word kinds (value_at point_keys (codes "kind") ms)) Binary → kind ≡ kind_in ms
+pub kind_read : (ms : Members) (kind : Kind)
+    → kind ≡ unwrap_or (as_word kinds (value_at point_keys (codes "kind") ms)) Binary → kind ≡ kind_in ms
 unfolding kind_in
 kind_read ms kind e = e
 
-pub show_read : (ms : Members) (kind : Kind) (show other : Show) → show ≡ unwrap_or (as_word shows (value_at point_keys (codes "show") ms)) other
+pub show_read : (ms : Members) (kind : Kind) (show other : Show)
+    → show ≡ unwrap_or (as_word shows (value_at point_keys (codes "show") ms)) other
     → other ≡ usual_show kind → kind ≡ kind_in ms → show ≡ show_in ms
 unfolding show_in
-show_read ms kind show other e usual k = e ∙ ap (λ other. unwrap_or (as_word shows (value_at point_keys (codes "show") ms)) other) (usual ∙ ap usual_show k)
+show_read ms kind show other e usual k =
+    e ∙ ap (λ other. unwrap_or (as_word shows (value_at point_keys (codes "show") ms)) other) (usual ∙ ap usual_show k)
 
-pub control_show_read : (ms : Members) (show : ControlShow) → show ≡ unwrap_or (as_word control_shows (value_at control_keys (codes "show") ms)) shown.Single → show ≡ control_show_in ms
+pub control_show_read : (ms : Members) (show : ControlShow)
+    → show ≡ unwrap_or (as_word control_shows (value_at control_keys (codes "show") ms)) shown.Single
+    → show ≡ control_show_in ms
 unfolding control_show_in
 control_show_read ms show e = e
 
-pub mode_read : (ms : Members) (mode : Mode) → mode ≡ unwrap_or (as_word modes (value_at control_keys (codes "mode") ms)) Direct → mode ≡ mode_in ms
+pub mode_read : (ms : Members) (mode : Mode)
+    → mode ≡ unwrap_or (as_word modes (value_at control_keys (codes "mode") ms)) Direct → mode ≡ mode_in ms
 unfolding mode_in
 mode_read ms mode e = e
 
-pub rest_read : (ms : Members) (rest : Rest) → rest ≡ unwrap_or (as_word rests (value_at control_keys (codes "rest") ms)) Latch → rest ≡ rest_in ms
+pub rest_read : (ms : Members) (rest : Rest)
+    → rest ≡ unwrap_or (as_word rests (value_at control_keys (codes "rest") ms)) Latch → rest ≡ rest_in ms
 unfolding rest_in
 rest_read ms rest e = e
 
 -- ---- what doesn't fit together
 
 pub point_mismatch : (ms : Members) (kind : Kind) (show : Show) (key : List ℕ) → kind ≡ kind_in ms → show ≡ show_in ms
-    → first (mismatches_with kind show ms) ≡ Some key → first (wrong_at KindMismatch (point_mismatches ms)) ≡ Some (KindMismatch, key)
+    → first (mismatches_with kind show ms) ≡ Some key
+    → first (wrong_at KindMismatch (point_mismatches ms)) ≡ Some (KindMismatch, key)
 unfolding point_mismatches
 point_mismatch ms kind show key k s h =
     told (λ key. (KindMismatch, key)) (mismatches_with (kind_in ms) (show_in ms) ms) key (rw (← k, ← s) h)
@@ -58,11 +66,14 @@ unfolding point_mismatches
 no_point_mismatch ms kind show k s h = rw (← k, ← s) (first-None (mismatches_with kind show ms) h)
 
 pub control_mismatch : (ms : Members) (show : ControlShow) (key : List ℕ) → show ≡ control_show_in ms
-    → first (mismatches_of show ms) ≡ Some key → first (wrong_at KindMismatch (control_mismatches ms)) ≡ Some (KindMismatch, key)
+    → first (mismatches_of show ms) ≡ Some key
+    → first (wrong_at KindMismatch (control_mismatches ms)) ≡ Some (KindMismatch, key)
 unfolding control_mismatches
-control_mismatch ms show key s h = told (λ key. (KindMismatch, key)) (mismatches_of (control_show_in ms) ms) key (rw (← s) h)
+control_mismatch ms show key s h =
+    told (λ key. (KindMismatch, key)) (mismatches_of (control_show_in ms) ms) key (rw (← s) h)
 
-pub no_control_mismatch : (ms : Members) (show : ControlShow) → show ≡ control_show_in ms → first (mismatches_of show ms) ≡ None → control_mismatches ms ≡ []
+pub no_control_mismatch : (ms : Members) (show : ControlShow) → show ≡ control_show_in ms
+    → first (mismatches_of show ms) ≡ None → control_mismatches ms ≡ []
 unfolding control_mismatches
 no_control_mismatch ms show s h = rw (← s) (first-None (mismatches_of show ms) h)
 
@@ -71,7 +82,8 @@ shown_by : (shown : Bool) (more : List (List ℕ)) (key : List ℕ) → cond sho
 shown_by true more key h = refl
 shown_by false more key h = absurd cc
 
-pub fits-from_none : (kind : Kind) (show : Show) (ms : Members) → first (mismatches_with kind show ms) ≡ None → is_shown_by kind show ≡ true
+pub fits-from_none : (kind : Kind) (show : Show) (ms : Members) → first (mismatches_with kind show ms) ≡ None
+    → is_shown_by kind show ≡ true
 fits-from_none kind show ms h =
     shown_by (is_shown_by kind show) _ (codes "show") (first-None (mismatches_with kind show ms) h)
 
@@ -79,10 +91,12 @@ rest_of_none : (xs ys : List (List ℕ)) → xs ++ ys ≡ [] → ys ≡ []
 rest_of_none [] ys h = h
 rest_of_none (x ∷ xs) ys h = absurd cc
 
-absent : (ms : Members) (a b : List ℕ) → present ms (a ∷ b ∷ []) ≡ [] → (get_member a ms ≡ None) × (get_member b ms ≡ None)
+absent : (ms : Members) (a b : List ℕ) → present ms (a ∷ b ∷ []) ≡ []
+    → (get_member a ms ≡ None) × (get_member b ms ≡ None)
 absent ms a b h = by (get_member a ms) (get_member b ms) refl refl
   where
-    by : (x y : Option Data) → get_member a ms ≡ x → get_member b ms ≡ y → (get_member a ms ≡ None) × (get_member b ms ≡ None)
+    by : (x y : Option Data) → get_member a ms ≡ x → get_member b ms ≡ y
+        → (get_member a ms ≡ None) × (get_member b ms ≡ None)
     by None None p q = (p, q)
     by None (Some y) p q = absurd (not_none (rw (p, q) at h))
       where
@@ -99,7 +113,8 @@ unfolding value_or
 one_each ms none = (rw none.0, rw none.1)
 
 pub unscaled : (kind : Kind) (show : Show) (ms : Members) (num den : ℕ) → first (mismatches_with kind show ms) ≡ None
-    → num ≡ number_in point_keys "num" ms → den ≡ number_in point_keys "den" ms → IsTrue (is_scaled show || (num == 1 && den == 1))
+    → num ≡ number_in point_keys "num" ms → den ≡ number_in point_keys "den" ms
+    → IsTrue (is_scaled show || (num == 1 && den == 1))
 unscaled kind show ms num den h n d = by (is_scaled show) refl
   where
     nothing : mismatches_with kind show ms ≡ []
@@ -108,12 +123,15 @@ unscaled kind show ms num den h n d = by (is_scaled show) refl
     by : (b : Bool) → is_scaled show ≡ b → IsTrue (is_scaled show || (num == 1 && den == 1))
     by true e = rw e
     by false e =
-        let ones = one_each ms (absent ms (codes "num") (codes "den") (rw e at (rest_of_none (if is_shown_by kind show then [] else codes "show" ∷ []) (if is_scaled show then [] else present ms (codes "num" ∷ codes "den" ∷ [])) nothing))) in
+        let ones = one_each ms (absent ms (codes "num") (codes "den")
+        (rw e at (rest_of_none (if is_shown_by kind show then [] else codes "show" ∷ [])
+        (if is_scaled show then [] else present ms (codes "num" ∷ codes "den" ∷ [])) nothing))) in
         rw (e, n ∙ ones.0, d ∙ ones.1)
 
 -- what a control does, from its parts
 pub operation_same : (ms : Members) (show : ControlShow) (pulses : Pulses) (scale : Scale) → show ≡ control_show_in ms
-    → pulses.rest ≡ rest_in ms → pulses.short_ms ≡ number_in control_keys "short_ms" ms → pulses.long_ms ≡ number_in control_keys "long_ms" ms
+    → pulses.rest ≡ rest_in ms → pulses.short_ms ≡ number_in control_keys "short_ms" ms
+    → pulses.long_ms ≡ number_in control_keys "long_ms" ms
     → scale.num ≡ number_in control_keys "num" ms → scale.den ≡ number_in control_keys "den" ms
     → operation_with show pulses scale ≡ operation (control_show_in ms) ms
 operation_same ms show pulses scale e r s l n d = rw (← e) (by show)

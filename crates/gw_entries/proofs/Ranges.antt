@@ -17,11 +17,13 @@ use Rattle.gw_entries.specs.Values.{value_or, rule_named, value_at, as_signed, n
 
 -- ---- one key
 
-none_of : {A B : Type 0} (f : A → Option B) (p : A → Bool) (xs : List A) (x : A) → filter_map f xs ≡ [] → find p xs ≡ Some x → f x ≡ None
+none_of : {A B : Type 0} (f : A → Option B) (p : A → Bool) (xs : List A) (x : A) → filter_map f xs ≡ []
+    → find p xs ≡ Some x → f x ≡ None
 none_of f p [] x none found = absurd cc
 none_of {A} {B} f p (y ∷ ys) x none found = by (f y) (p y) refl refl (none_of f p ys x)
   where
-    by : (o : Option B) (b : Bool) → f y ≡ o → p y ≡ b → (filter_map f ys ≡ [] → find p ys ≡ Some x → f x ≡ None) → f x ≡ None
+    by : (o : Option B) (b : Bool) → f y ≡ o → p y ≡ b
+        → (filter_map f ys ≡ [] → find p ys ≡ Some x → f x ≡ None) → f x ≡ None
     by (Some z) b e is more = absurd (not_none (filter_map f ys) z (rw e at none))
       where
         not_none : (zs : List B) (z : B) → z ∷ zs ≡ [] → ⊥
@@ -34,7 +36,8 @@ abbrev pub is_meant : Absence → Bool
 is_meant usual_type = false
 is_meant _ = true
 
-meant : (absence : Absence) (key : List ℕ) (ms : Members) → is_meant absence ≡ true → value_or absence key ms ≡ None → absence ≡ required
+meant : (absence : Absence) (key : List ℕ) (ms : Members) → is_meant absence ≡ true → value_or absence key ms ≡ None
+    → absence ≡ required
 unfolding value_or
 meant required key ms is none = refl
 meant usual_type key ms is none = absurd cc
@@ -59,12 +62,15 @@ nothing_mapped : {A B : Type 0} (f : A → B) (o : Option A) → option_map f o 
 nothing_mapped f None e = refl
 nothing_mapped f (Some x) e = absurd cc
 
-allowed : (outstations : ℕ) (rules : List KeyRule) (ms : Members) (rule : KeyRule) → is_meant rule.absence ≡ true → wrong_by outstations rules ms rule ≡ None
+allowed : (outstations : ℕ) (rules : List KeyRule) (ms : Members) (rule : KeyRule) → is_meant rule.absence ≡ true
+    → wrong_by outstations rules ms rule ≡ None
     → is_allowed outstations rules ms rule.content (value_or rule.absence rule.key ms) ≡ true
 unfolding wrong_by
-allowed outstations rules ms rule is fine = by (value_or rule.absence rule.key ms) refl (nothing_mapped (λ fault. (fault, rule.key)) (fault_of outstations rules ms rule (value_or rule.absence rule.key ms)) fine)
+allowed outstations rules ms rule is fine = by (value_or rule.absence rule.key ms) refl (nothing_mapped
+    (λ fault. (fault, rule.key)) (fault_of outstations rules ms rule (value_or rule.absence rule.key ms)) fine)
   where
-    by : (o : Option Data) → value_or rule.absence rule.key ms ≡ o → fault_of outstations rules ms rule o ≡ None → is_allowed outstations rules ms rule.content o ≡ true
+    by : (o : Option Data) → value_or rule.absence rule.key ms ≡ o → fault_of outstations rules ms rule o ≡ None
+        → is_allowed outstations rules ms rule.content o ≡ true
     by None e none = absurd (missing (rw (meant rule.absence rule.key ms is e) at none))
       where
         missing : Some Missing ≡ None → ⊥
@@ -72,16 +78,20 @@ allowed outstations rules ms rule is fine = by (value_or rule.absence rule.key m
     by (Some d) e none = allowed_there _ _ none
 
 -- what stands at a key where nothing is wrong may stand there
-allowed_at : (outstations : ℕ) (rules : List KeyRule) (ms : Members) (key : List ℕ) (rule : KeyRule) → rules_wrongs outstations rules ms ≡ []
-    → rule_named rules key ≡ Some rule → is_meant rule.absence ≡ true → is_allowed outstations rules ms rule.content (value_or rule.absence rule.key ms) ≡ true
+allowed_at : (outstations : ℕ) (rules : List KeyRule) (ms : Members) (key : List ℕ) (rule : KeyRule)
+    → rules_wrongs outstations rules ms ≡ []
+    → rule_named rules key ≡ Some rule → is_meant rule.absence ≡ true
+    → is_allowed outstations rules ms rule.content (value_or rule.absence rule.key ms) ≡ true
 unfolding rules_wrongs
 allowed_at outstations rules ms key rule none named is =
-    allowed outstations rules ms rule is (none_of (wrong_by outstations rules ms) (λ rule. bytes_eq rule.key key) rules rule none named)
+    allowed outstations rules ms rule is
+    (none_of (wrong_by outstations rules ms) (λ rule. bytes_eq rule.key key) rules rule none named)
 
 between : (first last z : ℤ) → (int_le first z && int_le z last) ≡ true → (first ≤ℤ z) × (z ≤ℤ last)
 between first last z h = grind (arith, ints)
 
-within : (first last : ℕ) (z : ℤ) → (int_le (pos first) z && int_le z (pos last)) ≡ true → IsWithin first last (nat_abs z)
+within : (first last : ℕ) (z : ℤ) → (int_le (pos first) z && int_le z (pos last)) ≡ true
+    → IsWithin first last (nat_abs z)
 within first last (pos n) h = grind (arith, ints)
 within first last (negsuc n) h = grind (arith, ints)
 
@@ -102,31 +112,42 @@ position outstations (negsuc n) h = absurd (grind (arith, ints))
 -- ---- keys by name, where nothing is wrong
 
 module _ (outstations : ℕ) (rules : List KeyRule) (ms : Members) (none : rules_wrongs outstations rules ms ≡ []) where
-  pub signed_within : (name : Name) (first last : ℤ) (absence : Absence) → rule_named rules (codes name) ≡ Some (rule name (whole first last) absence) → is_meant absence ≡ true
+  pub signed_within : (name : Name) (first last : ℤ) (absence : Absence)
+      → rule_named rules (codes name) ≡ Some (rule name (whole first last) absence) → is_meant absence ≡ true
       → (first ≤ℤ as_signed (value_at rules (codes name) ms)) × (as_signed (value_at rules (codes name) ms) ≤ℤ last)
   signed_within name first last absence named is =
-      rw named (between first last (as_signed (value_or absence (codes name) ms)) (allowed_at outstations rules ms (codes name) (rule name (whole first last) absence) none named is))
+      rw named (between first last (as_signed (value_or absence (codes name) ms))
+      (allowed_at outstations rules ms (codes name) (rule name (whole first last) absence) none named is))
 
-  pub number_within : (name : Name) (first last : ℕ) (absence : Absence) → rule_named rules (codes name) ≡ Some (rule name (number first last) absence) → is_meant absence ≡ true
+  pub number_within : (name : Name) (first last : ℕ) (absence : Absence)
+      → rule_named rules (codes name) ≡ Some (rule name (number first last) absence) → is_meant absence ≡ true
       → IsWithin first last (number_in rules name ms)
   number_within name first last absence named is =
-      rw named (within first last (as_signed (value_or absence (codes name) ms)) (allowed_at outstations rules ms (codes name) (rule name (number first last) absence) none named is))
+      rw named (within first last (as_signed (value_or absence (codes name) ms))
+      (allowed_at outstations rules ms (codes name) (rule name (number first last) absence) none named is))
 
-  pub number_within_to : (name key : Name) (absence : Absence) → rule_named rules (codes name) ≡ Some (rule name (whole_to (pos 1) (codes key)) absence) → is_meant absence ≡ true
+  pub number_within_to : (name key : Name) (absence : Absence)
+      → rule_named rules (codes name) ≡ Some (rule name (whole_to (pos 1) (codes key)) absence)
+      → is_meant absence ≡ true
       → IsWithin 1 (number_in rules key ms) (number_in rules name ms)
   number_within_to name key absence named is =
       rw named (within_to (as_signed (value_at rules (codes key) ms)) (as_signed (value_or absence (codes name) ms))
       (allowed_at outstations rules ms (codes name) (rule name (whole_to (pos 1) (codes key)) absence) none named is))
 
-  pub number_below : (name key : Name) (absence : Absence) → rule_named rules (codes name) ≡ Some (rule name (whole_below (pos 1) (codes key)) absence) → is_meant absence ≡ true
+  pub number_below : (name key : Name) (absence : Absence)
+      → rule_named rules (codes name) ≡ Some (rule name (whole_below (pos 1) (codes key)) absence)
+      → is_meant absence ≡ true
       → (1 ≤ number_in rules name ms) × (number_in rules name ms < number_in rules key ms)
   number_below name key absence named is =
       rw named (below (as_signed (value_at rules (codes key) ms)) (as_signed (value_or absence (codes name) ms))
-      (allowed_at outstations rules ms (codes name) (rule name (whole_below (pos 1) (codes key)) absence) none named is))
+      (allowed_at outstations rules ms (codes name)
+      (rule name (whole_below (pos 1) (codes key)) absence) none named is))
 
-  pub position_below : (name : Name) → rule_named rules (codes name) ≡ Some (rule name outstation_position required) → number_in rules name ms < outstations
+  pub position_below : (name : Name) → rule_named rules (codes name) ≡ Some (rule name outstation_position required)
+      → number_in rules name ms < outstations
   position_below name named =
-      rw named (position outstations (as_signed (value_or required (codes name) ms)) (allowed_at outstations rules ms (codes name) (rule name outstation_position required) none named refl))
+      rw named (position outstations (as_signed (value_or required (codes name) ms))
+      (allowed_at outstations rules ms (codes name) (rule name outstation_position required) none named refl))
 
 -- ---- the tables
 
@@ -141,9 +162,11 @@ nothing_of f (x ∷ xs) e = absurd cc
 no_wrongs : (section : Section) (position outstations : ℕ) (known : List (List ℕ)) (rules : List KeyRule) (ms : Members)
     → placed section position (key_wrongs outstations known rules ms) ≡ [] → rules_wrongs outstations rules ms ≡ []
 unfolding key_wrongs
-no_wrongs section position outstations known rules ms e = nothing_after _ _ (nothing_of (complaint section position) _ e)
+no_wrongs section position outstations known rules ms e =
+    nothing_after _ _ (nothing_of (complaint section position) _ e)
 
-pub outstation_within : (position : ℕ) (known : List (List ℕ)) (ms : Members) → placed Outstation position (key_wrongs 0 known outstation_keys ms) ≡ [] → IsOutstation (outstation_of ms)
+pub outstation_within : (position : ℕ) (known : List (List ℕ)) (ms : Members)
+    → placed Outstation position (key_wrongs 0 known outstation_keys ms) ≡ [] → IsOutstation (outstation_of ms)
 unfolding outstation_of
 outstation_within position known ms fine =
     let none = no_wrongs Outstation position 0 known outstation_keys ms fine in record {
@@ -153,7 +176,8 @@ outstation_within position known ms fine =
       response_ms = number_within 0 outstation_keys ms none "response_ms" _ _ _ refl refl;
     }
 
-pub station_within : (position : ℕ) (known : List (List ℕ)) (ms : Members) → placed Station position (key_wrongs 0 known station_keys ms) ≡ [] → IsStation (station_of ms)
+pub station_within : (position : ℕ) (known : List (List ℕ)) (ms : Members)
+    → placed Station position (key_wrongs 0 known station_keys ms) ≡ [] → IsStation (station_of ms)
 unfolding station_of
 station_within position known ms fine =
     let none = no_wrongs Station position 0 known station_keys ms fine in record {
@@ -178,7 +202,8 @@ pub record PointRanges (outstations : ℕ) (ms : Members) : Type 0 where
   pub num : IsWithin 1 32767 (number_in point_keys "num" ms)
   pub den : IsWithin 1 32767 (number_in point_keys "den" ms)
 
-pub point_within : (position : ℕ) (outstations : ℕ) (known : List (List ℕ)) (ms : Members) → placed Point position (key_wrongs outstations known point_keys ms) ≡ [] → PointRanges outstations ms
+pub point_within : (position : ℕ) (outstations : ℕ) (known : List (List ℕ)) (ms : Members)
+    → placed Point position (key_wrongs outstations known point_keys ms) ≡ [] → PointRanges outstations ms
 point_within position outstations known ms fine =
     let none = no_wrongs Point position outstations known point_keys ms fine in record {
       outstation = position_below outstations point_keys ms none "outstation" refl;
@@ -197,7 +222,8 @@ pub record ControlRanges (outstations : ℕ) (ms : Members) : Type 0 where
   pub num : IsWithin 1 32767 (number_in control_keys "num" ms)
   pub den : IsWithin 1 32767 (number_in control_keys "den" ms)
 
-pub control_within : (position : ℕ) (outstations : ℕ) (known : List (List ℕ)) (ms : Members) → placed Control position (key_wrongs outstations known control_keys ms) ≡ [] → ControlRanges outstations ms
+pub control_within : (position : ℕ) (outstations : ℕ) (known : List (List ℕ)) (ms : Members)
+    → placed Control position (key_wrongs outstations known control_keys ms) ≡ [] → ControlRanges outstations ms
 control_within position outstations known ms fine =
     let none = no_wrongs Control position outstations known control_keys ms fine in record {
       outstation = position_below outstations control_keys ms none "outstation" refl;
@@ -211,7 +237,8 @@ control_within position outstations known ms fine =
 
 -- ---- numbers of fewer bits
 
-pub fits_within : (n m first last limit : ℕ) → n ≡ min m limit → IsWithin first last m → last ≤ limit → IsWithin first last n
+pub fits_within : (n m first last limit : ℕ) → n ≡ min m limit → IsWithin first last m → last ≤ limit
+    → IsWithin first last n
 fits_within n m first last limit e h k = grind arith
 
 pub fits_min : (n m last limit : ℕ) → n ≡ min m limit → m ≤ last → last ≤ limit → n ≡ m
@@ -219,7 +246,10 @@ fits_min n m last limit e h k = grind arith
 
 -- the position of an outstation
 pub position_cast : (n m outstations : ℕ) → n ≡ min m 65535 → m < outstations → Fits w8 outstations → Fits w8 n
-position_cast n m outstations e h k = let below : outstations < 256 = search rules in let fits : n < 256 = grind arith in search rules
+position_cast n m outstations e h k =
+    let below : outstations < 256 = search rules in
+    let fits : n < 256 = grind arith in
+    search rules
 
 pub position_fits : (n m outstations : ℕ) → n ≡ min m 65535 → m < outstations → Fits w8 outstations → n ≡ m
 position_fits n m outstations e h k = let below : outstations < 256 = search rules in grind arith
@@ -237,8 +267,10 @@ signed_in_64 : (z : ℤ) → (negsuc 839 ≤ℤ z) × (z ≤ℤ pos 840) → SFi
 signed_in_64 z within = let (low, high) = within in omega (arith, ints)
 
 -- minutes that fit 16 bits are the same in them
-pub minutes_fit : (z w : ℤ) → z ≡ w → (negsuc 839 ≤ℤ w) × (w ≤ℤ pos 840) → to_z w16 (of_z w16 (to_z w64 (of_z w64 z))) ≡ w
-minutes_fit z w same within = rw same (rw (to_z-of_z w64 w (signed_in_64 w within)) (to_z-of_z w16 w (signed_in_16 w within)))
+pub minutes_fit : (z w : ℤ) → z ≡ w → (negsuc 839 ≤ℤ w) × (w ≤ℤ pos 840)
+    → to_z w16 (of_z w16 (to_z w64 (of_z w64 z))) ≡ w
+minutes_fit z w same within =
+    rw same (rw (to_z-of_z w64 w (signed_in_64 w within)) (to_z-of_z w16 w (signed_in_16 w within)))
 
 pub minutes_cast : (z w : ℤ) → z ≡ w → (negsuc 839 ≤ℤ w) × (w ≤ℤ pos 840) → SFits w16 (to_z w64 (of_z w64 z))
 minutes_cast z w same within = rw same (rw (to_z-of_z w64 w (signed_in_64 w within)) (signed_in_16 w within))

@@ -10,7 +10,8 @@ use Rattle.gw_entries.specs.Faults.{refused}
 use Rattle.gw_entries.proofs.First.{stop, told}
 
 -- a fault that tells the first complaint
-pub tells_first : (f : SettingsFault) (c : Complaint) (cs : List Complaint) → refusal_of f ≡ refused c → first cs ≡ Some c → IsTold f cs
+pub tells_first : (f : SettingsFault) (c : Complaint) (cs : List Complaint) → refusal_of f ≡ refused c
+    → first cs ≡ Some c → IsTold f cs
 tells_first (Toml e) c cs same h = absurd cc
 tells_first (Refused fault place) c cs same h = h ∙ ap Some (sym (same_refused (complaint_at fault place) c same))
   where
@@ -19,9 +20,11 @@ tells_first (Refused fault place) c cs same h = h ∙ ap Some (sym (same_refused
 tells_first Memory c cs same h = absurd cc
 
 -- the first of what is wrong with an entry
-pub tells_wrong : (f : SettingsFault) (section : Section) (position : ℕ) (w : Wrong) (ws : List Wrong) → refusal_of f ≡ refused (complaint section position w)
+pub tells_wrong : (f : SettingsFault) (section : Section) (position : ℕ) (w : Wrong) (ws : List Wrong)
+    → refusal_of f ≡ refused (complaint section position w)
     → first ws ≡ Some w → IsTold f (placed section position ws)
-tells_wrong f section position w ws same h = tells_first f (complaint section position w) (placed section position ws) same (told (complaint section position) ws w h)
+tells_wrong f section position w ws same h = tells_first f (complaint section position w)
+    (placed section position ws) same (told (complaint section position) ws w h)
 
 -- what is told of a front is told of the whole
 pub told_front : (f : SettingsFault) (cs ds : List Complaint) → IsTold f cs → IsTold f (cs ++ ds)

@@ -29,7 +29,8 @@ same_either_way a b = elim (cases_Bool (bytes_eq a b)) [
   ]
 ]
 
-pub any_known : (key : List ℕ) (known : List (Bor (List ℕ))) → list_any (λ name. bytes_eq name.now key) known ≡ list_any (bytes_eq key) (map (λ name. name.now) known)
+pub any_known : (key : List ℕ) (known : List (Bor (List ℕ)))
+    → list_any (λ name. bytes_eq name.now key) known ≡ list_any (bytes_eq key) (map (λ name. name.now) known)
 any_known key [] = refl
 any_known key (name ∷ known) = rw (same_either_way name.now key, any_known key known)
 
@@ -42,7 +43,8 @@ known_by_rule name (rule ∷ rules) = elim (cases_Bool (bytes_eq rule.key name))
   | inr other ↦ rw (other, same_either_way name rule.key, other, known_by_rule name rules)
 ]
 
-pub known_by_rules : (section : Section) → (section ≡ Top → ⊥) → known_keys section ≡ map (λ rule. rule.key) (rules_of section)
+pub known_by_rules : (section : Section) → (section ≡ Top → ⊥)
+    → known_keys section ≡ map (λ rule. rule.key) (rules_of section)
 known_by_rules Top other = absurd (other refl)
 known_by_rules Station other = refl
 known_by_rules Outstation other = refl
@@ -56,7 +58,8 @@ is_some-map f (Some x) = refl
 -- ---- unknown keys
 
 unknown_found : (known : List (List ℕ)) (es : List Entry)
-    → option_map string_bytes (find (λ key. not (list_any (bytes_eq (string_bytes key)) known)) (keys_of es)) ≡ first (unknown_keys known (members_view es))
+    → option_map string_bytes (find (λ key. not (list_any (bytes_eq (string_bytes key)) known)) (keys_of es))
+    ≡ first (unknown_keys known (members_view es))
 unfolding unknown_keys first
 unknown_found known [] = refl
 unknown_found known (e ∷ es) = elim (cases_Bool (list_any (bytes_eq (string_bytes e.0)) known)) [
@@ -68,25 +71,31 @@ pub no_unknown : (known : List (List ℕ)) (es : List Entry) (section : Section)
     → None ≡ find (λ key. not (list_any (bytes_eq (string_bytes key)) known)) (keys_of es)
     → placed section position (wrong_at UnknownKey (unknown_keys known (members_view es))) ≡ []
 no_unknown known es section position none =
-    rw (first-None (unknown_keys known (members_view es)) (sym (unknown_found known es) ∙ ap (option_map string_bytes) (sym none)))
+    rw (first-None (unknown_keys known (members_view es))
+    (sym (unknown_found known es) ∙ ap (option_map string_bytes) (sym none)))
 
 pub unknown_told : (known : List (List ℕ)) (es : List Entry) (section : Section) (position : ℕ) (key : String Global)
     → Some key ≡ find (λ key. not (list_any (bytes_eq (string_bytes key)) known)) (keys_of es)
-    → first (placed section position (wrong_at UnknownKey (unknown_keys known (members_view es)))) ≡ Some (complaint section position (UnknownKey, string_bytes key))
+    → first (placed section position (wrong_at UnknownKey (unknown_keys known (members_view es))))
+    ≡ Some (complaint section position (UnknownKey, string_bytes key))
 unknown_told known es section position key some =
-    told (complaint section position) (wrong_at UnknownKey (unknown_keys known (members_view es))) (UnknownKey, string_bytes key)
+    told (complaint section position) (wrong_at UnknownKey (unknown_keys known (members_view es)))
+    (UnknownKey, string_bytes key)
     (told (λ key. (UnknownKey, key)) (unknown_keys known (members_view es)) (string_bytes key)
     (sym (unknown_found known es) ∙ ap (option_map string_bytes) (sym some)))
 
 -- ---- one table
 
-pub key_parts : (section : Section) (position outstations : ℕ) (known : List (List ℕ)) (rules : List KeyRule) (ms : Members)
+pub key_parts : (section : Section) (position outstations : ℕ) (known : List (List ℕ))
+    (rules : List KeyRule) (ms : Members)
     → placed section position (key_wrongs outstations known rules ms)
-    ≡ placed section position (wrong_at UnknownKey (unknown_keys known ms)) ++ placed section position (rules_wrongs outstations rules ms)
+    ≡ placed section position (wrong_at UnknownKey (unknown_keys known ms))
+    ++ placed section position (rules_wrongs outstations rules ms)
 unfolding key_wrongs
 key_parts section position outstations known rules ms = map-append (complaint section position) _ _
 
-pub table_parts : (section : Section) (position outstations : ℕ) (rules : List KeyRule) (mismatches : Members → List (List ℕ)) (ms : Members)
+pub table_parts : (section : Section) (position outstations : ℕ) (rules : List KeyRule)
+    (mismatches : Members → List (List ℕ)) (ms : Members)
     → placed section position (table_wrongs outstations rules mismatches ms)
     ≡ placed section position (key_wrongs outstations (map (λ rule. rule.key) rules) rules ms)
     ++ placed section position (wrong_at KindMismatch (mismatches ms))

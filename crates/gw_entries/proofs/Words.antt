@@ -19,7 +19,8 @@ zip-nil (x ∷ xs) = refl
 
 -- the meaning at the place of a word
 pub meaning_at : {A : Type 0} (words : List (Bor (List ℕ))) (meanings : List A) (i : ℕ) (text : List ℕ)
-    → option_and_then (slice_get meanings) (position_from (λ word. bytes_eq text word.now) i words) ≡ among (zip (texts words) (drop i meanings)) text
+    → option_and_then (slice_get meanings) (position_from (λ word. bytes_eq text word.now) i words)
+    ≡ among (zip (texts words) (drop i meanings)) text
 meaning_at [] meanings i text = refl
 meaning_at (word ∷ words) meanings i text = elim (cases_Bool (bytes_eq text word.now)) [
   | inl same ↦ elim (slice_get_cases meanings i).1 [
@@ -29,13 +30,17 @@ meaning_at (word ∷ words) meanings i text = elim (cases_Bool (bytes_eq text wo
   | inr other ↦ elim (slice_get_cases meanings i).1 [
     | inl found ↦ rw (other, drop_more meanings i found.0 found.1, other) (meaning_at words meanings (i + 1) text)
     | inr past ↦ let after : length meanings ≤ i + 1 = omega arith in
-        rw (other, drop_all i meanings past.0) (meaning_at words meanings (i + 1) text ∙ rw (drop_all (i + 1) meanings after, zip-nil (texts words)))
+        rw (other, drop_all i meanings past.0)
+        (meaning_at words meanings (i + 1) text ∙ rw (drop_all (i + 1) meanings after, zip-nil (texts words)))
   ]
 ]
 
-pub word_meant : {A : Type 0} (rule : KeyRule) (named : Option KeyRule) (words : List (Bor (List ℕ))) (meanings : List A) (place : Option ℕ) (text value : List ℕ) (other : A)
-    → Some rule ≡ named → texts words ≡ words_of rule.content → place ≡ position_from (λ word. bytes_eq text word.now) 0 words → text ≡ value
-    → unwrap_or (option_and_then (slice_get meanings) place) other ≡ unwrap_or (among (zip (words_by named) meanings) value) other
+pub word_meant : {A : Type 0} (rule : KeyRule) (named : Option KeyRule) (words : List (Bor (List ℕ)))
+    (meanings : List A) (place : Option ℕ) (text value : List ℕ) (other : A)
+    → Some rule ≡ named → texts words ≡ words_of rule.content
+    → place ≡ position_from (λ word. bytes_eq text word.now) 0 words → text ≡ value
+    → unwrap_or (option_and_then (slice_get meanings) place) other
+    ≡ unwrap_or (among (zip (words_by named) meanings) value) other
 word_meant rule named words meanings place text value other r w p t =
     rw (← r, ← w, p, ← t) (ap (λ o. unwrap_or o other) (meaning_at words meanings 0 text))
 
@@ -45,6 +50,7 @@ text_or None other value e = rw (← e)
 text_or (Some text) other value e = rw (← e)
 
 -- the element at a place, if there is one
-pub copied_item : {A : Type 0} (xs : List A) (i : ℕ) (o : Option (Bor A)) → IsItemAt xs i o → option_copied o ≡ slice_get xs i
+pub copied_item : {A : Type 0} (xs : List A) (i : ℕ) (o : Option (Bor A)) → IsItemAt xs i o
+    → option_copied o ≡ slice_get xs i
 copied_item xs i None at = sym (slice_get_past xs i at.3)
 copied_item xs i (Some x) at = sym (slice_get_read xs (length xs) i x.now refl at.3.0 at.1)

@@ -17,13 +17,16 @@ use Rattle.gw_entries.specs.Tables.{KeyRule}
 abbrev pub first_wrong : ℕ → List KeyRule → Members → List KeyRule → Option Wrong
 first_wrong outstations rules ms some = first (filter_map (wrong_by outstations rules ms) some)
 
-module _ {X : Type 0} (outstations : ℕ) (rules : List KeyRule) (ms : Members) (some : List KeyRule) (view : X → KeyRule) (xs : List X) (i : ℕ) where
-  pub wrong_here : (d : X) (w : Wrong) → first_wrong outstations rules ms some ≡ first_wrong outstations rules ms (map view (drop i xs)) → i < length xs
+module _ {X : Type 0} (outstations : ℕ) (rules : List KeyRule) (ms : Members) (some : List KeyRule) (view : X → KeyRule)
+    (xs : List X) (i : ℕ) where
+  pub wrong_here : (d : X) (w : Wrong)
+      → first_wrong outstations rules ms some ≡ first_wrong outstations rules ms (map view (drop i xs)) → i < length xs
       → wrong_by outstations rules ms (view (get_or xs i d)) ≡ Some w → Some w ≡ first_wrong outstations rules ms some
   unfolding first
   wrong_here d w so h is = sym (so ∙ rw (drop_more xs i d h, is))
 
-  pub nothing_wrong : first_wrong outstations rules ms some ≡ first_wrong outstations rules ms (map view (drop i xs)) → length xs ≤ i
+  pub nothing_wrong : first_wrong outstations rules ms some ≡ first_wrong outstations rules ms (map view (drop i xs))
+      → length xs ≤ i
       → None ≡ first_wrong outstations rules ms some
   unfolding first
   nothing_wrong so h = sym (so ∙ rw (drop_all i xs h))
@@ -36,18 +39,22 @@ first_present ms keys = first (present ms keys)
 abbrev pub names : List (Bor (List ℕ)) → List (List ℕ)
 names keys = map (λ name. name.now) keys
 
-same_is_some : {X : Type 0} (view : X → Data) (o : Option X) (p : Option Data) → option_map view o ≡ p → is_some o ≡ true → is_some p ≡ true
+same_is_some : {X : Type 0} (view : X → Data) (o : Option X) (p : Option Data) → option_map view o ≡ p
+    → is_some o ≡ true → is_some p ≡ true
 same_is_some view None p e is = absurd cc
 same_is_some view (Some x) p e is = rw (← e)
 
-pub first_there : {X : Type 0} (view : X → Data) (ms : Members) (keys : List (Bor (List ℕ))) (i : ℕ) (d : Bor (List ℕ)) (found : Option X)
+pub first_there : {X : Type 0} (view : X → Data) (ms : Members) (keys : List (Bor (List ℕ))) (i : ℕ) (d : Bor (List ℕ))
+    (found : Option X)
     → first_present ms (names keys) ≡ first_present ms (names (drop i keys)) → i < length keys
-    → option_map view found ≡ get_member (get_or keys i d).now ms → is_some found ≡ true → Some (get_or keys i d).now ≡ first_present ms (names keys)
+    → option_map view found ≡ get_member (get_or keys i d).now ms → is_some found ≡ true
+    → Some (get_or keys i d).now ≡ first_present ms (names keys)
 unfolding first
 first_there view ms keys i d found so h e is =
     sym (so ∙ rw (drop_more keys i d h, same_is_some view found (get_member (get_or keys i d).now ms) e is))
 
-pub none_there : (ms : Members) (keys : List (Bor (List ℕ))) (i : ℕ) → first_present ms (names keys) ≡ first_present ms (names (drop i keys))
+pub none_there : (ms : Members) (keys : List (Bor (List ℕ))) (i : ℕ)
+    → first_present ms (names keys) ≡ first_present ms (names (drop i keys))
     → length keys ≤ i → None ≡ first_present ms (names keys)
 unfolding first
 none_there ms keys i so h = sym (so ∙ rw (drop_all i keys h))
@@ -55,8 +62,10 @@ none_there ms keys i so h = sym (so ∙ rw (drop_all i keys h))
 -- ---- an entry
 
 pub first_told : (f : SettingsFault) (section : Section) (position : ℕ) (fault : KeyFault) (ws : List Wrong)
-    → refusal_of f ≡ refused (complaint section position (wrong_of fault)) → Some (wrong_of fault) ≡ first ws → IsTold f (placed section position ws)
+    → refusal_of f ≡ refused (complaint section position (wrong_of fault)) → Some (wrong_of fault) ≡ first ws
+    → IsTold f (placed section position ws)
 first_told f section position fault ws same is = tells_wrong f section position (wrong_of fault) ws same (sym is)
 
-pub none_placed : (section : Section) (position : ℕ) (ws : List Wrong) → None ≡ first ws → placed section position ws ≡ []
+pub none_placed : (section : Section) (position : ℕ) (ws : List Wrong) → None ≡ first ws
+    → placed section position ws ≡ []
 none_placed section position ws is = nothing_placed section position ws (first-None ws (sym is))

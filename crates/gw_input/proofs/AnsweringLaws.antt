@@ -188,7 +188,8 @@ module _ {S : Type 0} (R : Answering S) (before : S) where
           (subst (λ (ls : List (List ℕ)). AreAnswered R line.number now ls false text then) (sym lines) from_line)
 
       -- the last line before the end of the input
-      last_line : (number : ℕ) (octets : List ℕ) (goes_on : Bool) (text : List ℕ) → R now number octets goes_on text then
+      last_line : (number : ℕ) (octets : List ℕ) (goes_on : Bool) (text : List ℕ)
+          → R now number octets goes_on text then
           → AreAnswered R number now (octets ∷ []) goes_on text then
       last_line number octets true text answered =
           (then, true, text, [], sym (append-nil text), answered, (refl, refl, refl))

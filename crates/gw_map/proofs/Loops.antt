@@ -19,17 +19,20 @@ module _ {X : Type 0} (F : ℕ → Members → List Complaint) (g : X → Member
   each_from-step all i d h = rw (drop_more all i d h)
 
   -- an entry without a complaint is left behind
-  pub each_from-more : (all : List X) (i : ℕ) (d : X) → i < length all → each_from 0 F (map g all) ≡ each_from i F (map g (drop i all))
+  pub each_from-more : (all : List X) (i : ℕ) (d : X) → i < length all
+      → each_from 0 F (map g all) ≡ each_from i F (map g (drop i all))
       → F i (g (get_or all i d)) ≡ [] → each_from 0 F (map g all) ≡ each_from (i + 1) F (map g (drop (i + 1) all))
   each_from-more all i d h so none = so ∙ each_from-step all i d h ∙ rw none
 
   -- the complaint of an entry is the first of all, where none was before
-  pub told_entry : (f : SettingsFault) (all : List X) (i : ℕ) (d : X) → i < length all → each_from 0 F (map g all) ≡ each_from i F (map g (drop i all))
+  pub told_entry : (f : SettingsFault) (all : List X) (i : ℕ) (d : X) → i < length all
+      → each_from 0 F (map g all) ≡ each_from i F (map g (drop i all))
       → IsTold f (F i (g (get_or all i d))) → IsTold f (each_from 0 F (map g all))
   told_entry f all i d h so told = rw (so, each_from-step all i d h) (told_front f _ _ told)
 
 -- one more value
-pub map_take-more : {X Y : Type 0} (g : X → Y) (all : List X) (i : ℕ) (d : X) (done : List Y) (y : Y) → i < length all → done ≡ map g (take i all) → y ≡ g (get_or all i d)
+pub map_take-more : {X Y : Type 0} (g : X → Y) (all : List X) (i : ℕ) (d : X) (done : List Y) (y : Y) → i < length all
+    → done ≡ map g (take i all) → y ≡ g (get_or all i d)
     → done ++ y ∷ [] ≡ map g (take (i + 1) all)
 map_take-more g all i d done y h so e =
     rw (so, e, take_more all i d h) (sym (map-append g (take i all) (get_or all i d ∷ [])))
@@ -54,7 +57,8 @@ pub count_told : (section : Section) (room : ℕ) (tables : List Members) → ro
 unfolding first
 count_told section room tables many = let no : nat_le (length tables) room ≡ false = grind (arith, nat_tests) in rw no
 
-pub count_fine : (section : Section) (room : ℕ) (tables : List Members) → length tables ≤ room → placed section 0 (count_wrongs room tables) ≡ []
+pub count_fine : (section : Section) (room : ℕ) (tables : List Members) → length tables ≤ room
+    → placed section 0 (count_wrongs room tables) ≡ []
 count_fine section room tables few = let yes : nat_le (length tables) room ≡ true = grind (arith, nat_tests) in rw yes
 
 -- ---- the end of a loop
@@ -70,12 +74,14 @@ take_all (x ∷ xs) zero h = absurd (omega arith)
 take_all (x ∷ xs) (suc n) h = ap (λ ys. x ∷ ys) (take_all xs n (omega arith))
 
 -- all entries are left behind
-pub each_from-end : {X : Type 0} (F : ℕ → Members → List Complaint) (g : X → Members) (all : List X) (i : ℕ) → length all ≤ i
+pub each_from-end : {X : Type 0} (F : ℕ → Members → List Complaint) (g : X → Members) (all : List X) (i : ℕ)
+    → length all ≤ i
     → each_from 0 F (map g all) ≡ each_from i F (map g (drop i all)) → each_from 0 F (map g all) ≡ []
 unfolding each_from
 each_from-end F g all i h so = so ∙ rw (drop_all i all h)
 
-pub map_take-end : {X Y Z : Type 0} (f : Y → Z) (g : X → Y) (all : List X) (i : ℕ) (done : List Z) → length all ≤ i → done ≡ map (λ x. f (g x)) (take i all)
+pub map_take-end : {X Y Z : Type 0} (f : Y → Z) (g : X → Y) (all : List X) (i : ℕ) (done : List Z) → length all ≤ i
+    → done ≡ map (λ x. f (g x)) (take i all)
     → done ≡ map f (map g all)
 map_take-end f g all i done h so = so ∙ ap (map (λ x. f (g x))) (take_all all i h) ∙ sym (map-map f g all)
 
@@ -84,5 +90,6 @@ map_take-end f g all i done h so = so ∙ ap (map (λ x. f (g x))) (take_all all
 pub section_told : (f : SettingsFault) (cs ds : List Complaint) → cs ≡ [] → IsTold f ds → IsTold f (cs ++ ds)
 section_told f cs ds none told = rw none told
 
-pub take_end : {X Y : Type 0} (f : X → Y) (all : List X) (i : ℕ) (done : List Y) → length all ≤ i → done ≡ map f (take i all) → done ≡ map f all
+pub take_end : {X Y : Type 0} (f : X → Y) (all : List X) (i : ℕ) (done : List Y) → length all ≤ i
+    → done ≡ map f (take i all) → done ≡ map f all
 take_end f all i done h so = so ∙ ap (map f) (take_all all i h)

@@ -31,7 +31,8 @@ mid_false : (a b : Bool) → (a && false) ≡ ((a && false) && b)
 mid_false true b = refl
 mid_false false b = refl
 
-key_eq_by : (o i p j : ℕ) (k l : Kind) → eq-value.it (key_of o k i) (key_of p l j) ≡ same_key (key_of o k i) (key_of p l j)
+key_eq_by : (o i p j : ℕ) (k l : Kind)
+    → eq-value.it (key_of o k i) (key_of p l j) ≡ same_key (key_of o k i) (key_of p l j)
 key_eq_by o i p j Binary Binary = mid_true (o == p) (i == j)
 key_eq_by o i p j Output Output = mid_true (o == p) (i == j)
 key_eq_by o i p j Double Double = mid_true (o == p) (i == j)
@@ -43,7 +44,9 @@ pub key_eq : (a b : PointKey) → eq-value.it a b ≡ same_key a b
 key_eq a b = key_eq_by a.outstation a.index b.outstation b.index a.kind b.kind
 
 -- the map has a key where a row before has it
-pub found_before : (key : PointKey) (rows : List Row) → is_some (lookup (eq-value.it key) (map (λ row. (row.key, row)) rows)) ≡ list_any (same_key key) (map (λ row. row.key) rows)
+pub found_before : (key : PointKey) (rows : List Row)
+    → is_some (lookup (eq-value.it key) (map (λ row. (row.key, row)) rows))
+    ≡ list_any (same_key key) (map (λ row. row.key) rows)
 found_before key [] = refl
 found_before key (row ∷ rows) = elim (cases_Bool (same_key key row.key)) [
   | inl same ↦ rw (key_eq key row.key, same)
@@ -53,26 +56,35 @@ found_before key (row ∷ rows) = elim (cases_Bool (same_key key row.key)) [
 -- ---- one after another
 
 module _ {X A : Type 0} (same : A → A → Bool) (f : X → A) (old : List A) where
-  rep-step : (all : List X) (i : ℕ) (d : X) → i < length all → repeated same i (old ++ map f (take i all)) (map f (drop i all))
+  rep-step : (all : List X) (i : ℕ) (d : X) → i < length all
+      → repeated same i (old ++ map f (take i all)) (map f (drop i all))
       ≡ (if list_any (same (f (get_or all i d))) (old ++ map f (take i all)) then i ∷ [] else [])
       ++ repeated same (i + 1) (old ++ map f (take (i + 1) all)) (map f (drop (i + 1) all))
   unfolding repeated
-  rep-step all i d h = rw (drop_more all i d h, take_more all i d h, map-append f (take i all) (get_or all i d ∷ []), ← append_assoc old (map f (take i all)) (f (get_or all i d) ∷ []))
+  rep-step all i d h = rw (
+    drop_more all i d h,
+    take_more all i d h,
+    map-append f (take i all) (get_or all i d ∷ []),
+    ← append_assoc old (map f (take i all)) (f (get_or all i d) ∷ []),
+  )
 
   pub rep-more : (all : List X) (i : ℕ) (d : X) → i < length all
       → repeated same 0 old (map f all) ≡ repeated same i (old ++ map f (take i all)) (map f (drop i all))
       → list_any (same (f (get_or all i d))) (old ++ map f (take i all)) ≡ false
-      → repeated same 0 old (map f all) ≡ repeated same (i + 1) (old ++ map f (take (i + 1) all)) (map f (drop (i + 1) all))
+      → repeated same 0 old (map f all)
+      ≡ repeated same (i + 1) (old ++ map f (take (i + 1) all)) (map f (drop (i + 1) all))
   rep-more all i d h so none = so ∙ rep-step all i d h ∙ rw none
 
   pub rep-found : (all : List X) (i : ℕ) (d : X) → i < length all
       → repeated same 0 old (map f all) ≡ repeated same i (old ++ map f (take i all)) (map f (drop i all))
-      → list_any (same (f (get_or all i d))) (old ++ map f (take i all)) ≡ true → first (repeated same 0 old (map f all)) ≡ Some i
+      → list_any (same (f (get_or all i d))) (old ++ map f (take i all)) ≡ true
+      → first (repeated same 0 old (map f all)) ≡ Some i
   unfolding first
   rep-found all i d h so found = rw (so, rep-step all i d h, found)
 
   pub rep-end : (all : List X) (i : ℕ) → length all ≤ i
-      → repeated same 0 old (map f all) ≡ repeated same i (old ++ map f (take i all)) (map f (drop i all)) → repeated same 0 old (map f all) ≡ []
+      → repeated same 0 old (map f all) ≡ repeated same i (old ++ map f (take i all)) (map f (drop i all))
+      → repeated same 0 old (map f all) ≡ []
   unfolding repeated
   rep-end all i h so = so ∙ rw (drop_all i all h)
 
@@ -86,10 +98,12 @@ repeated-append same n old (x ∷ xs) ys =
     rw (repeated-append same (n + 1) (old ++ x ∷ []) xs ys, append_assoc old (x ∷ []) xs, e) (simp append_assoc)
 
 -- what is kept besides what was there
-pub kept_more : {X A : Type 0} (f : X → A) (old : List A) (all : List X) (i : ℕ) (d : X) (done : List A) {a : A} → i < length all
+pub kept_more : {X A : Type 0} (f : X → A) (old : List A) (all : List X) (i : ℕ) (d : X) (done : List A) {a : A}
+    → i < length all
     → done ≡ old ++ map f (take i all) → a ≡ f (get_or all i d) → done ++ a ∷ [] ≡ old ++ map f (take (i + 1) all)
 kept_more f old all i d done h so e =
-    rw (so, e, take_more all i d h, map-append f (take i all) (get_or all i d ∷ [])) (append_assoc old (map f (take i all)) (f (get_or all i d) ∷ []))
+    rw (so, e, take_more all i d h, map-append f (take i all) (get_or all i d ∷ []))
+    (append_assoc old (map f (take i all)) (f (get_or all i d) ∷ []))
 
 pub kept_end : {X A : Type 0} (f : X → A) (old : List A) (all : List X) (i : ℕ) (done : List A) → length all ≤ i
     → done ≡ old ++ map f (take i all) → done ≡ old ++ map f all
@@ -106,7 +120,8 @@ not-false false h = absurd cc
 -- ---- addresses of points and of controls
 
 points_part : (points k : ℕ) (old xs : List ℕ) → k + length xs ≤ points
-    → map (double_address points) (repeated same_number k old xs) ≡ map (λ n. complaint of.Point n (DoubleAddress, codes "address")) (repeated same_number k old xs)
+    → map (double_address points) (repeated same_number k old xs)
+    ≡ map (λ n. complaint of.Point n (DoubleAddress, codes "address")) (repeated same_number k old xs)
 unfolding repeated
 points_part points k old [] h = refl
 points_part points k old (x ∷ xs) h =
@@ -118,7 +133,8 @@ points_part points k old (x ∷ xs) h =
     ]
 
 controls_part : (points k m : ℕ) (old xs : List ℕ) → m ≡ points + k
-    → map (double_address points) (repeated same_number m old xs) ≡ map (λ n. complaint of.Control n (DoubleAddress, codes "address")) (repeated same_number k old xs)
+    → map (double_address points) (repeated same_number m old xs)
+    ≡ map (λ n. complaint of.Control n (DoubleAddress, codes "address")) (repeated same_number k old xs)
 unfolding repeated
 controls_part points k m old [] e = refl
 controls_part points k m old (x ∷ xs) e =
@@ -136,7 +152,8 @@ pub double_split : (points controls : List ℕ) → double_addresses points cont
 double_split points controls =
     rw (
       repeated-append same_number 0 [] points controls,
-      map-append (double_address (length points)) (repeated same_number 0 [] points) (repeated same_number (0 + length points) points controls),
+      map-append (double_address (length points)) (repeated same_number 0 [] points)
+          (repeated same_number (0 + length points) points controls),
       points_part (length points) 0 [] points (omega arith),
       controls_part (length points) 0 (0 + length points) points controls (omega arith),
     )

@@ -15,19 +15,24 @@ use Rattle.gw_entries.specs.Tables.{station_keys}
 
 -- ---- the station
 
-pub station_missing : (o : Option Data) → o ≡ None → first (station_complaints o) ≡ Some (complaint of.Top 0 (Missing, codes "station"))
+pub station_missing : (o : Option Data) → o ≡ None
+    → first (station_complaints o) ≡ Some (complaint of.Top 0 (Missing, codes "station"))
 unfolding station_complaints first
 station_missing o e = rw e
 
-pub station_no_table : (d : Data) → as_table d ≡ None → first (station_complaints (Some d)) ≡ Some (complaint of.Top 0 (WrongType, codes "station"))
+pub station_no_table : (d : Data) → as_table d ≡ None
+    → first (station_complaints (Some d)) ≡ Some (complaint of.Top 0 (WrongType, codes "station"))
 unfolding station_complaints first
 station_no_table (table ms) e = absurd cc
 station_no_table d e = refl
 
 pub station_table : (d : Data) (ms : Members) → as_table d ≡ Some ms
-    → (station_complaints (Some d) ≡ placed of.Station 0 (table_wrongs 0 station_keys no_mismatches ms)) × (table_at (Some d) ≡ ms)
+    → (station_complaints (Some d) ≡ placed of.Station 0 (table_wrongs 0 station_keys no_mismatches ms))
+    × (table_at (Some d) ≡ ms)
 unfolding station_complaints
-station_table (table t) ms e = let same : t ≡ ms = same_Some _ _ e in (ap (λ t. placed of.Station 0 (table_wrongs 0 station_keys no_mismatches t)) same, same)
+station_table (table t) ms e =
+    let same : t ≡ ms = same_Some _ _ e in
+    (ap (λ t. placed of.Station 0 (table_wrongs 0 station_keys no_mismatches t)) same, same)
 station_table (string s) ms e = absurd cc
 station_table (integer z) ms e = absurd cc
 station_table (float x) ms e = absurd cc
@@ -45,11 +50,13 @@ pub after-none : (o : Option (List Members)) → after [] o ≡ o
 after-none None = refl
 after-none (Some x) = refl
 
-after-more : (done : List Members) (ms : Members) (o : Option (List Members)) → after (done ++ ms ∷ []) o ≡ after done (option_map (λ tables. ms ∷ tables) o)
+after-more : (done : List Members) (ms : Members) (o : Option (List Members))
+    → after (done ++ ms ∷ []) o ≡ after done (option_map (λ tables. ms ∷ tables) o)
 after-more done ms None = refl
 after-more done ms (Some x) = ap Some (append_assoc done (ms ∷ []) x)
 
-head_is_table : (d : Data) (ms : Members) (more : Items) → as_table d ≡ Some ms → tables_of (item d more) ≡ option_map (λ tables. ms ∷ tables) (tables_of more)
+head_is_table : (d : Data) (ms : Members) (more : Items) → as_table d ≡ Some ms
+    → tables_of (item d more) ≡ option_map (λ tables. ms ∷ tables) (tables_of more)
 head_is_table (table t) ms more e = ap (λ t. option_map (λ tables. t ∷ tables) (tables_of more)) (same_Some _ _ e)
 head_is_table (string s) ms more e = absurd cc
 head_is_table (integer z) ms more e = absurd cc
@@ -62,7 +69,8 @@ head_is_none : (d : Data) (more : Items) → as_table d ≡ None → tables_of (
 head_is_none (table t) more e = absurd cc
 head_is_none d more e = refl
 
-pub one_more_table : (done : List Members) (ms : Members) (vs : List Value) (i : ℕ) (v : Value) (all : Option (List Members)) → i < length vs
+pub one_more_table : (done : List Members) (ms : Members) (vs : List Value) (i : ℕ) (v : Value)
+    (all : Option (List Members)) → i < length vs
     → as_table (view (get_or vs i v)) ≡ Some ms → after done (tables_of (items_view (drop i vs))) ≡ all
     → after (done ++ ms ∷ []) (tables_of (items_view (drop (i + 1) vs))) ≡ all
 one_more_table done ms vs i v all h e so =
@@ -70,7 +78,8 @@ one_more_table done ms vs i v all h e so =
     ∙ ap (after done) (sym (head_is_table (view (get_or vs i v)) ms (items_view (drop (i + 1) vs)) e))
     ∙ ap (λ xs. after done (tables_of (items_view xs))) (sym (drop_more vs i v h)) ∙ so
 
-pub no_more_tables : (done : List Members) (vs : List Value) (i : ℕ) (v : Value) (all : Option (List Members)) → i < length vs
+pub no_more_tables : (done : List Members) (vs : List Value) (i : ℕ) (v : Value) (all : Option (List Members))
+    → i < length vs
     → as_table (view (get_or vs i v)) ≡ None → after done (tables_of (items_view (drop i vs))) ≡ all → None ≡ all
 no_more_tables done vs i v all h e so =
     ap (after done) (sym (head_is_none (view (get_or vs i v)) (items_view (drop (i + 1) vs)) e))

@@ -20,7 +20,8 @@ use Rattle.gw_map.specs.Meaning.{answer_to}
 use Rattle.gw_entries.specs.Tables.{point_keys, control_keys}
 use Rattle.gw_entries.specs.Values.{source_of, number_in, row_of, control_of}
 
-pub same_length : {X Y Z : Type 0} (n : ℕ) (g : X → Z) (f : Y → Z) (items : List X) (ts : List Y) → n ≡ length items → map g items ≡ map f ts → n ≡ length ts
+pub same_length : {X Y Z : Type 0} (n : ℕ) (g : X → Z) (f : Y → Z) (items : List X) (ts : List Y) → n ≡ length items
+    → map g items ≡ map f ts → n ≡ length ts
 same_length n g f items ts e same = e ∙ sym (length-map items g) ∙ ap length same ∙ length-map ts f
 
 pub map_same : {X : Type 0} (xs : List X) → map (λ x. x) xs ≡ xs
@@ -31,28 +32,35 @@ map-map : {X Y Z : Type 0} (f : Y → Z) (g : X → Y) (xs : List X) → map f (
 map-map f g [] = refl
 map-map f g (x ∷ xs) = ap (λ ys. f (g x) ∷ ys) (map-map f g xs)
 
-part_of : {X Y Z W : Type 0} (h : Z → W) (g : X → Z) (f : Y → Z) (xs : List X) (ys : List Y) → map g xs ≡ map f ys → map (λ x. h (g x)) xs ≡ map (λ y. h (f y)) ys
+part_of : {X Y Z W : Type 0} (h : Z → W) (g : X → Z) (f : Y → Z) (xs : List X) (ys : List Y) → map g xs ≡ map f ys
+    → map (λ x. h (g x)) xs ≡ map (λ y. h (f y)) ys
 part_of h g f xs ys e = sym (map-map h g xs) ∙ ap (map h) e ∙ map-map h f ys
 
-pub same_keys : (rows rows' : List Row) (ts : List Members) → rows' ≡ rows → map row_fields rows ≡ map row_of ts → map (λ row. row.key) rows' ≡ map source_of ts
+pub same_keys : (rows rows' : List Row) (ts : List Members) → rows' ≡ rows → map row_fields rows ≡ map row_of ts
+    → map (λ row. row.key) rows' ≡ map source_of ts
 unfolding row_of
-same_keys rows rows' ts e same = ap (map (λ row. row.key)) e ∙ part_of (λ fields. fields.key) row_fields row_of rows ts same
+same_keys rows rows' ts e same =
+    ap (map (λ row. row.key)) e ∙ part_of (λ fields. fields.key) row_fields row_of rows ts same
 
 pub same_addresses : (rows rows' : List Row) (ts : List Members) → rows' ≡ rows → map row_fields rows ≡ map row_of ts
     → map (λ row. row.address) rows' ≡ map (number_in point_keys "address") ts
 unfolding row_of
-same_addresses rows rows' ts e same = ap (map (λ row. row.address)) e ∙ part_of (λ fields. fields.address) row_fields row_of rows ts same
+same_addresses rows rows' ts e same =
+    ap (map (λ row. row.address)) e ∙ part_of (λ fields. fields.address) row_fields row_of rows ts same
 
-pub same_control_addresses : (controls controls' : List Control) (ts : List Members) → controls' ≡ controls → map control_fields controls ≡ map control_of ts
+pub same_control_addresses : (controls controls' : List Control) (ts : List Members) → controls' ≡ controls
+    → map control_fields controls ≡ map control_of ts
     → map (λ control. control.address) controls' ≡ map (number_in control_keys "address") ts
 unfolding control_of
-same_control_addresses controls controls' ts e same = ap (map (λ control. control.address)) e ∙ part_of (λ fields. fields.address) control_fields control_of controls ts same
+same_control_addresses controls controls' ts e same = ap (map (λ control. control.address)) e
+    ∙ part_of (λ fields. fields.address) control_fields control_of controls ts same
 
 values-keyed : (rows : List Row) → values_of (map (λ row. (row.key, row)) rows) ≡ rows
 values-keyed [] = refl
 values-keyed (row ∷ rows) = ap (λ more. row ∷ more) (values-keyed rows)
 
-pub kept_values : (entries : List (PointKey × Row)) (rows : List Row) → entries ≡ map (λ row. (row.key, row)) rows → values_of entries ≡ rows
+pub kept_values : (entries : List (PointKey × Row)) (rows : List Row) → entries ≡ map (λ row. (row.key, row)) rows
+    → values_of entries ≡ rows
 kept_values entries rows e = ap (λ es. values_of es) e ∙ values-keyed rows
 
 -- an answer by complaints is the reading

@@ -29,7 +29,8 @@ outstation = is "address" (whole 1) no_members
 
 abbrev pub point : ℕ → ℕ → Name → Members
 point address index kind =
-    is "address" (whole address) (is "index" (whole index) (is "kind" (text kind) (is "outstation" (whole 0) no_members)))
+    is "address" (whole address)
+    (is "index" (whole index) (is "kind" (text kind) (is "outstation" (whole 0) no_members)))
 
 abbrev pub binary : Members
 binary = point 4101 5 "binary"

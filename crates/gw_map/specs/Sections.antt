@@ -107,4 +107,5 @@ complaints_of ms =
     ++ (point_complaints (length outstations) ms
     ++ (control_complaints (length outstations) (length points) ms
     ++ (double_sources (map source_of points)
-    ++ double_addresses (map (number_in point_keys "address") points) (map (number_in control_keys "address") controls))))))
+    ++ double_addresses (map (number_in point_keys "address") points)
+    (map (number_in control_keys "address") controls))))))

@@ -17,7 +17,8 @@ abbrev pub is_single : List Row → Bool
 is_single [] = true
 is_single (row ∷ rows) = is_fresh row.address rows && is_single rows
 
-fresh_head : (again : Bool) (n : ℕ) (more : List ℕ) → cond again (n ∷ []) [] ++ more ≡ [] → (again ≡ false) × (more ≡ [])
+fresh_head : (again : Bool) (n : ℕ) (more : List ℕ) → cond again (n ∷ []) [] ++ more ≡ []
+    → (again ≡ false) × (more ≡ [])
 fresh_head true n more h = absurd cc
 fresh_head false n more h = (refl, h)
 
@@ -40,10 +41,13 @@ fresh_behind : (a n : ℕ) (old : List ℕ) (rows : List Row) (more : List ℕ) 
 unfolding repeated
 fresh_behind a n old [] more there h = refl
 fresh_behind a n old (row ∷ rows) more there h =
-    let (fresh, behind) = fresh_head (list_any (same_number row.address) old) n (repeated same_number (n + 1) (old ++ row.address ∷ []) (map (λ row. row.address) rows ++ more)) h in
+    let (fresh, behind) = fresh_head (list_any (same_number row.address) old) n
+    (repeated same_number (n + 1) (old ++ row.address ∷ []) (map (λ row. row.address) rows ++ more)) h in
     elim (cases_Bool (a == row.address)) [
-      | inl hit ↦ absurd (true≢false (sym there ∙ ap (λ b. list_any (same_number b) old) (eqb-true a row.address hit) ∙ fresh))
-      | inr miss ↦ rw miss (fresh_behind a (n + 1) (old ++ row.address ∷ []) rows more (any_more a row.address old there) behind)
+      | inl hit ↦
+          absurd (true≢false (sym there ∙ ap (λ b. list_any (same_number b) old) (eqb-true a row.address hit) ∙ fresh))
+      | inr miss ↦
+          rw miss (fresh_behind a (n + 1) (old ++ row.address ∷ []) rows more (any_more a row.address old there) behind)
     ]
 
 single_behind : (n : ℕ) (old : List ℕ) (rows : List Row) (more : List ℕ)
@@ -51,9 +55,11 @@ single_behind : (n : ℕ) (old : List ℕ) (rows : List Row) (more : List ℕ)
 unfolding repeated
 single_behind n old [] more h = refl
 single_behind n old (row ∷ rows) more h =
-    let (fresh, behind) = fresh_head (list_any (same_number row.address) old) n (repeated same_number (n + 1) (old ++ row.address ∷ []) (map (λ row. row.address) rows ++ more)) h in
+    let (fresh, behind) = fresh_head (list_any (same_number row.address) old) n
+    (repeated same_number (n + 1) (old ++ row.address ∷ []) (map (λ row. row.address) rows ++ more)) h in
     rw (fresh_behind row.address (n + 1) (old ++ row.address ∷ []) rows more (any_last row.address old) behind)
     (single_behind (n + 1) (old ++ row.address ∷ []) rows more behind)
 
-pub is_single-true : (rows : List Row) (controls : List Control) → HasSingleAddresses rows controls → is_single rows ≡ true
+pub is_single-true : (rows : List Row) (controls : List Control) → HasSingleAddresses rows controls
+    → is_single rows ≡ true
 is_single-true rows controls h = single_behind 0 [] rows (map (λ control. control.address) controls) h

@@ -44,7 +44,8 @@ opening_rows (row ∷ rows) = (record { address = refl; value = opening_value ro
 
 -- an image is of the type by which its row shows points of the report's kind
 image_value : (kind : Kind) (show : Show) (scale : Scale) (raw : Raw) (q : Quality) (address : ℕ) (stamp : Stamp)
-    → is_shown_by kind show ≡ true → is_of_kind kind raw ≡ true → is_value_of show (raw_image show scale raw q address stamp).value ≡ true
+    → is_shown_by kind show ≡ true → is_of_kind kind raw ≡ true
+    → is_value_of show (raw_image show scale raw q address stamp).value ≡ true
 image_value kinds.Binary shows.Single scale (Bit on) q address stamp shown of = refl
 image_value kinds.Output shows.Single scale (Bit on) q address stamp shown of = refl
 image_value kinds.Double shows.Double scale (Two state) q address stamp shown of = refl
@@ -62,7 +63,8 @@ one_kind kinds.Analog kinds.Analog e = refl
 one_kind _ _ e = absurd cc
 
 -- the row that is found has the kind of the key
-found_kind : (k n : ℕ) (key : PointKey) (rows : List Row) (row : Row) → row_from k key rows ≡ Some (n, row) → row.key.kind ≡ key.kind
+found_kind : (k n : ℕ) (key : PointKey) (rows : List Row) (row : Row) → row_from k key rows ≡ Some (n, row)
+    → row.key.kind ≡ key.kind
 found_kind k n key [] row e = absurd cc
 found_kind k n key (r ∷ rows) row e =
     elim (cases_Bool (same_key r.key key)) [
@@ -70,46 +72,59 @@ found_kind k n key (r ∷ rows) row e =
           (let found : pair k r ≡ pair n row = rw here at e in
           let same = and_parts _ _ (and_parts _ _ here).0 in
           subst (λ (x : Row). x.key.kind ≡ key.kind) (pair_is k n r row found).1 (one_kind r.key.kind key.kind same.1))
-      | inr there ↦ (let found : row_from (k + 1) key rows ≡ Some (n, row) = rw there at e in found_kind (k + 1) n key rows row found)
+      | inr there ↦ (let found : row_from (k + 1) key rows ≡ Some (n, row) = rw there at e in
+          found_kind (k + 1) n key rows row found)
     ]
 
-image_shows : (offset : ℤ) (row : Row) (r : Report) → row.key.kind ≡ r.key.kind → ShowsRow row (without_time (image_of offset row r))
+image_shows : (offset : ℤ) (row : Row) (r : Report) → row.key.kind ≡ r.key.kind
+    → ShowsRow row (without_time (image_of offset row r))
 image_shows offset row r same = record {
   address = image_address offset row r;
-  value = image_value row.key.kind row.show row.scale r.raw _ _ _ row.shown (subst (λ (kind : Kind). is_of_kind kind r.raw ≡ true) (sym same) r.of_kind);
+  value = image_value row.key.kind row.show row.scale r.raw _ _ _ row.shown
+      (subst (λ (kind : Kind). is_of_kind kind r.raw ≡ true) (sym same) r.of_kind);
 }
 
 -- a row is shown anew
-row_anew : (n : ℕ) (row : Row) (x : Observation) (rows : List Row) (picture : List Observation) → slice_get rows n ≡ Some row → ShowsRow row x
+row_anew : (n : ℕ) (row : Row) (x : Observation) (rows : List Row) (picture : List Observation)
+    → slice_get rows n ≡ Some row → ShowsRow row x
     → ShowsRows rows picture → ShowsRows rows (change n (λ _. x) picture)
 row_anew n row x [] [] at shows all = tt
 row_anew n row x [] (y ∷ picture) at shows all = absurd all
 row_anew n row x (r ∷ rows) [] at shows all = absurd all
-row_anew zero row x (r ∷ rows) (y ∷ picture) at shows all = (subst (λ (other : Row). ShowsRow other x) (sym (some_is r row at)) shows, all.1)
+row_anew zero row x (r ∷ rows) (y ∷ picture) at shows all =
+    (subst (λ (other : Row). ShowsRow other x) (sym (some_is r row at)) shows, all.1)
 row_anew (suc n) row x (r ∷ rows) (y ∷ picture) at shows all = (all.0, row_anew n row x rows picture at shows all.1)
 
-report_rows : (offset : ℤ) (rows : List Row) (picture : List Observation) (r : Report) → ShowsRows rows picture → ShowsRows rows (picture_after_report offset rows picture r)
+report_rows : (offset : ℤ) (rows : List Row) (picture : List Observation) (r : Report) → ShowsRows rows picture
+    → ShowsRows rows (picture_after_report offset rows picture r)
 report_rows offset rows picture r all = go (row_from 0 r.key rows) refl
   where
-    go : (found : Option (ℕ × Row)) → row_from 0 r.key rows ≡ found → ShowsRows rows (picture_by_row offset picture r found)
+    go : (found : Option (ℕ × Row)) → row_from 0 r.key rows ≡ found
+        → ShowsRows rows (picture_by_row offset picture r found)
     go None e = all
     go (Some p) e =
-        row_anew p.0 p.1 (without_time (image_of offset p.1 r)) rows picture (row_at r.key rows p.0 p.1 e) (image_shows offset p.1 r (found_kind 0 p.0 r.key rows p.1 e)) all
+        row_anew p.0 p.1 (without_time (image_of offset p.1 r)) rows picture (row_at r.key rows p.0 p.1 e)
+        (image_shows offset p.1 r (found_kind 0 p.0 r.key rows p.1 e)) all
 
-pub reports_rows : (offset : ℤ) (rows : List Row) (picture : List Observation) (rs : List Report) → ShowsRows rows picture → ShowsRows rows (picture_after offset rows picture rs)
+pub reports_rows : (offset : ℤ) (rows : List Row) (picture : List Observation) (rs : List Report)
+    → ShowsRows rows picture → ShowsRows rows (picture_after offset rows picture rs)
 reports_rows offset rows picture [] all = all
-reports_rows offset rows picture (r ∷ rs) all = reports_rows offset rows (picture_after_report offset rows picture r) rs (report_rows offset rows picture r all)
+reports_rows offset rows picture (r ∷ rs) all =
+    reports_rows offset rows (picture_after_report offset rows picture r) rs (report_rows offset rows picture r all)
 
 -- ---- after a loss
 
-row_lost : (outstation : ℕ) (row other : Row) (x : Observation) → ShowsRow row x → ShowsRow row (shown_after_loss outstation other x)
+row_lost : (outstation : ℕ) (row other : Row) (x : Observation) → ShowsRow row x
+    → ShowsRow row (shown_after_loss outstation other x)
 row_lost outstation row other x shows = go (is_lost_with outstation other x)
   where
     go : (b : Bool) → ShowsRow row (cond b (lost x) x)
     go true = record { address = shows.address; value = shows.value }
     go false = shows
 
-pub loss_rows : (outstation : ℕ) (rows : List Row) (picture : List Observation) → ShowsRows rows picture → ShowsRows rows (picture_after_loss outstation rows picture)
+pub loss_rows : (outstation : ℕ) (rows : List Row) (picture : List Observation) → ShowsRows rows picture
+    → ShowsRows rows (picture_after_loss outstation rows picture)
 loss_rows outstation [] picture all = all
 loss_rows outstation (row ∷ rows) [] all = all
-loss_rows outstation (row ∷ rows) (x ∷ picture) all = (row_lost outstation row row x all.0, loss_rows outstation rows picture all.1)
+loss_rows outstation (row ∷ rows) (x ∷ picture) all =
+    (row_lost outstation row row x all.0, loss_rows outstation rows picture all.1)

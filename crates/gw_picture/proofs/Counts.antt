@@ -22,36 +22,52 @@ after_one r (Some before) image = go (is_news_of r before image)
     go true = omega arith
     go false = omega arith
 
-at_one : (offset : ℤ) (picture : List Observation) (r : Report) (found : Option (ℕ × Row)) → length (news_by_row offset picture r found) ≤ 1
+at_one : (offset : ℤ) (picture : List Observation) (r : Report) (found : Option (ℕ × Row))
+    → length (news_by_row offset picture r found) ≤ 1
 at_one offset picture r None = omega arith
 at_one offset picture r (Some found) = after_one r (slice_get picture found.0) (image_of offset found.1 r)
 
-pub report_one : (offset : ℤ) (rows : List Row) (picture : List Observation) (r : Report) → length (news_of_report offset rows picture r) ≤ 1
+pub report_one : (offset : ℤ) (rows : List Row) (picture : List Observation) (r : Report)
+    → length (news_of_report offset rows picture r) ≤ 1
 report_one offset rows picture r = at_one offset picture r (row_from 0 r.key rows)
 
-pub news_few : (offset : ℤ) (rows : List Row) (picture : List Observation) (rs : List Report) → length (news_of offset rows picture rs) ≤ length rs
+pub news_few : (offset : ℤ) (rows : List Row) (picture : List Observation) (rs : List Report)
+    → length (news_of offset rows picture rs) ≤ length rs
 news_few offset rows picture [] = omega arith
 news_few offset rows picture (r ∷ rs) =
-    omega (arith, length-append (news_of_report offset rows picture r) (news_of offset rows (picture_after_report offset rows picture r) rs), report_one offset rows picture r, news_few offset rows (picture_after_report offset rows picture r) rs)
+    omega (
+      arith,
+      length-append (news_of_report offset rows picture r)
+          (news_of offset rows (picture_after_report offset rows picture r) rs),
+      report_one offset rows picture r,
+      news_few offset rows (picture_after_report offset rows picture r) rs,
+    )
 
 -- ---- one report more
 
 pub news_of-one : (offset : ℤ) (rows : List Row) (picture : List Observation) (rs : List Report) (r : Report)
-    → news_of offset rows picture (rs ++ r ∷ []) ≡ news_of offset rows picture rs ++ news_of_report offset rows (picture_after offset rows picture rs) r
+    → news_of offset rows picture (rs ++ r ∷ [])
+    ≡ news_of offset rows picture rs ++ news_of_report offset rows (picture_after offset rows picture rs) r
 news_of-one offset rows picture [] r = append-nil (news_of_report offset rows picture r)
 news_of-one offset rows picture (x ∷ rs) r =
-    ap (λ (zs : List Observation). news_of_report offset rows picture x ++ zs) (news_of-one offset rows (picture_after_report offset rows picture x) rs r)
-    ∙ sym (append_assoc (news_of_report offset rows picture x) (news_of offset rows (picture_after_report offset rows picture x) rs) (news_of_report offset rows (picture_after offset rows (picture_after_report offset rows picture x) rs) r))
+    ap (λ (zs : List Observation). news_of_report offset rows picture x ++ zs)
+    (news_of-one offset rows (picture_after_report offset rows picture x) rs r)
+    ∙ sym (append_assoc (news_of_report offset rows picture x)
+    (news_of offset rows (picture_after_report offset rows picture x) rs)
+    (news_of_report offset rows (picture_after offset rows (picture_after_report offset rows picture x) rs) r))
 
 pub count-one : (offset : ℤ) (rows : List Row) (picture : List Observation) (rs : List Report) (r : Report)
-    → length (news_of offset rows picture (rs ++ r ∷ [])) ≡ length (news_of offset rows picture rs) + length (news_of_report offset rows (picture_after offset rows picture rs) r)
+    → length (news_of offset rows picture (rs ++ r ∷ [])) ≡ length (news_of offset rows picture rs)
+    + length (news_of_report offset rows (picture_after offset rows picture rs) r)
 count-one offset rows picture rs r =
-    ap length (news_of-one offset rows picture rs r) ∙ length-append (news_of offset rows picture rs) (news_of_report offset rows (picture_after offset rows picture rs) r)
+    ap length (news_of-one offset rows picture rs r) ∙ length-append (news_of offset rows picture rs)
+    (news_of_report offset rows (picture_after offset rows picture rs) r)
 
 -- ---- one place
 
 picture_by_row-at : (offset : ℤ) (r : Report) (picture : List Observation) (position : ℕ) (found : Option (ℕ × Row))
-    → slice_get (picture_by_row offset picture r found) position ≡ option_map (λ (x : Observation). observation_after_report offset r position x found) (slice_get picture position)
+    → slice_get (picture_by_row offset picture r found) position
+    ≡ option_map (λ (x : Observation). observation_after_report offset r position x found) (slice_get picture position)
 picture_by_row-at offset r picture position None = same (slice_get picture position)
   where
     same : (x : Option Observation) → x ≡ option_map (λ (y : Observation). y) x
@@ -59,24 +75,30 @@ picture_by_row-at offset r picture position None = same (slice_get picture posit
     same (Some x) = refl
 picture_by_row-at offset r picture position (Some found) =
     elim (cases_eq found.0 position) [
-      | inl e ↦ rw (← e) (change-here found.0 (λ _. without_time (image_of offset found.1 r)) picture ∙ here (slice_get picture found.0))
-      | inr ne ↦ change-there found.0 position (λ _. without_time (image_of offset found.1 r)) picture ne ∙ there ne (slice_get picture position)
+      | inl e ↦ rw (← e) (change-here found.0 (λ _. without_time (image_of offset found.1 r)) picture
+          ∙ here (slice_get picture found.0))
+      | inr ne ↦ change-there found.0 position (λ _. without_time (image_of offset found.1 r)) picture ne
+          ∙ there ne (slice_get picture position)
     ]
   where
-    here : (x : Option Observation) → option_map (λ (y : Observation). without_time (image_of offset found.1 r)) x ≡ option_map (λ (y : Observation). observation_after_report offset r found.0 y (Some found)) x
+    here : (x : Option Observation) → option_map (λ (y : Observation). without_time (image_of offset found.1 r)) x
+        ≡ option_map (λ (y : Observation). observation_after_report offset r found.0 y (Some found)) x
     here None = refl
     here (Some x) = rw (eq-eqb found.0 found.0 refl) refl
 
-    there : (found.0 ≡ position → ⊥) → (x : Option Observation) → x ≡ option_map (λ (y : Observation). observation_after_report offset r position y (Some found)) x
+    there : (found.0 ≡ position → ⊥) → (x : Option Observation)
+        → x ≡ option_map (λ (y : Observation). observation_after_report offset r position y (Some found)) x
     there ne None = refl
     there ne (Some x) = rw (ne_eqb found.0 position ne) refl
 
-maps-twice : (f g : Observation → Observation) (x : Option Observation) → option_map f (option_map g x) ≡ option_map (λ (y : Observation). f (g y)) x
+maps-twice : (f g : Observation → Observation) (x : Option Observation)
+    → option_map f (option_map g x) ≡ option_map (λ (y : Observation). f (g y)) x
 maps-twice f g None = refl
 maps-twice f g (Some x) = refl
 
 pub picture-at : (offset : ℤ) (rows : List Row) (picture : List Observation) (rs : List Report) (position : ℕ)
-    → slice_get (picture_after offset rows picture rs) position ≡ option_map (λ (x : Observation). observation_after offset rows position x rs) (slice_get picture position)
+    → slice_get (picture_after offset rows picture rs) position
+    ≡ option_map (λ (x : Observation). observation_after offset rows position x rs) (slice_get picture position)
 picture-at offset rows picture [] position = same (slice_get picture position)
   where
     same : (x : Option Observation) → x ≡ option_map (λ (y : Observation). y) x
@@ -84,15 +106,24 @@ picture-at offset rows picture [] position = same (slice_get picture position)
     same (Some x) = refl
 picture-at offset rows picture (r ∷ rs) position =
     picture-at offset rows (picture_after_report offset rows picture r) rs position
-    ∙ (ap (option_map (λ (x : Observation). observation_after offset rows position x rs)) (picture_by_row-at offset r picture position (row_from 0 r.key rows))
-    ∙ maps-twice (λ (x : Observation). observation_after offset rows position x rs) (λ (x : Observation). observation_after_report offset r position x (row_from 0 r.key rows)) (slice_get picture position))
+    ∙ (ap (option_map (λ (x : Observation). observation_after offset rows position x rs))
+    (picture_by_row-at offset r picture position (row_from 0 r.key rows))
+    ∙ maps-twice (λ (x : Observation). observation_after offset rows position x rs)
+    (λ (x : Observation). observation_after_report offset r position x (row_from 0 r.key rows))
+    (slice_get picture position))
 
 -- nothing is shown at a place past the end
-pub past_none : (offset : ℤ) (rows : List Row) (picture : List Observation) (rs : List Report) (position : ℕ) → false ≡ ltb position (length picture) → None ≡ slice_get (picture_after offset rows picture rs) position
+pub past_none : (offset : ℤ) (rows : List Row) (picture : List Observation) (rs : List Report) (position : ℕ)
+    → false ≡ ltb position (length picture) → None ≡ slice_get (picture_after offset rows picture rs) position
 past_none offset rows picture rs position past =
-    sym (picture-at offset rows picture rs position ∙ ap (option_map (λ (x : Observation). observation_after offset rows position x rs)) (get_past picture position (ltb-false position (length picture) (sym past))))
+    sym (picture-at offset rows picture rs position
+    ∙ ap (option_map (λ (x : Observation). observation_after offset rows position x rs)) (get_past picture position
+    (ltb-false position (length picture) (sym past))))
 
-pub within_some : (offset : ℤ) (rows : List Row) (picture : List Observation) (rs : List Report) (position : ℕ) (x : Observation) → true ≡ ltb position (length picture) → x ≡ get_or picture position x
+pub within_some : (offset : ℤ) (rows : List Row) (picture : List Observation) (rs : List Report) (position : ℕ)
+    (x : Observation) → true ≡ ltb position (length picture) → x ≡ get_or picture position x
     → slice_get (picture_after offset rows picture rs) position ≡ Some (observation_after offset rows position x rs)
 within_some offset rows picture rs position x within e =
-    picture-at offset rows picture rs position ∙ ap (option_map (λ (y : Observation). observation_after offset rows position y rs)) (get_some picture position x (ltb-true position (length picture) (sym within)) ∙ ap (λ (y : Observation). Some y) (sym e))
+    picture-at offset rows picture rs position
+    ∙ ap (option_map (λ (y : Observation). observation_after offset rows position y rs)) (get_some picture position x
+    (ltb-true position (length picture) (sym within)) ∙ ap (λ (y : Observation). Some y) (sym e))

@@ -23,7 +23,8 @@ use Rattle.gw_picture.specs.Picture.{news_after, without_time}
 use Rattle.gw_picture.proofs.Lists.{get_some}
 
 -- an image has its row's address
-raw_address : (show : Show) (scale : Scale) (raw : Raw) (q : Quality) (address : ℕ) (stamp : Stamp) → (raw_image show scale raw q address stamp).address ≡ address
+raw_address : (show : Show) (scale : Scale) (raw : Raw) (q : Quality) (address : ℕ) (stamp : Stamp)
+    → (raw_image show scale raw q address stamp).address ≡ address
 raw_address show scale (Bit on) q address stamp = refl
 raw_address show scale (Two state) q address stamp = refl
 raw_address show scale (Count n) q address stamp = refl
@@ -31,26 +32,32 @@ raw_address shows.Word scale (Number z) q address stamp = refl
 raw_address _ scale (Number z) q address stamp = refl
 
 pub image_address : (offset : ℤ) (row : Row) (r : Report) → (image_of offset row r).address ≡ row.address
-image_address offset row r = raw_address row.show row.scale r.raw (quality_of r.key.kind r.flags) row.address (stamp_image offset r.stamp)
+image_address offset row r =
+    raw_address row.show row.scale r.raw (quality_of r.key.kind r.flags) row.address (stamp_image offset r.stamp)
 
 abbrev observation : ℕ → Value → Quality → Stamp → Observation
 observation address value quality stamp = record { address = address; value = value; quality = quality; stamp = stamp }
 
-observations_equal : (a b : ℕ) (v w : Value) (q p : Quality) (s t : Stamp) → a ≡ b → v ≡ w → q ≡ p → s ≡ t → observation a v q s ≡ observation b w p t
+observations_equal : (a b : ℕ) (v w : Value) (q p : Quality) (s t : Stamp) → a ≡ b → v ≡ w → q ≡ p → s ≡ t
+    → observation a v q s ≡ observation b w p t
 observations_equal a b v w q p s t ea ev eq es = cc
 
 -- an image that is no news is what was shown before, but for its time
-pub no_news : (r : Report) (before image : Observation) → is_news_of r before image ≡ false → before.address ≡ image.address → before.stamp ≡ Untimed → before ≡ without_time image
+pub no_news : (r : Report) (before image : Observation) → is_news_of r before image ≡ false
+    → before.address ≡ image.address → before.stamp ≡ Untimed → before ≡ without_time image
 no_news r before image e ea es =
     let parts = or_parts r.event (not (same_shown before image)) e in
     let same = not-false (same_shown before image) parts.1 in
     let both = and_parts (same_value before.value image.value) (same_quality before.quality image.quality) same in
-    observations_equal before.address image.address before.value image.value before.quality image.quality before.stamp Untimed ea (same_value-true _ _ both.0) (same_quality-true _ _ both.1) es
+    observations_equal before.address image.address before.value image.value before.quality image.quality before.stamp
+    Untimed ea (same_value-true _ _ both.0) (same_quality-true _ _ both.1) es
 
-pub news_true : (r : Report) (xs : List Observation) (n : ℕ) (d image : Observation) → n < length xs → is_news_of r (get_or xs n d) image ≡ true
+pub news_true : (r : Report) (xs : List Observation) (n : ℕ) (d image : Observation) → n < length xs
+    → is_news_of r (get_or xs n d) image ≡ true
     → image ∷ [] ≡ news_after r (slice_get xs n) image
 news_true r xs n d image lt e = rw (get_some xs n d lt, e) refl
 
-pub news_false : (r : Report) (xs : List Observation) (n : ℕ) (d image : Observation) → n < length xs → is_news_of r (get_or xs n d) image ≡ false
+pub news_false : (r : Report) (xs : List Observation) (n : ℕ) (d image : Observation) → n < length xs
+    → is_news_of r (get_or xs n d) image ≡ false
     → [] ≡ news_after r (slice_get xs n) image
 news_false r xs n d image lt e = rw (get_some xs n d lt, e) refl

@@ -4,12 +4,14 @@ use Rattle.std.specs.Prelude.{slice_get, option_map}
 use Rattle.std.proofs.Math.ListN.{set}
 use Rattle.gw_model.specs.Places.{change}
 
-pub change-here : {A : Type 0} (n : ℕ) (f : A → A) (xs : List A) → slice_get (change n f xs) n ≡ option_map f (slice_get xs n)
+pub change-here : {A : Type 0} (n : ℕ) (f : A → A) (xs : List A)
+    → slice_get (change n f xs) n ≡ option_map f (slice_get xs n)
 change-here n f [] = refl
 change-here zero f (x ∷ xs) = refl
 change-here (suc n) f (x ∷ xs) = change-here n f xs
 
-pub change-there : {A : Type 0} (n p : ℕ) (f : A → A) (xs : List A) → (n ≡ p → ⊥) → slice_get (change n f xs) p ≡ slice_get xs p
+pub change-there : {A : Type 0} (n p : ℕ) (f : A → A) (xs : List A) → (n ≡ p → ⊥)
+    → slice_get (change n f xs) p ≡ slice_get xs p
 change-there n p f [] ne = refl
 change-there zero zero f (x ∷ xs) ne = absurd (ne refl)
 change-there zero (suc p) f (x ∷ xs) ne = refl
@@ -36,13 +38,15 @@ change-same zero y (x ∷ xs) e = ap (λ (z : _). z ∷ xs) (sym (some_is x y e)
 change-same (suc n) y (x ∷ xs) e = ap (λ (zs : List _). x ∷ zs) (change-same n y xs e)
 
 -- nor does one that leaves what is there as it is
-pub change-still : {A : Type 0} (n : ℕ) (f : A → A) (xs : List A) → ((x : A) → slice_get xs n ≡ Some x → f x ≡ x) → change n f xs ≡ xs
+pub change-still : {A : Type 0} (n : ℕ) (f : A → A) (xs : List A) → ((x : A) → slice_get xs n ≡ Some x → f x ≡ x)
+    → change n f xs ≡ xs
 change-still n f [] same = refl
 change-still zero f (x ∷ xs) same = ap (λ (z : _). z ∷ xs) (same x refl)
 change-still (suc n) f (x ∷ xs) same = ap (λ (zs : List _). x ∷ zs) (change-still n f xs same)
 
 -- a change by f, where it is known what f makes of what is there
-pub change-by : {A : Type 0} (n : ℕ) (f : A → A) (y : A) (xs : List A) → ((x : A) → slice_get xs n ≡ Some x → f x ≡ y) → change n f xs ≡ change n (λ _. y) xs
+pub change-by : {A : Type 0} (n : ℕ) (f : A → A) (y : A) (xs : List A) → ((x : A) → slice_get xs n ≡ Some x → f x ≡ y)
+    → change n f xs ≡ change n (λ _. y) xs
 change-by n f y [] makes = refl
 change-by zero f y (x ∷ xs) makes = ap (λ (z : _). z ∷ xs) (makes x refl)
 change-by (suc n) f y (x ∷ xs) makes = ap (λ (zs : List _). x ∷ zs) (change-by n f y xs makes)
@@ -59,7 +63,8 @@ change-behind zero f (x ∷ xs) = refl
 change-behind (suc n) f (x ∷ xs) = change-behind n f xs
 
 -- a change that keeps what f tells of the element keeps what it tells of all
-pub change-maps : {A B : Type 0} (f : A → B) (n : ℕ) (x : A) (xs : List A) → ((y : A) → slice_get xs n ≡ Some y → f x ≡ f y) → map f (change n (λ _. x) xs) ≡ map f xs
+pub change-maps : {A B : Type 0} (f : A → B) (n : ℕ) (x : A) (xs : List A)
+    → ((y : A) → slice_get xs n ≡ Some y → f x ≡ f y) → map f (change n (λ _. x) xs) ≡ map f xs
 change-maps f n x [] same = refl
 change-maps f zero x (y ∷ xs) same = ap (λ (z : _). z ∷ map f xs) (same y refl)
 change-maps f (suc n) x (y ∷ xs) same = ap (λ (zs : List _). f y ∷ zs) (change-maps f n x xs same)

@@ -33,50 +33,65 @@ abbrev pub pair : ℕ → Row → Option (ℕ × Row)
 pair n row = Some (n, row)
 
 pub pair_is : (m n : ℕ) (r s : Row) → pair m r ≡ pair n s → (m ≡ n) × (r ≡ s)
-pair_is m n r s e = let p : both m r ≡ both n s = some_is (both m r) (both n s) e in (ap (λ (q : ℕ × Row). q.0) p, ap (λ (q : ℕ × Row). q.1) p)
+pair_is m n r s e =
+    let p : both m r ≡ both n s = some_is (both m r) (both n s) e in
+    (ap (λ (q : ℕ × Row). q.0) p, ap (λ (q : ℕ × Row). q.1) p)
 
 pub row_from-le : (k n : ℕ) (key : PointKey) (rows : List Row) (row : Row) → row_from k key rows ≡ Some (n, row) → k ≤ n
 row_from-le k n key [] row e = absurd cc
 row_from-le k n key (r ∷ rows) row e =
     elim (cases_Bool (same_key r.key key)) [
       | inl here ↦ (let found : pair k r ≡ pair n row = rw here at e in omega (arith, (pair_is k n r row found).0))
-      | inr there ↦ (let found : row_from (k + 1) key rows ≡ Some (n, row) = rw there at e in omega (arith, row_from-le (k + 1) n key rows row found))
+      | inr there ↦ (let found : row_from (k + 1) key rows ≡ Some (n, row) = rw there at e in
+          omega (arith, row_from-le (k + 1) n key rows row found))
     ]
 
 -- a row that is found has another address than one that is fresh
-fresh_address : (k n : ℕ) (key : PointKey) (first : Row) (rows : List Row) (row : Row) → is_fresh first.address rows ≡ true → row_from k key rows ≡ Some (n, row)
+fresh_address : (k n : ℕ) (key : PointKey) (first : Row) (rows : List Row) (row : Row)
+    → is_fresh first.address rows ≡ true → row_from k key rows ≡ Some (n, row)
     → eqb first.address row.address ≡ false
 fresh_address k n key first [] row fresh e = absurd cc
 fresh_address k n key first (r ∷ rows) row fresh e =
     let parts = and_parts (not (eqb first.address r.address)) (is_fresh first.address rows) fresh in
     let other : eqb first.address r.address ≡ false = not-true (eqb first.address r.address) parts.0 in
     elim (cases_Bool (same_key r.key key)) [
-      | inl here ↦ (let found : pair k r ≡ pair n row = rw here at e in subst (λ (x : Row). eqb first.address x.address ≡ false) (pair_is k n r row found).1 other)
-      | inr there ↦ (let found : row_from (k + 1) key rows ≡ Some (n, row) = rw there at e in fresh_address (k + 1) n key first rows row parts.1 found)
+      | inl here ↦ (let found : pair k r ≡ pair n row = rw here at e in
+          subst (λ (x : Row). eqb first.address x.address ≡ false) (pair_is k n r row found).1 other)
+      | inr there ↦ (let found : row_from (k + 1) key rows ≡ Some (n, row) = rw there at e in
+          fresh_address (k + 1) n key first rows row parts.1 found)
     ]
 
 -- ---- what was shown last
 
-last_observation-push : (address : ℕ) (shown : Observation) (log : List Observation) (x : Observation) → last_observation address shown (log ++ x ∷ []) ≡ cond (eqb x.address address) (without_time x) (last_observation address shown log)
+last_observation-push : (address : ℕ) (shown : Observation) (log : List Observation) (x : Observation)
+    → last_observation address shown (log ++ x ∷ [])
+    ≡ cond (eqb x.address address) (without_time x) (last_observation address shown log)
 last_observation-push address shown [] x = refl
-last_observation-push address shown (y ∷ log) x = last_observation-push address (cond (eqb y.address address) (without_time y) shown) log x
+last_observation-push address shown (y ∷ log) x =
+    last_observation-push address (cond (eqb y.address address) (without_time y) shown) log x
 
-pick_address : (b : Bool) (y shown : Observation) (address : ℕ) → (b ≡ true → y.address ≡ address) → shown.address ≡ address → (cond b (without_time y) shown).address ≡ address
+pick_address : (b : Bool) (y shown : Observation) (address : ℕ) → (b ≡ true → y.address ≡ address)
+    → shown.address ≡ address → (cond b (without_time y) shown).address ≡ address
 pick_address true y shown address here e = here refl
 pick_address false y shown address here e = e
 
-pub last_observation-address : (address : ℕ) (shown : Observation) (log : List Observation) → shown.address ≡ address → (last_observation address shown log).address ≡ address
+pub last_observation-address : (address : ℕ) (shown : Observation) (log : List Observation) → shown.address ≡ address
+    → (last_observation address shown log).address ≡ address
 last_observation-address address shown [] e = e
 last_observation-address address shown (y ∷ log) e =
-    last_observation-address address (cond (eqb y.address address) (without_time y) shown) log (pick_address (eqb y.address address) y shown address (eqb-true y.address address) e)
+    last_observation-address address (cond (eqb y.address address) (without_time y) shown) log
+    (pick_address (eqb y.address address) y shown address (eqb-true y.address address) e)
 
-pick_stamp : (b : Bool) (y shown : Observation) → shown.stamp ≡ Untimed → (cond b (without_time y) shown).stamp ≡ Untimed
+pick_stamp : (b : Bool) (y shown : Observation) → shown.stamp ≡ Untimed
+    → (cond b (without_time y) shown).stamp ≡ Untimed
 pick_stamp true y shown e = refl
 pick_stamp false y shown e = e
 
-last_observation-stamp : (address : ℕ) (shown : Observation) (log : List Observation) → shown.stamp ≡ Untimed → (last_observation address shown log).stamp ≡ Untimed
+last_observation-stamp : (address : ℕ) (shown : Observation) (log : List Observation) → shown.stamp ≡ Untimed
+    → (last_observation address shown log).stamp ≡ Untimed
 last_observation-stamp address shown [] e = e
-last_observation-stamp address shown (y ∷ log) e = last_observation-stamp address (cond (eqb y.address address) (without_time y) shown) log (pick_stamp (eqb y.address address) y shown e)
+last_observation-stamp address shown (y ∷ log) e = last_observation-stamp address
+    (cond (eqb y.address address) (without_time y) shown) log (pick_stamp (eqb y.address address) y shown e)
 
 -- ---- one more observation in the log
 
@@ -84,28 +99,35 @@ last_observation-stamp address shown (y ∷ log) e = last_observation-stamp addr
 abbrev pub shown_by : List Observation → Row → Observation
 shown_by log row = last_observation row.address (opening row) log
 
-same_elsewhere : (log : List Observation) (x : Observation) (row : Row) → eqb x.address row.address ≡ false → shown_by (log ++ x ∷ []) row ≡ shown_by log row
+same_elsewhere : (log : List Observation) (x : Observation) (row : Row) → eqb x.address row.address ≡ false
+    → shown_by (log ++ x ∷ []) row ≡ shown_by log row
 same_elsewhere log x row e = last_observation-push row.address (opening row) log x ∙ rw e refl
 
-shown_here : (log : List Observation) (x : Observation) (row : Row) → x.address ≡ row.address → shown_by (log ++ x ∷ []) row ≡ without_time x
-shown_here log x row e = last_observation-push row.address (opening row) log x ∙ rw (eq-eqb x.address row.address e) refl
+shown_here : (log : List Observation) (x : Observation) (row : Row) → x.address ≡ row.address
+    → shown_by (log ++ x ∷ []) row ≡ without_time x
+shown_here log x row e =
+    last_observation-push row.address (opening row) log x ∙ rw (eq-eqb x.address row.address e) refl
 
 -- rows that a fresh row stands before keep what they show when an observation at its address comes
-fresh_same : (log : List Observation) (x : Observation) (first : Row) (rows : List Row) → is_fresh first.address rows ≡ true → x.address ≡ first.address
+fresh_same : (log : List Observation) (x : Observation) (first : Row) (rows : List Row)
+    → is_fresh first.address rows ≡ true → x.address ≡ first.address
     → picture_of rows (log ++ x ∷ []) ≡ picture_of rows log
 fresh_same log x first [] fresh e = refl
 fresh_same log x first (r ∷ rows) fresh e =
     let parts = and_parts (not (eqb first.address r.address)) (is_fresh first.address rows) fresh in
     let other : eqb first.address r.address ≡ false = not-true (eqb first.address r.address) parts.0 in
     let there : eqb x.address r.address ≡ false = ap (λ (a : ℕ). eqb a r.address) e ∙ other in
-    ap (λ (y : Observation). y ∷ picture_of rows (log ++ x ∷ [])) (same_elsewhere log x r there) ∙ ap (λ (ys : List Observation). shown_by log r ∷ ys) (fresh_same log x first rows parts.1 e)
+    ap (λ (y : Observation). y ∷ picture_of rows (log ++ x ∷ [])) (same_elsewhere log x r there)
+    ∙ ap (λ (ys : List Observation). shown_by log r ∷ ys) (fresh_same log x first rows parts.1 e)
 
 pub swap : (a b : ℕ) → eqb a b ≡ false → eqb b a ≡ false
 swap a b e = ne_eqb b a (λ same. eqb-false a b e (sym same))
 
 -- the picture with the observation at its row is the picture of the log with it
-picture_of-push : (k n : ℕ) (key : PointKey) (rows : List Row) (row : Row) (log : List Observation) (x : Observation) → is_single rows ≡ true → row_from k key rows ≡ Some (n, row)
-    → x.address ≡ row.address → change (n - k) (λ _. without_time x) (picture_of rows log) ≡ picture_of rows (log ++ x ∷ [])
+picture_of-push : (k n : ℕ) (key : PointKey) (rows : List Row) (row : Row) (log : List Observation) (x : Observation)
+    → is_single rows ≡ true → row_from k key rows ≡ Some (n, row)
+    → x.address ≡ row.address
+    → change (n - k) (λ _. without_time x) (picture_of rows log) ≡ picture_of rows (log ++ x ∷ [])
 picture_of-push k n key [] row log x map_is found e = absurd cc
 picture_of-push k n key (r ∷ rows) row log x map_is found e =
     let parts = and_parts (is_fresh r.address rows) (is_single rows) map_is in
@@ -114,18 +136,22 @@ picture_of-push k n key (r ∷ rows) row log x map_is found e =
           (let at : pair k r ≡ pair n row = rw here at found in
           let none : n - k ≡ 0 = omega (arith, (pair_is k n r row at).0) in
           let e' : x.address ≡ r.address = e ∙ ap (λ (y : Row). y.address) (sym (pair_is k n r row at).1) in
-          rw none (ap (λ (ys : List Observation). without_time x ∷ ys) (sym (fresh_same log x r rows parts.0 e')) ∙ ap (λ (y : Observation). y ∷ picture_of rows (log ++ x ∷ [])) (sym (shown_here log x r e'))))
+          rw none (ap (λ (ys : List Observation). without_time x ∷ ys) (sym (fresh_same log x r rows parts.0 e'))
+          ∙ ap (λ (y : Observation). y ∷ picture_of rows (log ++ x ∷ [])) (sym (shown_here log x r e'))))
       | inr there ↦
           (let at : row_from (k + 1) key rows ≡ Some (n, row) = rw there at found in
           let more : n - k ≡ suc (n - (k + 1)) = omega (arith, row_from-le (k + 1) n key rows row at) in
           let apart : eqb r.address row.address ≡ false = fresh_address (k + 1) n key r rows row parts.0 at in
-          let elsewhere : eqb x.address r.address ≡ false = ap (λ (a : ℕ). eqb a r.address) e ∙ swap r.address row.address apart in
-          rw more (ap (λ (ys : List Observation). shown_by log r ∷ ys) (picture_of-push (k + 1) n key rows row log x parts.1 at e)
+          let elsewhere : eqb x.address r.address ≡ false =
+          ap (λ (a : ℕ). eqb a r.address) e ∙ swap r.address row.address apart in
+          rw more (ap (λ (ys : List Observation). shown_by log r ∷ ys)
+          (picture_of-push (k + 1) n key rows row log x parts.1 at e)
           ∙ ap (λ (y : Observation). y ∷ picture_of rows (log ++ x ∷ [])) (sym (same_elsewhere log x r elsewhere))))
     ]
 
 -- what the picture has at a row that is found
-picture_of-get : (k n : ℕ) (key : PointKey) (rows : List Row) (row : Row) (log : List Observation) → row_from k key rows ≡ Some (n, row)
+picture_of-get : (k n : ℕ) (key : PointKey) (rows : List Row) (row : Row) (log : List Observation)
+    → row_from k key rows ≡ Some (n, row)
     → slice_get (picture_of rows log) (n - k) ≡ Some (shown_by log row)
 picture_of-get k n key [] row log found = absurd cc
 picture_of-get k n key (r ∷ rows) row log found =
@@ -142,38 +168,53 @@ picture_of-get k n key (r ∷ rows) row log found =
 
 -- ---- reports
 
-one_report : (offset : ℤ) (rows : List Row) (log : List Observation) (r : Report) (found : Option (ℕ × Row)) → is_single rows ≡ true → row_from 0 r.key rows ≡ found
-    → picture_by_row offset (picture_of rows log) r found ≡ picture_of rows (log ++ news_by_row offset (picture_of rows log) r found)
+one_report : (offset : ℤ) (rows : List Row) (log : List Observation) (r : Report) (found : Option (ℕ × Row))
+    → is_single rows ≡ true → row_from 0 r.key rows ≡ found
+    → picture_by_row offset (picture_of rows log) r found
+    ≡ picture_of rows (log ++ news_by_row offset (picture_of rows log) r found)
 one_report offset rows log r None map_is e = ap (picture_of rows) (sym (append-nil log))
 one_report offset rows log r (Some p) map_is e =
     let row = p.1 in
     let image : Observation = image_of offset row r in
     let zero_off : p.0 - 0 ≡ p.0 = omega arith in
-    let get : slice_get (picture_of rows log) p.0 ≡ Some (shown_by log row) = rw zero_off at (picture_of-get 0 p.0 r.key rows row log e) in
+    let get : slice_get (picture_of rows log) p.0 ≡ Some (shown_by log row) =
+    rw zero_off at (picture_of-get 0 p.0 r.key rows row log e) in
     elim (cases_Bool (is_news_of r (shown_by log row) image)) [
       | inl news ↦
-          (let push : change p.0 (λ _. without_time image) (picture_of rows log) ≡ picture_of rows (log ++ image ∷ []) = rw zero_off at (picture_of-push 0 p.0 r.key rows row log image map_is e (image_address offset row r)) in
+          (let push : change p.0 (λ _. without_time image) (picture_of rows log) ≡ picture_of rows (log ++ image ∷ []) =
+          rw zero_off at (picture_of-push 0 p.0 r.key rows row log image map_is e (image_address offset row r)) in
           let observation : news_by_row offset (picture_of rows log) r (Some p) ≡ image ∷ [] = rw (get, news) refl in
           push ∙ ap (λ (xs : List Observation). picture_of rows (log ++ xs)) (sym observation))
       | inr none ↦
-          (let before : shown_by log row ≡ without_time image = no_news r (shown_by log row) image none (last_observation-address row.address (opening row) log refl ∙ sym (image_address offset row r)) (last_observation-stamp row.address (opening row) log refl) in
+          (let before : shown_by log row ≡ without_time image =
+          no_news r (shown_by log row) image none (last_observation-address row.address (opening row) log refl
+          ∙ sym (image_address offset row r)) (last_observation-stamp row.address (opening row) log refl) in
           let observation : news_by_row offset (picture_of rows log) r (Some p) ≡ [] = rw (get, none) refl in
           change-same p.0 (without_time image) (picture_of rows log) (get ∙ ap (λ (x : Observation). some x) before)
-          ∙ (ap (picture_of rows) (sym (append-nil log)) ∙ ap (λ (xs : List Observation). picture_of rows (log ++ xs)) (sym observation)))
+          ∙ (ap (picture_of rows) (sym (append-nil log))
+          ∙ ap (λ (xs : List Observation). picture_of rows (log ++ xs)) (sym observation)))
     ]
 
-pub report_in_log : (offset : ℤ) (rows : List Row) (controls : List Control) (log : List Observation) (r : Report) → HasSingleAddresses rows controls
-    → picture_after_report offset rows (picture_of rows log) r ≡ picture_of rows (log ++ news_of_report offset rows (picture_of rows log) r)
-report_in_log offset rows controls log r single = one_report offset rows log r (row_from 0 r.key rows) (is_single-true rows controls single) refl
+pub report_in_log : (offset : ℤ) (rows : List Row) (controls : List Control) (log : List Observation) (r : Report)
+    → HasSingleAddresses rows controls
+    → picture_after_report offset rows (picture_of rows log) r
+    ≡ picture_of rows (log ++ news_of_report offset rows (picture_of rows log) r)
+report_in_log offset rows controls log r single =
+    one_report offset rows log r (row_from 0 r.key rows) (is_single-true rows controls single) refl
 
 -- of reports taken in turn
-pub reports_in_log : (offset : ℤ) (rows : List Row) (controls : List Control) (log : List Observation) (rs : List Report) → HasSingleAddresses rows controls
-    → picture_after offset rows (picture_of rows log) rs ≡ picture_of rows (log ++ news_of offset rows (picture_of rows log) rs)
+pub reports_in_log : (offset : ℤ) (rows : List Row) (controls : List Control) (log : List Observation)
+    (rs : List Report) → HasSingleAddresses rows controls
+    → picture_after offset rows (picture_of rows log) rs
+    ≡ picture_of rows (log ++ news_of offset rows (picture_of rows log) rs)
 reports_in_log offset rows controls log [] single = ap (picture_of rows) (sym (append-nil log))
 reports_in_log offset rows controls log (r ∷ rs) single =
     let xs : List Observation = news_of_report offset rows (picture_of rows log) r in
-    let one : picture_after_report offset rows (picture_of rows log) r ≡ picture_of rows (log ++ xs) = report_in_log offset rows controls log r single in
-    let others : picture_after offset rows (picture_of rows (log ++ xs)) rs ≡ picture_of rows ((log ++ xs) ++ news_of offset rows (picture_of rows (log ++ xs)) rs) = reports_in_log offset rows controls (log ++ xs) rs single in
+    let one : picture_after_report offset rows (picture_of rows log) r ≡ picture_of rows (log ++ xs) =
+    report_in_log offset rows controls log r single in
+    let others : picture_after offset rows (picture_of rows (log ++ xs)) rs
+    ≡ picture_of rows ((log ++ xs) ++ news_of offset rows (picture_of rows (log ++ xs)) rs) =
+    reports_in_log offset rows controls (log ++ xs) rs single in
     ap (λ (p : List Observation). picture_after offset rows p rs) one
     ∙ (others
     ∙ (ap (picture_of rows) (append_assoc log xs (news_of offset rows (picture_of rows (log ++ xs)) rs))

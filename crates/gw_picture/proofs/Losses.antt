@@ -1,4 +1,5 @@
--- A loss: the row at each place in turn; what it leaves of a picture; and the picture after it is that of the log with it.
+-- A loss: the row at each place in turn; what it leaves of a picture;
+-- and the picture after it is that of the log with it.
 use Rattle.std.proofs.Common.{◌≡◌, ℕ, zero, suc, ◌+◌, ◌<◌, ◌≤◌, Bool, true, false, not, ◌&&◌, cond, eqb, List, [], ◌∷◌, ◌++◌, map, length, take, drop, Option, Some, None, refl, sym, ap, subst, ◌∙◌, arith}
 use Rattle.std.specs.Prelude.{slice_get, option_map}
 use Rattle.std.specs.List.{AllByRecursion}
@@ -36,7 +37,8 @@ shown_none outstation (row ∷ rows) = refl
 -- ---- the loss of the rows from a place on: of the row there, and of those behind it
 
 from_place : (outstation : ℕ) (rows : List Row) (picture : List Observation) (n : ℕ) → n < length picture
-    → losses_of outstation (drop n rows) (drop n picture) ≡ losses_at outstation rows picture n ++ losses_of outstation (drop (suc n) rows) (drop (suc n) picture)
+    → losses_of outstation (drop n rows) (drop n picture)
+    ≡ losses_at outstation rows picture n ++ losses_of outstation (drop (suc n) rows) (drop (suc n) picture)
 from_place outstation rows [] n lt = absurd (omega arith)
 from_place outstation [] (x ∷ picture) zero lt = refl
 from_place outstation [] (x ∷ picture) (suc n) lt = refl
@@ -45,52 +47,70 @@ from_place outstation (row ∷ rows) (x ∷ picture) (suc n) lt = from_place out
 
 -- by one picture
 pub loss_from : (outstation : ℕ) (rows : List Row) (picture : List Observation) (n : ℕ) → n < length picture
-    → losses_of outstation (drop n rows) (drop n picture) ≡ losses_at outstation rows picture n ++ losses_of outstation (drop (n + 1) rows) (drop (n + 1) picture)
-loss_from outstation rows picture n lt = let next : n + 1 ≡ suc n = omega arith in rw next (from_place outstation rows picture n lt)
+    → losses_of outstation (drop n rows) (drop n picture)
+    ≡ losses_at outstation rows picture n ++ losses_of outstation (drop (n + 1) rows) (drop (n + 1) picture)
+loss_from outstation rows picture n lt =
+    let next : n + 1 ≡ suc n = omega arith in
+    rw next (from_place outstation rows picture n lt)
 
 -- and by the picture after the loss of the row there
 pub loss_next : (outstation : ℕ) (rows : List Row) (picture : List Observation) (n : ℕ) → n < length picture
     → losses_of outstation (drop n rows) (drop n picture)
-    ≡ losses_at outstation rows picture n ++ losses_of outstation (drop (n + 1) rows) (drop (n + 1) (picture_losing_at outstation rows picture n))
+    ≡ losses_at outstation rows picture n
+    ++ losses_of outstation (drop (n + 1) rows) (drop (n + 1) (picture_losing_at outstation rows picture n))
 loss_next outstation rows picture n lt =
     let next : n + 1 ≡ suc n = omega arith in
     rw next (from_place outstation rows picture n lt
-    ∙ ap (λ (xs : List Observation). losses_at outstation rows picture n ++ losses_of outstation (drop (suc n) rows) xs) (sym (change-behind n (shown_at_loss outstation (slice_get rows n)) picture)))
+    ∙ ap (λ (xs : List Observation). losses_at outstation rows picture n ++ losses_of outstation (drop (suc n) rows) xs)
+    (sym (change-behind n (shown_at_loss outstation (slice_get rows n)) picture)))
 
 -- counted
 pub count_next : (outstation : ℕ) (rows : List Row) (picture : List Observation) (n : ℕ) → n < length picture
-    → length (losses_of outstation (drop n rows) (drop n picture)) ≡ length (losses_at outstation rows picture n) + length (losses_of outstation (drop (n + 1) rows) (drop (n + 1) picture))
+    → length (losses_of outstation (drop n rows) (drop n picture)) ≡ length (losses_at outstation rows picture n)
+    + length (losses_of outstation (drop (n + 1) rows) (drop (n + 1) picture))
 count_next outstation rows picture n lt =
-    ap length (loss_from outstation rows picture n lt) ∙ length-append (losses_at outstation rows picture n) (losses_of outstation (drop (n + 1) rows) (drop (n + 1) picture))
+    ap length (loss_from outstation rows picture n lt) ∙ length-append (losses_at outstation rows picture n)
+    (losses_of outstation (drop (n + 1) rows) (drop (n + 1) picture))
 
 shown_from : (outstation : ℕ) (rows : List Row) (picture : List Observation) (n : ℕ) → n < length picture
     → take n picture ++ picture_after_loss outstation (drop n rows) (drop n picture)
-    ≡ take (suc n) (picture_losing_at outstation rows picture n) ++ picture_after_loss outstation (drop (suc n) rows) (drop (suc n) (picture_losing_at outstation rows picture n))
+    ≡ take (suc n) (picture_losing_at outstation rows picture n)
+    ++ picture_after_loss outstation (drop (suc n) rows) (drop (suc n) (picture_losing_at outstation rows picture n))
 shown_from outstation rows [] n lt = absurd (omega arith)
 shown_from outstation [] (x ∷ picture) zero lt = refl
 shown_from outstation [] (x ∷ picture) (suc n) lt =
-    let same : change n (shown_at_loss outstation None) picture ≡ picture = change-still n (shown_at_loss outstation None) picture (λ (y : Observation) at. refl) in
-    ap (λ (xs : List Observation). x ∷ xs) (take-append-drop n picture ∙ (sym same ∙ sym (take-append-drop (suc n) (change n (shown_at_loss outstation None) picture))))
+    let same : change n (shown_at_loss outstation None) picture ≡ picture =
+    change-still n (shown_at_loss outstation None) picture (λ (y : Observation) at. refl) in
+    ap (λ (xs : List Observation). x ∷ xs) (take-append-drop n picture
+    ∙ (sym same ∙ sym (take-append-drop (suc n) (change n (shown_at_loss outstation None) picture))))
 shown_from outstation (row ∷ rows) (x ∷ picture) zero lt = refl
-shown_from outstation (row ∷ rows) (x ∷ picture) (suc n) lt = ap (λ (xs : List Observation). x ∷ xs) (shown_from outstation rows picture n (omega arith))
+shown_from outstation (row ∷ rows) (x ∷ picture) (suc n) lt =
+    ap (λ (xs : List Observation). x ∷ xs) (shown_from outstation rows picture n (omega arith))
 
 -- what the rows before the place show, and what those from it on show after the loss
 pub shown_next : (outstation : ℕ) (rows : List Row) (picture : List Observation) (n : ℕ) → n < length picture
     → take n picture ++ picture_after_loss outstation (drop n rows) (drop n picture)
-    ≡ take (n + 1) (picture_losing_at outstation rows picture n) ++ picture_after_loss outstation (drop (n + 1) rows) (drop (n + 1) (picture_losing_at outstation rows picture n))
-shown_next outstation rows picture n lt = let next : n + 1 ≡ suc n = omega arith in rw next (shown_from outstation rows picture n lt)
+    ≡ take (n + 1) (picture_losing_at outstation rows picture n)
+    ++ picture_after_loss outstation (drop (n + 1) rows) (drop (n + 1) (picture_losing_at outstation rows picture n))
+shown_next outstation rows picture n lt =
+    let next : n + 1 ≡ suc n = omega arith in
+    rw next (shown_from outstation rows picture n lt)
 
-pub losing_length : (outstation : ℕ) (rows : List Row) (picture : List Observation) (n : ℕ) → length (picture_losing_at outstation rows picture n) ≡ length picture
+pub losing_length : (outstation : ℕ) (rows : List Row) (picture : List Observation) (n : ℕ)
+    → length (picture_losing_at outstation rows picture n) ≡ length picture
 losing_length outstation rows picture n = change-length n (shown_at_loss outstation (slice_get rows n)) picture
 
 -- past the last place nothing is left
-pub losses_end : (outstation : ℕ) (rows : List Row) (picture : List Observation) (n : ℕ) → length picture ≤ n → losses_of outstation (drop n rows) (drop n picture) ≡ []
-losses_end outstation rows picture n le = ap (losses_of outstation (drop n rows)) (drop_all n picture le) ∙ losses_none outstation (drop n rows)
+pub losses_end : (outstation : ℕ) (rows : List Row) (picture : List Observation) (n : ℕ) → length picture ≤ n
+    → losses_of outstation (drop n rows) (drop n picture) ≡ []
+losses_end outstation rows picture n le =
+    ap (losses_of outstation (drop n rows)) (drop_all n picture le) ∙ losses_none outstation (drop n rows)
 
 pub shown_end : (outstation : ℕ) (rows : List Row) (picture : List Observation) (n : ℕ) → length picture ≤ n
     → take n picture ++ picture_after_loss outstation (drop n rows) (drop n picture) ≡ picture
 shown_end outstation rows picture n le =
-    ap (λ (xs : List Observation). take n picture ++ xs) (ap (picture_after_loss outstation (drop n rows)) (drop_all n picture le) ∙ shown_none outstation (drop n rows))
+    ap (λ (xs : List Observation). take n picture ++ xs)
+    (ap (picture_after_loss outstation (drop n rows)) (drop_all n picture le) ∙ shown_none outstation (drop n rows))
     ∙ (append-nil (take n picture) ∙ take_all n picture le)
 
 -- ---- how many
@@ -102,23 +122,32 @@ row_one outstation row x = go (is_lost_with outstation row x)
     go true = omega arith
     go false = omega arith
 
-both_one : (outstation : ℕ) (row : Option Row) (shown : Option Observation) → length (losses_of_both outstation row shown) ≤ 1
+both_one : (outstation : ℕ) (row : Option Row) (shown : Option Observation)
+    → length (losses_of_both outstation row shown) ≤ 1
 both_one outstation None shown = omega arith
 both_one outstation (Some row) None = omega arith
 both_one outstation (Some row) (Some x) = row_one outstation row x
 
-pub losses_one : (outstation : ℕ) (rows : List Row) (picture : List Observation) (n : ℕ) → length (losses_at outstation rows picture n) ≤ 1
+pub losses_one : (outstation : ℕ) (rows : List Row) (picture : List Observation) (n : ℕ)
+    → length (losses_at outstation rows picture n) ≤ 1
 losses_one outstation rows picture n = both_one outstation (slice_get rows n) (slice_get picture n)
 
-pub losses_few : (outstation : ℕ) (rows : List Row) (picture : List Observation) → length (losses_of outstation rows picture) ≤ length picture
+pub losses_few : (outstation : ℕ) (rows : List Row) (picture : List Observation)
+    → length (losses_of outstation rows picture) ≤ length picture
 losses_few outstation [] picture = omega arith
 losses_few outstation (row ∷ rows) [] = omega arith
 losses_few outstation (row ∷ rows) (x ∷ picture) =
-    omega (arith, length-append (losses_of_row outstation row x) (losses_of outstation rows picture), row_one outstation row x, losses_few outstation rows picture)
+    omega (
+      arith,
+      length-append (losses_of_row outstation row x) (losses_of outstation rows picture),
+      row_one outstation row x,
+      losses_few outstation rows picture,
+    )
 
 -- ---- the row at a place
 
-still : (outstation : ℕ) (row : Option Row) (x : Observation) → losses_of_both outstation row (Some x) ≡ [] → shown_at_loss outstation row x ≡ x
+still : (outstation : ℕ) (row : Option Row) (x : Observation) → losses_of_both outstation row (Some x) ≡ []
+    → shown_at_loss outstation row x ≡ x
 still outstation None x e = refl
 still outstation (Some row) x e = go (is_lost_with outstation row x) e
   where
@@ -126,7 +155,8 @@ still outstation (Some row) x e = go (is_lost_with outstation row x) e
     go true none = absurd cc
     go false none = refl
 
-moved : (outstation : ℕ) (row : Option Row) (x y : Observation) → losses_of_both outstation row (Some x) ≡ y ∷ [] → shown_at_loss outstation row x ≡ y
+moved : (outstation : ℕ) (row : Option Row) (x y : Observation) → losses_of_both outstation row (Some x) ≡ y ∷ []
+    → shown_at_loss outstation row x ≡ y
 moved outstation None x y e = absurd cc
 moved outstation (Some row) x y e = go (is_lost_with outstation row x) e
   where
@@ -135,45 +165,55 @@ moved outstation (Some row) x y e = go (is_lost_with outstation row x) e
     go false one = absurd cc
 
 -- where the loss is none the picture stays, and where it is an observation that is shown
-pub loss_none : (outstation : ℕ) (rows : List Row) (picture : List Observation) (n : ℕ) → losses_at outstation rows picture n ≡ []
+pub loss_none : (outstation : ℕ) (rows : List Row) (picture : List Observation) (n : ℕ)
+    → losses_at outstation rows picture n ≡ []
     → picture_losing_at outstation rows picture n ≡ picture
 loss_none outstation rows picture n e =
-    change-still n (shown_at_loss outstation (slice_get rows n)) picture (λ (x : Observation) at. still outstation (slice_get rows n) x (ap (losses_of_both outstation (slice_get rows n)) (sym at) ∙ e))
+    change-still n (shown_at_loss outstation (slice_get rows n)) picture (λ (x : Observation) at.
+    still outstation (slice_get rows n) x (ap (losses_of_both outstation (slice_get rows n)) (sym at) ∙ e))
 
-pub loss_some : (outstation : ℕ) (rows : List Row) (picture : List Observation) (n : ℕ) (y : Observation) → losses_at outstation rows picture n ≡ y ∷ []
+pub loss_some : (outstation : ℕ) (rows : List Row) (picture : List Observation) (n : ℕ) (y : Observation)
+    → losses_at outstation rows picture n ≡ y ∷ []
     → picture_losing_at outstation rows picture n ≡ change n (λ _. y) picture
 loss_some outstation rows picture n y e =
-    change-by n (shown_at_loss outstation (slice_get rows n)) y picture (λ (x : Observation) at. moved outstation (slice_get rows n) x y (ap (losses_of_both outstation (slice_get rows n)) (sym at) ∙ e))
+    change-by n (shown_at_loss outstation (slice_get rows n)) y picture (λ (x : Observation) at.
+    moved outstation (slice_get rows n) x y (ap (losses_of_both outstation (slice_get rows n)) (sym at) ∙ e))
 
 -- ---- what a loss leaves
 
-row_keeps_address : (outstation : ℕ) (row : Row) (x : Observation) → (shown_after_loss outstation row x).address ≡ x.address
+row_keeps_address : (outstation : ℕ) (row : Row) (x : Observation)
+    → (shown_after_loss outstation row x).address ≡ x.address
 row_keeps_address outstation row x = go (is_lost_with outstation row x)
   where
     go : (b : Bool) → (cond b (lost x) x).address ≡ x.address
     go true = refl
     go false = refl
 
-row_keeps_untimed : (outstation : ℕ) (row : Row) (x : Observation) → x.stamp ≡ Untimed → (shown_after_loss outstation row x).stamp ≡ Untimed
+row_keeps_untimed : (outstation : ℕ) (row : Row) (x : Observation) → x.stamp ≡ Untimed
+    → (shown_after_loss outstation row x).stamp ≡ Untimed
 row_keeps_untimed outstation row x e = go (is_lost_with outstation row x)
   where
     go : (b : Bool) → (cond b (lost x) x).stamp ≡ Untimed
     go true = refl
     go false = e
 
-keeps_addresses : (outstation : ℕ) (rows : List Row) (picture : List Observation) → map address_of (picture_after_loss outstation rows picture) ≡ map address_of picture
+keeps_addresses : (outstation : ℕ) (rows : List Row) (picture : List Observation)
+    → map address_of (picture_after_loss outstation rows picture) ≡ map address_of picture
 keeps_addresses outstation [] picture = refl
 keeps_addresses outstation (row ∷ rows) [] = refl
 keeps_addresses outstation (row ∷ rows) (x ∷ picture) =
     ap (λ (a : ℕ). a ∷ map address_of (picture_after_loss outstation rows picture)) (row_keeps_address outstation row x)
     ∙ ap (λ (ns : List ℕ). x.address ∷ ns) (keeps_addresses outstation rows picture)
 
-keeps_untimed : (outstation : ℕ) (rows : List Row) (picture : List Observation) → AllByRecursion IsUntimed picture → AllByRecursion IsUntimed (picture_after_loss outstation rows picture)
+keeps_untimed : (outstation : ℕ) (rows : List Row) (picture : List Observation) → AllByRecursion IsUntimed picture
+    → AllByRecursion IsUntimed (picture_after_loss outstation rows picture)
 keeps_untimed outstation [] picture all = all
 keeps_untimed outstation (row ∷ rows) [] all = tt
-keeps_untimed outstation (row ∷ rows) (x ∷ picture) all = (row_keeps_untimed outstation row x all.0, keeps_untimed outstation rows picture all.1)
+keeps_untimed outstation (row ∷ rows) (x ∷ picture) all =
+    (row_keeps_untimed outstation row x all.0, keeps_untimed outstation rows picture all.1)
 
-pub loss_keeps_picture : (outstation : ℕ) (rows : List Row) (picture : List Observation) → IsPictureOf rows picture → IsPictureOf rows (picture_after_loss outstation rows picture)
+pub loss_keeps_picture : (outstation : ℕ) (rows : List Row) (picture : List Observation) → IsPictureOf rows picture
+    → IsPictureOf rows (picture_after_loss outstation rows picture)
 loss_keeps_picture outstation rows picture is = record {
   addresses = keeps_addresses outstation rows picture ∙ is.addresses;
   untimed = keeps_untimed outstation rows picture is.untimed;
@@ -181,7 +221,8 @@ loss_keeps_picture outstation rows picture is = record {
 
 -- what is shown at a place after a loss
 pub loss_shows : (outstation : ℕ) (rows : List Row) (picture : List Observation) (n : ℕ)
-    → slice_get (picture_after_loss outstation rows picture) n ≡ option_map (shown_at_loss outstation (slice_get rows n)) (slice_get picture n)
+    → slice_get (picture_after_loss outstation rows picture) n
+    ≡ option_map (shown_at_loss outstation (slice_get rows n)) (slice_get picture n)
 loss_shows outstation [] picture n = same (slice_get picture n)
   where
     same : (x : Option Observation) → x ≡ option_map (shown_at_loss outstation None) x
@@ -198,7 +239,8 @@ lost_tells _ q = refl
 abbrev tells : Observation → Bool
 tells x = tells_loss x.value x.quality
 
-row_tells : (outstation : ℕ) (row : Row) (x : Observation) → row.key.outstation ≡ outstation → tells (shown_after_loss outstation row x) ≡ true
+row_tells : (outstation : ℕ) (row : Row) (x : Observation) → row.key.outstation ≡ outstation
+    → tells (shown_after_loss outstation row x) ≡ true
 row_tells outstation row x e = go (is_lost_with outstation row x) refl
   where
     go : (b : Bool) → is_lost_with outstation row x ≡ b → tells (cond b (lost x) x) ≡ true
@@ -206,41 +248,52 @@ row_tells outstation row x e = go (is_lost_with outstation row x) refl
     go false is =
         not-false (tells x) (ap (λ (t : Bool). t && not (tells x)) (sym (eq-eqb row.key.outstation outstation e)) ∙ is)
 
-place_tells : (outstation : ℕ) (row : Row) (shown : Option Observation) (x : Observation) → row.key.outstation ≡ outstation
+place_tells : (outstation : ℕ) (row : Row) (shown : Option Observation) (x : Observation)
+    → row.key.outstation ≡ outstation
     → option_map (shown_at_loss outstation (Some row)) shown ≡ Some x → tells x ≡ true
 place_tells outstation row None x e at = absurd cc
-place_tells outstation row (Some y) x e at = subst (λ (z : Observation). tells z ≡ true) (some_is (shown_after_loss outstation row y) x at) (row_tells outstation row y e)
+place_tells outstation row (Some y) x e at = subst (λ (z : Observation). tells z ≡ true)
+    (some_is (shown_after_loss outstation row y) x at) (row_tells outstation row y e)
 
-pub loss_tells : (outstation : ℕ) (rows : List Row) (picture : List Observation) (n : ℕ) (row : Row) (x : Observation) → slice_get rows n ≡ Some row → row.key.outstation ≡ outstation
+pub loss_tells : (outstation : ℕ) (rows : List Row) (picture : List Observation) (n : ℕ) (row : Row) (x : Observation)
+    → slice_get rows n ≡ Some row → row.key.outstation ≡ outstation
     → slice_get (picture_after_loss outstation rows picture) n ≡ Some x → tells_loss x.value x.quality ≡ true
 loss_tells outstation rows picture n row x found e at =
     place_tells outstation row (slice_get picture n) x e
-    (ap (λ (r : Option Row). option_map (shown_at_loss outstation r) (slice_get picture n)) (sym found) ∙ (sym (loss_shows outstation rows picture n) ∙ at))
+    (ap (λ (r : Option Row). option_map (shown_at_loss outstation r) (slice_get picture n)) (sym found)
+    ∙ (sym (loss_shows outstation rows picture n) ∙ at))
 
-place_stays : (outstation : ℕ) (row : Row) (shown : Option Observation) → (row.key.outstation ≡ outstation → ⊥) → option_map (shown_at_loss outstation (Some row)) shown ≡ shown
+place_stays : (outstation : ℕ) (row : Row) (shown : Option Observation) → (row.key.outstation ≡ outstation → ⊥)
+    → option_map (shown_at_loss outstation (Some row)) shown ≡ shown
 place_stays outstation row None ne = refl
 place_stays outstation row (Some x) ne =
     ap (λ (t : Bool). Some (cond (t && not (tells x)) (lost x) x)) (ne_eqb row.key.outstation outstation ne)
 
-pub loss_leaves : (outstation : ℕ) (rows : List Row) (picture : List Observation) (n : ℕ) (row : Row) → slice_get rows n ≡ Some row → (row.key.outstation ≡ outstation → ⊥)
+pub loss_leaves : (outstation : ℕ) (rows : List Row) (picture : List Observation) (n : ℕ) (row : Row)
+    → slice_get rows n ≡ Some row → (row.key.outstation ≡ outstation → ⊥)
     → slice_get (picture_after_loss outstation rows picture) n ≡ slice_get picture n
 loss_leaves outstation rows picture n row found ne =
     loss_shows outstation rows picture n
-    ∙ (ap (λ (r : Option Row). option_map (shown_at_loss outstation r) (slice_get picture n)) found ∙ place_stays outstation row (slice_get picture n) ne)
+    ∙ (ap (λ (r : Option Row). option_map (shown_at_loss outstation r) (slice_get picture n)) found
+    ∙ place_stays outstation row (slice_get picture n) ne)
 
-row_again : (outstation : ℕ) (row : Row) (x : Observation) → losses_of_row outstation row (shown_after_loss outstation row x) ≡ []
+row_again : (outstation : ℕ) (row : Row) (x : Observation)
+    → losses_of_row outstation row (shown_after_loss outstation row x) ≡ []
 row_again outstation row x = go (is_lost_with outstation row x) refl
   where
     go : (b : Bool) → is_lost_with outstation row x ≡ b → losses_of_row outstation row (cond b (lost x) x) ≡ []
     go true is =
-        ap (λ (t : Bool). cond t (lost (lost x) ∷ []) []) (and_right (eqb row.key.outstation outstation) (not (tells (lost x))) (not_from_true (tells (lost x)) (lost_tells x.value x.quality)))
+        ap (λ (t : Bool). cond t (lost (lost x) ∷ []) []) (and_right (eqb row.key.outstation outstation)
+        (not (tells (lost x))) (not_from_true (tells (lost x)) (lost_tells x.value x.quality)))
     go false is = ap (λ (t : Bool). cond t (lost x ∷ []) []) is
 
-pub loss_again : (outstation : ℕ) (rows : List Row) (picture : List Observation) → losses_of outstation rows (picture_after_loss outstation rows picture) ≡ []
+pub loss_again : (outstation : ℕ) (rows : List Row) (picture : List Observation)
+    → losses_of outstation rows (picture_after_loss outstation rows picture) ≡ []
 loss_again outstation [] picture = refl
 loss_again outstation (row ∷ rows) [] = refl
 loss_again outstation (row ∷ rows) (x ∷ picture) =
-    ap (λ (xs : List Observation). xs ++ losses_of outstation rows (picture_after_loss outstation rows picture)) (row_again outstation row x)
+    ap (λ (xs : List Observation). xs ++ losses_of outstation rows (picture_after_loss outstation rows picture))
+    (row_again outstation row x)
     ∙ loss_again outstation rows picture
 
 -- ---- the log with a loss
@@ -252,9 +305,11 @@ shown_then log more row = last_observation row.address (shown_by log row) more
 last-append : (address : ℕ) (shown : Observation) (log more : List Observation)
     → last_observation address (last_observation address shown log) more ≡ last_observation address shown (log ++ more)
 last-append address shown [] more = refl
-last-append address shown (y ∷ log) more = last-append address (cond (eqb y.address address) (without_time y) shown) log more
+last-append address shown (y ∷ log) more =
+    last-append address (cond (eqb y.address address) (without_time y) shown) log more
 
-picture_then : (rows : List Row) (log more : List Observation) → map (shown_then log more) rows ≡ picture_of rows (log ++ more)
+picture_then : (rows : List Row) (log more : List Observation)
+    → map (shown_then log more) rows ≡ picture_of rows (log ++ more)
 picture_then [] log more = refl
 picture_then (row ∷ rows) log more =
     ap (λ (x : Observation). x ∷ map (shown_then log more) rows) (last-append row.address (opening row) log more)
@@ -264,57 +319,74 @@ shown_address : (log : List Observation) (row : Row) → (shown_by log row).addr
 shown_address log row = last_observation-address row.address (opening row) log refl
 
 -- the loss of a row isn't shown at another address
-skips_row : (outstation address : ℕ) (shown : Observation) (row : Row) (x : Observation) (more : List Observation) → eqb x.address address ≡ false
+skips_row : (outstation address : ℕ) (shown : Observation) (row : Row) (x : Observation) (more : List Observation)
+    → eqb x.address address ≡ false
     → last_observation address shown (losses_of_row outstation row x ++ more) ≡ last_observation address shown more
 skips_row outstation address shown row x more apart = go (is_lost_with outstation row x)
   where
-    go : (b : Bool) → last_observation address shown (cond b (lost x ∷ []) [] ++ more) ≡ last_observation address shown more
+    go : (b : Bool)
+        → last_observation address shown (cond b (lost x ∷ []) [] ++ more) ≡ last_observation address shown more
     go true = ap (λ (t : Bool). last_observation address (cond t (without_time (lost x)) shown) more) apart
     go false = refl
 
 -- nor is that of rows none of which has the address
-skips_rows : (outstation address : ℕ) (shown : Observation) (rows : List Row) (log : List Observation) → is_fresh address rows ≡ true
+skips_rows : (outstation address : ℕ) (shown : Observation) (rows : List Row) (log : List Observation)
+    → is_fresh address rows ≡ true
     → last_observation address shown (losses_of outstation rows (picture_of rows log)) ≡ shown
 skips_rows outstation address shown [] log fresh = refl
 skips_rows outstation address shown (row ∷ rows) log fresh =
     let parts = and_parts (not (eqb address row.address)) (is_fresh address rows) fresh in
     let other : eqb address row.address ≡ false = not-true (eqb address row.address) parts.0 in
-    let apart : eqb (shown_by log row).address address ≡ false = ap (λ (a : ℕ). eqb a address) (shown_address log row) ∙ swap address row.address other in
-    skips_row outstation address shown row (shown_by log row) (losses_of outstation rows (picture_of rows log)) apart ∙ skips_rows outstation address shown rows log parts.1
+    let apart : eqb (shown_by log row).address address ≡ false =
+    ap (λ (a : ℕ). eqb a address) (shown_address log row) ∙ swap address row.address other in
+    skips_row outstation address shown row (shown_by log row) (losses_of outstation rows (picture_of rows log)) apart
+    ∙ skips_rows outstation address shown rows log parts.1
 
 -- rows that a fresh row stands before don't show its loss
-rows_skip : (outstation : ℕ) (first : Row) (x : Observation) (more : List Observation) (rows : List Row) (log : List Observation) → is_fresh first.address rows ≡ true
-    → x.address ≡ first.address → map (shown_then log (losses_of_row outstation first x ++ more)) rows ≡ map (shown_then log more) rows
+rows_skip : (outstation : ℕ) (first : Row) (x : Observation) (more : List Observation) (rows : List Row)
+    (log : List Observation) → is_fresh first.address rows ≡ true
+    → x.address ≡ first.address
+    → map (shown_then log (losses_of_row outstation first x ++ more)) rows ≡ map (shown_then log more) rows
 rows_skip outstation first x more [] log fresh e = refl
 rows_skip outstation first x more (row ∷ rows) log fresh e =
     let parts = and_parts (not (eqb first.address row.address)) (is_fresh first.address rows) fresh in
     let other : eqb first.address row.address ≡ false = not-true (eqb first.address row.address) parts.0 in
     let apart : eqb x.address row.address ≡ false = ap (λ (a : ℕ). eqb a row.address) e ∙ other in
-    ap (λ (y : Observation). y ∷ map (shown_then log (losses_of_row outstation first x ++ more)) rows) (skips_row outstation row.address (shown_by log row) first x more apart)
-    ∙ ap (λ (ys : List Observation). shown_then log more row ∷ ys) (rows_skip outstation first x more rows log parts.1 e)
+    ap (λ (y : Observation). y ∷ map (shown_then log (losses_of_row outstation first x ++ more)) rows)
+    (skips_row outstation row.address (shown_by log row) first x more apart)
+    ∙ ap (λ (ys : List Observation). shown_then log more row ∷ ys)
+    (rows_skip outstation first x more rows log parts.1 e)
 
 -- a row shows its own loss, where what comes after it isn't shown there
 row_shows : (outstation : ℕ) (row : Row) (x : Observation) (more : List Observation) → x.address ≡ row.address
-    → ((shown : Observation) → last_observation row.address shown more ≡ shown) → shown_after_loss outstation row x ≡ last_observation row.address x (losses_of_row outstation row x ++ more)
+    → ((shown : Observation) → last_observation row.address shown more ≡ shown)
+    → shown_after_loss outstation row x ≡ last_observation row.address x (losses_of_row outstation row x ++ more)
 row_shows outstation row x more e none = go (is_lost_with outstation row x)
   where
     go : (b : Bool) → cond b (lost x) x ≡ last_observation row.address x (cond b (lost x ∷ []) [] ++ more)
-    go true = sym (ap (λ (t : Bool). last_observation row.address (cond t (without_time (lost x)) x) more) (eq-eqb x.address row.address e) ∙ none (lost x))
+    go true = sym (ap (λ (t : Bool). last_observation row.address (cond t (without_time (lost x)) x) more)
+        (eq-eqb x.address row.address e) ∙ none (lost x))
     go false = sym (none x)
 
 rows_show : (outstation : ℕ) (rows : List Row) (log : List Observation) → is_single rows ≡ true
-    → picture_after_loss outstation rows (picture_of rows log) ≡ map (shown_then log (losses_of outstation rows (picture_of rows log))) rows
+    → picture_after_loss outstation rows (picture_of rows log)
+    ≡ map (shown_then log (losses_of outstation rows (picture_of rows log))) rows
 rows_show outstation [] log single = refl
 rows_show outstation (row ∷ rows) log single =
     let parts = and_parts (is_fresh row.address rows) (is_single rows) single in
     let x : Observation = shown_by log row in
     let more : List Observation = losses_of outstation rows (picture_of rows log) in
     ap (λ (y : Observation). y ∷ picture_after_loss outstation rows (picture_of rows log))
-    (row_shows outstation row x more (shown_address log row) (λ (shown : Observation). skips_rows outstation row.address shown rows log parts.0))
+    (row_shows outstation row x more (shown_address log row)
+    (λ (shown : Observation). skips_rows outstation row.address shown rows log parts.0))
     ∙ ap (λ (ys : List Observation). last_observation row.address x (losses_of_row outstation row x ++ more) ∷ ys)
-    (rows_show outstation rows log parts.1 ∙ sym (rows_skip outstation row x more rows log parts.0 (shown_address log row)))
+    (rows_show outstation rows log parts.1
+    ∙ sym (rows_skip outstation row x more rows log parts.0 (shown_address log row)))
 
-pub loss_in_log : (outstation : ℕ) (rows : List Row) (controls : List Control) (log : List Observation) → HasSingleAddresses rows controls
-    → picture_after_loss outstation rows (picture_of rows log) ≡ picture_of rows (log ++ losses_of outstation rows (picture_of rows log))
+pub loss_in_log : (outstation : ℕ) (rows : List Row) (controls : List Control) (log : List Observation)
+    → HasSingleAddresses rows controls
+    → picture_after_loss outstation rows (picture_of rows log)
+    ≡ picture_of rows (log ++ losses_of outstation rows (picture_of rows log))
 loss_in_log outstation rows controls log single =
-    rows_show outstation rows log (is_single-true rows controls single) ∙ picture_then rows log (losses_of outstation rows (picture_of rows log))
+    rows_show outstation rows log (is_single-true rows controls single)
+    ∙ picture_then rows log (losses_of outstation rows (picture_of rows log))

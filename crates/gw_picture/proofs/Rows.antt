@@ -44,7 +44,8 @@ opening_is_picture rows = record { addresses = opening_addresses rows; untimed =
 
 -- ---- what is at a row's place
 
-row_from-get : (k n : ℕ) (key : PointKey) (rows : List Row) (row : Row) → row_from k key rows ≡ Some (n, row) → slice_get rows (n - k) ≡ Some row
+row_from-get : (k n : ℕ) (key : PointKey) (rows : List Row) (row : Row) → row_from k key rows ≡ Some (n, row)
+    → slice_get rows (n - k) ≡ Some row
 row_from-get k n key [] row found = absurd cc
 row_from-get k n key (r ∷ rows) row found =
     elim (cases_Bool (same_key r.key key)) [
@@ -58,24 +59,31 @@ row_from-get k n key (r ∷ rows) row found =
           rw more (row_from-get (k + 1) n key rows row at))
     ]
 
-pub row_at : (key : PointKey) (rows : List Row) (n : ℕ) (row : Row) → row_from 0 key rows ≡ Some (n, row) → slice_get rows n ≡ Some row
-row_at key rows n row found = let zero_off : n - 0 ≡ n = omega arith in rw zero_off at (row_from-get 0 n key rows row found)
+pub row_at : (key : PointKey) (rows : List Row) (n : ℕ) (row : Row) → row_from 0 key rows ≡ Some (n, row)
+    → slice_get rows n ≡ Some row
+row_at key rows n row found =
+    let zero_off : n - 0 ≡ n = omega arith in
+    rw zero_off at (row_from-get 0 n key rows row found)
 
-pub all_get : (P : Observation → Type 0) (xs : List Observation) (n : ℕ) (y : Observation) → AllByRecursion P xs → slice_get xs n ≡ Some y → P y
+pub all_get : (P : Observation → Type 0) (xs : List Observation) (n : ℕ) (y : Observation) → AllByRecursion P xs
+    → slice_get xs n ≡ Some y → P y
 all_get P [] n y all e = absurd cc
 all_get P (x ∷ xs) zero y all e = subst P (some_is x y e) all.0
 all_get P (x ∷ xs) (suc n) y all e = all_get P xs n y all.1 e
 
-pub all_change : (P : Observation → Type 0) (n : ℕ) (x : Observation) (xs : List Observation) → P x → AllByRecursion P xs → AllByRecursion P (change n (λ _. x) xs)
+pub all_change : (P : Observation → Type 0) (n : ℕ) (x : Observation) (xs : List Observation) → P x
+    → AllByRecursion P xs → AllByRecursion P (change n (λ _. x) xs)
 all_change P n x [] p all = tt
 all_change P zero x (y ∷ xs) p all = (p, all.1)
 all_change P (suc n) x (y ∷ xs) p all = (all.0, all_change P n x xs p all.1)
 
 -- the picture's address at a row's place, if it has one
-place_address : (rows : List Row) (picture : List Observation) (n : ℕ) (row : Row) → IsPictureOf rows picture → slice_get rows n ≡ Some row
+place_address : (rows : List Row) (picture : List Observation) (n : ℕ) (row : Row) → IsPictureOf rows picture
+    → slice_get rows n ≡ Some row
     → option_map address_of (slice_get picture n) ≡ Some row.address
 place_address rows picture n row is e =
-    sym (map-get address_of picture n) ∙ (ap (λ (ns : List ℕ). slice_get ns n) is.addresses ∙ (map-get row_address rows n ∙ ap (option_map row_address) e))
+    sym (map-get address_of picture n)
+    ∙ (ap (λ (ns : List ℕ). slice_get ns n) is.addresses ∙ (map-get row_address rows n ∙ ap (option_map row_address) e))
 
 pub record Shown (picture : List Observation) (n : ℕ) (row : Row) : Type 0 where
   pub last : Observation
@@ -83,17 +91,26 @@ pub record Shown (picture : List Observation) (n : ℕ) (row : Row) : Type 0 whe
   pub address : last.address ≡ row.address
   pub stamp : last.stamp ≡ Untimed
 
-shown_of : (rows : List Row) (picture : List Observation) (n : ℕ) (row : Row) (last : Option Observation) → IsPictureOf rows picture → slice_get picture n ≡ last
+shown_of : (rows : List Row) (picture : List Observation) (n : ℕ) (row : Row) (last : Option Observation)
+    → IsPictureOf rows picture → slice_get picture n ≡ last
     → option_map address_of last ≡ Some row.address → Shown picture n row
 shown_of rows picture n row None is at e = absurd cc
-shown_of rows picture n row (Some x) is at e = record { last = x; at = at; address = some_is x.address row.address e; stamp = all_get IsUntimed picture n x is.untimed at }
+shown_of rows picture n row (Some x) is at e = record {
+  last = x;
+  at = at;
+  address = some_is x.address row.address e;
+  stamp = all_get IsUntimed picture n x is.untimed at;
+}
 
-shown : (rows : List Row) (picture : List Observation) (r : Report) (n : ℕ) (row : Row) → IsPictureOf rows picture → row_from 0 r.key rows ≡ Some (n, row) → Shown picture n row
-shown rows picture r n row is found = shown_of rows picture n row (slice_get picture n) is refl (place_address rows picture n row is (row_at r.key rows n row found))
+shown : (rows : List Row) (picture : List Observation) (r : Report) (n : ℕ) (row : Row) → IsPictureOf rows picture
+    → row_from 0 r.key rows ≡ Some (n, row) → Shown picture n row
+shown rows picture r n row is found = shown_of rows picture n row (slice_get picture n) is refl
+    (place_address rows picture n row is (row_at r.key rows n row found))
 
 -- ---- a report
 
-keeps_at : (offset : ℤ) (rows : List Row) (picture : List Observation) (r : Report) (found : Option (ℕ × Row)) → IsPictureOf rows picture → row_from 0 r.key rows ≡ found
+keeps_at : (offset : ℤ) (rows : List Row) (picture : List Observation) (r : Report) (found : Option (ℕ × Row))
+    → IsPictureOf rows picture → row_from 0 r.key rows ≡ found
     → IsPictureOf rows (picture_by_row offset picture r found)
 keeps_at offset rows picture r None is e = is
 keeps_at offset rows picture r (Some p) is e =
@@ -101,19 +118,24 @@ keeps_at offset rows picture r (Some p) is e =
     let here : Shown picture p.0 p.1 = shown rows picture r p.0 p.1 is e in
     record {
       addresses =
-          change-maps address_of p.0 x picture (λ (y : Observation) at. image_address offset p.1 r ∙ (sym here.address ∙ ap address_of (some_is here.last y (sym here.at ∙ at))))
+          change-maps address_of p.0 x picture (λ (y : Observation) at. image_address offset p.1 r ∙ (sym here.address
+          ∙ ap address_of (some_is here.last y (sym here.at ∙ at))))
           ∙ is.addresses;
       untimed = all_change IsUntimed p.0 x picture refl is.untimed;
     }
 
-pub keeps_picture : (offset : ℤ) (rows : List Row) (picture : List Observation) (r : Report) → IsPictureOf rows picture → IsPictureOf rows (picture_after_report offset rows picture r)
+pub keeps_picture : (offset : ℤ) (rows : List Row) (picture : List Observation) (r : Report) → IsPictureOf rows picture
+    → IsPictureOf rows (picture_after_report offset rows picture r)
 keeps_picture offset rows picture r is = keeps_at offset rows picture r (row_from 0 r.key rows) is refl
 
-pub reports_keep_picture : (offset : ℤ) (rows : List Row) (picture : List Observation) (rs : List Report) → IsPictureOf rows picture → IsPictureOf rows (picture_after offset rows picture rs)
+pub reports_keep_picture : (offset : ℤ) (rows : List Row) (picture : List Observation) (rs : List Report)
+    → IsPictureOf rows picture → IsPictureOf rows (picture_after offset rows picture rs)
 reports_keep_picture offset rows picture [] is = is
-reports_keep_picture offset rows picture (r ∷ rs) is = reports_keep_picture offset rows (picture_after_report offset rows picture r) rs (keeps_picture offset rows picture r is)
+reports_keep_picture offset rows picture (r ∷ rs) is = reports_keep_picture offset rows
+    (picture_after_report offset rows picture r) rs (keeps_picture offset rows picture r is)
 
-none_at : (offset : ℤ) (rows : List Row) (picture : List Observation) (r : Report) (found : Option (ℕ × Row)) → IsPictureOf rows picture → row_from 0 r.key rows ≡ found
+none_at : (offset : ℤ) (rows : List Row) (picture : List Observation) (r : Report) (found : Option (ℕ × Row))
+    → IsPictureOf rows picture → row_from 0 r.key rows ≡ found
     → news_by_row offset picture r found ≡ [] → picture_by_row offset picture r found ≡ picture
 none_at offset rows picture r None is e none = refl
 none_at offset rows picture r (Some p) is e none =
@@ -122,19 +144,23 @@ none_at offset rows picture r (Some p) is e none =
     elim (cases_Bool (is_news_of r here.last image)) [
       | inl news ↦ (let some : image ∷ [] ≡ [] = rw (here.at, news) at none in absurd cc)
       | inr old ↦
-          (let before : here.last ≡ without_time image = no_news r here.last image old (here.address ∙ sym (image_address offset p.1 r)) here.stamp in
+          (let before : here.last ≡ without_time image =
+          no_news r here.last image old (here.address ∙ sym (image_address offset p.1 r)) here.stamp in
           change-same p.0 (without_time image) picture (here.at ∙ ap (λ (x : Observation). Some x) before))
     ]
 
-pub no_news_no_change : (offset : ℤ) (rows : List Row) (picture : List Observation) (r : Report) → IsPictureOf rows picture → news_of_report offset rows picture r ≡ []
+pub no_news_no_change : (offset : ℤ) (rows : List Row) (picture : List Observation) (r : Report)
+    → IsPictureOf rows picture → news_of_report offset rows picture r ≡ []
     → picture_after_report offset rows picture r ≡ picture
 no_news_no_change offset rows picture r is none = none_at offset rows picture r (row_from 0 r.key rows) is refl none
 
 head_is : (x y : Observation) → x ∷ [] ≡ y ∷ [] → x ≡ y
 head_is x y e = cc
 
-news_shown_at : (offset : ℤ) (rows : List Row) (picture : List Observation) (r : Report) (x : Observation) (found : Option (ℕ × Row)) → IsPictureOf rows picture → row_from 0 r.key rows ≡ found
-    → news_by_row offset picture r found ≡ x ∷ [] → ShowsImage offset rows r x picture (picture_by_row offset picture r found)
+news_shown_at : (offset : ℤ) (rows : List Row) (picture : List Observation) (r : Report) (x : Observation)
+    (found : Option (ℕ × Row)) → IsPictureOf rows picture → row_from 0 r.key rows ≡ found
+    → news_by_row offset picture r found ≡ x ∷ []
+    → ShowsImage offset rows r x picture (picture_by_row offset picture r found)
 news_shown_at offset rows picture r x None is e news = absurd cc
 news_shown_at offset rows picture r x (Some p) is e news =
     let image : Observation = image_of offset p.1 r in
@@ -148,12 +174,16 @@ news_shown_at offset rows picture r x (Some p) is e news =
             row = p.1;
             found = e;
             image = same;
-            here = change-here p.0 (λ _. without_time image) picture ∙ (ap (option_map (λ (y : Observation). without_time image)) here.at ∙ ap (λ (y : Observation). Some (without_time y)) (sym same));
+            here = change-here p.0 (λ _. without_time image) picture
+                ∙ (ap (option_map (λ (y : Observation). without_time image)) here.at
+                ∙ ap (λ (y : Observation). Some (without_time y)) (sym same));
             elsewhere = λ n ne. change-there p.0 n (λ _. without_time image) picture (λ at. ne (sym at));
           })
       | inr old ↦ (let none : [] ≡ x ∷ [] = rw (here.at, old) at news in absurd cc)
     ]
 
-pub news_changes_row : (offset : ℤ) (rows : List Row) (picture : List Observation) (r : Report) (x : Observation) → IsPictureOf rows picture → news_of_report offset rows picture r ≡ x ∷ []
+pub news_changes_row : (offset : ℤ) (rows : List Row) (picture : List Observation) (r : Report) (x : Observation)
+    → IsPictureOf rows picture → news_of_report offset rows picture r ≡ x ∷ []
     → ShowsImage offset rows r x picture (picture_after_report offset rows picture r)
-news_changes_row offset rows picture r x is news = news_shown_at offset rows picture r x (row_from 0 r.key rows) is refl news
+news_changes_row offset rows picture r x is news =
+    news_shown_at offset rows picture r x (row_from 0 r.key rows) is refl news

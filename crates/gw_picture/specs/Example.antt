@@ -22,14 +22,16 @@ abbrev pub counter_0 : PointKey
 counter_0 = record { outstation = 0; kind = kinds.Counter; index = 0 }
 
 abbrev pub analog_row : Row
-analog_row = record (row kinds.Analog shows.Scaled refl refl) { key = analog_0; address = 4201; from = lit≤ tt; to = lit≤ tt; shown = refl }
+analog_row = record (row kinds.Analog shows.Scaled refl refl)
+    { key = analog_0; address = 4201; from = lit≤ tt; to = lit≤ tt; shown = refl }
 
 -- input 5 is single-point 4101, analog input 0 scaled value 4201, counter 0 integrated total 4301
 abbrev pub rows : List Row
 rows =
     binary_row
     ∷ analog_row
-    ∷ record (row kinds.Counter shows.Total refl refl) { key = counter_0; address = 4301; from = lit≤ tt; to = lit≤ tt; shown = refl }
+    ∷ record (row kinds.Counter shows.Total refl refl)
+    { key = counter_0; address = 4301; from = lit≤ tt; to = lit≤ tt; shown = refl }
     ∷ []
 
 -- a static value of analog input 0
@@ -75,7 +77,13 @@ forced_and_over = binary 0x91 true ∷ analog_value 0x01 (pos 40000) ∷ counter
 abbrev pub rows_of_two : List Row
 rows_of_two =
     binary_row
-    ∷ record analog_row { key = record analog_0 { outstation = 1 }; address = 4202; from = lit≤ tt; to = lit≤ tt; shown = refl }
+    ∷ record analog_row {
+      key = record analog_0 { outstation = 1 };
+      address = 4202;
+      from = lit≤ tt;
+      to = lit≤ tt;
+      shown = refl;
+    }
     ∷ []
 
 -- these qualities with what tells a loss: NT, and of a total IV

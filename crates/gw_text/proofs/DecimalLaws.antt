@@ -8,7 +8,8 @@ grows : (limit n : ℕ) (cs : List ℕ) → limit ≤ n → if_below limit (deci
 grows limit n [] le = rw (le-ltb n limit le) refl
 grows limit n (c ∷ cs) le = go (grows limit (n * 10 + (c - 48)) cs (omega (arith, le))) (leb 48 c && leb c 57)
   where
-    go : if_below limit (decimal_after (n * 10 + (c - 48)) cs) ≡ None → (b : Bool) → if_below limit (cond b (decimal_after (n * 10 + (c - 48)) cs) None) ≡ None
+    go : if_below limit (decimal_after (n * 10 + (c - 48)) cs) ≡ None → (b : Bool)
+        → if_below limit (cond b (decimal_after (n * 10 + (c - 48)) cs) None) ≡ None
     go more true = more
     go more false = refl
 
@@ -16,21 +17,26 @@ limited : (limit n : ℕ) (b : Bool) → ltb n limit ≡ b → cond b (Some n) N
 limited limit n true e none = absurd cc
 limited limit n false e none = ltb-false n limit e
 
-pub digit_none : (limit n c : ℕ) (cs : List ℕ) → if_below limit (decimal_after n (c ∷ [])) ≡ None → if_below limit (decimal_after n (c ∷ cs)) ≡ None
+pub digit_none : (limit n c : ℕ) (cs : List ℕ) → if_below limit (decimal_after n (c ∷ [])) ≡ None
+    → if_below limit (decimal_after n (c ∷ cs)) ≡ None
 digit_none limit n c cs none = go (leb 48 c && leb c 57) none
   where
-    go : (b : Bool) → if_below limit (cond b (Some (n * 10 + (c - 48))) None) ≡ None → if_below limit (cond b (decimal_after (n * 10 + (c - 48)) cs) None) ≡ None
-    go true e = grows limit (n * 10 + (c - 48)) cs (limited limit (n * 10 + (c - 48)) (ltb (n * 10 + (c - 48)) limit) refl e)
+    go : (b : Bool) → if_below limit (cond b (Some (n * 10 + (c - 48))) None) ≡ None
+        → if_below limit (cond b (decimal_after (n * 10 + (c - 48)) cs) None) ≡ None
+    go true e =
+        grows limit (n * 10 + (c - 48)) cs (limited limit (n * 10 + (c - 48)) (ltb (n * 10 + (c - 48)) limit) refl e)
     go false e = refl
 
 same_number : (m v : ℕ) (b : Bool) → cond b (Some m) None ≡ Some v → m ≡ v
 same_number m v true e = cc
 same_number m v false e = absurd cc
 
-pub digit_some : (limit n c v : ℕ) (cs : List ℕ) → if_below limit (decimal_after n (c ∷ [])) ≡ Some v → decimal_after n (c ∷ cs) ≡ decimal_after v cs
+pub digit_some : (limit n c v : ℕ) (cs : List ℕ) → if_below limit (decimal_after n (c ∷ [])) ≡ Some v
+    → decimal_after n (c ∷ cs) ≡ decimal_after v cs
 digit_some limit n c v cs some = go (leb 48 c && leb c 57) some
   where
-    go : (b : Bool) → if_below limit (cond b (Some (n * 10 + (c - 48))) None) ≡ Some v → cond b (decimal_after (n * 10 + (c - 48)) cs) None ≡ decimal_after v cs
+    go : (b : Bool) → if_below limit (cond b (Some (n * 10 + (c - 48))) None) ≡ Some v
+        → cond b (decimal_after (n * 10 + (c - 48)) cs) None ≡ decimal_after v cs
     go true e = ap (λ (m : ℕ). decimal_after m cs) (same_number (n * 10 + (c - 48)) v (ltb (n * 10 + (c - 48)) limit) e)
     go false e = absurd cc
 

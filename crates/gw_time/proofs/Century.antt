@@ -34,7 +34,8 @@ window_is_century offset t = (
   λ h. window_of_shown offset t (record { low = h.from_2000; high = h.before_2100 }),
 )
 
-pub has_tag_is_in_window : (offset : ℤ) (stamp : Stamp) → HasTag offset stamp ↔ (IsInWindow offset stamp × (stamp ≢ Untimed))
+pub has_tag_is_in_window : (offset : ℤ) (stamp : Stamp)
+    → HasTag offset stamp ↔ (IsInWindow offset stamp × (stamp ≢ Untimed))
 has_tag_is_in_window offset Untimed = (λ h. absurd h, λ h. h.1 refl)
 has_tag_is_in_window offset (At t) =
     (λ h. ((window_is_century offset t).0 h, λ e. absurd cc), λ h. (window_is_century offset t).1 h.0)
@@ -42,14 +43,20 @@ has_tag_is_in_window offset (Doubtful t) =
     (λ h. ((window_is_century offset t).0 h, λ e. absurd cc), λ h. (window_is_century offset t).1 h.0)
 
 -- the same years by the civil date that clocks show
-day_bounds : (z day : ℤ) (time : ℕ) → time < 86400000 → z ≡ day *ℤ pos 86400000 +ℤ pos time → IsShown z → (pos 10957 ≤ℤ day) × (day <ℤ pos 47482)
+day_bounds : (z day : ℤ) (time : ℕ) → time < 86400000 → z ≡ day *ℤ pos 86400000 +ℤ pos time → IsShown z
+    → (pos 10957 ≤ℤ day) × (day <ℤ pos 47482)
 day_bounds z day time small e h = (omega (arith, signed_arith), omega (arith, signed_arith))
 
-shown_bounds : (z day : ℤ) (time : ℕ) → time < 86400000 → z ≡ day *ℤ pos 86400000 +ℤ pos time → pos 10957 ≤ℤ day → day <ℤ pos 47482 → IsShown z
-shown_bounds z day time small e low high = record { low = omega (arith, signed_arith); high = omega (arith, signed_arith) }
+shown_bounds : (z day : ℤ) (time : ℕ) → time < 86400000 → z ≡ day *ℤ pos 86400000 +ℤ pos time → pos 10957 ≤ℤ day
+    → day <ℤ pos 47482 → IsShown z
+shown_bounds z day time small e low high =
+    record { low = omega (arith, signed_arith); high = omega (arith, signed_arith) }
 
-pub window_is_of_years : (offset : ℤ) (t : ℕ) (y : ℤ) (m d time : ℕ) → IsCivilDate y m d → time < 86400000 → shown_at offset t ≡ midnight y m d +ℤ pos time → IsFrom2000To2099 offset t ↔ IsBetween (pos 2000) (pos 2099) y
+pub window_is_of_years : (offset : ℤ) (t : ℕ) (y : ℤ) (m d time : ℕ) → IsCivilDate y m d → time < 86400000
+    → shown_at offset t ≡ midnight y m d +ℤ pos time → IsFrom2000To2099 offset t ↔ IsBetween (pos 2000) (pos 2099) y
 window_is_of_years offset t y m d time h small e = (
-  λ w. let b = day_bounds (shown_at offset t) (days_from_civil y m d) time small e (shown_in_window offset t w) in (year_from_2000 y m d h b.0, year_before_2100 y m d h b.1),
-  λ b. window_of_shown offset t (shown_bounds (shown_at offset t) (days_from_civil y m d) time small e (from_2000 y m d b.0 h.2.0) (before_2100 y m d h b.1)),
+  λ w. let b = day_bounds (shown_at offset t) (days_from_civil y m d) time small e (shown_in_window offset t w) in
+      (year_from_2000 y m d h b.0, year_before_2100 y m d h b.1),
+  λ b. window_of_shown offset t (shown_bounds (shown_at offset t) (days_from_civil y m d) time small e
+      (from_2000 y m d b.0 h.2.0) (before_2100 y m d h b.1)),
 )

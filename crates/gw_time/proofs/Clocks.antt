@@ -52,7 +52,8 @@ pub record IsInCentury (z : ℤ) : Type 0 where
   pub low : pos 946_684_800_000_000_000 ≤ℤ z
   pub high : z <ℤ pos 4_102_444_800_000_000_000
 
-pub nanos_in_century : (dt : DateTime) → pos 2000 ≤ℤ dt.date.year → dt.date.year ≤ℤ pos 2099 → IsInCentury (civil_nanos dt)
+pub nanos_in_century : (dt : DateTime) → pos 2000 ≤ℤ dt.date.year → dt.date.year ≤ℤ pos 2099
+    → IsInCentury (civil_nanos dt)
 nanos_in_century dt low high =
     let d = dt.date in
     let day_low = from_2000 d.year d.month d.day low d.day_in.0 in
@@ -137,7 +138,8 @@ day_of : (z : ℤ) → pos 0 ≤ℤ z → Day z
 day_of (pos n) low = record { day = n; is = refl }
 day_of (negsuc n) low = absurd (omega (arith, signed_arith))
 
-natural : (n : ℕ) (z : ℤ) (day time : ℕ) → pos n ≡ z *ℤ pos 86_400_000 +ℤ pos time → z ≡ pos day → n ≡ day * 86_400_000 + time
+natural : (n : ℕ) (z : ℤ) (day time : ℕ) → pos n ≡ z *ℤ pos 86_400_000 +ℤ pos time → z ≡ pos day
+    → n ≡ day * 86_400_000 + time
 natural n z day time e f = omega (arith, signed_arith)
 
 century_of : (n : ℕ) → IsInCentury (pos n *ℤ pos 1_000_000) → (946684800000 ≤ n) × (n < 4102444800000)
@@ -170,9 +172,11 @@ numbers_shown dt x n h e =
     let low = from_2000 d.year d.month d.day h.low d.day_in.0 in
     let k = day_of (epoch_day d) (omega (arith, signed_arith)) in
     let count = natural n (epoch_day d) k.day (time_nanos t / 1_000_000) (civil_parts dt (pos n) e) k.is in
-    let p = time_parts n k.day t.hour t.minute t.second t.subsec_nanosecond t.hour_in t.minute_in t.second_in t.subsec_in
+    let p =
+    time_parts n k.day t.hour t.minute t.second t.subsec_nanosecond t.hour_in t.minute_in t.second_in t.subsec_in
     count in
     let b = century_of n (rw (← e) (nanos_in_century dt h.low h.high)) in
     let date = numbers_are x.invalid n x.year d b.0 b.1 (k.is ∙ ap (λ (i : ℕ). pos i) p.3) h.year in
-    equal_numbers x.invalid _ _ _ _ _ _ _ _ _ _ x.year (h.milliseconds ∙ p.0) (h.minute ∙ p.1) (h.hour ∙ p.2) h.day h.month
+    equal_numbers x.invalid _ _ _ _ _ _ _ _ _ _ x.year (h.milliseconds ∙ p.0) (h.minute ∙ p.1)
+    (h.hour ∙ p.2) h.day h.month
     ∙ date

@@ -38,13 +38,19 @@ next months year month days whole within last =
       ]
     ]
 
-in_month : (count n y m k : ℕ) → IsPlace count (suc n) y m k → k < days_in_month (pos (2000 + y)) m → IsDay count (y, m, k + 1)
+in_month : (count n y m k : ℕ) → IsPlace count (suc n) y m k → k < days_in_month (pos (2000 + y)) m
+    → IsDay count (y, m, k + 1)
 in_month count n y m k p lt = record {
-  civil = ((omega (arith, signed_arith), let h = p.place in omega (arith, signed_arith)), (p.month_from, p.month_to), (omega arith, omega arith));
+  civil = (
+    (omega (arith, signed_arith), let h = p.place in omega (arith, signed_arith)),
+    (p.month_from, p.month_to),
+    (omega arith, omega arith),
+  );
   days = omega (arith, p.counted, day_count-day (pos (2000 + y)) m 1 (k + 1) (omega arith) (omega arith));
 }
 
-month_after : (count n y m k : ℕ) → IsPlace count (suc n) y m k → days_in_month (pos (2000 + y)) m ≤ k → (m ≡ 12 → ⊥) → IsPlace count n y (m + 1) (k - days_in_month (pos (2000 + y)) m)
+month_after : (count n y m k : ℕ) → IsPlace count (suc n) y m k → days_in_month (pos (2000 + y)) m ≤ k → (m ≡ 12 → ⊥)
+    → IsPlace count n y (m + 1) (k - days_in_month (pos (2000 + y)) m)
 month_after count n y m k p le not_last = record {
   place = omega (arith, p.place);
   month_from = omega arith;
@@ -55,13 +61,21 @@ month_after count n y m k p le not_last = record {
 -- January follows on 31 days of December
 january : (y : ℕ) → day_count (pos (2000 + (y + 1))) 1 1 ≡ day_count (pos (2000 + y)) 12 1 + 31
 january y =
-    let year = day_count-next_year (pos (2000 + y)) (pos (2000 + (y + 1))) (omega (arith, signed_arith)) (omega (arith, signed_arith)) in
-    omega (arith, year, day_count-last_of_year (pos (2000 + y)), day_count-day (pos (2000 + y)) 12 1 31 (omega arith) (omega arith))
+    let year = day_count-next_year (pos (2000 + y)) (pos (2000 + (y + 1))) (omega (arith, signed_arith))
+    (omega (arith, signed_arith)) in
+    omega (
+      arith,
+      year,
+      day_count-last_of_year (pos (2000 + y)),
+      day_count-day (pos (2000 + y)) 12 1 31 (omega arith) (omega arith),
+    )
 
-year_after : (count n y m k : ℕ) → IsPlace count (suc n) y m k → days_in_month (pos (2000 + y)) m ≤ k → m ≡ 12 → IsPlace count n (y + 1) 1 (k - days_in_month (pos (2000 + y)) m)
+year_after : (count n y m k : ℕ) → IsPlace count (suc n) y m k → days_in_month (pos (2000 + y)) m ≤ k → m ≡ 12
+    → IsPlace count n (y + 1) 1 (k - days_in_month (pos (2000 + y)) m)
 year_after count n y m k p le last =
     let whole : days_in_month (pos (2000 + y)) m ≡ 31 = ap (λ (i : ℕ). days_in_month (pos (2000 + y)) i) last in
-    let first : day_count (pos (2000 + y)) m 1 ≡ day_count (pos (2000 + y)) 12 1 = ap (λ (i : ℕ). day_count (pos (2000 + y)) i 1) last in
+    let first : day_count (pos (2000 + y)) m 1 ≡ day_count (pos (2000 + y)) 12 1 =
+    ap (λ (i : ℕ). day_count (pos (2000 + y)) i 1) last in
     record {
       place = omega (arith, p.place);
       month_from = omega arith;
@@ -74,8 +88,10 @@ step : (count n y m k : ℕ) (within last : Bool) → IsPlace count (suc n) y m 
     → ((y₂ m₂ k₂ : ℕ) → IsPlace count n y₂ m₂ k₂ → IsDay count (date_after n y₂ m₂ k₂))
     → IsDay count (next n y m k (days_in_month (pos (2000 + y)) m) within last)
 step count n y m k true last p e f others = in_month count n y m k p (ltb-true _ _ e)
-step count n y m k false true p e f others = others _ _ _ (year_after count n y m k p (ltb-false _ _ e) (eqb-true _ _ f))
-step count n y m k false false p e f others = others _ _ _ (month_after count n y m k p (ltb-false _ _ e) (eqb-false _ _ f))
+step count n y m k false true p e f others =
+    others _ _ _ (year_after count n y m k p (ltb-false _ _ e) (eqb-true _ _ f))
+step count n y m k false false p e f others =
+    others _ _ _ (month_after count n y m k p (ltb-false _ _ e) (eqb-false _ _ f))
 
 -- no month is left on 1 January 2100
 last_day : (count y m k : ℕ) → count < day_count (pos 2100) 1 1 → IsPlace count 0 y m k → ⊥
@@ -85,10 +101,12 @@ last_day count y m k lt p =
     let first : day_count (pos (2000 + y)) m 1 ≡ day_count (pos 2100) 1 1 = rw (year, month) refl in
     omega (arith, p.counted)
 
-counted_off : (count n y m k : ℕ) → count < day_count (pos 2100) 1 1 → IsPlace count n y m k → IsDay count (date_after n y m k)
+counted_off : (count n y m k : ℕ) → count < day_count (pos 2100) 1 1 → IsPlace count n y m k
+    → IsDay count (date_after n y m k)
 unfolding date_after
 counted_off count zero y m k lt p = absurd (last_day count y m k lt p)
-counted_off count (suc n) y m k lt p = step count n y m k _ _ p refl refl (λ y₂ m₂ k₂ q. counted_off count n y₂ m₂ k₂ lt q)
+counted_off count (suc n) y m k lt p =
+    step count n y m k _ _ p refl refl (λ y₂ m₂ k₂ q. counted_off count n y₂ m₂ k₂ lt q)
 
 -- the day so many days after 1 January 2000
 pub day_after : (k : ℕ) → k < 36525 → IsDay (4_382_910 + k) (date_after 1200 0 1 k)
@@ -101,11 +119,13 @@ same_number y m d k e = omega (arith, signed_arith, days_from_civil-day_count y 
 
 -- the parts of a date are those that are counted off
 pub date_is : (date : Date) (day : ℕ) → 10957 ≤ day → day < 47482 → epoch_day date ≡ pos day
-    → (date.year ≡ pos (2000 + (date_after 1200 0 1 (day - 10957)).0)) × (date.month ≡ (date_after 1200 0 1 (day - 10957)).1) × (date.day ≡ (date_after 1200 0 1 (day - 10957)).2)
+    → (date.year ≡ pos (2000 + (date_after 1200 0 1 (day - 10957)).0))
+    × (date.month ≡ (date_after 1200 0 1 (day - 10957)).1) × (date.day ≡ (date_after 1200 0 1 (day - 10957)).2)
 date_is date day low high e =
     let after = date_after 1200 0 1 (day - 10957) in
     let d : IsDay (4_382_910 + (day - 10957)) after = day_after (day - 10957) (omega arith) in
-    let number : days_from_civil (pos (2000 + after.0)) after.1 after.2 ≡ pos day = same_number _ _ _ (day - 10957) d.days ∙ ap (λ (n : ℕ). pos n) (omega arith) in
+    let number : days_from_civil (pos (2000 + after.0)) after.1 after.2 ≡ pos day =
+    same_number _ _ _ (day - 10957) d.days ∙ ap (λ (n : ℕ). pos n) (omega arith) in
     same_date date.year date.month date.day _ _ _ (civil date) d.civil (e ∙ sym number)
 
 -- ---- the numbers
@@ -159,10 +179,12 @@ unfolding tag_showing
 outside invalid (negsuc n) h = refl
 outside invalid (pos n) h = not_chosen _ _ (λ e. h (is_shown n e))
 
-inside_at : (invalid : Bool) (n : ℕ) → 946684800000 ≤ n → n < 4102444800000 → tag_showing invalid (pos n) ≡ Some (octets_of (numbers_at invalid n))
+inside_at : (invalid : Bool) (n : ℕ) → 946684800000 ≤ n → n < 4102444800000
+    → tag_showing invalid (pos n) ≡ Some (octets_of (numbers_at invalid n))
 unfolding tag_showing
 inside_at invalid n low high = chosen _ _ (and_from _ _ (le-leb _ _ low) (lt-ltb _ _ high))
 
 -- the tag of what a clock shows
-pub inside : (invalid : Bool) (z : ℤ) (n : ℕ) → pos n ≡ z → 946684800000 ≤ n → n < 4102444800000 → tag_showing invalid z ≡ Some (octets_of (numbers_at invalid n))
+pub inside : (invalid : Bool) (z : ℤ) (n : ℕ) → pos n ≡ z → 946684800000 ≤ n → n < 4102444800000
+    → tag_showing invalid z ≡ Some (octets_of (numbers_at invalid n))
 inside invalid z n e low high = ap (tag_showing invalid) (sym e) ∙ inside_at invalid n low high

@@ -29,12 +29,14 @@ chosen true true s t e = (refl, refl, cc)
 chosen true false s t e = absurd cc
 chosen false b s t e = absurd cc
 
-six_parts : (a b c d e f : Bool) → (a && b && c && d && e && f) ≡ true → (a ≡ true) × (b ≡ true) × (c ≡ true) × (d ≡ true) × (e ≡ true) × (f ≡ true)
+six_parts : (a b c d e f : Bool) → (a && b && c && d && e && f) ≡ true
+    → (a ≡ true) × (b ≡ true) × (c ≡ true) × (d ≡ true) × (e ≡ true) × (f ≡ true)
 six_parts a b c d e f h = grind (arith, and_parts)
 
 pub civil_time_of : (x : BinaryTime) → is_in_range x ≡ true → has_day x ≡ true → IsCivilTime x
 civil_time_of x range day =
-    let p = six_parts (nat_lt x.milliseconds 60000) (nat_lt x.minute 60) (nat_lt x.hour 24) (nat_le 1 x.month) (nat_le x.month 12) (nat_lt x.year 100) range in
+    let p = six_parts (nat_lt x.milliseconds 60000) (nat_lt x.minute 60) (nat_lt x.hour 24) (nat_le 1 x.month)
+    (nat_le x.month 12) (nat_lt x.year 100) range in
     let q = and_parts (nat_le 1 x.day) (nat_le x.day (days_in_month (civil_year x) x.month)) day in
     let year : x.year < 100 = grind (arith, nat_tests, p.5) in
     record {
@@ -42,7 +44,11 @@ civil_time_of x range day =
       minute = grind (arith, nat_tests, p.1);
       hour = grind (arith, nat_tests, p.2);
       year = year;
-      date = (omega (arith, signed_arith), (grind (arith, nat_tests, p.3), grind (arith, nat_tests, p.4)), (grind (arith, nat_tests, q.0), grind (arith, nat_tests, q.1)));
+      date = (
+        omega (arith, signed_arith),
+        (grind (arith, nat_tests, p.3), grind (arith, nat_tests, p.4)),
+        (grind (arith, nat_tests, q.0), grind (arith, nat_tests, q.1)),
+      );
     }
 
 -- a tag that means a stamp has the numbers of a civil time, and the stamp is that of its instant
@@ -50,7 +56,8 @@ pub record Means (offset : ℤ) (x : BinaryTime) (stamp : Stamp) : Type 0 where
   pub civil : IsCivilTime x
   pub stamp_is : stamp_of x.invalid (instant_of offset x) ≡ stamp
 
-pub parts_of : (offset : ℤ) (octets : List ℕ) (stamp : Stamp) → tag_meaning offset octets ≡ Ok stamp → Means offset (numbers_in octets) stamp
+pub parts_of : (offset : ℤ) (octets : List ℕ) (stamp : Stamp) → tag_meaning offset octets ≡ Ok stamp
+    → Means offset (numbers_in octets) stamp
 unfolding tag_meaning
 parts_of offset octets stamp e =
     let x = numbers_in octets in
@@ -62,7 +69,8 @@ pub time_of_day_bound : (x : BinaryTime) → IsCivilTime x → time_of_day x < 8
 time_of_day_bound x h = omega arith
 
 -- the civil time is in the years 2000 to 2099
-pub civil_bounds : (x : BinaryTime) → IsCivilTime x → (pos 946684800000 ≤ℤ civil_milliseconds x) × (civil_milliseconds x <ℤ pos 4102444800000)
+pub civil_bounds : (x : BinaryTime) → IsCivilTime x
+    → (pos 946684800000 ≤ℤ civil_milliseconds x) × (civil_milliseconds x <ℤ pos 4102444800000)
 civil_bounds x h =
     let low = from_2000 (civil_year x) x.month x.day (omega (arith, signed_arith)) h.date.2.0 in
     let high = before_2100 (civil_year x) x.month x.day h.date (omega (arith, signed_arith)) in
@@ -70,7 +78,8 @@ civil_bounds x h =
     (omega (arith, signed_arith), omega (arith, signed_arith))
 
 -- at the instant the clocks show the civil time
-pub instant_shows : (offset : ℤ) (x : BinaryTime) → IsOffset offset → IsCivilTime x → pos (instant_of offset x) +ℤ (pos 60000 *ℤ offset) ≡ civil_milliseconds x
+pub instant_shows : (offset : ℤ) (x : BinaryTime) → IsOffset offset → IsCivilTime x
+    → pos (instant_of offset x) +ℤ (pos 60000 *ℤ offset) ≡ civil_milliseconds x
 instant_shows offset x o h =
     let b = civil_bounds x h in
     let one = one_part (civil_milliseconds x -ℤ (pos 60000 *ℤ offset)) in

@@ -37,9 +37,11 @@ fields_sized : (odd information other supervisory busy : Bool) (i s : Content) (
     → length (body i) ≡ n → (other ≡ false → n ≡ 4) → length (body s) ≡ 4
     → fields odd information other supervisory busy i s u ≡ Some c → length (body c) ≡ n
 fields_sized true information other supervisory busy i s u n c hi h4 hs h = absurd (none_some c h)
-fields_sized false true other supervisory busy i s u n c hi h4 hs h = subst (λ (y : Content). length (body y) ≡ n) (some_same i c h) hi
+fields_sized false true other supervisory busy i s u n c hi h4 hs h =
+    subst (λ (y : Content). length (body y) ≡ n) (some_same i c h) hi
 fields_sized false false true supervisory busy i s u n c hi h4 hs h = absurd (none_some c h)
-fields_sized false false false true busy i s u n c hi h4 hs h = subst (λ (y : Content). length (body y) ≡ n) (some_same s c h) (hs ∙ sym (h4 refl))
+fields_sized false false false true busy i s u n c hi h4 hs h =
+    subst (λ (y : Content). length (body y) ≡ n) (some_same s c h) (hs ∙ sym (h4 refl))
 fields_sized false false false false true i s u n c hi h4 hs h = absurd (none_some c h)
 fields_sized false false false false false i s u n c hi h4 hs h = function_sized u c h ∙ sym (h4 refl)
 
@@ -48,12 +50,15 @@ not_false true h = refl
 not_false false h = absurd (let no : true ≡ false → ⊥ = λ e. cc in no h)
 
 -- as many octets are written again
-pub content_sized : (octets : List ℕ) (c : Content) → 4 ≤ length octets → content_of octets ≡ Some c → length (body c) ≡ length octets
+pub content_sized : (octets : List ℕ) (c : Content) → 4 ≤ length octets → content_of octets ≡ Some c
+    → length (body c) ≡ length octets
 unfolding content_of
 content_sized octets c l h =
     let first = word_at 0 octets in
     let second = word_at 2 octets in
-    fields_sized (eqb (second % 2) 1) (eqb (first % 2) 0) (not (eqb (length octets) 4)) (eqb first 1) (not (eqb second 0)) (Information (first / 2) (second / 2) (drop 4 octets)) (Supervisory (second / 2)) (signal_of first) (length octets) c
+    fields_sized (eqb (second % 2) 1) (eqb (first % 2) 0) (not (eqb (length octets) 4)) (eqb first 1)
+    (not (eqb second 0)) (Information (first / 2) (second / 2) (drop 4 octets)) (Supervisory (second / 2))
+    (signal_of first) (length octets) c
     (let d = length-drop 4 octets in omega arith)
     (λ p. eqb-true (length octets) 4 (not_false (eqb (length octets) 4) p))
     refl
@@ -85,13 +90,18 @@ fault_given f c h = cc
 
 controlled_given : (o : Option Content) (c : Content) → Some (content_or_fault o) ≡ given c → o ≡ Some c
 controlled_given None c h = absurd (fault_given faults.Control c h)
-controlled_given (Some x) c h = let e : given x ≡ given c = h in let same : x ≡ c = cc in ap (λ (y : Content). Some y) same
+controlled_given (Some x) c h =
+    let e : given x ≡ given c = h in
+    let same : x ≡ c = cc in
+    ap (λ (y : Content). Some y) same
 
-pub chain_passed : (wrong bad short : Bool) (o : Option Content) (c : Content) → chain wrong bad short (content_or_fault o) ≡ given c → Passed wrong bad short o c
+pub chain_passed : (wrong bad short : Bool) (o : Option Content) (c : Content)
+    → chain wrong bad short (content_or_fault o) ≡ given c → Passed wrong bad short o c
 chain_passed true bad short o c h = absurd (fault_given faults.Start c h)
 chain_passed false true short o c h = absurd (fault_given faults.Length c h)
 chain_passed false false true o c h = absurd (none_some (let r : Shown = Ok c in r) h)
-chain_passed false false false o c h = record { start = refl; size = refl; whole = refl; carried = controlled_given o c h }
+chain_passed false false false o c h =
+    record { start = refl; size = refl; whole = refl; carried = controlled_given o c h }
 
 or_false : (p q : Bool) → (p || q) ≡ false → (p ≡ false) × (q ≡ false)
 or_false false q h = (refl, h)
@@ -118,10 +128,12 @@ pub shown_nil : (c : Content) → answer_at_front [] ≡ given c → ⊥
 unfolding answer_at_front
 shown_nil c h = none_some (let r : Shown = Ok c in r) h
 
-pub shown : (start size : ℕ) (octets : List ℕ) (c : Content) → answer_at_front (start ∷ size ∷ octets) ≡ given c → IsShown start size octets c
+pub shown : (start size : ℕ) (octets : List ℕ) (c : Content) → answer_at_front (start ∷ size ∷ octets) ≡ given c
+    → IsShown start size octets c
 unfolding answer_at_front
 shown start size octets c h =
-    let p = chain_passed (not (eqb start 0x68)) (nat_lt size 4 || nat_lt 253 size) (nat_lt (length octets) size) (content_of (take size octets)) c h in
+    let p = chain_passed (not (eqb start 0x68)) (nat_lt size 4 || nat_lt 253 size) (nat_lt (length octets) size)
+    (content_of (take size octets)) c h in
     let range = or_false (nat_lt size 4) (nat_lt 253 size) p.size in
     let low : 4 ≤ size = ltb-false size 4 range.0 in
     let high : size ≤ 253 = ltb-false 253 size range.1 in
@@ -143,13 +155,15 @@ front_taken (start ∷ []) c h = absurd (shown_one start c h)
 front_taken (start ∷ size ∷ octets) c h =
     let s = shown start size octets c h in omega (arith, s.sized, s.there)
 
-chain_more : (wrong bad short short' : Bool) (r r' x : Shown) → (short ≡ false → short' ≡ false) → (short ≡ false → r' ≡ r) → chain wrong bad short r ≡ Some x → chain wrong bad short' r' ≡ Some x
+chain_more : (wrong bad short short' : Bool) (r r' x : Shown) → (short ≡ false → short' ≡ false)
+    → (short ≡ false → r' ≡ r) → chain wrong bad short r ≡ Some x → chain wrong bad short' r' ≡ Some x
 chain_more true bad short short' r r' x f g h = h
 chain_more false true short short' r r' x f g h = h
 chain_more false false true short' r r' x f g h = absurd (none_some x h)
 chain_more false false false short' r r' x f g h = rw (f refl, g refl) h
 
-start_more : (b : Bool) (start : ℕ) (x : Shown) (more : Option Shown) → (if b then None else fault faults.Start) ≡ Some x → (if not b then fault faults.Start else more) ≡ Some x
+start_more : (b : Bool) (start : ℕ) (x : Shown) (more : Option Shown)
+    → (if b then None else fault faults.Start) ≡ Some x → (if not b then fault faults.Start else more) ≡ Some x
 start_more true start x more h = absurd (none_some x h)
 start_more false start x more h = h
 
@@ -160,7 +174,9 @@ front-append [] b x h = absurd (none_some x h)
 front-append (start ∷ []) [] x h = h
 front-append (start ∷ []) (size ∷ b) x h = start_more (eqb start 0x68) start x _ h
 front-append (start ∷ size ∷ a) b x h =
-    chain_more (not (eqb start 0x68)) (nat_lt size 4 || nat_lt 253 size) (nat_lt (length a) size) (nat_lt (length (a ++ b)) size) (content_or_fault (content_of (take size a))) (content_or_fault (content_of (take size (a ++ b)))) x
+    chain_more (not (eqb start 0x68)) (nat_lt size 4 || nat_lt 253 size) (nat_lt (length a) size)
+    (nat_lt (length (a ++ b)) size) (content_or_fault (content_of (take size a)))
+    (content_or_fault (content_of (take size (a ++ b)))) x
     (λ p. le-ltb (length (a ++ b)) size (omega (arith, ltb-false (length a) size p, length-append a b)))
     (λ p. ap (λ t. content_or_fault (content_of t)) (take-append-le size a b (ltb-false (length a) size p)))
     h

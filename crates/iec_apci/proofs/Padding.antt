@@ -8,6 +8,8 @@ use Rattle.std.proofs.lemmas.Slice.{overwrites}
 pub ruleset written = (overwrites)
 
 -- what is behind the octets that were written over zeros
-pub zeros_behind : (new octets zeros : List ℕ) → new ≡ octets → zeros ≡ replicate 249 0 → drop (length octets) (new ++ drop (length octets) zeros) ≡ replicate (249 - length octets) 0
+pub zeros_behind : (new octets zeros : List ℕ) → new ≡ octets → zeros ≡ replicate 249 0
+    → drop (length octets) (new ++ drop (length octets) zeros) ≡ replicate (249 - length octets) 0
 zeros_behind new octets zeros e z =
-    rw (e, z) (drop_at octets (drop (length octets) (replicate 249 0)) (length octets) refl ∙ drop-replicate (length octets) 249 0)
+    rw (e, z) (drop_at octets (drop (length octets) (replicate 249 0)) (length octets) refl
+    ∙ drop-replicate (length octets) 249 0)

@@ -11,10 +11,13 @@ use Rattle.iec_apci.proofs.Streams.{reading_apdu}
 halved : (n : ℕ) → (2 * n) % 256 + 256 * (2 * n / 256) ≡ 2 * n
 halved n = omega arith
 
-fields_information : (odd information other supervisory busy : Bool) (i s : Content) (u : Option Signal) (c : Content) → odd ≡ false → information ≡ true → i ≡ c → fields odd information other supervisory busy i s u ≡ Some c
+fields_information : (odd information other supervisory busy : Bool) (i s : Content) (u : Option Signal) (c : Content)
+    → odd ≡ false → information ≡ true → i ≡ c → fields odd information other supervisory busy i s u ≡ Some c
 fields_information odd information other supervisory busy i s u c h1 h2 h3 = rw (h1, h2, h3) refl
 
-fields_supervisory : (odd information other supervisory busy : Bool) (i s : Content) (u : Option Signal) (c : Content) → odd ≡ false → information ≡ false → other ≡ false → supervisory ≡ true → s ≡ c → fields odd information other supervisory busy i s u ≡ Some c
+fields_supervisory : (odd information other supervisory busy : Bool) (i s : Content) (u : Option Signal) (c : Content)
+    → odd ≡ false → information ≡ false → other ≡ false → supervisory ≡ true → s ≡ c
+    → fields odd information other supervisory busy i s u ≡ Some c
 fields_supervisory odd information other supervisory busy i s u c h1 h2 h3 h4 h5 = rw (h1, h2, h3, h4, h5) refl
 
 eqb_apart : (a b : ℕ) → a < b → eqb a b ≡ false
@@ -30,7 +33,8 @@ content_of-body (Information ns nr asdu) =
     let receive : 2 * nr / 2 ≡ nr = omega arith in
     let f = word_at 0 (body (Information ns nr asdu)) in
     let s = word_at 2 (body (Information ns nr asdu)) in
-    fields_information (eqb (s % 2) 1) (eqb (f % 2) 0) (not (eqb (length (body (Information ns nr asdu))) 4)) (eqb f 1) (not (eqb s 0)) (Information (f / 2) (s / 2) asdu) (Supervisory (s / 2)) (signal_of f) (Information ns nr asdu)
+    fields_information (eqb (s % 2) 1) (eqb (f % 2) 0) (not (eqb (length (body (Information ns nr asdu))) 4)) (eqb f 1)
+    (not (eqb s 0)) (Information (f / 2) (s / 2) asdu) (Supervisory (s / 2)) (signal_of f) (Information ns nr asdu)
     (rw second (eqb_apart (2 * nr % 2) 1 (omega arith)))
     (rw first (eq-eqb (2 * ns % 2) 0 (omega arith)))
     (rw (first, second, send, receive) refl)
@@ -38,7 +42,8 @@ content_of-body (Supervisory nr) =
     let second : (2 * nr) % 256 + 256 * (2 * nr / 256) ≡ 2 * nr = halved nr in
     let receive : 2 * nr / 2 ≡ nr = omega arith in
     let s = word_at 2 (body (Supervisory nr)) in
-    fields_supervisory (eqb (s % 2) 1) false false true (not (eqb s 0)) (Information 0 (s / 2) []) (Supervisory (s / 2)) (signal_of 1) (Supervisory nr)
+    fields_supervisory (eqb (s % 2) 1) false false true (not (eqb s 0)) (Information 0 (s / 2) []) (Supervisory (s / 2))
+    (signal_of 1) (Supervisory nr)
     (rw second (eqb_apart (2 * nr % 2) 1 (omega arith)))
     refl refl refl
     (rw (second, receive) refl)
@@ -69,14 +74,16 @@ front_apdu c h =
     chain_whole (nat_lt n 4 || nat_lt 253 n) (nat_lt n n) (content_or_fault (content_of (take n (body c)))) (Ok c)
     (or_both (nat_lt n 4) (nat_lt 253 n) (le-ltb n 4 size.0) (le-ltb 253 n size.1))
     (le-ltb n n (omega arith))
-    (ap (λ t. content_or_fault (content_of t)) (take_all n (body c) (omega arith)) ∙ ap content_or_fault (content_of-body c))
+    (ap (λ t. content_or_fault (content_of t)) (take_all n (body c) (omega arith))
+    ∙ ap content_or_fault (content_of-body c))
 
 -- whatever follows it
 pub front_apdu-append : (c : Content) (behind : List ℕ) → Fits c → answer_at_front (apdu c ++ behind) ≡ Some (Ok c)
 front_apdu-append c behind h = front-append (apdu c) behind (Ok c) (front_apdu c h)
 
 -- an APDU is read first, and then what follows it
-pub reading-apdu : (c : Content) (behind : List ℕ) → Fits c → reading (apdu c ++ behind) ≡ reading_with_first c (reading behind)
+pub reading-apdu : (c : Content) (behind : List ℕ) → Fits c
+    → reading (apdu c ++ behind) ≡ reading_with_first c (reading behind)
 reading-apdu c behind h =
     reading_apdu (apdu c ++ behind) c (front_apdu-append c behind h)
     ∙ ap (λ t. reading_with_first c (reading t)) (drop_at (apdu c) behind (length (apdu c)) refl)

@@ -27,7 +27,9 @@ then_read (Err e) f = Err e
 -- ---- objects
 
 object_parts : (address : ℕ) (s : Option (Value × Quality)) (t : Option Stamp)
-    → result_ok (then_read (ok_or s Reserved) (λ value. then_read (ok_or t Tag) (λ stamp. Ok (observation_of address value stamp)))) ≡ (s >>= λ value. (t >>= λ stamp. Some (observation_of address value stamp)))
+    → result_ok
+    (then_read (ok_or s Reserved) (λ value. then_read (ok_or t Tag) (λ stamp. Ok (observation_of address value stamp))))
+    ≡ (s >>= λ value. (t >>= λ stamp. Some (observation_of address value stamp)))
 object_parts address None t = refl
 object_parts address (Some s) None = refl
 object_parts address (Some s) (Some t) = refl
@@ -36,7 +38,8 @@ object_given : (address : ℕ) (layout : Layout) (octets : List ℕ)
     → result_ok (object_read address layout octets) ≡ observation_at address layout octets
 object_given address layout octets = object_parts address _ _
 
-two_given : (r : Result Observation AsduFault) (rs : Result (List Observation) AsduFault) (o : Option Observation) (os : Option (List Observation)) → result_ok r ≡ o → result_ok rs ≡ os
+two_given : (r : Result Observation AsduFault) (rs : Result (List Observation) AsduFault) (o : Option Observation)
+    (os : Option (List Observation)) → result_ok r ≡ o → result_ok rs ≡ os
     → result_ok (then_read r (λ x. then_read rs (λ xs. Ok (x ∷ xs)))) ≡ (o >>= λ x. (os >>= λ xs. Some (x ∷ xs)))
 two_given (Ok x) (Ok xs) o os e f = rw (← e, ← f) refl
 two_given (Ok x) (Err d) o os e f = rw (← e, ← f) refl
@@ -56,12 +59,14 @@ sequence_given layout (suc n) address octets =
     two_given _ _ _ _ (object_given address layout _) (sequence_given layout n (address + 1) _)
 
 by_length : (has wanted : ℕ) (r : Result (List Observation) AsduFault) (o : Option (List Observation)) → result_ok r ≡ o
-    → result_ok (cond (nat_lt has wanted) (Err Short) (cond (nat_lt wanted has) (Err Long) r)) ≡ cond (has == wanted) o None
+    → result_ok (cond (nat_lt has wanted) (Err Short) (cond (nat_lt wanted has) (Err Long) r))
+    ≡ cond (has == wanted) o None
 by_length has wanted r o e =
     elim (cases_order has wanted) [
       | inl same ↦ rw (le-ltb has wanted (omega arith), le-ltb wanted has (omega arith), eq-eqb has wanted same) e
       | inr (inl lt) ↦ rw (lt-ltb has wanted lt, ne_eqb has wanted (λ e. omega arith)) refl
-      | inr (inr gt) ↦ rw (le-ltb has wanted (omega arith), lt-ltb wanted has gt, ne_eqb has wanted (λ e. omega arith)) refl
+      | inr (inr gt) ↦
+          rw (le-ltb has wanted (omega arith), lt-ltb wanted has gt, ne_eqb has wanted (λ e. omega arith)) refl
     ]
 
 objects_given : (layout : Layout) (sequence : Bool) (n : ℕ) (octets : List ℕ)
@@ -70,29 +75,41 @@ unfolding objects_read objects_of
 objects_given layout sequence zero octets = refl
 objects_given layout true (suc n) octets =
     rw (ne_eqb (suc n) 0 (λ e. omega arith))
-    (by_length (length octets) (3 + suc n * size_of layout) _ _ (sequence_given layout (suc n) (address_at octets) (drop 3 octets)))
+    (by_length (length octets) (3 + suc n * size_of layout) _ _
+    (sequence_given layout (suc n) (address_at octets) (drop 3 octets)))
 objects_given layout false (suc n) octets =
     rw (ne_eqb (suc n) 0 (λ e. omega arith))
-    (by_length (length octets) (suc n * (3 + size_of layout)) (read_apart layout (suc n) octets) (objects_apart layout (suc n) octets) (apart_given layout (suc n) octets))
+    (by_length (length octets) (suc n * (3 + size_of layout)) (read_apart layout (suc n) octets)
+    (objects_apart layout (suc n) octets) (apart_given layout (suc n) octets))
 
 -- ---- the whole
 
-objects_made : (r : Result (List Observation) AsduFault) (o : Option (List Observation)) (make : List Observation → Asdu) → result_ok r ≡ o
+objects_made : (r : Result (List Observation) AsduFault) (o : Option (List Observation))
+    (make : List Observation → Asdu) → result_ok r ≡ o
     → result_ok (then_read r (λ xs. Ok (make xs))) ≡ (o >>= λ xs. Some (make xs))
 objects_made (Ok xs) o make e = rw (← e) refl
 objects_made (Err d) o make e = rw (← e) refl
 
-header_given : (l : Option Layout) (read : Layout → Result (List Observation) AsduFault) (of : Layout → Option (List Observation)) (make : List Observation → Asdu) → ((layout : Layout) → result_ok (read layout) ≡ of layout)
+header_given : (l : Option Layout) (read : Layout → Result (List Observation) AsduFault)
+    (of : Layout → Option (List Observation)) (make : List Observation → Asdu)
+    → ((layout : Layout) → result_ok (read layout) ≡ of layout)
     → result_ok (then_read (ok_or l UnknownType) (λ layout. then_read (read layout) (λ xs. Ok (make xs))))
     ≡ (l >>= λ layout. (of layout >>= λ xs. Some (make xs)))
 header_given None read of make e = refl
 header_given (Some layout) read of make e = objects_made (read layout) (of layout) make (e layout)
 
-pub asdu_given : (types : List Layout) (octets : List ℕ) → result_ok (asdu_read types octets) ≡ asdu_meaning types octets
+pub asdu_given : (types : List Layout) (octets : List ℕ)
+    → result_ok (asdu_read types octets) ≡ asdu_meaning types octets
 unfolding asdu_read asdu_meaning
 asdu_given types (identification ∷ qualifier ∷ cause ∷ originator ∷ low ∷ high ∷ objects) =
     rw (le-ltb (length (identification ∷ qualifier ∷ cause ∷ originator ∷ low ∷ high ∷ objects)) 6 (omega arith))
-    (header_given _ _ _ (λ xs. record { identification = identification; cause = cause; originator = originator; common_address = low + 256 * high; observations = xs }) (λ layout. objects_given layout _ _ objects))
+    (header_given _ _ _ (λ xs. record {
+      identification = identification;
+      cause = cause;
+      originator = originator;
+      common_address = low + 256 * high;
+      observations = xs;
+    }) (λ layout. objects_given layout _ _ objects))
 asdu_given types [] = refl
 asdu_given types (a ∷ []) = refl
 asdu_given types (a ∷ b ∷ []) = refl
@@ -111,8 +128,12 @@ pub found_for : (types : List Layout) (octets : List ℕ) (result : Result Monit
     → Gives is_memory monitor_contents result (contents_read types octets)
     → IfOk result (λ m. Spells types octets (monitor_contents m))
 found_for types octets (Ok m) h =
-    let r = read_some (asdu_read types octets) (monitor_contents m) h in
-    (r.0, (meaning_is_spelled types octets r.0).0 (sym (asdu_given types octets) ∙ ap (λ (x : Result Asdu AsduFault). result_ok x) r.1), r.2)
+    let r = read_some (asdu_read types octets) (monitor_contents m) h in (
+      r.0,
+      (meaning_is_spelled types octets r.0).0
+          (sym (asdu_given types octets) ∙ ap (λ (x : Result Asdu AsduFault). result_ok x) r.1),
+      r.2,
+    )
 found_for types octets (Err e) h = tt
 
 read_of : (r : Result Asdu AsduFault) (a : Asdu) → result_ok r ≡ Some a → r ≡ Ok a
@@ -125,4 +146,5 @@ pub only_for : (types : List Layout) (octets : List ℕ) (result : Result Monito
 only_for types octets result h asdu is =
     let read : asdu_read types octets ≡ Ok asdu =
     read_of (asdu_read types octets) asdu (asdu_given types octets ∙ (meaning_is_spelled types octets asdu).1 is) in
-    subst (λ (r : Result Asdu AsduFault). Gives is_memory monitor_contents result (then_read r (λ a. Ok (contents_of a)))) read h
+    subst (λ (r : Result Asdu AsduFault).
+    Gives is_memory monitor_contents result (then_read r (λ a. Ok (contents_of a)))) read h

@@ -26,7 +26,8 @@ tag_short offset (At t) = shown_short false (shown_at offset t)
 tag_short offset (Doubtful t) = shown_short true (shown_at offset t)
 
 -- an element has at most five octets
-with_tag : (tag : Option (List ℕ)) (common cause address : ℕ) (stamp : Stamp) (v : Value) (q : Quality) → length (tag_octets tag) ≤ 7
+with_tag : (tag : Option (List ℕ)) (common cause address : ℕ) (stamp : Stamp) (v : Value) (q : Quality)
+    → length (tag_octets tag) ≤ 7
     → length (spelling_with tag common cause (record { address = address; value = v; quality = q; stamp = stamp })) ≤ 21
 with_tag tag common cause address stamp (Single on) q short = omega (arith, short)
 with_tag tag common cause address stamp (Double state) q short = omega (arith, short)

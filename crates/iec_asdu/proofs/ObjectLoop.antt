@@ -85,7 +85,8 @@ address_in_front (a ∷ b ∷ c ∷ octets) long = refl
 address_in_front _ long = absurd (omega arith)
 
 -- the object at the front, as it is split off
-pub apart_object : (layout : Layout) (address size : ℕ) (rest front behind information : List ℕ) (read : Result Observation AsduFault) → 3 ≤ length rest
+pub apart_object : (layout : Layout) (address size : ℕ) (rest front behind information : List ℕ)
+    (read : Result Observation AsduFault) → 3 ≤ length rest
     → front ≡ take 3 rest → behind ≡ drop 3 rest → size ≡ size_of layout → information ≡ take size behind
     → address ≡ address_at front
     → read ≡ object_read address layout information
@@ -111,7 +112,8 @@ apart_step : (layout : Layout) (n m : ℕ) (octets : List ℕ) (read : Result Ob
 unfolding read_apart
 apart_step layout n m octets read e at = rw (e, at) refl
 
-pub apart_goes_on : (layout : Layout) (n m : ℕ) (octets : List ℕ) (front : List Observation) (x : Observation) (whole : Result (List Observation) AsduFault)
+pub apart_goes_on : (layout : Layout) (n m : ℕ) (octets : List ℕ) (front : List Observation) (x : Observation)
+    (whole : Result (List Observation) AsduFault)
     → n ≡ suc m → object_read (address_at octets) layout (take (size_of layout) (drop 3 octets)) ≡ Ok x
     → with_front front (read_apart layout n octets) ≡ whole
     → with_front (front ++ x ∷ []) (read_apart layout m (drop (3 + size_of layout) octets)) ≡ whole
@@ -119,13 +121,15 @@ apart_goes_on layout n m octets front x whole e at so_far =
     sym (regroup front x (read_apart layout m (drop (3 + size_of layout) octets)))
     ∙ (ap (with_front front) (sym (apart_step layout n m octets (Ok x) e at)) ∙ so_far)
 
-pub apart_fails : (layout : Layout) (n m : ℕ) (octets : List ℕ) (front : List Observation) (f : AsduFault) (whole : Result (List Observation) AsduFault)
+pub apart_fails : (layout : Layout) (n m : ℕ) (octets : List ℕ) (front : List Observation) (f : AsduFault)
+    (whole : Result (List Observation) AsduFault)
     → n ≡ suc m → object_read (address_at octets) layout (take (size_of layout) (drop 3 octets)) ≡ Err f
     → with_front front (read_apart layout n octets) ≡ whole → whole ≡ Err f
 apart_fails layout n m octets front f whole e at so_far =
     sym so_far ∙ ap (with_front front) (apart_step layout n m octets (Err f) e at)
 
-pub apart_done : (layout : Layout) (n : ℕ) (octets : List ℕ) (front : List Observation) (whole : Result (List Observation) AsduFault)
+pub apart_done : (layout : Layout) (n : ℕ) (octets : List ℕ) (front : List Observation)
+    (whole : Result (List Observation) AsduFault)
     → n ≡ 0 → with_front front (read_apart layout n octets) ≡ whole → whole ≡ Ok front
 unfolding read_apart
 apart_done layout zero octets front whole e so_far =
@@ -135,7 +139,8 @@ apart_done layout (suc n) octets front whole e so_far = absurd (omega arith)
 -- ---- SQ 1
 
 -- the element and the time tag at the front, as they are split off
-pub sequence_object : (layout : Layout) (address size : ℕ) (rest information : List ℕ) (read : Result Observation AsduFault)
+pub sequence_object : (layout : Layout) (address size : ℕ) (rest information : List ℕ)
+    (read : Result Observation AsduFault)
     → size ≡ size_of layout → information ≡ take size rest → read ≡ object_read address layout information
     → object_read address layout (take (size_of layout) rest) ≡ read
 sequence_object layout address size rest information read es ei er =
@@ -149,7 +154,8 @@ sequence_step : (layout : Layout) (n m address : ℕ) (octets : List ℕ) (read 
 unfolding read_in_sequence
 sequence_step layout n m address octets read e at = rw (e, at) refl
 
-pub sequence_goes_on : (layout : Layout) (n m address : ℕ) (octets : List ℕ) (front : List Observation) (x : Observation) (whole : Result (List Observation) AsduFault)
+pub sequence_goes_on : (layout : Layout) (n m address : ℕ) (octets : List ℕ) (front : List Observation)
+    (x : Observation) (whole : Result (List Observation) AsduFault)
     → n ≡ suc m → object_read address layout (take (size_of layout) octets) ≡ Ok x
     → with_front front (read_in_sequence layout n address octets) ≡ whole
     → with_front (front ++ x ∷ []) (read_in_sequence layout m (address + 1) (drop (size_of layout) octets)) ≡ whole
@@ -157,13 +163,15 @@ sequence_goes_on layout n m address octets front x whole e at so_far =
     sym (regroup front x (read_in_sequence layout m (address + 1) (drop (size_of layout) octets)))
     ∙ (ap (with_front front) (sym (sequence_step layout n m address octets (Ok x) e at)) ∙ so_far)
 
-pub sequence_fails : (layout : Layout) (n m address : ℕ) (octets : List ℕ) (front : List Observation) (f : AsduFault) (whole : Result (List Observation) AsduFault)
+pub sequence_fails : (layout : Layout) (n m address : ℕ) (octets : List ℕ) (front : List Observation) (f : AsduFault)
+    (whole : Result (List Observation) AsduFault)
     → n ≡ suc m → object_read address layout (take (size_of layout) octets) ≡ Err f
     → with_front front (read_in_sequence layout n address octets) ≡ whole → whole ≡ Err f
 sequence_fails layout n m address octets front f whole e at so_far =
     sym so_far ∙ ap (with_front front) (sequence_step layout n m address octets (Err f) e at)
 
-pub sequence_done : (layout : Layout) (n address : ℕ) (octets : List ℕ) (front : List Observation) (whole : Result (List Observation) AsduFault)
+pub sequence_done : (layout : Layout) (n address : ℕ) (octets : List ℕ) (front : List Observation)
+    (whole : Result (List Observation) AsduFault)
     → n ≡ 0 → with_front front (read_in_sequence layout n address octets) ≡ whole → whole ≡ Ok front
 unfolding read_in_sequence
 sequence_done layout zero address octets front whole e so_far =

@@ -67,7 +67,8 @@ information_again layout octets x i =
     ap (λ (o : List ℕ). take layout.element o) i.text ∙ take_at i.element i.tag layout.element i.element_length in
     let back : drop layout.element octets ≡ i.tag =
     ap (λ (o : List ℕ). drop layout.element o) i.text ∙ drop_at i.element i.tag layout.element i.element_length in (
-      made (layout.value (take layout.element octets)) (layout.stamp (drop layout.element octets)) x (ap (λ (o : List ℕ). layout.value o) front ∙ i.valued) (ap (λ (o : List ℕ). layout.stamp o) back ∙ i.stamped),
+      made (layout.value (take layout.element octets)) (layout.stamp (drop layout.element octets)) x
+          (ap (λ (o : List ℕ). layout.value o) front ∙ i.valued) (ap (λ (o : List ℕ). layout.stamp o) back ∙ i.stamped),
       ap length i.text ∙ omega (arith, length-append i.element i.tag, i.element_length, i.tag_length),
     )
 
@@ -80,7 +81,8 @@ empty (b ∷ octets) e = absurd (omega arith)
 regroup : (m n : ℕ) (octets : List ℕ) → octets ≡ take m octets ++ (take n (drop m octets) ++ drop (m + n) octets)
 regroup m n octets =
     sym (take-append-drop m octets)
-    ∙ ap (λ (o : List ℕ). take m octets ++ o) (sym (take-append-drop n (drop m octets)) ∙ ap (λ (o : List ℕ). take n (drop m octets) ++ o) (drop-drop n m octets))
+    ∙ ap (λ (o : List ℕ). take m octets ++ o)
+    (sym (take-append-drop n (drop m octets)) ∙ ap (λ (o : List ℕ). take n (drop m octets) ++ o) (drop-drop n m octets))
 
 front_information : (layout : Layout) (octets : List ℕ) → 3 + size_of layout ≤ length octets
     → length (take (size_of layout) (drop 3 octets)) ≡ size_of layout
@@ -97,10 +99,23 @@ apart_takes layout (suc n) octets xs long e =
     let others = bind_some (objects_apart layout n (drop (3 + size_of layout) octets)) _ xs first.2 in
     let is : first.0 ∷ others.0 ≡ xs = cc (others.2) in
     let room : 3 + size_of layout ≤ length octets = omega (arith, long) in
-    let information = information_takes (address_at octets) layout (take (size_of layout) (drop 3 octets)) first.0 (front_information layout octets room) first.1 in
-    let behind = apart_takes layout n (drop (3 + size_of layout) octets) others.0 (omega (arith, long, length-drop (3 + size_of layout) octets)) others.1 in
+    let information = information_takes (address_at octets) layout (take (size_of layout) (drop 3 octets)) first.0
+    (front_information layout octets room) first.1 in
+    let behind = apart_takes layout n (drop (3 + size_of layout) octets) others.0
+    (omega (arith, long, length-drop (3 + size_of layout) octets)) others.1 in
     let address : IsAddress (take 3 octets) first.0.address = rw information.1 (address_takes octets (omega arith)) in
-    rw (← is) ((take 3 octets, take (size_of layout) (drop 3 octets), drop (3 + size_of layout) octets, regroup 3 (size_of layout) octets, address, information.0, behind.0), omega (arith, behind.1))
+    rw (← is) (
+      (
+        take 3 octets,
+        take (size_of layout) (drop 3 octets),
+        drop (3 + size_of layout) octets,
+        regroup 3 (size_of layout) octets,
+        address,
+        information.0,
+        behind.0,
+      ),
+      omega (arith, behind.1),
+    )
 
 apart_again : (layout : Layout) (octets : List ℕ) (xs : List Observation) → AreApart layout octets xs
     → (objects_apart layout (length xs) octets ≡ Some xs) × (length octets ≡ length xs * (3 + size_of layout))
@@ -119,7 +134,8 @@ apart_again layout octets (x ∷ xs) (address, information, rest, text, is_addre
     sym (drop-drop (size_of layout) 3 octets)
     ∙ (ap (λ (o : List ℕ). drop (size_of layout) o) back ∙ drop_at information rest (size_of layout) i.1) in
     let long : length octets ≡ 3 + size_of layout + length rest =
-    ap length text ∙ omega (arith, length-append address (information ++ rest), length-append information rest, a.1, i.1) in
+    ap length text
+    ∙ omega (arith, length-append address (information ++ rest), length-append information rest, a.1, i.1) in
     (rw (at, front, behind, i.0, o.0) refl, omega (arith, long, o.1))
 
 sequence_takes : (layout : Layout) (n address : ℕ) (octets : List ℕ) (xs : List Observation)
@@ -135,8 +151,19 @@ sequence_takes layout (suc n) address octets xs long e =
     let room : length (take (size_of layout) octets) ≡ size_of layout =
     omega (arith, long, length-take (size_of layout) octets) in
     let information = information_takes address layout (take (size_of layout) octets) first.0 room first.1 in
-    let behind = sequence_takes layout n (address + 1) (drop (size_of layout) octets) others.0 (omega (arith, long, length-drop (size_of layout) octets)) others.1 in
-    rw (← is) ((take (size_of layout) octets, drop (size_of layout) octets, sym (take-append-drop (size_of layout) octets), information.1, information.0, behind.0), omega (arith, behind.1))
+    let behind = sequence_takes layout n (address + 1) (drop (size_of layout) octets) others.0
+    (omega (arith, long, length-drop (size_of layout) octets)) others.1 in
+    rw (← is) (
+      (
+        take (size_of layout) octets,
+        drop (size_of layout) octets,
+        sym (take-append-drop (size_of layout) octets),
+        information.1,
+        information.0,
+        behind.0,
+      ),
+      omega (arith, behind.1),
+    )
 
 sequence_again : (layout : Layout) (address : ℕ) (octets : List ℕ) (xs : List Observation)
     → AreInSequence layout address octets xs
@@ -156,7 +183,8 @@ sequence_again layout address octets (x ∷ xs) (information, rest, text, at, is
     (rw (first, behind, o.0) refl, omega (arith, long, o.1))
 
 -- so many objects by SQ, at least one
-pub record HasObjects (layout : Layout) (sequence : Bool) (n : ℕ) (octets : List ℕ) (xs : List Observation) : Type 0 where
+pub record HasObjects (layout : Layout) (sequence : Bool) (n : ℕ) (octets : List ℕ)
+    (xs : List Observation) : Type 0 where
   pub are : AreObjects layout sequence octets xs
   pub number : length xs ≡ n
   pub some : 0 < n
@@ -170,10 +198,23 @@ objects_take layout false (suc n) octets xs e =
     let t = apart_takes layout (suc n) octets xs (eqb-true _ _ w.0) w.1 in
     record { are = t.0; number = t.1; some = omega arith }
 objects_take layout true (suc n) octets xs e =
-    let w = when_some (length octets == 3 + suc n * size_of layout) (objects_in_sequence layout (suc n) (address_at octets) (drop 3 octets)) xs e in
+    let w = when_some (length octets == 3 + suc n * size_of layout)
+    (objects_in_sequence layout (suc n) (address_at octets) (drop 3 octets)) xs e in
     let long : length octets ≡ 3 + suc n * size_of layout = eqb-true _ _ w.0 in
-    let t = sequence_takes layout (suc n) (address_at octets) (drop 3 octets) xs (omega (arith, long, length-drop 3 octets)) w.1 in
-    record { are = (take 3 octets, address_at octets, drop 3 octets, sym (take-append-drop 3 octets), address_takes octets (omega (arith, long)), t.0); number = t.1; some = omega arith }
+    let t = sequence_takes layout (suc n) (address_at octets) (drop 3 octets) xs
+    (omega (arith, long, length-drop 3 octets)) w.1 in
+    record {
+      are = (
+        take 3 octets,
+        address_at octets,
+        drop 3 octets,
+        sym (take-append-drop 3 octets),
+        address_takes octets (omega (arith, long)),
+        t.0,
+      );
+      number = t.1;
+      some = omega arith;
+    }
 
 chosen : {A : Type 0} (b : Bool) (o : Option A) (x : A) → b ≡ true → o ≡ Some x → cond b o None ≡ Some x
 chosen true o x t e = e
@@ -199,7 +240,13 @@ objects_again layout true octets (x ∷ xs) some (address, first, rest, text, is
 
 abbrev asdu_with : ℕ → ℕ → ℕ → ℕ → List Observation → Asdu
 asdu_with identification cause originator common xs =
-    record { identification = identification; cause = cause; originator = originator; common_address = common; observations = xs }
+    record {
+      identification = identification;
+      cause = cause;
+      originator = originator;
+      common_address = common;
+      observations = xs;
+    }
 
 no_header : (asdu : Asdu) → None ≡ Some asdu → ⊥
 no_header asdu e = absurd cc

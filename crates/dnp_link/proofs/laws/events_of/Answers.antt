@@ -12,4 +12,5 @@ loop-piece-preserved c =
     let none : Bor (List ℕ) = record { ref_ptr = (0, 0); now = [] } in
     subst (λ (octets : List ℕ). IsSoFar octets (map event_content c.drain.new.events.items) c.drain.new.feed)
     (pieces_more (λ piece. piece.now) c.args.pieces.now c.loop-piece.piece-index none c.loop-piece-test.true)
-    (one_more _ _ _ _ _ _ _ c.loop-piece.invariant c.in_ok-feed.ensures.ok c.in_ok-drain.ensures.events c.in_ok-drain.ensures.rest)
+    (one_more _ _ _ _ _ _ _ c.loop-piece.invariant c.in_ok-feed.ensures.ok c.in_ok-drain.ensures.events
+    c.in_ok-drain.ensures.rest)

@@ -6,4 +6,5 @@ use Rattle.dnp_link.proofs.Streams.{IsSoFar}
 use Rattle.dnp_link.proofs.laws.events_of.Given as goal
 
 abbrev pub invariant-loop-piece : goal.invariant-loop-piece
-invariant-loop-piece l = IsSoFar (flat_map (λ piece. piece.now) (take l.piece-index l.pieces)) (map event_content l.events.items) l.feed
+invariant-loop-piece l =
+    IsSoFar (flat_map (λ piece. piece.now) (take l.piece-index l.pieces)) (map event_content l.events.items) l.feed

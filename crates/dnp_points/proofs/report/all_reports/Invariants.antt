@@ -6,6 +6,7 @@ use Rattle.dnp_points.proofs.report.all_reports.Given as goal
 
 abbrev pub invariant-loop-header : goal.invariant-loop-header
 invariant-loop-header l = record {
-  read : l.found.items ++ reports_from l.outstation l.part l.common (drop l.header-index l.headers) ≡ reports_of l.outstation l.part l.headers;
+  read : l.found.items ++ reports_from l.outstation l.part l.common (drop l.header-index l.headers)
+      ≡ reports_of l.outstation l.part l.headers;
   clock : IsClock l.common;
 }

@@ -22,5 +22,6 @@ loop-piece-preserved c =
 pub returns : goal.returns
 returns c =
     let octets_in = flat_map (λ (piece : Bor (List ℕ)). piece.now) in
-    subst (λ (octets : List ℕ). HasGathered c.args.own c.args.peer (frames_of (reading octets).events) c.loop-piece.gathering)
+    subst (λ (octets : List ℕ).
+    HasGathered c.args.own c.args.peer (frames_of (reading octets).events) c.loop-piece.gathering)
     (ap octets_in (take_all _ _ c.loop-piece-test.false)) c.loop-piece.invariant.gathered

@@ -11,6 +11,7 @@ returns c =
     ∙ ap₂ with_subcommand (c.in_ok-subcommand-2.ensures.shape c.in_ok-translate_command.ensures.local
     ∙ ap₂ with_subcommand (c.in_ok-subcommand.ensures.shape c.in_ok-check_command.ensures.local
     ∙ ap₂ with_subcommand c.gateway_alone.ensures (ap (λ (a : App). a.top) c.in_ok-check_command.ensures.app))
-    (ap (λ (a : App). a.top) c.in_ok-translate_command.ensures.app)) (ap (λ (a : App). a.top) c.in_ok-file_command.ensures.app))
+    (ap (λ (a : App). a.top) c.in_ok-translate_command.ensures.app))
+    (ap (λ (a : App). a.top) c.in_ok-file_command.ensures.app))
     (ap (λ (a : App). a.top) c.in_ok-run_command.ensures.app))
     c.subcommand-4.ensures

@@ -9,7 +9,8 @@ returns-clause-app c =
     (λ command added. added.shape c.flag_argument.ensures.local
     ∙ ap₂ with_rule (c.in_ok-arg-2.ensures.shape c.texts_argument.ensures.local
     ∙ ap₂ with_rule (c.in_ok-arg.ensures.shape c.number_argument.ensures.local
-    ∙ ap₂ with_rule c.in_ok-file_command.ensures.app c.number_argument.ensures.rule) c.texts_argument.ensures.rule) c.flag_argument.ensures.rule)
+    ∙ ap₂ with_rule c.in_ok-file_command.ensures.app c.number_argument.ensures.rule) c.texts_argument.ensures.rule)
+    c.flag_argument.ensures.rule)
     c.arg-3.ensures
 
 pub returns-clause-local : goal.returns-clause-local
@@ -18,5 +19,6 @@ returns-clause-local c =
     (λ command added. added.globals
     ∙ ap₂ (λ (a b : Bool). a || b) (c.in_ok-arg-2.ensures.globals
     ∙ ap₂ (λ (a b : Bool). a || b) (c.in_ok-arg.ensures.globals
-    ∙ ap₂ (λ (a b : Bool). a || b) c.in_ok-file_command.ensures.local c.number_argument.ensures.local) c.texts_argument.ensures.local) c.flag_argument.ensures.local)
+    ∙ ap₂ (λ (a b : Bool). a || b) c.in_ok-file_command.ensures.local c.number_argument.ensures.local)
+    c.texts_argument.ensures.local) c.flag_argument.ensures.local)
     c.arg-3.ensures

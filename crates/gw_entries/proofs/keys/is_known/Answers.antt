@@ -7,7 +7,8 @@ use Rattle.gw_entries.proofs.keys.is_known.Goals as goal
 pub returns-in-Top : goal.returns-in-Top
 returns-in-Top c =
     rw c.in-Top.is
-    (c.contains.ensures.value ∙ any_known c.args.name.now c.top_keys.result.now ∙ ap (list_any (bytes_eq c.args.name.now)) c.top_keys.ensures)
+    (c.contains.ensures.value ∙ any_known c.args.name.now c.top_keys.result.now
+    ∙ ap (list_any (bytes_eq c.args.name.now)) c.top_keys.ensures)
 
 pub returns-in_default : goal.returns-in_default
 returns-in_default c =

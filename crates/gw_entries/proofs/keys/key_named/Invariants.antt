@@ -6,4 +6,5 @@ use Rattle.gw_entries.specs.Values.{rule_named}
 use Rattle.gw_entries.proofs.keys.key_named.Given as goal
 
 abbrev pub invariant-loop-key : goal.invariant-loop-key
-invariant-loop-key l = rule_named (rules_of l.fn.section) l.name ≡ rule_named (map rule_seen (drop l.key-index l.key-items)) l.name
+invariant-loop-key l =
+    rule_named (rules_of l.fn.section) l.name ≡ rule_named (map rule_seen (drop l.key-index l.key-items)) l.name

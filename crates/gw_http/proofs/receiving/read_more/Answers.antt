@@ -6,5 +6,6 @@ pub returns-in-Ok-clause-more : goal.returns-in-Ok-clause-more
 returns-in-Ok-clause-more g c = record {
   piece = take c.in-Ok.count c.read.new.buf;
   consumed = c.in-Ok.ensures.bytes.0;
-  after_is = front-replaced c.args.filled c.in-Ok.count c.args.octets.now c.read.new.buf _ c.requires c.in-Ok.ensures.bound.0;
+  after_is =
+      front-replaced c.args.filled c.in-Ok.count c.args.octets.now c.read.new.buf _ c.requires c.in-Ok.ensures.bound.0;
 }

@@ -51,7 +51,8 @@ returns-in-End-clause-answers g c =
     let longer = c.read_piece.new.line in
     let brings = subst (λ (p : Piece). Brings p middle rest front longer) c.in-End.is c.in_ok-read_piece.ensures in
     answered_at_end g.A.AnswersLines.Answers c.args.answerer.now g.A.AnswersLines.KEPT
-    g.met.A.AnswersLines.front_decides c.loop-read.answerer c.answer-in-End.new.self front longer c.loop-read.invariant.most
+    g.met.A.AnswersLines.front_decides c.loop-read.answerer c.answer-in-End.new.self front longer
+    c.loop-read.invariant.most
     c.number-in-End.result c.octets-in-End.result.now c.answer-in-End.result
     (g.R.Read.remaining c.args.reader.now) middle rest (g.W.Write.contents c.args.writer.now)
     (g.W.Write.contents c.loop-read.writer) (g.W.Write.contents c.answer-in-End.new.writer)

@@ -6,6 +6,7 @@ use Rattle.gw_map.proofs.indexes.add_addresses.Given as goal
 abbrev pub invariant-loop-position : goal.invariant-loop-position
 invariant-loop-position l = record {
   none : repeated same_number 0 l.initial.addresses.keys (map (λ row. row.address) l.rows)
-      ≡ repeated same_number l.position (l.initial.addresses.keys ++ map (λ row. row.address) (take l.position l.rows)) (map (λ row. row.address) (drop l.position l.rows));
+      ≡ repeated same_number l.position (l.initial.addresses.keys ++ map (λ row. row.address) (take l.position l.rows))
+      (map (λ row. row.address) (drop l.position l.rows));
   kept : l.addresses.keys ≡ l.initial.addresses.keys ++ map (λ row. row.address) (take l.position l.rows);
 }

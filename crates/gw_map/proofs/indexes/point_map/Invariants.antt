@@ -7,6 +7,7 @@ use Rattle.gw_map.proofs.indexes.point_map.Given as goal
 abbrev pub invariant-loop-position : goal.invariant-loop-position
 invariant-loop-position l = record {
   none : repeated same_key 0 [] (map (λ row. row.key) l.rows)
-      ≡ repeated same_key l.position (map (λ row. row.key) (take l.position l.rows)) (map (λ row. row.key) (drop l.position l.rows));
+      ≡ repeated same_key l.position (map (λ row. row.key) (take l.position l.rows))
+      (map (λ row. row.key) (drop l.position l.rows));
   kept : l.points.entries ≡ map (λ row. (row.key, row)) (take l.position l.rows);
 }

@@ -7,4 +7,5 @@ use Rattle.gw_map.proofs.Sections.{after}
 use Rattle.gw_map.proofs.lists.as_tables.Given as goal
 
 abbrev pub invariant-loop-value : goal.invariant-loop-value
-invariant-loop-value l = after (seen l.tables.items) (tables_of (items_view (drop l.value-index l.values))) ≡ tables_of (items_view l.values)
+invariant-loop-value l =
+    after (seen l.tables.items) (tables_of (items_view (drop l.value-index l.values))) ≡ tables_of (items_view l.values)

@@ -9,4 +9,5 @@ returns-in_err-tables-clause-read g c =
 
 pub returns-clause-read : goal.returns-clause-read
 returns-clause-read g c =
-    rw (c.in_ok-tables.ensures.read.0, ← c.in_ok-tables.ensures.read.1, ← c.deref.ensures.value) c.entries_of.ensures.read
+    rw (c.in_ok-tables.ensures.read.0, ← c.in_ok-tables.ensures.read.1, ← c.deref.ensures.value)
+    c.entries_of.ensures.read

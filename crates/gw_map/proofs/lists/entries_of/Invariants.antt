@@ -9,6 +9,7 @@ abbrev pub invariant-loop-position : goal.invariant-loop-position
 invariant-loop-position g l = record {
   none : each_from 0 (g.T.Listed.complaints l.outstations) (seen l.tables)
       ≡ each_from l.position (g.T.Listed.complaints l.outstations) (seen (drop l.position l.tables));
-  kept : map g.T.Listed.fields l.entries.items ≡ map (λ t. g.T.Listed.meaning (table_view t.now)) (take l.position l.tables);
+  kept : map g.T.Listed.fields l.entries.items
+      ≡ map (λ t. g.T.Listed.meaning (table_view t.now)) (take l.position l.tables);
   len : vec_len l.entries ≡ l.position;
 }

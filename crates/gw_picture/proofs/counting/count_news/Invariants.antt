@@ -4,4 +4,5 @@ use Rattle.gw_picture.specs.Picture.{news_of}
 use Rattle.gw_picture.proofs.counting.count_news.Given as goal
 
 abbrev pub invariant-loop-position : goal.invariant-loop-position
-invariant-loop-position l = l.news ≡ length (news_of l.zone.offset_minutes l.settings.rows l.shown (take l.position l.reports))
+invariant-loop-position l =
+    l.news ≡ length (news_of l.zone.offset_minutes l.settings.rows l.shown (take l.position l.reports))

@@ -6,4 +6,5 @@ use Rattle.gw_picture.proofs.counting.shown_once_taken.Given as goal
 
 abbrev pub invariant-loop-report : goal.invariant-loop-report
 invariant-loop-report l =
-    slice_get (picture_after l.zone.offset_minutes l.settings.rows l.shown l.reports) l.position ≡ Some (observation_after l.zone.offset_minutes l.settings.rows l.position l.last (drop l.report-index l.reports))
+    slice_get (picture_after l.zone.offset_minutes l.settings.rows l.shown l.reports) l.position
+    ≡ Some (observation_after l.zone.offset_minutes l.settings.rows l.position l.last (drop l.report-index l.reports))

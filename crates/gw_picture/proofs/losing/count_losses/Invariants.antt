@@ -5,4 +5,5 @@ use Rattle.gw_picture.proofs.losing.count_losses.Given as goal
 
 abbrev pub invariant-loop-position : goal.invariant-loop-position
 invariant-loop-position l =
-    l.losses + length (losses_of l.outstation (drop l.position l.rows) (drop l.position l.shown)) ≡ length (losses_of l.outstation l.rows l.shown)
+    l.losses + length (losses_of l.outstation (drop l.position l.rows) (drop l.position l.shown))
+    ≡ length (losses_of l.outstation l.rows l.shown)

@@ -11,8 +11,11 @@ returns c =
     let written = c.write_monitor-written in
     let image = c.args.image.now in
     let settings = c.args.settings.now in
-    let octets : take written.result.octets written.new.out ≡ spelling settings.station.offset_minutes settings.station.common_address 3 image =
+    let octets : take written.result.octets written.new.out
+    ≡ spelling settings.station.offset_minutes settings.station.common_address 3 image =
     written.ensures.spelled
     ∙ ap (λ (offset : ℤ). spelling offset c.behind-settings.inside.common_address 3 image) c.zone.ensures
-    ∙ ap (λ (station : StationSetup). spelling settings.station.offset_minutes station.common_address 3 image) (c.behind-settings.view_is ∙ c.station.ensures.station) in
-    subst (λ (o : List ℕ). OnOk c.push_line.result (c.push_line.new.text.items ≡ c.args.text.now.items ++ line_of (codes "asdu") o)) octets c.push_line.ensures
+    ∙ ap (λ (station : StationSetup). spelling settings.station.offset_minutes station.common_address 3 image)
+    (c.behind-settings.view_is ∙ c.station.ensures.station) in
+    subst (λ (o : List ℕ). OnOk c.push_line.result (c.push_line.new.text.items
+    ≡ c.args.text.now.items ++ line_of (codes "asdu") o)) octets c.push_line.ensures

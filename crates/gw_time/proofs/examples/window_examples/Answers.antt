@@ -16,11 +16,13 @@ untagged offset stamp none has =
     let some = (rw none at (window_of_tag offset stamp)).1 has in
     absurd cc
 
-first : (offset : ℤ) (t : ℕ) (tag : List ℕ) → tag_of offset (At t) ≡ Some tag → tag_of offset (At (t - 1)) ≡ None → IsFirst offset t tag
+first : (offset : ℤ) (t : ℕ) (tag : List ℕ) → tag_of offset (At t) ≡ Some tag → tag_of offset (At (t - 1)) ≡ None
+    → IsFirst offset t tag
 first offset t tag shows before =
     (tagged offset (At t) tag shows, untagged offset (At (t - 1)) before, rw shows at (tag_means offset (At t)))
 
-last : (offset : ℤ) (t : ℕ) (tag : List ℕ) → tag_of offset (At t) ≡ Some tag → tag_of offset (At (t + 1)) ≡ None → IsLast offset t tag
+last : (offset : ℤ) (t : ℕ) (tag : List ℕ) → tag_of offset (At t) ≡ Some tag → tag_of offset (At (t + 1)) ≡ None
+    → IsLast offset t tag
 last offset t tag shows after =
     (tagged offset (At t) tag shows, untagged offset (At (t + 1)) after, rw shows at (tag_means offset (At t)))
 

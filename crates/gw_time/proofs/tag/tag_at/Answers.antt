@@ -10,7 +10,8 @@ use Rattle.gw_time.proofs.tag.tag_at.Goals as goal
 pub returns-in_err-shown : goal.returns-in_err-shown
 returns-in_err-shown c =
     let offset = c.args.zone.now.offset_minutes in
-    c.from_residual.ensures ∙ sym (outside c.args.invalid (shown_at offset c.args.instant) (λ h. false≢true (c.in_err-shown.ensures.window.1 (window_of_shown offset c.args.instant h))))
+    c.from_residual.ensures ∙ sym (outside c.args.invalid (shown_at offset c.args.instant)
+    (λ h. false≢true (c.in_err-shown.ensures.window.1 (window_of_shown offset c.args.instant h))))
 
 pub returns : goal.returns
 returns c =

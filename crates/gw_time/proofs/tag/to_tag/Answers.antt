@@ -24,17 +24,20 @@ returns-in-At-clause-plain c =
 pub returns-in-Doubtful-clause-window : goal.returns-in-Doubtful-clause-window
 returns-in-Doubtful-clause-window c =
     let offset = c.args.zone.now.offset_minutes in
-    let exact : c.tag_at-in-Doubtful.result ≡ tag_of offset c.args.stamp = c.tag_at-in-Doubtful.ensures ∙ ap (tag_of offset) (sym c.in-Doubtful.is) in
+    let exact : c.tag_at-in-Doubtful.result ≡ tag_of offset c.args.stamp =
+    c.tag_at-in-Doubtful.ensures ∙ ap (tag_of offset) (sym c.in-Doubtful.is) in
     rw exact (window_of_tag offset c.args.stamp)
 
 pub returns-in-Doubtful-clause-meant : goal.returns-in-Doubtful-clause-meant
 returns-in-Doubtful-clause-meant c =
     let offset = c.args.zone.now.offset_minutes in
-    let exact : c.tag_at-in-Doubtful.result ≡ tag_of offset c.args.stamp = c.tag_at-in-Doubtful.ensures ∙ ap (tag_of offset) (sym c.in-Doubtful.is) in
+    let exact : c.tag_at-in-Doubtful.result ≡ tag_of offset c.args.stamp =
+    c.tag_at-in-Doubtful.ensures ∙ ap (tag_of offset) (sym c.in-Doubtful.is) in
     rw exact (tag_means offset c.args.stamp)
 
 pub returns-in-Doubtful-clause-plain : goal.returns-in-Doubtful-clause-plain
 returns-in-Doubtful-clause-plain c =
     let offset = c.args.zone.now.offset_minutes in
-    let exact : c.tag_at-in-Doubtful.result ≡ tag_of offset c.args.stamp = c.tag_at-in-Doubtful.ensures ∙ ap (tag_of offset) (sym c.in-Doubtful.is) in
+    let exact : c.tag_at-in-Doubtful.result ≡ tag_of offset c.args.stamp =
+    c.tag_at-in-Doubtful.ensures ∙ ap (tag_of offset) (sym c.in-Doubtful.is) in
     rw exact (tag_is_plain offset c.args.stamp)

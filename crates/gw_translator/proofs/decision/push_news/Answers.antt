@@ -10,14 +10,17 @@ use Rattle.gw_translator.proofs.decision.push_news.Goals as goal
 use Rattle.gw_translator.proofs.decision.push_news.Goals.{in-Some+in_ok-push, in_default}
 
 -- a report is taken: its news are told, and those of the rest are left
-news_turn : (setup : Setup) (zone : ℤ) (before after items items' whole : List Observation) (told : Option Observation) (r : Report) (rest reports : List Report)
-    → zone ≡ setup.station.offset_minutes → reports ≡ r ∷ rest → option_to_list told ≡ news_of_report zone setup.rows before r
+news_turn : (setup : Setup) (zone : ℤ) (before after items items' whole : List Observation) (told : Option Observation)
+    (r : Report) (rest reports : List Report)
+    → zone ≡ setup.station.offset_minutes → reports ≡ r ∷ rest
+    → option_to_list told ≡ news_of_report zone setup.rows before r
     → after ≡ picture_after_report zone setup.rows before r → items' ≡ items ++ option_to_list told
     → items ++ news_in setup before reports ≡ whole → items' ++ news_in setup after rest ≡ whole
 news_turn setup zone before after items items' whole told r rest reports z more news shown new left =
     rw (new, append_assoc, news, shown, z) (rw more at left)
 
-picture_turn : (setup : Setup) (zone : ℤ) (before after last : List Observation) (r : Report) (rest reports : List Report)
+picture_turn : (setup : Setup) (zone : ℤ) (before after last : List Observation) (r : Report)
+    (rest reports : List Report)
     → zone ≡ setup.station.offset_minutes → reports ≡ r ∷ rest → after ≡ picture_after_report zone setup.rows before r
     → picture_after_reports setup before reports ≡ last → picture_after_reports setup after rest ≡ last
 picture_turn setup zone before after last r rest reports z more shown left = rw (shown, z) (rw more at left)
@@ -38,21 +41,29 @@ pub loop-report-preserved : goal.loop-report-preserved
 loop-report-preserved c =
     let rest : List Report = drop (c.loop-report.report-index + 1) c.args.reports.now in
     let more : drop c.loop-report.report-index c.args.reports.now ≡ c.report-item.result ∷ rest =
-    drop_more c.args.reports.now c.loop-report.report-index c.report-item.result c.loop-report-test.true ∙ ap (λ (r : Report). r ∷ rest) (sym c.report-item.is) in
-    let told : c.match-take.news.items ≡ c.loop-report.news.items ++ option_to_list c.take.result = elim c.match-take.branch [
+    drop_more c.args.reports.now c.loop-report.report-index c.report-item.result c.loop-report-test.true
+    ∙ ap (λ (r : Report). r ∷ rest) (sym c.report-item.is) in
+    let told : c.match-take.news.items ≡ c.loop-report.news.items ++ option_to_list c.take.result =
+    elim c.match-take.branch [
       | in-Some+in_ok-push w ↦ rw w.in-Some.is (let new = w.in_ok-push.ensures.items in cc)
       | in_default w ↦ rw (w.in_default.is, append-nil) cc
     ] in
     record {
-      news = news_turn c.args.settings.now c.zone-zone.result.offset_minutes c.loop-report.picture c.take.new.self c.loop-report.news.items _ _ c.take.result c.report-item.result rest _ c.loop-report.invariant.zone more c.take.ensures.news c.take.ensures.shown told c.loop-report.invariant.news;
-      picture = picture_turn c.args.settings.now c.zone-zone.result.offset_minutes c.loop-report.picture c.take.new.self _ c.report-item.result rest _ c.loop-report.invariant.zone more c.take.ensures.shown c.loop-report.invariant.picture;
+      news = news_turn c.args.settings.now c.zone-zone.result.offset_minutes c.loop-report.picture c.take.new.self
+          c.loop-report.news.items _ _ c.take.result c.report-item.result rest _ c.loop-report.invariant.zone more
+          c.take.ensures.news c.take.ensures.shown told c.loop-report.invariant.news;
+      picture = picture_turn c.args.settings.now c.zone-zone.result.offset_minutes c.loop-report.picture c.take.new.self
+          _ c.report-item.result rest _ c.loop-report.invariant.zone more c.take.ensures.shown
+          c.loop-report.invariant.picture;
       zone = c.loop-report.invariant.zone;
     }
 
 pub returns-clause-news : goal.returns-clause-news
 returns-clause-news c =
-    news_end c.args.settings.now c.loop-report.picture _ _ _ (drop_all c.loop-report.report-index c.args.reports.now c.loop-report-test.false) c.loop-report.invariant.news
+    news_end c.args.settings.now c.loop-report.picture _ _ _
+    (drop_all c.loop-report.report-index c.args.reports.now c.loop-report-test.false) c.loop-report.invariant.news
 
 pub returns-clause-picture : goal.returns-clause-picture
 returns-clause-picture c =
-    picture_end c.args.settings.now c.loop-report.picture _ _ (drop_all c.loop-report.report-index c.args.reports.now c.loop-report-test.false) c.loop-report.invariant.picture
+    picture_end c.args.settings.now c.loop-report.picture _ _
+    (drop_all c.loop-report.report-index c.args.reports.now c.loop-report-test.false) c.loop-report.invariant.picture

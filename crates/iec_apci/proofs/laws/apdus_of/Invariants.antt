@@ -7,4 +7,5 @@ use Rattle.iec_apci.proofs.laws.apdus_of.Given as goal
 
 -- what was said of the pieces so far
 abbrev pub invariant-loop-piece : goal.invariant-loop-piece
-invariant-loop-piece l = Said (flat_map (λ piece. piece.now) (take l.piece-index l.pieces)) (map content l.apdus.items) l.feed l.fault
+invariant-loop-piece l =
+    Said (flat_map (λ piece. piece.now) (take l.piece-index l.pieces)) (map content l.apdus.items) l.feed l.fault

@@ -8,7 +8,8 @@ use Rattle.iec_apci.proofs.laws.drain.Given as goal
 -- the APDUs so far, and those that are held back, are all
 abbrev pub invariant-loop-answer : goal.invariant-loop-answer
 invariant-loop-answer l = record {
-  apdus : map content l.apdus.items ++ (reading_of_ending l.feed).apdus ≡ map content l.initial.apdus.items ++ (reading_of_ending l.initial.feed).apdus;
+  apdus : map content l.apdus.items ++ (reading_of_ending l.feed).apdus
+      ≡ map content l.initial.apdus.items ++ (reading_of_ending l.initial.feed).apdus;
   rest : (reading_of_ending l.feed).ending ≡ (reading_of_ending l.initial.feed).ending;
 }
 

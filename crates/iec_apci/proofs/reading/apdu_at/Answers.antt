@@ -9,7 +9,8 @@ if_ok P (Some x) e p = p
 if_ok P None e p = tt
 
 pub returns-clause-numbered : goal.returns-clause-numbered
-returns-clause-numbered c = rw c.ok_or.ensures.value (if_ok IsNumbered c.apdu_of.result Control c.apdu_of.ensures.numbered)
+returns-clause-numbered c =
+    rw c.ok_or.ensures.value (if_ok IsNumbered c.apdu_of.result Control c.apdu_of.ensures.numbered)
 
 pub returns-clause-padded : goal.returns-clause-padded
 returns-clause-padded c = rw c.ok_or.ensures.value (if_ok IsPadded c.apdu_of.result Control c.apdu_of.ensures.padded)

@@ -11,5 +11,6 @@ pub returns-clause-read_back : goal.returns-clause-read_back
 returns-clause-read_back c behind =
     let carried = content c.args.apdu.now in
     ap (λ t. reading (take c.put.result t ++ behind)) c.put.ensures.written
-    ∙ (ap (λ t. reading (t ++ behind)) (take_at (apdu carried) (drop c.put.result c.args.out.now) c.put.result (sym c.put.ensures.length))
+    ∙ (ap (λ t. reading (t ++ behind))
+    (take_at (apdu carried) (drop c.put.result c.args.out.now) c.put.result (sym c.put.ensures.length))
     ∙ reading-apdu carried behind (content_fits c.args.apdu.now c.requires))

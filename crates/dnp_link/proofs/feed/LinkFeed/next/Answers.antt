@@ -18,20 +18,26 @@ returns-in-Skip-clause-reads c =
 
 pub returns-in_default-clause-reads : goal.returns-in_default-clause-reads
 returns-in_default-clause-reads c =
-    (block_dropped c.in-Whole.len c.left.result.now c.left-in-Whole.result.now c.args.self.now c.use_up-in_default.new.self.left
-    (c.left.ensures ∙ c.self.view_is) (c.left-in-Whole.ensures ∙ c.self.view_is) c.in-Whole.ensures.shown c.in_default.ensures.carried
+    (block_dropped c.in-Whole.len c.left.result.now c.left-in-Whole.result.now c.args.self.now
+    c.use_up-in_default.new.self.left
+    (c.left.ensures ∙ c.self.view_is)
+    (c.left-in-Whole.ensures ∙ c.self.view_is) c.in-Whole.ensures.shown c.in_default.ensures.carried
     (ap (λ (q : Queue). q.left) c.use_up-in_default.ensures ∙ ap (drop 1) c.self.view_is)).reads
 
 pub returns-in-Some-clause-rest : goal.returns-in-Some-clause-rest
 returns-in-Some-clause-rest c =
-    (frame_given c.in-Whole.len c.left.result.now c.left-in-Whole.result.now c.args.self.now c.use_up-in-Whole.new.self.left (content c.in-Some.frame)
-    c.frame_length_of.result (c.left.ensures ∙ c.self.view_is) (c.left-in-Whole.ensures ∙ c.self.view_is) c.in-Whole.ensures.shown
+    (frame_given c.in-Whole.len c.left.result.now c.left-in-Whole.result.now c.args.self.now
+    c.use_up-in-Whole.new.self.left (content c.in-Some.frame)
+    c.frame_length_of.result (c.left.ensures ∙ c.self.view_is)
+    (c.left-in-Whole.ensures ∙ c.self.view_is) c.in-Whole.ensures.shown
     c.in-Whole.ensures.tested c.in-Some.ensures.carried (c.frame_length_of.ensures ∙ ap frame_length c.from.ensures)
     (ap (λ (q : Queue). q.left) c.use_up-in-Whole.ensures ∙ ap (drop c.frame_length_of.result) c.self.view_is)).rest
 
 pub returns-in-Some-clause-reads : goal.returns-in-Some-clause-reads
 returns-in-Some-clause-reads c =
-    (frame_given c.in-Whole.len c.left.result.now c.left-in-Whole.result.now c.args.self.now c.use_up-in-Whole.new.self.left (content c.in-Some.frame)
-    c.frame_length_of.result (c.left.ensures ∙ c.self.view_is) (c.left-in-Whole.ensures ∙ c.self.view_is) c.in-Whole.ensures.shown
+    (frame_given c.in-Whole.len c.left.result.now c.left-in-Whole.result.now c.args.self.now
+    c.use_up-in-Whole.new.self.left (content c.in-Some.frame)
+    c.frame_length_of.result (c.left.ensures ∙ c.self.view_is)
+    (c.left-in-Whole.ensures ∙ c.self.view_is) c.in-Whole.ensures.shown
     c.in-Whole.ensures.tested c.in-Some.ensures.carried (c.frame_length_of.ensures ∙ ap frame_length c.from.ensures)
     (ap (λ (q : Queue). q.left) c.use_up-in-Whole.ensures ∙ ap (drop c.frame_length_of.result) c.self.view_is)).reads

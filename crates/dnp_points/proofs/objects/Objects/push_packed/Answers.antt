@@ -10,7 +10,9 @@ use Rattle.dnp_points.proofs.objects.Objects.push_packed.Goals as goal
 
 pub loop-n-init : goal.loop-n-init
 loop-n-init g c = record {
-  read = ap (λ (rs : List _). c.args.found.now.items ++ rs) (packed_at_first g.P.PackedObject.variation g.P.PackedObject.BITS c.args.self.now.outstation c.args.self.now.header.now.first c.args.self.now.header.now.count (bits_of c.packed_octets-body.result.now));
+  read = ap (λ (rs : List _). c.args.found.now.items ++ rs)
+      (packed_at_first g.P.PackedObject.variation g.P.PackedObject.BITS c.args.self.now.outstation
+      c.args.self.now.header.now.first c.args.self.now.header.now.count (bits_of c.packed_octets-body.result.now));
   grown = le_refl _;
 }
 
@@ -18,18 +20,27 @@ pub loop-n-preserved : goal.loop-n-preserved
 loop-n-preserved g c =
     let bits = bits_of c.packed_octets-body.result.now in
     record {
-      read = packed_turn g.P.PackedObject.variation g.P.PackedObject.BITS c.BITS-width.result c.args.self.now.outstation c.args.self.now.header.now.first c.from-first.result c.loop-n.n c.args.self.now.header.now.count
-          bits (take c.BITS-width.result (drop (c.loop-n.n * c.BITS-width.result) bits)) (c.from-first.result + c.loop-n.n) c.loop-n.found.items c.push.new.self.items c.args.found.now.items c.report.result
-          c.loop-n-test.true c.BITS-width.ensures c.from-first.ensures refl refl (ap (packed_reports_by_role g.P.PackedObject.variation.role g.P.PackedObject.variation.event c.args.self.now.outstation (c.from-first.result + c.loop-n.n)) (sym c.bits_at-state.ensures) ∙ c.report.ensures) c.in_ok-push.ensures.items c.loop-n.invariant.read;
-      grown = grown c.loop-n.found.items c.push.new.self.items c.args.found.now.items c.report.result c.in_ok-push.ensures.items c.loop-n.invariant.grown;
+      read = packed_turn g.P.PackedObject.variation g.P.PackedObject.BITS c.BITS-width.result c.args.self.now.outstation
+          c.args.self.now.header.now.first c.from-first.result c.loop-n.n c.args.self.now.header.now.count
+          bits (take c.BITS-width.result (drop (c.loop-n.n * c.BITS-width.result) bits)) (c.from-first.result
+          + c.loop-n.n) c.loop-n.found.items c.push.new.self.items c.args.found.now.items c.report.result
+          c.loop-n-test.true c.BITS-width.ensures c.from-first.ensures refl refl
+          (ap (packed_reports_by_role g.P.PackedObject.variation.role g.P.PackedObject.variation.event
+          c.args.self.now.outstation (c.from-first.result + c.loop-n.n)) (sym c.bits_at-state.ensures)
+          ∙ c.report.ensures) c.in_ok-push.ensures.items c.loop-n.invariant.read;
+      grown = grown c.loop-n.found.items c.push.new.self.items c.args.found.now.items c.report.result
+          c.in_ok-push.ensures.items c.loop-n.invariant.grown;
     }
 
 pub returns : goal.returns
 returns g c =
     let none : c.args.self.now.header.now.count - c.loop-n.n ≡ 0 = omega arith in
     record {
-      told = packed_ends c.args.self.now.part.now c.args.self.now.header.now g.P.PackedObject.variation g.P.PackedObject.BITS c.args.self.now.outstation c.args.self.now.common (c.args.self.now.header.now.first + c.loop-n.n) (c.args.self.now.header.now.count - c.loop-n.n)
-          c.packed_octets-body.result.now _ c.loop-n.found.items c.args.found.now.items c.requires.known g.met.P.PackedObject.sized none c.packed_octets-body.ensures.all c.loop-n.invariant.read;
+      told = packed_ends c.args.self.now.part.now c.args.self.now.header.now g.P.PackedObject.variation
+          g.P.PackedObject.BITS c.args.self.now.outstation c.args.self.now.common
+          (c.args.self.now.header.now.first + c.loop-n.n) (c.args.self.now.header.now.count - c.loop-n.n)
+          c.packed_octets-body.result.now _ c.loop-n.found.items c.args.found.now.items c.requires.known
+          g.met.P.PackedObject.sized none c.packed_octets-body.ensures.all c.loop-n.invariant.read;
       memory = tt;
     }
 
@@ -39,10 +50,16 @@ returns-in_err-push g c =
     record {
       told = search rules;
       memory = on_error c.from_residual.result (reports_of_objects c.args.self.now ≢ [])
-          (one_packed_told c.args.self.now.part.now c.args.self.now.header.now g.P.PackedObject.variation g.P.PackedObject.BITS c.BITS-width.result c.args.self.now.outstation c.args.self.now.common c.from-first.result c.loop-n.n
-          c.packed_octets-body.result.now (take c.BITS-width.result (drop (c.loop-n.n * c.BITS-width.result) bits)) (c.from-first.result + c.loop-n.n) c.loop-n.found.items c.args.found.now.items c.report.result
-          c.requires.known g.met.P.PackedObject.sized c.loop-n-test.true c.BITS-width.ensures c.from-first.ensures refl c.packed_octets-body.ensures.all refl
-          (ap (packed_reports_by_role g.P.PackedObject.variation.role g.P.PackedObject.variation.event c.args.self.now.outstation (c.from-first.result + c.loop-n.n)) (sym c.bits_at-state.ensures) ∙ c.report.ensures)
+          (one_packed_told c.args.self.now.part.now c.args.self.now.header.now g.P.PackedObject.variation
+          g.P.PackedObject.BITS c.BITS-width.result c.args.self.now.outstation c.args.self.now.common
+          c.from-first.result c.loop-n.n
+          c.packed_octets-body.result.now (take c.BITS-width.result (drop (c.loop-n.n * c.BITS-width.result) bits))
+          (c.from-first.result + c.loop-n.n) c.loop-n.found.items c.args.found.now.items c.report.result
+          c.requires.known g.met.P.PackedObject.sized c.loop-n-test.true c.BITS-width.ensures c.from-first.ensures refl
+          c.packed_octets-body.ensures.all refl
+          (ap (packed_reports_by_role g.P.PackedObject.variation.role g.P.PackedObject.variation.event
+          c.args.self.now.outstation (c.from-first.result + c.loop-n.n)) (sym c.bits_at-state.ensures)
+          ∙ c.report.ensures)
           c.loop-n.invariant.grown c.loop-n.invariant.read);
     }
 
@@ -59,7 +76,8 @@ bits_at-state-requires-clause-whole g c = mul-mod_left c.loop-n.n c.BITS-width.r
 
 pub bits_at-state-requires-clause-inside : goal.bits_at-state-requires-clause-inside
 bits_at-state-requires-clause-inside g c =
-    rw c.BITS-width.ensures (bits_inside c.loop-n.n c.args.self.now.header.now.count g.P.PackedObject.BITS _ c.loop-n-test.true c.packed_octets-body.ensures.long)
+    rw c.BITS-width.ensures (bits_inside c.loop-n.n c.args.self.now.header.now.count g.P.PackedObject.BITS _
+    c.loop-n-test.true c.packed_octets-body.ensures.long)
 
 pub overflow_add-index : goal.overflow_add-index
 overflow_add-index g c = omega (arith, c.from-first.ensures, c.loop-n-test.true, c.requires.inside.indexed.ends)

@@ -9,7 +9,9 @@ invariant-loop-n g l =
     let v = g.P.PackedObject.variation in
     let width = g.P.PackedObject.BITS in
     record {
-      read : l.found.items ++ packed_from v width l.self.outstation (l.self.header.now.first + l.n) (l.self.header.now.count - l.n) (drop (l.n * width) (bits_of l.body))
-          ≡ l.initial.found.items ++ packed_from v width l.self.outstation l.self.header.now.first l.self.header.now.count (bits_of l.body);
+      read : l.found.items ++ packed_from v width l.self.outstation (l.self.header.now.first + l.n)
+          (l.self.header.now.count - l.n) (drop (l.n * width) (bits_of l.body))
+          ≡ l.initial.found.items
+          ++ packed_from v width l.self.outstation l.self.header.now.first l.self.header.now.count (bits_of l.body);
       grown : length l.initial.found.items ≤ length l.found.items;
     }

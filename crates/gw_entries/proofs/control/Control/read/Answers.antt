@@ -53,7 +53,8 @@ returns c =
     let ms = table_view c.args.table.now in
     let p = control_within c.args.position c.args.outstations _ _ c.in_ok-check.ensures in
     let show = control_show_read ms _ c.word-show.ensures in (
-      rw (table_parts, c.in_ok-check.ensures) (nothing_placed of.Control c.args.position _ (ap (λ keys. map (λ key. (KindMismatch, key)) keys) (no_control_mismatch ms _ show (sym c.in_default.ensures)))),
+      rw (table_parts, c.in_ok-check.ensures) (nothing_placed of.Control c.args.position _ (ap
+          (λ keys. map (λ key. (KindMismatch, key)) keys) (no_control_mismatch ms _ show (sym c.in_default.ensures)))),
       λ i. record {
         outstation = position_fits _ _ _ c.number_u16-3.ensures p.outstation c.ranges.outstations i;
         index = fits_min _ _ _ _ c.number_u16-4.ensures p.index (lit≤ tt) i;
@@ -61,7 +62,9 @@ returns c =
         select = c.flag.ensures i;
         mode = mode_read ms _ c.word-2.ensures i;
         operates = (c.operates.ensures ∙ operation_same ms _ _ _ show (rest_read ms _ c.word.ensures)
-            (fits_min _ _ _ _ c.number_u32.ensures p.short_ms.1 (lit≤ tt)) (fits_min _ _ _ _ c.number_u32-2.ensures p.long_ms.1 (lit≤ tt))
-            (fits_min _ _ _ _ c.number_u16.ensures p.num.1 (lit≤ tt)) (fits_min _ _ _ _ c.number_u16-2.ensures p.den.1 (lit≤ tt))) i;
+            (fits_min _ _ _ _ c.number_u32.ensures p.short_ms.1 (lit≤ tt))
+            (fits_min _ _ _ _ c.number_u32-2.ensures p.long_ms.1 (lit≤ tt))
+            (fits_min _ _ _ _ c.number_u16.ensures p.num.1 (lit≤ tt))
+            (fits_min _ _ _ _ c.number_u16-2.ensures p.den.1 (lit≤ tt))) i;
       },
     )

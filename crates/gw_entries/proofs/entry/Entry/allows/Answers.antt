@@ -10,4 +10,5 @@ pub returns-in-Word : goal.returns-in-Word
 returns-in-Word c =
     rw c.in-Word.is (c.contains.ensures.value ∙ any_known c.unwrap_or.result.now c.in-Word.words.now
     ∙ ap (λ text. list_any (bytes_eq text) (texts c.in-Word.words.now))
-    (ap (λ text. text.now) c.unwrap_or.ensures ∙ text_or c.text.result _ (text_in (datum_seen c.args.datum)) c.text.ensures))
+    (ap (λ text. text.now) c.unwrap_or.ensures
+    ∙ text_or c.text.result _ (text_in (datum_seen c.args.datum)) c.text.ensures))

@@ -6,7 +6,8 @@ use Rattle.gw_entries.proofs.entry.Entry.first_fault.Goals as goal
 
 pub returns-in-Some : goal.returns-in-Some
 unfolding rules_wrongs
-returns-in-Some c = wrong_here _ _ _ _ rule_seen _ _ _ _ c.loop-key.invariant c.loop-key-test.true (sym c.in-Some.ensures)
+returns-in-Some c =
+    wrong_here _ _ _ _ rule_seen _ _ _ _ c.loop-key.invariant c.loop-key-test.true (sym c.in-Some.ensures)
 
 pub returns : goal.returns
 unfolding rules_wrongs

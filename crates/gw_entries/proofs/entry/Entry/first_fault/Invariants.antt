@@ -9,4 +9,5 @@ use Rattle.gw_entries.proofs.entry.Entry.first_fault.Given as goal
 abbrev pub invariant-loop-key : goal.invariant-loop-key
 invariant-loop-key l =
     first_wrong l.outstations (rules_of l.self.section) (table_view l.self.table.now) (rules_of l.self.section)
-    ≡ first_wrong l.outstations (rules_of l.self.section) (table_view l.self.table.now) (map rule_seen (drop l.key-index l.key-items))
+    ≡ first_wrong l.outstations (rules_of l.self.section) (table_view l.self.table.now)
+    (map rule_seen (drop l.key-index l.key-items))

@@ -12,13 +12,26 @@ use Rattle.gw_entries.proofs.outstation.Outstation.read.Goals as goal
 seen : (c : goal.In_ok-from_str) → outstation_seen record {
   address = c.number_u16.result;
   connect = c.in_ok-from_str.field-0;
-  poll = record { poll_ms = c.number.result; integrity_ms = c.number-2.result; response_ms = c.number-3.result; unsolicited = c.flag.result; lan_time = c.flag-2.result };
+  poll = record {
+    poll_ms = c.number.result;
+    integrity_ms = c.number-2.result;
+    response_ms = c.number-3.result;
+    unsolicited = c.flag.result;
+    lan_time = c.flag-2.result;
+  };
 } ≡ outstation_of (table_view c.args.table.now)
 unfolding outstation_of
 seen c = λ i. record {
-  address = fits_min _ _ _ _ c.number_u16.ensures (outstation_within c.args.position _ _ c.in_ok-check.ensures).address (lit≤ tt) i;
+  address = fits_min _ _ _ _ c.number_u16.ensures
+      (outstation_within c.args.position _ _ c.in_ok-check.ensures).address (lit≤ tt) i;
   connect = (c.in_ok-from_str.ensures.ok ∙ c.text.ensures) i;
-  poll = record { poll_ms = c.number.ensures i; integrity_ms = c.number-2.ensures i; response_ms = c.number-3.ensures i; unsolicited = c.flag.ensures i; lan_time = c.flag-2.ensures i };
+  poll = record {
+    poll_ms = c.number.ensures i;
+    integrity_ms = c.number-2.ensures i;
+    response_ms = c.number-3.ensures i;
+    unsolicited = c.flag.ensures i;
+    lan_time = c.flag-2.ensures i;
+  };
 }
 
 pub returns-in_err-check : goal.returns-in_err-check

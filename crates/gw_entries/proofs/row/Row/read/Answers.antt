@@ -21,7 +21,8 @@ returns-in-Some c =
     let kind = kind_read ms _ c.word-kind.ensures in
     rw (table_parts, c.in_ok-check.ensures)
     (tells_wrong c.mismatched.result _ _ _ _ c.mismatched.ensures
-    (point_mismatch ms _ _ _ kind (show_read ms _ _ _ c.word-show.ensures c.usual_show.ensures kind) (sym c.in-Some.ensures)))
+    (point_mismatch ms _ _ _ kind (show_read ms _ _ _ c.word-show.ensures c.usual_show.ensures kind)
+    (sym c.in-Some.ensures)))
 
 pub overflow_cast-result : goal.overflow_cast-result
 overflow_cast-result c =
@@ -45,7 +46,8 @@ invariant_of-result-2 c =
       to = address.1;
       shown = fits-from_none _ _ ms (sym c.in_default.ensures);
       scaled = unscaled _ _ ms _ _ (sym c.in_default.ensures)
-          (fits_min _ _ _ _ c.number_u16-3.ensures p.num.1 (lit≤ tt)) (fits_min _ _ _ _ c.number_u16-4.ensures p.den.1 (lit≤ tt));
+          (fits_min _ _ _ _ c.number_u16-3.ensures p.num.1 (lit≤ tt))
+          (fits_min _ _ _ _ c.number_u16-4.ensures p.den.1 (lit≤ tt));
     }
 
 pub returns : goal.returns
@@ -55,9 +57,15 @@ returns c =
     let p = point_within c.args.position c.args.outstations _ _ c.in_ok-check.ensures in
     let kind = kind_read ms _ c.word-kind.ensures in
     let show = show_read ms _ _ _ c.word-show.ensures c.usual_show.ensures kind in (
-      rw (table_parts, c.in_ok-check.ensures) (nothing_placed of.Point c.args.position _ (ap (λ keys. map (λ key. (KindMismatch, key)) keys) (no_point_mismatch ms _ _ kind show (sym c.in_default.ensures)))),
+      rw (table_parts, c.in_ok-check.ensures)
+          (nothing_placed of.Point c.args.position _ (ap (λ keys. map (λ key. (KindMismatch, key)) keys)
+          (no_point_mismatch ms _ _ kind show (sym c.in_default.ensures)))),
       λ i. record {
-        key = record { outstation = position_fits _ _ _ c.number_u16.ensures p.outstation c.ranges.outstations i; kind = kind i; index = fits_min _ _ _ _ c.number_u16-2.ensures p.index (lit≤ tt) i };
+        key = record {
+          outstation = position_fits _ _ _ c.number_u16.ensures p.outstation c.ranges.outstations i;
+          kind = kind i;
+          index = fits_min _ _ _ _ c.number_u16-2.ensures p.index (lit≤ tt) i;
+        };
         address = fits_min _ _ _ _ c.number_u32.ensures p.address.1 (lit≤ tt) i;
         show = show i;
         num = fits_min _ _ _ _ c.number_u16-3.ensures p.num.1 (lit≤ tt) i;

@@ -26,51 +26,99 @@ returns-in_err-station c =
 pub returns-in_err-outstations : goal.returns-in_err-outstations
 unfolding section_complaints
 returns-in_err-outstations c =
-    let p = err_from_is_err_and c.from_residual-in_err-outstations.result c.from_residual-in_err-outstations.ensures.1 in
-    rw (p.1, p.2) (rw (c.in_ok-check_keys.ensures, c.in_ok-station.ensures.0) (told_front _ _ _ c.in_err-outstations.ensures.read))
+    let p =
+    err_from_is_err_and c.from_residual-in_err-outstations.result c.from_residual-in_err-outstations.ensures.1 in
+    rw (p.1, p.2)
+    (rw (c.in_ok-check_keys.ensures, c.in_ok-station.ensures.0) (told_front _ _ _ c.in_err-outstations.ensures.read))
 
 pub returns-in_err-rows : goal.returns-in_err-rows
 unfolding section_complaints
 returns-in_err-rows c =
-    let n : c.len-count.result ≡ length (entries (codes "outstation") (table_view c.args.top.now)) = same_length _ (λ outstation. outstation) outstation_of _ _ (c.len-count.ensures ∙ c.in_ok-outstations.outstations.ok.0) c.in_ok-outstations.ensures.read.1 in
+    let n : c.len-count.result ≡ length (entries (codes "outstation") (table_view c.args.top.now)) =
+    same_length _ (λ outstation. outstation) outstation_of _ _
+    (c.len-count.ensures ∙ c.in_ok-outstations.outstations.ok.0) c.in_ok-outstations.ensures.read.1 in
     let p = err_from_is_err_and c.from_residual-in_err-rows.result c.from_residual-in_err-rows.ensures.1 in
-    rw (p.1, p.2) (rw (c.in_ok-check_keys.ensures, c.in_ok-station.ensures.0, c.in_ok-outstations.ensures.read.0, ← n) (told_front _ _ _ c.in_err-rows.ensures.read))
+    rw (p.1, p.2) (rw (c.in_ok-check_keys.ensures, c.in_ok-station.ensures.0, c.in_ok-outstations.ensures.read.0, ← n)
+    (told_front _ _ _ c.in_err-rows.ensures.read))
 
 pub returns-in_err-controls : goal.returns-in_err-controls
 unfolding section_complaints
 returns-in_err-controls c =
-    let n : c.len-count.result ≡ length (entries (codes "outstation") (table_view c.args.top.now)) = same_length _ (λ outstation. outstation) outstation_of _ _ (c.len-count.ensures ∙ c.in_ok-outstations.outstations.ok.0) c.in_ok-outstations.ensures.read.1 in
-    let m : c.len.result ≡ length (entries (codes "point") (table_view c.args.top.now)) = same_length _ row_fields row_of _ _ (c.len.ensures ∙ c.in_ok-rows.rows.ok.0) c.in_ok-rows.ensures.read.1 in
+    let n : c.len-count.result ≡ length (entries (codes "outstation") (table_view c.args.top.now)) =
+    same_length _ (λ outstation. outstation) outstation_of _ _
+    (c.len-count.ensures ∙ c.in_ok-outstations.outstations.ok.0) c.in_ok-outstations.ensures.read.1 in
+    let m : c.len.result ≡ length (entries (codes "point") (table_view c.args.top.now)) =
+    same_length _ row_fields row_of _ _ (c.len.ensures ∙ c.in_ok-rows.rows.ok.0) c.in_ok-rows.ensures.read.1 in
     let p = err_from_is_err_and c.from_residual-in_err-controls.result c.from_residual-in_err-controls.ensures.1 in
-    rw (p.1, p.2) (rw (c.in_ok-check_keys.ensures, c.in_ok-station.ensures.0, c.in_ok-outstations.ensures.read.0, ← n, c.in_ok-rows.ensures.read.0, ← m, ← c.saturating_sub-room.ensures) (told_front _ _ _ c.in_err-controls.ensures.read))
+    rw (p.1, p.2) (rw (
+      c.in_ok-check_keys.ensures,
+      c.in_ok-station.ensures.0,
+      c.in_ok-outstations.ensures.read.0,
+      ← n,
+      c.in_ok-rows.ensures.read.0,
+      ← m,
+      ← c.saturating_sub-room.ensures,
+    ) (told_front _ _ _ c.in_err-controls.ensures.read))
 
 pub returns-in_err-points : goal.returns-in_err-points
 unfolding section_complaints
 returns-in_err-points c =
-    let n : c.len-count.result ≡ length (entries (codes "outstation") (table_view c.args.top.now)) = same_length _ (λ outstation. outstation) outstation_of _ _ (c.len-count.ensures ∙ c.in_ok-outstations.outstations.ok.0) c.in_ok-outstations.ensures.read.1 in
-    let m : c.len.result ≡ length (entries (codes "point") (table_view c.args.top.now)) = same_length _ row_fields row_of _ _ (c.len.ensures ∙ c.in_ok-rows.rows.ok.0) c.in_ok-rows.ensures.read.1 in
+    let n : c.len-count.result ≡ length (entries (codes "outstation") (table_view c.args.top.now)) =
+    same_length _ (λ outstation. outstation) outstation_of _ _
+    (c.len-count.ensures ∙ c.in_ok-outstations.outstations.ok.0) c.in_ok-outstations.ensures.read.1 in
+    let m : c.len.result ≡ length (entries (codes "point") (table_view c.args.top.now)) =
+    same_length _ row_fields row_of _ _ (c.len.ensures ∙ c.in_ok-rows.rows.ok.0) c.in_ok-rows.ensures.read.1 in
     let k = same_keys _ _ _ c.deref.ensures.value c.in_ok-rows.ensures.read.1 in
     let p = err_from_is_err_and c.from_residual-in_err-points.result c.from_residual-in_err-points.ensures.1 in
-    rw (p.1, p.2) (rw (c.in_ok-check_keys.ensures, c.in_ok-station.ensures.0, c.in_ok-outstations.ensures.read.0, ← n, c.in_ok-rows.ensures.read.0, ← m, ← c.saturating_sub-room.ensures, c.in_ok-controls.ensures.read.0, ← k) (told_front _ _ _ c.in_err-points.ensures))
+    rw (p.1, p.2) (rw (
+      c.in_ok-check_keys.ensures,
+      c.in_ok-station.ensures.0,
+      c.in_ok-outstations.ensures.read.0,
+      ← n,
+      c.in_ok-rows.ensures.read.0,
+      ← m,
+      ← c.saturating_sub-room.ensures,
+      c.in_ok-controls.ensures.read.0,
+      ← k,
+    ) (told_front _ _ _ c.in_err-points.ensures))
 
 pub returns-in_err-addresses : goal.returns-in_err-addresses
 unfolding section_complaints
 returns-in_err-addresses c =
-    let n : c.len-count.result ≡ length (entries (codes "outstation") (table_view c.args.top.now)) = same_length _ (λ outstation. outstation) outstation_of _ _ (c.len-count.ensures ∙ c.in_ok-outstations.outstations.ok.0) c.in_ok-outstations.ensures.read.1 in
-    let m : c.len.result ≡ length (entries (codes "point") (table_view c.args.top.now)) = same_length _ row_fields row_of _ _ (c.len.ensures ∙ c.in_ok-rows.rows.ok.0) c.in_ok-rows.ensures.read.1 in
+    let n : c.len-count.result ≡ length (entries (codes "outstation") (table_view c.args.top.now)) =
+    same_length _ (λ outstation. outstation) outstation_of _ _
+    (c.len-count.ensures ∙ c.in_ok-outstations.outstations.ok.0) c.in_ok-outstations.ensures.read.1 in
+    let m : c.len.result ≡ length (entries (codes "point") (table_view c.args.top.now)) =
+    same_length _ row_fields row_of _ _ (c.len.ensures ∙ c.in_ok-rows.rows.ok.0) c.in_ok-rows.ensures.read.1 in
     let k = same_keys _ _ _ c.deref.ensures.value c.in_ok-rows.ensures.read.1 in
     let a = same_addresses _ _ _ c.deref-2.ensures.value c.in_ok-rows.ensures.read.1 in
     let b = same_control_addresses _ _ _ c.deref-3.ensures.value c.in_ok-controls.ensures.read.1 in
     let p = err_from_is_err_and c.from_residual-in_err-addresses.result c.from_residual-in_err-addresses.ensures.1 in
-    rw (p.1, p.2) (rw (c.in_ok-check_keys.ensures, c.in_ok-station.ensures.0, c.in_ok-outstations.ensures.read.0, ← n, c.in_ok-rows.ensures.read.0, ← m, ← c.saturating_sub-room.ensures, c.in_ok-controls.ensures.read.0, ← k, c.in_ok-points.ensures.0, ← a, ← b) c.in_err-addresses.ensures)
+    rw (p.1, p.2) (rw (
+      c.in_ok-check_keys.ensures,
+      c.in_ok-station.ensures.0,
+      c.in_ok-outstations.ensures.read.0,
+      ← n,
+      c.in_ok-rows.ensures.read.0,
+      ← m,
+      ← c.saturating_sub-room.ensures,
+      c.in_ok-controls.ensures.read.0,
+      ← k,
+      c.in_ok-points.ensures.0,
+      ← a,
+      ← b,
+    ) c.in_err-addresses.ensures)
 
 pub invariant_of-result : goal.invariant_of-result
 invariant_of-result c =
-    let values : values_of c.in_ok-points.points.entries ≡ c.deref.result.now = kept_values _ _ c.in_ok-points.ensures.1 in
-    let rows : values_of c.in_ok-points.points.entries ≡ c.deref-2.result.now = values ∙ c.deref.ensures.value ∙ sym c.deref-2.ensures.value in
+    let values : values_of c.in_ok-points.points.entries ≡ c.deref.result.now =
+    kept_values _ _ c.in_ok-points.ensures.1 in
+    let rows : values_of c.in_ok-points.points.entries ≡ c.deref-2.result.now =
+    values ∙ c.deref.ensures.value ∙ sym c.deref-2.ensures.value in
     record {
       keyed = c.in_ok-points.ensures.1 ∙ ap (map (λ row. (row.key, row))) (sym values);
-      addressed = c.in_ok-addresses.ensures.1 ∙ ap (λ rows. addresses_of rows c.deref-3.result.now) (sym rows) ∙ ap (addresses_of _) c.deref-3.ensures.value;
+      addressed = c.in_ok-addresses.ensures.1 ∙ ap (λ rows. addresses_of rows c.deref-3.result.now) (sym rows)
+          ∙ ap (addresses_of _) c.deref-3.ensures.value;
       sources = rw values (map-nothing _ _ c.in_ok-points.ensures.0);
       single = rw (rows, ← c.deref-3.ensures.value) (map-nothing _ _ c.in_ok-addresses.ensures.0);
     }
@@ -78,13 +126,31 @@ invariant_of-result c =
 pub returns : goal.returns
 unfolding section_complaints
 returns c =
-    let n : c.len-count.result ≡ length (entries (codes "outstation") (table_view c.args.top.now)) = same_length _ (λ outstation. outstation) outstation_of _ _ (c.len-count.ensures ∙ c.in_ok-outstations.outstations.ok.0) c.in_ok-outstations.ensures.read.1 in
-    let m : c.len.result ≡ length (entries (codes "point") (table_view c.args.top.now)) = same_length _ row_fields row_of _ _ (c.len.ensures ∙ c.in_ok-rows.rows.ok.0) c.in_ok-rows.ensures.read.1 in
+    let n : c.len-count.result ≡ length (entries (codes "outstation") (table_view c.args.top.now)) =
+    same_length _ (λ outstation. outstation) outstation_of _ _
+    (c.len-count.ensures ∙ c.in_ok-outstations.outstations.ok.0) c.in_ok-outstations.ensures.read.1 in
+    let m : c.len.result ≡ length (entries (codes "point") (table_view c.args.top.now)) =
+    same_length _ row_fields row_of _ _ (c.len.ensures ∙ c.in_ok-rows.rows.ok.0) c.in_ok-rows.ensures.read.1 in
     let k = same_keys _ _ _ c.deref.ensures.value c.in_ok-rows.ensures.read.1 in
     let a = same_addresses _ _ _ c.deref-2.ensures.value c.in_ok-rows.ensures.read.1 in
     let b = same_control_addresses _ _ _ c.deref-3.ensures.value c.in_ok-controls.ensures.read.1 in
-    let values : values_of c.in_ok-points.points.entries ≡ c.deref.result.now = kept_values _ _ c.in_ok-points.ensures.1 in (
-      rw (c.in_ok-check_keys.ensures, c.in_ok-station.ensures.0, c.in_ok-outstations.ensures.read.0, ← n, c.in_ok-rows.ensures.read.0, ← m, ← c.saturating_sub-room.ensures, c.in_ok-controls.ensures.read.0, ← k, c.in_ok-points.ensures.0, ← a, ← b, c.in_ok-addresses.ensures.0),
+    let values : values_of c.in_ok-points.points.entries ≡ c.deref.result.now =
+    kept_values _ _ c.in_ok-points.ensures.1 in (
+      rw (
+        c.in_ok-check_keys.ensures,
+        c.in_ok-station.ensures.0,
+        c.in_ok-outstations.ensures.read.0,
+        ← n,
+        c.in_ok-rows.ensures.read.0,
+        ← m,
+        ← c.saturating_sub-room.ensures,
+        c.in_ok-controls.ensures.read.0,
+        ← k,
+        c.in_ok-points.ensures.0,
+        ← a,
+        ← b,
+        c.in_ok-addresses.ensures.0,
+      ),
       λ i. record {
         station = c.in_ok-station.ensures.1 i;
         outstations = (sym (map_same _) ∙ c.in_ok-outstations.ensures.read.1) i;

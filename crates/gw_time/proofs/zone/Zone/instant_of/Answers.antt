@@ -11,8 +11,10 @@ unwrap-timestamp-requires c =
     let zone = c.args.self.now in
     let z = civil_nanos c.args.shown in
     let instant : ℤ = z -ℤ nanos_of_seconds c.offset.result.seconds in
-    let near : IsNear z zone.offset_minutes instant = record { from = zone.from; to = zone.to; is = omega (arith, signed_arith, c.offset.ensures) } in
-    c.to_timestamp.ensures.succeeds.1 (timestamp_range z zone.offset_minutes instant (nanos_in_century c.args.shown c.requires.low c.requires.high) near)
+    let near : IsNear z zone.offset_minutes instant =
+    record { from = zone.from; to = zone.to; is = omega (arith, signed_arith, c.offset.ensures) } in
+    c.to_timestamp.ensures.succeeds.1 (timestamp_range z zone.offset_minutes instant
+    (nanos_in_century c.args.shown c.requires.low c.requires.high) near)
 
 pub overflow_cast-result : goal.overflow_cast-result
 overflow_cast-result c =
@@ -20,8 +22,10 @@ overflow_cast-result c =
     let z = civil_nanos c.args.shown in
     let instant = c.unwrap-timestamp.result.nanosecond in
     let value = IfOk-at_ok _ c.unwrap-timestamp.ensures c.to_timestamp.ensures.value in
-    let near : IsNear z zone.offset_minutes instant = record { from = zone.from; to = zone.to; is = omega (arith, signed_arith, c.offset.ensures) } in
-    let range = millisecond_range z zone.offset_minutes instant (nanos_in_century c.args.shown c.requires.low c.requires.high) near in
+    let near : IsNear z zone.offset_minutes instant =
+    record { from = zone.from; to = zone.to; is = omega (arith, signed_arith, c.offset.ensures) } in
+    let range = millisecond_range z zone.offset_minutes instant
+    (nanos_in_century c.args.shown c.requires.low c.requires.high) near in
     (omega (arith, signed_casts), omega (arith, signed_casts))
 
 pub returns : goal.returns
@@ -30,7 +34,10 @@ returns c m e =
     let z = civil_nanos c.args.shown in
     let instant = c.unwrap-timestamp.result.nanosecond in
     let value = IfOk-at_ok _ c.unwrap-timestamp.ensures c.to_timestamp.ensures.value in
-    let near : IsNear z zone.offset_minutes instant = record { from = zone.from; to = zone.to; is = omega (arith, signed_arith, c.offset.ensures) } in
-    let range = millisecond_range z zone.offset_minutes instant (nanos_in_century c.args.shown c.requires.low c.requires.high) near in
-    let whole = whole_millisecond z zone.offset_minutes instant m (nanos_in_century c.args.shown c.requires.low c.requires.high) near e in
+    let near : IsNear z zone.offset_minutes instant =
+    record { from = zone.from; to = zone.to; is = omega (arith, signed_arith, c.offset.ensures) } in
+    let range = millisecond_range z zone.offset_minutes instant
+    (nanos_in_century c.args.shown c.requires.low c.requires.high) near in
+    let whole = whole_millisecond z zone.offset_minutes instant m
+    (nanos_in_century c.args.shown c.requires.low c.requires.high) near e in
     omega (arith, signed_casts)

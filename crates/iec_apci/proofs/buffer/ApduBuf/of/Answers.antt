@@ -6,4 +6,5 @@ use Rattle.iec_apci.proofs.buffer.ApduBuf.of.Goals as goal
 
 pub returns-clause-octets : goal.returns-clause-octets
 returns-clause-octets c =
-    buffer_is (apdu (content c.args.apdu.now)) _ _ _ c.write_apdu-len.ensures.written c.write_apdu-len.ensures.length refl
+    buffer_is (apdu (content c.args.apdu.now)) _ _ _ c.write_apdu-len.ensures.written
+    c.write_apdu-len.ensures.length refl

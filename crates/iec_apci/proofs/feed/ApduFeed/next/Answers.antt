@@ -11,4 +11,5 @@ use_up-requires c =
 pub returns-in-Ok-clause-rest : goal.returns-in-Ok-clause-rest
 returns-in-Ok-clause-rest c =
     let shown = shown_left _ _ _ _ c.in-Ok.is c.left.ensures c.in_ok-answer.ensures.shown in
-    held_behind _ _ _ _ _ _ c.in_default.is c.self.view_is shown c.size_of.ensures (ap (λ (q : Queue). q.left) c.use_up.ensures)
+    held_behind _ _ _ _ _ _ c.in_default.is c.self.view_is shown c.size_of.ensures
+    (ap (λ (q : Queue). q.left) c.use_up.ensures)
