@@ -200,8 +200,8 @@ pub fn control_requests_by_example()
         ∷ 0 ∷ 0 ∷ 0 ∷ 0 ∷ 0 ∷ 0 ∷ 0 ∷ 0 ∷ 0 ∷ []) ≡ operates_for 1 Operate 3 (Switch false Latch) }
     ensures least { operating_of (0xC0 ∷ 0x03 ∷ 0x29 ∷ 0x02 ∷ 0x28 ∷ 0x01 ∷ 0x00 ∷ 0x00 ∷ 0x01 ∷ 0x00 ∷ 0x80 ∷ 0x00
         ∷ []) ≡ operates_for 0 Select 256 (Set (negsuc 32767)) }
-    // A pulse by CLOSE alone; a latch with an on-time; twice; an off-time; a status; two outputs; an index of one octet;
-    // no acknowledgement asked for (function 6); a request that reads.
+    // CLOSE without PULSE_ON; a latch with an on-time; twice; an off-time; a status; two outputs; an index of an octet;
+    // DIRECT_OPERATE without acknowledgement; a request that reads.
     ensures other_code { operating_of (0xC0 ∷ 0x05 ∷ 0x0C ∷ 0x01 ∷ 0x28 ∷ 0x01 ∷ 0x00 ∷ 0x03 ∷ 0x00 ∷ 0x40 ∷ 0x01 ∷ 1
         ∷ 0 ∷ 0 ∷ 0 ∷ 0 ∷ 0 ∷ 0 ∷ 0 ∷ 0 ∷ []) ≡ None }
     ensures timed_latch { operating_of (0xC0 ∷ 0x05 ∷ 0x0C ∷ 0x01 ∷ 0x28 ∷ 0x01 ∷ 0x00 ∷ 0x03 ∷ 0x00 ∷ 0x03 ∷ 0x01 ∷ 1
