@@ -46,7 +46,8 @@ taped-push counts tape actor step reply taped within room meant =
     }
 
 -- a tape that isn't full has room
-pub has_room : (counts : List ℕ) (tape : Option Tape) → IsTapedIfOn counts tape → is_tape_full tape ≡ false → HasRoom tape
+pub has_room : (counts : List ℕ) (tape : Option Tape) → IsTapedIfOn counts tape
+    → is_tape_full tape ≡ false → HasRoom tape
 has_room counts None taped full = tt
 has_room counts (Some tape) taped full = below (length tape.entries) tape.capacity taped.room full
   where
@@ -54,18 +55,21 @@ has_room counts (Some tape) taped full = below (length tape.entries) tape.capaci
     below n m le apart = grind (arith, nat_tests)
 
 -- a call was kept where the recorder is on
-pub taped-noted : (counts after : List ℕ) (tape new : Option Tape) (actor ordinal : ℕ) (step : Step) (reply : Result Reply StepFault)
+pub taped-noted : (counts after : List ℕ) (tape new : Option Tape) (actor ordinal : ℕ) (step : Step)
+    (reply : Result Reply StepFault)
     → IsTapedIfOn counts tape → HasRoom tape → actor < length counts → IsMeant step
     → ordinal ≡ slice_index counts actor + 1 → after ≡ slice_set counts actor ordinal
     → new ≡ option_map (tape_with (record { actor = actor; ordinal = ordinal; step = step; reply = reply })) tape
     → IsTapedIfOn after new
 taped-noted counts after tape new actor ordinal step reply taped room within meant next counted kept =
     subst (λ (t : Option Tape). IsTapedIfOn after t)
-    (sym (kept ∙ ap (λ (n : ℕ). option_map (tape_with (record { actor = actor; ordinal = n; step = step; reply = reply })) tape) next))
+    (sym (kept ∙ ap
+    (λ (n : ℕ). option_map (tape_with (record { actor = actor; ordinal = n; step = step; reply = reply })) tape) next))
     (subst (λ (cs : List ℕ). IsTapedIfOn cs (option_map (tape_with (call_of counts actor step reply)) tape))
     (sym (counted ∙ ap (λ (n : ℕ). slice_set counts actor n) next)) (go tape taped room))
   where
     go : (t : Option Tape) → IsTapedIfOn counts t → HasRoom t
-        → IsTapedIfOn (slice_set counts actor (slice_index counts actor + 1)) (option_map (tape_with (call_of counts actor step reply)) t)
+        → IsTapedIfOn (slice_set counts actor (slice_index counts actor + 1))
+        (option_map (tape_with (call_of counts actor step reply)) t)
     go None taped room = tt
     go (Some t) taped room = taped-push counts t actor step reply taped within room meant

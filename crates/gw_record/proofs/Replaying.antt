@@ -31,7 +31,8 @@ replay-push setup s (x ∷ es) e before allowed =
     (before.0, replay-push setup (state_following setup s x.step x.reply) es e before.1 allowed)
 
 -- a step was made on the hub, and noted
-pub replays-push : (tape : Option Tape) (old new : Hub) (counts : List ℕ) (actor : ℕ) (step : Step) (reply : Result Reply StepFault)
+pub replays-push : (tape : Option Tape) (old new : Hub) (counts : List ℕ) (actor : ℕ) (step : Step)
+    (reply : Result Reply StepFault)
     → Replays tape old → Allowed old.setup old.state step reply new.state → new.setup ≡ old.setup
     → Replays (option_map (tape_with (call_of counts actor step reply)) tape) new
 replays-push None old new counts actor step reply replays allowed setup = tt
@@ -42,7 +43,8 @@ replays-push (Some tape) old new counts actor step reply replays allowed setup =
     let there : Allowed base so_far step reply new.state =
     subst (λ (s : State). Allowed base s step reply new.state) replays.2
     (subst (λ (c : Setup). Allowed c old.state step reply new.state) (sym replays.0) allowed) in
-    let leads : new.state ≡ state_following base so_far step reply = following base so_far step reply new.state there in (
+    let leads : new.state ≡ state_following base so_far step reply =
+    following base so_far step reply new.state there in (
       replays.0 ∙ sym setup,
       replay-push base tape.base.state tape.entries e replays.1
           (subst (λ (s : State). Allowed base so_far step reply s) leads there),

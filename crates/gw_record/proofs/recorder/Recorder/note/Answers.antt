@@ -11,8 +11,11 @@ keep-requires c =
 
 pub invariant_of-self : goal.invariant_of-self
 invariant_of-self c =
-    let room = has_room _ _ c.self.invariant (ap (λ (r : Recording). is_tape_full r.tape) c.self.view_is ∙ c.requires.room) in
+    let room =
+    has_room _ _ c.self.invariant (ap (λ (r : Recording). is_tape_full r.tape) c.self.view_is ∙ c.requires.room) in
     let within : c.args.actor < length c.self.inside.counts.items = search rules in
     let next : c.index.result.now + 1 ≡ slice_index c.self.inside.counts.items c.args.actor + 1 =
-    ap (λ (n : ℕ). n + 1) (c.index.ensures ∙ get_or_default_zero c.self.inside.counts.items c.args.actor c.index.result.now within) in
-    taped-noted c.self.inside.counts.items _ _ _ _ _ _ _ c.self.invariant room within c.attest.ensures next refl c.keep.ensures
+    ap (λ (n : ℕ). n + 1)
+    (c.index.ensures ∙ get_or_default_zero c.self.inside.counts.items c.args.actor c.index.result.now within) in
+    taped-noted c.self.inside.counts.items _ _ _ _ _ _ _ c.self.invariant room within c.attest.ensures next
+    refl c.keep.ensures
