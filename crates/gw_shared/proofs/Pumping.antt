@@ -1,5 +1,5 @@
 -- Runs of pumps, one after the other.
-use Rattle.std.proofs.Common.{◌≡◌, inl, inr, ℕ, List, [], ◌∷◌, ◌++◌, Result, Ok, refl, sym, ap, ◌∙◌, append_assoc}
+use Rattle.std.proofs.Common.{◌≡◌, ◌+◌, ◌≤◌, inl, inr, ℕ, List, [], ◌∷◌, ◌++◌, Result, Ok, refl, sym, ap, ◌∙◌, append_assoc, arith}
 use Rattle.std.specs.List.{AllByRecursion}
 use Rattle.std.proofs.lemmas.List.{append-nil}
 use Rattle.iec_apci.specs.declared.buffer.ApduBuf.{ApduBuf}
@@ -8,7 +8,7 @@ use Rattle.gw_steps.specs.declared.step.Reply.{Reply}
 use Rattle.gw_steps.specs.declared.step.Reply.TheVariants.{Apdu}
 use Rattle.gw_steps.specs.declared.step.StepFault.{StepFault}
 use Rattle.gw_shared.specs.Turn.{Answers, Pass}
-use Rattle.gw_shared.specs.Pumping.{ArePumped, IsGivenTo, IsPumped, IsPumpedRun, joined, octets_in}
+use Rattle.gw_shared.specs.Pumping.{ArePumped, IsGivenTo, IsPumped, IsPumpedRun, MayGoOn, joined, octets_in}
 use Rattle.gw_shared.specs.declared.pumped.Pumped.{Pumped}
 use Rattle.gw_shared.specs.declared.pumped.Pumped.TheVariants.{Ended, More}
 
@@ -38,6 +38,14 @@ pub same_actor : (mine after : Pass) (client moment : ℕ) (answer : ℕ × Resu
 same_actor mine after client moment answer answers = elim answers as (λ _. after.actor ≡ mine.actor) [
   | inl told ↦ ap (λ (p : Pass). p.actor) told.pass
   | inr refused ↦ ap (λ (p : Pass). p.actor) refused.pass
+]
+
+-- a call that is answered with an APDU is counted on the pass
+pub counted_apdu : (mine after : Pass) (client moment number : ℕ) (apdu : ApduBuf)
+    → Answers mine after (Pump client moment) (number, Ok (Apdu apdu)) → after.made ≡ mine.made + 1
+counted_apdu mine after client moment number apdu answers = elim answers as (λ _. after.made ≡ mine.made + 1) [
+  | inl told ↦ ap (λ (p : Pass). p.made) told.pass
+  | inr refused ↦ absurd (cc refused.refused)
 ]
 
 -- an APDU that is an answer
@@ -84,3 +92,12 @@ pub run_then : (client : ℕ) (x y z : List ℕ) (pumped : Pumped) → ArePumped
     → IsPumpedRun client x z pumped
 run_then client x y z (Ended last) first more = (pumped_then client x y z first more.0, more.1, more.2)
 run_then client x y z More first more = pumped_then client x y z first more
+
+-- what may go on after some calls may go on after more of them
+pub may_go_on : (first mine after : Pass) (octets : List ℕ) (pumped : Pumped) → first.made ≤ mine.made
+    → MayGoOn mine after octets pumped → MayGoOn first after octets pumped
+may_go_on first mine after octets (Ended last) before may = may
+may_go_on first mine after octets More before may = elim may as (λ _. MayGoOn first after octets More) [
+  | inl full ↦ inl full
+  | inr made ↦ inr (omega (arith, before, made))
+]

@@ -1,5 +1,5 @@
 -- What pumps for a client are answered with, and the octets of the APDUs among it.
-use Rattle.std.specs.Prelude.{◌≡◌, ◌⊎◌, ℕ, Bool, true, false, List, [], ◌∷◌, ◌++◌, take, Option, Some, None, Result, Ok, Err}
+use Rattle.std.specs.Prelude.{◌≡◌, ◌⊎◌, ℕ, ◌+◌, ◌≤◌, ◌<◌, Bool, true, false, List, [], ◌∷◌, ◌++◌, length, take, Option, Some, None, Result, Ok, Err}
 use Rattle.std.specs.List.{AllByRecursion}
 use Rattle.iec_apci.specs.declared.buffer.ApduBuf.{ApduBuf}
 use Rattle.gw_map.specs.Settings.{Setup}
@@ -13,6 +13,7 @@ use Rattle.gw_steps.specs.Steps.{Allowed}
 use Rattle.gw_steps.specs.Sound.{IsSoundState}
 use Rattle.gw_shared.specs.declared.pumped.Pumped.{Pumped}
 use Rattle.gw_shared.specs.declared.pumped.Pumped.TheVariants.{Ended, More}
+use Rattle.gw_shared.specs.Turn.{Pass}
 
 -- the octets of an APDU, without the zeros behind them
 abbrev pub octets_in : ApduBuf → List ℕ
@@ -56,3 +57,13 @@ abbrev pub IsPumpedNext : ℕ → List ℕ → List ℕ → Option Pumped → Ty
 IsPumpedNext client before after (Some pumped) = IsPumpedRun client before after pumped
 IsPumpedNext client before after None =
     (apdu : ApduBuf) × (IsPumped client (Ok (Apdu apdu)) × (after ≡ before ++ octets_in apdu))
+
+-- there may be more only where the longest APDU finds no room behind these octets, or 64 calls were made on the pass
+abbrev pub MayGoOn : Pass → Pass → List ℕ → Pumped → Type 0
+MayGoOn mine after octets (Ended last) = Unit {0}
+MayGoOn mine after octets More = (4096 < length octets + 255) ⊎ (mine.made + 64 ≤ after.made)
+
+-- where nothing ended the run, one call was made on the pass
+abbrev pub GoesOn : Pass → Pass → List ℕ → Option Pumped → Type 0
+GoesOn mine after octets (Some pumped) = MayGoOn mine after octets pumped
+GoesOn mine after octets None = after.made ≡ mine.made + 1

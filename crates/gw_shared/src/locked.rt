@@ -3,7 +3,7 @@ ghost use Rattle.std.specs.Prelude.{◌≡◌, ◌+◌, ◌<◌, ◌≤◌, fals
 ghost use Rattle.gw_steps.specs.Sound.{IsSoundState};
 ghost use Rattle.gw_steps.specs.Steps.{Allowed};
 ghost use Rattle.gw_record.specs.Recording.{is_tape_full, noted};
-ghost use Rattle.gw_shared.specs.Pumping.{IsPumpedNext, IsPumpedRun};
+ghost use Rattle.gw_shared.specs.Pumping.{GoesOn, IsPumpedNext, IsPumpedRun, MayGoOn};
 ghost use Rattle.gw_shared.specs.Turn.{last_call, Answers, IsMadeReady, Steps};
 
 use crate::awake::Awake;
@@ -129,9 +129,10 @@ impl<L: Ledger> Core<L> {
     /// there is no room for one more.
     pub fn pump(&mut self, pass: &mut Pass<L>, client: u8, moment: u64, batch: &mut Batch) -> Pumped
         ensures run { IsPumpedRun client batch.old batch.new result }
+        ensures more { MayGoOn pass.old pass.new batch.new result }
         ensures own { pass.new.actor ≡ pass.old.actor }
     {
-        'pumps: for _ in 0..MOST_PUMPS {
+        'pumps: for _made in 0..MOST_PUMPS {
             if let Some(pumped) = self.pump_next(pass, client, moment, batch) {
                 return pumped;
             }
@@ -140,7 +141,7 @@ impl<L: Ledger> Core<L> {
     }
 
     /// Pumps once; how the run ended, if it did.
-    #[tactic(auto, using(crate::proofs::Pumping::given_pumped, crate::proofs::Pumping::same_actor, crate::proofs::Pumping::pumped_apdu))]
+    #[tactic(auto, using(crate::proofs::Pumping::given_pumped, crate::proofs::Pumping::same_actor, crate::proofs::Pumping::pumped_apdu, crate::proofs::Pumping::counted_apdu))]
     fn pump_next(
         &mut self,
         pass: &mut Pass<L>,
@@ -149,6 +150,7 @@ impl<L: Ledger> Core<L> {
         batch: &mut Batch,
     ) -> Option<Pumped>
         ensures run { IsPumpedNext client batch.old batch.new result }
+        ensures more { GoesOn pass.old pass.new batch.new result }
         ensures own { pass.new.actor ≡ pass.old.actor }
     {
         if !batch.has_room(LONGEST_APDU) {

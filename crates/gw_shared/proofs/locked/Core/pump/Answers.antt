@@ -1,14 +1,20 @@
-use Rattle.std.proofs.Common.{◌∙◌}
-use Rattle.gw_shared.proofs.Pumping.{pumped_one, run_then}
+use Rattle.std.proofs.Common.{◌∙◌, arith}
+use Rattle.gw_shared.proofs.Pumping.{may_go_on, pumped_one, run_then}
 use Rattle.gw_shared.proofs.locked.Core.pump.Goals as goal
 
 pub returns-in-Some-clause-run : goal.returns-in-Some-clause-run
 returns-in-Some-clause-run g c = run_then _ _ _ _ c.in-Some.pumped c.pumps.invariant.pumped c.in-Some.ensures.run
+
+pub returns-in-Some-clause-more : goal.returns-in-Some-clause-more
+returns-in-Some-clause-more g c =
+    may_go_on c.args.pass.now c.pumps.pass c.pump_next.new.pass _ c.in-Some.pumped (omega (arith, c.pumps.invariant.counted))
+    c.in-Some.ensures.more
 
 pub pumps-preserved : goal.pumps-preserved
 pumps-preserved g c =
     let next = c.in_default.ensures.run in
     record {
       pumped = pumped_one _ _ _ _ next.0 c.pumps.invariant.pumped next.1.0 next.1.1;
+      counted = omega (arith, c.in_default.ensures.more, c.pumps.invariant.counted);
       own = c.pump_next.ensures.own ∙ c.pumps.invariant.own;
     }
