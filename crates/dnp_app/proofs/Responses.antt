@@ -22,7 +22,8 @@ response-again f is =
     let long : ltb (length f.octets) 4 ≡ false = le-ltb _ _ is.long in
     rw (long, is.function, meaning-again f.outstation _ f.reports is.means) refl
 
-pub only : {X : Type 0} (view : X → Fragment) (r : Result X AppFault) (outstation : ℕ) (octets : List ℕ) → Gives is_memory view r (response_of outstation octets)
+pub only : {X : Type 0} (view : X → Fragment) (r : Result X AppFault) (outstation : ℕ) (octets : List ℕ)
+    → Gives is_memory view r (response_of outstation octets)
     → (f : Fragment) → IsResponse f → f.octets ≡ octets → f.outstation ≡ outstation → Gives is_memory view r (Ok f)
 only view r outstation octets exact f is eo es =
     let read : response_of outstation octets ≡ Ok f = rw (← eo, ← es) (response-again f is) in
@@ -45,32 +46,45 @@ pub part_is : (octets seen : List ℕ) → seen ≡ octets → take (length seen
 part_is octets seen e = all_from 4 seen ∙ ap (drop 4) e
 
 -- a response that was read
-pub is_read : (outstation : ℕ) (octets part : List ℕ) (reports : List Report) → 4 ≤ length octets → is_response octets ≡ true → part ≡ drop 4 octets → Means outstation part reports
+pub is_read : (outstation : ℕ) (octets part : List ℕ) (reports : List Report) → 4 ≤ length octets
+    → is_response octets ≡ true → part ≡ drop 4 octets → Means outstation part reports
     → IsResponse (fragment_of outstation octets reports)
 is_read outstation octets part reports long function at means =
     record { long = long; function = function; means = subst (λ (t : List ℕ). Means outstation t reports) at means }
 
 -- memory runs out where a header is stored
-pub stores_header : (octets part : List ℕ) (place : ℕ) → 4 ≤ length octets → is_response octets ≡ true → part ≡ drop 4 octets → IsStoredAt part place → StoresHeader octets
+pub stores_header : (octets part : List ℕ) (place : ℕ) → 4 ≤ length octets → is_response octets ≡ true
+    → part ≡ drop 4 octets → IsStoredAt part place → StoresHeader octets
 stores_header octets part place long function at stored =
-    record { long = long; function = function; place = place; header = subst (λ (t : List ℕ). IsStoredAt t place) at stored }
+    record {
+      long = long;
+      function = function;
+      place = place;
+      header = subst (λ (t : List ℕ). IsStoredAt t place) at stored;
+    }
 
 -- where a part reports something, its first header is stored
-pub told_stored : (outstation : ℕ) (part : List ℕ) (hs : List Header) → headers_of part ≡ Ok hs → reports_of outstation part hs ≢ [] → IsStoredAt part 0
+pub told_stored : (outstation : ℕ) (part : List ℕ) (hs : List Header) → headers_of part ≡ Ok hs
+    → reports_of outstation part hs ≢ [] → IsStoredAt part 0
 told_stored outstation part [] read some = absurd (some refl)
 told_stored outstation part (h ∷ hs) read some = first_stored part h hs read
 
-headers_known : (octets part : List ℕ) (hs : List Header) → part ≡ drop 4 octets → headers_of part ≡ Ok hs → headers_in octets ≡ hs
+headers_known : (octets part : List ℕ) (hs : List Header) → part ≡ drop 4 octets → headers_of part ≡ Ok hs
+    → headers_in octets ≡ hs
 headers_known octets part hs at read =
     let known : headers_of (drop 4 octets) ≡ Ok hs = ap headers_of (sym at) ∙ read in
     rw known refl
 
 -- what is kept of a response: its echo, and how much it steps over
-pub echo_kept : (octets part : List ℕ) (hs seen : List Header) (kept : Option Echo) → part ≡ drop 4 octets → headers_of part ≡ Ok hs → seen ≡ hs
+pub echo_kept : (octets part : List ℕ) (hs seen : List Header) (kept : Option Echo) → part ≡ drop 4 octets
+    → headers_of part ≡ Ok hs → seen ≡ hs
     → kept ≡ only_one (lone_echoes part seen) → kept ≡ echo_of octets
 echo_kept octets part hs seen kept at read same e =
-    e ∙ (ap (λ (t : List ℕ). only_one (lone_echoes t seen)) at ∙ ap (λ (xs : List Header). only_one (lone_echoes (drop 4 octets) xs)) (same ∙ sym (headers_known octets part hs at read)))
+    e ∙ (ap (λ (t : List ℕ). only_one (lone_echoes t seen)) at ∙ ap (λ (xs : List Header).
+    only_one (lone_echoes (drop 4 octets) xs)) (same ∙ sym (headers_known octets part hs at read)))
 
-pub count_kept : (octets part : List ℕ) (hs seen : List Header) (kept : ℕ) → part ≡ drop 4 octets → headers_of part ≡ Ok hs → seen ≡ hs
+pub count_kept : (octets part : List ℕ) (hs seen : List Header) (kept : ℕ) → part ≡ drop 4 octets
+    → headers_of part ≡ Ok hs → seen ≡ hs
     → kept ≡ stepped_over_count seen → kept ≡ stepped_over_count_of octets
-count_kept octets part hs seen kept at read same e = e ∙ ap stepped_over_count (same ∙ sym (headers_known octets part hs at read))
+count_kept octets part hs seen kept at read same e =
+    e ∙ ap stepped_over_count (same ∙ sym (headers_known octets part hs at read))

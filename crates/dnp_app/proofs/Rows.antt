@@ -19,22 +19,28 @@ abbrev are_long : List Variation → Bool
 are_long [] = true
 are_long (v ∷ vs) = is_long v.role (size_of v) && are_long vs
 
-chosen_long : (b : Bool) (x : Variation) (o : Option Variation) (v : Variation) → is_long x.role (size_of x) ≡ true → (o ≡ Some v → is_long v.role (size_of v) ≡ true) → cond b (Some x) o ≡ Some v
+chosen_long : (b : Bool) (x : Variation) (o : Option Variation) (v : Variation) → is_long x.role (size_of x) ≡ true
+    → (o ≡ Some v → is_long v.role (size_of v) ≡ true) → cond b (Some x) o ≡ Some v
     → is_long v.role (size_of v) ≡ true
 chosen_long true x o v one others e = grind arith
 chosen_long false x o v one others e = others e
 
-string_long : (b : Bool) (x v : Variation) → is_long x.role (size_of x) ≡ true → cond b (Some x) None ≡ Some v → is_long v.role (size_of v) ≡ true
+string_long : (b : Bool) (x v : Variation) → is_long x.role (size_of x) ≡ true → cond b (Some x) None ≡ Some v
+    → is_long v.role (size_of v) ≡ true
 string_long b x v one e = chosen_long b x None v one (λ d. absurd cc) e
 
-among_long : (vs : List Variation) (group number : ℕ) (v : Variation) → are_long vs ≡ true → object_among vs group number ≡ Some v → is_long v.role (size_of v) ≡ true
+among_long : (vs : List Variation) (group number : ℕ) (v : Variation) → are_long vs ≡ true
+    → object_among vs group number ≡ Some v → is_long v.role (size_of v) ≡ true
 among_long [] group number v all e =
-    string_long (((group == 110) || (group == 111)) && nat_lt 0 number) (entry group number SteppedOver (group == 111) (Whole plain number Timeless) RangesAndIndexes) v refl e
+    string_long (((group == 110) || (group == 111)) && nat_lt 0 number)
+    (entry group number SteppedOver (group == 111) (Whole plain number Timeless) RangesAndIndexes) v refl e
 among_long (x ∷ vs) group number v all e =
     let both = and_parts (is_long x.role (size_of x)) (are_long vs) all in
-    chosen_long ((group == x.group) && (number == x.number)) x (object_among vs group number) v both.0 (among_long vs group number v both.1) e
+    chosen_long ((group == x.group) && (number == x.number)) x (object_among vs group number) v both.0
+    (among_long vs group number v both.1) e
 
 -- what is known of a group and a number has an octet at least, where it is a command
-pub object_of-long : (group number : ℕ) (v : Variation) → object_of group number ≡ Some v → is_long v.role (size_of v) ≡ true
+pub object_of-long : (group number : ℕ) (v : Variation) → object_of group number ≡ Some v
+    → is_long v.role (size_of v) ≡ true
 unfolding object_of
 object_of-long group number v e = among_long objects group number v refl e

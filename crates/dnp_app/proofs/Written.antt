@@ -38,8 +38,13 @@ asking_is read written asked asks e f = rw (e, f) refl
 
 -- the writing of a time asks for the low 48 bits of it
 pub time_is_asked : (sequence time : ℕ) → sequence < 16
-    → asking_of (octets_of (request (write_time_octets time sequence))) ≡ asks_for sequence (WriteTime (time % 281474976710656))
+    → asking_of (octets_of (request (write_time_octets time sequence)))
+    ≡ asks_for sequence (WriteTime (time % 281474976710656))
 time_is_asked sequence time small =
-    let control : control_of (192 + sequence) ≡ record { fir = true; fin = true; con = false; uns = false; sequence = sequence } = grind arith in
-    asking_is (control_of (192 + sequence)) (record { fir = true; fin = true; con = false; uns = false; sequence = sequence })
-    (WriteTime (number (time_octets time))) (WriteTime (time % 281474976710656)) control (ap WriteTime (number-time_octets time))
+    let control : control_of (192 + sequence)
+    ≡ record { fir = true; fin = true; con = false; uns = false; sequence = sequence } =
+    grind arith in
+    asking_is (control_of (192 + sequence))
+    (record { fir = true; fin = true; con = false; uns = false; sequence = sequence })
+    (WriteTime (number (time_octets time))) (WriteTime (time % 281474976710656)) control
+    (ap WriteTime (number-time_octets time))

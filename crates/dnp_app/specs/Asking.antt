@@ -1,5 +1,5 @@
--- What a request asks for, read from its octets (IEEE Std 1815, 4.2.2, 4.4 and Annex A), apart from how this master writes
--- one.
+-- What a request asks for, read from its octets (IEEE Std 1815, 4.2.2, 4.4 and Annex A), apart from how this master
+-- writes one.
 use Rattle.std.specs.Prelude.{ℕ, ◌-◌, ◌%◌, Bool, true, false, ◌&&◌, ◌==◌, nat_le, List, [], ◌∷◌, length, Option, Some, None, option_map, if◌then◌else◌}
 use Rattle.dnp_objects.specs.Headers.{number}
 use Rattle.dnp_app.specs.declared.response.Control.{Control}
@@ -44,7 +44,8 @@ classes_in _ = None
 
 -- one packed bit of group 80 under qualifier 00
 abbrev pub indication_in : List ℕ → Option Asks
-indication_in (start ∷ stop ∷ octet ∷ []) = if start == stop then Some (WriteIndication start (octet % 2 == 1)) else None
+indication_in (start ∷ stop ∷ octet ∷ []) =
+    if start == stop then Some (WriteIndication start (octet % 2 == 1)) else None
 indication_in _ = None
 
 -- one time of six octets under qualifier 07

@@ -14,8 +14,8 @@ use Rattle.dnp_app.specs.declared.request.Request.{Request}
 abbrev pub request_header : ℕ → ℕ → List ℕ
 request_header sequence function = (192 + sequence) ∷ function ∷ []
 
--- objects of events of classes 1, 2 and 3 (group 60, variations 2 to 4), and of static values, which are class 0 (variation
--- 1), each under qualifier 06: all of them
+-- objects of events of classes 1, 2 and 3 (group 60, variations 2 to 4), and of static values, which are class 0
+-- (variation 1), each under qualifier 06: all of them
 abbrev pub event_classes : List ℕ
 event_classes = 0x3C ∷ 2 ∷ 6 ∷ 0x3C ∷ 3 ∷ 6 ∷ 0x3C ∷ 4 ∷ 6 ∷ []
 

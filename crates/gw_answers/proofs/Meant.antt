@@ -28,7 +28,8 @@ use Rattle.gw_answers.specs.Meaning.{Tells, Commands, meant_by, meaning_of, mean
 -- ---- commands
 
 -- a command carries no process information
-tells_nothing : (offset : ℤ) (c : Command) (action : Action) → asdu_meaning (monitor_types offset) (command_spelling (record c { action = action })) ≡ None
+tells_nothing : (offset : ℤ) (c : Command) (action : Action)
+    → asdu_meaning (monitor_types offset) (command_spelling (record c { action = action })) ≡ None
 unfolding asdu_meaning
 tells_nothing offset c (actions.Single x) = refl
 tells_nothing offset c (actions.Double x) = refl
@@ -56,11 +57,18 @@ whole_here common c small whole = record {
 
 abbrev one : ℕ → ℕ → ℕ → ℕ → List Observation → Asdu
 one identification cause originator common xs =
-    record { identification = identification; cause = cause; originator = originator; common_address = common; observations = xs }
+    record {
+      identification = identification;
+      cause = cause;
+      originator = originator;
+      common_address = common;
+      observations = xs;
+    }
 
 -- the originator is told as it stands, and changes nothing else
 originator_apart : (types : List Layout) (t v cause o : ℕ) (rest : List ℕ)
-    → asdu_meaning types (t ∷ v ∷ cause ∷ o ∷ rest) ≡ option_map (λ (a : Asdu). record a { originator = o }) (asdu_meaning types (t ∷ v ∷ cause ∷ 0 ∷ rest))
+    → asdu_meaning types (t ∷ v ∷ cause ∷ o ∷ rest)
+    ≡ option_map (λ (a : Asdu). record a { originator = o }) (asdu_meaning types (t ∷ v ∷ cause ∷ 0 ∷ rest))
 unfolding asdu_meaning
 originator_apart types t v cause o [] = refl
 originator_apart types t v cause o (low ∷ []) = refl
@@ -69,26 +77,33 @@ originator_apart types t v cause o (low ∷ high ∷ objects) = by_layout (layou
     common : ℕ
     common = low + 256 * high
 
-    by_objects : (xs : Option (List Observation)) → (xs >>= λ ys. Some (one t cause o common ys)) ≡ option_map (λ (a : Asdu). record a { originator = o }) (xs >>= λ ys. Some (one t cause 0 common ys))
+    by_objects : (xs : Option (List Observation)) → (xs >>= λ ys. Some (one t cause o common ys))
+        ≡ option_map (λ (a : Asdu). record a { originator = o }) (xs >>= λ ys. Some (one t cause 0 common ys))
     by_objects None = refl
     by_objects (Some xs) = refl
 
-    by_layout : (layout : Option Layout) → (layout >>= λ l. (objects_of l (is_set 7 v) (v % 128) objects >>= λ ys. Some (one t cause o common ys)))
-        ≡ option_map (λ (a : Asdu). record a { originator = o }) (layout >>= λ l. (objects_of l (is_set 7 v) (v % 128) objects >>= λ ys. Some (one t cause 0 common ys)))
+    by_layout : (layout : Option Layout)
+        → (layout >>= λ l. (objects_of l (is_set 7 v) (v % 128) objects >>= λ ys. Some (one t cause o common ys)))
+        ≡ option_map (λ (a : Asdu). record a { originator = o })
+        (layout >>= λ l. (objects_of l (is_set 7 v) (v % 128) objects >>= λ ys. Some (one t cause 0 common ys)))
     by_layout None = refl
     by_layout (Some l) = by_objects (objects_of l (is_set 7 v) (v % 128) objects)
 
-observations_mean : (offset : ℤ) (common cause originator : ℕ) (x : Observation) → common < 65536 → HasWidth x.value → IsFit offset x
-    → meaning_of offset (slice_set (spelling offset common cause x) 3 originator) ≡ Tells (asdu_of offset common cause originator x)
+observations_mean : (offset : ℤ) (common cause originator : ℕ) (x : Observation) → common < 65536 → HasWidth x.value
+    → IsFit offset x
+    → meaning_of offset (slice_set (spelling offset common cause x) 3 originator)
+    ≡ Tells (asdu_of offset common cause originator x)
 observations_mean offset common cause originator x small width fit =
     let octets : List ℕ = slice_set (spelling offset common cause x) 3 originator in
     ap (λ (m : Option Asdu). meant_by octets m (command_of octets))
-    (originator_apart (monitor_types offset) _ 1 cause originator _ ∙ ap (option_map (λ (a : Asdu). record a { originator = originator })) (meant offset common cause x small width fit))
+    (originator_apart (monitor_types offset) _ 1 cause originator _ ∙ ap
+    (option_map (λ (a : Asdu). record a { originator = originator })) (meant offset common cause x small width fit))
 
 -- ---- what comes back
 
 -- the cause is the third octet
-cause_told : (types : List Layout) (t v cause : ℕ) (rest : List ℕ) (a : Asdu) → asdu_meaning types (t ∷ v ∷ cause ∷ rest) ≡ Some a → a.cause ≡ cause
+cause_told : (types : List Layout) (t v cause : ℕ) (rest : List ℕ) (a : Asdu)
+    → asdu_meaning types (t ∷ v ∷ cause ∷ rest) ≡ Some a → a.cause ≡ cause
 unfolding asdu_meaning
 cause_told types t v cause [] a e = absurd cc
 cause_told types t v cause (o ∷ []) a e = absurd cc
@@ -98,7 +113,8 @@ cause_told types t v cause (o ∷ low ∷ high ∷ objects) a e = by_layout (lay
     common : ℕ
     common = low + 256 * high
 
-    by_objects : (xs : Option (List Observation)) → (xs >>= λ ys. Some (one t cause o common ys)) ≡ Some a → a.cause ≡ cause
+    by_objects : (xs : Option (List Observation)) → (xs >>= λ ys. Some (one t cause o common ys)) ≡ Some a
+        → a.cause ≡ cause
     by_objects None e = absurd cc
     by_objects (Some xs) e = sym (ap (λ (x : Option Asdu). cause_in x) e)
       where
@@ -106,7 +122,8 @@ cause_told types t v cause (o ∷ low ∷ high ∷ objects) a e = by_layout (lay
         cause_in None = cause
         cause_in (Some b) = b.cause
 
-    by_layout : (layout : Option Layout) → (layout >>= λ l. (objects_of l (is_set 7 v) (v % 128) objects >>= λ ys. Some (one t cause o common ys))) ≡ Some a → a.cause ≡ cause
+    by_layout : (layout : Option Layout) → (layout >>= λ l. (objects_of l (is_set 7 v) (v % 128) objects
+        >>= λ ys. Some (one t cause o common ys))) ≡ Some a → a.cause ≡ cause
     by_layout None e = absurd cc
     by_layout (Some l) e = by_objects (objects_of l (is_set 7 v) (v % 128) objects) e
 
@@ -126,9 +143,11 @@ command_told octets c e = go (first_of (faults octets)) e
 -- the octet of a cause with P/N
 cause_has : (cause : ℕ) (test : Bool) → cause < 64 → HasCause cause (cause_octet cause true test)
 cause_has cause true few = (omega (arith, few), eq-eqb (cause_octet cause true true / 2 ^ 6 % 2) 1 (omega (arith, few)))
-cause_has cause false few = (omega (arith, few), eq-eqb (cause_octet cause true false / 2 ^ 6 % 2) 1 (omega (arith, few)))
+cause_has cause false few =
+    (omega (arith, few), eq-eqb (cause_octet cause true false / 2 ^ 6 % 2) 1 (omega (arith, few)))
 
-comes_back : (offset : ℤ) (cause : ℕ) (octets : List ℕ) → cause < 64 → 6 ≤ length octets → ComesBack cause (meaning_of offset (mirrored cause true octets))
+comes_back : (offset : ℤ) (cause : ℕ) (octets : List ℕ) → cause < 64 → 6 ≤ length octets
+    → ComesBack cause (meaning_of offset (mirrored cause true octets))
 comes_back offset cause [] few long = absurd (omega (arith, long))
 comes_back offset cause (t ∷ []) few long = absurd (omega (arith, long))
 comes_back offset cause (t ∷ v ∷ []) few long = absurd (omega (arith, long))
@@ -148,7 +167,8 @@ comes_back offset cause (t ∷ v ∷ old ∷ rest) few long = by_asdu (asdu_mean
         (ap (λ (d : Command). d.cause) is ∙ has.0, ap (λ (d : Command). d.negative) is ∙ has.1)
     by_command (Err fault) e = has
 
-    by_asdu : (m : Option Asdu) → asdu_meaning (monitor_types offset) back ≡ m → ComesBack cause (meant_by back m (command_of back))
+    by_asdu : (m : Option Asdu) → asdu_meaning (monitor_types offset) back ≡ m
+        → ComesBack cause (meant_by back m (command_of back))
     by_asdu (Some a) e = subst (HasCause cause) (sym (cause_told (monitor_types offset) t v new rest a e)) has
     by_asdu None e = by_command (command_of back) refl
 
@@ -156,13 +176,16 @@ comes_back offset cause (t ∷ v ∷ old ∷ rest) few long = by_asdu (asdu_mean
 
 pub outgoing_means : (offset : ℤ) (common : ℕ) (x : OwnAsdu) → common < 65536 → CanSendOutgoing offset x
     → meaning_of offset (outgoing_octets offset common x) ≡ meant_outgoing offset common x
-outgoing_means offset common (outgoing.Command c) small can = commands_mean offset (at_station common c) (whole_here common c small can.1)
+outgoing_means offset common (outgoing.Command c) small can =
+    commands_mean offset (at_station common c) (whole_here common c small can.1)
 outgoing_means offset common (outgoing.Observation cause originator x) small can =
     observations_mean offset common cause originator x small can.width can.fit
 
 pub answer_means : (offset : ℤ) (common : ℕ) (answer : AsduAnswer) → common < 65536 → CanSendAnswer offset answer
     → Means offset common answer (meaning_of offset (answer_octets offset common answer))
-answer_means offset common (Returned asdu cause) small can = comes_back offset cause (octets_in asdu) (omega (arith, can.2)) can.0
-answer_means offset common (Made (outgoing.Command c)) small can = outgoing_means offset common (outgoing.Command c) small can
+answer_means offset common (Returned asdu cause) small can =
+    comes_back offset cause (octets_in asdu) (omega (arith, can.2)) can.0
+answer_means offset common (Made (outgoing.Command c)) small can =
+    outgoing_means offset common (outgoing.Command c) small can
 answer_means offset common (Made (outgoing.Observation cause originator x)) small can =
     outgoing_means offset common (outgoing.Observation cause originator x) small can.1

@@ -26,7 +26,8 @@ use Rattle.gw_answers.specs.Meaning.{IsSendable, is_answering, CanSendOutgoing, 
 -- ---- commands
 
 -- a command goes out with one of the causes of answers
-answering_can : (offset : ℤ) (cause : ℕ) (negative : Bool) (c : Command) → cause < 64 → IsTrue (is_answering cause) → IsWhole c
+answering_can : (offset : ℤ) (cause : ℕ) (negative : Bool) (c : Command) → cause < 64
+    → IsTrue (is_answering cause) → IsWhole c
     → CanSendOutgoing offset (command_with cause negative c)
 answering_can offset cause negative c few is whole = (
   is,
@@ -39,7 +40,8 @@ answering_can offset cause negative c few is whole = (
   },
 )
 
-pub confirmed_can : (offset : ℤ) (negative : Bool) (c : Command) → IsWhole c → CanSendOutgoing offset (confirmed negative c)
+pub confirmed_can : (offset : ℤ) (negative : Bool) (c : Command) → IsWhole c
+    → CanSendOutgoing offset (confirmed negative c)
 confirmed_can offset negative c whole = elim (cases_Bool (c.cause == 8)) [
   | inl off ↦ rw off (answering_can offset 9 negative c (omega arith) refl whole)
   | inr on ↦ rw on (answering_can offset 7 negative c (omega arith) refl whole)
@@ -56,9 +58,11 @@ found_can offset (x ∷ xs) (suc k) all = found_can offset xs k all.1
 
 shown_can : (offset : ℤ) (originator : ℕ) (picture : List Observation) (row : Option (ℕ × AnyRow))
     → AllByRecursion (IsSendable offset) picture
-    → IfSome (option_map (λ x. Made (outgoing.Observation 5 originator x)) (shown_by picture row)) (CanSendAnswer offset)
+    → IfSome (option_map (λ x. Made (outgoing.Observation 5 originator x)) (shown_by picture row))
+    (CanSendAnswer offset)
 shown_can offset originator picture None all = tt
-shown_can offset originator picture (Some found) all = go (slice_get picture found.0) (found_can offset picture found.0 all)
+shown_can offset originator picture (Some found) all =
+    go (slice_get picture found.0) (found_can offset picture found.0 all)
   where
     go : (shown : Option Observation) → IfSome shown (IsSendable offset)
         → IfSome (option_map (λ x. Made (outgoing.Observation 5 originator x)) shown) (CanSendAnswer offset)
@@ -75,7 +79,8 @@ refused_can offset pending c whole = elim (cases_Bool (is_accepted_act pending c
 action_can : (offset : ℤ) (setup : Setup) (picture : List Observation) (pending : Bool) (c : Command) (action : Action)
     → IsWhole c → AllByRecursion (IsSendable offset) picture
     → IfSome (answered_action setup picture pending c action) (CanSendAnswer offset)
-action_can offset setup picture pending c (actions.Interrogation qualifier) whole all = refused_can offset pending c whole
+action_can offset setup picture pending c (actions.Interrogation qualifier) whole all =
+    refused_can offset pending c whole
 action_can offset setup picture pending c (actions.CounterInterrogation qualifier) whole all =
     refused_can offset pending c whole
 action_can offset setup picture pending c actions.Read whole all =

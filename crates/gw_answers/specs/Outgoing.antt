@@ -1,5 +1,5 @@
--- What goes out of the station's own, whole when it is made but for the common address, which is the station's in all of
--- it (IEC 60870-5-101, 7.2.3 and 7.2.4).
+-- What goes out of the station's own, whole when it is made but for the common address, which is the station's in all
+-- of it (IEC 60870-5-101, 7.2.3 and 7.2.4).
 use Rattle.std.specs.Prelude.{ℕ, Bool, ◌==◌, if◌then◌else◌}
 use Rattle.gw_model.specs.declared.observation.Observation.{Observation}
 use Rattle.iec_command.specs.declared.command.Command.{Command}

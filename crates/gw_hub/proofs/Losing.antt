@@ -17,18 +17,23 @@ abbrev pub rest_of : ℕ → List Row → ℕ → List Observation → List Obse
 rest_of o rows n picture = losses_of o (drop n rows) (drop n picture)
 
 -- the rows before a place are done
-pub record LeftToLose (offset : ℤ) (o : ℕ) (rows : List Row) (n : ℕ) (picture : List Observation) (cs : List Client) (all last : List Observation) (final : List Client) : Type 0 where
+pub record LeftToLose (offset : ℤ) (o : ℕ) (rows : List Row) (n : ℕ) (picture : List Observation) (cs : List Client)
+    (all last : List Observation) (final : List Client) : Type 0 where
   pub shown : take n picture ++ picture_after_loss o (drop n rows) (drop n picture) ≡ last
   pub clients_left : map (client_with_news (rest_of o rows n picture)) cs ≡ final
   pub sendable : AllByRecursion (IsSendable offset) (rest_of o rows n picture) → AllByRecursion (IsSendable offset) all
 
 pub left_at_first : (offset : ℤ) (o : ℕ) (rows : List Row) (picture : List Observation) (cs : List Client)
-    → LeftToLose offset o rows 0 picture cs (losses_of o rows picture) (picture_after_loss o rows picture) (map (client_with_news (losses_of o rows picture)) cs)
+    → LeftToLose offset o rows 0 picture cs (losses_of o rows picture) (picture_after_loss o rows picture)
+    (map (client_with_news (losses_of o rows picture)) cs)
 left_at_first offset o rows picture cs = record { shown = refl; clients_left = refl; sendable = λ all. all }
 
-pub left_behind : (offset : ℤ) (o : ℕ) (rows : List Row) (n : ℕ) (picture new : List Observation) (cs changed : List Client) (all last : List Observation) (final : List Client)
-    → n < length picture → LeftToLose offset o rows n picture cs all last final → new ≡ picture_losing_at o rows picture n
-    → changed ≡ map (client_with_news (losses_at o rows picture n)) cs → AllByRecursion (IsSendable offset) (losses_at o rows picture n)
+pub left_behind : (offset : ℤ) (o : ℕ) (rows : List Row) (n : ℕ) (picture new : List Observation)
+    (cs changed : List Client) (all last : List Observation) (final : List Client)
+    → n < length picture → LeftToLose offset o rows n picture cs all last final
+    → new ≡ picture_losing_at o rows picture n
+    → changed ≡ map (client_with_news (losses_at o rows picture n)) cs
+    → AllByRecursion (IsSendable offset) (losses_at o rows picture n)
     → LeftToLose offset o rows (n + 1) new changed all last final
 left_behind offset o rows n picture new cs changed all last final within left en ec sends =
     let p : List Observation = picture_losing_at o rows picture n in
@@ -37,18 +42,22 @@ left_behind offset o rows n picture new cs changed all last final within left en
     let split : rest_of o rows n picture ≡ here ++ behind = loss_next o rows picture n within in
     let on : LeftToLose offset o rows (n + 1) p changed all last final = record {
       shown = sym (shown_next o rows picture n within) ∙ left.shown;
-      clients_left = ap (map (client_with_news behind)) ec ∙ (map_came-twice here behind cs ∙ (ap (λ (xs : List Observation). map (client_with_news xs) cs) (sym split) ∙ left.clients_left));
-      sendable = λ more. left.sendable (subst (AllByRecursion (IsSendable offset)) (sym split) (sendable-append offset here behind sends more));
+      clients_left = ap (map (client_with_news behind)) ec ∙ (map_came-twice here behind cs
+          ∙ (ap (λ (xs : List Observation). map (client_with_news xs) cs) (sym split) ∙ left.clients_left));
+      sendable = λ more. left.sendable (subst (AllByRecursion (IsSendable offset)) (sym split)
+          (sendable-append offset here behind sends more));
     } in
     subst (λ (q : List Observation). LeftToLose offset o rows (n + 1) q changed all last final) (sym en) on
 
-pub left_at_last : (offset : ℤ) (o : ℕ) (rows : List Row) (n m : ℕ) (picture : List Observation) (cs : List Client) (all last : List Observation) (final : List Client)
+pub left_at_last : (offset : ℤ) (o : ℕ) (rows : List Row) (n m : ℕ) (picture : List Observation) (cs : List Client)
+    (all last : List Observation) (final : List Client)
     → length picture ≤ n → AllByRecursion (CanTake m) cs → LeftToLose offset o rows n picture cs all last final
     → (picture ≡ last) × (cs ≡ final) × AllByRecursion (IsSendable offset) all
 left_at_last offset o rows n m picture cs all last final past can left =
     let none : rest_of o rows n picture ≡ [] = losses_end o rows picture n past in (
       sym (shown_end o rows picture n past) ∙ left.shown,
-      map_came-nil m cs can ∙ (ap (λ (xs : List Observation). map (client_with_news xs) cs) (sym none) ∙ left.clients_left),
+      map_came-nil m cs can
+          ∙ (ap (λ (xs : List Observation). map (client_with_news xs) cs) (sym none) ∙ left.clients_left),
       left.sendable (subst (AllByRecursion (IsSendable offset)) (sym none) tt),
     )
 
@@ -56,15 +65,22 @@ left_at_last offset o rows n m picture cs all last final past can left =
 
 -- where the rest can come, the losses of this row can, and those behind it
 rest_length : (o : ℕ) (rows : List Row) (n : ℕ) (picture : List Observation) → n < length picture
-    → length (rest_of o rows n picture) ≡ length (rest_of o rows (n + 1) (picture_losing_at o rows picture n)) + length (losses_at o rows picture n)
+    → length (rest_of o rows n picture)
+    ≡ length (rest_of o rows (n + 1) (picture_losing_at o rows picture n)) + length (losses_at o rows picture n)
 rest_length o rows n picture within =
-    omega (arith, ap length (loss_next o rows picture n within), length-append (losses_at o rows picture n) (rest_of o rows (n + 1) (picture_losing_at o rows picture n)))
+    omega (
+      arith,
+      ap length (loss_next o rows picture n within),
+      length-append (losses_at o rows picture n) (rest_of o rows (n + 1) (picture_losing_at o rows picture n)),
+    )
 
 pub can_apart : (o : ℕ) (rows : List Row) (n : ℕ) (picture : List Observation) (cs : List Client) → n < length picture
     → AllByRecursion (CanTake (length (rest_of o rows n picture))) cs
-    → AllByRecursion (CanTake (length (rest_of o rows (n + 1) (picture_losing_at o rows picture n)) + length (losses_at o rows picture n))) cs
+    → AllByRecursion (CanTake (length (rest_of o rows (n + 1) (picture_losing_at o rows picture n))
+    + length (losses_at o rows picture n))) cs
 can_apart o rows n picture cs within all = can_same _ _ cs (rest_length o rows n picture within) all
 
 pub can_for_row : (o : ℕ) (rows : List Row) (n : ℕ) (picture : List Observation) (cs : List Client) → n < length picture
-    → AllByRecursion (CanTake (length (rest_of o rows n picture))) cs → AllByRecursion (CanTake (length (losses_at o rows picture n))) cs
+    → AllByRecursion (CanTake (length (rest_of o rows n picture))) cs
+    → AllByRecursion (CanTake (length (losses_at o rows picture n))) cs
 can_for_row o rows n picture cs within all = can_fewer _ _ cs (omega (arith, rest_length o rows n picture within)) all

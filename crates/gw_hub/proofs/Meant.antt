@@ -21,7 +21,8 @@ meant_more ss i s within is here so_far =
     subst (AllByRecursion IsMeant) (sym longer) (all_push (take i ss) s so_far here)
 
 -- all steps of a list
-pub meant_all : (ss : List Step) (i : ℕ) → length ss ≤ i → AllByRecursion IsMeant (take i ss) → AllByRecursion IsMeant ss
+pub meant_all : (ss : List Step) (i : ℕ) → length ss ≤ i → AllByRecursion IsMeant (take i ss)
+    → AllByRecursion IsMeant ss
 meant_all ss i all so_far = subst (AllByRecursion IsMeant) (take_all i ss all) so_far
 
 -- the history that steps make

@@ -55,7 +55,8 @@ with_session StartCon c holds = holds
 with_session StopCon c holds = holds
 with_session TestCon c holds = holds
 
-taking : (setup : Setup) (picture : List Observation) (moment : ℕ) (apdu : Apdu) (c : Client) → KeepsToSession c → KeepsToSession (client_taking setup picture moment apdu c)
+taking : (setup : Setup) (picture : List Observation) (moment : ℕ) (apdu : Apdu) (c : Client) → KeepsToSession c
+    → KeepsToSession (client_taking setup picture moment apdu c)
 taking setup picture moment (I ns nr asdu) c holds = record { outside = holds.outside }
 taking setup picture moment (S nr) c holds = record { outside = holds.outside }
 taking setup picture moment (U signal) c holds = record { outside = (with_session signal c holds).outside }
@@ -69,10 +70,12 @@ answered events.Taken c holds = holds
 answered (events.Command command) c holds = record { outside = holds.outside }
 answered (events.Closed why) c holds = holds
 
-pub kept_after_frame : (setup : Setup) (picture : List Observation) (moment : ℕ) (apdu : Apdu) (c : Client) → KeepsToSession c → KeepsToSession (client_after_frame setup picture moment apdu c)
+pub kept_after_frame : (setup : Setup) (picture : List Observation) (moment : ℕ) (apdu : Apdu) (c : Client)
+    → KeepsToSession c → KeepsToSession (client_after_frame setup picture moment apdu c)
 kept_after_frame setup picture moment apdu c holds =
     answered (event_of setup apdu c) (client_after_apdu setup picture moment apdu c)
-    (after_apdu (close_of setup apdu c) c (client_taking setup picture moment apdu c) (taking setup picture moment apdu c holds))
+    (after_apdu (close_of setup apdu c) c (client_taking setup picture moment apdu c)
+    (taking setup picture moment apdu c holds))
 
 pub kept_after_pump : (moment : ℕ) (c : Client) → KeepsToSession c → KeepsToSession (client_after_pump moment c)
 kept_after_pump moment c holds = go (offered moment c)
@@ -82,18 +85,21 @@ kept_after_pump moment c holds = go (offered moment c)
     go (Some (sendings.Confirm signal)) = record { outside = holds.outside }
     go (Some sendings.Test) = record { outside = holds.outside }
     go (Some (sendings.Answer answer)) = record { outside = holds.outside }
-    go (Some (sendings.News x)) = record { outside = λ idle. (ap (drop 1) (holds.outside idle).0, (holds.outside idle).1) }
+    go (Some (sendings.News x)) =
+        record { outside = λ idle. (ap (drop 1) (holds.outside idle).0, (holds.outside idle).1) }
     go (Some (sendings.Part part)) = record { outside = holds.outside }
     go (Some sendings.Receipt) = record { outside = holds.outside }
 
 -- ---- all clients
 
-pub kept_at_first : (limits : Limits) (queue n : ℕ) → AllByRecursion KeepsToSession (replicate n (client_down limits queue))
+pub kept_at_first : (limits : Limits) (queue n : ℕ)
+    → AllByRecursion KeepsToSession (replicate n (client_down limits queue))
 kept_at_first limits queue zero = tt
 kept_at_first limits queue (suc n) = (record { outside = λ _. (refl, refl) }, kept_at_first limits queue n)
 
 -- one client changed
-pub kept_changed : (p : ℕ) (f : Client → Client) (cs changed : List Client) → changed ≡ change p f cs → ((c : Client) → KeepsToSession c → KeepsToSession (f c))
+pub kept_changed : (p : ℕ) (f : Client → Client) (cs changed : List Client) → changed ≡ change p f cs
+    → ((c : Client) → KeepsToSession c → KeepsToSession (f c))
     → AllByRecursion KeepsToSession cs → AllByRecursion KeepsToSession changed
 kept_changed p f cs changed e keeps all = subst (AllByRecursion KeepsToSession) (sym e) (go p cs all)
   where
@@ -103,7 +109,8 @@ kept_changed p f cs changed e keeps all = subst (AllByRecursion KeepsToSession) 
     go (suc p) (c ∷ cs) all = (all.0, go p cs all.1)
 
 -- every client changed
-pub kept_mapped : (f : Client → Client) (cs changed : List Client) → changed ≡ map f cs → ((c : Client) → KeepsToSession c → KeepsToSession (f c))
+pub kept_mapped : (f : Client → Client) (cs changed : List Client) → changed ≡ map f cs
+    → ((c : Client) → KeepsToSession c → KeepsToSession (f c))
     → AllByRecursion KeepsToSession cs → AllByRecursion KeepsToSession changed
 kept_mapped f cs changed e keeps all = subst (AllByRecursion KeepsToSession) (sym e) (go cs all)
   where

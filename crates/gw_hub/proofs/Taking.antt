@@ -29,10 +29,12 @@ pub map_came-nil : (n : ℕ) (cs : List Client) → AllByRecursion (CanTake n) c
 map_came-nil n [] all = refl
 map_came-nil n (c ∷ cs) all = let one = sym (came-nil c all.0.few) in let rest = map_came-nil n cs all.1 in cc
 
-pub came_none : (n : ℕ) (xs : List Observation) (cs : List Client) → [] ≡ xs → AllByRecursion (CanTake n) cs → cs ≡ map (client_with_news xs) cs
+pub came_none : (n : ℕ) (xs : List Observation) (cs : List Client) → [] ≡ xs → AllByRecursion (CanTake n) cs
+    → cs ≡ map (client_with_news xs) cs
 came_none n xs cs e all = subst (λ (ys : List Observation). cs ≡ map (client_with_news ys) cs) e (map_came-nil n cs all)
 
-pub map_came-twice : (xs ys : List Observation) (cs : List Client) → map (client_with_news ys) (map (client_with_news xs) cs) ≡ map (client_with_news (xs ++ ys)) cs
+pub map_came-twice : (xs ys : List Observation) (cs : List Client)
+    → map (client_with_news ys) (map (client_with_news xs) cs) ≡ map (client_with_news (xs ++ ys)) cs
 map_came-twice xs ys [] = refl
 map_came-twice xs ys (c ∷ cs) = let one = came-twice xs ys c in let rest = map_came-twice xs ys cs in cc
 
@@ -43,68 +45,91 @@ can_same m n cs e all = subst (λ (k : ℕ). AllByRecursion (CanTake k) cs) e al
 
 pub can_fewer : (m n : ℕ) (cs : List Client) → n ≤ m → AllByRecursion (CanTake m) cs → AllByRecursion (CanTake n) cs
 can_fewer m n [] le all = tt
-can_fewer m n (c ∷ cs) le all = (record { count = omega (arith, le, all.0.count); few = all.0.few }, can_fewer m n cs le all.1)
+can_fewer m n (c ∷ cs) le all =
+    (record { count = omega (arith, le, all.0.count); few = all.0.few }, can_fewer m n cs le all.1)
 
 -- ---- what every client keeps
 
-change_sound : (station : StationSetup) (n m i p : ℕ) (f : Client → Client) (cs : List Client) → n ≤ m → ((c : Client) → IsSoundClient station n i c → IsSoundClient station m i (f c))
+change_sound : (station : StationSetup) (n m i p : ℕ) (f : Client → Client) (cs : List Client) → n ≤ m
+    → ((c : Client) → IsSoundClient station n i c → IsSoundClient station m i (f c))
     → AllByRecursion (IsSoundClient station n i) cs → AllByRecursion (IsSoundClient station m i) (change p f cs)
 change_sound station n m i p f [] le keeps all = tt
-change_sound station n m i zero f (c ∷ cs) le keeps all = (keeps c all.0, all_later station n m i i cs le (omega arith) all.1)
-change_sound station n m i (suc p) f (c ∷ cs) le keeps all = (sound_later station n m i i c le (omega arith) all.0, change_sound station n m i p f cs le keeps all.1)
+change_sound station n m i zero f (c ∷ cs) le keeps all =
+    (keeps c all.0, all_later station n m i i cs le (omega arith) all.1)
+change_sound station n m i (suc p) f (c ∷ cs) le keeps all =
+    (sound_later station n m i i c le (omega arith) all.0, change_sound station n m i p f cs le keeps all.1)
 
 -- one client changed
-pub sound_change_here : (station : StationSetup) (n i p : ℕ) (f : Client → Client) (cs changed : List Client) → changed ≡ change p f cs
-    → ((c : Client) → IsSoundClient station n i c → IsSoundClient station n i (f c)) → AllByRecursion (IsSoundClient station n i) cs → AllByRecursion (IsSoundClient station n i) changed
-sound_change_here station n i p f cs changed e keeps all = subst (AllByRecursion (IsSoundClient station n i)) (sym e) (change_sound station n n i p f cs (omega arith) keeps all)
+pub sound_change_here : (station : StationSetup) (n i p : ℕ) (f : Client → Client) (cs changed : List Client)
+    → changed ≡ change p f cs
+    → ((c : Client) → IsSoundClient station n i c → IsSoundClient station n i (f c))
+    → AllByRecursion (IsSoundClient station n i) cs → AllByRecursion (IsSoundClient station n i) changed
+sound_change_here station n i p f cs changed e keeps all = subst (AllByRecursion (IsSoundClient station n i)) (sym e)
+    (change_sound station n n i p f cs (omega arith) keeps all)
 
 -- one client changed in a step
-pub sound_change : (station : StationSetup) (n m i j p : ℕ) (f : Client → Client) (cs changed : List Client) → changed ≡ change p f cs → m ≡ n + 1 → i ≤ j
-    → ((c : Client) → IsSoundClient station n i c → IsSoundClient station (n + 1) i (f c)) → AllByRecursion (IsSoundClient station n i) cs → AllByRecursion (IsSoundClient station m j) changed
+pub sound_change : (station : StationSetup) (n m i j p : ℕ) (f : Client → Client) (cs changed : List Client)
+    → changed ≡ change p f cs → m ≡ n + 1 → i ≤ j
+    → ((c : Client) → IsSoundClient station n i c → IsSoundClient station (n + 1) i (f c))
+    → AllByRecursion (IsSoundClient station n i) cs → AllByRecursion (IsSoundClient station m j) changed
 sound_change station n m i j p f cs changed e one few keeps all =
     all_later station (n + 1) m i j changed (omega (arith, one)) few
-    (subst (AllByRecursion (IsSoundClient station (n + 1) i)) (sym e) (change_sound station n (n + 1) i p f cs (omega arith) keeps all))
+    (subst (AllByRecursion (IsSoundClient station (n + 1) i)) (sym e)
+    (change_sound station n (n + 1) i p f cs (omega arith) keeps all))
 
-map_sound : (station : StationSetup) (n i j : ℕ) (f : Client → Client) (cs : List Client) → ((c : Client) → IsSoundClient station n i c → IsSoundClient station n j (f c))
+map_sound : (station : StationSetup) (n i j : ℕ) (f : Client → Client) (cs : List Client)
+    → ((c : Client) → IsSoundClient station n i c → IsSoundClient station n j (f c))
     → AllByRecursion (IsSoundClient station n i) cs → AllByRecursion (IsSoundClient station n j) (map f cs)
 map_sound station n i j f [] keeps all = tt
 map_sound station n i j f (c ∷ cs) keeps all = (keeps c all.0, map_sound station n i j f cs keeps all.1)
 
 -- every client changed
-pub sound_changed : (station : StationSetup) (n i j : ℕ) (f : Client → Client) (cs changed : List Client) → changed ≡ map f cs
-    → ((c : Client) → IsSoundClient station n i c → IsSoundClient station n j (f c)) → AllByRecursion (IsSoundClient station n i) cs → AllByRecursion (IsSoundClient station n j) changed
-sound_changed station n i j f cs changed e keeps all = subst (AllByRecursion (IsSoundClient station n j)) (sym e) (map_sound station n i j f cs keeps all)
+pub sound_changed : (station : StationSetup) (n i j : ℕ) (f : Client → Client) (cs changed : List Client)
+    → changed ≡ map f cs
+    → ((c : Client) → IsSoundClient station n i c → IsSoundClient station n j (f c))
+    → AllByRecursion (IsSoundClient station n i) cs → AllByRecursion (IsSoundClient station n j) changed
+sound_changed station n i j f cs changed e keeps all =
+    subst (AllByRecursion (IsSoundClient station n j)) (sym e) (map_sound station n i j f cs keeps all)
 
 -- news came to every client in a step
-pub sound_came : (station : StationSetup) (n m i j : ℕ) (xs : List Observation) (cs changed : List Client) → changed ≡ map (client_with_news xs) cs → AllByRecursion (IsSendable station.offset_minutes) xs
-    → n ≤ m → i + length xs ≤ j → AllByRecursion (IsSoundClient station n i) cs → AllByRecursion (IsSoundClient station m j) changed
+pub sound_came : (station : StationSetup) (n m i j : ℕ) (xs : List Observation) (cs changed : List Client)
+    → changed ≡ map (client_with_news xs) cs → AllByRecursion (IsSendable station.offset_minutes) xs
+    → n ≤ m → i + length xs ≤ j → AllByRecursion (IsSoundClient station n i) cs
+    → AllByRecursion (IsSoundClient station m j) changed
 sound_came station n m i j xs cs changed e sends le few all =
     all_later station n m (i + length xs) j changed le few
-    (sound_changed station n i (i + length xs) (client_with_news xs) cs changed e (λ c sound. sound_with_news station n i xs c sends sound) all)
+    (sound_changed station n i (i + length xs) (client_with_news xs) cs changed e
+    (λ c sound. sound_with_news station n i xs c sends sound) all)
 
 -- what is shown can be sent
-pub sendable_shown : (offset : ℤ) (xs : List Observation) → AllByRecursion IsShown xs → AllByRecursion (IsSendable offset) xs
+pub sendable_shown : (offset : ℤ) (xs : List Observation) → AllByRecursion IsShown xs
+    → AllByRecursion (IsSendable offset) xs
 sendable_shown offset [] all = tt
-sendable_shown offset (x ∷ xs) all = (record { fit = shown_fit offset x all.0; width = all.0.width }, sendable_shown offset xs all.1)
+sendable_shown offset (x ∷ xs) all =
+    (record { fit = shown_fit offset x all.0; width = all.0.width }, sendable_shown offset xs all.1)
 
 -- ---- what can be counted
 
 -- counts that can rise can rise by a step
-pub can_rise_step : (counts : Counts) (news sessions : ℕ) → can_rise counts (step_with news sessions) ≡ true → counts.steps + 1 < 2 ^ 64
+pub can_rise_step : (counts : Counts) (news sessions : ℕ) → can_rise counts (step_with news sessions) ≡ true
+    → counts.steps + 1 < 2 ^ 64
 can_rise_step counts news sessions e =
     ltb-true (counts.steps + 1) (2 ^ 64)
     (first (ltb (counts.steps + 1) (2 ^ 64)) (ltb (counts.news + news) (2 ^ 64))
-    (first (ltb (counts.steps + 1) (2 ^ 64) && ltb (counts.news + news) (2 ^ 64)) (ltb (counts.sessions + sessions) (2 ^ 64)) e))
+    (first (ltb (counts.steps + 1) (2 ^ 64) && ltb (counts.news + news) (2 ^ 64))
+    (ltb (counts.sessions + sessions) (2 ^ 64)) e))
   where
     first : (a b : Bool) → a && b ≡ true → a ≡ true
     first true b e = refl
     first false b e = absurd cc
 
 -- and by the news
-pub can_rise_news : (counts : Counts) (news sessions : ℕ) → can_rise counts (step_with news sessions) ≡ true → counts.news + news < 2 ^ 64
+pub can_rise_news : (counts : Counts) (news sessions : ℕ) → can_rise counts (step_with news sessions) ≡ true
+    → counts.news + news < 2 ^ 64
 can_rise_news counts news sessions e =
     ltb-true (counts.news + news) (2 ^ 64)
-    (middle (ltb (counts.steps + 1) (2 ^ 64)) (ltb (counts.news + news) (2 ^ 64)) (ltb (counts.sessions + sessions) (2 ^ 64)) e)
+    (middle (ltb (counts.steps + 1) (2 ^ 64)) (ltb (counts.news + news) (2 ^ 64))
+    (ltb (counts.sessions + sessions) (2 ^ 64)) e)
   where
     middle : (a b c : Bool) → a && b && c ≡ true → b ≡ true
     middle true true c e = refl
@@ -112,43 +137,57 @@ can_rise_news counts news sessions e =
     middle false b c e = absurd cc
 
 -- where one step more can be counted, each client's I formats can
-pub counts_can : (station : StationSetup) (n i : ℕ) (cs : List Client) → n + 1 < 2 ^ 64 → AllByRecursion (IsSoundClient station n i) cs → AllByRecursion CanCount cs
+pub counts_can : (station : StationSetup) (n i : ℕ) (cs : List Client) → n + 1 < 2 ^ 64
+    → AllByRecursion (IsSoundClient station n i) cs → AllByRecursion CanCount cs
 counts_can station n i [] lt all = tt
-counts_can station n i (c ∷ cs) lt all = (record { received = omega (arith, lt, all.0.window.received) }, counts_can station n i cs lt all.1)
+counts_can station n i (c ∷ cs) lt all =
+    (record { received = omega (arith, lt, all.0.window.received) }, counts_can station n i cs lt all.1)
 
 -- so one more can be put out to each client
-pub pumps_can : (station : StationSetup) (n i : ℕ) (cs : List Client) → n + 1 < 2 ^ 64 → AllByRecursion (IsSoundClient station n i) cs → AllByRecursion CanPump cs
+pub pumps_can : (station : StationSetup) (n i : ℕ) (cs : List Client) → n + 1 < 2 ^ 64
+    → AllByRecursion (IsSoundClient station n i) cs → AllByRecursion CanPump cs
 pumps_can station n i [] lt all = tt
 pumps_can station n i (c ∷ cs) lt all =
     (record { sent = omega (arith, lt, all.0.window.sent) }, pumps_can station n i cs lt all.1)
 
 -- where so many news more can be counted, each client can take them
-pub news_can : (station : StationSetup) (n i news : ℕ) (cs : List Client) → i + news < 2 ^ 64 → AllByRecursion (IsSoundClient station n i) cs → AllByRecursion (CanTake news) cs
+pub news_can : (station : StationSetup) (n i news : ℕ) (cs : List Client) → i + news < 2 ^ 64
+    → AllByRecursion (IsSoundClient station n i) cs → AllByRecursion (CanTake news) cs
 news_can station n i news [] lt all = tt
-news_can station n i news (c ∷ cs) lt all = (record { count = omega (arith, lt, all.0.dropped); few = all.0.few }, news_can station n i news cs lt all.1)
+news_can station n i news (c ∷ cs) lt all =
+    (record { count = omega (arith, lt, all.0.dropped); few = all.0.few }, news_can station n i news cs lt all.1)
 
 -- ---- what is left to take
 
 -- n news were taken, and the rest of the reports brings what is left of all
-pub record Left (offset : ℤ) (rows : List Row) (n : ℕ) (picture : List Observation) (rest : List Report) (cs : List Client) (all last : List Observation) (final : List Client) : Type 0 where
+pub record Left (offset : ℤ) (rows : List Row) (n : ℕ) (picture : List Observation) (rest : List Report)
+    (cs : List Client) (all last : List Observation) (final : List Client) : Type 0 where
   pub count : n + length (news_of offset rows picture rest) ≡ length all
   pub shown : picture_after offset rows picture rest ≡ last
   pub clients_left : map (client_with_news (news_of offset rows picture rest)) cs ≡ final
-  pub sendable : AllByRecursion (IsSendable offset) (news_of offset rows picture rest) → AllByRecursion (IsSendable offset) all
+  pub sendable : AllByRecursion (IsSendable offset) (news_of offset rows picture rest)
+      → AllByRecursion (IsSendable offset) all
 
 pub left_first : (offset : ℤ) (rows : List Row) (picture : List Observation) (rs : List Report) (cs : List Client)
-    → Left offset rows 0 picture rs cs (news_of offset rows picture rs) (picture_after offset rows picture rs) (map (client_with_news (news_of offset rows picture rs)) cs)
-left_first offset rows picture rs cs = record { count = omega arith; shown = refl; clients_left = refl; sendable = λ all. all }
+    → Left offset rows 0 picture rs cs (news_of offset rows picture rs) (picture_after offset rows picture rs)
+    (map (client_with_news (news_of offset rows picture rs)) cs)
+left_first offset rows picture rs cs =
+    record { count = omega arith; shown = refl; clients_left = refl; sendable = λ all. all }
 
-pub left_more : (offset : ℤ) (rows : List Row) (n m : ℕ) (picture new : List Observation) (r : Report) (now rest : List Report) (cs changed : List Client) (all last : List Observation) (final : List Client)
-    → Left offset rows n picture now cs all last final → now ≡ r ∷ rest → m ≡ length (news_of_report offset rows picture r) → new ≡ picture_after_report offset rows picture r
-    → changed ≡ map (client_with_news (news_of_report offset rows picture r)) cs → AllByRecursion (IsSendable offset) (news_of_report offset rows picture r)
+pub left_more : (offset : ℤ) (rows : List Row) (n m : ℕ) (picture new : List Observation) (r : Report)
+    (now rest : List Report) (cs changed : List Client) (all last : List Observation) (final : List Client)
+    → Left offset rows n picture now cs all last final → now ≡ r ∷ rest
+    → m ≡ length (news_of_report offset rows picture r) → new ≡ picture_after_report offset rows picture r
+    → changed ≡ map (client_with_news (news_of_report offset rows picture r)) cs
+    → AllByRecursion (IsSendable offset) (news_of_report offset rows picture r)
     → Left offset rows (n + m) new rest changed all last final
 left_more offset rows n m picture new r now rest cs changed all last final left is em en ec sends =
     let xs : List Observation = news_of_report offset rows picture r in
     let ys : List Observation = news_of offset rows (picture_after_report offset rows picture r) rest in
-    let here : Left offset rows n picture (r ∷ rest) cs all last final = subst (λ (rs : List Report). Left offset rows n picture rs cs all last final) is left in
-    let on : Left offset rows (n + m) (picture_after_report offset rows picture r) rest changed all last final = record {
+    let here : Left offset rows n picture (r ∷ rest) cs all last final =
+    subst (λ (rs : List Report). Left offset rows n picture rs cs all last final) is left in
+    let on : Left offset rows (n + m) (picture_after_report offset rows picture r) rest changed all last final =
+    record {
       count = omega (arith, here.count, length-append xs ys, em);
       shown = here.shown;
       clients_left = ap (map (client_with_news ys)) ec ∙ (map_came-twice xs ys cs ∙ here.clients_left);
@@ -156,16 +195,25 @@ left_more offset rows n m picture new r now rest cs changed all last final left 
     } in
     subst (λ (p : List Observation). Left offset rows (n + m) p rest changed all last final) (sym en) on
 
-pub left_none : (offset : ℤ) (rows : List Row) (n m : ℕ) (picture : List Observation) (rest : List Report) (cs : List Client) (all last : List Observation) (final : List Client)
+pub left_none : (offset : ℤ) (rows : List Row) (n m : ℕ) (picture : List Observation) (rest : List Report)
+    (cs : List Client) (all last : List Observation) (final : List Client)
     → rest ≡ [] → AllByRecursion (CanTake m) cs → Left offset rows n picture rest cs all last final
     → (n ≡ length all) × (picture ≡ last) × (cs ≡ final) × AllByRecursion (IsSendable offset) all
 left_none offset rows n m picture rest cs all last final e can left =
-    let here : Left offset rows n picture [] cs all last final = subst (λ (rs : List Report). Left offset rows n picture rs cs all last final) e left in
+    let here : Left offset rows n picture [] cs all last final =
+    subst (λ (rs : List Report). Left offset rows n picture rs cs all last final) e left in
     (omega (arith, here.count), here.shown, map_came-nil m cs can ∙ here.clients_left, here.sendable tt)
 
 -- the first of the reports brings no more than all of them, and the others the rest
-pub rest_length : (offset : ℤ) (rows : List Row) (picture : List Observation) (r : Report) (now rest : List Report) → now ≡ r ∷ rest
-    → length (news_of offset rows picture now) ≡ length (news_of offset rows (picture_after_report offset rows picture r) rest) + length (news_of_report offset rows picture r)
+pub rest_length : (offset : ℤ) (rows : List Row) (picture : List Observation) (r : Report) (now rest : List Report)
+    → now ≡ r ∷ rest
+    → length (news_of offset rows picture now)
+    ≡ length (news_of offset rows (picture_after_report offset rows picture r) rest)
+    + length (news_of_report offset rows picture r)
 rest_length offset rows picture r now rest e =
     ap (λ (rs : List Report). length (news_of offset rows picture rs)) e
-    ∙ omega (arith, length-append (news_of_report offset rows picture r) (news_of offset rows (picture_after_report offset rows picture r) rest))
+    ∙ omega (
+      arith,
+      length-append (news_of_report offset rows picture r)
+          (news_of offset rows (picture_after_report offset rows picture r) rest),
+    )

@@ -136,7 +136,8 @@ waits_on common owes q n k new same tied = record {
   apart = subst (AllByRecursion IsApart) (sym same.answers) tied.apart;
   rest = same.rest ∙ tied.rest;
   asked = subst (AllByRecursion IsOfInterrogation) (sym same.rest) tied.asked;
-  said = subst (λ (rest : List OwnAsdu). IfSome q (λ i. i.said ++ map (as_told common) rest ≡ answer_told common i)) (sym same.rest) tied.said;
+  said = subst (λ (rest : List OwnAsdu). IfSome q (λ i. i.said ++ map (as_told common) rest ≡ answer_told common i))
+      (sym same.rest) tied.said;
   since = tied.since;
   older = λ is. omega (arith, same.older, tied.older (ap is_asked (sym same.rest) ∙ is), ap length same.queue);
 }
@@ -248,11 +249,13 @@ command_apart (Some command) = (and_false _, tt)
 -- a command for a control is answered
 joined : (answer : Option AsduAnswer) (command : Option Command) (k : Client) (xs : List AsduAnswer)
     → k.answers ≡ answers_with answer xs
-    → (client_answered (event_taking command) k).answers ≡ xs ++ (option_to_list answer ++ map (λ x. Made (confirmed true x)) (option_to_list command))
+    → (client_answered (event_taking command) k).answers
+    ≡ xs ++ (option_to_list answer ++ map (λ x. Made (confirmed true x)) (option_to_list command))
 joined None None k xs e = e ∙ sym (append-nil xs)
 joined (Some answer) None k xs e = e
 joined None (Some command) k xs e = ap (λ (l : List AsduAnswer). l ++ Made (confirmed true command) ∷ []) e
-joined (Some answer) (Some command) k xs e = ap (λ (l : List AsduAnswer). l ++ Made (confirmed true command) ∷ []) e ∙ append_assoc xs (answer ∷ []) (Made (confirmed true command) ∷ [])
+joined (Some answer) (Some command) k xs e = ap (λ (l : List AsduAnswer). l ++ Made (confirmed true command) ∷ []) e
+    ∙ append_assoc xs (answer ∷ []) (Made (confirmed true command) ∷ [])
 
 answered_waits : (event : Event) (k : Client)
     → ((client_answered event k).rest ≡ k.rest) × ((client_answered event k).older ≡ k.older)
@@ -262,7 +265,8 @@ answered_waits (events.Command command) k = (refl, refl, refl)
 answered_waits (events.Closed why) k = (refl, refl, refl)
 
 -- the rest of an answer, and the mark of the queue, where this is the interrogation
-record Asks (common : ℕ) (q : Option Interrogation) (n : ℕ) (queue : List Observation) (rest : List OwnAsdu) (mark : ℕ) : Type 0 where
+record Asks (common : ℕ) (q : Option Interrogation) (n : ℕ) (queue : List Observation) (rest : List OwnAsdu)
+    (mark : ℕ) : Type 0 where
   is : rest ≡ left_of q
   asked : AllByRecursion IsOfInterrogation rest
   said : IfSome q (λ i. i.said ++ map (as_told common) rest ≡ answer_told common i)
@@ -279,7 +283,8 @@ as_before common owes q n k tied = record {
   older = tied.older;
 }
 
-asks : (common : ℕ) (picture : List Observation) (owes : List AsduAnswer) (q : Option Interrogation) (n : ℕ) (k : Client)
+asks : (common : ℕ) (picture : List Observation) (owes : List AsduAnswer) (q : Option Interrogation)
+    (n : ℕ) (k : Client)
     (j : Judged) → length k.queue ≤ n → LineIs common owes q n k
     → Asks common (begun n picture j q) n k.queue (rest_with picture j (is_asking j k) k)
     (older_with j (is_asking j k) k)
@@ -324,10 +329,13 @@ asdu_taken setup taking moment ns nr asdu hs k news tied =
           (sym (pending_told common (owed setup hs) q n k tied)));
       apart = subst (AllByRecursion IsApart) (sym answers)
           (all_joined k.answers (answers_to setup picture (is_asked k.rest) asdu j) tied.apart
-          (all_joined (option_to_list (answered setup picture (is_asked k.rest) asdu j)) (map (λ x. Made (confirmed true x)) (option_to_list (command_by j))) (at_once_apart setup picture (is_asked k.rest) asdu j) (command_apart (command_by j))));
+          (all_joined (option_to_list (answered setup picture (is_asked k.rest) asdu j))
+          (map (λ x. Made (confirmed true x)) (option_to_list (command_by j)))
+          (at_once_apart setup picture (is_asked k.rest) asdu j) (command_apart (command_by j))));
       rest = waits.0 ∙ is.is;
       asked = subst (AllByRecursion IsOfInterrogation) (sym waits.0) is.asked;
-      said = subst (λ (rest : List OwnAsdu). IfSome (begun n picture j q) (λ i. i.said ++ map (as_told common) rest ≡ answer_told common i)) (sym waits.0) is.said;
+      said = subst (λ (rest : List OwnAsdu). IfSome (begun n picture j q)
+          (λ i. i.said ++ map (as_told common) rest ≡ answer_told common i)) (sym waits.0) is.said;
       since = is.since;
       older = λ asked. omega (arith, waits.1, is.older (ap is_asked (sym waits.0) ∙ asked), ap length waits.2);
     }
@@ -377,7 +385,8 @@ answer_first : (k : Client) (answer : AsduAnswer) → slice_get (line_in k) 0 �
     → (more : List AsduAnswer) × (k.answers ≡ answer ∷ more)
 answer_first k answer e = go k.answers e
   where
-    go : (answers : List AsduAnswer) → slice_get (front answers k.older k.queue k.rest) 0 ≡ Some (sendings.Answer answer)
+    go : (answers : List AsduAnswer)
+        → slice_get (front answers k.older k.queue k.rest) 0 ≡ Some (sendings.Answer answer)
         → (more : List AsduAnswer) × (answers ≡ answer ∷ more)
     go [] e = absurd (news_before k.older k.queue k.rest answer e)
     go (a ∷ answers) e = (answers, ap (λ (x : AsduAnswer). x ∷ answers) (answer_is_first a answer e))
@@ -399,8 +408,10 @@ told_more common k (Some q) meant part rest is told left said =
     let one : length (q.said ++ parts_in meant) ≡ length q.said + 1 =
     omega (arith, length-append q.said (parts_in meant), ap length told) in
     record {
-      rest = left_more (length q.said) k.rest (answer_to q.command q.rows) left ∙ ap (λ (n : ℕ). drop n (answer_to q.command q.rows)) (sym one);
-      said = rw (told, behind) (said_more common q.said part rest ∙ (ap (λ (l : List OwnAsdu). q.said ++ map (as_told common) l) (sym is) ∙ said));
+      rest = left_more (length q.said) k.rest (answer_to q.command q.rows) left
+          ∙ ap (λ (n : ℕ). drop n (answer_to q.command q.rows)) (sym one);
+      said = rw (told, behind) (said_more common q.said part rest
+          ∙ (ap (λ (l : List OwnAsdu). q.said ++ map (as_told common) l) (sym is) ∙ said));
       since = refl;
     }
 
@@ -451,7 +462,8 @@ gave setup moment (sendings.News x) (Some hs) k small is can news tied =
     let offset : ℤ = setup.station.offset_minutes in
     let common : ℕ = setup.station.common_address in
     let meant : Meant = meaning_of offset (outgoing_octets offset common (told_news x)) in
-    let means : meant ≡ TellsAsdu (asdu_of offset common 3 0 x) = outgoing_means offset common (told_news x) small can in
+    let means : meant ≡ TellsAsdu (asdu_of offset common 3 0 x) =
+    outgoing_means offset common (told_news x) small can in
     let none : owed setup hs ≡ [] = sym tied.answers ∙ no_answer k x is.first in
     let front = news_first k x is.first in
     same_asked common (drop 1 (owed setup hs)) (interrogation setup hs) (length (fates setup.station hs)) _ meant

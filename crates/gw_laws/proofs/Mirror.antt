@@ -102,7 +102,8 @@ refused_shown rows log pending c = elim (cases_Bool (is_accepted_act pending c))
 
 read_shown : (rows : List AnyRow) (log : List Observation) (originator : ℕ) (found : Option (ℕ × AnyRow))
     → is_single rows ≡ true
-    → IfSome (option_map (λ x. Made (outgoing.Observation 5 originator x)) (shown_by (picture_of rows log) found)) (IsOfPicture rows log)
+    → IfSome (option_map (λ x. Made (outgoing.Observation 5 originator x)) (shown_by (picture_of rows log) found))
+    (IsOfPicture rows log)
 read_shown rows log originator None single = tt
 read_shown rows log originator (Some found) single = go (slice_get (picture_of rows log) found.0) refl
   where
@@ -161,7 +162,8 @@ kept_begun rows since (Some heard) v q single within quiet left is kept =
     heard_begun rows since heard v q single within left is kept
 kept_begun rows since None v q single within quiet left is kept =
     let pending : is_pending v.asked ≡ true =
-    ap is_pending kept.watched.is ∙ ap (λ (said : List OwnAsdu). not (list_any is_termination said)) kept.watched.said in
+    ap is_pending kept.watched.is
+    ∙ ap (λ (said : List OwnAsdu). not (list_any is_termination said)) kept.watched.said in
     absurd (true≢false (sym pending ∙ quiet))
 
 -- ---- what the ties tell
@@ -382,13 +384,16 @@ puts setup log moment (sendings.News y) (Some hs) k small is can news lined news
     let t : Turn = PutsOut (says setup k x) in
     let now = line_is setup (t ∷ hs) (client_with_sent moment x k) news_then then in
     mirrored setup log log t hs (numbered setup log _ _ _ hs
-    (puts_first setup log moment x hs _ k is.first can (outgoing_means setup.station.offset_minutes setup.station.common_address (told_news y) small can) news lined now)) tied
+    (puts_first setup log moment x hs _ k is.first can
+    (outgoing_means setup.station.offset_minutes setup.station.common_address (told_news y) small can) news
+    lined now)) tied
 puts setup log moment (sendings.Part part) (Some hs) k small is can news lined news_then then tied =
     let x : Sending = sendings.Part part in
     let t : Turn = PutsOut (says setup k x) in
     let now = line_is setup (t ∷ hs) (client_with_sent moment x k) news_then then in
     mirrored setup log log t hs (numbered setup log _ _ _ hs
-    (puts_first setup log moment x hs _ k is.first can (outgoing_means setup.station.offset_minutes setup.station.common_address part small can) news lined now)) tied
+    (puts_first setup log moment x hs _ k is.first can
+    (outgoing_means setup.station.offset_minutes setup.station.common_address part small can) news lined now)) tied
 
 -- news come
 comes : (setup : Setup) (before : List Observation) (brought : Brought) (s : Option (List Turn)) (k : Client)

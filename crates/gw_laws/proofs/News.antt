@@ -82,14 +82,18 @@ answer_of_station : (offset : ℤ) (common : ℕ) (answer : AsduAnswer) (meant :
 answer_of_station offset common (Returned asdu cause) (Tells told) can means = inr (cause, can.1, can.2, means)
 answer_of_station offset common (Returned asdu cause) (Commands c) can means = inr (cause, can.1, can.2, means)
 answer_of_station offset common (Returned asdu cause) (Unread octets) can means = (cause, can.1, can.2, means)
-answer_of_station offset common (Made (outgoing.Command c)) meant can means = subst (IsOfStation common) (sym means) (inl (can.0, refl))
+answer_of_station offset common (Made (outgoing.Command c)) meant can means =
+    subst (IsOfStation common) (sym means) (inl (can.0, refl))
 answer_of_station offset common (Made (outgoing.Observation cause originator x)) meant can means =
     subst (IsOfStation common) (sym means)
-    (subst (λ (n : ℕ). IsOfStation common (Tells (asdu_of offset common n originator x))) (sym can.0) (inl (refl, refl)))
+    (subst (λ (n : ℕ). IsOfStation common (Tells (asdu_of offset common n originator x))) (sym can.0)
+    (inl (refl, refl)))
 
-part_of_station : (offset : ℤ) (common : ℕ) (part : OwnAsdu) (meant : Meant) → CanSendOutgoing offset part → IsRequested part
+part_of_station : (offset : ℤ) (common : ℕ) (part : OwnAsdu) (meant : Meant) → CanSendOutgoing offset part
+    → IsRequested part
     → Means offset common (Made part) meant → IsOfStation common meant
-part_of_station offset common (outgoing.Command c) meant can is means = subst (IsOfStation common) (sym means) (inl (can.0, refl))
+part_of_station offset common (outgoing.Command c) meant can is means =
+    subst (IsOfStation common) (sym means) (inl (can.0, refl))
 part_of_station offset common (outgoing.Observation cause originator x) meant can (inl is) means =
     subst (IsOfStation common) (sym means)
     (subst (λ (n : ℕ). IsOfStation common (Tells (asdu_of offset common n originator x))) (sym is) (inl (refl, refl)))
@@ -321,7 +325,8 @@ gave setup moment (sendings.Part part) (Some hs) k small is can tied =
     let meant : Meant = meaning_of offset (outgoing_octets offset common part) in
     let front = part_first k part is.first in
     let requested : IsRequested part = (subst (AllByRecursion IsRequested) front.1 tied.parts).0 in
-    put_still setup (says setup k (sendings.Part part)) hs k _ (part_no_news offset common part meant requested (outgoing_means offset common part small can))
+    put_still setup (says setup k (sendings.Part part)) hs k _
+    (part_no_news offset common part meant requested (outgoing_means offset common part small can))
     (record { stage = refl; limit = refl; queue = refl; dropped = refl }) (all_drop k.rest tied.parts) tied
 gave setup moment (sendings.News x) (Some hs) k small is can tied =
     let offset : ℤ = setup.station.offset_minutes in
@@ -411,7 +416,11 @@ says_of_station setup (sendings.Part part) ts k small is can tied =
     let offset : ℤ = setup.station.offset_minutes in
     let common : ℕ = setup.station.common_address in
     let requested : IsRequested part = requested_in (session ts) tied in
-    (sym (stands setup (session ts) k tied) ∙ is.in_session, part_of_station offset common part (meaning_of offset (outgoing_octets offset common part)) can requested (outgoing_means offset common part small can))
+    (
+      sym (stands setup (session ts) k tied) ∙ is.in_session,
+      part_of_station offset common part (meaning_of offset (outgoing_octets offset common part)) can requested
+          (outgoing_means offset common part small can),
+    )
   where
     requested_in : (s : Option (List Turn)) → NewsTied setup s k → IsRequested part
     requested_in None tied = absurd (true≢false (sym is.in_session ∙ tied.stopped))

@@ -228,7 +228,8 @@ counts_more setup (Takes a taking) ts k new lives is tied =
     subst (CountsTied setup (Takes a taking ∷ ts)) (sym is.becomes) (took setup ts a taking is.moment k is.opens tied)
 counts_more setup (PutsOut said) ts k new lives is tied =
     subst (CountsTied setup (PutsOut said ∷ ts)) (sym is.becomes)
-    (subst (λ (x : ApduMeaning). CountsTied setup (PutsOut x ∷ ts) (client_with_sent is.moment is.sending k)) (sym is.says)
+    (subst (λ (x : ApduMeaning). CountsTied setup (PutsOut x ∷ ts) (client_with_sent is.moment is.sending k))
+    (sym is.says)
     (gave setup ts is.moment is.sending k (offered_is is.moment k is.sending is.first) tied))
 
 pub counts_tied : (setup : Setup) (ts : List Turn) (k : Client) → Lives setup ts k → CountsTied setup ts k

@@ -53,20 +53,24 @@ not_spontaneous cause octet e from = ne_eqb octet 3 (λ (is : octet ≡ 3). omeg
 
 pub answer_no_news : (offset : ℤ) (common : ℕ) (answer : AsduAnswer) (meant : Meant) → CanSendAnswer offset answer
     → Means offset common answer meant → spontaneous_of common meant ≡ []
-answer_no_news offset common (Returned asdu cause) (Tells told) can means = rw (not_spontaneous cause told.cause means.0 can.1) refl
+answer_no_news offset common (Returned asdu cause) (Tells told) can means =
+    rw (not_spontaneous cause told.cause means.0 can.1) refl
 answer_no_news offset common (Returned asdu cause) (Commands c) can means = refl
 answer_no_news offset common (Returned asdu cause) (Unread octets) can means = refl
 answer_no_news offset common (Made (outgoing.Command c)) meant can means = ap (spontaneous_of common) means
 answer_no_news offset common (Made (outgoing.Observation cause originator x)) meant can means =
-    ap (spontaneous_of common) means ∙ ap (λ (n : ℕ). spontaneous_of common (Tells (asdu_of offset common n originator x))) can.0
+    ap (spontaneous_of common) means
+    ∙ ap (λ (n : ℕ). spontaneous_of common (Tells (asdu_of offset common n originator x))) can.0
 
 pub part_no_news : (offset : ℤ) (common : ℕ) (part : OwnAsdu) (meant : Meant) → IsRequested part
     → Means offset common (Made part) meant → spontaneous_of common meant ≡ []
 part_no_news offset common (outgoing.Command c) meant is means = ap (spontaneous_of common) means
 part_no_news offset common (outgoing.Observation cause originator x) meant (inl is) means =
-    ap (spontaneous_of common) means ∙ ap (λ (n : ℕ). spontaneous_of common (Tells (asdu_of offset common n originator x))) is
+    ap (spontaneous_of common) means
+    ∙ ap (λ (n : ℕ). spontaneous_of common (Tells (asdu_of offset common n originator x))) is
 part_no_news offset common (outgoing.Observation cause originator x) meant (inr is) means =
-    ap (spontaneous_of common) means ∙ ap (λ (n : ℕ). spontaneous_of common (Tells (asdu_of offset common n originator x))) is
+    ap (spontaneous_of common) means
+    ∙ ap (λ (n : ℕ). spontaneous_of common (Tells (asdu_of offset common n originator x))) is
 
 -- ---- what isn't of it
 
@@ -92,10 +96,12 @@ neither cause octet e from =
 
 pub answer_apart : (offset : ℤ) (common : ℕ) (answer : AsduAnswer) (meant : Meant) → CanSendAnswer offset answer
     → IsApart answer → Means offset common answer meant → parts_in meant ≡ []
-answer_apart offset common (Returned asdu cause) (Tells told) can is means = rw (neither cause told.cause means.0 can.1) refl
+answer_apart offset common (Returned asdu cause) (Tells told) can is means =
+    rw (neither cause told.cause means.0 can.1) refl
 answer_apart offset common (Returned asdu cause) (Commands c) can is means = negative_apart c means.1
 answer_apart offset common (Returned asdu cause) (Unread octets) can is means = refl
-answer_apart offset common (Made (outgoing.Command c)) meant can is means = ap parts_in means ∙ no_parts (at_station common c) is
+answer_apart offset common (Made (outgoing.Command c)) meant can is means =
+    ap parts_in means ∙ no_parts (at_station common c) is
 answer_apart offset common (Made (outgoing.Observation cause originator x)) meant can is means =
     ap parts_in means ∙ ap (λ (n : ℕ). parts_in (Tells (asdu_of offset common n originator x))) is
 
@@ -107,7 +113,8 @@ news_apart offset common x meant means = ap parts_in means
 pub told_nothing : (meant : Meant) (q : Option Interrogation) → parts_in meant ≡ []
     → option_map (interrogation_telling meant) q ≡ q
 told_nothing meant None none = refl
-told_nothing meant (Some q) none = ap (λ (parts : List OwnAsdu). Some (record q { said = parts })) (ap (λ (parts : List OwnAsdu). q.said ++ parts) none ∙ append-nil q.said)
+told_nothing meant (Some q) none = ap (λ (parts : List OwnAsdu). Some (record q { said = parts }))
+    (ap (λ (parts : List OwnAsdu). q.said ++ parts) none ∙ append-nil q.said)
 
 -- ---- what is of it
 
@@ -211,7 +218,8 @@ pending_is common q rest e =
     let termination : OwnAsdu = as_told common (command_with 10 false c) in
     let front : List OwnAsdu = confirmation ∷ map (as_told common) (rows_of c.action q.rows) in
     let whole : answer_told common q ≡ front ++ termination ∷ [] =
-    ap (λ (parts : List OwnAsdu). confirmation ∷ parts) (map-end (as_told common) (rows_of c.action q.rows) (command_with 10 false c)) in
+    ap (λ (parts : List OwnAsdu). confirmation ∷ parts)
+    (map-end (as_told common) (rows_of c.action q.rows) (command_with 10 false c)) in
     last_said front q.said (map (as_told common) rest) termination (rows_go_on common c.action q.rows) refl (e ∙ whole)
     ∙ told_asked common rest
 

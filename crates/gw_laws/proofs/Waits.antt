@@ -173,7 +173,8 @@ pub apart : (offset : ℤ) (common : ℕ) (s : Sending) (meant : Meant) → IsPl
 apart offset common (sendings.Answer (Returned asdu cause)) (Tells a) plain can other means =
     let others = other_causes cause a.cause means.0 can.1 can.2 in
     rw (others.2, others.3) refl
-apart offset common (sendings.Answer (Returned asdu cause)) (Commands c) plain can other means = negative_apart c means.1
+apart offset common (sendings.Answer (Returned asdu cause)) (Commands c) plain can other means =
+    negative_apart c means.1
   where
     negative_apart : (c : Command) → c.negative ≡ true → parts_in (Commands c) ≡ []
     negative_apart c is = elim (cases_Bool (is_interrogation c.action)) [
@@ -181,7 +182,8 @@ apart offset common (sendings.Answer (Returned asdu cause)) (Commands c) plain c
       | inr none ↦ rw none refl
     ]
 apart offset common (sendings.Answer (Returned asdu cause)) (Unread octets) plain can other means = refl
-apart offset common (sendings.Answer (Made (outgoing.Command c))) meant plain can other means = ap parts_in means ∙ rw plain refl
+apart offset common (sendings.Answer (Made (outgoing.Command c))) meant plain can other means =
+    ap parts_in means ∙ rw plain refl
 apart offset common (sendings.Answer (Made (outgoing.Observation cause originator x))) meant plain can other means =
     ap parts_in means ∙ ap (λ (n : ℕ). parts_in (Tells (asdu_of offset common n originator x))) plain
 apart offset common (sendings.News x) meant plain can other means = ap parts_in means
@@ -204,7 +206,8 @@ from_part [] = []
 from_part (s ∷ line) = cond (is_part s) (s ∷ line) (from_part line)
 
 pub from_part_of : (owed : List AsduAnswer) (xs : List Observation) (p : OwnAsdu) (rest : List Sending)
-    → from_part (map sendings.Answer owed ++ (map sendings.News xs ++ (sendings.Part p ∷ rest))) ≡ sendings.Part p ∷ rest
+    → from_part (map sendings.Answer owed ++ (map sendings.News xs ++ (sendings.Part p ∷ rest)))
+    ≡ sendings.Part p ∷ rest
 from_part_of (answer ∷ owed) xs p rest = from_part_of owed xs p rest
 from_part_of [] (x ∷ xs) p rest = from_part_of [] xs p rest
 from_part_of [] [] p rest = refl

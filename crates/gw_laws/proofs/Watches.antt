@@ -166,17 +166,20 @@ heard_put_out rows offset common since told meant ys v puts kept =
 -- before the confirmation the answer is whole
 watched_left : (asked : Option Interrogation) (since : ℕ) (is : IsWatched asked since)
     → left_of asked ≡ answer_to is.q.command is.q.rows
-watched_left asked since is = ap left_of is.is ∙ ap (λ (said : List OwnAsdu). drop (length said) (answer_to is.q.command is.q.rows)) is.said
+watched_left asked since is =
+    ap left_of is.is ∙ ap (λ (said : List OwnAsdu). drop (length said) (answer_to is.q.command is.q.rows)) is.said
 
 -- what is behind its first part
 abbrev behind : Interrogation → List Element → List Sending
 behind q es =
-    map sendings.Part (rows_of q.command.action q.rows ++ command_with 10 false q.command ∷ []) ++ map sendings.News (items_of is_queued (drop q.since es))
+    map sendings.Part (rows_of q.command.action q.rows ++ command_with 10 false q.command ∷ [])
+    ++ map sendings.News (items_of is_queued (drop q.since es))
 
 watched_from : (asked : Option Interrogation) (es : List Element) (since : ℕ) (is : IsWatched asked since)
     → from_answer asked es ≡ sendings.Part (command_with 7 false is.q.command) ∷ behind is.q es
 watched_from asked es since is =
-    let news : Option Interrogation → List Sending = λ q. map sendings.News (items_of is_queued (drop (since_of q) es)) in
+    let news : Option Interrogation → List Sending =
+    λ q. map sendings.News (items_of is_queued (drop (since_of q) es)) in
     ap (λ (parts : List OwnAsdu). map sendings.Part parts ++ news asked) (watched_left asked since is)
     ∙ ap (λ (q : Option Interrogation). map sendings.Part (answer_to is.q.command is.q.rows) ++ news q) is.is
 
@@ -354,7 +357,8 @@ pub record IsNew (rows : List Row) (v : View) (q : Interrogation) : Type 0 where
 new_left : (rows : List Row) (v : View) (q : Interrogation) → IsNew rows v q
     → waiting_in (map sendings.Part (left_of (Some q))) ≡ filter (is_asked_by q.command.action) (picture_of rows v.log)
 new_left rows v q is =
-    ap (λ (said : List OwnAsdu). waiting_in (map sendings.Part (drop (length said) (answer_to q.command q.rows)))) is.said
+    ap (λ (said : List OwnAsdu). waiting_in (map sendings.Part (drop (length said) (answer_to q.command q.rows))))
+    is.said
     ∙ (waiting_answer q.command q.rows ∙ ap (filter (is_asked_by q.command.action)) is.rows_are)
 
 new_from : (rows : List Row) (v : View) (q : Interrogation) → IsNew rows v q
@@ -408,7 +412,8 @@ whole_line v none =
     let older : List Observation = items_of is_queued (take s v.elements) in
     waiting_line v.owed v.asked v.elements
     ∙ (ap (λ (xs : List Observation). answers ++ (older ++ xs)) (waiting_from v.asked v.elements)
-    ∙ (ap (λ (parts : List OwnAsdu). answers ++ (older ++ (waiting_in (map sendings.Part parts) ++ items_of is_queued (drop s v.elements)))) none
+    ∙ (ap (λ (parts : List OwnAsdu).
+    answers ++ (older ++ (waiting_in (map sendings.Part parts) ++ items_of is_queued (drop s v.elements)))) none
     ∙ ap (λ (xs : List Observation). answers ++ xs)
     (sym (items_of-append is_queued (take s v.elements) (drop s v.elements))
     ∙ ap (items_of is_queued) (take-append-drop s v.elements))))

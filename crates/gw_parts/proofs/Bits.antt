@@ -51,15 +51,18 @@ pub bits_fit : {A : Type 0} (f : A → Bool) (xs : List A) (n : ℕ) (b : Bool) 
     → bits_of (map f (take n xs)) + (one_if b * 2 ^ n) % 256 < 256
 bits_fit f xs n true lt le =
     let len : length (map f (take n xs)) ≡ n = omega (arith, map-length f (take n xs), length-take n xs, le) in
-    let small : bits_of (map f (take n xs)) < 2 ^ n = subst (λ (m : ℕ). bits_of (map f (take n xs)) < 2 ^ m) len (bits_small (map f (take n xs))) in
+    let small : bits_of (map f (take n xs)) < 2 ^ n =
+    subst (λ (m : ℕ). bits_of (map f (take n xs)) < 2 ^ m) len (bits_small (map f (take n xs))) in
     omega (arith, power_small n lt, small)
 bits_fit f xs n false lt le =
     let len : length (map f (take n xs)) ≡ n = omega (arith, map-length f (take n xs), length-take n xs, le) in
-    let small : bits_of (map f (take n xs)) < 2 ^ n = subst (λ (m : ℕ). bits_of (map f (take n xs)) < 2 ^ m) len (bits_small (map f (take n xs))) in
+    let small : bits_of (map f (take n xs)) < 2 ^ n =
+    subst (λ (m : ℕ). bits_of (map f (take n xs)) < 2 ^ m) len (bits_small (map f (take n xs))) in
     omega (arith, power_small n lt, small)
 
 -- the element behind those that a walk changed
-pub get_over : {A : Type 0} (f : A → A) (xs ys : List A) (n : ℕ) (x : A) → n < length xs → ys ≡ map f (take n xs) ++ drop n xs → get_or ys n x ≡ get_or xs n x
+pub get_over : {A : Type 0} (f : A → A) (xs ys : List A) (n : ℕ) (x : A) → n < length xs
+    → ys ≡ map f (take n xs) ++ drop n xs → get_or ys n x ≡ get_or xs n x
 get_over f xs ys n x lt e = ap (λ (zs : List _). get_or zs n x) e ∙ behind xs n lt
   where
     behind : (xs : List _) (n : ℕ) → n < length xs → get_or (map f (take n xs) ++ drop n xs) n x ≡ get_or xs n x

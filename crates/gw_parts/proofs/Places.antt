@@ -7,7 +7,8 @@ use Rattle.gw_model.specs.Places.{change}
 use Rattle.gw_picture.proofs.Lists.{some_is}
 
 -- x stood there, and f x was left
-pub lent_changed : {A : Type 0} (n : ℕ) (f : A → A) (xs : List A) (x y : A) → Some x ≡ slice_get xs n → y ≡ f x → set xs n y ≡ change n f xs
+pub lent_changed : {A : Type 0} (n : ℕ) (f : A → A) (xs : List A) (x y : A) → Some x ≡ slice_get xs n → y ≡ f x
+    → set xs n y ≡ change n f xs
 lent_changed n f [] x y there e = refl
 lent_changed zero f (z ∷ xs) x y there e = ap (λ (w : _). w ∷ xs) (e ∙ ap f (some_is x z there))
 lent_changed (suc n) f (z ∷ xs) x y there e = ap (λ (zs : List _). z ∷ zs) (lent_changed n f xs x y there e)
@@ -25,7 +26,8 @@ none_changed zero f (z ∷ xs) none = absurd cc
 none_changed (suc n) f (z ∷ xs) none = ap (λ (zs : List _). z ∷ zs) (none_changed n f xs none)
 
 -- what all have, x has
-pub has_too : {A : Type 0} (P : A → Type 0) (n : ℕ) (xs : List A) (x : A) → Some x ≡ slice_get xs n → AllByRecursion P xs → P x
+pub has_too : {A : Type 0} (P : A → Type 0) (n : ℕ) (xs : List A) (x : A) → Some x ≡ slice_get xs n
+    → AllByRecursion P xs → P x
 has_too P n [] x there all = absurd cc
 has_too P zero (z ∷ xs) x there all = subst P (sym (some_is x z there)) all.0
 has_too P (suc n) (z ∷ xs) x there all = has_too P n xs x there all.1
@@ -41,7 +43,9 @@ map-end f [] y = refl
 map-end f (x ∷ xs) y = ap (λ (zs : List _). f x ∷ zs) (map-end f xs y)
 
 -- one more of them at the end
-pub one_more : {A : Type 0} (n m : ℕ) (x y : A) (ys more : List A) → m ≡ n + 1 → more ≡ ys ++ y ∷ [] → y ≡ x → ys ≡ replicate n x → more ≡ replicate m x
+pub one_more : {A : Type 0} (n m : ℕ) (x y : A) (ys more : List A) → m ≡ n + 1 → more ≡ ys ++ y ∷ [] → y ≡ x
+    → ys ≡ replicate n x → more ≡ replicate m x
 one_more n m x y ys more next push is so_far =
     let e : m ≡ suc n = omega (arith, next) in
-    push ∙ (ap (λ (zs : List _). zs ++ y ∷ []) so_far ∙ (ap (λ (z : _). replicate n x ++ z ∷ []) is ∙ sym (ap (λ (k : ℕ). replicate k x) e ∙ replicate_suc n x)))
+    push ∙ (ap (λ (zs : List _). zs ++ y ∷ []) so_far
+    ∙ (ap (λ (z : _). replicate n x ++ z ∷ []) is ∙ sym (ap (λ (k : ℕ). replicate k x) e ∙ replicate_suc n x)))

@@ -15,5 +15,6 @@ pub one-le-sum : (counts : List ℕ) (actor : ℕ) → actor < length counts →
 one-le-sum counts actor within = get_or-le-sum_by (λ (n : ℕ). n) counts actor 0 within
 
 -- as many actors as before
-pub length-raised : (counts : List ℕ) (actor : ℕ) → length (slice_set counts actor (slice_index counts actor + 1)) ≡ length counts
+pub length-raised : (counts : List ℕ) (actor : ℕ)
+    → length (slice_set counts actor (slice_index counts actor + 1)) ≡ length counts
 length-raised counts actor = length-set counts actor (slice_index counts actor + 1)

@@ -15,7 +15,8 @@ use Rattle.gw_shared.specs.declared.pumped.Pumped.TheVariants.{Ended, More}
 pub joined-append : (a b : List ApduBuf) → joined (a ++ b) ≡ joined a ++ joined b
 joined-append [] b = refl
 joined-append (x ∷ a) b =
-    ap (λ (octets : List ℕ). octets_in x ++ octets) (joined-append a b) ∙ sym (append_assoc (octets_in x) (joined a) (joined b))
+    ap (λ (octets : List ℕ). octets_in x ++ octets) (joined-append a b)
+    ∙ sym (append_assoc (octets_in x) (joined a) (joined b))
 
 -- what a call that pumps is answered with
 pub given_pumped : (mine after : Pass) (client moment : ℕ) (answer : ℕ × Result Reply StepFault)
@@ -55,7 +56,8 @@ pumped_apdu client apdu given = elim given as (λ _. IsPumped client (Ok (Apdu a
   | inr spent ↦ absurd cc
 ]
 
-all-append : (P : ApduBuf → Type 0) (a b : List ApduBuf) → AllByRecursion P a → AllByRecursion P b → AllByRecursion P (a ++ b)
+all-append : (P : ApduBuf → Type 0) (a b : List ApduBuf) → AllByRecursion P a → AllByRecursion P b
+    → AllByRecursion P (a ++ b)
 all-append P [] b first more = more
 all-append P (x ∷ a) b first more = (first.0, all-append P a b first.1 more)
 
@@ -64,16 +66,19 @@ pub pumped-first : (client : ℕ) (octets : List ℕ) → ArePumped client octet
 pumped-first client octets = record { apdus = []; pumped = tt; octets = sym (append-nil octets) }
 
 -- one more
-pub pumped_one : (client : ℕ) (x y z : List ℕ) (apdu : ApduBuf) → ArePumped client x y → IsPumped client (Ok (Apdu apdu))
+pub pumped_one : (client : ℕ) (x y z : List ℕ) (apdu : ApduBuf) → ArePumped client x y
+    → IsPumped client (Ok (Apdu apdu))
     → z ≡ y ++ octets_in apdu → ArePumped client x z
 pumped_one client x y z apdu first pumped octets = record {
   apdus = first.apdus ++ apdu ∷ [];
-  pumped = all-append (λ (a : ApduBuf). IsPumped client (Ok (Apdu a))) first.apdus (apdu ∷ []) first.pumped (pumped, tt);
+  pumped =
+      all-append (λ (a : ApduBuf). IsPumped client (Ok (Apdu a))) first.apdus (apdu ∷ []) first.pumped (pumped, tt);
   octets =
       octets ∙ (ap (λ (front : List ℕ). front ++ octets_in apdu) first.octets
       ∙ (append_assoc x (joined first.apdus) (octets_in apdu)
       ∙ ap (λ (back : List ℕ). x ++ back)
-      (ap (λ (last : List ℕ). joined first.apdus ++ last) (sym (append-nil (octets_in apdu))) ∙ sym (joined-append first.apdus (apdu ∷ [])))));
+      (ap (λ (last : List ℕ). joined first.apdus ++ last) (sym (append-nil (octets_in apdu)))
+      ∙ sym (joined-append first.apdus (apdu ∷ [])))));
 }
 
 -- some, and then more

@@ -49,7 +49,8 @@ pub record ArePumped (client : ℕ) (before after : List ℕ) : Type 0 where
 
 -- and behind them, where the run ended, an answer that is none
 abbrev pub IsPumpedRun : ℕ → List ℕ → List ℕ → Pumped → Type 0
-IsPumpedRun client before after (Ended last) = ArePumped client before after × IsGivenTo client last × (is_apdu last ≡ false)
+IsPumpedRun client before after (Ended last) = ArePumped client before after × IsGivenTo client last
+    × (is_apdu last ≡ false)
 IsPumpedRun client before after More = ArePumped client before after
 
 -- where nothing ended the run, one APDU came

@@ -37,15 +37,17 @@ IsMadeReady hub old ready =
     × (is_tape_full old.tape ≡ true → (ready ≡ rolled old hub) ⊎ (ready ≡ recording_off old))
 
 -- the call was noted, with its reply, on a recorder that was made ready for it
-pub record IsNoted (hub : Hub) (old new : Recording) (actor : ℕ) (step : Step) (reply : Result Reply StepFault) : Type 0 where
+pub record IsNoted (hub : Hub) (old new : Recording) (actor : ℕ) (step : Step)
+    (reply : Result Reply StepFault) : Type 0 where
   pub ready : Recording
   pub made_ready : IsMadeReady hub old ready
   pub noted_so : new ≡ noted ready actor step reply
 
--- one call: the step that was asked was made on a sound state, and answered as the step relation allows; call, reply and actor were
--- noted; the call was counted under the lock and on the pass; its number is the count, which no earlier call of the pass
--- had
-pub record IsTurn (old new : Core) (mine after : Pass) (step : Step) (number : ℕ) (reply : Result Reply StepFault) : Type 0 where
+-- one call: the step that was asked was made on a sound state, and answered as the step relation allows; call, reply
+-- and actor were noted; the call was counted under the lock and on the pass; its number is the count, which no earlier
+-- call of the pass had
+pub record IsTurn (old new : Core) (mine after : Pass) (step : Step) (number : ℕ)
+    (reply : Result Reply StepFault) : Type 0 where
   pub sound : IsSoundState old.hub.setup old.hub.state
   pub allowed : Allowed old.hub.setup old.hub.state step reply new.hub.state
   pub setup : new.hub.setup ≡ old.hub.setup

@@ -1,5 +1,5 @@
--- What is put out first is of a kind, where all that waits is; so it can be spelled, where all answers can. Behind answers
--- and parts come news.
+-- What is put out first is of a kind, where all that waits is; so it can be spelled, where all answers can. Behind
+-- answers and parts come news.
 use Rattle.std.proofs.Common.{◌≡◌, ◌<◌, ◌≤◌, ℕ, zero, suc, Bool, true, false, cond, List, [], ◌∷◌, ◌++◌, map, take, drop, length, Option, Some, None, ◌⊎◌, inl, inr, refl, sym, ap, arith}
 use Rattle.std.specs.Prelude.{◌&&◌, is_some, option_map, slice_get, IfSome}
 use Rattle.std.specs.List.{AllByRecursion}
@@ -35,7 +35,8 @@ line_so P c answers queue rest =
     all-append P (map sendings.Answer c.answers) _ (all-map P sendings.Answer c.answers answers) news
 
 -- so are U and S formats
-pub offered_so : (P : Sending → Type 0) → ((signal : Signal) → P (sendings.Confirm signal)) → P sendings.Test → P sendings.SFormat
+pub offered_so : (P : Sending → Type 0) → ((signal : Signal) → P (sendings.Confirm signal)) → P sendings.Test
+    → P sendings.SFormat
     → (moment : ℕ) (c : Client) → AllByRecursion P (line c) → IfSome (offered moment c) P
 offered_so P confirm test receipt moment c all = by_confirmation (slice_get c.confirmations 0)
   where
@@ -43,21 +44,25 @@ offered_so P confirm test receipt moment c all = by_confirmation (slice_get c.co
     by_receipt true = receipt
     by_receipt false = tt
 
-    by_first : (x : Option Sending) → IfSome x P → IfSome (first_of (x ∷ when (owes_ack moment c.window) sendings.SFormat ∷ [])) P
+    by_first : (x : Option Sending) → IfSome x P
+        → IfSome (first_of (x ∷ when (owes_ack moment c.window) sendings.SFormat ∷ [])) P
     by_first None is = by_receipt (owes_ack moment c.window)
     by_first (Some x) is = is
 
-    by_line : (may : Bool) → IfSome (first_of (cond may (slice_get (line c) 0) None ∷ when (owes_ack moment c.window) sendings.SFormat ∷ [])) P
+    by_line : (may : Bool) → IfSome
+        (first_of (cond may (slice_get (line c) 0) None ∷ when (owes_ack moment c.window) sendings.SFormat ∷ [])) P
     by_line true = by_first (slice_get (line c) 0) (all-first P (line c) all)
     by_line false = by_receipt (owes_ack moment c.window)
 
     by_test : (owes : Bool)
-        → IfSome (first_of (when owes sendings.Test ∷ information_offered c ∷ when (owes_ack moment c.window) sendings.SFormat ∷ [])) P
+        → IfSome (first_of (when owes sendings.Test ∷ information_offered c
+        ∷ when (owes_ack moment c.window) sendings.SFormat ∷ [])) P
     by_test true = test
     by_test false = by_line (is_started c.stage && has_room c.window)
 
     by_confirmation : (x : Option Signal)
-        → IfSome (first_of (option_map sendings.Confirm x ∷ when (owes_test moment c.window) sendings.Test ∷ information_offered c
+        → IfSome (first_of (option_map sendings.Confirm x ∷ when (owes_test moment c.window) sendings.Test
+        ∷ information_offered c
         ∷ when (owes_ack moment c.window) sendings.SFormat ∷ [])) P
     by_confirmation None = by_test (owes_test moment c.window)
     by_confirmation (Some signal) = confirm signal
@@ -79,16 +84,20 @@ information_roomy c = go (is_started c.stage) (has_room c.window) refl
     first None room = tt
     first (Some sending) room = roomy c.window sending room
 
-    go : (started room : Bool) → has_room c.window ≡ room → IfSome (cond (started && room) (slice_get (line c) 0) None) (IsRoomy c.window)
+    go : (started room : Bool) → has_room c.window ≡ room
+        → IfSome (cond (started && room) (slice_get (line c) 0) None) (IsRoomy c.window)
     go true true e = first (slice_get (line c) 0) (ltb-true (length c.window.waiting) c.window.limits.k e)
     go true false e = tt
     go false room e = tt
 
 pub offered_roomy : (moment : ℕ) (c : Client) → IfSome (offered moment c) (IsRoomy c.window)
-offered_roomy moment c = go (slice_get c.confirmations 0) (owes_test moment c.window) (owes_ack moment c.window) (information_offered c) (information_roomy c)
+offered_roomy moment c = go (slice_get c.confirmations 0) (owes_test moment c.window) (owes_ack moment c.window)
+    (information_offered c) (information_roomy c)
   where
-    go : (confirmation : Option Signal) (test ack : Bool) (information : Option Sending) → IfSome information (IsRoomy c.window)
-        → IfSome (first_of (option_map sendings.Confirm confirmation ∷ when test sendings.Test ∷ information ∷ when ack sendings.SFormat ∷ [])) (IsRoomy c.window)
+    go : (confirmation : Option Signal) (test ack : Bool) (information : Option Sending)
+        → IfSome information (IsRoomy c.window)
+        → IfSome (first_of (option_map sendings.Confirm confirmation ∷ when test sendings.Test ∷ information
+        ∷ when ack sendings.SFormat ∷ [])) (IsRoomy c.window)
     go (Some signal) test ack information room = tt
     go None true ack information room = tt
     go None false ack (Some sending) room = room
@@ -98,7 +107,8 @@ offered_roomy moment c = go (slice_get c.confirmations 0) (owes_test moment c.wi
 -- ---- it can be spelled
 
 -- news and parts aren't answers
-pub offered_returnable : (moment : ℕ) (c : Client) → AllByRecursion IsReturnable c.answers → IfSome (offered moment c) IsReturnableSending
+pub offered_returnable : (moment : ℕ) (c : Client) → AllByRecursion IsReturnable c.answers
+    → IfSome (offered moment c) IsReturnableSending
 offered_returnable moment c all =
     let news = all-given (λ (x : Observation). IsReturnableSending (sendings.News x)) (λ x. tt) c.queue in
     let parts = all-given (λ (part : OwnAsdu). IsReturnableSending (sendings.Part part)) (λ part. tt) c.rest in
@@ -106,30 +116,37 @@ offered_returnable moment c all =
 
 -- ---- what is first
 
-pub first_answer : (c : Client) (answer : AsduAnswer) → slice_get c.answers 0 ≡ Some answer → Some (sendings.Answer answer) ≡ slice_get (line c) 0
+pub first_answer : (c : Client) (answer : AsduAnswer) → slice_get c.answers 0 ≡ Some answer
+    → Some (sendings.Answer answer) ≡ slice_get (line c) 0
 first_answer c answer first = by c.answers first
   where
-    by : (answers : List AsduAnswer) → slice_get answers 0 ≡ Some answer → Some (sendings.Answer answer) ≡ slice_get (line (record c { answers = answers })) 0
+    by : (answers : List AsduAnswer) → slice_get answers 0 ≡ Some answer
+        → Some (sendings.Answer answer) ≡ slice_get (line (record c { answers = answers })) 0
     by [] first = absurd cc
     by (x ∷ answers) first = ap (option_map sendings.Answer) (sym first)
 
 -- news that came before an interrogation, where no answer waits
-pub first_older : (c : Client) → c.answers ≡ [] → 0 < c.older → is_some (slice_get c.queue 0) ≡ true → option_map sendings.News (slice_get c.queue 0) ≡ slice_get (line c) 0
+pub first_older : (c : Client) → c.answers ≡ [] → 0 < c.older → is_some (slice_get c.queue 0) ≡ true
+    → option_map sendings.News (slice_get c.queue 0) ≡ slice_get (line c) 0
 first_older c none some waits = rw none (by c.older c.queue some waits)
   where
     by : (older : ℕ) (queue : List Observation) → 0 < older → is_some (slice_get queue 0) ≡ true
-        → option_map sendings.News (slice_get queue 0) ≡ slice_get (line (record c { answers = []; older = older; queue = queue })) 0
+        → option_map sendings.News (slice_get queue 0)
+        ≡ slice_get (line (record c { answers = []; older = older; queue = queue })) 0
     by zero queue some waits = absurd (omega (arith, some))
     by (suc older) [] some waits = absurd cc
     by (suc older) (x ∷ queue) some waits = refl
 
 -- a part, where neither an answer nor such news wait
-pub first_part : (c : Client) (part : OwnAsdu) → c.answers ≡ [] → (c.older ≤ 0) ⊎ (is_some (slice_get c.queue 0) ≡ false) → slice_get c.rest 0 ≡ Some part
+pub first_part : (c : Client) (part : OwnAsdu) → c.answers ≡ []
+    → (c.older ≤ 0) ⊎ (is_some (slice_get c.queue 0) ≡ false) → slice_get c.rest 0 ≡ Some part
     → Some (sendings.Part part) ≡ slice_get (line c) 0
 first_part c part none no_news first = rw none (by c.older c.queue c.rest no_news first)
   where
-    by : (older : ℕ) (queue : List Observation) (rest : List OwnAsdu) → (older ≤ 0) ⊎ (is_some (slice_get queue 0) ≡ false) → slice_get rest 0 ≡ Some part
-        → Some (sendings.Part part) ≡ slice_get (line (record c { answers = []; older = older; queue = queue; rest = rest })) 0
+    by : (older : ℕ) (queue : List Observation) (rest : List OwnAsdu)
+        → (older ≤ 0) ⊎ (is_some (slice_get queue 0) ≡ false) → slice_get rest 0 ≡ Some part
+        → Some (sendings.Part part)
+        ≡ slice_get (line (record c { answers = []; older = older; queue = queue; rest = rest })) 0
     by older queue [] no_news first = absurd cc
     by zero queue (x ∷ rest) no_news first = ap (option_map sendings.Part) (sym first)
     by (suc older) [] (x ∷ rest) no_news first = ap (option_map sendings.Part) (sym first)
@@ -138,11 +155,13 @@ first_part c part none no_news first = rw none (by c.older c.queue c.rest no_new
 
 -- where neither an answer nor a part waits
 -- the oldest news are first, however many came before an interrogation
-pub first_news : (c : Client) → c.answers ≡ [] → c.rest ≡ [] → option_map sendings.News (slice_get c.queue 0) ≡ slice_get (line c) 0
+pub first_news : (c : Client) → c.answers ≡ [] → c.rest ≡ []
+    → option_map sendings.News (slice_get c.queue 0) ≡ slice_get (line c) 0
 first_news c none empty = rw (none, empty) (by c.older c.queue)
   where
     by : (older : ℕ) (queue : List Observation)
-        → option_map sendings.News (slice_get queue 0) ≡ slice_get (map sendings.News (take older queue) ++ map sendings.News (drop older queue)) 0
+        → option_map sendings.News (slice_get queue 0)
+        ≡ slice_get (map sendings.News (take older queue) ++ map sendings.News (drop older queue)) 0
     by zero [] = refl
     by zero (x ∷ queue) = refl
     by (suc older) [] = refl

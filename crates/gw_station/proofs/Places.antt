@@ -41,9 +41,12 @@ one_more_signal waiting signal few = omega (arith, length-append waiting (signal
 
 pub confirmations_few : (signal : Signal) (c : Client) → floods signal c ≡ false → length c.confirmations ≤ 32
     → length (confirmations_with (confirmation_of signal) c.confirmations) ≤ 32
-confirmations_few StartAct c fits few = one_more_signal c.confirmations StartCon (omega (arith, leb-false 32 (length c.confirmations) fits))
-confirmations_few StopAct c fits few = one_more_signal c.confirmations StopCon (omega (arith, leb-false 32 (length c.confirmations) fits))
-confirmations_few TestAct c fits few = one_more_signal c.confirmations TestCon (omega (arith, leb-false 32 (length c.confirmations) fits))
+confirmations_few StartAct c fits few =
+    one_more_signal c.confirmations StartCon (omega (arith, leb-false 32 (length c.confirmations) fits))
+confirmations_few StopAct c fits few =
+    one_more_signal c.confirmations StopCon (omega (arith, leb-false 32 (length c.confirmations) fits))
+confirmations_few TestAct c fits few =
+    one_more_signal c.confirmations TestCon (omega (arith, leb-false 32 (length c.confirmations) fits))
 confirmations_few StartCon c fits few = few
 confirmations_few StopCon c fits few = few
 confirmations_few TestCon c fits few = few
@@ -55,7 +58,8 @@ at_least_one true = omega arith
 at_least_one false = omega arith
 
 -- an interrogation that isn't accepted, and so gets an answer
-refused_needs : (pending : Bool) (c : Command) → IfSome (refused_act pending c) (λ _. 1 ≤ places_for pending (Accepted c))
+refused_needs : (pending : Bool) (c : Command)
+    → IfSome (refused_act pending c) (λ _. 1 ≤ places_for pending (Accepted c))
 refused_needs pending c = elim (cases_Bool (is_accepted_act pending c)) [
   | inl accepted ↦ rw accepted tt
   | inr refused ↦ rw refused (at_least_one (is_execute c))
@@ -69,11 +73,13 @@ read_is_none pending c e = elim (cases_Bool (c.cause == 6)) [
 ]
 
 read_needs : (pending : Bool) (c : Command) (shown : Option Observation) → c.action ≡ actions.Read
-    → IfSome (option_map (λ x. Made (outgoing.Observation 5 c.originator x)) shown) (λ _. 1 ≤ places_for pending (Accepted c))
+    → IfSome (option_map (λ x. Made (outgoing.Observation 5 c.originator x)) shown)
+    (λ _. 1 ≤ places_for pending (Accepted c))
 read_needs pending c None e = tt
 read_needs pending c (Some x) e = rw (read_is_none pending c e) (at_least_one (is_execute c))
 
-action_needs : (setup : Setup) (picture : List Observation) (pending : Bool) (c : Command) (action : Action) → c.action ≡ action
+action_needs : (setup : Setup) (picture : List Observation) (pending : Bool) (c : Command) (action : Action)
+    → c.action ≡ action
     → IfSome (answered_action setup picture pending c action) (λ _. 1 ≤ places_for pending (Accepted c))
 action_needs setup picture pending c (actions.Interrogation qualifier) e = refused_needs pending c
 action_needs setup picture pending c (actions.CounterInterrogation qualifier) e = refused_needs pending c
@@ -89,14 +95,17 @@ answered_needs setup picture pending asdu Malformed = tt
 answered_needs setup picture pending asdu (Refuse cause execute) = at_least_one execute
 answered_needs setup picture pending asdu (Accepted c) = action_needs setup picture pending c c.action refl
 
-answers_within : (answer : Option AsduAnswer) (waiting : List AsduAnswer) (n : ℕ) → IfSome answer (λ _. 1 ≤ n) → length (answers_with answer waiting) ≤ length waiting + n
+answers_within : (answer : Option AsduAnswer) (waiting : List AsduAnswer) (n : ℕ) → IfSome answer (λ _. 1 ≤ n)
+    → length (answers_with answer waiting) ≤ length waiting + n
 answers_within None waiting n needs = omega arith
 answers_within (Some answer) waiting n needs = omega (arith, needs, length-append waiting (answer ∷ []))
 
 -- an ASDU for whose answer there are places
-pub answers_few : (setup : Setup) (picture : List Observation) (ns nr : ℕ) (asdu : Asdu) (j : Judged) (c : Client) → first_of (closes_judged ns nr j c) ≡ None
+pub answers_few : (setup : Setup) (picture : List Observation) (ns nr : ℕ) (asdu : Asdu) (j : Judged) (c : Client)
+    → first_of (closes_judged ns nr j c) ≡ None
     → length (client_judging setup picture asdu j c).answers ≤ 32
 answers_few setup picture ns nr asdu j c taken =
-    let fits : length c.answers + places_for (is_pending c.rest) j ≤ 32 = ltb-false 32 (length c.answers + places_for (is_pending c.rest) j) (open_i ns nr j c taken).places in
+    let fits : length c.answers + places_for (is_pending c.rest) j ≤ 32 =
+    ltb-false 32 (length c.answers + places_for (is_pending c.rest) j) (open_i ns nr j c taken).places in
     let answer = answered setup picture (is_pending c.rest) asdu j in
     omega (arith, fits, answers_within answer c.answers _ (answered_needs setup picture (is_pending c.rest) asdu j))

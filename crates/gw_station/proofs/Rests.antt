@@ -15,5 +15,6 @@ pub left_behind_first : {A : Type 0} (done : ℕ) (parts : List A) → drop (don
 left_behind_first done parts = sym (drop-drop 1 done parts)
 
 -- nothing is left behind the last
-pub none_behind_last : {A : Type 0} (done : ℕ) (parts : List A) → length parts ≤ done + 1 → [] ≡ drop 1 (drop done parts)
+pub none_behind_last : {A : Type 0} (done : ℕ) (parts : List A) → length parts ≤ done + 1
+    → [] ≡ drop 1 (drop done parts)
 none_behind_last done parts last = sym (drop_all (done + 1) parts last) ∙ left_behind_first done parts

@@ -27,9 +27,11 @@ use Rattle.gw_station.proofs.Line.{line_so, offered_so}
 
 -- ---- what is offered
 
-pub offered_can : (station : StationSetup) (steps news moment : ℕ) (c : Client) → IsSoundClient station steps news c → IfSome (offered moment c) (CanSend station.offset_minutes)
+pub offered_can : (station : StationSetup) (steps news moment : ℕ) (c : Client) → IsSoundClient station steps news c
+    → IfSome (offered moment c) (CanSend station.offset_minutes)
 offered_can station steps news moment c sound =
-    offered_so (CanSend station.offset_minutes) (λ signal. tt) tt tt moment c (line_so (CanSend station.offset_minutes) c sound.answers sound.sendable sound.rest)
+    offered_so (CanSend station.offset_minutes) (λ signal. tt) tt tt moment c
+    (line_so (CanSend station.offset_minutes) c sound.answers sound.sendable sound.rest)
 
 -- ---- how many octets it has
 
@@ -54,7 +56,8 @@ answer_short offset common (Returned asdu cause) =
     omega (arith, length-set came 2 back, length-take asdu.len asdu.octets, asdu.fits)
 answer_short offset common (Made x) = outgoing_short offset common x
 
-pub content_fits : (offset : ℤ) (common : ℕ) (w : WindowCounts) (sending : Sending) → Fits (content_of offset common w sending)
+pub content_fits : (offset : ℤ) (common : ℕ) (w : WindowCounts) (sending : Sending)
+    → Fits (content_of offset common w sending)
 content_fits offset common w (sendings.Confirm signal) = tt
 content_fits offset common w sendings.Test = tt
 content_fits offset common w (sendings.Answer answer) = (omega arith, omega arith, answer_short offset common answer)

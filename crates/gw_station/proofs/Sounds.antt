@@ -1,5 +1,5 @@
--- Whatever becomes of a client, what waits can be sent and is no more than may wait, and the steps and news count no fewer
--- than its I formats and what it dropped.
+-- Whatever becomes of a client, what waits can be sent and is no more than may wait, and the steps and news count no
+-- fewer than its I formats and what it dropped.
 use Rattle.std.proofs.Common.{◌≡◌, ℕ, ℤ, ◌+◌, ◌-◌, ◌<◌, ◌≤◌, Bool, true, false, List, [], ◌∷◌, ◌++◌, drop, length, Option, Some, None, refl, ap, subst, arith, inl, inr}
 use Rattle.std.proofs.lemmas.List.{length-append, length-drop}
 use Rattle.std.specs.Prelude.{IfSome}
@@ -41,13 +41,15 @@ use Rattle.gw_station.proofs.Places.{answers_few, confirmations_few, not_flooded
 use Rattle.gw_station.proofs.Line.{offered_roomy}
 use Rattle.iec_window.proofs.Right.{right_sent, sent_one_more}
 
-pub sendable-append : (offset : ℤ) (xs ys : List Observation) → AllByRecursion (IsSendable offset) xs → AllByRecursion (IsSendable offset) ys
+pub sendable-append : (offset : ℤ) (xs ys : List Observation) → AllByRecursion (IsSendable offset) xs
+    → AllByRecursion (IsSendable offset) ys
     → AllByRecursion (IsSendable offset) (xs ++ ys)
 sendable-append offset xs ys ax ay = all-append (IsSendable offset) xs ys ax ay
 
 -- ---- a window
 
-window_later : (station : StationSetup) (n m : ℕ) (w : WindowCounts) → n ≤ m → IsSoundWindow station n w → IsSoundWindow station m w
+window_later : (station : StationSetup) (n m : ℕ) (w : WindowCounts) → n ≤ m → IsSoundWindow station n w
+    → IsSoundWindow station m w
 window_later station n m w le sound = record {
   limits = sound.limits;
   waiting = sound.waiting;
@@ -56,7 +58,8 @@ window_later station n m w le sound = record {
 }
 
 -- a right N(R) came
-window_after_right : (station : StationSetup) (n nr moment : ℕ) (w : WindowCounts) → is_right_receive nr w ≡ true → IsSoundWindow station n w → IsSoundWindow station n (counts_after_right_s nr moment w)
+window_after_right : (station : StationSetup) (n nr moment : ℕ) (w : WindowCounts) → is_right_receive nr w ≡ true
+    → IsSoundWindow station n w → IsSoundWindow station n (counts_after_right_s nr moment w)
 window_after_right station n nr moment w right sound = record {
   limits = sound.limits;
   waiting = omega (arith, length-drop (new_acknowledgements nr w) w.waiting, sound.waiting);
@@ -64,14 +67,16 @@ window_after_right station n nr moment w right sound = record {
   sent = omega (arith, right_sent nr moment w right, sound.sent);
 }
 
-window_after_s : (station : StationSetup) (n nr moment : ℕ) (w : WindowCounts) → IsSoundWindow station n w → IsSoundWindow station n (counts_after_s nr moment w)
+window_after_s : (station : StationSetup) (n nr moment : ℕ) (w : WindowCounts) → IsSoundWindow station n w
+    → IsSoundWindow station n (counts_after_s nr moment w)
 window_after_s station n nr moment w sound = elim (cases_Bool (is_right_receive nr w)) [
   | inl right ↦ rw right (window_after_right station n nr moment w right sound)
   | inr wrong ↦ rw wrong sound
 ]
 
 -- an I format came in a step
-window_after_i : (station : StationSetup) (n ns nr moment : ℕ) (w : WindowCounts) → IsSoundWindow station n w → IsSoundWindow station (n + 1) (counts_after_i ns nr moment w)
+window_after_i : (station : StationSetup) (n ns nr moment : ℕ) (w : WindowCounts) → IsSoundWindow station n w
+    → IsSoundWindow station (n + 1) (counts_after_i ns nr moment w)
 window_after_i station n ns nr moment w sound = elim (cases_Bool (is_right_send ns w)) [
   | inl next ↦ elim (cases_Bool (is_right_receive nr w)) [
     | inl right ↦ rw (next, right) (one_more (window_after_right station n nr moment w right sound))
@@ -83,11 +88,18 @@ window_after_i station n ns nr moment w sound = elim (cases_Bool (is_right_send 
     later : IsSoundWindow station (n + 1) w
     later = window_later station n (n + 1) w (omega arith) sound
 
-    one_more : IsSoundWindow station n (counts_after_right_s nr moment w) → IsSoundWindow station (n + 1) (counts_after_right_i nr moment w)
-    one_more after = record { limits = after.limits; waiting = after.waiting; received = omega (arith, after.received); sent = omega (arith, after.sent) }
+    one_more : IsSoundWindow station n (counts_after_right_s nr moment w)
+        → IsSoundWindow station (n + 1) (counts_after_right_i nr moment w)
+    one_more after = record {
+      limits = after.limits;
+      waiting = after.waiting;
+      received = omega (arith, after.received);
+      sent = omega (arith, after.sent);
+    }
 
 -- an I format was sent in a step, where one may be sent
-window_after_sending : (station : StationSetup) (n moment : ℕ) (w : WindowCounts) → length w.waiting < w.limits.k → IsSoundWindow station n w
+window_after_sending : (station : StationSetup) (n moment : ℕ) (w : WindowCounts) → length w.waiting < w.limits.k
+    → IsSoundWindow station n w
     → IsSoundWindow station (n + 1) (counts_after_sending_i moment w)
 window_after_sending station n moment w room sound = record {
   limits = sound.limits;
@@ -99,7 +111,8 @@ window_after_sending station n moment w room sound = record {
 -- ---- one part changes
 
 -- more steps were made, and more news came
-pub sound_later : (station : StationSetup) (n m i j : ℕ) (c : Client) → n ≤ m → i ≤ j → IsSoundClient station n i c → IsSoundClient station m j c
+pub sound_later : (station : StationSetup) (n m i j : ℕ) (c : Client) → n ≤ m → i ≤ j → IsSoundClient station n i c
+    → IsSoundClient station m j c
 sound_later station n m i j c le few sound = record {
   window = window_later station n m c.window le sound.window;
   confirmations = sound.confirmations;
@@ -112,7 +125,8 @@ sound_later station n m i j c le few sound = record {
   rest = sound.rest;
 }
 
-with_window : (station : StationSetup) (n m i : ℕ) (w : WindowCounts) (c : Client) → IsSoundWindow station m w → IsSoundClient station n i c → IsSoundClient station m i (record c { window = w })
+with_window : (station : StationSetup) (n m i : ℕ) (w : WindowCounts) (c : Client) → IsSoundWindow station m w
+    → IsSoundClient station n i c → IsSoundClient station m i (record c { window = w })
 with_window station n m i w c window sound = record {
   window = window;
   confirmations = sound.confirmations;
@@ -125,7 +139,8 @@ with_window station n m i w c window sound = record {
   rest = sound.rest;
 }
 
-with_confirmations : (station : StationSetup) (n i : ℕ) (waiting : List Signal) (c : Client) → length waiting ≤ 32 → IsSoundClient station n i c → IsSoundClient station n i (record c { confirmations = waiting })
+with_confirmations : (station : StationSetup) (n i : ℕ) (waiting : List Signal) (c : Client) → length waiting ≤ 32
+    → IsSoundClient station n i c → IsSoundClient station n i (record c { confirmations = waiting })
 with_confirmations station n i waiting c few sound = record {
   window = sound.window;
   confirmations = few;
@@ -140,7 +155,8 @@ with_confirmations station n i waiting c few sound = record {
 
 -- what answers it, and how many of the queue came before the interrogation that is pending
 with_answers : (station : StationSetup) (n i older : ℕ) (answers : List AsduAnswer) (rest : List OwnAsdu) (c : Client)
-    → length answers ≤ 32 → AllByRecursion (CanSendAnswer station.offset_minutes) answers → AllByRecursion (CanSendOutgoing station.offset_minutes) rest → IsSoundClient station n i c
+    → length answers ≤ 32 → AllByRecursion (CanSendAnswer station.offset_minutes) answers
+    → AllByRecursion (CanSendOutgoing station.offset_minutes) rest → IsSoundClient station n i c
     → IsSoundClient station n i (record c { answers = answers; older = older; rest = rest })
 with_answers station n i older answers rest c few can can_rest sound = record {
   window = sound.window;
@@ -155,7 +171,8 @@ with_answers station n i older answers rest c few can can_rest sound = record {
 }
 
 -- nothing of a session
-anew : (station : StationSetup) (n i : ℕ) (stage : Stage) (c : Client) → IsSoundClient station n i c → IsSoundClient station n i (client_anew stage c)
+anew : (station : StationSetup) (n i : ℕ) (stage : Stage) (c : Client) → IsSoundClient station n i c
+    → IsSoundClient station n i (client_anew stage c)
 anew station n i stage c sound = record {
   window = sound.window;
   confirmations = sound.confirmations;
@@ -171,7 +188,8 @@ anew station n i stage c sound = record {
 -- ---- news
 
 -- news that can be sent come
-pub sound_with_news : (station : StationSetup) (n i : ℕ) (xs : List Observation) (c : Client) → AllByRecursion (IsSendable station.offset_minutes) xs → IsSoundClient station n i c
+pub sound_with_news : (station : StationSetup) (n i : ℕ) (xs : List Observation) (c : Client)
+    → AllByRecursion (IsSendable station.offset_minutes) xs → IsSoundClient station n i c
     → IsSoundClient station n (i + length xs) (client_with_news xs c)
 sound_with_news station n i xs c all sound = record {
   window = sound.window;
@@ -185,9 +203,11 @@ sound_with_news station n i xs c all sound = record {
   rest = sound.rest;
 }
   where
-    sends : (started : Bool) → AllByRecursion (IsSendable station.offset_minutes) (queue_with xs c.limit started c.queue)
+    sends : (started : Bool)
+        → AllByRecursion (IsSendable station.offset_minutes) (queue_with xs c.limit started c.queue)
     sends true =
-        all-drop (IsSendable station.offset_minutes) (length (c.queue ++ xs) - c.limit) (c.queue ++ xs) (sendable-append station.offset_minutes c.queue xs sound.sendable all)
+        all-drop (IsSendable station.offset_minutes) (length (c.queue ++ xs) - c.limit) (c.queue ++ xs)
+        (sendable-append station.offset_minutes c.queue xs sound.sendable all)
     sends false = sound.sendable
 
     fits : (started : Bool) → length (queue_with xs c.limit started c.queue) ≤ c.limit
@@ -200,16 +220,21 @@ sound_with_news station n i xs c all sound = record {
 
 -- ---- a connection
 
-pub sound_after_close : (station : StationSetup) (n i : ℕ) (c : Client) → IsSoundClient station n i c → IsSoundClient station n i (client_after_close c)
+pub sound_after_close : (station : StationSetup) (n i : ℕ) (c : Client) → IsSoundClient station n i c
+    → IsSoundClient station n i (client_after_close c)
 sound_after_close station n i c sound = anew station n i Down c sound
 
-pub sound_after_up : (station : StationSetup) (n i moment : ℕ) (c : Client) → IsSoundClient station n i c → IsSoundClient station n i (client_after_up moment c)
+pub sound_after_up : (station : StationSetup) (n i moment : ℕ) (c : Client) → IsSoundClient station n i c
+    → IsSoundClient station n i (client_after_up moment c)
 sound_after_up station n i moment c sound =
-    with_confirmations station n i [] (record (client_anew Stopped c) { window = counts_at_start c.window.limits moment }) (omega arith)
+    with_confirmations station n i []
+    (record (client_anew Stopped c) { window = counts_at_start c.window.limits moment }) (omega arith)
     (with_window station n n i (counts_at_start c.window.limits moment) (client_anew Stopped c)
-    (record { limits = sound.window.limits; waiting = omega arith; received = omega arith; sent = omega arith }) (anew station n i Stopped c sound))
+    (record { limits = sound.window.limits; waiting = omega arith; received = omega arith; sent = omega arith })
+    (anew station n i Stopped c sound))
 
-pub sound_after_tick : (station : StationSetup) (n i moment : ℕ) (c : Client) → IsSoundClient station n i c → IsSoundClient station n i (client_after_tick moment c)
+pub sound_after_tick : (station : StationSetup) (n i moment : ℕ) (c : Client) → IsSoundClient station n i c
+    → IsSoundClient station n i (client_after_tick moment c)
 sound_after_tick station n i moment c sound = elim (cases_Bool (is_timed_out moment c)) [
   | inl late ↦ rw late (sound_after_close station n i c sound)
   | inr on ↦ rw on sound
@@ -217,7 +242,8 @@ sound_after_tick station n i moment c sound = elim (cases_Bool (is_timed_out mom
 
 -- ---- an APDU
 
-with_session : (station : StationSetup) (n i : ℕ) (signal : Signal) (c : Client) → IsSoundClient station n i c → IsSoundClient station n i (client_with_session signal c)
+with_session : (station : StationSetup) (n i : ℕ) (signal : Signal) (c : Client) → IsSoundClient station n i c
+    → IsSoundClient station n i (client_with_session signal c)
 with_session station n i StartAct c sound = elim (cases_Bool (is_started c.stage)) [
   | inl is ↦ rw is sound
   | inr isnt ↦ rw isnt (anew station n i Started c sound)
@@ -231,51 +257,71 @@ with_session station n i StartCon c sound = sound
 with_session station n i StopCon c sound = sound
 with_session station n i TestCon c sound = sound
 
-window_after_signal : (station : StationSetup) (n moment : ℕ) (signal : Signal) (w : WindowCounts) → IsSoundWindow station n w → IsSoundWindow station n (window_with_signal moment signal w)
-window_after_signal station n moment TestCon w sound = record { limits = sound.limits; waiting = sound.waiting; received = sound.received; sent = sound.sent }
-window_after_signal station n moment _ w sound = record { limits = sound.limits; waiting = sound.waiting; received = sound.received; sent = sound.sent }
+window_after_signal : (station : StationSetup) (n moment : ℕ) (signal : Signal) (w : WindowCounts)
+    → IsSoundWindow station n w → IsSoundWindow station n (window_with_signal moment signal w)
+window_after_signal station n moment TestCon w sound =
+    record { limits = sound.limits; waiting = sound.waiting; received = sound.received; sent = sound.sent }
+window_after_signal station n moment _ w sound =
+    record { limits = sound.limits; waiting = sound.waiting; received = sound.received; sent = sound.sent }
 
-with_signal : (station : StationSetup) (n i moment : ℕ) (signal : Signal) (c : Client) → floods signal c ≡ false → IsSoundClient station n i c → IsSoundClient station n i (client_with_signal moment signal c)
+with_signal : (station : StationSetup) (n i moment : ℕ) (signal : Signal) (c : Client) → floods signal c ≡ false
+    → IsSoundClient station n i c → IsSoundClient station n i (client_with_signal moment signal c)
 with_signal station n i moment signal c fits sound =
     let w : WindowCounts = window_with_signal moment signal c.window in
-    with_confirmations station n i (confirmations_with (confirmation_of signal) c.confirmations) (record (client_with_session signal c) { window = w })
+    with_confirmations station n i (confirmations_with (confirmation_of signal) c.confirmations)
+    (record (client_with_session signal c) { window = w })
     (confirmations_few signal c fits sound.confirmations)
-    (with_window station n n i w (client_with_session signal c) (window_after_signal station n moment signal c.window sound.window) (with_session station n i signal c sound))
+    (with_window station n n i w (client_with_session signal c)
+    (window_after_signal station n moment signal c.window sound.window) (with_session station n i signal c sound))
 
-taking : (station : StationSetup) (n i : ℕ) (setup : Setup) (picture : List Observation) (moment : ℕ) (a : Apdu) (c : Client) → close_of setup a c ≡ None
-    → CanAnswer station.offset_minutes (client_taking setup picture moment a c) → IsSoundClient station n i c → IsSoundClient station (n + 1) i (client_taking setup picture moment a c)
+taking : (station : StationSetup) (n i : ℕ) (setup : Setup) (picture : List Observation) (moment : ℕ) (a : Apdu)
+    (c : Client) → close_of setup a c ≡ None
+    → CanAnswer station.offset_minutes (client_taking setup picture moment a c) → IsSoundClient station n i c
+    → IsSoundClient station (n + 1) i (client_taking setup picture moment a c)
 taking station n i setup picture moment (I ns nr asdu) c taken can sound =
     let d : Client = client_judging setup picture asdu (judged_asdu setup asdu) c in
-    with_window station n (n + 1) i (counts_after_i ns nr moment c.window) d (window_after_i station n ns nr moment c.window sound.window)
-    (with_answers station n i d.older d.answers d.rest c (answers_few setup picture ns nr asdu (judged_asdu setup asdu) c taken) can.0 can.1 sound)
+    with_window station n (n + 1) i (counts_after_i ns nr moment c.window) d
+    (window_after_i station n ns nr moment c.window sound.window)
+    (with_answers station n i d.older d.answers d.rest c
+    (answers_few setup picture ns nr asdu (judged_asdu setup asdu) c taken) can.0 can.1 sound)
 taking station n i setup picture moment (S nr) c taken can sound =
     with_window station n (n + 1) i (counts_after_s nr moment c.window) c
-    (window_later station n (n + 1) (counts_after_s nr moment c.window) (omega arith) (window_after_s station n nr moment c.window sound.window)) sound
+    (window_later station n (n + 1) (counts_after_s nr moment c.window) (omega arith)
+    (window_after_s station n nr moment c.window sound.window)) sound
 taking station n i setup picture moment (U signal) c taken can sound =
-    sound_later station n (n + 1) i i (client_with_signal moment signal c) (omega arith) (omega arith) (with_signal station n i moment signal c (not_flooded (floods signal c) taken) sound)
+    sound_later station n (n + 1) i i (client_with_signal moment signal c) (omega arith) (omega arith)
+    (with_signal station n i moment signal c (not_flooded (floods signal c) taken) sound)
 
 -- a step with an APDU
-pub sound_after_apdu : (station : StationSetup) (n i : ℕ) (setup : Setup) (picture : List Observation) (moment : ℕ) (a : Apdu) (c : Client) → CanAnswer station.offset_minutes (client_after_apdu setup picture moment a c)
+pub sound_after_apdu : (station : StationSetup) (n i : ℕ) (setup : Setup) (picture : List Observation) (moment : ℕ)
+    (a : Apdu) (c : Client) → CanAnswer station.offset_minutes (client_after_apdu setup picture moment a c)
     → IsSoundClient station n i c → IsSoundClient station (n + 1) i (client_after_apdu setup picture moment a c)
 sound_after_apdu station n i setup picture moment a c answers sound = go (close_of setup a c) refl
   where
-    go : (why : Option Why) → close_of setup a c ≡ why → IsSoundClient station (n + 1) i (client_by why c (client_taking setup picture moment a c))
+    go : (why : Option Why) → close_of setup a c ≡ why
+        → IsSoundClient station (n + 1) i (client_by why c (client_taking setup picture moment a c))
     go None e =
-        taking station n i setup picture moment a c e (subst (λ (x : Option Why). CanAnswer station.offset_minutes (client_by x c (client_taking setup picture moment a c))) e answers) sound
-    go (Some why) e = sound_later station n (n + 1) i i (client_after_close c) (omega arith) (omega arith) (sound_after_close station n i c sound)
+        taking station n i setup picture moment a c e (subst (λ (x : Option Why).
+        CanAnswer station.offset_minutes (client_by x c (client_taking setup picture moment a c))) e answers) sound
+    go (Some why) e = sound_later station n (n + 1) i i (client_after_close c) (omega arith) (omega arith)
+        (sound_after_close station n i c sound)
 
 -- something was said of a command, for which there is a place
-pub sound_told : (station : StationSetup) (n i : ℕ) (said : Said) (command : Command) (c : Client) → IsWhole command → length c.answers < 32 → IsSoundClient station n i c
+pub sound_told : (station : StationSetup) (n i : ℕ) (said : Said) (command : Command) (c : Client) → IsWhole command
+    → length c.answers < 32 → IsSoundClient station n i c
     → IsSoundClient station n i (client_told command said c)
 sound_told station n i said command c whole room sound =
     let answers : List AsduAnswer = (client_told command said c).answers in
-    with_answers station n i c.older answers c.rest c (omega (arith, room, length-append c.answers (Made (confirmed (is_negative said) command) ∷ [])))
-    (all-append (CanSendAnswer station.offset_minutes) c.answers _ sound.answers (confirmed_can station.offset_minutes (is_negative said) command whole, tt)) sound.rest sound
+    with_answers station n i c.older answers c.rest c
+    (omega (arith, room, length-append c.answers (Made (confirmed (is_negative said) command) ∷ [])))
+    (all-append (CanSendAnswer station.offset_minutes) c.answers _ sound.answers
+    (confirmed_can station.offset_minutes (is_negative said) command whole, tt)) sound.rest sound
 
 -- ---- a pump
 
 -- a step in which something is put out, or nothing
-pub sound_after_pump : (station : StationSetup) (n i moment : ℕ) (c : Client) → IsSoundClient station n i c → IsSoundClient station (n + 1) i (client_after_pump moment c)
+pub sound_after_pump : (station : StationSetup) (n i moment : ℕ) (c : Client) → IsSoundClient station n i c
+    → IsSoundClient station (n + 1) i (client_after_pump moment c)
 sound_after_pump station n i moment c sound = go (offered moment c) (offered_roomy moment c)
   where
     later : IsSoundClient station (n + 1) i c
@@ -284,40 +330,50 @@ sound_after_pump station n i moment c sound = go (offered moment c) (offered_roo
     -- an I format was put out
     numbered : (d : Client) → length c.window.waiting < c.window.limits.k → IsSoundClient station (n + 1) i d
         → IsSoundClient station (n + 1) i (record d { window = counts_after_sending_i moment c.window })
-    numbered d room rest = with_window station (n + 1) (n + 1) i (counts_after_sending_i moment c.window) d (window_after_sending station n moment c.window room sound.window) rest
+    numbered d room rest = with_window station (n + 1) (n + 1) i (counts_after_sending_i moment c.window) d
+        (window_after_sending station n moment c.window room sound.window) rest
 
-    go : (x : Option Sending) → IfSome x (IsRoomy c.window) → IsSoundClient station (n + 1) i (client_by_offer moment x c)
+    go : (x : Option Sending) → IfSome x (IsRoomy c.window)
+        → IsSoundClient station (n + 1) i (client_by_offer moment x c)
     go None room = later
     go (Some (sendings.Confirm signal)) room =
-        with_confirmations station (n + 1) i (drop 1 c.confirmations) c (omega (arith, length-drop 1 c.confirmations, sound.confirmations)) later
+        with_confirmations station (n + 1) i (drop 1 c.confirmations) c
+        (omega (arith, length-drop 1 c.confirmations, sound.confirmations)) later
     go (Some sendings.Test) room =
         let w = later.window in
-        with_window station (n + 1) (n + 1) i (counts_after_sending_test moment c.window) c (record { limits = w.limits; waiting = w.waiting; received = w.received; sent = w.sent }) later
+        with_window station (n + 1) (n + 1) i (counts_after_sending_test moment c.window) c
+        (record { limits = w.limits; waiting = w.waiting; received = w.received; sent = w.sent }) later
     go (Some (sendings.Answer answer)) room =
         numbered (record c { answers = drop 1 c.answers }) room
-        (with_answers station (n + 1) i c.older (drop 1 c.answers) c.rest c (omega (arith, length-drop 1 c.answers, sound.places))
+        (with_answers station (n + 1) i c.older (drop 1 c.answers) c.rest c
+        (omega (arith, length-drop 1 c.answers, sound.places))
         (all-drop (CanSendAnswer station.offset_minutes) 1 c.answers sound.answers) sound.rest later)
-    go (Some (sendings.News x)) room = numbered (record c { queue = drop 1 c.queue; older = c.older - 1 }) room (record {
-      window = later.window;
-      confirmations = sound.confirmations;
-      places = sound.places;
-      answers = sound.answers;
-      limit = sound.limit;
-      few = omega (arith, length-drop 1 c.queue, sound.few);
-      sendable = all-drop (IsSendable station.offset_minutes) 1 c.queue sound.sendable;
-      dropped = sound.dropped;
-      rest = sound.rest;
-    })
+    go (Some (sendings.News x)) room =
+        numbered (record c { queue = drop 1 c.queue; older = c.older - 1 }) room (record {
+          window = later.window;
+          confirmations = sound.confirmations;
+          places = sound.places;
+          answers = sound.answers;
+          limit = sound.limit;
+          few = omega (arith, length-drop 1 c.queue, sound.few);
+          sendable = all-drop (IsSendable station.offset_minutes) 1 c.queue sound.sendable;
+          dropped = sound.dropped;
+          rest = sound.rest;
+        })
     go (Some (sendings.Part part)) room =
         numbered (record c { rest = drop 1 c.rest }) room
-        (with_answers station (n + 1) i c.older c.answers (drop 1 c.rest) c sound.places sound.answers (all-drop (CanSendOutgoing station.offset_minutes) 1 c.rest sound.rest) later)
+        (with_answers station (n + 1) i c.older c.answers (drop 1 c.rest) c sound.places sound.answers
+        (all-drop (CanSendOutgoing station.offset_minutes) 1 c.rest sound.rest) later)
     go (Some sendings.SFormat) room =
         let w = later.window in
-        with_window station (n + 1) (n + 1) i (counts_after_sending_s c.window) c (record { limits = w.limits; waiting = w.waiting; received = w.received; sent = w.sent }) later
+        with_window station (n + 1) (n + 1) i (counts_after_sending_s c.window) c
+        (record { limits = w.limits; waiting = w.waiting; received = w.received; sent = w.sent }) later
 
 -- ---- all clients
 
 -- more steps were made, and more news came
-pub all_later : (station : StationSetup) (n m i j : ℕ) (cs : List Client) → n ≤ m → i ≤ j → AllByRecursion (IsSoundClient station n i) cs → AllByRecursion (IsSoundClient station m j) cs
+pub all_later : (station : StationSetup) (n m i j : ℕ) (cs : List Client) → n ≤ m → i ≤ j
+    → AllByRecursion (IsSoundClient station n i) cs → AllByRecursion (IsSoundClient station m j) cs
 all_later station n m i j [] le few all = tt
-all_later station n m i j (c ∷ cs) le few all = (sound_later station n m i j c le few all.0, all_later station n m i j cs le few all.1)
+all_later station n m i j (c ∷ cs) le few all =
+    (sound_later station n m i j c le few all.0, all_later station n m i j cs le few all.1)

@@ -28,7 +28,8 @@ pub record Ran (setup : Setup) (past : List Entry) (s : State) : Type 0 where
 
 -- ---- at first
 
-all_down : (station : StationSetup) (n : ℕ) → AllByRecursion (IsSoundClient station 0 0) (replicate n (client_down (limits_of station) station.queue))
+all_down : (station : StationSetup) (n : ℕ)
+    → AllByRecursion (IsSoundClient station 0 0) (replicate n (client_down (limits_of station) station.queue))
 all_down station zero = tt
 all_down station (suc n) = (
   record {
@@ -59,15 +60,27 @@ ran_first setup = record { run = tt; state = refl; sound = sound_first setup }
 -- ---- one step more
 
 pub ran_step : (setup : Setup) (past : List Entry) (s new : State) (step : Step) (reply : Result Reply StepFault)
-    → Allowed setup s step reply new → IsSoundState setup new → Ran setup past s → Ran setup (entry step reply ∷ past) new
+    → Allowed setup s step reply new → IsSoundState setup new → Ran setup past s
+    → Ran setup (entry step reply ∷ past) new
 ran_step setup past s new step (Ok r) allowed sound so_far =
-    let here : Allowed setup (state_after setup past) step (Ok r) new = subst (λ (x : State). Allowed setup x step (Ok r) new) so_far.state allowed in
-    record { run = ((here.0, refl), so_far.run); state = here.1; sound = (subst (IsSoundState setup) here.1 sound, so_far.sound) }
+    let here : Allowed setup (state_after setup past) step (Ok r) new =
+    subst (λ (x : State). Allowed setup x step (Ok r) new) so_far.state allowed in
+    record {
+      run = ((here.0, refl), so_far.run);
+      state = here.1;
+      sound = (subst (IsSoundState setup) here.1 sound, so_far.sound);
+    }
 ran_step setup past s new step (Err f) allowed sound so_far =
-    let here : Allowed setup (state_after setup past) step (Err f) new = subst (λ (x : State). Allowed setup x step (Err f) new) so_far.state allowed in
-    record { run = ((here.0, refl), so_far.run); state = here.1; sound = (subst (IsSoundState setup) here.1 sound, so_far.sound) }
+    let here : Allowed setup (state_after setup past) step (Err f) new =
+    subst (λ (x : State). Allowed setup x step (Err f) new) so_far.state allowed in
+    record {
+      run = ((here.0, refl), so_far.run);
+      state = here.1;
+      sound = (subst (IsSoundState setup) here.1 sound, so_far.sound);
+    }
 
-history-push : (past : List Entry) (ss : List Step) (rs : List (Result Reply StepFault)) (s : Step) (r : Result Reply StepFault) → length ss ≡ length rs
+history-push : (past : List Entry) (ss : List Step) (rs : List (Result Reply StepFault)) (s : Step)
+    (r : Result Reply StepFault) → length ss ≡ length rs
     → history past (ss ++ s ∷ []) (rs ++ r ∷ []) ≡ entry s r ∷ history past ss rs
 history-push past [] [] s r e = refl
 history-push past [] (x ∷ rs) s r e = absurd (omega arith)
@@ -75,18 +88,25 @@ history-push past (x ∷ ss) [] s r e = absurd (omega arith)
 history-push past (x ∷ ss) (y ∷ rs) s r e = history-push (entry x y ∷ past) ss rs s r (omega arith)
 
 -- one more step of a list of steps
-pub run_on : (setup : Setup) (ss : List Step) (rs more : List (Result Reply StepFault)) (i : ℕ) (step : Step) (reply : Result Reply StepFault) (s new : State)
-    → Allowed setup s step reply new → IsSoundState setup new → i < length ss → step ≡ get_or ss i step → length rs ≡ i → more ≡ rs ++ reply ∷ []
+pub run_on : (setup : Setup) (ss : List Step) (rs more : List (Result Reply StepFault)) (i : ℕ) (step : Step)
+    (reply : Result Reply StepFault) (s new : State)
+    → Allowed setup s step reply new → IsSoundState setup new → i < length ss → step ≡ get_or ss i step → length rs ≡ i
+    → more ≡ rs ++ reply ∷ []
     → Ran setup (history [] (take i ss) rs) s → Ran setup (history [] (take (i + 1) ss) more) new
 run_on setup ss rs more i step reply s new allowed sound within is len push so_far =
     let front : List Step = take i ss in
-    let longer : take (i + 1) ss ≡ front ++ step ∷ [] = take_more ss i step within ∙ ap (λ (x : Step). front ++ x ∷ []) (sym is) in
+    let longer : take (i + 1) ss ≡ front ++ step ∷ [] =
+    take_more ss i step within ∙ ap (λ (x : Step). front ++ x ∷ []) (sym is) in
     let same : length front ≡ length rs = omega (arith, length-take {A = Step} i ss, len, within) in
     let grown : history [] (take (i + 1) ss) more ≡ entry step reply ∷ history [] front rs =
-    ap (λ (xs : List Step). history [] xs more) longer ∙ (ap (λ (ys : List (Result Reply StepFault)). history [] (front ++ step ∷ []) ys) push ∙ history-push [] front rs step reply same) in
-    subst (λ (past : List Entry). Ran setup past new) (sym grown) (ran_step setup (history [] front rs) s new step reply allowed sound so_far)
+    ap (λ (xs : List Step). history [] xs more) longer
+    ∙ (ap (λ (ys : List (Result Reply StepFault)). history [] (front ++ step ∷ []) ys) push
+    ∙ history-push [] front rs step reply same) in
+    subst (λ (past : List Entry). Ran setup past new) (sym grown)
+    (ran_step setup (history [] front rs) s new step reply allowed sound so_far)
 
 -- all steps were made
 pub run_all : (setup : Setup) (ss : List Step) (rs : List (Result Reply StepFault)) (i : ℕ) (s : State) → length ss ≤ i
     → Ran setup (history [] (take i ss) rs) s → Ran setup (history [] ss rs) s
-run_all setup ss rs i s all so_far = subst (λ (xs : List Step). Ran setup (history [] xs rs) s) (take_all i ss all) so_far
+run_all setup ss rs i s all so_far =
+    subst (λ (xs : List Step). Ran setup (history [] xs rs) s) (take_all i ss all) so_far

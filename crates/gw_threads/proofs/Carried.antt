@@ -54,22 +54,26 @@ spelling_within : (offset : ℤ) (common cause : ℕ) (x : Observation)
 spelling_within offset common cause x =
     ap (λ (word : List ℕ).
     type_of x.value (is_some (tag_of offset x.stamp)) ∷ 1 ∷ cause ∷ 0
-    ∷ (word ++ take 3 (to_le_bytes w32 x.address) ++ (element_spelling x.value x.quality ++ tag_octets (tag_of offset x.stamp))))
+    ∷ (word ++ take 3 (to_le_bytes w32 x.address)
+    ++ (element_spelling x.value x.quality ++ tag_octets (tag_of offset x.stamp))))
     (words_within common)
 
-command_within : (common : ℕ) (c : Command) → command_spelling (at_station common c) ≡ command_spelling (at_station (common % 65536) c)
+command_within : (common : ℕ) (c : Command)
+    → command_spelling (at_station common c) ≡ command_spelling (at_station (common % 65536) c)
 command_within common c =
     ap (λ (word : List ℕ).
     command_type c.action ∷ 1 ∷ cause_octet c.cause c.negative c.test ∷ c.originator
     ∷ (word ++ take 3 (to_le_bytes w32 c.address) ++ element_of c.action))
     (words_within common)
 
-outgoing_within : (offset : ℤ) (common : ℕ) (x : OwnAsdu) → outgoing_octets offset common x ≡ outgoing_octets offset (common % 65536) x
+outgoing_within : (offset : ℤ) (common : ℕ) (x : OwnAsdu)
+    → outgoing_octets offset common x ≡ outgoing_octets offset (common % 65536) x
 outgoing_within offset common (outgoing.Command c) = command_within common c
 outgoing_within offset common (outgoing.Observation cause originator x) =
     ap (λ (octets : List ℕ). slice_set octets 3 originator) (spelling_within offset common cause x)
 
-answer_within : (offset : ℤ) (common : ℕ) (answer : AsduAnswer) → answer_octets offset common answer ≡ answer_octets offset (common % 65536) answer
+answer_within : (offset : ℤ) (common : ℕ) (answer : AsduAnswer)
+    → answer_octets offset common answer ≡ answer_octets offset (common % 65536) answer
 answer_within offset common (Returned asdu cause) = refl
 answer_within offset common (Made x) = outgoing_within offset common x
 
@@ -97,7 +101,8 @@ answer_tells offset common (Returned asdu cause) (Tells told) can means = λ rep
     absurd (true≢false (sym reports ∙ unknown_apart (told.cause % 64) (omega (arith, means.0, can.1))))
 answer_tells offset common (Returned asdu cause) (Commands command) can means = tt
 answer_tells offset common (Returned asdu cause) (Unread octets) can means = tt
-answer_tells offset common (Made (outgoing.Command c)) meant can means = outgoing_tells offset common (outgoing.Command c) meant can means
+answer_tells offset common (Made (outgoing.Command c)) meant can means =
+    outgoing_tells offset common (outgoing.Command c) meant can means
 answer_tells offset common (Made (outgoing.Observation cause originator x)) meant can means =
     outgoing_tells offset common (outgoing.Observation cause originator x) meant can.1 means
 
@@ -111,7 +116,8 @@ outgoing_says offset common x can =
     (outgoing_means offset (common % 65536) x (omega arith) can))
 
 -- what can be sent says so
-says : (offset : ℤ) (common : ℕ) (w : WindowCounts) (s : Sending) → CanSend offset s → SaysFit offset (said_by offset (content_of offset common w s))
+says : (offset : ℤ) (common : ℕ) (w : WindowCounts) (s : Sending) → CanSend offset s
+    → SaysFit offset (said_by offset (content_of offset common w s))
 says offset common w (sendings.Confirm signal) can = tt
 says offset common w sendings.Test can = tt
 says offset common w (sendings.Answer answer) can =
@@ -122,10 +128,12 @@ says offset common w (sendings.News x) can = outgoing_says offset common (news x
 says offset common w (sendings.Part part) can = outgoing_says offset common part can
 says offset common w sendings.SFormat can = tt
 
-carries : (offset : ℤ) (common : ℕ) (w : WindowCounts) (s : Sending) → CanSend offset s → CarriesFit offset (buffer_of (content_of offset common w s))
+carries : (offset : ℤ) (common : ℕ) (w : WindowCounts) (s : Sending) → CanSend offset s
+    → CarriesFit offset (buffer_of (content_of offset common w s))
 carries offset common w s can =
     subst (λ (x : Option ApduMeaning). IsSomeAnd x (SaysFit offset))
-    (sym (said-content offset (content_of offset common w s) (content_fits offset common w s))) (says offset common w s can)
+    (sym (said-content offset (content_of offset common w s) (content_fits offset common w s)))
+    (says offset common w s can)
 
 apdu_is : (a b : ApduBuf) → Apdu a ≡ Apdu b → a ≡ b
 apdu_is a b e = ap value e
@@ -134,22 +142,26 @@ apdu_is a b e = ap value e
     value (Apdu c) = c
     value _ = a
 
-given_carries : (offset : ℤ) (common : ℕ) (w : WindowCounts) (x : Option Sending) (apdu : ApduBuf) → IfSome x (CanSend offset)
+given_carries : (offset : ℤ) (common : ℕ) (w : WindowCounts) (x : Option Sending) (apdu : ApduBuf)
+    → IfSome x (CanSend offset)
     → reply_giving (option_map (content_of offset common w) x) ≡ Apdu apdu → CarriesFit offset apdu
 given_carries offset common w None apdu can e = absurd cc
 given_carries offset common w (Some s) apdu can e =
-    subst (CarriesFit offset) (apdu_is (buffer_of (content_of offset common w s)) apdu e) (carries offset common w s can)
+    subst (CarriesFit offset) (apdu_is (buffer_of (content_of offset common w s)) apdu e)
+    (carries offset common w s can)
 
 some_is : {A : Type 0} (x y : A) → Some x ≡ Some y → x ≡ y
 some_is x y e = cc
 
 -- one of many
-at_place : {A : Type 0} (P : A → Type 0) (xs : List A) (n : ℕ) (x : A) → AllByRecursion P xs → slice_get xs n ≡ Some x → P x
+at_place : {A : Type 0} (P : A → Type 0) (xs : List A) (n : ℕ) (x : A) → AllByRecursion P xs
+    → slice_get xs n ≡ Some x → P x
 at_place P [] n x all at = absurd cc
 at_place P (y ∷ xs) zero x all at = subst P (some_is y x at) all.0
 at_place P (y ∷ xs) (suc n) x all at = at_place P xs n x all.1 at
 
-pub pumped_carries : (client : ℕ) (apdu : ApduBuf) (pumped : IsPumped client (Ok (Apdu apdu))) → CarriesFit pumped.setup.station.offset_minutes apdu
+pub pumped_carries : (client : ℕ) (apdu : ApduBuf) (pumped : IsPumped client (Ok (Apdu apdu)))
+    → CarriesFit pumped.setup.station.offset_minutes apdu
 pumped_carries client apdu pumped =
     let setup : Setup = pumped.setup in
     let s : State = pumped.state in
@@ -157,11 +169,13 @@ pumped_carries client apdu pumped =
     let offset : ℤ = setup.station.offset_minutes in
     let common : ℕ = setup.station.common_address in
     let moment : ℕ = latest s pumped.moment in
-    let told = answered (fault_of s step) (can_rise s.counts (needs setup s step).counts) (reply_to setup s step) (Apdu apdu) pumped.allowed.0 in
+    let told = answered (fault_of s step) (can_rise s.counts (needs setup s step).counts) (reply_to setup s step)
+    (Apdu apdu) pumped.allowed.0 in
     let up = who_is_up (λ (k : Client). is_up k.stage) NoClient (slice_get s.clients client) told.0 in
     let k : Client = up.0 in
     let reply : reply_giving (given offset common moment k) ≡ Apdu apdu =
     sym (ap (client_reply (λ (other : Client). reply_giving (given offset common moment other))) up.1) ∙ told.2 in
-    let mine = at_place (IsSoundClient setup.station s.counts.steps s.counts.news) s.clients client k pumped.sound.clients up.1 in
+    let mine =
+    at_place (IsSoundClient setup.station s.counts.steps s.counts.news) s.clients client k pumped.sound.clients up.1 in
     given_carries offset common k.window (offered moment k) apdu
     (offered_can setup.station s.counts.steps s.counts.news moment k mine) reply

@@ -19,8 +19,11 @@ framed-one own peer a x =
     ∙ ap (λ (back : List ℕ). framed own peer a ++ back) (append-nil (frame (frame_content 196 peer own x)))
 
 -- the front of what was written over, as far as it was
-pub front-written : (xs out before : List ℕ) (n : ℕ) → out ≡ xs ++ drop n before → length out ≡ length before → n ≤ length before
+pub front-written : (xs out before : List ℕ) (n : ℕ) → out ≡ xs ++ drop n before → length out ≡ length before
+    → n ≤ length before
     → take n out ≡ xs
 front-written xs out before n written same within =
-    let long : length xs ≡ n = omega (arith, ap length written ∙ length-append xs (drop n before), length-drop n before, same, within) in
-    ap (take n) written ∙ subst (λ (m : ℕ). take m (xs ++ drop n before) ≡ xs) long (take-append_seam xs (drop n before))
+    let long : length xs ≡ n =
+    omega (arith, ap length written ∙ length-append xs (drop n before), length-drop n before, same, within) in
+    ap (take n) written
+    ∙ subst (λ (m : ℕ). take m (xs ++ drop n before) ≡ xs) long (take-append_seam xs (drop n before))

@@ -58,7 +58,8 @@ same-put old new x y (Ended last) put = put.1.1.0 ∙ (all_pumped old put.0 put.
 same-put old new x y Unwritten put = same-ended put.mid new put.ended ∙ (all_pumped old put.mid put.apdus put.given).0
 same-put old new x y More put = (all_pumped old new put.apdus put.given).0
 
-pub wrote-put : (old new : Asking) (x y : Option (List ℕ)) (put : Put) → IsPut GivesTo old new x y put → WritesPut old.client x y put
+pub wrote-put : (old new : Asking) (x y : Option (List ℕ)) (put : Put) → IsPut GivesTo old new x y put
+    → WritesPut old.client x y put
 wrote-put old new x y (Ended last) put = wrote-handed old put.0 x y put.1.0
 wrote-put old new x y Unwritten put = record {
   apdus = put.apdus;
@@ -100,7 +101,8 @@ front-then client x y z first more = record {
 }
 
 -- and how it ended
-pub writes-then : (client : ℕ) (x y z : Option (List ℕ)) (end : WorkerEnd) → Wrote client x y → Writes client y z end → Writes client x z end
+pub writes-then : (client : ℕ) (x y z : Option (List ℕ)) (end : WorkerEnd) → Wrote client x y → Writes client y z end
+    → Writes client x z end
 writes-then client x y z (ends.Closed why) first more = wrote-then client x y z first more
 writes-then client x y z ends.EndOfInput first more = wrote-then client x y z first more
 writes-then client x y z ends.ReadFault first more = wrote-then client x y z first more
@@ -111,19 +113,22 @@ writes-then client x y z ends.Stopping first more = wrote-then client x y z firs
 
 -- ---- what was pumped under one hold of the lock
 
-given-all : (a : Asking) (apdus : List ApduBuf) → AllByRecursion (λ (x : ApduBuf). IsPumped a.client (Ok (Apdu x))) apdus → GivesAll GivesTo a apdus a
+given-all : (a : Asking) (apdus : List ApduBuf)
+    → AllByRecursion (λ (x : ApduBuf). IsPumped a.client (Ok (Apdu x))) apdus → GivesAll GivesTo a apdus a
 given-all a [] pumped = refl
 given-all a (x ∷ apdus) pumped = (a, ((refl, inl pumped.0), given-all a apdus pumped.1))
 
 gave-pumped : (a : Asking) (before after : List ℕ) → ArePumped a.client before after → Gave GivesTo a a before after
-gave-pumped a before after are = record { apdus = are.apdus; given = given-all a are.apdus are.pumped; octets = are.octets }
+gave-pumped a before after are =
+    record { apdus = are.apdus; given = given-all a are.apdus are.pumped; octets = are.octets }
 
 gathered-run : (a : Asking) (before after : List ℕ) (pumped : Pumped) → IsPumpedRun a.client before after pumped
     → IsGathered GivesTo a a before after (gathered_by pumped)
 gathered-run a before after (pumps.Ended reply) run = (a, (gave-pumped a before after run.0, (refl, run.1), run.2))
 gathered-run a before after pumps.More run = gave-pumped a before after run
 
-pub gathered-by : (old new : Asking) (before after : List ℕ) (pumped : Pumped) (how : Gathered) → new ≡ old → how ≡ gathered_by pumped
+pub gathered-by : (old new : Asking) (before after : List ℕ) (pumped : Pumped) (how : Gathered) → new ≡ old
+    → how ≡ gathered_by pumped
     → IsPumpedRun old.client before after pumped → IsGathered GivesTo old new before after how
 gathered-by old new before after pumped how same is run =
     subst (λ (w : Asking). IsGathered GivesTo old w before after how) (sym same)

@@ -30,7 +30,8 @@ appends-more (Some xs) (Some ys) (Some zs) a b first more =
     more ∙ (ap (λ (known : List ℕ). known ++ b) first ∙ append_assoc xs a b)
 
 -- nothing was given yet
-pub handed-first : {S : Type 0} (gives : S → Given → S → Type 0) (old : S) (x : Option (List ℕ)) → Handed gives old old x x
+pub handed-first : {S : Type 0} (gives : S → Given → S → Type 0) (old : S) (x : Option (List ℕ))
+    → Handed gives old old x x
 handed-first gives old x = record { apdus = []; given = refl; taken = appends-none x }
 
 -- one run, and then another
@@ -51,7 +52,8 @@ handed-gave gives old new x y octets gave taken =
     record { apdus = gave.apdus; given = gave.given; taken = subst (Appends x y) gave.octets taken }
 
 -- once the front of them was taken
-pub front-gathered : {S : Type 0} (gives : S → Given → S → Type 0) (old new : S) (x y : Option (List ℕ)) (octets : List ℕ) (n : ℕ) (how : Gathered)
+pub front-gathered : {S : Type 0} (gives : S → Given → S → Type 0) (old new : S) (x y : Option (List ℕ))
+    (octets : List ℕ) (n : ℕ) (how : Gathered)
     → IsGathered gives old new [] octets how → Appends x y (take n octets) → HandedFront gives old new x y
 front-gathered gives old new x y octets n (gathering.Ended last) gathered taken = record {
   apdus = gathered.1.0.apdus;
@@ -71,13 +73,16 @@ front-gathered gives old new x y octets n gathering.More gathered taken = record
 }
 
 -- once they were taken whole, and the run ended
-pub put-gathered : {S : Type 0} (gives : S → Given → S → Type 0) (old new : S) (x y : Option (List ℕ)) (octets : List ℕ) (last : Given)
-    → IsGathered gives old new [] octets (gathering.Ended last) → Appends x y octets → IsPut gives old new x y (Ended last)
+pub put-gathered : {S : Type 0} (gives : S → Given → S → Type 0) (old new : S) (x y : Option (List ℕ))
+    (octets : List ℕ) (last : Given)
+    → IsGathered gives old new [] octets (gathering.Ended last) → Appends x y octets
+    → IsPut gives old new x y (Ended last)
 put-gathered gives old new x y octets last gathered taken =
     (gathered.0, (handed-gave gives old gathered.0 x y octets gathered.1.0 taken, gathered.1.1, gathered.1.2))
 
 -- nothing was gathered
-pub gave-none : {S : Type 0} (gives : S → Given → S → Type 0) (old : S) (octets : List ℕ) → Gave gives old old octets octets
+pub gave-none : {S : Type 0} (gives : S → Given → S → Type 0) (old : S) (octets : List ℕ)
+    → Gave gives old old octets octets
 gave-none gives old octets = record { apdus = []; given = refl; octets = sym (append-nil octets) }
 
 -- one APDU was

@@ -6,8 +6,8 @@ use Rattle.iec_apci.specs.declared.buffer.ApduBuf.{ApduBuf}
 use Rattle.gw_answers.specs.Meaning.{Meant, Tells, Commands, Unread}
 use Rattle.gw_steps.specs.Said.{ApduMeaning, IFormat, SFormat, UFormat, said}
 
--- the causes of process information: spontaneous (3), request (5), interrogated by station interrogation (20) and requested
--- by general counter request (37)
+-- the causes of process information: spontaneous (3), request (5), interrogated by station interrogation (20) and
+-- requested by general counter request (37)
 abbrev pub is_reporting : ℕ → Bool
 is_reporting cause = cause == 3 || cause == 5 || cause == 20 || cause == 37
 

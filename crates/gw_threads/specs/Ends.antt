@@ -14,8 +14,8 @@ IsWithin _ room = Unit {0}
 abbrev pub CanFail : {E : Type 0} → (E → Type 0) → Type 0
 CanFail {E} can_fail = (state : E) × can_fail state
 
--- a reader that works on an end which fails so may end so: it ends by a failed read only where the end can fail, and never
--- by a write
+-- a reader that works on an end which fails so may end so: it ends by a failed read only where the end can fail, and
+-- never by a write
 abbrev pub MayEnd : {I : Type 0} → (I → Type 0) → WorkerEnd → Type 0
 MayEnd can_fail ends.ReadFault = CanFail can_fail
 MayEnd can_fail ends.WriteFault = ⊥
@@ -28,8 +28,8 @@ IsOfSteps ends.ReadFault = ⊥
 IsOfSteps ends.WriteFault = ⊥
 IsOfSteps _ = Unit {0}
 
--- a reader that also writes may end so: by a failed read only where its reader can fail, by a failed write only where its
--- writer can, and never by what ends a client alone
+-- a reader that also writes may end so: by a failed read only where its reader can fail, by a failed write only where
+-- its writer can, and never by what ends a client alone
 abbrev pub MayEndBetween : {I W : Type 0} → (I → Type 0) → (W → Type 0) → WorkerEnd → Type 0
 MayEndBetween reader_fails writer_fails ends.ReadFault = CanFail reader_fails
 MayEndBetween reader_fails writer_fails ends.WriteFault = CanFail writer_fails

@@ -41,7 +41,8 @@ IsGathered {S} gives old new before after (gathering.Ended last) =
 IsGathered gives old new before after gathering.More = Gave gives old new before after
 
 -- the source gave these APDUs, and the writer took their octets
-pub record Handed {S : Type 0} (gives : S → Given → S → Type 0) (old new : S) (before after : Option (List ℕ)) : Type 0 where
+pub record Handed {S : Type 0} (gives : S → Given → S → Type 0) (old new : S)
+    (before after : Option (List ℕ)) : Type 0 where
   pub apdus : List ApduBuf
   pub given : GivesAll gives old apdus new
   pub taken : Appends before after (joined apdus)
@@ -51,7 +52,8 @@ abbrev pub MayHaveEnded : {S : Type 0} → (S → Given → S → Type 0) → S 
 MayHaveEnded gives mid new = (mid ≡ new) ⊎ ((last : Given) × (gives mid last new × (is_apdu last ≡ false)))
 
 -- the source gave these APDUs, and the writer took the front of their octets
-pub record HandedFront {S : Type 0} (gives : S → Given → S → Type 0) (old new : S) (before after : Option (List ℕ)) : Type 0 where
+pub record HandedFront {S : Type 0} (gives : S → Given → S → Type 0) (old new : S)
+    (before after : Option (List ℕ)) : Type 0 where
   pub apdus : List ApduBuf
   pub mid : S
   pub given : GivesAll gives old apdus mid
@@ -73,6 +75,7 @@ MayBePut writer_fails Unwritten = CanFail writer_fails
 MayBePut writer_fails More = Unit {0}
 
 -- where nothing ended the run, the APDUs that were given were taken
-abbrev pub IsPutNext : {S : Type 0} → (S → Given → S → Type 0) → S → S → Option (List ℕ) → Option (List ℕ) → Option Put → Type 0
+abbrev pub IsPutNext : {S : Type 0} → (S → Given → S → Type 0) → S → S → Option (List ℕ) → Option (List ℕ)
+    → Option Put → Type 0
 IsPutNext gives old new before after (Some put) = IsPut gives old new before after put
 IsPutNext gives old new before after None = Handed gives old new before after

@@ -53,9 +53,21 @@ waiting_at-le limits (SentI moment ∷ older) legal =
 waiting_at-le limits (SentS ∷ older) legal = waiting_at-le limits older legal
 waiting_at-le limits (SentTest moment ∷ older) legal = waiting_at-le limits older legal
 waiting_at-le limits (GotI n moment ∷ older) legal =
-    omega (arith, length-drop n (sent_at older), length-drop (acknowledged_by older) (sent_at older), waiting_at-le limits older legal.2, legal.0)
+    omega (
+      arith,
+      length-drop n (sent_at older),
+      length-drop (acknowledged_by older) (sent_at older),
+      waiting_at-le limits older legal.2,
+      legal.0,
+    )
 waiting_at-le limits (GotS n moment ∷ older) legal =
-    omega (arith, length-drop n (sent_at older), length-drop (acknowledged_by older) (sent_at older), waiting_at-le limits older legal.2, legal.0)
+    omega (
+      arith,
+      length-drop n (sent_at older),
+      length-drop (acknowledged_by older) (sent_at older),
+      waiting_at-le limits older legal.2,
+      legal.0,
+    )
 waiting_at-le limits (GotConfirmation moment ∷ older) legal = waiting_at-le limits older legal
 waiting_at-le limits (GotOther moment ∷ older) legal = waiting_at-le limits older legal
 
@@ -63,7 +75,11 @@ waiting_at-le limits (GotOther moment ∷ older) legal = waiting_at-le limits ol
 Acknowledges-legal : (limits : Limits) (start n : ℕ) (older : List Transmission) → acknowledged_by older ≤ n
     → n ≤ length (sent_at older) → Acknowledges (n % 32768) (counts_of limits start older) n
 Acknowledges-legal limits start n older low high =
-    record { not_fewer = low; not_more = omega (arith, length-drop (acknowledged_by older) (sent_at older)); number = refl }
+    record {
+      not_fewer = low;
+      not_more = omega (arith, length-drop (acknowledged_by older) (sent_at older));
+      number = refl;
+    }
 
 -- a choice whose test is true
 chosen : (b : Bool) (x y : WindowCounts) → b ≡ true → cond b x y ≡ x
@@ -97,7 +113,8 @@ moved : (c : WindowCounts) (ahead n : ℕ) (received owed : ℕ) (since : Option
     made c.limits (c.acknowledged + ahead) (drop ahead c.waiting) received owed since moment c.test
     ≡ made c.limits n (drop (n - c.acknowledged) c.waiting) received owed since moment c.test
 moved c ahead n received owed since moment low e =
-    made-same c.limits _ _ _ _ received received owed owed since since moment c.test (omega (arith, e)) (ap (λ i. drop i c.waiting) e) refl refl refl
+    made-same c.limits _ _ _ _ received received owed owed since since moment c.test (omega (arith, e))
+    (ap (λ i. drop i c.waiting) e) refl refl refl
 
 -- how many a right number acknowledges newly
 new_acknowledgements-number : (n : ℕ) (c : WindowCounts) → length c.waiting < 32768 → Acknowledges (n % 32768) c n
@@ -107,19 +124,23 @@ new_acknowledgements-number n c small a =
 
 -- what an S format with the number of a count leaves
 counts_after_s-number : (n moment : ℕ) (c : WindowCounts) → length c.waiting < 32768 → Acknowledges (n % 32768) c n →
-    counts_after_s (n % 32768) moment c ≡ made c.limits n (drop (n - c.acknowledged) c.waiting) c.received c.owed c.owed_since moment c.test
+    counts_after_s (n % 32768) moment c
+    ≡ made c.limits n (drop (n - c.acknowledged) c.waiting) c.received c.owed c.owed_since moment c.test
 counts_after_s-number n moment c small a =
     chosen (is_right_receive (n % 32768) c) _ c (named_right (n % 32768) c n small a)
-    ∙ moved c (new_acknowledgements (n % 32768) c) n c.received c.owed c.owed_since moment a.not_fewer (new_acknowledgements-number n c small a)
+    ∙ moved c (new_acknowledgements (n % 32768) c) n c.received c.owed c.owed_since moment a.not_fewer
+    (new_acknowledgements-number n c small a)
 
 -- what the right I format with the number of a count leaves
 counts_after_i-number : (n moment : ℕ) (c : WindowCounts) → length c.waiting < 32768 → Acknowledges (n % 32768) c n →
     counts_after_i (receive_number c) (n % 32768) moment c
-    ≡ made c.limits n (drop (n - c.acknowledged) c.waiting) (c.received + 1) (c.owed + 1) (Some (first_of c.owed_since moment)) moment c.test
+    ≡ made c.limits n (drop (n - c.acknowledged) c.waiting) (c.received + 1) (c.owed + 1)
+    (Some (first_of c.owed_since moment)) moment c.test
 counts_after_i-number n moment c small a =
     chosen (is_right_send (receive_number c) c) _ c (search rules)
     ∙ (chosen (is_right_receive (n % 32768) c) _ c (named_right (n % 32768) c n small a)
-    ∙ moved c (new_acknowledgements (n % 32768) c) n (c.received + 1) (c.owed + 1) (Some (first_of c.owed_since moment)) moment a.not_fewer (new_acknowledgements-number n c small a))
+    ∙ moved c (new_acknowledgements (n % 32768) c) n (c.received + 1) (c.owed + 1)
+    (Some (first_of c.owed_since moment)) moment a.not_fewer (new_acknowledgements-number n c small a))
 
 -- the first of moments of which one more came
 first-more : (xs : List ℕ) (x : ℕ) → Some (first_of (slice_get xs 0) x) ≡ slice_get (xs ++ x ∷ []) 0
@@ -140,7 +161,8 @@ step-counts_of limits start (SentI moment) older small legal =
     let none : drop (length (got_at older)) (got_at older) ≡ [] =
     drop_all (length (got_at older)) (got_at older) (omega arith) in
     made-same limits _ _ _ _ _ _ _ _ _ _ (heard_at start older) (test_at older)
-    refl (sym (waiting_at-sent limits moment older legal.1)) refl (sym (ap length none)) (sym (ap (λ xs. slice_get xs 0) none))
+    refl (sym (waiting_at-sent limits moment older legal.1)) refl (sym (ap length none))
+    (sym (ap (λ xs. slice_get xs 0) none))
 step-counts_of limits start SentS older small legal =
     let none : drop (length (got_at older)) (got_at older) ≡ [] =
     drop_all (length (got_at older)) (got_at older) (omega arith) in
@@ -151,14 +173,16 @@ step-counts_of limits start (GotI n moment) older small legal =
     let bound : length (waiting_at older) < 32768 = omega (arith, waiting_at-le limits older legal.2) in
     let more : drop (receipted_by older) (got_at older ++ moment ∷ []) ≡ owed_at older ++ moment ∷ [] =
     drop-append-le (receipted_by older) (got_at older) (moment ∷ []) (receipted_by-le older) in
-    counts_after_i-number n moment (counts_of limits start older) bound (Acknowledges-legal limits start n older legal.0 legal.1)
+    counts_after_i-number n moment (counts_of limits start older) bound
+    (Acknowledges-legal limits start n older legal.0 legal.1)
     ∙ made-same limits _ _ _ _ _ _ _ _ _ _ moment (test_at older)
     refl (waiting-acknowledged (sent_at older) (acknowledged_by older) n legal.0)
     (sym (length-more (got_at older) moment)) (sym (ap length more ∙ length-more (owed_at older) moment))
     (first-more (owed_at older) moment ∙ sym (ap (λ xs. slice_get xs 0) more))
 step-counts_of limits start (GotS n moment) older small legal =
     let bound : length (waiting_at older) < 32768 = omega (arith, waiting_at-le limits older legal.2) in
-    counts_after_s-number n moment (counts_of limits start older) bound (Acknowledges-legal limits start n older legal.0 legal.1)
+    counts_after_s-number n moment (counts_of limits start older) bound
+    (Acknowledges-legal limits start n older legal.0 legal.1)
     ∙ made-same limits _ _ _ _ _ _ _ _ _ _ moment (test_at older)
     refl (waiting-acknowledged (sent_at older) (acknowledged_by older) n legal.0) refl refl refl
 step-counts_of limits start (GotConfirmation moment) older small legal = refl
@@ -186,7 +210,8 @@ window_counts-counts_of limits start (frame ∷ older) small legal =
 -- N(R) is right where the connection may go on with it
 right-legal_of : (limits : Limits) (start nr moment : ℕ) (frames : List Transmission) → limits.k < 32768
     → IsLegal limits frames →
-    IsTrue (is_right_receive nr (counts_of limits start frames)) ↔ ((n : ℕ) × (nr ≡ n % 32768) × IsLegal limits (GotS n moment ∷ frames))
+    IsTrue (is_right_receive nr (counts_of limits start frames))
+    ↔ ((n : ℕ) × (nr ≡ n % 32768) × IsLegal limits (GotS n moment ∷ frames))
 right-legal_of limits start nr moment frames small legal =
     let bound : length (waiting_at frames) < 32768 = omega (arith, waiting_at-le limits frames legal) in
     let sent : length (waiting_at frames) ≡ length (sent_at frames) - acknowledged_by frames =
@@ -203,4 +228,5 @@ pub right-legal : (limits : Limits) (start nr moment : ℕ) (frames : List Trans
     IsTrue (is_right_receive nr (window_counts limits start frames))
     ↔ ((n : ℕ) × (nr ≡ n % 32768) × IsLegal limits (GotS n moment ∷ frames))
 right-legal limits start nr moment frames small legal =
-    rw (window_counts-counts_of limits start frames small legal) (right-legal_of limits start nr moment frames small legal)
+    rw (window_counts-counts_of limits start frames small legal)
+    (right-legal_of limits start nr moment frames small legal)

@@ -10,7 +10,8 @@ pub lone_echo-requires : goal.lone_echo-requires
 lone_echo-requires c = within c.args.part.now c.args.headers.now c.loop-header.header-index _ c.requires (omega arith)
 
 pub returns-then-is_some : goal.returns-then-is_some
-returns-then-is_some c = sym (only_one-two (lone_echo c.args.part.now) c.args.headers.now c.loop-header.header-index _ c.loop-header.found c.in-Some.echo (omega arith)
+returns-then-is_some c = sym (only_one-two (lone_echo c.args.part.now) c.args.headers.now c.loop-header.header-index _
+    c.loop-header.found c.in-Some.echo (omega arith)
     c.loop-header.invariant (sym c.if-is_some.ensures) (sym c.lone_echo.ensures ∙ c.in-Some.is))
 
 pub loop-header-preserved : goal.loop-header-preserved

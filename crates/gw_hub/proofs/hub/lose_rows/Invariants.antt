@@ -10,6 +10,7 @@ use Rattle.gw_hub.proofs.hub.lose_rows.Given as goal
 abbrev pub invariant-loop-position : goal.invariant-loop-position
 invariant-loop-position l =
     LeftToLose l.settings.station.offset_minutes l.outstation l.settings.rows l.position l.picture l.clients
-    (losses_of l.outstation l.settings.rows l.fn.picture) (picture_after_loss l.outstation l.settings.rows l.fn.picture) (map (client_with_news (losses_of l.outstation l.settings.rows l.fn.picture)) l.fn.clients)
+    (losses_of l.outstation l.settings.rows l.fn.picture) (picture_after_loss l.outstation l.settings.rows l.fn.picture)
+    (map (client_with_news (losses_of l.outstation l.settings.rows l.fn.picture)) l.fn.clients)
     × AllByRecursion (CanTake (length (rest_of l.outstation l.settings.rows l.position l.picture))) l.clients
     × (length l.picture ≡ length l.fn.picture)

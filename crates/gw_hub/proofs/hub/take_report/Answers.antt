@@ -5,7 +5,9 @@ use Rattle.gw_hub.proofs.hub.take_report.Goals as goal
 
 pub returns-in-None-clause-clients : goal.returns-in-None-clause-clients
 returns-in-None-clause-clients c =
-    let none = subst (λ (offset : ℤ). [] ≡ news_of_report offset c.args.settings.now.rows c.args.picture.now c.args.report.now) c.zone.ensures c.in-None.ensures.news in
+    let none =
+    subst (λ (offset : ℤ). [] ≡ news_of_report offset c.args.settings.now.rows c.args.picture.now c.args.report.now)
+    c.zone.ensures c.in-None.ensures.news in
     came_none _ _ c.args.clients.now none c.requires
 
 pub returns-in-None-clause-more : goal.returns-in-None-clause-more
@@ -13,5 +15,6 @@ returns-in-None-clause-more c = λ n all. can_fewer _ n c.args.clients.now (omeg
 
 pub returns-in-Some-clause-more : goal.returns-in-Some-clause-more
 returns-in-Some-clause-more c = λ n all.
-    let one = subst (λ (offset : ℤ). c.in-Some.image ∷ [] ≡ news_of_report offset c.args.settings.now.rows c.args.picture.now c.args.report.now) c.zone.ensures c.in-Some.ensures.news in
+    let one = subst (λ (offset : ℤ). c.in-Some.image ∷ [] ≡ news_of_report offset c.args.settings.now.rows
+    c.args.picture.now c.args.report.now) c.zone.ensures c.in-Some.ensures.news in
     c.put.ensures.more n (can_same _ (n + 1) c.args.clients.now (omega (arith, ap length one)) all)

@@ -11,7 +11,8 @@ use Rattle.gw_hub.proofs.hub.take_reports.Goals as goal
 
 pub loop-report-init : goal.loop-report-init
 loop-report-init c = (
-  left_first c.args.settings.now.station.offset_minutes c.args.settings.now.rows c.args.picture.now c.args.reports.now c.args.clients.now,
+  left_first c.args.settings.now.station.offset_minutes c.args.settings.now.rows c.args.picture.now c.args.reports.now
+      c.args.clients.now,
   c.requires,
   omega arith,
 )
@@ -20,13 +21,16 @@ pub take_report-news-requires : goal.take_report-news-requires
 take_report-news-requires c =
     let rest : List Report = drop (c.loop-report.report-index + 1) c.args.reports.now in
     let more : drop c.loop-report.report-index c.args.reports.now ≡ c.report-item.result ∷ rest =
-    drop_more c.args.reports.now c.loop-report.report-index c.report-item.result c.loop-report-test.true ∙ ap (λ (r : Report). r ∷ rest) (sym c.report-item.is) in
-    let size = rest_length c.args.settings.now.station.offset_minutes c.args.settings.now.rows c.loop-report.picture c.report-item.result _ rest more in
+    drop_more c.args.reports.now c.loop-report.report-index c.report-item.result c.loop-report-test.true
+    ∙ ap (λ (r : Report). r ∷ rest) (sym c.report-item.is) in
+    let size = rest_length c.args.settings.now.station.offset_minutes c.args.settings.now.rows c.loop-report.picture
+    c.report-item.result _ rest more in
     can_fewer _ _ c.loop-report.clients (omega (arith, size)) c.loop-report.invariant.1
 
 pub overflow_add-news : goal.overflow_add-news
 overflow_add-news c =
-    let one = report_one c.args.settings.now.station.offset_minutes c.args.settings.now.rows c.loop-report.picture c.report-item.result in
+    let one = report_one c.args.settings.now.station.offset_minutes c.args.settings.now.rows c.loop-report.picture
+    c.report-item.result in
     let few : c.loop-report.news ≤ c.loop-report.report-index = c.loop-report.invariant.2 in
     search (rules, one, few)
 
@@ -37,22 +41,41 @@ loop-report-preserved c =
     let before = c.loop-report.picture in
     let rest : List Report = drop (c.loop-report.report-index + 1) c.args.reports.now in
     let more : drop c.loop-report.report-index c.args.reports.now ≡ c.report-item.result ∷ rest =
-    drop_more c.args.reports.now c.loop-report.report-index c.report-item.result c.loop-report-test.true ∙ ap (λ (r : Report). r ∷ rest) (sym c.report-item.is) in
+    drop_more c.args.reports.now c.loop-report.report-index c.report-item.result c.loop-report-test.true
+    ∙ ap (λ (r : Report). r ∷ rest) (sym c.report-item.is) in
     let size = rest_length offset rows before c.report-item.result _ rest more in (
-      left_more _ _ _ _ _ _ c.report-item.result _ rest _ _ _ _ _ c.loop-report.invariant.0 more c.take_report-news.ensures.count c.take_report-news.ensures.picture c.take_report-news.ensures.clients c.take_report-news.ensures.sendable,
-      subst (λ (p : List Observation). AllByRecursion (CanTake (length (news_of offset rows p rest))) c.take_report-news.new.clients) (sym c.take_report-news.ensures.picture)
-          (c.take_report-news.ensures.more (length (news_of offset rows (picture_after_report offset rows before c.report-item.result) rest)) (can_same _ _ c.loop-report.clients size c.loop-report.invariant.1)),
-      omega (arith, c.loop-report.invariant.2, report_one offset rows before c.report-item.result, c.take_report-news.ensures.count),
+      left_more _ _ _ _ _ _ c.report-item.result _ rest _ _ _ _ _ c.loop-report.invariant.0 more
+          c.take_report-news.ensures.count c.take_report-news.ensures.picture c.take_report-news.ensures.clients
+          c.take_report-news.ensures.sendable,
+      subst (λ (p : List Observation). AllByRecursion (CanTake (length (news_of offset rows p rest)))
+          c.take_report-news.new.clients) (sym c.take_report-news.ensures.picture)
+          (c.take_report-news.ensures.more
+          (length (news_of offset rows (picture_after_report offset rows before c.report-item.result) rest))
+          (can_same _ _ c.loop-report.clients size c.loop-report.invariant.1)),
+      omega (
+        arith,
+        c.loop-report.invariant.2,
+        report_one offset rows before c.report-item.result,
+        c.take_report-news.ensures.count,
+      ),
     )
 
 pub returns-clause-count : goal.returns-clause-count
-returns-clause-count c = (left_none _ _ _ _ _ _ _ _ _ _ (drop_all c.loop-report.report-index c.args.reports.now c.loop-report-test.false) c.loop-report.invariant.1 c.loop-report.invariant.0).0
+returns-clause-count c =
+    (left_none _ _ _ _ _ _ _ _ _ _ (drop_all c.loop-report.report-index c.args.reports.now c.loop-report-test.false)
+    c.loop-report.invariant.1 c.loop-report.invariant.0).0
 
 pub returns-clause-picture : goal.returns-clause-picture
-returns-clause-picture c = (left_none _ _ _ _ _ _ _ _ _ _ (drop_all c.loop-report.report-index c.args.reports.now c.loop-report-test.false) c.loop-report.invariant.1 c.loop-report.invariant.0).1
+returns-clause-picture c =
+    (left_none _ _ _ _ _ _ _ _ _ _ (drop_all c.loop-report.report-index c.args.reports.now c.loop-report-test.false)
+    c.loop-report.invariant.1 c.loop-report.invariant.0).1
 
 pub returns-clause-clients : goal.returns-clause-clients
-returns-clause-clients c = (left_none _ _ _ _ _ _ _ _ _ _ (drop_all c.loop-report.report-index c.args.reports.now c.loop-report-test.false) c.loop-report.invariant.1 c.loop-report.invariant.0).2
+returns-clause-clients c =
+    (left_none _ _ _ _ _ _ _ _ _ _ (drop_all c.loop-report.report-index c.args.reports.now c.loop-report-test.false)
+    c.loop-report.invariant.1 c.loop-report.invariant.0).2
 
 pub returns-clause-sendable : goal.returns-clause-sendable
-returns-clause-sendable c = (left_none _ _ _ _ _ _ _ _ _ _ (drop_all c.loop-report.report-index c.args.reports.now c.loop-report-test.false) c.loop-report.invariant.1 c.loop-report.invariant.0).3
+returns-clause-sendable c =
+    (left_none _ _ _ _ _ _ _ _ _ _ (drop_all c.loop-report.report-index c.args.reports.now c.loop-report-test.false)
+    c.loop-report.invariant.1 c.loop-report.invariant.0).3

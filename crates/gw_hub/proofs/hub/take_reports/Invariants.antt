@@ -10,6 +10,9 @@ use Rattle.gw_hub.proofs.hub.take_reports.Given as goal
 abbrev pub invariant-loop-report : goal.invariant-loop-report
 invariant-loop-report l =
     Left l.settings.station.offset_minutes l.settings.rows l.news l.picture (drop l.report-index l.reports) l.clients
-    (news_of l.settings.station.offset_minutes l.settings.rows l.fn.picture l.reports) (picture_after l.settings.station.offset_minutes l.settings.rows l.fn.picture l.reports) (map (client_with_news (news_of l.settings.station.offset_minutes l.settings.rows l.fn.picture l.reports)) l.fn.clients)
-    × AllByRecursion (CanTake (length (news_of l.settings.station.offset_minutes l.settings.rows l.picture (drop l.report-index l.reports)))) l.clients
+    (news_of l.settings.station.offset_minutes l.settings.rows l.fn.picture l.reports)
+    (picture_after l.settings.station.offset_minutes l.settings.rows l.fn.picture l.reports) (map
+    (client_with_news (news_of l.settings.station.offset_minutes l.settings.rows l.fn.picture l.reports)) l.fn.clients)
+    × AllByRecursion (CanTake (length (news_of l.settings.station.offset_minutes l.settings.rows l.picture
+    (drop l.report-index l.reports)))) l.clients
     × (l.news ≤ l.report-index)

@@ -8,7 +8,8 @@ returns-in-Some-write_run-clause-written g c =
     let now = g.W.Outgoing.contents c.runs.writer in
     let behind = g.W.Outgoing.contents c.write_run.new.writer in
     writes-then _ _ now behind c.in-Some-write_run.end c.runs.invariant.wrote
-    (subst (λ (w : Asking). Writes w.client now behind c.in-Some-write_run.end) c.runs.invariant.same c.in-Some-write_run.ensures.written)
+    (subst (λ (w : Asking). Writes w.client now behind c.in-Some-write_run.end) c.runs.invariant.same
+    c.in-Some-write_run.ensures.written)
 
 pub runs-preserved : goal.runs-preserved
 runs-preserved g c =

@@ -4,4 +4,5 @@ use Rattle.gw_threads.proofs.putting.put_out.Given as goal
 
 abbrev pub invariant-batches : goal.invariant-batches
 invariant-batches g l =
-    Handed g.S.Source.Gives l.initial.source l.source (g.W.Outgoing.contents l.initial.writer) (g.W.Outgoing.contents l.writer)
+    Handed g.S.Source.Gives l.initial.source l.source (g.W.Outgoing.contents l.initial.writer)
+    (g.W.Outgoing.contents l.writer)

@@ -13,7 +13,8 @@ pub loop-event-preserved : goal.loop-event-preserved
 loop-event-preserved c =
     let reads = subst (reads_by c.loop-event.feed c.next.new.self) c.in-Some.is c.next.ensures.reads in
     record {
-      taken = event_taken _ _ _ c.loop-event.feed c.next.new.self _ _ reads c.in_ok-take.ensures c.loop-event.invariant.taken;
+      taken = event_taken _ _ _ c.loop-event.feed c.next.new.self _ _ reads c.in_ok-take.ensures
+          c.loop-event.invariant.taken;
       rest = sym (ap (λ (r : Reading). r.rest) reads) ∙ c.loop-event.invariant.rest;
     }
 

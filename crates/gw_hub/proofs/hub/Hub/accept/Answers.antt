@@ -19,11 +19,15 @@ invariant_of-self c =
     (record {
       sound = record {
         picture = c.rows-shown.ensures.sendable;
-        rows = subst (ShowsRows _) (sym c.take_reports-news.ensures.picture) (reports_rows c.get.result.now.station.offset_minutes _ _ c.reports-reports.result.now before.rows);
+        rows = subst (ShowsRows _) (sym c.take_reports-news.ensures.picture)
+            (reports_rows c.get.result.now.station.offset_minutes _ _ c.reports-reports.result.now before.rows);
         masters = ap length c.take.ensures ∙ (change-length _ _ _ ∙ before.masters);
         clients =
-            sound_came _ c.self.inside.counts.steps _ c.self.inside.counts.news _ _ _ _ c.take_reports-news.ensures.clients c.take_reports-news.ensures.sendable
-            (omega (arith, ap (λ (counts : Counts). counts.steps) c.raise.ensures)) (omega (arith, c.take_reports-news.ensures.count, ap (λ (counts : Counts). counts.news) c.raise.ensures)) before.clients;
+            sound_came _ c.self.inside.counts.steps _ c.self.inside.counts.news _ _ _ _
+            c.take_reports-news.ensures.clients c.take_reports-news.ensures.sendable
+            (omega (arith, ap (λ (counts : Counts). counts.steps) c.raise.ensures))
+            (omega (arith, c.take_reports-news.ensures.count, ap (λ (counts : Counts). counts.news) c.raise.ensures))
+            before.clients;
       };
       sessions = kept_mapped _ _ _ c.take_reports-news.ensures.clients (kept_with_news _) c.self.invariant.sessions;
     })

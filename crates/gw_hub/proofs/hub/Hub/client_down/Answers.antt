@@ -11,7 +11,9 @@ invariant_of-self c =
         picture = before.picture;
         rows = before.rows;
         masters = before.masters;
-        clients = sound_change_here _ _ _ c.args.client _ _ _ c.go_down.ensures (sound_after_close _ _ _) before.clients;
+        clients =
+            sound_change_here _ _ _ c.args.client _ _ _ c.go_down.ensures (sound_after_close _ _ _) before.clients;
       };
-      sessions = kept_changed c.args.client _ _ _ c.go_down.ensures (λ k _. kept_after_close k) c.self.invariant.sessions;
+      sessions =
+          kept_changed c.args.client _ _ _ c.go_down.ensures (λ k _. kept_after_close k) c.self.invariant.sessions;
     }

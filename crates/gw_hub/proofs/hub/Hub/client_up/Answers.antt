@@ -11,7 +11,9 @@ invariant_of-self c =
         picture = before.picture;
         rows = before.rows;
         masters = before.masters;
-        clients = sound_change_here _ _ _ c.args.client _ _ _ c.come_up.ensures (sound_after_up _ _ _ c.self-2.inside.moment) before.clients;
+        clients = sound_change_here _ _ _ c.args.client _ _ _ c.come_up.ensures
+            (sound_after_up _ _ _ c.self-2.inside.moment) before.clients;
       };
-      sessions = kept_changed c.args.client _ _ _ c.come_up.ensures (λ k _. kept_after_up c.self-2.inside.moment k) c.self-2.invariant.sessions;
+      sessions = kept_changed c.args.client _ _ _ c.come_up.ensures
+          (λ k _. kept_after_up c.self-2.inside.moment k) c.self-2.invariant.sessions;
     }

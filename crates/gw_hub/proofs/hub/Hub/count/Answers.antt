@@ -9,5 +9,6 @@ returns-clause-counted c = record {
   before = c.self.inside.counts.steps;
   counted = ap (λ (counts : Counts). counts.steps) c.raise.ensures;
   few = can_rise_step c.self.inside.counts 0 0 (search (rules, c.can_rise.ensures, c.if-not-can_rise.false));
-  sound = all_later _ _ _ _ _ _ (omega arith) (omega (arith, ap (λ (counts : Counts). counts.news) c.raise.ensures)) c.self.invariant.sound.clients;
+  sound = all_later _ _ _ _ _ _ (omega arith)
+      (omega (arith, ap (λ (counts : Counts). counts.news) c.raise.ensures)) c.self.invariant.sound.clients;
 }

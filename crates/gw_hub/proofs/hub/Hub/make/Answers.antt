@@ -24,18 +24,23 @@ loop-step-preserved c =
     let same = c.loop-step.invariant.1 in
     let allowed : Allowed setup before c.step-item.result c.step.result new =
     subst (λ (s : Setup). Allowed s before c.step-item.result c.step.result new) same c.step.ensures.step in
-    let sound : IsSoundState setup new = subst (λ (s : Setup). IsSoundState s new) (c.step.ensures.setup ∙ same) c.step.ensures.sound in (
+    let sound : IsSoundState setup new =
+    subst (λ (s : Setup). IsSoundState s new) (c.step.ensures.setup ∙ same) c.step.ensures.sound in (
       omega (arith, c.loop-step.invariant.0, c.in_ok-push.ensures.len),
       c.step.ensures.setup ∙ same,
-      run_on setup c.args.steps.now c.loop-step.replies.items c.push.new.self.items c.loop-step.step-index c.step-item.result c.step.result before new
-          allowed sound (omega (arith, c.loop-step-test.true)) c.step-item.is c.loop-step.invariant.0 c.in_ok-push.ensures.items c.loop-step.invariant.2,
-      meant_more c.args.steps.now c.loop-step.step-index c.step-item.result (omega (arith, c.loop-step-test.true)) c.step-item.is c.attest.ensures
+      run_on setup c.args.steps.now c.loop-step.replies.items c.push.new.self.items c.loop-step.step-index
+          c.step-item.result c.step.result before new
+          allowed sound (omega (arith, c.loop-step-test.true)) c.step-item.is c.loop-step.invariant.0
+          c.in_ok-push.ensures.items c.loop-step.invariant.2,
+      meant_more c.args.steps.now c.loop-step.step-index c.step-item.result
+      (omega (arith, c.loop-step-test.true)) c.step-item.is c.attest.ensures
           c.loop-step.invariant.3,
     )
 
 pub returns-clause-run : goal.returns-clause-run
 returns-clause-run c =
-    made c.args.self.now.setup c.args.steps.now c.loop-step.replies.items c.loop-step.step-index c.loop-step.self.state c.requires.addresses c.requires.station
+    made c.args.self.now.setup c.args.steps.now c.loop-step.replies.items c.loop-step.step-index c.loop-step.self.state
+    c.requires.addresses c.requires.station
     c.loop-step-test.false c.loop-step.invariant.2 c.loop-step.invariant.3
 
 pub returns-clause-replies : goal.returns-clause-replies
@@ -43,5 +48,6 @@ returns-clause-replies c = omega (arith, c.loop-step.invariant.0, c.loop-step.au
 
 pub returns-clause-state : goal.returns-clause-state
 returns-clause-state c =
-    let ran = run_all c.args.self.now.setup c.args.steps.now c.loop-step.replies.items c.loop-step.step-index c.loop-step.self.state c.loop-step-test.false c.loop-step.invariant.2 in
+    let ran = run_all c.args.self.now.setup c.args.steps.now c.loop-step.replies.items c.loop-step.step-index
+    c.loop-step.self.state c.loop-step-test.false c.loop-step.invariant.2 in
     ran.state

@@ -14,4 +14,7 @@ invariant_of-result c =
     let common : c.in_ok-common.common ≡ settings = search rules in
     let counts : c.new-counts.result ≡ (at_first settings).counts = search rules in
     rw (outstations, picture, clients, counts, common)
-    (record { sound = sound_first settings; sessions = kept_at_first (limits_of settings.station) settings.station.queue client_limit })
+    (record {
+      sound = sound_first settings;
+      sessions = kept_at_first (limits_of settings.station) settings.station.queue client_limit;
+    })

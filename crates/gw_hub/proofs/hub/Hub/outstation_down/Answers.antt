@@ -13,13 +13,16 @@ use Rattle.gw_hub.proofs.hub.Hub.outstation_down.Goals as goal
 
 pub lose_rows-requires : goal.lose_rows-requires
 lose_rows-requires c =
-    let few = can_rise_news c.self.inside.counts c.losses-news.result 0 (search (rules, c.can_rise.ensures, c.if-not-can_rise.false)) in
-    let same = ap (λ (s : Setup). length (losses_of c.args.outstation s.rows c.self.inside.picture)) (c.get.ensures ∙ sym c.get-2.ensures) in
+    let few = can_rise_news c.self.inside.counts c.losses-news.result 0
+    (search (rules, c.can_rise.ensures, c.if-not-can_rise.false)) in
+    let same = ap (λ (s : Setup). length (losses_of c.args.outstation s.rows c.self.inside.picture))
+    (c.get.ensures ∙ sym c.get-2.ensures) in
     news_can _ _ _ _ _ (omega (arith, few, c.losses-news.ensures, same)) c.self.invariant.sound.clients
 
 pub invariant_of-self : goal.invariant_of-self
 invariant_of-self c =
-    let same = ap (λ (s : Setup). length (losses_of c.args.outstation s.rows c.self.inside.picture)) (c.get.ensures ∙ sym c.get-2.ensures) in
+    let same = ap (λ (s : Setup). length (losses_of c.args.outstation s.rows c.self.inside.picture))
+    (c.get.ensures ∙ sym c.get-2.ensures) in
     let before = rw (← c.get-2.ensures) at c.self.invariant.sound in
     rw (← c.get-2.ensures)
     (record {
@@ -28,8 +31,11 @@ invariant_of-self c =
         rows = subst (ShowsRows _) (sym c.lose_rows.ensures.picture) (loss_rows _ _ _ before.rows);
         masters = ap length c.go_down.ensures ∙ (change-length c.args.outstation _ _ ∙ before.masters);
         clients =
-            sound_came _ c.self.inside.counts.steps _ c.self.inside.counts.news _ _ _ _ c.lose_rows.ensures.clients c.lose_rows.ensures.sendable
-            (omega (arith, ap (λ (counts : Counts). counts.steps) c.raise.ensures)) (omega (arith, c.losses-news.ensures, same, ap (λ (counts : Counts). counts.news) c.raise.ensures)) before.clients;
+            sound_came _ c.self.inside.counts.steps _ c.self.inside.counts.news _ _ _ _ c.lose_rows.ensures.clients
+            c.lose_rows.ensures.sendable
+            (omega (arith, ap (λ (counts : Counts). counts.steps) c.raise.ensures))
+            (omega (arith, c.losses-news.ensures, same, ap (λ (counts : Counts). counts.news) c.raise.ensures))
+            before.clients;
       };
       sessions = kept_mapped _ _ _ c.lose_rows.ensures.clients (kept_with_news _) c.self.invariant.sessions;
     })

@@ -14,7 +14,9 @@ use Rattle.gw_hub.proofs.Sessions.{kept_after_pump, kept_changed}
 use Rattle.gw_hub.proofs.hub.Hub.pump.Goals as goal
 
 pub pump-requires : goal.pump-requires
-pump-requires c = let counted = subst IsCounted (sym c.self.view_is) c.in_ok-count.ensures.counted in pumps_can _ counted.before _ _ counted.few counted.sound
+pump-requires c =
+    let counted = subst IsCounted (sym c.self.view_is) c.in_ok-count.ensures.counted in
+    pumps_can _ counted.before _ _ counted.few counted.sound
 
 pub invariant_of-self : goal.invariant_of-self
 invariant_of-self c =
@@ -25,9 +27,11 @@ invariant_of-self c =
         picture = before.picture;
         rows = before.rows;
         masters = before.masters;
-        clients = sound_change _ counted.before _ _ _ c.args.client _ _ _ c.pump.ensures.clients counted.counted (omega arith) (sound_after_pump _ _ _ c.self.inside.moment) counted.sound;
+        clients = sound_change _ counted.before _ _ _ c.args.client _ _ _ c.pump.ensures.clients counted.counted
+            (omega arith) (sound_after_pump _ _ _ c.self.inside.moment) counted.sound;
       };
-      sessions = kept_changed c.args.client _ _ _ c.pump.ensures.clients (kept_after_pump c.self.inside.moment) c.self.invariant.sessions;
+      sessions = kept_changed c.args.client _ _ _ c.pump.ensures.clients
+          (kept_after_pump c.self.inside.moment) c.self.invariant.sessions;
     }
 
 same_reply : (c : ℕ) (a b : Setup) (m l : ℕ) (ks js : List Client) → a ≡ b → m ≡ l → ks ≡ js
@@ -42,11 +46,19 @@ answered_so setup s c m r fault rises reply = rw (fault, rises) (ap (λ (x : Rep
 pub returns-clause-step : goal.returns-clause-step
 returns-clause-step c =
     let old : Hub = c.args.self.now in
-    let setup : c.self.inside.settings ≡ old.setup = ap (λ (h : Hub). h.setup) c.self.view_is ∙ c.in_ok-count.ensures.setup in
+    let setup : c.self.inside.settings ≡ old.setup =
+    ap (λ (h : Hub). h.setup) c.self.view_is ∙ c.in_ok-count.ensures.setup in
     let state = c.in_ok-count.ensures.ok.1 in
-    let moment : c.self.inside.moment ≡ latest old.state c.args.moment = ap (λ (h : Hub). h.state.moment) c.self.view_is ∙ ap (λ (s : State). s.moment) state in
-    let clients : c.self.inside.clients ≡ old.state.clients = ap (λ (h : Hub). h.state.clients) c.self.view_is ∙ ap (λ (s : State). s.clients) state in
-    let reply : c.pump.result ≡ reply_to_pump old.setup (latest old.state c.args.moment) (slice_get old.state.clients c.args.client) =
+    let moment : c.self.inside.moment ≡ latest old.state c.args.moment =
+    ap (λ (h : Hub). h.state.moment) c.self.view_is ∙ ap (λ (s : State). s.moment) state in
+    let clients : c.self.inside.clients ≡ old.state.clients =
+    ap (λ (h : Hub). h.state.clients) c.self.view_is ∙ ap (λ (s : State). s.clients) state in
+    let reply : c.pump.result
+    ≡ reply_to_pump old.setup (latest old.state c.args.moment) (slice_get old.state.clients c.args.client) =
     c.pump.ensures.reply ∙ same_reply c.args.client _ _ _ _ _ _ (c.get.ensures ∙ setup) moment clients in
-    let fault : fault_of old.state (steps.Pump c.args.client c.args.moment) ≡ None = search (rules, c.in_ok-connected.ensures) in
-    (answered_so old.setup old.state c.args.client c.args.moment c.pump.result fault c.in_ok-count.ensures.ok.0 reply, search (rules, clients, moment, state))
+    let fault : fault_of old.state (steps.Pump c.args.client c.args.moment) ≡ None =
+    search (rules, c.in_ok-connected.ensures) in
+    (
+      answered_so old.setup old.state c.args.client c.args.moment c.pump.result fault c.in_ok-count.ensures.ok.0 reply,
+      search (rules, clients, moment, state),
+    )

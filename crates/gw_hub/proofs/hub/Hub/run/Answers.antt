@@ -10,7 +10,8 @@ use Rattle.gw_hub.proofs.hub.Hub.run.Goals as goal
 
 -- the run of a hub that was made of settings
 run_of : (setup settings : Setup) (held steps : List Step) (replies : List (Result Reply StepFault))
-    → setup ≡ settings → held ≡ steps → IsSoundRun setup (history [] held replies) → IsSoundRun settings (history [] steps replies)
+    → setup ≡ settings → held ≡ steps → IsSoundRun setup (history [] held replies)
+    → IsSoundRun settings (history [] steps replies)
 run_of setup settings held steps replies same all run =
     subst (λ (s : Setup). IsSoundRun s (history [] steps replies)) same
     (subst (λ (ss : List Step). IsSoundRun setup (history [] ss replies)) all run)

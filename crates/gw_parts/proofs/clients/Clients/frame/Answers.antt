@@ -10,25 +10,29 @@ use Rattle.gw_parts.proofs.clients.Clients.frame.Goals as goal
 
 pub returns-in_default-clause-clients : goal.returns-in_default-clause-clients
 returns-in_default-clause-clients c =
-    none_changed c.args.client (client_after_frame c.args.settings.now c.args.picture.now c.args.moment c.args.apdu.now) c.args.self.now c.in_default.ensures.value
+    none_changed c.args.client (client_after_frame c.args.settings.now c.args.picture.now c.args.moment c.args.apdu.now)
+    c.args.self.now c.in_default.ensures.value
 
 pub returns-in_default-clause-sound : goal.returns-in_default-clause-sound
 returns-in_default-clause-sound c = λ any n i shown all.
     all_later any.station n (n + 1) i i c.args.self.now (omega arith) (omega arith) all
 
 pub frame-requires : goal.frame-requires
-frame-requires c = (has_too CanCount c.args.client c.args.self.now c.in-Some.station.now c.in-Some.ensures.value c.requires).received
+frame-requires c =
+    (has_too CanCount c.args.client c.args.self.now c.in-Some.station.now c.in-Some.ensures.value c.requires).received
 
 pub returns-in_err-event-clause-same : goal.returns-in_err-event-clause-same
 returns-in_err-event-clause-same c =
     let p = err_from_is_err_and c.from_residual.result c.from_residual.ensures.1 in
-    rw p.1 (lent_same c.args.client c.args.self.now c.in-Some.station.now c.frame.new.self c.in-Some.ensures.value c.in_err-event.ensures.same)
+    rw p.1 (lent_same c.args.client c.args.self.now c.in-Some.station.now c.frame.new.self c.in-Some.ensures.value
+    c.in_err-event.ensures.same)
 
 pub returns-clause-clients : goal.returns-clause-clients
 returns-clause-clients c =
     let after = client_after_frame c.args.settings.now c.args.picture.now c.args.moment c.args.apdu.now in
     let one : c.replied.new.station ≡ after c.in-Some.station.now = search rules in
-    lent_changed c.args.client after c.args.self.now c.in-Some.station.now c.replied.new.station c.in-Some.ensures.value one
+    lent_changed c.args.client after c.args.self.now c.in-Some.station.now c.replied.new.station
+    c.in-Some.ensures.value one
 
 pub returns-clause-sound : goal.returns-clause-sound
 returns-clause-sound c = λ any n i shown all.
@@ -41,5 +45,7 @@ returns-clause-sound c = λ any n i shown all.
     let sound = has_too (IsSoundClient any.station n i) c.args.client c.args.self.now old c.in-Some.ensures.value all in
     let answers = taken.sendable any.station.offset_minutes shown (sound.answers, sound.rest) in
     let client : c.replied.new.station ≡ client_after_frame setup picture moment apdu old = search rules in
-    let here = sound_after_frame any n i setup picture moment apdu old c.frame.new.self c.in_ok-event.event taken.event taken.whole taken.place taken.client answers sound in
-    sound_set any n i c.args.client c.args.self.now c.replied.new.station (subst (IsSoundClient any.station (n + 1) i) (sym client) here) all
+    let here = sound_after_frame any n i setup picture moment apdu old c.frame.new.self c.in_ok-event.event taken.event
+    taken.whole taken.place taken.client answers sound in
+    sound_set any n i c.args.client c.args.self.now c.replied.new.station
+    (subst (IsSoundClient any.station (n + 1) i) (sym client) here) all

@@ -6,7 +6,9 @@ use Rattle.gw_parts.proofs.clients.Clients.new.Goals as goal
 
 pub loop-preserved : goal.loop-preserved
 loop-preserved c =
-    one_more c.loop.counter (c.loop.counter + 1) (client_down c.args.limits.now c.args.queue) c.in_ok-new.field-0 c.loop.stations.items c.push.new.self.items (omega arith) c.in_ok-push.ensures.items c.in_ok-new.ensures c.loop.invariant
+    one_more c.loop.counter (c.loop.counter + 1)
+    (client_down c.args.limits.now c.args.queue) c.in_ok-new.field-0 c.loop.stations.items c.push.new.self.items
+    (omega arith) c.in_ok-push.ensures.items c.in_ok-new.ensures c.loop.invariant
 
 pub returns : goal.returns
 returns c =

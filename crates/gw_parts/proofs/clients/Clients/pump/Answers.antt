@@ -7,30 +7,39 @@ use Rattle.gw_parts.proofs.Places.{has_too, lent_changed, none_changed}
 use Rattle.gw_parts.proofs.clients.Clients.pump.Goals as goal
 
 pub returns-in_default-clause-clients : goal.returns-in_default-clause-clients
-returns-in_default-clause-clients c = none_changed c.args.client (client_after_pump c.args.moment) c.args.self.now c.in_default.ensures.value
+returns-in_default-clause-clients c =
+    none_changed c.args.client (client_after_pump c.args.moment) c.args.self.now c.in_default.ensures.value
 
 pub pump-requires-clause-count : goal.pump-requires-clause-count
-pump-requires-clause-count c = (has_too CanPump c.args.client c.args.self.now c.in-Some.station.now c.in-Some.ensures.value c.requires).sent
+pump-requires-clause-count c =
+    (has_too CanPump c.args.client c.args.self.now c.in-Some.station.now c.in-Some.ensures.value c.requires).sent
 
 pub pump-requires-clause-answers : goal.pump-requires-clause-answers
-pump-requires-clause-answers c = (has_too CanPump c.args.client c.args.self.now c.in-Some.station.now c.in-Some.ensures.value c.requires).answers
+pump-requires-clause-answers c =
+    (has_too CanPump c.args.client c.args.self.now c.in-Some.station.now c.in-Some.ensures.value c.requires).answers
 
 pub returns-in-Some-pump-clause-reply : goal.returns-in-Some-pump-clause-reply
 returns-in-Some-pump-clause-reply c =
     let station = c.args.settings.now.station in
-    let one : Apdu c.in-Some-pump.apdu ≡ reply_giving (given station.offset_minutes station.common_address c.args.moment c.in-Some.station.now) = search rules in
+    let one : Apdu c.in-Some-pump.apdu
+    ≡ reply_giving (given station.offset_minutes station.common_address c.args.moment c.in-Some.station.now) =
+    search rules in
     one ∙ ap (reply_to_pump c.args.settings.now c.args.moment) c.in-Some.ensures.value
 
 pub returns-in-Some-pump-clause-clients : goal.returns-in-Some-pump-clause-clients
 returns-in-Some-pump-clause-clients c =
-    lent_changed c.args.client (client_after_pump c.args.moment) c.args.self.now c.in-Some.station.now c.pump.new.self c.in-Some.ensures.value c.pump.ensures.client
+    lent_changed c.args.client (client_after_pump c.args.moment) c.args.self.now c.in-Some.station.now c.pump.new.self
+    c.in-Some.ensures.value c.pump.ensures.client
 
 pub returns-in-None-clause-reply : goal.returns-in-None-clause-reply
 returns-in-None-clause-reply c =
     let station = c.args.settings.now.station in
-    let none : Nothing ≡ reply_giving (given station.offset_minutes station.common_address c.args.moment c.in-Some.station.now) = search rules in
+    let none : Nothing
+    ≡ reply_giving (given station.offset_minutes station.common_address c.args.moment c.in-Some.station.now) =
+    search rules in
     none ∙ ap (reply_to_pump c.args.settings.now c.args.moment) c.in-Some.ensures.value
 
 pub returns-in-None-clause-clients : goal.returns-in-None-clause-clients
 returns-in-None-clause-clients c =
-    lent_changed c.args.client (client_after_pump c.args.moment) c.args.self.now c.in-Some.station.now c.pump.new.self c.in-Some.ensures.value c.pump.ensures.client
+    lent_changed c.args.client (client_after_pump c.args.moment) c.args.self.now c.in-Some.station.now c.pump.new.self
+    c.in-Some.ensures.value c.pump.ensures.client

@@ -8,5 +8,7 @@ use Rattle.gw_parts.proofs.clients.Clients.put.Given as goal
 
 abbrev pub invariant-loop-position : goal.invariant-loop-position
 invariant-loop-position l =
-    (l.self-inside.stations.items ≡ map (client_with_news (l.news ∷ [])) (take l.position l.fn.self) ++ drop l.position l.fn.self)
-    × ((n : ℕ) → AllByRecursion (CanTake (n + 1)) l.fn.self → Halves (CanTake n) (CanTake (n + 1)) l.position l.self-inside.stations.items)
+    (l.self-inside.stations.items
+    ≡ map (client_with_news (l.news ∷ [])) (take l.position l.fn.self) ++ drop l.position l.fn.self)
+    × ((n : ℕ) → AllByRecursion (CanTake (n + 1)) l.fn.self
+    → Halves (CanTake n) (CanTake (n + 1)) l.position l.self-inside.stations.items)

@@ -10,8 +10,15 @@ pub overflow_add-closed : goal.overflow_add-closed
 overflow_add-closed c =
     let n = c.loop-position.position in
     let old = c.args.self.now in
-    let within : n < length old = omega (arith, c.len-position-end.ensures, c.self.inside.stations.ok.0, ap length c.self.view_is, c.loop-position-test.true) in
-    let fits = bits_fit (is_timed_out c.args.moment) old n c.is_some.result (omega (arith, within, ap length c.self.view_is, c.self.invariant)) (omega (arith, within)) in
+    let within : n < length old = omega (
+      arith,
+      c.len-position-end.ensures,
+      c.self.inside.stations.ok.0,
+      ap length c.self.view_is,
+      c.loop-position-test.true,
+    ) in
+    let fits = bits_fit (is_timed_out c.args.moment) old n c.is_some.result
+    (omega (arith, within, ap length c.self.view_is, c.self.invariant)) (omega (arith, within)) in
     search (rules, fits, c.from.ensures, c.loop-position.invariant.1)
 
 pub loop-position-preserved : goal.loop-position-preserved
@@ -21,11 +28,27 @@ loop-position-preserved c =
     let before = c.loop-position.self-inside.stations.items in
     let x = c.index_mut.result.now in
     let there : x ≡ get_or before n x = c.index_mut.ensures.value in
-    let within : n < length old = omega (arith, c.len-position-end.ensures, c.self.inside.stations.ok.0, ap length c.self.view_is, c.loop-position-test.true) in
-    let client : get_or before n x ≡ get_or old n x = get_over (client_after_tick c.args.moment) old before n x within c.loop-position.invariant.0 in
+    let within : n < length old = omega (
+      arith,
+      c.len-position-end.ensures,
+      c.self.inside.stations.ok.0,
+      ap length c.self.view_is,
+      c.loop-position-test.true,
+    ) in
+    let client : get_or before n x ≡ get_or old n x =
+    get_over (client_after_tick c.args.moment) old before n x within c.loop-position.invariant.0 in
     let late : c.is_some.result ≡ is_timed_out c.args.moment (get_or old n x) =
-        c.is_some.ensures ∙ (ap is_some c.tick.ensures.closed ∙ (closed_late c.args.moment x ∙ ap (is_timed_out c.args.moment) (there ∙ client))) in
+        c.is_some.ensures ∙ (ap is_some c.tick.ensures.closed
+        ∙ (closed_late c.args.moment x ∙ ap (is_timed_out c.args.moment) (there ∙ client))) in
     let shift = shifted c.is_some.result n (omega (arith, within, ap length c.self.view_is, c.self.invariant)) in (
-      next_changed n (client_after_tick c.args.moment) old before x c.tick.new.self within c.loop-position.invariant.0 there c.tick.ensures.client,
-      search (rules, c.from.ensures, shift, c.loop-position.invariant.1, late, bits_next (is_timed_out c.args.moment) old n x within),
+      next_changed n (client_after_tick c.args.moment) old before x c.tick.new.self within c.loop-position.invariant.0
+          there c.tick.ensures.client,
+      search (
+        rules,
+        c.from.ensures,
+        shift,
+        c.loop-position.invariant.1,
+        late,
+        bits_next (is_timed_out c.args.moment) old n x within,
+      ),
     )

@@ -6,5 +6,6 @@ use Rattle.gw_parts.proofs.clients.Clients.tick.Given as goal
 
 abbrev pub invariant-loop-position : goal.invariant-loop-position
 invariant-loop-position l =
-    (l.self-inside.stations.items ≡ map (client_after_tick l.moment) (take l.position l.fn.self) ++ drop l.position l.fn.self)
+    (l.self-inside.stations.items
+    ≡ map (client_after_tick l.moment) (take l.position l.fn.self) ++ drop l.position l.fn.self)
     × (l.closed ≡ bits_of (map (is_timed_out l.moment) (take l.position l.fn.self)))

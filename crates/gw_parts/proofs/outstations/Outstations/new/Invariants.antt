@@ -5,4 +5,5 @@ use Rattle.gw_parts.proofs.outstations.Outstations.new.Given as goal
 
 abbrev pub invariant-loop-outstation : goal.invariant-loop-outstation
 invariant-loop-outstation l =
-    l.masters.items ++ map (λ outstation. master_down outstation.poll) (drop l.outstation-index l.outstations) ≡ map (λ outstation. master_down outstation.poll) l.outstations
+    l.masters.items ++ map (λ outstation. master_down outstation.poll) (drop l.outstation-index l.outstations)
+    ≡ map (λ outstation. master_down outstation.poll) l.outstations

@@ -7,7 +7,8 @@ returns-in-Some-clause-run g c = run_then _ _ _ _ c.in-Some.pumped c.pumps.invar
 
 pub returns-in-Some-clause-more : goal.returns-in-Some-clause-more
 returns-in-Some-clause-more g c =
-    may_go_on c.args.pass.now c.pumps.pass c.pump_next.new.pass _ c.in-Some.pumped (omega (arith, c.pumps.invariant.counted))
+    may_go_on c.args.pass.now c.pumps.pass c.pump_next.new.pass _ c.in-Some.pumped
+    (omega (arith, c.pumps.invariant.counted))
     c.in-Some.ensures.more
 
 pub pumps-preserved : goal.pumps-preserved

@@ -21,27 +21,33 @@ pub returns-in-Some : goal.returns-in-Some
 returns-in-Some c =
     let answers = c.self.inside.answers in
     let answer = c.in-Some.answer.now in
-    let first = slice_get_read answers.items answers.len 0 answer answers.ok.0 (c.in-Some.ensures.variant.0 refl) c.in-Some.ensures.lookup in
-    first_answer c.args.self.now answer (subst (λ (k : Client). slice_get k.answers 0 ≡ Some answer) c.self.view_is first)
+    let first = slice_get_read answers.items answers.len 0 answer answers.ok.0
+    (c.in-Some.ensures.variant.0 refl) c.in-Some.ensures.lookup in
+    first_answer c.args.self.now answer
+    (subst (λ (k : Client). slice_get k.answers 0 ≡ Some answer) c.self.view_is first)
 
 pub returns-then-self-gt0 : goal.returns-then-self-gt0
 returns-then-self-gt0 c =
     let answers = c.self.inside.answers in
-    let none = sym (ap (λ (k : Client). k.answers) c.self.view_is) ∙ nothing answers.items answers.len answers.ok.0 c.in_default.ensures.variant.1 in
+    let none = sym (ap (λ (k : Client). k.answers) c.self.view_is)
+    ∙ nothing answers.items answers.len answers.ok.0 c.in_default.ensures.variant.1 in
     let news : c.map-news.result ≡ option_map sendings.News (slice_get c.args.self.now.queue 0) = search rules in
     let queued = sym (c.map-news.ensures.variant ∙ ap is_some c.oldest_news.ensures) in
     let waits = queued ∙ (sym c.is_some.ensures ∙ c.if-is_some.true) in
-    news ∙ first_older c.args.self.now none (subst (λ (k : Client). 0 < k.older) c.self.view_is c.if-self-gt0.true) waits
+    news
+    ∙ first_older c.args.self.now none (subst (λ (k : Client). 0 < k.older) c.self.view_is c.if-self-gt0.true) waits
 
 pub returns-in-Some-first : goal.returns-in-Some-first
 returns-in-Some-first c =
     let s = c.args.self.now in
     let answers = c.self.inside.answers in
     let part = c.in-Some-first.part in
-    let none = sym (ap (λ (k : Client). k.answers) c.self.view_is) ∙ nothing answers.items answers.len answers.ok.0 c.in_default.ensures.variant.1 in
+    let none = sym (ap (λ (k : Client). k.answers) c.self.view_is)
+    ∙ nothing answers.items answers.len answers.ok.0 c.in_default.ensures.variant.1 in
     let queued = sym (c.map-news.ensures.variant ∙ ap is_some c.oldest_news.ensures) in
     let no_news : (s.older ≤ 0) ⊎ (is_some (slice_get s.queue 0) ≡ false) = elim c.else-is_some.branch [
-      | else-is_some-via-then-is_some+else-self-gt0 w ↦ inl (subst (λ (k : Client). k.older ≤ 0) c.self.view_is w.if-self-gt0.false)
+      | else-is_some-via-then-is_some+else-self-gt0 w ↦
+          inl (subst (λ (k : Client). k.older ≤ 0) c.self.view_is w.if-self-gt0.false)
       | else-is_some-via-else-is_some w ↦ inr (queued ∙ (sym c.is_some.ensures ∙ w.if-is_some.false))
     ] in
     let first : slice_get s.rest 0 ≡ Some part = search rules in
@@ -50,7 +56,8 @@ returns-in-Some-first c =
 pub returns : goal.returns
 returns c =
     let answers = c.self.inside.answers in
-    let none = sym (ap (λ (k : Client). k.answers) c.self.view_is) ∙ nothing answers.items answers.len answers.ok.0 c.in_default.ensures.variant.1 in
+    let none = sym (ap (λ (k : Client). k.answers) c.self.view_is)
+    ∙ nothing answers.items answers.len answers.ok.0 c.in_default.ensures.variant.1 in
     let first : slice_get c.args.self.now.rest 0 ≡ None = search rules in
     let news : c.map-news.result ≡ option_map sendings.News (slice_get c.args.self.now.queue 0) = search rules in
     news ∙ first_news c.args.self.now none (without_first c.args.self.now.rest first)

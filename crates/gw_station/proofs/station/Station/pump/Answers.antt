@@ -3,4 +3,5 @@ use Rattle.gw_station.proofs.Line.{offered_returnable}
 use Rattle.gw_station.proofs.station.Station.pump.Goals as goal
 
 pub send-requires-clause-answer : goal.send-requires-clause-answer
-send-requires-clause-answer c = search (rules, offered_returnable c.args.moment c.args.self.now c.offered.ensures.answers)
+send-requires-clause-answer c =
+    search (rules, offered_returnable c.args.moment c.args.self.now c.offered.ensures.answers)

@@ -14,9 +14,12 @@ same_format ns nr w v octets send receive same = rw (send, receive, same) refl
 pub returns-clause-apdu : goal.returns-clause-apdu
 returns-clause-apdu c =
     c.of.ensures.octets
-    ∙ (same_format _ _ _ _ _ c.sent-ns.ensures.send c.sent-ns.ensures.receive (ap (λ (k : Client). k.window) c.self.view_is)
-    ∙ ap (λ (octets : List ℕ). buffer_of (Information (send_number c.args.self.now.window) (receive_number c.args.self.now.window) octets)) (search rules))
+    ∙ (same_format _ _ _ _ _ c.sent-ns.ensures.send c.sent-ns.ensures.receive
+    (ap (λ (k : Client). k.window) c.self.view_is)
+    ∙ ap (λ (octets : List ℕ). buffer_of (Information (send_number c.args.self.now.window)
+    (receive_number c.args.self.now.window) octets)) (search rules))
 
 pub returns-clause-client : goal.returns-clause-client
 returns-clause-client c =
-    rw c.sent-ns.ensures.after (ap (λ (k : Client). record k { window = counts_after_sending_i c.args.moment k.window }) c.self.view_is)
+    rw c.sent-ns.ensures.after
+    (ap (λ (k : Client). record k { window = counts_after_sending_i c.args.moment k.window }) c.self.view_is)

@@ -12,4 +12,5 @@ returns-clause-sendable c = λ offset shown can.
     let so = sym (c.judge-judged.ensures.judged ∙ ap (judged setup) c.as_slice.ensures) in
     let after = c.self.view_is ∙ c.in_ok-take_asdu.ensures.client in
     subst (λ (d : Client). CanAnswer offset d) (sym after)
-    (judging_can offset setup c.args.picture.now c.args.asdu.now j c.args.self.now so c.judge-judged.ensures.whole shown can)
+    (judging_can offset setup c.args.picture.now c.args.asdu.now j c.args.self.now so
+    c.judge-judged.ensures.whole shown can)

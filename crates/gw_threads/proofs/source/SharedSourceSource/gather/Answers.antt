@@ -9,6 +9,8 @@ returns g c =
     let client = c.self.inside.client in
     let old : Asking = record { client = client; actor = c.self.inside.pass.actor } in
     let new : Asking = record { client = client; actor = c.pump-pumped.new.pass.actor } in
-    subst (λ (w : Asking). IsGathered GivesTo w new c.args.batch.now c.pump-pumped.new.batch c.gathered_by.result) c.self.view_is
+    subst (λ (w : Asking). IsGathered GivesTo w new c.args.batch.now c.pump-pumped.new.batch c.gathered_by.result)
+    c.self.view_is
     (gathered-by old new _ _ c.pump-pumped.result c.gathered_by.result
-    (ap (λ (actor : ℕ). record { client = client; actor = actor }) c.pump-pumped.ensures.own) c.gathered_by.ensures c.pump-pumped.ensures.run)
+    (ap (λ (actor : ℕ). record { client = client; actor = actor }) c.pump-pumped.ensures.own) c.gathered_by.ensures
+    c.pump-pumped.ensures.run)

@@ -11,10 +11,12 @@ segments-preserved g c =
     let peer = c.args.self.now.peer in
     let before = c.segments.yielded in
     let segment = c.in-Some.segment in
-    let front = front-written _ _ _ _ c.write_frame-end.ensures.written c.write_frame-end.array_long (omega (arith, c.write_frame-end.ensures.length, c.octets.ensures.within)) in
+    let front = front-written _ _ _ _ c.write_frame-end.ensures.written c.write_frame-end.array_long
+    (omega (arith, c.write_frame-end.ensures.length, c.octets.ensures.within)) in
     let framed_so =
     front
-    ∙ (ap (λ (user : List ℕ). frame (frame_content 196 c.segments.self.peer c.segments.self.own user)) c.octets.ensures.octets
+    ∙ (ap (λ (user : List ℕ). frame (frame_content 196 c.segments.self.peer c.segments.self.own user))
+    c.octets.ensures.octets
     ∙ (ap (λ (n : ℕ). frame (frame_content 196 n c.segments.self.own segment)) c.segments.invariant.peer
     ∙ ap (λ (n : ℕ). frame (frame_content 196 peer n segment)) c.segments.invariant.own))
     in
@@ -23,9 +25,12 @@ segments-preserved g c =
       peer = c.segments.invariant.peer;
       segments =
           append_assoc before (segment ∷ []) c.next.new.self
-          ∙ (ap (λ (rest : List (List ℕ)). before ++ rest) (sym c.in-Some.ensures.steps) ∙ c.segments.invariant.segments);
+          ∙ (ap (λ (rest : List (List ℕ)). before ++ rest) (sym c.in-Some.ensures.steps)
+          ∙ c.segments.invariant.segments);
       handed =
-          subst (Appends (g.W.Outgoing.contents c.args.self.now.writer) (g.W.Outgoing.contents c.hand.new.self)) (sym (framed-one own peer before segment))
+          subst (Appends (g.W.Outgoing.contents c.args.self.now.writer) (g.W.Outgoing.contents c.hand.new.self))
+          (sym (framed-one own peer before segment))
           (appends-more _ _ _ _ _ c.segments.invariant.handed
-          (subst (Appends (g.W.Outgoing.contents c.segments.self.writer) (g.W.Outgoing.contents c.hand.new.self)) framed_so c.in_ok-hand.ensures.ok));
+          (subst (Appends (g.W.Outgoing.contents c.segments.self.writer) (g.W.Outgoing.contents c.hand.new.self))
+          framed_so c.in_ok-hand.ensures.ok));
     }
