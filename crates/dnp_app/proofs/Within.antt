@@ -69,8 +69,7 @@ headers_within part place octets (h ∷ hs) are le =
     let s = are.1 in
     let rest = are.0 in
     let lens : length octets ≡ length s.text + (length s.body + length rest) = ap length s.parts
-    ∙ (length-append s.text (s.body ++ rest) ∙ ap (λ (n : ℕ). length s.text + n) (length-append s.body rest)) in
-    (
+    ∙ (length-append s.text (s.body ++ rest) ∙ ap (λ (n : ℕ). length s.text + n) (length-append s.body rest)) in (
       one_within part place octets h rest s le,
       headers_within part (h.start + octets_after s.variation h) rest hs are.2 (omega (arith, lens, s.starts, s.sized)),
     )

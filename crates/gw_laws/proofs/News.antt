@@ -415,8 +415,7 @@ says_of_station setup (sendings.Answer answer) ts k small is can tied =
 says_of_station setup (sendings.Part part) ts k small is can tied =
     let offset : ℤ = setup.station.offset_minutes in
     let common : ℕ = setup.station.common_address in
-    let requested : IsRequested part = requested_in (session ts) tied in
-    (
+    let requested : IsRequested part = requested_in (session ts) tied in (
       sym (stands setup (session ts) k tied) ∙ is.in_session,
       part_of_station offset common part (meaning_of offset (outgoing_octets offset common part)) can requested
           (outgoing_means offset common part small can),

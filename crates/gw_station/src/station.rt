@@ -302,7 +302,8 @@ impl Station {
     {
         let negative = said == Said::Negative;
         let confirmation = confirmed(negative, command);
-        self.answers.push_back_reserved(AsduAnswer::Made(confirmation));
+        self.answers
+            .push_back_reserved(AsduAnswer::Made(confirmation));
     }
 
     /// Takes news: they join the queue of a started client, and the oldest are dropped where too many would wait.
@@ -583,7 +584,11 @@ impl Station {
             }
             Sending::News(observation) => {
                 self.forget_news();
-                self.send_answer(&AsduAnswer::Made(OwnAsdu::news(observation)), settings, moment)
+                self.send_answer(
+                    &AsduAnswer::Made(OwnAsdu::news(observation)),
+                    settings,
+                    moment,
+                )
             }
             Sending::Part(part) => {
                 self.forget_part();

@@ -38,8 +38,7 @@ invariant_of-result c =
 
 pub returns-clause-found : goal.returns-clause-found
 returns-clause-found c =
-    let function : is_response c.args.octets.items ≡ true = search rules in
-    (
+    let function : is_response c.args.octets.items ≡ true = search rules in (
       is_read c.args.outstation c.args.octets.items _ c.in-Ok-reports.reports.items (search rules) function
           (part_is c.args.octets.items c.deref.result.now c.deref.ensures.value) c.in-Ok-reports.ensures.found,
       refl,

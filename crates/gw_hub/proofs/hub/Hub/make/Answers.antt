@@ -33,7 +33,7 @@ loop-step-preserved c =
           allowed sound (omega (arith, c.loop-step-test.true)) c.step-item.is c.loop-step.invariant.0
           c.in_ok-push.ensures.items c.loop-step.invariant.2,
       meant_more c.args.steps.now c.loop-step.step-index c.step-item.result
-      (omega (arith, c.loop-step-test.true)) c.step-item.is c.attest.ensures
+          (omega (arith, c.loop-step-test.true)) c.step-item.is c.attest.ensures
           c.loop-step.invariant.3,
     )
 

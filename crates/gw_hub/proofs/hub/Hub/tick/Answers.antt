@@ -39,8 +39,7 @@ returns-clause-step c =
     ap (λ (h : Hub). h.state.clients) c.self.view_is ∙ ap (λ (s : State). s.clients) state in
     let closed : c.tick-closed.result
     ≡ bits_of (map (is_timed_out (latest old.state c.args.moment)) old.state.clients) =
-    c.tick-closed.ensures.closed ∙ same_bits _ _ _ _ moment clients in
-    (
+    c.tick-closed.ensures.closed ∙ same_bits _ _ _ _ moment clients in (
       rw c.in_ok-count.ensures.ok.0 (ap (λ (bits : ℕ). Ok (Ticked bits)) (sym closed)),
       search (rules, clients, moment, state, c.tick.ensures, c.tick-closed.ensures.clients),
     )

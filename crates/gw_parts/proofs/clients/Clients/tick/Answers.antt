@@ -38,8 +38,8 @@ loop-position-preserved c =
     let client : get_or before n x ≡ get_or old n x =
     get_over (client_after_tick c.args.moment) old before n x within c.loop-position.invariant.0 in
     let late : c.is_some.result ≡ is_timed_out c.args.moment (get_or old n x) =
-        c.is_some.ensures ∙ (ap is_some c.tick.ensures.closed
-        ∙ (closed_late c.args.moment x ∙ ap (is_timed_out c.args.moment) (there ∙ client))) in
+    c.is_some.ensures ∙ (ap is_some c.tick.ensures.closed
+    ∙ (closed_late c.args.moment x ∙ ap (is_timed_out c.args.moment) (there ∙ client))) in
     let shift = shifted c.is_some.result n (omega (arith, within, ap length c.self.view_is, c.self.invariant)) in (
       next_changed n (client_after_tick c.args.moment) old before x c.tick.new.self within c.loop-position.invariant.0
           there c.tick.ensures.client,
