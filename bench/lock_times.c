@@ -1,5 +1,5 @@
 /* To be preloaded by a program that Rattle compiled (x86-64): tells how long its locks are held. At the end it writes a line
- * into the file that the variable LOCK_TIMES names: of the lock that was taken most often, how long it was held, how long
+ * into the file that the variable LOCK_TIMES names: of the lock that was held longest in all, how long it was held, how long
  * whoever wanted it waited, and when in the run the longest of each began. Where the variable LOCK_CLOCK is `processor` a
  * hold is as long as its thread ran meanwhile, so that what others took of the processor isn't counted. Percentiles are up
  * to a sixteenth above what they are.
@@ -261,7 +261,7 @@ __attribute__((destructor)) static void end(void)
     if (!file)
         return;
     for (int place = 1; place < LOCKS; place++)
-        if (all[place].holds.count > most->holds.count)
+        if (all[place].holds.sum > most->holds.sum)
             most = &all[place];
     fprintf(file, "taken %llu times, held %.1f %% of the time; ", (unsigned long long)most->holds.count,
         100 * most->holds.sum * unit / run);
