@@ -88,7 +88,7 @@ kept_after_pump moment c holds = go (offered moment c)
     go (Some (sendings.News x)) =
         record { outside = λ idle. (ap (drop 1) (holds.outside idle).0, (holds.outside idle).1) }
     go (Some (sendings.Part part)) = record { outside = holds.outside }
-    go (Some sendings.Receipt) = record { outside = holds.outside }
+    go (Some sendings.SFormat) = record { outside = holds.outside }
 
 -- ---- all clients
 
