@@ -10,13 +10,9 @@ pub returns-in_default-clause-clients : goal.returns-in_default-clause-clients
 returns-in_default-clause-clients c =
     none_changed c.args.client (client_after_pump c.args.moment) c.args.self.now c.in_default.ensures.value
 
-pub pump-requires-clause-count : goal.pump-requires-clause-count
-pump-requires-clause-count c =
+pub pump-requires : goal.pump-requires
+pump-requires c =
     (has_too CanPump c.args.client c.args.self.now c.in-Some.station.now c.in-Some.ensures.value c.requires).sent
-
-pub pump-requires-clause-answers : goal.pump-requires-clause-answers
-pump-requires-clause-answers c =
-    (has_too CanPump c.args.client c.args.self.now c.in-Some.station.now c.in-Some.ensures.value c.requires).answers
 
 pub returns-in-Some-pump-clause-reply : goal.returns-in-Some-pump-clause-reply
 returns-in-Some-pump-clause-reply c =
