@@ -16,10 +16,16 @@ use Rattle.gw_steps.specs.declared.step.StepFault.{StepFault}
 use Rattle.gw_steps.specs.Runs.{Entry}
 use Rattle.gw_history.specs.Accepted.{Asked, is_in_sequence, is_in_place, asked_of, is_accepted, is_repeated}
 
+-- a verdict, but for the order that ends with the fragment
+abbrev pub without_order : Verdict → Verdict
+without_order (verdicts.Accepted confirm end control) = verdicts.Accepted confirm end None
+without_order (verdicts.Repeated confirm) = verdicts.Repeated confirm
+without_order (verdicts.Ignored why) = verdicts.Ignored why
+
 -- what a reply says of a fragment
 abbrev pub verdict_in : Reply → Option Verdict
 verdict_in replies.Done = None
-verdict_in (replies.Verdict verdict) = Some verdict
+verdict_in (replies.Verdict verdict) = Some (without_order verdict)
 verdict_in (replies.Request request) = None
 verdict_in (replies.Apdu apdu) = None
 verdict_in replies.Taken = None
@@ -34,7 +40,7 @@ confirmation_in (Some (verdicts.Accepted confirmation end control)) = confirmati
 confirmation_in (Some (verdicts.Repeated confirmation)) = confirmation
 confirmation_in (Some (verdicts.Ignored why)) = None
 
--- what is to be said of an answer to the request that awaits one; no order ends with it, since none is given yet
+-- what is to be said of an answer to the request that awaits one
 abbrev pub verdict_due_to_answer : Option Asked → Fragment → Verdict
 verdict_due_to_answer None f = verdicts.Ignored NoRequest
 verdict_due_to_answer (Some a) f =

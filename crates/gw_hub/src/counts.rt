@@ -44,6 +44,13 @@ impl Counts {
         }
     }
 
+    /// How many sessions there were.
+    pub fn sessions(&self) -> u64
+        ensures { result ≡ self.now.sessions }
+    {
+        self.sessions
+    }
+
     /// How many news there were.
     pub fn news(&self) -> u64
         ensures { result ≡ self.now.news }

@@ -46,6 +46,10 @@ pub struct Hub {
     outstations: Outstations,
     picture: Picture,
     clients: Clients,
+    /// For each client the number of its last session: the sessions of all clients are numbered from 1.
+    sessions: [u64; CLIENTS as usize],
+    /// The clients' selections of controls, and their orders.
+    controls: Controls,
     counts: Counts,
     /// The largest moment of a step that was made.
     moment: u64,
@@ -62,6 +66,8 @@ impl Model for Hub {
         outstations = h.outstations;
         picture = h.picture;
         clients = h.clients;
+        sessions = h.sessions;
+        controls = h.controls;
         counts = h.counts;
         moment = h.moment;
       };
@@ -71,6 +77,8 @@ impl Model for Hub {
       outstations = h.outstations;
       picture = h.picture;
       clients = h.clients;
+      sessions = h.sessions;
+      controls = h.controls;
       counts = h.counts;
       moment = h.moment;
     }) };
@@ -89,6 +97,7 @@ impl Hub {
         let outstations = Outstations::new(alloc, settings.outstations())?;
         let picture = Picture::new(alloc, &settings)?;
         let clients = Clients::new(alloc, CLIENTS, &limits_of(station), station.queue)?;
+        let controls = Controls::new(alloc, &settings)?;
         let common = Common::new(alloc, settings)?;
         let counts = Counts::new();
         Ok(Hub {
@@ -97,13 +106,15 @@ impl Hub {
             outstations,
             picture,
             clients,
+            sessions: [0; CLIENTS as usize],
+            controls,
             counts,
             moment: 0,
         })
     }
 
-    /// An equal hub. The settings are shared; what is copied is the picture, what waits for each client, and what is
-    /// due towards each outstation.
+    /// An equal hub. The settings are shared; what is copied is the picture, what waits for each client, selections and
+    /// orders, and what is due towards each outstation.
     pub fn copy(&self) -> Result<Hub, Memory>
         ensures { IfOk result (λ hub. hub ≡ self.now) }
     {
@@ -113,6 +124,8 @@ impl Hub {
             outstations: self.outstations.copy()?,
             picture: self.picture.copy()?,
             clients: self.clients.copy()?,
+            sessions: self.sessions,
+            controls: self.controls.copy()?,
             counts: self.counts.copy(),
             moment: self.moment,
         })
@@ -128,6 +141,8 @@ impl Hub {
             outstations: self.outstations.copy_over(spare.outstations)?,
             picture: self.picture.copy_over(spare.picture)?,
             clients: self.clients.copy_over(spare.clients)?,
+            sessions: self.sessions,
+            controls: self.controls.copy_over(spare.controls)?,
             counts: self.counts.copy(),
             moment: self.moment,
         })
@@ -188,10 +203,12 @@ impl Hub {
 
     /// Whether a poll of an outstation would give a request at the largest moment so far.
     pub fn is_poll_due(&self, outstation: u8) -> bool
-        ensures { result ≡ is_due self.now.state.moment (slice_get self.now.state.outstations outstation) }
+        ensures { result ≡ is_poll_due self.now.state outstation }
     {
         match self.outstations.get(outstation) {
-            Some(master) => master.is_due(self.moment),
+            Some(master) => {
+                master.is_due(self.moment) || (master.ready() && self.controls.waits(outstation))
+            }
             None => false,
         }
     }
@@ -389,7 +406,14 @@ impl Hub {
             self.settings.get(),
             outstation,
         );
-        self.outstations.go_down(outstation);
+        let ended = self.outstations.go_down(outstation);
+        end_order(
+            &mut self.controls,
+            &mut self.clients,
+            usize::from(outstation),
+            ended,
+        );
+        lose_orders(&mut self.controls, &mut self.clients, outstation);
         self.counts.raise(news as u64, 0);
         self.moment = moment;
         Ok(Reply::Done)
@@ -406,16 +430,22 @@ impl Hub {
             return Err(StepFault::NotUp);
         }
         let verdict = master.judge(response);
-        if let Verdict::Accepted { .. } = verdict {
-            self.accept(response, moment)?;
+        if let Verdict::Accepted { control, .. } = verdict {
+            self.accept(response, moment, control)?;
         } else {
             self.count(moment)?;
         }
         Ok(Reply::Verdict(verdict))
     }
 
-    /// Takes an accepted response.
-    fn accept(&mut self, response: &Response, moment: u64) -> Result<(), StepFault>
+    /// Takes an accepted response, with which this order ends, if one does.
+    fn accept(
+        &mut self,
+        response: &Response,
+        moment: u64,
+        ended: Option<Ended>,
+    ) -> Result<(), StepFault>
+        requires { ended ≡ order_ended self.old.state response.now }
         ensures ok { OnOk result ((can_take self.old response.now.reports ≡ true)
             × (self.new.state ≡ state_with_response self.old moment response.now)) }
         ensures err { IfErr result (λ fault. fault ≡ Spent) }
@@ -437,6 +467,8 @@ impl Hub {
         // The contract of `rows` tells what every picture shows.
         let _shown = self.picture.rows();
         self.outstations.take(response, moment);
+        let position = usize::from(response.outstation());
+        end_order(&mut self.controls, &mut self.clients, position, ended);
         self.counts.raise(news, 0);
         self.moment = moment;
         Ok(())
@@ -448,7 +480,23 @@ impl Hub {
     {
         self.reached(outstation)?;
         self.count(moment)?;
-        Ok(self.outstations.next(outstation, self.moment, wall))
+        Ok(match self.take_order(outstation) {
+            Some(order) => self.outstations.order(outstation, order, self.moment),
+            None => self.outstations.next(outstation, self.moment, wall),
+        })
+    }
+
+    /// Takes the order that is due for an outstation, if one is.
+    fn take_order(&mut self, outstation: u8) -> Option<Order>
+        ensures order { result ≡ order_due self.old.state outstation }
+        ensures state { self.new.state ≡ record self.old.state { controls = controls_polled self.old.state outstation } }
+        ensures setup { self.new.setup ≡ self.old.setup }
+    {
+        if self.outstations.get(outstation)?.ready() {
+            self.controls.take_order(outstation)
+        } else {
+            None
+        }
     }
 
     fn tick(&mut self, moment: u64) -> Result<Reply, StepFault>
@@ -456,8 +504,13 @@ impl Hub {
         ensures setup { self.new.setup ≡ self.old.setup }
     {
         self.count(moment)?;
-        self.outstations.tick(self.moment);
-        let closed = self.clients.tick(self.moment);
+        let closed = self.clients.tick(&mut self.controls, self.moment);
+        pass_time(
+            &mut self.outstations,
+            &mut self.controls,
+            &mut self.clients,
+            self.moment,
+        );
         Ok(Reply::Ticked { closed })
     }
 
@@ -482,6 +535,7 @@ impl Hub {
         self.connected(client)?;
         self.count(moment)?;
         self.clients.go_down(client);
+        self.controls.end(client);
         Ok(Reply::Done)
     }
 
@@ -501,21 +555,70 @@ impl Hub {
         ensures setup { self.new.setup ≡ self.old.setup }
     {
         self.connected(client)?;
-        let sessions = u64::from(self.clients.begins(client, apdu));
-        if !self.counts.can_rise(0, sessions) {
+        let begins = self.clients.begins(client, apdu);
+        let moment = self.latest(moment);
+        if !self.counts.can_rise(0, u64::from(begins)) || !self.can_order(client, apdu, moment) {
             return Err(StepFault::Spent);
         }
-        let moment = self.latest(moment);
         let picture = self.picture.rows();
-        let Ok(reply) = self
+        let Ok(event) = self
             .clients
             .frame(client, apdu, moment, self.settings.get(), picture)
         else {
             return Err(StepFault::Memory);
         };
-        self.counts.raise(0, sessions);
+        self.settle(client, apdu, moment, event);
+        self.counts.raise(0, u64::from(begins));
+        if begins {
+            self.sessions[usize::from(client)] = self.counts.sessions();
+        }
         self.moment = moment;
-        Ok(reply)
+        Ok(reply_of(event))
+    }
+
+    /// Whether the command for a control in an APDU of a client is no order, or one more order has a number.
+    fn can_order(&self, client: u8, apdu: &Apdu, moment: u64) -> bool
+        ensures { result ≡ can_order (is_ordering self.now.setup self.now.state moment client
+            (command_of self.now.setup apdu.now (slice_get self.now.state.clients client))) self.now.state.controls }
+    {
+        if self.controls.ordered() != u64::MAX {
+            return true;
+        }
+        let settings = self.settings.get();
+        match self.clients.gives(client, apdu, settings) {
+            None => true,
+            Some(command) => !self.controls.orders(
+                client,
+                self.session(client),
+                &command,
+                settings,
+                self.is_control_up(&command),
+                moment,
+            ),
+        }
+    }
+
+    /// The number of a client's last session.
+    fn session(&self, client: u8) -> u64
+        ensures { result ≡ slice_index self.now.state.sessions client }
+    {
+        match self.sessions.get(usize::from(client)) {
+            Some(session) => *session,
+            None => 0,
+        }
+    }
+
+    /// Whether the outstation of the control that a command is for is up.
+    fn is_control_up(&self, command: &Command) -> bool
+        ensures { result ≡ is_control_up self.now.state.outstations (control_for self.now.setup command.now) }
+    {
+        match control_for(command, self.settings.get()) {
+            None => false,
+            Some((_, control)) => match self.outstations.get(control.outstation) {
+                None => false,
+                Some(master) => master.is_up(),
+            },
+        }
     }
 
     fn pump(&mut self, client: u8, moment: u64) -> Result<Reply, StepFault>

@@ -1,4 +1,5 @@
--- Line: each I format that is put out to a client is the first of what waits for it: the answers to its ASDUs, the news
+-- Line: each I format that is put out to a client is the first of what waits for it: the answers to its ASDUs, what
+-- became of its orders, the news
 -- that came before the interrogation that is pending, the rest of its answer, and later news.
 use Rattle.std.specs.Prelude.{◌≡◌, ℕ, ℤ, Bool, List, [], ◌∷◌, ◌++◌, length, map, take, drop, slice_get, Option, Some, None}
 use Rattle.std.specs.Option.{option_to_list}
@@ -6,37 +7,51 @@ use Rattle.gw_model.specs.declared.observation.Observation.{Observation}
 use Rattle.gw_map.specs.Settings.{Setup}
 use Rattle.iec_apci.specs.declared.apdu.Asdu.{Asdu}
 use Rattle.iec_apci.specs.declared.apdu.Apdu.TheVariants.{I}
+use Rattle.iec_command.specs.declared.command.Command.{Command}
+use Rattle.gw_control.specs.declared.answer.Outcome.{Outcome}
 use Rattle.gw_judge.specs.declared.judging.Judged.{Judged}
 use Rattle.gw_answers.specs.declared.outgoing.AsduAnswer.{AsduAnswer}
 use Rattle.gw_answers.specs.declared.outgoing.AsduAnswer.TheVariants.{Made}
 use Rattle.gw_answers.specs.declared.outgoing.OwnAsdu.{OwnAsdu}
-use Rattle.gw_answers.specs.Outgoing.{confirmed, news}
+use Rattle.gw_answers.specs.Outgoing.{news}
 use Rattle.gw_answers.specs.Interrogations.{answer_to}
 use Rattle.gw_answers.specs.Answers.{answered, command_by}
 use Rattle.gw_answers.specs.Meaning.{Meant, Means}
 use Rattle.gw_station.specs.declared.sending.Sending.{Sending}
 use Rattle.gw_station.specs.declared.sending.Sending.TheVariants as sendings
-use Rattle.gw_station.specs.Answers.{is_negative, outcome_of}
+use Rattle.gw_station.specs.declared.event.Said.{Said}
+use Rattle.gw_station.specs.Answers.{told}
 use Rattle.gw_station.specs.Frames.{judged_asdu}
+use Rattle.gw_steps.specs.Controls.{said_of_outcome}
 use Rattle.gw_steps.specs.Runs.{Entry}
 use Rattle.gw_steps.specs.Said.{ApduMeaning, IFormat, SFormat, UFormat}
-use Rattle.gw_history.specs.Life.{Turn, Takes, PutsOut, session, turns_in, OfEachLife}
+use Rattle.gw_history.specs.Life.{Taking, Turn, Idle, Takes, PutsOut, session, turns_in, OfEachLife}
 use Rattle.gw_laws.specs.Fates.{Element, items_of, is_queued, fates}
 use Rattle.gw_laws.specs.Interrogations.{Interrogation, is_pending, interrogation}
 
 -- ---- the answers to ASDUs
 
--- what an ASDU gets at once, or by the outcome of the command for a control that it is
-abbrev pub answers_to : Setup → List Observation → Bool → Asdu → Judged → List AsduAnswer
-answers_to setup picture pending asdu j =
-    option_to_list (answered setup picture pending asdu j)
-    ++ map (λ command. Made (confirmed (is_negative (outcome_of command)) command)) (option_to_list (command_by j))
+-- what is said of a command for a control, if there is one
+abbrev pub told_of : (Command → Said) → Option Command → List AsduAnswer
+told_of said None = []
+told_of said (Some command) = map Made (told command (said command))
+
+-- what an ASDU gets at once, or by what is said of the command for a control that it is
+abbrev pub answers_to : Setup → Taking → Bool → Asdu → Judged → List AsduAnswer
+answers_to setup taking pending asdu j =
+    option_to_list (answered setup taking.picture pending asdu j) ++ told_of taking.said (command_by j)
+
+-- what is told of outcomes
+abbrev pub told_outcomes : List Outcome → List AsduAnswer
+told_outcomes [] = []
+told_outcomes (x ∷ xs) = map Made (told x.command (said_of_outcome x)) ++ told_outcomes xs
 
 -- the answers that wait, oldest first: what is put out in an I format is the one that waits longest, where one waits
 abbrev pub owed : Setup → List Turn → List AsduAnswer
 owed setup [] = []
+owed setup (Idle brought ∷ ts) = owed setup ts ++ told_outcomes brought.outcomes
 owed setup (Takes (I ns nr asdu) taking ∷ ts) =
-    owed setup ts ++ answers_to setup taking.picture (is_pending (interrogation setup ts)) asdu (judged_asdu setup asdu)
+    owed setup ts ++ answers_to setup taking (is_pending (interrogation setup ts)) asdu (judged_asdu setup asdu)
 owed setup (PutsOut (IFormat ns nr meant) ∷ ts) = drop 1 (owed setup ts)
 owed setup (_ ∷ ts) = owed setup ts
 

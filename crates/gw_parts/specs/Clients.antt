@@ -3,15 +3,18 @@ use Rattle.std.specs.Prelude.{ℕ, ◌+◌, ◌^◌, ◌<◌, Bool, false, ◌&&
 use Rattle.gw_map.specs.Settings.{Setup}
 use Rattle.iec_apci.specs.declared.apdu.Apdu.{Apdu}
 use Rattle.iec_window.specs.Counts.{sent_in_all}
+use Rattle.gw_station.specs.declared.event.Event.{Event}
+use Rattle.gw_station.specs.declared.event.Event.TheVariants.{Taken}
 use Rattle.gw_station.specs.Client.{Client, is_up}
 use Rattle.gw_station.specs.Frames.{event_of}
 use Rattle.gw_station.specs.Pump.{given, offered}
 use Rattle.gw_steps.specs.declared.step.Reply.{Reply}
-use Rattle.gw_steps.specs.Steps.{client_reply, reply_giving, reply_of_event}
+use Rattle.gw_steps.specs.Steps.{client_reply, reply_giving}
 
--- the reply to an APDU
-abbrev pub reply_to_apdu : Setup → Apdu → Option Client → Reply
-reply_to_apdu setup apdu = client_reply (λ k. reply_of_event (event_of setup apdu k))
+-- what becomes of an APDU; nothing does where there is no such client
+abbrev pub event_at : Setup → Apdu → Option Client → Event
+event_at setup apdu None = Taken
+event_at setup apdu (Some k) = event_of setup apdu k
 
 -- the reply to a pump at a moment
 abbrev pub reply_to_pump : Setup → ℕ → Option Client → Reply

@@ -1,24 +1,28 @@
 //! All clients, by their position.
-ghost use Rattle.std.specs.Prelude.{◌≡◌, ◌+◌, ◌<◌, ◌≤◌, ℕ, [], ◌∷◌, length, map, option_copied, option_map, replicate, slice_get, true, IfOk, OnErr, OnOk};
+ghost use Rattle.std.specs.Prelude.{◌≡◌, ◌+◌, ◌<◌, ◌≤◌, ℕ, [], ◌∷◌, length, map, option_copied, option_map, replicate, slice_get, true, IfOk, IfSome, OnErr, OnOk};
 ghost use Rattle.std.specs.Borrow.{sem};
 ghost use Rattle.std.specs.List.{AllByRecursion};
 ghost use Rattle.std.specs.Option.{option_copied_mut};
 ghost use Rattle.gw_model.specs.Places.{change};
 ghost use Rattle.gw_map.specs.Settings.{Setup};
 ghost use Rattle.gw_station.specs.Client.{client_after_close, client_after_tick, client_after_up, client_down, client_with_news, is_timed_out, is_up};
-ghost use Rattle.gw_station.specs.Frames.{HasPlace};
+ghost use Rattle.gw_station.specs.Answers.{client_told, CanBeTold};
+ghost use Rattle.gw_station.specs.Frames.{client_after_apdu, HasPlace};
 ghost use Rattle.gw_station.specs.Pump.{client_after_pump};
 ghost use Rattle.gw_answers.specs.Meaning.{IsSendable};
-ghost use Rattle.gw_station.specs.Sound.{CanTake, IsSoundClient};
-ghost use Rattle.gw_steps.specs.Steps.{begun_by, bits_of, client_after_frame, client_answered, reply_of_event, wanted_by};
-ghost use Rattle.gw_parts.specs.Clients.{reply_to_apdu, reply_to_pump, CanCount, CanPump};
+ghost use Rattle.gw_station.specs.Sound.{CanTake, IsSoundClient, IsWholeEvent};
+ghost use Rattle.gw_steps.specs.Controls.{controls_after_closes};
+ghost use Rattle.gw_steps.specs.Steps.{begun_by, bits_of, command_of, wanted_by};
+ghost use Rattle.gw_parts.specs.Clients.{event_at, reply_to_pump, CanCount, CanPump};
 ghost use Rattle.gw_parts.specs.Lending.{LendsClient};
 
+use gw_control::Controls;
 use gw_map::Settings;
 use gw_model::{Memory, Observation};
-use gw_station::{Event, Station, outcome_of};
+use gw_station::{Event, Said, Station};
 use gw_steps::Reply;
 use iec_apci::Apdu;
+use iec_command::Command;
 use iec_window::Limits;
 use std::alloc::Global;
 use std::marker::Model;
@@ -125,9 +129,16 @@ impl Clients {
         }
     }
 
-    /// Takes an APDU that came from a client at a moment; a command for a control is answered negatively at once.
-    /// `picture` is what is shown of each row of `settings`. Memory is wanted for the queue of a session that begins,
-    /// and for the copy of the picture that answers an interrogation.
+    /// The command for a control that an APDU of a client carries, if it would be taken.
+    pub fn gives(&self, client: u8, apdu: &Apdu, settings: &Settings) -> Option<Command>
+        ensures { result ≡ command_of settings.now apdu.now (slice_get self.now client) }
+    {
+        self.get(client)?.gives(apdu, settings)
+    }
+
+    /// Takes an APDU that came from a client at a moment: what became of it. `picture` is what is shown of each row of
+    /// `settings`. Memory is wanted for the queue of a session that begins, and for the copy of the picture that answers
+    /// an interrogation.
     pub fn frame(
         &mut self,
         client: u8,
@@ -135,13 +146,16 @@ impl Clients {
         moment: u64,
         settings: &Settings,
         picture: &[Observation],
-    ) -> Result<Reply, Memory>
+    ) -> Result<Event, Memory>
         requires { AllByRecursion CanCount self.old }
-        ensures reply { IfOk result (λ reply. reply ≡ reply_to_apdu settings.now apdu.now (slice_get self.old client)) }
+        ensures event { IfOk result (λ event. event ≡ event_at settings.now apdu.now (slice_get self.old client)) }
         ensures clients { OnOk result
-            (self.new ≡ change client (client_after_frame settings.now picture.now moment apdu.now) self.old) }
+            (self.new ≡ change client (client_after_apdu settings.now picture.now moment apdu.now) self.old) }
         ensures memory { OnErr result (wanted_by settings.now apdu.now (slice_get self.old client) ≡ true) }
         ensures same { OnErr result (self.new ≡ self.old) }
+        // A command that is given has fields that fit, and finds places for what is said of it.
+        ensures whole { IfOk result (λ event. IsWholeEvent event) }
+        ensures place { IfOk result (λ event. IfSome (slice_get self.new client) (HasPlace event)) }
         // Where the picture can be sent, all clients stay sound, one step later.
         ensures sound { (any : Setup) (n i : ℕ)
             → AllByRecursion (IsSendable any.station.offset_minutes) picture.now
@@ -149,10 +163,19 @@ impl Clients {
             → OnOk result (AllByRecursion (IsSoundClient any.station (n + 1) i) self.new) }
     {
         let Some(station) = self.get_mut(client) else {
-            return Ok(Reply::Nothing);
+            return Ok(Event::Taken);
         };
-        let event = station.frame(apdu, moment, settings, picture)?;
-        Ok(replied(event, station))
+        station.frame(apdu, moment, settings, picture)
+    }
+
+    /// Says something of a command of a client, or what became of the order that it was.
+    pub fn answer(&mut self, client: u8, command: &Command, said: Said)
+        requires { IfSome (slice_get self.old client) (CanBeTold command.now said) }
+        ensures { self.new ≡ change client (client_told command.now said) self.old }
+    {
+        if let Some(station) = self.get_mut(client) {
+            station.answer(command, said);
+        }
     }
 
     /// The next APDU for a client.
@@ -170,14 +193,20 @@ impl Clients {
         }
     }
 
-    /// Time has passed, for every client: a bit for each whose connection is closed, the lowest for the first.
-    pub fn tick(&mut self, moment: u64) -> u8
+    /// Time has passed, for every client: a bit for each whose connection is closed, the lowest for the first. With it
+    /// its session ends.
+    pub fn tick(&mut self, controls: &mut Controls, moment: u64) -> u8
         ensures closed { result ≡ bits_of (map (is_timed_out moment) self.old) }
         ensures clients { self.new ≡ map (client_after_tick moment) self.old }
+        ensures controls { controls.new ≡ controls_after_closes 0 (map (is_timed_out moment) self.old) controls.old }
     {
         let mut closed = 0;
         for position in 0..self.stations.len() {
-            closed += u8::from(self.stations[position].tick(moment).is_some()) << position;
+            let is_closed = self.stations[position].tick(moment).is_some();
+            closed += u8::from(is_closed) << position;
+            if is_closed {
+                controls.end(position as u8);
+            }
         }
         closed
     }
@@ -201,21 +230,5 @@ fn copied(station: &Station, spare: Option<Station>) -> Result<Station, Memory>
     match spare {
         Some(spare) => station.copy_over(spare),
         None => station.copy(),
-    }
-}
-
-/// The reply to what became of an APDU of a client; a command for a control is answered negatively.
-fn replied(event: Event, station: &mut Station) -> Reply
-    requires { HasPlace event station.old }
-    ensures reply { result ≡ reply_of_event event }
-    ensures client { station.new ≡ client_answered event station.old }
-{
-    match event {
-        Event::Taken => Reply::Taken,
-        Event::Command(command) => {
-            station.answer(&command, outcome_of(&command));
-            Reply::Taken
-        }
-        Event::Closed(why) => Reply::Closed(why),
     }
 }

@@ -1,17 +1,18 @@
 //! All outstations, by their position.
-ghost use Rattle.std.specs.Prelude.{◌≡◌, map, option_copied, slice_get, IfOk};
+ghost use Rattle.std.specs.Prelude.{◌≡◌, ◌<◌, length, map, option_and_then, option_copied, slice_get, true, IfOk, IfSome};
 ghost use Rattle.std.specs.Borrow.{sem};
 ghost use Rattle.std.specs.Option.{option_copied_mut};
 ghost use Rattle.gw_model.specs.Places.{change};
-ghost use Rattle.dnp_master.specs.Master.{master_after_next, master_after_tick, master_after_up, master_down};
+ghost use Rattle.dnp_master.specs.Master.{ended_by_tick, is_ready, master_after_next, master_after_order, master_after_tick, master_after_up, master_down};
 ghost use Rattle.dnp_master.specs.Fragments.{master_after_fragment};
 ghost use Rattle.gw_parts.specs.Lending.{LendsMaster};
-ghost use Rattle.gw_parts.specs.Outstations.{reply_to_poll};
+ghost use Rattle.gw_steps.specs.Controls.{ended_lost};
+ghost use Rattle.gw_parts.specs.Outstations.{reply_to_order, reply_to_poll};
 
 use dnp_app::Response;
 use dnp_master::Master;
 use gw_map::Outstation;
-use gw_model::Memory;
+use gw_model::{Ended, Memory, Order};
 use gw_steps::Reply;
 use std::alloc::Global;
 use std::marker::Model;
@@ -64,6 +65,13 @@ impl Outstations {
         Ok(Outstations { masters })
     }
 
+    /// How many outstations there are.
+    pub fn len(&self) -> usize
+        ensures { result ≡ length self.now }
+    {
+        self.masters.len()
+    }
+
     /// The master towards an outstation; none where there is no such outstation.
     pub fn get(&self, outstation: u8) -> Option<&Master>
         ensures { option_copied result ≡ slice_get self.now outstation }
@@ -88,13 +96,12 @@ impl Outstations {
         }
     }
 
-    /// An outstation is lost.
-    pub fn go_down(&mut self, outstation: u8)
-        ensures { self.new ≡ change outstation (λ master. master_down master.poll) self.old }
+    /// An outstation is lost: the order that was given to it and has not ended fails.
+    pub fn go_down(&mut self, outstation: u8) -> Option<Ended>
+        ensures ended { result ≡ ended_lost (slice_get self.old outstation) }
+        ensures masters { self.new ≡ change outstation (λ master. master_down master.poll) self.old }
     {
-        if let Some(master) = self.get_mut(outstation) {
-            master.down();
-        }
+        self.get_mut(outstation)?.down()
     }
 
     /// A response of its outstation comes at a moment.
@@ -120,12 +127,24 @@ impl Outstations {
         }
     }
 
-    /// Time has passed, for every outstation.
-    pub fn tick(&mut self, moment: u64)
-        ensures { self.new ≡ map (master_after_tick moment) self.old }
+    /// The request of an order of an outstation that is ready, at a moment.
+    pub fn order(&mut self, outstation: u8, order: Order, moment: u64) -> Reply
+        requires { IfSome (slice_get self.old outstation) (λ m. is_ready m ≡ true) }
+        ensures reply { result ≡ reply_to_order order (slice_get self.old outstation) }
+        ensures masters { self.new ≡ change outstation (master_after_order moment order) self.old }
     {
-        for position in 0..self.masters.len() {
-            self.masters[position].tick(moment);
+        match self.get_mut(outstation) {
+            Some(master) => Reply::Request(master.order(order, moment)),
+            None => Reply::Nothing,
         }
+    }
+
+    /// Time has passed for the outstation at a position: the order that fails with it.
+    pub fn tick(&mut self, position: usize, moment: u64) -> Option<Ended>
+        requires { position < length self.old }
+        ensures ended { result ≡ option_and_then (ended_by_tick moment) (slice_get self.old position) }
+        ensures masters { self.new ≡ change position (master_after_tick moment) self.old }
+    {
+        self.masters[position].tick(moment)
     }
 }

@@ -23,7 +23,7 @@ use Rattle.gw_answers.specs.Interrogations.{is_accepted_act}
 use Rattle.gw_answers.specs.Answers.{places_for, refused_act, shown_at, answered_action, answered}
 use Rattle.gw_station.specs.declared.event.Why.TheVariants.{Flooded}
 use Rattle.gw_station.specs.Client.{Client}
-use Rattle.gw_station.specs.Answers.{is_pending, answers_with, client_judging}
+use Rattle.gw_station.specs.Answers.{is_pending, answers_with, client_judging, places, places_taken}
 use Rattle.gw_station.specs.Frames.{floods, closes_judged, confirmations_with}
 use Rattle.gw_station.proofs.Opens.{open_i}
 
@@ -103,9 +103,9 @@ answers_within (Some answer) waiting n needs = omega (arith, needs, length-appen
 -- an ASDU for whose answer there are places
 pub answers_few : (setup : Setup) (picture : List Observation) (ns nr : ℕ) (asdu : Asdu) (j : Judged) (c : Client)
     → first_of (closes_judged ns nr j c) ≡ None
-    → length (client_judging setup picture asdu j c).answers ≤ 32
+    → places_taken (client_judging setup picture asdu j c) ≤ places
 answers_few setup picture ns nr asdu j c taken =
-    let fits : length c.answers + places_for (is_pending c.rest) j ≤ 32 =
-    ltb-false 32 (length c.answers + places_for (is_pending c.rest) j) (open_i ns nr j c taken).places in
+    let fits : places_taken c + places_for (is_pending c.rest) j ≤ places =
+    ltb-false places (places_taken c + places_for (is_pending c.rest) j) (open_i ns nr j c taken).places in
     let answer = answered setup picture (is_pending c.rest) asdu j in
     omega (arith, fits, answers_within answer c.answers _ (answered_needs setup picture (is_pending c.rest) asdu j))

@@ -1,10 +1,10 @@
 -- Whatever becomes of a client, what waits can be sent and is no more than may wait, and the steps and news count no
 -- fewer than its I formats and what it dropped.
-use Rattle.std.proofs.Common.{◌≡◌, ℕ, ℤ, ◌+◌, ◌-◌, ◌<◌, ◌≤◌, Bool, true, false, List, [], ◌∷◌, ◌++◌, drop, length, Option, Some, None, refl, ap, subst, arith, inl, inr}
+use Rattle.std.proofs.Common.{◌≡◌, ℕ, ℤ, ◌+◌, ◌-◌, ◌<◌, ◌≤◌, Bool, true, false, List, [], ◌∷◌, ◌++◌, drop, length, map, Option, Some, None, refl, sym, ap, subst, ◌∙◌, arith, inl, inr}
 use Rattle.std.proofs.lemmas.List.{length-append, length-drop}
 use Rattle.std.specs.Prelude.{IfSome}
 use Rattle.std.specs.List.{AllByRecursion}
-use Rattle.std.proofs.lemmas.Bool.{cases_Bool}
+use Rattle.std.proofs.lemmas.Bool.{cases_Bool, true≢false}
 use Rattle.gw_model.specs.declared.observation.Observation.{Observation}
 use Rattle.gw_entries.specs.Setup.{StationSetup}
 use Rattle.iec_apci.specs.declared.apdu.Apdu.{Apdu}
@@ -25,13 +25,13 @@ use Rattle.gw_map.specs.Settings.{Setup}
 use Rattle.gw_station.specs.declared.event.Said.{Said}
 use Rattle.gw_answers.specs.declared.outgoing.AsduAnswer.{AsduAnswer}
 use Rattle.gw_answers.specs.declared.outgoing.AsduAnswer.TheVariants.{Made}
-use Rattle.gw_answers.specs.Outgoing.{confirmed}
 use Rattle.gw_answers.proofs.Sendable.{confirmed_can}
 use Rattle.gw_answers.specs.declared.outgoing.OwnAsdu.{OwnAsdu}
 use Rattle.gw_answers.specs.Meaning.{CanSendAnswer, CanSendOutgoing, IsSendable}
 use Rattle.gw_station.specs.declared.sending.Sending.{Sending}
 use Rattle.gw_station.specs.declared.sending.Sending.TheVariants as sendings
-use Rattle.gw_station.specs.Answers.{is_negative, client_judging, client_told}
+use Rattle.gw_station.specs.declared.event.Said.TheVariants as saids
+use Rattle.gw_station.specs.Answers.{client_judging, client_told, held_with, places, places_taken, terminated, told, CanBeTold}
 use Rattle.gw_station.specs.Client.{Client, is_started, queue_with, overflow, is_timed_out, client_anew, client_with_news, client_after_close, client_after_up, client_after_tick}
 use Rattle.gw_station.specs.Frames.{floods, judged_asdu, close_of, confirmations_with, window_with_signal, client_with_session, client_with_signal, client_taking, client_by, client_after_apdu}
 use Rattle.gw_station.specs.Pump.{offered, client_by_offer, client_after_pump, IsRoomy}
@@ -117,6 +117,7 @@ sound_later station n m i j c le few sound = record {
   window = window_later station n m c.window le sound.window;
   confirmations = sound.confirmations;
   places = sound.places;
+  stopped = sound.stopped;
   answers = sound.answers;
   limit = sound.limit;
   few = sound.few;
@@ -131,6 +132,7 @@ with_window station n m i w c window sound = record {
   window = window;
   confirmations = sound.confirmations;
   places = sound.places;
+  stopped = sound.stopped;
   answers = sound.answers;
   limit = sound.limit;
   few = sound.few;
@@ -145,6 +147,7 @@ with_confirmations station n i waiting c few sound = record {
   window = sound.window;
   confirmations = few;
   places = sound.places;
+  stopped = sound.stopped;
   answers = sound.answers;
   limit = sound.limit;
   few = sound.few;
@@ -154,14 +157,17 @@ with_confirmations station n i waiting c few sound = record {
 }
 
 -- what answers it, and how many of the queue came before the interrogation that is pending
-with_answers : (station : StationSetup) (n i older : ℕ) (answers : List AsduAnswer) (rest : List OwnAsdu) (c : Client)
-    → length answers ≤ 32 → AllByRecursion (CanSendAnswer station.offset_minutes) answers
+with_answers : (station : StationSetup) (n i held older : ℕ) (answers : List AsduAnswer) (rest : List OwnAsdu)
+    (c : Client)
+    → length answers + held ≤ places → (is_started c.stage ≡ false → held ≡ 0)
+    → AllByRecursion (CanSendAnswer station.offset_minutes) answers
     → AllByRecursion (CanSendOutgoing station.offset_minutes) rest → IsSoundClient station n i c
-    → IsSoundClient station n i (record c { answers = answers; older = older; rest = rest })
-with_answers station n i older answers rest c few can can_rest sound = record {
+    → IsSoundClient station n i (record c { answers = answers; held = held; older = older; rest = rest })
+with_answers station n i held older answers rest c few none can can_rest sound = record {
   window = sound.window;
   confirmations = sound.confirmations;
   places = few;
+  stopped = none;
   answers = can;
   limit = sound.limit;
   few = sound.few;
@@ -177,6 +183,7 @@ anew station n i stage c sound = record {
   window = sound.window;
   confirmations = sound.confirmations;
   places = omega arith;
+  stopped = λ none. refl;
   answers = tt;
   limit = sound.limit;
   few = omega arith;
@@ -195,6 +202,7 @@ sound_with_news station n i xs c all sound = record {
   window = sound.window;
   confirmations = sound.confirmations;
   places = sound.places;
+  stopped = sound.stopped;
   answers = sound.answers;
   limit = sound.limit;
   few = fits (is_started c.stage);
@@ -282,8 +290,8 @@ taking station n i setup picture moment (I ns nr asdu) c taken can sound =
     let d : Client = client_judging setup picture asdu (judged_asdu setup asdu) c in
     with_window station n (n + 1) i (counts_after_i ns nr moment c.window) d
     (window_after_i station n ns nr moment c.window sound.window)
-    (with_answers station n i d.older d.answers d.rest c
-    (answers_few setup picture ns nr asdu (judged_asdu setup asdu) c taken) can.0 can.1 sound)
+    (with_answers station n i c.held d.older d.answers d.rest c
+    (answers_few setup picture ns nr asdu (judged_asdu setup asdu) c taken) sound.stopped can.0 can.1 sound)
 taking station n i setup picture moment (S nr) c taken can sound =
     with_window station n (n + 1) i (counts_after_s nr moment c.window) c
     (window_later station n (n + 1) (counts_after_s nr moment c.window) (omega arith)
@@ -306,16 +314,46 @@ sound_after_apdu station n i setup picture moment a c answers sound = go (close_
     go (Some why) e = sound_later station n (n + 1) i i (client_after_close c) (omega arith) (omega arith)
         (sound_after_close station n i c sound)
 
--- something was said of a command, for which there is a place
+-- something was said of a command, for which there are places
+terminated_can : (offset : ℤ) (c : Command) → IsWhole c → CanSendOutgoing offset (terminated c)
+terminated_can offset c whole = (
+  refl,
+  record {
+    cause = omega arith;
+    originator = whole.originator;
+    common_address = whole.common_address;
+    address = whole.address;
+    action = whole.action;
+  },
+)
+
+told_can : (offset : ℤ) (command : Command) (said : Said) → IsWhole command
+    → AllByRecursion (CanSendAnswer offset) (map Made (told command said))
+told_can offset command saids.Confirm whole = (confirmed_can offset false command whole, tt)
+told_can offset command saids.Negative whole = (confirmed_can offset true command whole, tt)
+told_can offset command saids.Ordered whole = tt
+told_can offset command saids.Done whole =
+    (confirmed_can offset false command whole, (terminated_can offset command whole, tt))
+told_can offset command saids.Failed whole = (confirmed_can offset true command whole, tt)
+
+-- orders are made in a session alone
+held_in_session : (said : Said) (command : Command) (c : Client) → (said ≡ saids.Ordered → is_started c.stage ≡ true)
+    → (is_started c.stage ≡ false → c.held ≡ 0) → is_started c.stage ≡ false → held_with said c.held ≡ 0
+held_in_session saids.Confirm command c started none stopped = none stopped
+held_in_session saids.Negative command c started none stopped = none stopped
+held_in_session saids.Ordered command c started none stopped = absurd (true≢false (sym (started refl) ∙ stopped))
+held_in_session saids.Done command c started none stopped = omega (arith, none stopped)
+held_in_session saids.Failed command c started none stopped = omega (arith, none stopped)
+
 pub sound_told : (station : StationSetup) (n i : ℕ) (said : Said) (command : Command) (c : Client) → IsWhole command
-    → length c.answers < 32 → IsSoundClient station n i c
+    → CanBeTold command said c → (said ≡ saids.Ordered → is_started c.stage ≡ true) → IsSoundClient station n i c
     → IsSoundClient station n i (client_told command said c)
-sound_told station n i said command c whole room sound =
-    let answers : List AsduAnswer = (client_told command said c).answers in
-    with_answers station n i c.older answers c.rest c
-    (omega (arith, room, length-append c.answers (Made (confirmed (is_negative said) command) ∷ [])))
+sound_told station n i said command c whole room started sound =
+    let told = client_told command said c in
+    with_answers station n i told.held c.older told.answers c.rest c room
+    (held_in_session said command c started sound.stopped)
     (all-append (CanSendAnswer station.offset_minutes) c.answers _ sound.answers
-    (confirmed_can station.offset_minutes (is_negative said) command whole, tt)) sound.rest sound
+    (told_can station.offset_minutes command said whole)) sound.rest sound
 
 -- ---- a pump
 
@@ -345,14 +383,15 @@ sound_after_pump station n i moment c sound = go (offered moment c) (offered_roo
         (record { limits = w.limits; waiting = w.waiting; received = w.received; sent = w.sent }) later
     go (Some (sendings.Answer answer)) room =
         numbered (record c { answers = drop 1 c.answers }) room
-        (with_answers station (n + 1) i c.older (drop 1 c.answers) c.rest c
-        (omega (arith, length-drop 1 c.answers, sound.places))
+        (with_answers station (n + 1) i c.held c.older (drop 1 c.answers) c.rest c
+        (omega (arith, length-drop 1 c.answers, sound.places)) sound.stopped
         (all-drop (CanSendAnswer station.offset_minutes) 1 c.answers sound.answers) sound.rest later)
     go (Some (sendings.News x)) room =
         numbered (record c { queue = drop 1 c.queue; older = c.older - 1 }) room (record {
           window = later.window;
           confirmations = sound.confirmations;
           places = sound.places;
+          stopped = sound.stopped;
           answers = sound.answers;
           limit = sound.limit;
           few = omega (arith, length-drop 1 c.queue, sound.few);
@@ -362,7 +401,7 @@ sound_after_pump station n i moment c sound = go (offered moment c) (offered_roo
         })
     go (Some (sendings.Part part)) room =
         numbered (record c { rest = drop 1 c.rest }) room
-        (with_answers station (n + 1) i c.older c.answers (drop 1 c.rest) c sound.places sound.answers
+        (with_answers station (n + 1) i c.held c.older c.answers (drop 1 c.rest) c sound.places sound.stopped sound.answers
         (all-drop (CanSendOutgoing station.offset_minutes) 1 c.rest sound.rest) later)
     go (Some sendings.SFormat) room =
         let w = later.window in

@@ -1,5 +1,5 @@
 -- What becomes of an ASDU of a client that doesn't close its connection.
-use Rattle.std.specs.Prelude.{ℕ, Bool, true, false, List, [], ◌∷◌, ◌++◌, length, Option, Some, None}
+use Rattle.std.specs.Prelude.{ℕ, ◌+◌, ◌-◌, ◌≤◌, Bool, true, false, List, [], ◌∷◌, ◌++◌, length, map, Option, Some, None}
 use Rattle.gw_model.specs.declared.observation.Observation.{Observation}
 use Rattle.gw_map.specs.Settings.{Setup}
 use Rattle.iec_apci.specs.declared.apdu.Asdu.{Asdu}
@@ -9,11 +9,11 @@ use Rattle.gw_judge.specs.declared.judging.Judged.TheVariants.{Accepted}
 use Rattle.gw_answers.specs.declared.outgoing.AsduAnswer.{AsduAnswer}
 use Rattle.gw_answers.specs.declared.outgoing.AsduAnswer.TheVariants.{Made}
 use Rattle.gw_answers.specs.declared.outgoing.OwnAsdu.{OwnAsdu}
-use Rattle.gw_answers.specs.Outgoing.{confirmed}
+use Rattle.gw_answers.specs.Outgoing.{command_with, confirmed}
 use Rattle.gw_answers.specs.Interrogations.{is_accepted_act, answer_to}
 use Rattle.gw_answers.specs.Answers.{answered}
 use Rattle.gw_station.specs.declared.event.Said.{Said}
-use Rattle.gw_station.specs.declared.event.Said.TheVariants.{Confirm, Negative}
+use Rattle.gw_station.specs.declared.event.Said.TheVariants.{Confirm, Negative, Ordered, Done, Failed}
 use Rattle.gw_station.specs.Client.{Client}
 
 -- an interrogation is pending: something is left of its answer
@@ -48,14 +48,43 @@ client_judging setup picture asdu j c = record c {
   rest = rest_with picture j (is_asking j c) c;
 }
 
--- what becomes of a command for a control: none can be operated yet
-abbrev pub outcome_of : Command → Said
-outcome_of command = Negative
+-- ---- what is said of a command for a control
 
--- what is said of a command for a control confirms its activation or deactivation, or does so negatively
-abbrev pub is_negative : Said → Bool
-is_negative Confirm = false
-is_negative Negative = true
+-- an order is done: its termination (10)
+abbrev pub terminated : Command → OwnAsdu
+terminated c = command_with 10 false c
+
+-- its activation or deactivation is confirmed, also negatively; what is an order waits for its outcome, which confirms
+-- and terminates it, or confirms it negatively
+abbrev pub told : Command → Said → List OwnAsdu
+told command Confirm = confirmed false command ∷ []
+told command Negative = confirmed true command ∷ []
+told command Ordered = []
+told command Done = confirmed false command ∷ terminated command ∷ []
+told command Failed = confirmed true command ∷ []
+
+-- an order holds two places until its outcome
+abbrev pub held_with : Said → ℕ → ℕ
+held_with Confirm held = held
+held_with Negative held = held
+held_with Ordered held = held + 2
+held_with Done held = held - 2
+held_with Failed held = held - 2
 
 abbrev pub client_told : Command → Said → Client → Client
-client_told command said c = record c { answers = c.answers ++ Made (confirmed (is_negative said) command) ∷ [] }
+client_told command said c = record c {
+  answers = c.answers ++ map Made (told command said);
+  held = held_with said c.held;
+}
+
+-- so many answers may wait
+abbrev pub places : ℕ
+places = 32
+
+-- the places that are taken: by answers that wait, and by orders
+abbrev pub places_taken : Client → ℕ
+places_taken c = length c.answers + c.held
+
+-- there are places for what is said
+abbrev pub CanBeTold : Command → Said → Client → Type 0
+CanBeTold command said c = places_taken (client_told command said c) ≤ places

@@ -26,6 +26,8 @@ pub record Client : Type 0 where
   pub limit : ℕ
   -- of a started client: the answers to its ASDUs that wait, oldest first
   pub answers : List AsduAnswer
+  -- the places that its orders hold until their outcomes
+  pub held : ℕ
   -- the news that wait, oldest first, and how many were dropped
   pub queue : List Observation
   pub dropped : ℕ
@@ -57,6 +59,7 @@ client_down limits limit = record {
   confirmations = [];
   limit = limit;
   answers = [];
+  held = 0;
   queue = [];
   dropped = 0;
   older = 0;
@@ -65,7 +68,8 @@ client_down limits limit = record {
 
 -- at a stage, with nothing of a session
 abbrev pub client_anew : Stage → Client → Client
-client_anew stage c = record c { stage = stage; answers = []; queue = []; dropped = 0; older = 0; rest = [] }
+client_anew stage c =
+    record c { stage = stage; answers = []; held = 0; queue = []; dropped = 0; older = 0; rest = [] }
 
 -- the client connected at a moment
 abbrev pub client_after_up : ℕ → Client → Client

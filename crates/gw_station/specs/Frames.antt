@@ -1,5 +1,5 @@
 -- What becomes of an APDU from a client that is up (IEC 60870-5-104, 5.1 to 5.3), by the settings.
-use Rattle.std.specs.Prelude.{ℕ, ◌+◌, Bool, true, false, not, ◌&&◌, ◌||◌, nat_le, nat_lt, ◌<◌, is_none, is_some, List, [], ◌∷◌, ◌++◌, length, take, Option, Some, None, if◌then◌else◌}
+use Rattle.std.specs.Prelude.{◌≡◌, ℕ, ◌+◌, Bool, true, false, not, ◌&&◌, ◌||◌, nat_le, nat_lt, ◌≤◌, is_none, is_some, List, [], ◌∷◌, ◌++◌, length, take, Option, Some, None, if◌then◌else◌}
 use Rattle.gw_model.specs.First.{when, first_of}
 use Rattle.gw_model.specs.declared.observation.Observation.{Observation}
 use Rattle.gw_map.specs.Settings.{Setup}
@@ -13,7 +13,7 @@ use Rattle.iec_window.specs.Counts.{WindowCounts}
 use Rattle.iec_window.specs.Sequence.{is_right_send, is_right_receive}
 use Rattle.iec_window.specs.Steps.{counts_after_frame, counts_after_s, counts_after_i, counts_after_confirmation}
 use Rattle.iec_command.specs.declared.command.Command.{Command}
-use Rattle.gw_judge.specs.Judging.{judged}
+use Rattle.gw_judge.specs.Judging.{is_execute, judged}
 use Rattle.gw_judge.specs.declared.judging.Judged.{Judged}
 use Rattle.gw_judge.specs.declared.judging.Judged.TheVariants as judgements
 use Rattle.gw_station.specs.declared.client.Stage.TheVariants.{Stopped, Started}
@@ -23,7 +23,7 @@ use Rattle.gw_station.specs.declared.event.Why.{Why}
 use Rattle.gw_station.specs.declared.event.Why.TheVariants.{Sequence, NotStarted, Malformed, Flooded}
 use Rattle.gw_station.specs.Client.{Client, is_started, client_anew, client_after_close}
 use Rattle.gw_answers.specs.Answers.{places_for, command_by}
-use Rattle.gw_station.specs.Answers.{is_pending, client_judging, is_asking}
+use Rattle.gw_station.specs.Answers.{is_pending, client_judging, is_asking, places, places_taken}
 
 -- ---- closes
 
@@ -39,13 +39,9 @@ abbrev pub is_malformed : Judged → Bool
 is_malformed judgements.Malformed = true
 is_malformed _ = false
 
--- so many answers may wait
-abbrev pub places : ℕ
-places = 32
-
 -- too few places are free for its answer
 abbrev pub overfills : Judged → Client → Bool
-overfills j c = nat_lt places (length c.answers + places_for (is_pending c.rest) j)
+overfills j c = nat_lt places (places_taken c + places_for (is_pending c.rest) j)
 
 -- why an I format with an ASDU that is judged so closes the connection: the causes in the order in which they are tried
 abbrev pub closes_judged : ℕ → ℕ → Judged → Client → List (Option Why)
@@ -127,10 +123,11 @@ abbrev pub client_after_apdu : Setup → List Observation → ℕ → Apdu → C
 client_after_apdu setup picture moment apdu c =
     client_by (close_of setup apdu c) c (client_taking setup picture moment apdu c)
 
--- a command for a control finds a place for its answer
+-- a command for a control came in a session, and finds a place for its answer, and two where it is to be executed
 abbrev pub HasPlace : Event → Client → Type 0
 HasPlace events.Taken c = Unit {0}
-HasPlace (events.Command command) c = length c.answers < places
+HasPlace (events.Command command) c =
+    (is_started c.stage ≡ true) × (places_taken c + (if is_execute command then 2 else 1) ≤ places)
 HasPlace (events.Closed why) c = Unit {0}
 
 -- ---- what is told beforehand

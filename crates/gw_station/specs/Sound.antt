@@ -1,6 +1,6 @@
 -- What every client's part keeps, by the settings of the station: what waits can be sent, no more waits than may, and
 -- the counts of steps and of news are no fewer than its I formats and what it dropped.
-use Rattle.std.specs.Prelude.{◌≡◌, ℕ, ℤ, ◌+◌, ◌^◌, ◌<◌, ◌≤◌, length}
+use Rattle.std.specs.Prelude.{◌≡◌, ℕ, ℤ, ◌+◌, ◌^◌, ◌<◌, ◌≤◌, false, length}
 use Rattle.std.specs.List.{AllByRecursion}
 use Rattle.gw_entries.specs.Setup.{StationSetup}
 use Rattle.iec_command.specs.Commands.{IsWhole}
@@ -11,7 +11,8 @@ use Rattle.gw_station.specs.declared.event.Event.{Event}
 use Rattle.gw_station.specs.declared.event.Event.TheVariants as events
 use Rattle.gw_station.specs.declared.sending.Sending.{Sending}
 use Rattle.gw_station.specs.declared.sending.Sending.TheVariants as sendings
-use Rattle.gw_station.specs.Client.{Client, limits_of}
+use Rattle.gw_station.specs.Client.{Client, is_started, limits_of}
+use Rattle.gw_station.specs.Answers.{places, places_taken}
 
 -- what is put out can be spelled
 abbrev pub IsReturnableSending : Sending → Type 0
@@ -44,9 +45,11 @@ pub record IsSoundWindow (station : StationSetup) (steps : ℕ) (w : WindowCount
 -- after so many steps and news
 pub record IsSoundClient (station : StationSetup) (steps news : ℕ) (c : Client) : Type 0 where
   pub window : IsSoundWindow station steps c.window
-  -- 32 confirmations of U formats may wait, and 32 answers
+  -- 32 confirmations of U formats may wait, and there are 32 places for answers and orders
   pub confirmations : length c.confirmations ≤ 32
-  pub places : length c.answers ≤ 32
+  pub places : places_taken c ≤ places
+  -- there are orders in a session alone
+  pub stopped : is_started c.stage ≡ false → c.held ≡ 0
   -- an answer that isn't to a read has cause 7, 9, 10 or 44 to 47
   pub answers : AllByRecursion (CanSendAnswer station.offset_minutes) c.answers
   -- as many news may wait as the settings tell

@@ -1,9 +1,12 @@
 //! What becomes of an APDU.
 
-ghost use Rattle.std.specs.Prelude.{◌≡◌};
-ghost use Rattle.gw_station.specs.Answers.{outcome_of};
+ghost use Rattle.std.specs.Prelude.{◌≡◌, ◌+◌, ◌<◌, ◌^◌};
+ghost use Rattle.gw_station.specs.Answers.{held_with};
 
 use iec_command::Command;
+
+/// How many places an order holds until its outcome: for its confirmation and its termination.
+const ORDER_PLACES: usize = 2;
 
 /// Why a client's connection is closed (IEC 60870-5-104, 5.1 to 5.3).
 #[derive(Clone, Copy, Debug, PartialEq, Eq)]
@@ -14,7 +17,7 @@ pub enum Why {
     NotStarted = 2,
     /// The ASDU is shorter than its header, or has a known type and a wrong count, SQ or length.
     Malformed = 3,
-    /// 32 confirmations or 32 answers wait already.
+    /// 32 confirmations wait already, or too few of the 32 places for answers are free.
     Flooded = 4,
     /// t1 has passed.
     Timer = 5,
@@ -31,18 +34,31 @@ pub enum Event {
     Closed(Why),
 }
 
-/// What is said of a command.
+/// What is said of a command for a control, or of the order that it became.
 #[derive(Clone, Copy, PartialEq, Eq)]
 pub enum Said {
     /// Its activation or deactivation is confirmed.
     Confirm,
     /// It is confirmed negatively.
     Negative,
+    /// It is an order: what is said of it is what becomes of the order.
+    Ordered,
+    /// The order was done.
+    Done,
+    /// The order failed.
+    Failed,
 }
 
-/// What becomes of a command for a control: none can be operated yet.
-pub fn outcome_of(command: &Command) -> Said
-    ensures { result ≡ outcome_of command.now }
-{
-    Said::Negative
+impl Said {
+    /// How many places are held by orders, where so many were.
+    pub fn held_with(self, held: usize) -> usize
+        requires { held + 2 < 2 ^ 64 }
+        ensures { result ≡ held_with self held }
+    {
+        match self {
+            Said::Confirm | Said::Negative => held,
+            Said::Ordered => held + ORDER_PLACES,
+            Said::Done | Said::Failed => held.saturating_sub(ORDER_PLACES),
+        }
+    }
 }

@@ -11,6 +11,6 @@ mod sending;
 mod station;
 
 pub use client::Stage;
-pub use event::{Event, Said, Why, outcome_of};
+pub use event::{Event, Said, Why};
 pub use sending::Sending;
 pub use station::Station;

@@ -1,5 +1,5 @@
 //! What is known of one client.
-ghost use Rattle.std.specs.Prelude.{◌≡◌, ◌<◌, ◌≤◌, ◌-◌, ◌+◌, ◌^◌, ℕ, ℤ, true, false, None, [], ◌∷◌, ◌&&◌, drop, is_some, length, nat_le, option_map, slice_get, take, IfOk, IfSome, OnErr, OnOk};
+ghost use Rattle.std.specs.Prelude.{◌≡◌, ◌<◌, ◌≤◌, ◌-◌, ◌+◌, ◌^◌, ℕ, ℤ, true, false, None, [], ◌∷◌, ◌++◌, ◌&&◌, drop, is_some, length, nat_le, option_map, slice_get, take, IfOk, IfSome, OnErr, OnOk};
 ghost use Rattle.std.specs.List.{AllByRecursion};
 ghost use Rattle.std.specs.VecDeque.{deque_capacity};
 ghost use Rattle.iec_apci.specs.Apdu.{Information};
@@ -7,7 +7,8 @@ ghost use Rattle.iec_apci.specs.Buffer.{buffer_of};
 ghost use Rattle.iec_window.specs.Counts.{sent_in_all};
 ghost use Rattle.iec_window.specs.Sequence.{receive_number, send_number};
 ghost use Rattle.iec_window.specs.Steps.{counts_after_sending_i};
-ghost use Rattle.gw_station.specs.Answers.{client_judging, client_told, is_asking, is_pending};
+ghost use Rattle.gw_answers.specs.declared.outgoing.AsduAnswer.TheVariants.{Made};
+ghost use Rattle.gw_station.specs.Answers.{client_judging, client_told, is_asking, is_pending, places, places_taken, CanBeTold};
 ghost use Rattle.gw_station.specs.Client.{client_after_close, client_after_tick, client_after_up, client_anew, client_down, client_with_news, close_by_tick, is_started, is_up};
 ghost use Rattle.gw_station.specs.Frames.{asks, begins, client_after_apdu, client_with_session, client_with_signal, closes_judged, event_of, floods, given_command, judged_asdu, overfills, wants_memory, HasPlace};
 ghost use Rattle.circular_buffer.specs.Buffer.{buffer};
@@ -27,14 +28,15 @@ use crate::rest::PartsLeft;
 use crate::sending::Sending;
 use circular_buffer::HeapCircularBuffer;
 use gw_answers::{
-    AsduAnswer, OwnAsdu, answer_asdu, answer_to, answered, command_by, confirmed, is_accepted_act,
-    places_for,
+    AsduAnswer, OwnAsdu, answer_asdu, answer_to, answered, command_by, command_with, confirmed,
+    is_accepted_act, places_for,
 };
 use gw_judge::{Judged, judge};
 use gw_map::Settings;
 use gw_model::{Memory, Observation};
 use iec_apci::{Apdu, ApduBuf, Asdu, Signal};
 use iec_command::Command;
+use iec_command::causes::ACTIVATION_TERMINATION;
 use iec_window::{Limits, Window};
 use std::alloc::Global;
 use std::collections::VecDeque;
@@ -43,7 +45,7 @@ use std::marker::Model;
 /// How many confirmations of U formats may wait.
 const MOST_CONFIRMATIONS: usize = 32;
 
-/// How many answers may wait.
+/// How many places there are for answers that wait, and for those of orders.
 const MOST_ANSWERS: usize = 32;
 
 /// A client's connection, and what is to be put out to it.
@@ -56,6 +58,8 @@ pub struct Station {
     confirmations: VecDeque<Signal>,
     /// The answers to its ASDUs that wait, oldest first.
     answers: VecDeque<AsduAnswer>,
+    /// How many places for answers its orders hold until their outcomes.
+    held: usize,
     /// How many news may wait.
     limit: usize,
     /// In a session: the news that aren't put out yet, oldest first.
@@ -69,7 +73,7 @@ pub struct Station {
 }
 
 impl Model for Station {
-    ghost use Rattle.std.specs.Prelude.{◌≤◌, length};
+    ghost use Rattle.std.specs.Prelude.{◌+◌, ◌≤◌, length};
     ghost use Rattle.std.specs.List.{AllByRecursion};
     ghost use Rattle.std.specs.VecDeque.{deque_capacity};
     ghost use Rattle.gw_answers.specs.Octets.{IsReturnable};
@@ -84,16 +88,17 @@ impl Model for Station {
       confirmations = s.confirmations.items;
       limit = s.limit;
       answers = s.answers.items;
+      held = s.held;
       queue = items_in s.queue;
       dropped = s.dropped;
       older = s.older;
       rest = s.rest;
     } };
 
-    // There is room for 32 confirmations, for 32 answers, which can be spelled, and in a session for the news that may
-    // wait.
+    // There is room for 32 confirmations, for 32 answers and orders, whose answers can be spelled, and in a session for
+    // the news that may wait.
     ghost invariant = { λ s. (length s.confirmations.items ≤ 32) × (32 ≤ deque_capacity s.confirmations)
-        × (length s.answers.items ≤ 32) × (32 ≤ deque_capacity s.answers)
+        × (length s.answers.items + s.held ≤ 32) × (32 ≤ deque_capacity s.answers)
         × AllByRecursion IsReturnable s.answers.items × IsQueue s.limit s.stage s.queue };
 }
 
@@ -112,6 +117,7 @@ impl Station {
             window,
             confirmations,
             answers,
+            held: 0,
             limit: limit as usize,
             queue: None,
             dropped: 0,
@@ -216,6 +222,7 @@ impl Station {
         self.stage = stage;
         self.queue = queue;
         self.answers.clear();
+        self.held = 0;
         self.dropped = 0;
         self.older = 0;
         self.rest = PartsLeft::none();
@@ -295,15 +302,29 @@ impl Station {
         Event::Closed(why)
     }
 
-    /// Says something of a command for a control that `frame` gave.
+    /// Says something of a command for a control that `frame` gave, or what became of the order that it was.
     pub fn answer(&mut self, command: &Command, said: Said)
-        requires { length self.old.answers < 32 }
+        requires { CanBeTold command.now said self.old }
         ensures { self.new ≡ client_told command.now said self.old }
     {
-        let negative = said == Said::Negative;
-        let confirmation = confirmed(negative, command);
-        self.answers
-            .push_back_reserved(AsduAnswer::Made(confirmation));
+        self.held = said.held_with(self.held);
+        match said {
+            Said::Confirm => self.push_answer(confirmed(false, command)),
+            Said::Negative | Said::Failed => self.push_answer(confirmed(true, command)),
+            Said::Ordered => {}
+            Said::Done => {
+                self.push_answer(confirmed(false, command));
+                self.push_answer(command_with(ACTIVATION_TERMINATION, false, command));
+            }
+        }
+    }
+
+    /// One more answer waits, for which there is a place.
+    fn push_answer(&mut self, answer: OwnAsdu)
+        requires { places_taken self.old < places }
+        ensures { self.new ≡ record self.old { answers = self.old.answers ++ Made answer ∷ [] } }
+    {
+        self.answers.push_back_reserved(AsduAnswer::Made(answer));
     }
 
     /// Takes news: they join the queue of a started client, and the oldest are dropped where too many would wait.
@@ -388,7 +409,7 @@ impl Station {
         if *judged == Judged::Malformed {
             return Some(Why::Malformed);
         }
-        if self.answers.len() + places_for(self.is_pending(), judged) > MOST_ANSWERS {
+        if self.answers.len() + self.held + places_for(self.is_pending(), judged) > MOST_ANSWERS {
             return Some(Why::Flooded);
         }
         None

@@ -1,4 +1,5 @@
 pub mod State
+pub mod Controls
 pub mod Steps
 pub mod Runs
 pub mod Sound

@@ -4,6 +4,7 @@ use Rattle.gw_model.specs.declared.observation.Observation.{Observation}
 use Rattle.gw_map.specs.Settings.{Setup}
 use Rattle.gw_picture.specs.Opening.{opening}
 use Rattle.dnp_master.specs.Master.{Master, master_down}
+use Rattle.gw_control.specs.Controls.{Controls, no_controls}
 use Rattle.gw_station.specs.Client.{Client, client_down, limits_of}
 
 -- what is counted in 64 bits: the steps without a fault, the news, and the sessions of all clients
@@ -17,6 +18,10 @@ pub record State : Type 0 where
   -- for each row, its value and quality as last shown, Untimed
   pub picture : List Observation
   pub clients : List Client
+  -- for each client the number of its last session: the sessions of all clients are numbered from 1
+  pub sessions : List ℕ
+  -- the clients' selections of controls, and their orders
+  pub controls : Controls
   pub counts : Counts
   -- the largest moment that a step without a fault brought
   pub moment : ℕ
@@ -35,6 +40,8 @@ at_first setup = record {
   outstations = map (λ outstation. master_down outstation.poll) setup.outstations;
   picture = map opening setup.rows;
   clients = replicate client_limit (client_down (limits_of setup.station) setup.station.queue);
+  sessions = replicate client_limit 0;
+  controls = no_controls setup;
   counts = record { steps = 0; news = 0; sessions = 0 };
   moment = 0;
 }

@@ -1,22 +1,30 @@
 -- The step relation: what a step answers where memory is never refused, and the state after it, by cases on the step.
-use Rattle.std.specs.Prelude.{◌≡◌, ℕ, ◌+◌, ◌*◌, ◌^◌, Bool, true, false, ◌&&◌, nat_lt, List, [], ◌∷◌, length, map, slice_get, Option, Some, None, option_map, Result, Ok, Err, IsTrue, if◌then◌else◌}
+use Rattle.std.specs.Option.{option_to_list}
+use Rattle.std.specs.Prelude.{◌≡◌, ℕ, ◌+◌, ◌*◌, ◌^◌, Bool, true, false, ◌&&◌, nat_lt, List, [], ◌∷◌, ◌++◌, length, map, slice_get, Option, Some, None, option_map, Result, Ok, Err, IsTrue, if◌then◌else◌}
 use Rattle.gw_model.specs.declared.observation.Observation.{Observation}
 use Rattle.gw_map.specs.Settings.{Setup}
 use Rattle.gw_model.specs.Places.{change}
 use Rattle.dnp_app.specs.Response.{Fragment}
 use Rattle.dnp_app.specs.declared.request.Request.{Request}
-use Rattle.dnp_master.specs.Master.{Master, master_down, master_after_up, master_after_next, master_after_tick, request_given}
+use Rattle.dnp_master.specs.Master.{Master, ended_by_tick, master_down, master_after_up, master_after_next, master_after_order, master_after_tick, request_given, request_ordered}
 use Rattle.dnp_master.specs.Fragments.{accepts, verdict_of, master_after_fragment}
 use Rattle.iec_apci.specs.declared.apdu.Apdu.{Apdu}
 use Rattle.iec_apci.specs.Apdu.{Content}
 use Rattle.iec_apci.specs.Buffer.{buffer_of}
+use Rattle.iec_command.specs.declared.command.Command.{Command}
+use Rattle.gw_control.specs.declared.answer.Outcome.{Outcome}
+use Rattle.gw_control.specs.Orders.{places}
+use Rattle.gw_control.specs.Controls.{Controls, controls_after_end, controls_after_taking, is_order}
+use Rattle.gw_model.specs.declared.control.Ended.{Ended}
+use Rattle.gw_model.specs.declared.control.Order.{Order}
 use Rattle.gw_picture.specs.Picture.{news_of, picture_after}
 use Rattle.gw_picture.specs.Loss.{losses_of, picture_after_loss}
 use Rattle.gw_station.specs.declared.event.Event.{Event}
 use Rattle.gw_station.specs.declared.event.Event.TheVariants as events
 use Rattle.gw_station.specs.Client.{Client, is_up, is_timed_out, client_after_up, client_after_close, client_with_news, client_after_tick}
-use Rattle.gw_station.specs.Answers.{client_told, outcome_of}
-use Rattle.gw_station.specs.Frames.{event_of, client_after_apdu, begins, wants_memory}
+use Rattle.gw_station.specs.declared.event.Said.{Said}
+use Rattle.gw_station.specs.Answers.{client_told}
+use Rattle.gw_station.specs.Frames.{event_of, client_after_apdu, begins, given_command, wants_memory}
 use Rattle.gw_station.specs.Pump.{given, client_after_pump}
 use Rattle.gw_steps.specs.declared.step.Step.{Step}
 use Rattle.gw_steps.specs.declared.step.Step.TheVariants as steps
@@ -25,6 +33,7 @@ use Rattle.gw_steps.specs.declared.step.Reply.TheVariants as replies
 use Rattle.gw_steps.specs.declared.step.StepFault.{StepFault}
 use Rattle.gw_steps.specs.declared.step.StepFault.TheVariants.{NoOutstation, NoClient, NotUp, AlreadyUp, Memory, Spent}
 use Rattle.gw_steps.specs.State.{State, Counts, later}
+use Rattle.gw_steps.specs.Controls.{answer_to, clients_told, controls_after_all_ended, controls_after_closes, controls_after_event, controls_after_losses, controls_with_ended, ended_by_fragment, ended_lost, order_due, outcome_ended, outcomes_ended, outcomes_lost, said_by}
 
 -- ---- faults
 
@@ -90,36 +99,63 @@ abbrev pub wanted_by : Setup → Apdu → Option Client → Bool
 wanted_by setup apdu None = false
 wanted_by setup apdu (Some k) = wants_memory setup apdu k
 
+-- the moment of a step
+abbrev pub latest : State → ℕ → ℕ
+latest s moment = later s.moment moment
+
 -- one where it is so
 abbrev pub one_if : Bool → ℕ
 one_if true = 1
 one_if false = 0
 
--- memory may be wanted, and by how much the counts rise
+-- a client's command is accepted as an order
+abbrev pub is_ordering : Setup → State → ℕ → ℕ → Option Command → Bool
+is_ordering setup s moment c None = false
+is_ordering setup s moment c (Some command) = is_order (answer_to setup s moment c command)
+
+abbrev pub command_of : Setup → Apdu → Option Client → Option Command
+command_of setup apdu None = None
+command_of setup apdu (Some k) = given_command setup apdu k
+
+-- memory may be wanted, by how much the counts rise, and whether an order is made
 pub record Needs : Type 0 where
   pub memory : Bool
   pub counts : Counts
+  pub order : Bool
 
 abbrev pub needs : Setup → State → Step → Needs
 needs setup s (steps.Fragment f moment) = record {
   memory = false;
   counts = record { steps = 1; news = length (news_of_fragment setup s f); sessions = 0 };
+  order = false;
 }
 needs setup s (steps.OutstationDown o moment) = record {
   memory = false;
   counts = record { steps = 1; news = length (losses setup s o); sessions = 0 };
+  order = false;
 }
 needs setup s (steps.Frame c apdu moment) = record {
   memory = wanted_by setup apdu (slice_get s.clients c);
   counts = record { steps = 1; news = 0; sessions = one_if (is_beginning s c apdu) };
+  order = is_ordering setup s (latest s moment) c (command_of setup apdu (slice_get s.clients c));
 }
-needs setup s _ = record { memory = false; counts = record { steps = 1; news = 0; sessions = 0 } }
+needs setup s _ =
+    record { memory = false; counts = record { steps = 1; news = 0; sessions = 0 }; order = false }
 
 abbrev pub can_rise : Counts → Counts → Bool
 can_rise counts more =
     nat_lt (counts.steps + more.steps) (2 ^ 64)
     && nat_lt (counts.news + more.news) (2 ^ 64)
     && nat_lt (counts.sessions + more.sessions) (2 ^ 64)
+
+-- one order more has a number
+abbrev pub can_order : Bool → Controls → Bool
+can_order false v = true
+can_order true v = nat_lt (v.ordered + 1) (2 ^ 64)
+
+-- all that is counted can rise by what a step needs
+abbrev pub can_be_counted : State → Needs → Bool
+can_be_counted s n = can_rise s.counts n.counts && can_order n.order s.controls
 
 abbrev pub raised : Counts → Counts → Counts
 raised counts more = record {
@@ -130,10 +166,6 @@ raised counts more = record {
 
 -- ---- the answer
 
--- the moment of a step
-abbrev pub latest : State → ℕ → ℕ
-latest s moment = later s.moment moment
-
 -- the reply for a client; Nothing where there is no such
 abbrev pub client_reply : (Client → Reply) → Option Client → Reply
 client_reply reply None = replies.Nothing
@@ -143,6 +175,11 @@ client_reply reply (Some k) = reply k
 abbrev pub outstation_reply : (Master → Reply) → Option Master → Reply
 outstation_reply reply None = replies.Nothing
 outstation_reply reply (Some m) = reply m
+
+-- the request that a poll gives: that of the order which is due, or else of what is due first
+abbrev pub request_polled : Option Order → ℕ → ℕ → Master → Option Request
+request_polled None moment wall m = request_given moment wall m
+request_polled (Some order) moment wall m = Some (request_ordered order m)
 
 -- the reply to a poll that gives this
 abbrev pub reply_asking : Option Request → Reply
@@ -169,7 +206,8 @@ abbrev pub reply_to : Setup → State → Step → Reply
 reply_to setup s (steps.OutstationUp o moment) = replies.Done
 reply_to setup s (steps.OutstationDown o moment) = replies.Done
 reply_to setup s (steps.Poll o moment wall) =
-    outstation_reply (λ m. reply_asking (request_given (latest s moment) wall m)) (slice_get s.outstations o)
+    outstation_reply (λ m. reply_asking (request_polled (order_due s o) (latest s moment) wall m))
+    (slice_get s.outstations o)
 reply_to setup s (steps.Tick moment) = replies.Ticked (bits_of (map (is_timed_out (latest s moment)) s.clients))
 reply_to setup s (steps.Fragment f moment) =
     outstation_reply (λ m. replies.Verdict (verdict_of m f)) (slice_get s.outstations f.outstation)
@@ -188,7 +226,7 @@ answer (Some fault) rises reply = Err fault
 answer None rises reply = if rises then Ok reply else Err Spent
 
 abbrev pub outcome : Setup → State → Step → Result Reply StepFault
-outcome setup s step = answer (fault_of s step) (can_rise s.counts (needs setup s step).counts) (reply_to setup s step)
+outcome setup s step = answer (fault_of s step) (can_be_counted s (needs setup s step)) (reply_to setup s step)
 
 -- ---- the state after a step without a fault
 
@@ -203,49 +241,119 @@ moment_of (steps.Frame c apdu moment) = moment
 moment_of (steps.Pump c moment) = moment
 moment_of (steps.Tick moment) = moment
 
--- no control is operated: a command for one is confirmed negatively
-abbrev pub client_answered : Event → Client → Client
-client_answered (events.Command command) k = client_told command (outcome_of command) k
-client_answered _ k = k
+-- of a command for a control something is said
+abbrev pub client_answered : (Command → Said) → Event → Client → Client
+client_answered said events.Taken k = k
+client_answered said (events.Command command) k = client_told command (said command) k
+client_answered said (events.Closed why) k = k
 
--- an APDU came at a moment, while the picture showed this, and a command in it was answered
-abbrev pub client_after_frame : Setup → List Observation → ℕ → Apdu → Client → Client
-client_after_frame setup picture moment apdu k =
-    client_answered (event_of setup apdu k) (client_after_apdu setup picture moment apdu k)
+-- an APDU came at a moment, while the picture showed this, and of a command in it this is said
+abbrev pub client_after_frame : Setup → List Observation → (Command → Said) → ℕ → Apdu → Client → Client
+client_after_frame setup picture said moment apdu k =
+    client_answered said (event_of setup apdu k) (client_after_apdu setup picture moment apdu k)
 
--- the loss of an outstation
+-- what is said of a command of a client
+abbrev pub said_to : Setup → State → ℕ → ℕ → Command → Said
+said_to setup s moment c command = said_by (answer_to setup s moment c command)
+
+abbrev pub controls_after_frame : Setup → State → ℕ → ℕ → Apdu → Option Client → Controls
+controls_after_frame setup s moment c apdu None = s.controls
+controls_after_frame setup s moment c apdu (Some k) =
+    controls_after_event setup s moment c apdu (event_of setup apdu k)
+
+-- a session that begins has the next number
+abbrev pub sessions_with : Bool → ℕ → Counts → List ℕ → List ℕ
+sessions_with false c counts sessions = sessions
+sessions_with true c counts sessions = change c (λ _. counts.sessions + 1) sessions
+
+abbrev pub parts_after_frame : Setup → State → ℕ → ℕ → Apdu → State
+parts_after_frame setup s moment c apdu = record s {
+  clients = change c (client_after_frame setup s.picture (said_to setup s moment c) moment apdu) s.clients;
+  sessions = sessions_with (is_beginning s c apdu) c s.counts s.sessions;
+  controls = controls_after_frame setup s moment c apdu (slice_get s.clients c);
+}
+
+-- a poll of an outstation, for which this order is due
+abbrev pub parts_after_poll : State → ℕ → ℕ → ℕ → Option Order → State
+parts_after_poll s moment o wall None =
+    record s { outstations = change o (master_after_next moment wall) s.outstations }
+parts_after_poll s moment o wall (Some order) = record s {
+  outstations = change o (master_after_order moment order) s.outstations;
+  controls = controls_after_taking o s.controls;
+}
+
+-- the loss of an outstation: the order that was given fails, and then those that wait
+abbrev pub outcomes_of_loss : State → ℕ → List Outcome
+outcomes_of_loss s o =
+    let ended = ended_lost (slice_get s.outstations o) in
+    option_to_list (outcome_ended o ended s.controls)
+    ++ outcomes_lost o places (controls_with_ended o ended s.controls)
+
 abbrev pub parts_after_loss : Setup → State → ℕ → State
 parts_after_loss setup s o = record s {
   outstations = change o (λ m. master_down m.poll) s.outstations;
   picture = picture_after_loss o setup.rows s.picture;
-  clients = map (client_with_news (losses setup s o)) s.clients;
+  clients = clients_told (outcomes_of_loss s o) (map (client_with_news (losses setup s o)) s.clients);
+  controls = controls_after_losses o places
+      (controls_with_ended o (ended_lost (slice_get s.outstations o)) s.controls);
 }
+
+-- the order that ends with a fragment
+abbrev pub order_ended : State → Fragment → Option Ended
+order_ended s f = ended_by_fragment f (slice_get s.outstations f.outstation)
+
+abbrev pub outcomes_of_fragment : State → Fragment → List Outcome
+outcomes_of_fragment s f = option_to_list (outcome_ended f.outstation (order_ended s f) s.controls)
 
 -- what an accepted fragment changes
 abbrev pub parts_after_fragment : Setup → State → ℕ → Fragment → State
 parts_after_fragment setup s moment f = record s {
   outstations = change f.outstation (master_after_fragment moment f) s.outstations;
   picture = picture_after setup.station.offset_minutes setup.rows s.picture f.reports;
-  clients = map (client_with_news (news_of setup.station.offset_minutes setup.rows s.picture f.reports)) s.clients;
+  clients = clients_told (outcomes_of_fragment s f)
+      (map (client_with_news (news_of setup.station.offset_minutes setup.rows s.picture f.reports)) s.clients);
+  controls = controls_with_ended f.outstation (order_ended s f) s.controls;
 }
+
+-- time that has passed closes clients, and then ends orders
+abbrev pub controls_closed : State → ℕ → Controls
+controls_closed s moment = controls_after_closes 0 (map (is_timed_out moment) s.clients) s.controls
+
+abbrev pub ended_late : State → ℕ → List (Option Ended)
+ended_late s moment = map (ended_by_tick moment) s.outstations
+
+abbrev pub outcomes_of_tick : State → ℕ → List Outcome
+outcomes_of_tick s moment = outcomes_ended 0 (ended_late s moment) (controls_closed s moment)
+
+abbrev pub parts_after_tick : State → ℕ → State
+parts_after_tick s moment = record s {
+  outstations = map (master_after_tick moment) s.outstations;
+  clients = clients_told (outcomes_of_tick s moment) (map (client_after_tick moment) s.clients);
+  controls = controls_after_all_ended 0 (ended_late s moment) (controls_closed s moment);
+}
+
+-- what becomes of orders in a step
+abbrev pub outcomes_of : State → Step → List Outcome
+outcomes_of s (steps.OutstationDown o moment) = outcomes_of_loss s o
+outcomes_of s (steps.Fragment f moment) = if is_accepting s f then outcomes_of_fragment s f else []
+outcomes_of s (steps.Tick moment) = outcomes_of_tick s (latest s moment)
+outcomes_of s _ = []
 
 -- what a step changes at a moment, but for the counts
 abbrev pub parts_after : Setup → State → ℕ → Step → State
 parts_after setup s moment (steps.OutstationUp o _) =
     record s { outstations = change o (master_after_up moment) s.outstations }
 parts_after setup s moment (steps.OutstationDown o _) = parts_after_loss setup s o
-parts_after setup s moment (steps.Poll o _ wall) =
-    record s { outstations = change o (master_after_next moment wall) s.outstations }
-parts_after setup s moment (steps.Tick _) = record s {
-  outstations = map (master_after_tick moment) s.outstations;
-  clients = map (client_after_tick moment) s.clients;
-}
+parts_after setup s moment (steps.Poll o _ wall) = parts_after_poll s moment o wall (order_due s o)
+parts_after setup s moment (steps.Tick _) = parts_after_tick s moment
 parts_after setup s moment (steps.Fragment f _) =
     if is_accepting s f then parts_after_fragment setup s moment f else s
 parts_after setup s moment (steps.ClientUp c _) = record s { clients = change c (client_after_up moment) s.clients }
-parts_after setup s moment (steps.ClientDown c _) = record s { clients = change c client_after_close s.clients }
-parts_after setup s moment (steps.Frame c apdu _) =
-    record s { clients = change c (client_after_frame setup s.picture moment apdu) s.clients }
+parts_after setup s moment (steps.ClientDown c _) = record s {
+  clients = change c client_after_close s.clients;
+  controls = controls_after_end c s.controls;
+}
+parts_after setup s moment (steps.Frame c apdu _) = parts_after_frame setup s moment c apdu
 parts_after setup s moment (steps.Pump c _) = record s { clients = change c (client_after_pump moment) s.clients }
 
 abbrev pub after : Setup → State → Step → State

@@ -1,0 +1,99 @@
+//! What becomes of orders, and the clients that are told.
+ghost use Rattle.std.specs.Prelude.{◌≡◌, ◌×◌, ℕ, true, false, length, map, IfSome};
+ghost use Rattle.std.specs.Option.{option_to_list};
+ghost use Rattle.dnp_master.specs.Master.{ended_by_tick, master_after_tick};
+ghost use Rattle.gw_control.specs.Orders.{places};
+ghost use Rattle.gw_steps.specs.Controls.{clients_told, controls_after_all_ended, controls_after_closes, controls_after_losses, controls_with_ended, outcome_ended, outcomes_ended, outcomes_lost, said_by, said_of_outcome};
+ghost use Rattle.gw_hub.specs.Hub.{CanTell, HoldsPlaces};
+
+use gw_control::{Answer, Controls, MOST_WAITING, Outcome};
+use gw_model::Ended;
+use gw_parts::{Clients, Outstations};
+use gw_station::Said;
+
+/// What is said of a command, by what the controls answer to it. A station gives no command for an address without a
+/// control of its type: it has sent it back.
+pub fn said_by(answer: Answer) -> Said
+    ensures { result ≡ said_by answer }
+{
+    match answer {
+        Answer::Confirm => Said::Confirm,
+        Answer::Negative | Answer::Unknown => Said::Negative,
+        Answer::Ordered(_) => Said::Ordered,
+    }
+}
+
+/// Tells a client what became of its order, if something did.
+fn tell(clients: &mut Clients, outcome: Option<Outcome>)
+    requires { IfSome outcome (CanTell clients.old) }
+    ensures { clients.new ≡ clients_told (option_to_list outcome) clients.old }
+{
+    let Some(outcome) = outcome else {
+        return;
+    };
+    let said = if outcome.done {
+        Said::Done
+    } else {
+        Said::Failed
+    };
+    clients.answer(outcome.client, &outcome.command, said);
+}
+
+/// The order under way to the outstation at a position ended, if one did.
+pub fn end_order(
+    controls: &mut Controls,
+    clients: &mut Clients,
+    position: usize,
+    ended: Option<Ended>,
+)
+    requires { HoldsPlaces clients.old controls.old }
+    ensures controls { controls.new ≡ controls_with_ended position ended controls.old }
+    ensures clients { clients.new
+        ≡ clients_told (option_to_list (outcome_ended position ended controls.old)) clients.old }
+{
+    if let Some(ended) = ended {
+        let outcome = controls.outcome(position, ended);
+        tell(clients, outcome);
+    }
+}
+
+/// The oldest order that waits for a lost outstation fails.
+fn lose_order(controls: &mut Controls, clients: &mut Clients, outstation: u8)
+    requires { HoldsPlaces clients.old controls.old }
+    ensures controls { controls.new ≡ controls_after_losses outstation 1 controls.old }
+    ensures clients { clients.new ≡ clients_told (outcomes_lost outstation 1 controls.old) clients.old }
+{
+    let outcome = controls.lost(outstation);
+    tell(clients, outcome);
+}
+
+/// All orders that wait for a lost outstation fail, the oldest first.
+pub fn lose_orders(controls: &mut Controls, clients: &mut Clients, outstation: u8)
+    requires { HoldsPlaces clients.old controls.old }
+    ensures controls { controls.new ≡ controls_after_losses outstation places controls.old }
+    ensures clients { clients.new ≡ clients_told (outcomes_lost outstation places controls.old) clients.old }
+{
+    for _ in 0..MOST_WAITING {
+        lose_order(controls, clients, outstation);
+    }
+}
+
+/// Time has passed: orders that weren't answered in time fail, outstation by outstation.
+pub fn pass_time(
+    outstations: &mut Outstations,
+    controls: &mut Controls,
+    clients: &mut Clients,
+    moment: u64,
+)
+    requires { HoldsPlaces clients.old controls.old }
+    ensures outstations { outstations.new ≡ map (master_after_tick moment) outstations.old }
+    ensures controls { controls.new
+        ≡ controls_after_all_ended 0 (map (ended_by_tick moment) outstations.old) controls.old }
+    ensures clients { clients.new
+        ≡ clients_told (outcomes_ended 0 (map (ended_by_tick moment) outstations.old) controls.old) clients.old }
+{
+    for position in 0..outstations.len() {
+        let ended = outstations.tick(position, moment);
+        end_order(controls, clients, position, ended);
+    }
+}
