@@ -1,17 +1,23 @@
 -- The hub, as its contracts see it: the settings that it runs with, and its state.
-use Rattle.std.specs.Prelude.{◌≡◌, ℕ, ◌+◌, ◌^◌, ◌<◌, Bool, false, List, [], length, Option, Some, None, Result, Ok, Err}
+use Rattle.std.specs.Prelude.{◌≡◌, ℕ, ◌+◌, ◌*◌, ◌^◌, ◌<◌, ◌≤◌, Bool, false, ◌||◌, is_some, List, [], length, slice_get, Option, Some, None, Result, Ok, Err, IfSome, if◌then◌else◌}
 use Rattle.std.specs.List.{AllByRecursion}
 use Rattle.gw_model.specs.declared.point.Report.{Report}
 use Rattle.gw_map.specs.Settings.{Setup}
 use Rattle.gw_model.specs.declared.observation.Observation.{Observation}
 use Rattle.gw_picture.specs.Picture.{news_of, news_of_report}
 use Rattle.dnp_app.specs.Response.{Fragment}
+use Rattle.gw_control.specs.declared.answer.Outcome.{Outcome}
+use Rattle.gw_control.specs.Controls.{Controls, controls_after_taking}
+use Rattle.gw_control.specs.Held.{orders_of}
+use Rattle.gw_station.specs.Answers.{places, places_taken, CanBeTold}
 use Rattle.gw_station.specs.Client.{Client, is_started}
 use Rattle.gw_station.specs.Sound.{IsSoundClient}
 use Rattle.gw_steps.specs.declared.step.Step.{Step}
 use Rattle.gw_steps.specs.declared.step.Reply.{Reply}
 use Rattle.gw_steps.specs.declared.step.StepFault.{StepFault}
+use Rattle.gw_steps.specs.Controls.{order_due, said_of_outcome}
 use Rattle.gw_steps.specs.Sound.{IsSoundState}
+use Rattle.gw_parts.specs.Outstations.{is_due}
 use Rattle.gw_steps.specs.State.{State, Counts}
 use Rattle.gw_steps.specs.Steps.{Allowed, can_rise, raised, latest, parts_after_fragment}
 
@@ -78,6 +84,25 @@ state_with_response hub moment response =
       counts = raised hub.state.counts (step_with (news_among hub response.reports) 0);
       moment = latest hub.state moment;
     }
+
+-- ---- orders
+
+-- a poll of an outstation at the largest moment so far would be answered with a request
+abbrev pub is_poll_due : State → ℕ → Bool
+is_poll_due s o = is_due s.moment (slice_get s.outstations o) || is_some (order_due s o)
+
+-- once the order that is due for an outstation was taken
+abbrev pub controls_polled : State → ℕ → Controls
+controls_polled s o = if is_some (order_due s o) then controls_after_taking o s.controls else s.controls
+
+-- a client can be told of an outcome
+abbrev pub CanTell : List Client → Outcome → Type 0
+CanTell clients x = IfSome (slice_get clients x.client) (CanBeTold x.command (said_of_outcome x))
+
+-- each order holds two of its client's places
+pub record HoldsPlaces (clients : List Client) (controls : Controls) : Type 0 where
+  pub held : (c : ℕ) → IfSome (slice_get clients c) (λ k. k.held ≡ 2 * orders_of c controls)
+  pub places : AllByRecursion (λ k. places_taken k ≤ places) clients
 
 -- why a step is not made, if there is a reason
 abbrev pub unless : Option StepFault → Result (Unit {0}) StepFault

@@ -11,23 +11,27 @@ ghost use Rattle.gw_station.specs.Sound.{CanTake};
 ghost use Rattle.gw_steps.specs.declared.step.Step.TheVariants as steps;
 ghost use Rattle.gw_steps.specs.declared.step.StepFault.TheVariants.{NoClient, NoOutstation, Spent};
 ghost use Rattle.gw_steps.specs.State.{at_first};
-ghost use Rattle.gw_steps.specs.Steps.{client_up, fault_unless_up, latest, one_if, outstation_up, Allowed};
+ghost use Rattle.gw_model.specs.Places.{change};
+ghost use Rattle.gw_steps.specs.Controls.{order_due};
+ghost use Rattle.gw_steps.specs.Steps.{can_order, can_rise, client_up, command_of, fault_unless_up, is_beginning, is_ordering, latest, one_if, order_ended, outstation_up, reply_of_event, Allowed};
 ghost use Rattle.gw_steps.specs.Runs.{history, state_after, AtEach, IsRun};
 ghost use Rattle.gw_steps.specs.Sound.{IsSoundState};
 ghost use Rattle.gw_history.specs.Premises.{IsSoundRun};
 ghost use Rattle.gw_laws.specs.Promises.{Promises};
 ghost use Rattle.gw_parts.specs.Clients.{dropped_at, has_offer, queued_at, unacknowledged_at};
-ghost use Rattle.gw_parts.specs.Outstations.{is_due};
-ghost use Rattle.gw_hub.specs.Hub.{can_count, can_take, news_of_all, news_of_one, started_at, state_counting, state_with_response, unless, Answers, IsCounted};
+ghost use Rattle.gw_hub.specs.Hub.{can_count, can_take, controls_polled, is_poll_due, news_of_all, news_of_one, started_at, state_counting, state_with_response, step_with, unless, Answers, IsCounted};
 
 use crate::common::Common;
 use crate::counts::Counts;
+use crate::orders::{end_by, end_order, is_control_up, lose_orders, pass_time, said_by};
 use dnp_app::Response;
 use dnp_master::Verdict;
+use gw_control::Controls;
 use gw_map::{Settings, Station};
-use gw_model::{Memory, Observation, Report};
+use gw_model::{Ended, Memory, Observation, Order, Report};
 use gw_parts::{Clients, Outstations};
 use gw_picture::Picture;
+use gw_station::Event;
 use gw_steps::{Reply, Step, StepFault};
 use iec_apci::Apdu;
 use iec_window::Limits;
@@ -560,17 +564,49 @@ impl Hub {
         if !self.counts.can_rise(0, u64::from(begins)) || !self.can_order(client, apdu, moment) {
             return Err(StepFault::Spent);
         }
+        self.take_apdu(client, apdu, moment, begins)
+    }
+
+    /// Takes an APDU of a client that is up, by which a session begins or not, at a moment that isn't before another.
+    fn take_apdu(
+        &mut self,
+        client: u8,
+        apdu: &Apdu,
+        moment: u64,
+        begins: bool,
+    ) -> Result<Reply, StepFault>
+        requires moment { moment ≡ latest self.old.state moment }
+        requires up { client_up self.old.state client ≡ Some true }
+        requires begins { begins ≡ is_beginning self.old.state client apdu.now }
+        requires counts { IsTrue (can_rise self.old.state.counts (step_with 0 (one_if begins))) }
+        requires order { IsTrue (can_order (is_ordering self.old.setup self.old.state moment client
+            (command_of self.old.setup apdu.now (slice_get self.old.state.clients client))) self.old.state.controls) }
+        ensures step { Answers self.old (steps.Frame client apdu.now moment) result self.new }
+        ensures setup { self.new.setup ≡ self.old.setup }
+    {
+        let session = self.session(client);
+        let settings = self.settings.get();
         let picture = self.picture.rows();
         let Ok(event) = self
             .clients
-            .frame(client, apdu, moment, self.settings.get(), picture)
+            .frame(client, apdu, moment, settings, picture)
         else {
             return Err(StepFault::Memory);
         };
-        self.settle(client, apdu, moment, event);
+        match event {
+            Event::Taken => end_by(&mut self.controls, client, apdu),
+            Event::Command(command) => {
+                let up = is_control_up(&self.outstations, &command, settings);
+                let answer = self
+                    .controls
+                    .command(client, session, &command, settings, up, moment);
+                self.clients.answer(client, &command, said_by(answer));
+            }
+            Event::Closed(_) => self.controls.end(client),
+        }
         self.counts.raise(0, u64::from(begins));
         if begins {
-            self.sessions[usize::from(client)] = self.counts.sessions();
+            set_session(&mut self.sessions, client, self.counts.sessions());
         }
         self.moment = moment;
         Ok(reply_of(event))
@@ -592,7 +628,7 @@ impl Hub {
                 self.session(client),
                 &command,
                 settings,
-                self.is_control_up(&command),
+                is_control_up(&self.outstations, &command, settings),
                 moment,
             ),
         }
@@ -608,19 +644,6 @@ impl Hub {
         }
     }
 
-    /// Whether the outstation of the control that a command is for is up.
-    fn is_control_up(&self, command: &Command) -> bool
-        ensures { result ≡ is_control_up self.now.state.outstations (control_for self.now.setup command.now) }
-    {
-        match control_for(command, self.settings.get()) {
-            None => false,
-            Some((_, control)) => match self.outstations.get(control.outstation) {
-                None => false,
-                Some(master) => master.is_up(),
-            },
-        }
-    }
-
     fn pump(&mut self, client: u8, moment: u64) -> Result<Reply, StepFault>
         ensures step { Answers self.old (steps.Pump client moment) result self.new }
         ensures setup { self.new.setup ≡ self.old.setup }
@@ -628,6 +651,26 @@ impl Hub {
         self.connected(client)?;
         self.count(moment)?;
         Ok(self.clients.pump(client, self.settings.get(), self.moment))
+    }
+}
+
+/// A client's last session has this number.
+fn set_session(sessions: &mut [u64; CLIENTS as usize], client: u8, number: u64)
+    ensures { sessions.new ≡ change client (λ _. number) sessions.old }
+{
+    let position = usize::from(client);
+    if position < sessions.len() {
+        sessions[position] = number;
+    }
+}
+
+/// The reply to what became of an APDU.
+fn reply_of(event: Event) -> Reply
+    ensures { result ≡ reply_of_event event }
+{
+    match event {
+        Event::Taken | Event::Command(_) => Reply::Taken,
+        Event::Closed(why) => Reply::Closed(why),
     }
 }
 

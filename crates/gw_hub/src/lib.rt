@@ -6,6 +6,7 @@
 mod common;
 mod counts;
 mod hub;
+mod orders;
 
 pub use dnp_master::{Ignored, Verdict};
 pub use gw_station::Why;

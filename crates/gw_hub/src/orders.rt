@@ -3,13 +3,17 @@ ghost use Rattle.std.specs.Prelude.{◌≡◌, ◌×◌, ℕ, true, false, lengt
 ghost use Rattle.std.specs.Option.{option_to_list};
 ghost use Rattle.dnp_master.specs.Master.{ended_by_tick, master_after_tick};
 ghost use Rattle.gw_control.specs.Orders.{places};
-ghost use Rattle.gw_steps.specs.Controls.{clients_told, controls_after_all_ended, controls_after_closes, controls_after_losses, controls_with_ended, outcome_ended, outcomes_ended, outcomes_lost, said_by, said_of_outcome};
+ghost use Rattle.gw_control.specs.Intents.{control_for};
+ghost use Rattle.gw_steps.specs.Controls.{clients_told, controls_after_all_ended, controls_after_losses, controls_after_taken, controls_with_ended, is_control_up, outcome_ended, outcomes_ended, outcomes_lost, said_by};
 ghost use Rattle.gw_hub.specs.Hub.{CanTell, HoldsPlaces};
 
-use gw_control::{Answer, Controls, MOST_WAITING, Outcome};
+use gw_control::{Answer, Controls, MOST_WAITING, Outcome, control_for};
+use gw_map::Settings;
 use gw_model::Ended;
 use gw_parts::{Clients, Outstations};
 use gw_station::Said;
+use iec_apci::{Apdu, Signal};
+use iec_command::Command;
 
 /// What is said of a command, by what the controls answer to it. A station gives no command for an address without a
 /// control of its type: it has sent it back.
@@ -20,6 +24,28 @@ pub fn said_by(answer: Answer) -> Said
         Answer::Confirm => Said::Confirm,
         Answer::Negative | Answer::Unknown => Said::Negative,
         Answer::Ordered(_) => Said::Ordered,
+    }
+}
+
+/// Whether the outstation of the control that a command is for is up.
+pub fn is_control_up(outstations: &Outstations, command: &Command, settings: &Settings) -> bool
+    ensures { result ≡ is_control_up outstations.now (control_for settings.now command.now) }
+{
+    let Some((_, control)) = control_for(command, settings) else {
+        return false;
+    };
+    match outstations.get(control.outstation) {
+        Some(master) => master.is_up(),
+        None => false,
+    }
+}
+
+/// An APDU of a client that was taken, and carries no command for a control, ends its session where it is STOPDT act.
+pub fn end_by(controls: &mut Controls, client: u8, apdu: &Apdu)
+    ensures { controls.new ≡ controls_after_taken client apdu.now controls.old }
+{
+    if let Apdu::U(Signal::StopAct) = apdu {
+        controls.end(client);
     }
 }
 
