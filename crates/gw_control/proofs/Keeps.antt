@@ -1,8 +1,7 @@
 -- What becomes of orders keeps them in order: at most 16 wait for an outstation, and their numbers rise.
 use Rattle.std.specs.Prelude.{is_none, replicate, slice_get}
 use Rattle.std.specs.List.{filter}
-use Rattle.std.specs.Option.{option_or}
-use Rattle.std.proofs.Common.{◌≡◌, ℕ, zero, suc, ◌+◌, ◌<◌, ◌≤◌, Bool, true, false, cond, not, ◌&&◌, List, [], ◌∷◌, ◌++◌, map, length, take, get_or, Option, Some, None, option_map, refl, ap, arith, add-one, length-append}
+use Rattle.std.proofs.Common.{◌≡◌, ℕ, zero, suc, ◌+◌, ◌<◌, ◌≤◌, Bool, true, false, cond, not, ◌&&◌, List, [], ◌∷◌, ◌++◌, map, length, Option, Some, None, option_map, refl, ap, arith, length-append}
 use Rattle.std.proofs.lemmas.Bool.Decides.{nat_tests}
 use Rattle.gw_model.specs.First.{when, first_of}
 use Rattle.gw_model.specs.Places.{change}
@@ -12,12 +11,11 @@ use Rattle.gw_entries.specs.declared.control.Control.{Control}
 use Rattle.gw_control.specs.declared.asked.Asked.{Asked}
 use Rattle.gw_control.specs.declared.accepted.Accepted.{Accepted}
 use Rattle.gw_control.specs.declared.accepted.UnderWay.{UnderWay}
-use Rattle.gw_control.specs.declared.answer.Outcome.{Outcome}
 use Rattle.gw_control.specs.declared.selection.Selection.{Selection}
 use Rattle.gw_control.specs.Intents.{intent_of}
 use Rattle.gw_control.specs.Selections.{is_selected, is_taken}
-use Rattle.gw_control.specs.Orders.{Outgoing, is_full, is_named, is_of_others, nothing_outgoing, numbers_of, outcome_at, outgoing_after_end, outgoing_after_ended, outgoing_after_lost, outgoing_after_taking, outgoing_with, IsInOrder, Rise}
-use Rattle.gw_control.specs.Controls.{Controls, NotPermitted, OutstationDown, SelectedByAnother, NotSelected, NoPlace, act_accepted, act_by, act_unless, confirmed_if, is_full_at, is_order, outcome_among, AreInOrder, IsAccepted}
+use Rattle.gw_control.specs.Orders.{Outgoing, is_full, is_named, is_of_others, nothing_outgoing, numbers_of, outgoing_after_end, outgoing_after_ended, outgoing_after_lost, outgoing_after_taking, outgoing_with, IsInOrder, Rise}
+use Rattle.gw_control.specs.Controls.{Controls, NotPermitted, OutstationDown, SelectedByAnother, NotSelected, NoPlace, act_accepted, act_by, act_unless, confirmed_if, is_full_at, is_order, AreInOrder, IsAccepted}
 use Rattle.gw_control.proofs.Places.{all_alike, all_changed, all_mapped}
 
 -- ---- numbers that rise
@@ -153,11 +151,11 @@ pub taking_keeps : (count n : ℕ) (os : List Outgoing) → AreInOrder count os
 taking_keeps count n os all =
     all_changed (IsInOrder count) outgoing_after_taking (λ o k. taken count o.waiting o.under_way k) n os all
 
-pub ended_keeps : (count : ℕ) (ended : Ended) (os : List Outgoing) → AreInOrder count os
-    → AreInOrder count (map (outgoing_after_ended ended) os)
-ended_keeps count ended os all =
-    all_mapped (IsInOrder count) (outgoing_after_ended ended) (λ o k. ended_by count ended o.waiting o.under_way k) os
-    all
+pub ended_keeps : (count n : ℕ) (ended : Ended) (os : List Outgoing) → AreInOrder count os
+    → AreInOrder count (change n (outgoing_after_ended ended) os)
+ended_keeps count n ended os all =
+    all_changed (IsInOrder count) (outgoing_after_ended ended) (λ o k. ended_by count ended o.waiting o.under_way k) n
+    os all
 
 pub lost_keeps : (count n : ℕ) (os : List Outgoing) → AreInOrder count os
     → AreInOrder count (change n outgoing_after_lost os)
@@ -209,28 +207,3 @@ accepted a control standing v act is =
 pub confirmed_no_order : (told : Bool) → is_order (confirmed_if told) ≡ false
 confirmed_no_order true = refl
 confirmed_no_order false = refl
-
--- ---- the outcome among some outstations, and one more
-
-pub outcome_more : (ended : Ended) (n : ℕ) (os : List Outgoing) (d : Outgoing) → n < length os
-    → option_or (outcome_among ended (take n os)) (outcome_at ended (get_or os n d)) ≡ outcome_among ended
-    (take (n + 1) os)
-outcome_more ended n os d lt = rw (add-one) (more n os lt)
-  where
-    last : (m : Option Outcome) → m ≡ first_of (m ∷ [])
-    last None = refl
-    last (Some x) = refl
-
-    more : (n : ℕ) (os : List Outgoing) → n < length os
-        → option_or (outcome_among ended (take n os)) (outcome_at ended (get_or os n d)) ≡ outcome_among ended
-        (take (suc n) os)
-    more n [] lt = absurd (omega arith)
-    more zero (o ∷ os) lt = last (outcome_at ended o)
-    more (suc n) (o ∷ os) lt = step (outcome_at ended o) (more n os (omega arith))
-      where
-        step : (m : Option Outcome) (t : option_or (outcome_among ended (take n os))
-            (outcome_at ended (get_or os n d)) ≡ outcome_among ended (take (suc n) os))
-            → option_or (first_of (m ∷ map (outcome_at ended) (take n os))) (outcome_at ended (get_or os n d))
-            ≡ first_of (m ∷ map (outcome_at ended) (take (suc n) os))
-        step None t = t
-        step (Some x) t = refl

@@ -4,7 +4,7 @@ use Rattle.std.specs.List.{filter}
 use Rattle.std.proofs.Common.{◌≡◌, ℕ, zero, suc, ◌+◌, ◌<◌, ◌≤◌, ◌==◌, Bool, true, false, cond, not, ◌&&◌, nat_lt, List, [], ◌∷◌, ◌++◌, map, length, Option, Some, None, refl, sym, ap, arith}
 use Rattle.std.proofs.lemmas.Bool.{eqb-true, ltb-true, ltb-false}
 use Rattle.std.proofs.lemmas.Bool.Decides.{nat_tests}
-use Rattle.gw_model.specs.First.{first_of, when}
+use Rattle.gw_model.specs.First.{when}
 use Rattle.gw_model.specs.Places.{change}
 use Rattle.gw_model.specs.declared.control.Act.{Act}
 use Rattle.gw_model.specs.declared.control.Ended.{Ended}
@@ -13,11 +13,10 @@ use Rattle.gw_map.specs.Settings.{Setup}
 use Rattle.gw_control.specs.declared.asked.Asked.{Asked}
 use Rattle.gw_control.specs.declared.accepted.Accepted.{Accepted}
 use Rattle.gw_control.specs.declared.accepted.UnderWay.{UnderWay}
-use Rattle.gw_control.specs.declared.answer.Outcome.{Outcome}
 use Rattle.gw_control.specs.Intents.{control_for}
 use Rattle.gw_control.specs.Selections.{is_select}
-use Rattle.gw_control.specs.Orders.{Outgoing, is_named, is_of_others, nothing_outgoing, numbers_of, outcome_at, outcome_by, outcome_of, outgoing_after_end, outgoing_after_ended, outgoing_after_lost, outgoing_after_taking, outgoing_with, Rise}
-use Rattle.gw_control.specs.Controls.{Controls, accepted_by, act_accepted, controls_after_at, controls_ordering, controls_selecting, controls_unselecting, is_deactivation, is_selectable, no_controls, outcome_among, standing_at, AreInOrder}
+use Rattle.gw_control.specs.Orders.{Outgoing, is_named, is_of_others, nothing_outgoing, numbers_of, outcome_by, outcome_of, outgoing_after_end, outgoing_after_ended, outgoing_after_lost, outgoing_after_taking, outgoing_with, Rise}
+use Rattle.gw_control.specs.Controls.{Controls, accepted_by, act_accepted, controls_after_at, controls_ordering, controls_selecting, controls_unselecting, is_deactivation, is_selectable, no_controls, outcome_ended_at, standing_at, AreInOrder}
 use Rattle.gw_control.specs.Moves.{Move, Comes, Takes, Ends, Loses, Leaves, after_move, has_number, is_oldest, one_if, outcomes_by, outcomes_told, IsSoundControls}
 use Rattle.gw_control.proofs.Keeps.{rise_within}
 use Rattle.gw_control.proofs.Sounds.{none_sound, stays_sound}
@@ -144,23 +143,12 @@ all_taking n p [] = omega arith
 all_taking n zero (o ∷ os) = omega (arith, held_taking n o.waiting o.under_way)
 all_taking n (suc p) (o ∷ os) = omega (arith, all_taking n p os)
 
-all_ending : (n : ℕ) (ended : Ended) (os : List Outgoing)
-    → one_if ((ended.number == n) && is_some (outcome_among ended os)) + held n (map (outgoing_after_ended ended) os)
-    ≤ held n os
-all_ending n ended [] = omega (arith, and_none (ended.number == n))
-all_ending n ended (o ∷ os) =
-    omega (
-      arith,
-      held_ending n ended o.waiting o.under_way,
-      all_ending n ended os,
-      split (ended.number == n)
-          (outcome_at ended o) (map (outcome_at ended) os),
-    )
-  where
-    split : (b : Bool) (m : Option Outcome) (ms : List (Option Outcome))
-        → one_if (b && is_some (first_of (m ∷ ms))) ≤ one_if (b && is_some m) + one_if (b && is_some (first_of ms))
-    split b None ms = omega arith
-    split b (Some x) ms = omega arith
+all_ending : (n p : ℕ) (ended : Ended) (os : List Outgoing)
+    → one_if ((ended.number == n) && is_some (outcome_ended_at ended (slice_get os p))) + held n
+    (change p (outgoing_after_ended ended) os) ≤ held n os
+all_ending n p ended [] = omega (arith, and_none (ended.number == n))
+all_ending n zero ended (o ∷ os) = omega (arith, held_ending n ended o.waiting o.under_way)
+all_ending n (suc p) ended (o ∷ os) = omega (arith, all_ending n p ended os)
 
 all_losing : (n p : ℕ) (os : List Outgoing) → one_if (is_oldest n (slice_get os p)) + held n
     (change p outgoing_after_lost os) ≤ held n os
@@ -243,8 +231,9 @@ move_spends setup n (Comes a) v k = omega (arith, command_spends setup n a (cont
 move_spends setup n (Takes outstation) v k =
     spent v.ordered n 0 _ _ (omega (arith, all_taking n outstation v.outgoing))
     (λ lt. none_held_above v.ordered n v.outgoing lt k)
-move_spends setup n (Ends ended) v k =
-    spent v.ordered n _ _ _ (all_ending n ended v.outgoing) (λ lt. none_held_above v.ordered n v.outgoing lt k)
+move_spends setup n (Ends outstation ended) v k =
+    spent v.ordered n _ _ _ (all_ending n outstation ended v.outgoing)
+    (λ lt. none_held_above v.ordered n v.outgoing lt k)
 move_spends setup n (Loses outstation) v k =
     spent v.ordered n _ _ _ (all_losing n outstation v.outgoing) (λ lt. none_held_above v.ordered n v.outgoing lt k)
 move_spends setup n (Leaves client) v k =

@@ -53,16 +53,6 @@ next_changed n f xs ys d y lt so_far e = ap (set ys n) e
     get_again zero (y ∷ ys) d = refl
     get_again (suc n) (y ∷ ys) d = get_again n ys d
 
--- what stands behind those that a walk changed
-pub get_over : {A : Type 0} (f : A → A) (xs ys : List A) (n : ℕ) (x : A) → n < length xs
-    → ys ≡ map f (take n xs) ++ drop n xs → get_or ys n x ≡ get_or xs n x
-get_over f xs ys n x lt e = ap (λ (zs : List _). get_or zs n x) e ∙ behind xs n lt
-  where
-    behind : (xs : List _) (n : ℕ) → n < length xs → get_or (map f (take n xs) ++ drop n xs) n x ≡ get_or xs n x
-    behind [] n lt = absurd (omega arith)
-    behind (y ∷ xs) zero lt = refl
-    behind (y ∷ xs) (suc n) lt = behind xs n (omega arith)
-
 -- ---- so many alike
 
 replicate_suc : {A : Type 0} (n : ℕ) (x : A) → replicate (suc n) x ≡ replicate n x ++ x ∷ []

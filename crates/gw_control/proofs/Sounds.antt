@@ -98,11 +98,11 @@ stays_sound setup (Takes outstation) v k = record {
   outgoing = length-change outstation outgoing_after_taking v.outgoing ∙ k.outgoing;
   orders = taking_keeps v.ordered outstation v.outgoing k.orders;
 }
-stays_sound setup (Ends ended) v k = record {
+stays_sound setup (Ends outstation ended) v k = record {
   sessions = k.sessions;
   selections = k.selections;
-  outgoing = length-mapped (outgoing_after_ended ended) v.outgoing ∙ k.outgoing;
-  orders = ended_keeps v.ordered ended v.outgoing k.orders;
+  outgoing = length-change outstation (outgoing_after_ended ended) v.outgoing ∙ k.outgoing;
+  orders = ended_keeps v.ordered outstation ended v.outgoing k.orders;
 }
 stays_sound setup (Loses outstation) v k = record {
   sessions = k.sessions;

@@ -215,7 +215,7 @@ pub selection_stands : (setup : Setup) (moment position : ℕ) (s : Selection) (
 selection_stands setup moment position s (Comes a) v e spares =
     command_spares setup a moment position (control_for setup a.command) v s spares.0 spares.1 e
 selection_stands setup moment position s (Takes outstation) v e spares = e
-selection_stands setup moment position s (Ends ended) v e spares = e
+selection_stands setup moment position s (Ends outstation ended) v e spares = e
 selection_stands setup moment position s (Loses outstation) v e spares = e
 selection_stands setup moment position s (Leaves client) v e spares =
     stands_still setup.station.select_ms moment (change client (λ _. None) v.sessions) _ s was.0

@@ -1,8 +1,8 @@
 -- The commands of orders stay whole.
 use Rattle.std.specs.Prelude.{IfSome, slice_get}
 use Rattle.std.specs.List.{AllByRecursion, filter}
-use Rattle.std.proofs.Common.{ℕ, zero, suc, ◌+◌, Bool, true, false, cond, not, ◌&&◌, List, [], ◌∷◌, ◌++◌, length, map, Option, Some, None}
-use Rattle.gw_model.specs.First.{first_of, when}
+use Rattle.std.proofs.Common.{ℕ, zero, suc, ◌+◌, Bool, true, false, cond, not, ◌&&◌, List, [], ◌∷◌, ◌++◌, length, Option, Some, None}
+use Rattle.gw_model.specs.First.{when}
 use Rattle.gw_model.specs.declared.control.Act.{Act}
 use Rattle.gw_model.specs.declared.control.Ended.{Ended}
 use Rattle.gw_entries.specs.declared.control.Control.{Control}
@@ -14,7 +14,7 @@ use Rattle.gw_control.specs.declared.accepted.UnderWay.{UnderWay}
 use Rattle.gw_control.specs.Intents.{control_for}
 use Rattle.gw_control.specs.Selections.{is_select}
 use Rattle.gw_control.specs.Orders.{Outgoing, is_named, is_of_others, nothing_outgoing, outcome_by, outcome_of, outgoing_after_end, outgoing_after_ended, outgoing_after_lost, outgoing_after_taking, outgoing_with}
-use Rattle.gw_control.specs.Controls.{Controls, accepted_by, act_accepted, controls_after_at, controls_ordering, controls_selecting, controls_unselecting, is_deactivation, is_selectable, no_controls, outcome_among, outcome_lost_at, standing_at}
+use Rattle.gw_control.specs.Controls.{Controls, accepted_by, act_accepted, controls_after_at, controls_ordering, controls_selecting, controls_unselecting, is_deactivation, is_selectable, no_controls, outcome_ended_at, outcome_lost_at, standing_at}
 use Rattle.gw_control.specs.Moves.{Move, Comes, Takes, Ends, Loses, Leaves, after_move, HasWholeCommands, IsWholeMove, IsWholeOutgoing, IsWholeUnderWay}
 use Rattle.gw_control.proofs.Places.{all_alike, all_changed, all_mapped}
 
@@ -103,9 +103,9 @@ pub stays_whole : (setup : Setup) (move : Move) (v : Controls) → IsWholeMove m
 stays_whole setup (Comes a) v whole k = command_whole setup a (control_for setup a.command) v whole k
 stays_whole setup (Takes outstation) v whole k =
     all_changed IsWholeOutgoing outgoing_after_taking (λ o all. taken o.waiting o.under_way all) outstation v.outgoing k
-stays_whole setup (Ends ended) v whole k =
-    all_mapped IsWholeOutgoing (outgoing_after_ended ended) (λ o all. ended_by ended o.waiting o.under_way all)
-    v.outgoing k
+stays_whole setup (Ends outstation ended) v whole k =
+    all_changed IsWholeOutgoing (outgoing_after_ended ended) (λ o all. ended_by ended o.waiting o.under_way all)
+    outstation v.outgoing k
 stays_whole setup (Loses outstation) v whole k =
     all_changed IsWholeOutgoing outgoing_after_lost (λ o all. lost_from o.waiting o.under_way all) outstation
     v.outgoing k
@@ -114,26 +114,24 @@ stays_whole setup (Leaves client) v whole k =
 
 -- ---- outcomes
 
-pub ended_whole : (ended : Ended) (v : Controls) → HasWholeCommands v
-    → IfSome (outcome_among ended v.outgoing) (λ outcome. IsWhole outcome.command)
-ended_whole ended v k = among v.outgoing k
+pub ended_whole : (outstation : ℕ) (ended : Ended) (v : Controls) → HasWholeCommands v
+    → IfSome (outcome_ended_at ended (slice_get v.outgoing outstation)) (λ outcome. IsWhole outcome.command)
+ended_whole outstation ended v k = at outstation v.outgoing k
   where
-    among : (os : List Outgoing) → AllByRecursion IsWholeOutgoing os
-        → IfSome (outcome_among ended os) (λ outcome. IsWhole outcome.command)
-    among [] all = tt
-    among (o ∷ os) all = first o.under_way all.0.under_way (among os all.1)
+    under_way : (u : Option UnderWay) → IsWholeUnderWay u
+        → IfSome (outcome_by ended u) (λ outcome. IsWhole outcome.command)
+    under_way None whole = tt
+    under_way (Some u) whole = told (is_named ended u && not u.left)
       where
-        first : (u : Option UnderWay) → IsWholeUnderWay u
-            → IfSome (outcome_among ended os) (λ outcome. IsWhole outcome.command)
-            → IfSome (first_of (outcome_by ended u ∷ map (λ p. outcome_by ended p.under_way) os))
-            (λ outcome. IsWhole outcome.command)
-        first None whole rest = rest
-        first (Some u) whole rest = told (is_named ended u && not u.left)
-          where
-            told : (b : Bool) → IfSome (first_of (when b (outcome_of ended.done u.accepted) ∷ map
-                (λ p. outcome_by ended p.under_way) os)) (λ outcome. IsWhole outcome.command)
-            told true = whole
-            told false = rest
+        told : (b : Bool) → IfSome (when b (outcome_of ended.done u.accepted)) (λ outcome. IsWhole outcome.command)
+        told true = whole
+        told false = tt
+
+    at : (n : ℕ) (os : List Outgoing) → AllByRecursion IsWholeOutgoing os
+        → IfSome (outcome_ended_at ended (slice_get os n)) (λ outcome. IsWhole outcome.command)
+    at n [] all = tt
+    at zero (o ∷ os) all = under_way o.under_way all.0.under_way
+    at (suc n) (o ∷ os) all = at n os all.1
 
 pub lost_whole : (outstation : ℕ) (v : Controls) → HasWholeCommands v
     → IfSome (outcome_lost_at (slice_get v.outgoing outstation)) (λ outcome. IsWhole outcome.command)

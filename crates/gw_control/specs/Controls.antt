@@ -198,12 +198,13 @@ abbrev pub controls_after_taking : ℕ → Controls → Controls
 controls_after_taking outstation v =
     record v { outgoing = change outstation outgoing_after_taking v.outgoing }
 
--- an order under way ended
-abbrev pub outcome_among : Ended → List Outgoing → Option Outcome
-outcome_among ended outgoing = first_of (map (outcome_at ended) outgoing)
+-- the order under way to an outstation ended
+abbrev pub outcome_ended_at : Ended → Option Outgoing → Option Outcome
+outcome_ended_at ended o = option_and_then (outcome_at ended) o
 
-abbrev pub controls_after_ended : Ended → Controls → Controls
-controls_after_ended ended v = record v { outgoing = map (outgoing_after_ended ended) v.outgoing }
+abbrev pub controls_after_ended : ℕ → Ended → Controls → Controls
+controls_after_ended outstation ended v =
+    record v { outgoing = change outstation (outgoing_after_ended ended) v.outgoing }
 
 -- an outstation is lost
 abbrev pub outcome_lost_at : Option Outgoing → Option Outcome

@@ -20,7 +20,7 @@ use Rattle.gw_control.specs.declared.answer.Answer.{Answer}
 use Rattle.gw_control.specs.declared.answer.Outcome.{Outcome}
 use Rattle.gw_control.specs.declared.asked.Asked.{Asked}
 use Rattle.gw_control.specs.Selections.{asked}
-use Rattle.gw_control.specs.Controls.{Controls, answer_of, controls_after_command, controls_after_end, controls_after_ended, controls_after_taking, no_controls, order_at, outcome_among, outcome_lost_at}
+use Rattle.gw_control.specs.Controls.{Controls, answer_of, controls_after_command, controls_after_end, controls_after_ended, controls_after_taking, no_controls, order_at, outcome_ended_at, outcome_lost_at}
 
 -- ---- settings
 
@@ -172,10 +172,10 @@ abbrev pub ended : ℕ → Bool → Ended
 ended number done = record { number = number; done = done }
 
 abbrev pub outcome : ℕ → Bool → Controls → Option Outcome
-outcome number done v = outcome_among (ended number done) v.outgoing
+outcome number done v = outcome_ended_at (ended number done) (slice_get v.outgoing 0)
 
 abbrev pub done : ℕ → Controls → Controls
-done number v = controls_after_ended (ended number true) v
+done number v = controls_after_ended 0 (ended number true) v
 
 abbrev pub loss : Controls → Option Outcome
 loss v = outcome_lost_at (slice_get v.outgoing 0)

@@ -4,3 +4,4 @@ pub mod Orders
 pub mod Controls
 pub mod Example
 pub mod Moves
+pub mod Held

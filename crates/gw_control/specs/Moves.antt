@@ -11,15 +11,15 @@ use Rattle.gw_control.specs.declared.accepted.UnderWay.{UnderWay}
 use Rattle.gw_control.specs.declared.selection.Selection.{Selection}
 use Rattle.gw_control.specs.Intents.{control_for}
 use Rattle.gw_control.specs.Orders.{Outgoing}
-use Rattle.gw_control.specs.Controls.{Controls, clients, controls_after_command, controls_after_end, controls_after_ended, controls_after_lost, controls_after_taking, outcome_among, AreInOrder}
+use Rattle.gw_control.specs.Controls.{Controls, clients, controls_after_command, controls_after_end, controls_after_ended, controls_after_lost, controls_after_taking, outcome_ended_at, AreInOrder}
 
 pub data Move : Type 0 where
   -- a command comes
   Comes : Asked → Move
   -- the next order is given for an outstation
   Takes : ℕ → Move
-  -- the order under way ends
-  Ends : Ended → Move
+  -- the order under way to an outstation ends
+  Ends : ℕ → Ended → Move
   -- an outstation is lost: the oldest order that waits fails
   Loses : ℕ → Move
   -- a client's session ends
@@ -28,7 +28,7 @@ pub data Move : Type 0 where
 abbrev pub after_move : Setup → Move → Controls → Controls
 after_move setup (Comes a) v = controls_after_command setup a v
 after_move setup (Takes outstation) v = controls_after_taking outstation v
-after_move setup (Ends ended) v = controls_after_ended ended v
+after_move setup (Ends outstation ended) v = controls_after_ended outstation ended v
 after_move setup (Loses outstation) v = controls_after_lost outstation v
 after_move setup (Leaves client) v = controls_after_end client v
 
@@ -51,7 +51,8 @@ is_oldest n (Some o) = has_number n (slice_get o.waiting 0)
 abbrev pub outcomes_by : ℕ → Move → Controls → ℕ
 outcomes_by n (Comes a) v = 0
 outcomes_by n (Takes outstation) v = 0
-outcomes_by n (Ends ended) v = one_if ((ended.number == n) && is_some (outcome_among ended v.outgoing))
+outcomes_by n (Ends outstation ended) v =
+    one_if ((ended.number == n) && is_some (outcome_ended_at ended (slice_get v.outgoing outstation)))
 outcomes_by n (Loses outstation) v = one_if (is_oldest n (slice_get v.outgoing outstation))
 outcomes_by n (Leaves client) v = 0
 
@@ -75,7 +76,7 @@ is_apart setup a position s =
 abbrev pub Spares : Setup → ℕ → ℕ → Selection → Move → Type 0
 Spares setup moment position s (Comes a) = (a.moment ≤ moment) × (is_apart setup a position s ≡ true)
 Spares setup moment position s (Takes outstation) = Unit {0}
-Spares setup moment position s (Ends ended) = Unit {0}
+Spares setup moment position s (Ends outstation ended) = Unit {0}
 Spares setup moment position s (Loses outstation) = Unit {0}
 Spares setup moment position s (Leaves client) = (s.client == client) ≡ false
 
@@ -104,6 +105,6 @@ HasWholeCommands v = AllByRecursion IsWholeOutgoing v.outgoing
 abbrev pub IsWholeMove : Move → Type 0
 IsWholeMove (Comes a) = IsWhole a.command
 IsWholeMove (Takes outstation) = Unit {0}
-IsWholeMove (Ends ended) = Unit {0}
+IsWholeMove (Ends outstation ended) = Unit {0}
 IsWholeMove (Loses outstation) = Unit {0}
 IsWholeMove (Leaves client) = Unit {0}

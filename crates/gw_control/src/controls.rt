@@ -1,5 +1,5 @@
 //! Selections and orders of all clients.
-ghost use Rattle.std.specs.Prelude.{◌≡◌, ◌<◌, ◌+◌, ◌^◌, true, false, map, replicate, slice_get, IfOk};
+ghost use Rattle.std.specs.Prelude.{◌≡◌, ◌<◌, ◌+◌, ◌^◌, true, false, is_some, map, replicate, slice_get, IfOk};
 ghost use Rattle.gw_model.specs.Places.{change};
 ghost use Rattle.gw_control.specs.Orders.{nothing_outgoing, outgoing_after_end, outgoing_after_ended, outgoing_after_lost, outgoing_after_taking, outgoing_with};
 ghost use Rattle.gw_control.specs.Selections.{asked, unselected_by};
@@ -23,7 +23,7 @@ ghost use Rattle.gw_control.specs.Controls.{
   is_selectable,
   no_controls,
   order_at,
-  outcome_among,
+  outcome_ended_at,
   outcome_lost_at,
   standing_at,
   CanAnswer,
@@ -45,8 +45,8 @@ use std::marker::Model;
 /// How many clients there can be.
 const CLIENTS: usize = 8;
 
-/// The clients' selections of controls, and their orders on the way to outstations. Only `new` and `copy` take memory.
-/// Moments are in milliseconds; an interval that would begin after it ended counts as 0.
+/// The clients' selections of controls, and their orders on the way to outstations. Only `new`, `copy` and `copy_over`
+/// take memory. Moments are in milliseconds; an interval that would begin after it ended counts as 0.
 #[derive(Debug, Drop)]
 pub struct Controls {
     /// For each client the session that stands, where a control was selected in it.
@@ -92,11 +92,27 @@ impl Controls {
     }
 
     /// An equal value, or `Memory` where there is no room for its selections and orders.
-    pub fn copy(&self, alloc: Global) -> Result<Controls, Memory>
+    pub fn copy(&self) -> Result<Controls, Memory>
         ensures { IfOk result (λ copy. copy ≡ self.now) }
     {
-        let selections = Vec::from_slice(alloc, self.selections.as_slice())?;
-        let outgoing = copied(alloc, self.outgoing.as_slice())?;
+        let selections = Vec::new(*self.selections.allocator());
+        let outgoing = Vec::new(*self.outgoing.allocator());
+        self.copy_over(Controls {
+            sessions: [None; CLIENTS],
+            selections,
+            outgoing,
+            ordered: 0,
+        })
+    }
+
+    /// The same, in the memory of what isn't needed any more, so that little is asked for where that suffices.
+    pub fn copy_over(&self, spare: Controls) -> Result<Controls, Memory>
+        ensures { IfOk result (λ copy. copy ≡ self.now) }
+    {
+        let mut selections = spare.selections;
+        selections.clear();
+        selections.extend_from_slice(self.selections.as_slice())?;
+        let outgoing = copied_over(spare.outgoing, self.outgoing.as_slice())?;
         Ok(Controls {
             sessions: self.sessions,
             selections,
@@ -278,6 +294,16 @@ impl Controls {
         self.ordered
     }
 
+    /// Whether `take_order` would give an order for an outstation.
+    pub fn waits(&self, outstation: u8) -> bool
+        ensures { result ≡ is_some (order_at (slice_get self.now.outgoing outstation)) }
+    {
+        match self.outgoing.get(usize::from(outstation)) {
+            Some(orders) => orders.waits(),
+            None => false,
+        }
+    }
+
     /// Gives the oldest order that waits for an outstation, where none is under way to it; then it is.
     pub fn take_order(&mut self, outstation: u8) -> Option<Order>
         ensures order { result ≡ order_at (slice_get self.old.outgoing outstation) }
@@ -286,12 +312,12 @@ impl Controls {
         take_at(&mut self.outgoing, outstation)
     }
 
-    /// An order that was under way ended: its outcome, where its session stands.
-    pub fn outcome(&mut self, ended: Ended) -> Option<Outcome>
-        ensures outcome { result ≡ outcome_among ended self.old.outgoing }
-        ensures after { self.new ≡ controls_after_ended ended self.old }
+    /// The order that was under way to an outstation ended: its outcome, where its session stands.
+    pub fn outcome(&mut self, outstation: u8, ended: Ended) -> Option<Outcome>
+        ensures outcome { result ≡ outcome_ended_at ended (slice_get self.old.outgoing outstation) }
+        ensures after { self.new ≡ controls_after_ended outstation ended self.old }
     {
-        end_order(&mut self.outgoing, ended)
+        end_at(&mut self.outgoing, outstation, ended)
     }
 
     /// An outstation is lost: the oldest order that waits for it fails. None waits any more where nothing is answered.
@@ -330,14 +356,26 @@ fn nothing_outgoing(alloc: Global, count: usize) -> Result<Vec<Outgoing>, Memory
     Ok(outgoing)
 }
 
-fn copied(alloc: Global, outgoing: &[Outgoing]) -> Result<Vec<Outgoing>, Memory>
+/// The orders of all outstations, in the memory of spare ones as far as they go.
+fn copied_over(spare: Vec<Outgoing>, outgoing: &[Outgoing]) -> Result<Vec<Outgoing>, Memory>
     ensures { IfOk result (λ copy. copy.items ≡ outgoing.now) }
 {
-    let mut copy = Vec::with_capacity(alloc, outgoing.len())?;
+    let mut copy = Vec::with_capacity(*spare.allocator(), outgoing.len())?;
+    let mut spares = spare.into_iter();
     for one in outgoing {
-        copy.push(one.copy(alloc)?)?;
+        copy.push(copied(one, spares.next())?)?;
     }
     Ok(copy)
+}
+
+/// Equal orders of an outstation, in the memory of spare ones if there are any.
+fn copied(outgoing: &Outgoing, spare: Option<Outgoing>) -> Result<Outgoing, Memory>
+    ensures { IfOk result (λ copy. copy ≡ outgoing.now) }
+{
+    match spare {
+        Some(spare) => outgoing.copy_over(spare),
+        None => outgoing.copy(),
+    }
 }
 
 fn confirmed_if(told: bool) -> Answer
@@ -447,16 +485,16 @@ fn take_at(outgoing: &mut [Outgoing], outstation: u8) -> Option<Order>
     }
 }
 
-fn end_order(outgoing: &mut [Outgoing], ended: Ended) -> Option<Outcome>
-    ensures outcome { result ≡ outcome_among ended outgoing.old }
-    ensures after { outgoing.new ≡ map (outgoing_after_ended ended) outgoing.old }
+fn end_at(outgoing: &mut [Outgoing], outstation: u8, ended: Ended) -> Option<Outcome>
+    ensures outcome { result ≡ outcome_ended_at ended (slice_get outgoing.old outstation) }
+    ensures after { outgoing.new ≡ change outstation (outgoing_after_ended ended) outgoing.old }
 {
-    let mut outcome = None;
-    for position in 0..outgoing.len() {
-        let told = outgoing[position].end_order(ended);
-        outcome = outcome.or(told);
+    let position = usize::from(outstation);
+    if position < outgoing.len() {
+        outgoing[position].end_order(ended)
+    } else {
+        None
     }
-    outcome
 }
 
 fn lose_at(outgoing: &mut [Outgoing], outstation: u8) -> Option<Outcome>

@@ -7,7 +7,7 @@ ghost use Rattle.gw_map.specs.Settings.{Setup};
 ghost use Rattle.iec_command.specs.Commands.{IsWhole};
 ghost use Rattle.gw_control.specs.declared.asked.Asked.{Asked};
 ghost use Rattle.gw_control.specs.declared.selection.Selection.{Selection};
-ghost use Rattle.gw_control.specs.Controls.{act_accepted, no_controls, outcome_among, outcome_lost_at, standing_at, Controls, IsAccepted};
+ghost use Rattle.gw_control.specs.Controls.{act_accepted, no_controls, outcome_ended_at, outcome_lost_at, standing_at, Controls, IsAccepted};
 ghost use Rattle.gw_control.specs.Moves.{after_move, outcomes_told, HasWholeCommands, IsSoundControls, IsWholeMove, Move, Spares};
 
 /// A selection ends by time, by its client's commands for the control, or with its session, and by nothing else: it
@@ -42,9 +42,9 @@ pub fn commands_stay_whole()
     ensures first { (setup : Setup) → HasWholeCommands (no_controls setup) }
     ensures kept { (setup : Setup) (move : Move) (v : Controls)
         → IsWholeMove move → HasWholeCommands v → HasWholeCommands (after_move setup move v) }
-    ensures ended { (ended : Ended) (v : Controls)
+    ensures ended { (outstation : ℕ) (ended : Ended) (v : Controls)
         → HasWholeCommands v
-        → IfSome (outcome_among ended v.outgoing) (λ outcome. IsWhole outcome.command) }
+        → IfSome (outcome_ended_at ended (slice_get v.outgoing outstation)) (λ outcome. IsWhole outcome.command) }
     ensures lost { (outstation : ℕ) (v : Controls)
         → HasWholeCommands v
         → IfSome (outcome_lost_at (slice_get v.outgoing outstation)) (λ outcome. IsWhole outcome.command) }

@@ -13,3 +13,4 @@ mod selection;
 
 pub use answer::{Answer, Outcome};
 pub use controls::Controls;
+pub use outgoing::MOST_WAITING;

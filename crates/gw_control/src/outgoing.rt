@@ -1,5 +1,5 @@
 //! Orders on their way to one outstation.
-ghost use Rattle.std.specs.Prelude.{◌≡◌, ◌≤◌, false, length, IfOk};
+ghost use Rattle.std.specs.Prelude.{◌≡◌, ◌≤◌, false, is_some, length, IfOk};
 ghost use Rattle.std.specs.List.{filter};
 ghost use Rattle.std.specs.VecDeque.{deque_capacity};
 ghost use Rattle.gw_control.specs.Orders.{is_full, is_of_others, nothing_outgoing, order_given, outcome_at, outcome_lost, outgoing_after_end, outgoing_after_ended, outgoing_after_lost, outgoing_after_taking, outgoing_with};
@@ -11,8 +11,8 @@ use std::alloc::Global;
 use std::collections::VecDeque;
 use std::marker::Model;
 
-/// How many orders may wait.
-const MOST_WAITING: usize = 16;
+/// How many orders may wait for an outstation.
+pub const MOST_WAITING: usize = 16;
 
 /// The orders that wait for an outstation, and the one that is under way to it.
 #[derive(Debug, Drop)]
@@ -48,15 +48,24 @@ impl Outgoing {
     }
 
     /// An equal value, with the same room, or `Memory` where there is none for it.
-    pub fn copy(&self, alloc: Global) -> Result<Outgoing, Memory>
+    pub fn copy(&self) -> Result<Outgoing, Memory>
         ensures { IfOk result (λ copy. copy ≡ self.now) }
     {
-        let mut waiting = Vec::with_capacity(alloc, MOST_WAITING)?;
-        let (front, back) = self.waiting.as_slices();
-        waiting.extend_from_slice(front)?;
-        waiting.extend_from_slice(back)?;
+        let none = VecDeque::new(*self.waiting.allocator());
+        let waiting = refilled(none, &self.waiting)?;
         Ok(Outgoing {
-            waiting: VecDeque::from_vec(waiting),
+            waiting,
+            under_way: self.under_way,
+        })
+    }
+
+    /// The same, in the memory of orders that aren't needed any more, so that none is asked for where that suffices.
+    pub fn copy_over(&self, spare: Outgoing) -> Result<Outgoing, Memory>
+        ensures { IfOk result (λ copy. copy ≡ self.now) }
+    {
+        let waiting = refilled(spare.waiting, &self.waiting)?;
+        Ok(Outgoing {
+            waiting,
             under_way: self.under_way,
         })
     }
@@ -74,6 +83,13 @@ impl Outgoing {
         ensures { self.new ≡ outgoing_with accepted self.old }
     {
         self.waiting.push_back_reserved(accepted);
+    }
+
+    /// Whether `take` would give an order.
+    pub fn waits(&self) -> bool
+        ensures { result ≡ is_some (order_given self.now) }
+    {
+        self.under_way.is_none() && !self.waiting.is_empty()
     }
 
     /// Gives the oldest order that waits, where none is under way; then it is.
@@ -129,6 +145,23 @@ impl Outgoing {
             }
         }
     }
+}
+
+/// The same orders, with room for as many as may wait, in the memory of spare ones where that suffices.
+fn refilled(
+    mut spare: VecDeque<Accepted>,
+    orders: &VecDeque<Accepted>,
+) -> Result<VecDeque<Accepted>, Memory>
+    ensures items { IfOk result (λ copy. copy.items ≡ orders.now.items) }
+    ensures room { IfOk result (λ copy. 16 ≤ deque_capacity copy) }
+{
+    spare.clear();
+    let mut copy = spare.into_vec();
+    copy.reserve(MOST_WAITING)?;
+    let (front, back) = orders.as_slices();
+    copy.extend_from_slice(front)?;
+    copy.extend_from_slice(back)?;
+    Ok(VecDeque::from_vec(copy))
 }
 
 /// Those of other clients stay.
