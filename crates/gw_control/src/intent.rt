@@ -7,7 +7,7 @@ use gw_model::{Act, Shape};
 use iec_command::{Action, Command};
 
 /// The control that a command is for, with its position: it has the address, and is operated by the type.
-pub(crate) fn control_for(command: &Command, settings: &Settings) -> Option<(usize, Control)>
+pub fn control_for(command: &Command, settings: &Settings) -> Option<(usize, Control)>
     ensures { result ≡ control_for settings.now command.now }
 {
     let (position, control) = settings.control_at(command.address)?;

@@ -13,4 +13,5 @@ mod selection;
 
 pub use answer::{Answer, Outcome};
 pub use controls::Controls;
+pub use intent::control_for;
 pub use outgoing::MOST_WAITING;

@@ -1,13 +1,19 @@
 -- Runs, one step after the other.
-use Rattle.std.proofs.Common.{◌≡◌, ℕ, zero, suc, ◌+◌, ◌<◌, ◌≤◌, List, [], ◌∷◌, ◌++◌, length, take, get_or, Result, Ok, Err, refl, sym, ap, subst, ◌∙◌, arith}
-use Rattle.std.specs.Prelude.{replicate}
+use Rattle.std.proofs.Common.{◌≡◌, ℕ, zero, suc, ◌+◌, ◌<◌, ◌≤◌, List, [], ◌∷◌, ◌++◌, length, take, get_or, Option, Some, None, Result, Ok, Err, refl, sym, ap, subst, ◌∙◌, arith}
+use Rattle.std.specs.Prelude.{replicate, slice_get, IfSome, ◌*◌}
 use Rattle.std.specs.List.{AllByRecursion}
 use Rattle.std.proofs.lemmas.List.{length-map, length-take, take_more, take_all}
 use Rattle.gw_entries.specs.Setup.{StationSetup}
 use Rattle.gw_map.specs.Settings.{Setup}
+use Rattle.iec_window.specs.declared.limits.Limits.{Limits}
+use Rattle.gw_control.specs.Controls.{Controls, no_controls}
+use Rattle.gw_control.specs.Held.{orders_of}
+use Rattle.gw_control.proofs.Held.{none_held}
+use Rattle.gw_control.proofs.Sounds.{none_sound}
+use Rattle.gw_control.proofs.Whole.{none_whole}
 use Rattle.gw_picture.proofs.ByType.{opening_rows}
 use Rattle.gw_picture.proofs.Shows.{opening_shown}
-use Rattle.gw_station.specs.Client.{client_down, limits_of}
+use Rattle.gw_station.specs.Client.{Client, client_down, limits_of}
 use Rattle.gw_station.specs.Sound.{IsSoundClient}
 use Rattle.gw_steps.specs.declared.step.Step.{Step}
 use Rattle.gw_steps.specs.declared.step.Reply.{Reply}
@@ -36,6 +42,7 @@ all_down station (suc n) = (
     window = record { limits = refl; waiting = omega arith; received = omega arith; sent = omega arith };
     confirmations = omega arith;
     places = omega arith;
+    stopped = λ none. refl;
     answers = tt;
     limit = refl;
     few = omega arith;
@@ -46,12 +53,32 @@ all_down station (suc n) = (
   all_down station n,
 )
 
+-- no order holds a place
+none_held_by : (setup : Setup) (c : ℕ) (v : Controls) (held : ℕ) → orders_of c v ≡ 0 → held ≡ 0 → held ≡ 2 * orders_of c v
+none_held_by setup c v held none zero = omega (arith, none, zero)
+
+down_held : (limits : Limits) (queue n c : ℕ)
+    → IfSome (slice_get (replicate n (client_down limits queue)) c) (λ (k : Client). k.held ≡ 0)
+down_held limits queue zero c = tt
+down_held limits queue (suc n) zero = refl
+down_held limits queue (suc n) (suc c) = down_held limits queue n c
+
+if_some : {A : Type 0} (P Q : A → Type 0) (x : Option A) → ((y : A) → P y → Q y) → IfSome x P → IfSome x Q
+if_some P Q None step all = tt
+if_some P Q (Some y) step all = step y all
+
 pub sound_first : (setup : Setup) → IsSoundState setup (at_first setup)
 sound_first setup = record {
   picture = opening_shown setup.rows _ refl;
   rows = opening_rows setup.rows;
   masters = length-map setup.outstations _;
   clients = all_down setup.station client_limit;
+  controls = none_sound setup;
+  commands = none_whole setup;
+  held = λ c. if_some (λ (k : Client). k.held ≡ 0) (λ (k : Client). k.held ≡ 2 * orders_of c (no_controls setup))
+      (slice_get (at_first setup).clients c)
+      (λ k none. none_held_by setup c (no_controls setup) k.held (none_held setup c) none)
+      (down_held (limits_of setup.station) setup.station.queue client_limit c);
 }
 
 pub ran_first : (setup : Setup) → Ran setup [] (at_first setup)
