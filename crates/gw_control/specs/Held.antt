@@ -19,7 +19,7 @@ waiting_of client (x ∷ xs) = one_if (is_of client x) + waiting_of client xs
 -- none where its session ended
 abbrev pub under_way_of : ℕ → Option UnderWay → ℕ
 under_way_of client None = 0
-under_way_of client (Some u) = one_if (is_of client u.accepted && not u.left)
+under_way_of client (Some u) = one_if (not u.left && is_of client u.accepted)
 
 -- to one outstation
 abbrev pub orders_in : ℕ → Outgoing → ℕ
