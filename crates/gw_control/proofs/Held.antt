@@ -1,7 +1,7 @@
 -- What is accepted holds its places until its outcome, or until its session ends.
 use Rattle.std.specs.Prelude.{replicate, slice_get}
 use Rattle.std.specs.List.{filter}
-use Rattle.std.proofs.Common.{◌≡◌, ℕ, zero, suc, ◌+◌, ◌==◌, Bool, true, false, cond, not, ◌&&◌, ◌||◌, List, [], ◌∷◌, ◌++◌, map, length, Option, Some, None, refl, sym, ap, ◌∙◌, arith}
+use Rattle.std.proofs.Common.{◌≡◌, ℕ, zero, suc, ◌+◌, ◌≤◌, ◌==◌, Bool, true, false, cond, not, ◌&&◌, ◌||◌, List, [], ◌∷◌, ◌++◌, map, drop, length, Option, Some, None, refl, sym, ap, ◌∙◌, arith}
 use Rattle.std.proofs.lemmas.Bool.{eqb-true}
 use Rattle.gw_model.specs.First.{when}
 use Rattle.gw_model.specs.Places.{change}
@@ -15,10 +15,10 @@ use Rattle.gw_control.specs.declared.accepted.UnderWay.{UnderWay}
 use Rattle.gw_control.specs.declared.selection.Selection.{Selection}
 use Rattle.gw_control.specs.Intents.{control_for}
 use Rattle.gw_control.specs.Selections.{is_own, is_select}
-use Rattle.gw_control.specs.Orders.{Outgoing, is_named, is_of_others, nothing_outgoing, outcome_by, outcome_lost, outcome_of, outgoing_after_end, outgoing_after_ended, outgoing_after_lost, outgoing_after_taking, outgoing_with}
-use Rattle.gw_control.specs.Controls.{Controls, accepted_by, act_accepted, answer_at, answer_of, answer_to_act, confirmed_if, controls_after_at, controls_after_command, controls_after_end, controls_after_ended, controls_after_lost, controls_after_taking, controls_ordering, controls_selecting, controls_unselecting, is_deactivation, is_full_at, is_order, is_selectable, no_controls, outcome_ended_at, outcome_lost_at, standing_at}
-use Rattle.gw_control.specs.Moves.{one_if}
-use Rattle.gw_control.specs.Held.{is_of, orders_among, orders_in, orders_of, outcomes_to, under_way_of, waiting_of}
+use Rattle.gw_control.specs.Orders.{Outgoing, is_named, is_of_others, nothing_outgoing, outcome_by, outcome_lost, outcome_of, outgoing_after_end, outgoing_after_ended, outgoing_after_lost, outgoing_after_taking, outgoing_with, places}
+use Rattle.gw_control.specs.Controls.{Controls, accepted_by, act_accepted, answer_at, answer_of, answer_to_act, confirmed_if, controls_after_at, controls_after_command, controls_after_end, controls_after_ended, controls_after_lost, controls_after_taking, controls_ordering, controls_selecting, controls_unselecting, is_deactivation, is_full_at, is_order, is_selectable, no_controls, outcome_ended_at, outcome_lost_at, standing_at, AreInOrder}
+use Rattle.gw_control.specs.Moves.{one_if, IsSoundControls}
+use Rattle.gw_control.specs.Held.{controls_after_losses, is_of, orders_among, orders_in, orders_of, outcomes_to, under_way_of, waiting_in, waiting_of}
 use Rattle.gw_control.proofs.Keeps.{accepted, confirmed_no_order}
 
 -- ---- one outstation
@@ -229,3 +229,42 @@ end_frees_own c v = among_own c v.outgoing
 
 pub end_keeps_others : (c d : ℕ) → (c ≡ d → ⊥) → (v : Controls) → orders_of d (controls_after_end c v) ≡ orders_of d v
 end_keeps_others c d differ v = among_others c d differ v.outgoing
+
+-- ---- an outstation that is lost
+
+one_less : (n p : ℕ) (os : List Outgoing) → waiting_in (slice_get os p) ≤ suc n
+    → waiting_in (slice_get (change p outgoing_after_lost os) p) ≤ n
+one_less n p [] few = omega arith
+one_less n zero (o ∷ os) few = shorter o.waiting few
+  where
+    shorter : (ws : List Accepted) → length ws ≤ suc n → length (drop 1 ws) ≤ n
+    shorter [] few = omega arith
+    shorter (x ∷ xs) few = omega (arith, few)
+one_less n (suc p) (o ∷ os) few = one_less n p os few
+
+-- where as many fail as wait, none waits any more
+pub lost_empties : (n outstation : ℕ) (v : Controls) → waiting_in (slice_get v.outgoing outstation) ≤ n
+    → waiting_in (slice_get (controls_after_losses n outstation v).outgoing outstation) ≡ 0
+lost_empties zero outstation v few = omega (arith, few)
+lost_empties (suc n) outstation v few =
+    lost_empties n outstation (controls_after_lost outstation v) (one_less n outstation v.outgoing few)
+
+few_wait : (count n : ℕ) (os : List Outgoing) → AreInOrder count os → waiting_in (slice_get os n) ≤ places
+few_wait count n [] all = omega arith
+few_wait count zero (o ∷ os) all = all.0.few
+few_wait count (suc n) (o ∷ os) all = few_wait count n os all.1
+
+none_fails : (o : Option Outgoing) → waiting_in o ≡ 0 → outcome_lost_at o ≡ None
+none_fails None none = refl
+none_fails (Some o) none = oldest o.waiting none
+  where
+    oldest : (ws : List Accepted) → length ws ≡ 0
+        → outcome_lost (record { waiting = ws; under_way = o.under_way }) ≡ None
+    oldest [] none = refl
+    oldest (x ∷ xs) none = absurd (let none : ⊥ = cc in none)
+
+-- once 16 failed
+pub losses_end : (setup : Setup) (outstation : ℕ) (v : Controls) → IsSoundControls setup v
+    → outcome_lost_at (slice_get (controls_after_losses places outstation v).outgoing outstation) ≡ None
+losses_end setup outstation v k =
+    none_fails _ (lost_empties places outstation v (few_wait v.ordered outstation v.outgoing k.orders))

@@ -1,5 +1,5 @@
 //! Laws of selections and orders, whatever comes.
-ghost use Rattle.std.specs.Prelude.{◌≡◌, ◌+◌, ◌≤◌, ◌==◌, ◌&&◌, ℕ, List, Option, Some, slice_get, IfSome};
+ghost use Rattle.std.specs.Prelude.{◌≡◌, ◌+◌, ◌≤◌, ◌==◌, ◌&&◌, ℕ, List, Option, Some, None, slice_get, IfSome};
 ghost use Rattle.gw_model.specs.declared.control.Act.{Act};
 ghost use Rattle.gw_model.specs.declared.control.Ended.{Ended};
 ghost use Rattle.gw_entries.specs.declared.control.Control.{Control};
@@ -7,8 +7,9 @@ ghost use Rattle.gw_map.specs.Settings.{Setup};
 ghost use Rattle.iec_command.specs.Commands.{IsWhole};
 ghost use Rattle.gw_control.specs.declared.asked.Asked.{Asked};
 ghost use Rattle.gw_control.specs.declared.selection.Selection.{Selection};
+ghost use Rattle.gw_control.specs.Orders.{places};
 ghost use Rattle.gw_control.specs.Controls.{act_accepted, answer_of, controls_after_command, controls_after_end, controls_after_ended, controls_after_lost, controls_after_taking, is_order, no_controls, outcome_ended_at, outcome_lost_at, standing_at, Controls, IsAccepted};
-ghost use Rattle.gw_control.specs.Held.{orders_of, outcomes_to};
+ghost use Rattle.gw_control.specs.Held.{controls_after_losses, orders_of, outcomes_to};
 ghost use Rattle.gw_control.specs.Moves.{after_move, one_if, outcomes_told, HasWholeCommands, IsSoundControls, IsWholeMove, Move, Spares};
 
 /// A selection ends by time, by its client's commands for the control, or with its session, and by nothing else: it
@@ -71,4 +72,11 @@ pub fn places_are_held()
     ensures end { (c : ℕ) (v : Controls) → orders_of c (controls_after_end c v) ≡ 0 }
     ensures others { (c d : ℕ) → (c ≡ d → ⊥) → (v : Controls)
         → orders_of d (controls_after_end c v) ≡ orders_of d v }
+{}
+
+/// Once as many orders of a lost outstation failed as may wait, none waits for it.
+pub fn losses_end()
+    ensures { (setup : Setup) (outstation : ℕ) (v : Controls)
+        → IsSoundControls setup v
+        → outcome_lost_at (slice_get (controls_after_losses places outstation v).outgoing outstation) ≡ None }
 {}
