@@ -5,3 +5,4 @@ pub mod Sounds
 pub mod Once
 pub mod Stays
 pub mod Whole
+pub mod Held

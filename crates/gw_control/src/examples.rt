@@ -1,11 +1,11 @@
 //! Worked examples, computed by the definitions.
-ghost use Rattle.std.specs.Prelude.{◌≡◌, ◌-◌, ◌^◌, [], ◌∷◌, Some, None, pos, negsuc, map, true, false};
+ghost use Rattle.std.specs.Prelude.{◌≡◌, ◌-◌, ◌^◌, [], ◌∷◌, ◌++◌, Some, None, pos, negsuc, map, true, false};
 ghost use Rattle.gw_model.specs.declared.control.Act.TheVariants.{Set, Switch};
 ghost use Rattle.gw_model.specs.declared.control.Shape.TheVariants.{Latch, Pulse};
 ghost use Rattle.iec_command.specs.declared.command.Action.TheVariants.{Read};
 ghost use Rattle.iec_command.specs.Example.{command, double, setpoint, single};
 ghost use Rattle.gw_control.specs.declared.answer.Answer.TheVariants.{Confirm, Negative, Ordered, Unknown};
-ghost use Rattle.gw_control.specs.Controls.{answer_of, controls_after_command, controls_after_end, controls_after_lost, no_controls};
+ghost use Rattle.gw_control.specs.Controls.{answer_of, controls_after_command, controls_after_end, controls_after_ended, controls_after_lost, no_controls};
 ghost use Rattle.gw_control.specs.Example.{
   after,
   after_end,
@@ -13,6 +13,7 @@ ghost use Rattle.gw_control.specs.Example.{
   cancels,
   done,
   doubled,
+  ended,
   executes,
   loss,
   next,
@@ -31,6 +32,7 @@ ghost use Rattle.gw_control.specs.Example.{
   two_thirds,
   while_down,
 };
+ghost use Rattle.gw_control.specs.Held.{orders_of};
 
 /// Selections, and executes that need one.
 pub fn selections_by_example()
@@ -141,6 +143,8 @@ pub fn orders_by_example()
     ensures outcomes { map (λ is_done. outcome 1 is_done (sent (after (sets 0 (pos 1) ∷ [])))) (true ∷ false ∷ [])
         ≡ Some (told 0 (pos 1) true) ∷ Some (told 0 (pos 1) false) ∷ [] }
     ensures of_another { outcome 2 true (sent (after (sets 0 (pos 1) ∷ sets 0 (pos 2) ∷ []))) ≡ None }
+    ensures elsewhere { outcome 1 true (controls_after_ended 1 (ended 1 true) (sent (after (sets 0 (pos 1) ∷ []))))
+        ≡ Some (told 0 (pos 1) true) }
     ensures once { outcome 1 true (done 1 (sent (after (sets 0 (pos 1) ∷ [])))) ≡ None }
     // The outstation is lost: those that wait fail, oldest first.
     ensures lost { loss (after (sets 0 (pos 1) ∷ sets 1 (pos 2) ∷ [])) ≡ Some (told 0 (pos 1) false) }
@@ -156,4 +160,19 @@ pub fn orders_by_example()
     ensures still_under_way { next (controls_after_end 0 (sent (after (sets 0 (pos 1) ∷ sets 1 (pos 2) ∷ [])))) ≡ None }
     // Numbers go on.
     ensures number { answer_of setup (sets 0 (pos 3)) (after_end 0 (sets 0 (pos 1) ∷ sets 0 (pos 2) ∷ [])) ≡ Ordered 3 }
+{}
+
+/// How many orders of a client hold places.
+pub fn places_by_example()
+    // Those that wait do, each client's for itself; what is refused holds none.
+    ensures waiting { map (λ client. orders_of client (after (sets 0 (pos 1) ∷ sets 0 (pos 2) ∷ sets 1 (pos 3) ∷ [])))
+        (0 ∷ 1 ∷ 2 ∷ []) ≡ 2 ∷ 1 ∷ 0 ∷ [] }
+    ensures refused { orders_of 1 (after (sixteen ++ sets 1 (pos 1) ∷ [])) ≡ 8 }
+    // The one under way does, until it ends.
+    ensures under_way { orders_of 0 (sent (after (sets 0 (pos 1) ∷ sets 0 (pos 2) ∷ []))) ≡ 2 }
+    ensures over { orders_of 0 (done 1 (sent (after (sets 0 (pos 1) ∷ sets 0 (pos 2) ∷ [])))) ≡ 1 }
+    ensures lost { orders_of 0 (controls_after_lost 0 (after (sets 0 (pos 1) ∷ sets 0 (pos 2) ∷ []))) ≡ 1 }
+    // None does once its session ended.
+    ensures left { map (λ client. orders_of client (controls_after_end 0 (sent (after (sets 0 (pos 1) ∷ sets 1 (pos 2)
+        ∷ []))))) (0 ∷ 1 ∷ []) ≡ 0 ∷ 1 ∷ [] }
 {}

@@ -1,5 +1,5 @@
 //! Laws of selections and orders, whatever comes.
-ghost use Rattle.std.specs.Prelude.{◌≡◌, ◌≤◌, ℕ, List, Option, Some, slice_get, IfSome};
+ghost use Rattle.std.specs.Prelude.{◌≡◌, ◌+◌, ◌≤◌, ◌==◌, ◌&&◌, ℕ, List, Option, Some, None, slice_get, IfSome};
 ghost use Rattle.gw_model.specs.declared.control.Act.{Act};
 ghost use Rattle.gw_model.specs.declared.control.Ended.{Ended};
 ghost use Rattle.gw_entries.specs.declared.control.Control.{Control};
@@ -7,8 +7,10 @@ ghost use Rattle.gw_map.specs.Settings.{Setup};
 ghost use Rattle.iec_command.specs.Commands.{IsWhole};
 ghost use Rattle.gw_control.specs.declared.asked.Asked.{Asked};
 ghost use Rattle.gw_control.specs.declared.selection.Selection.{Selection};
-ghost use Rattle.gw_control.specs.Controls.{act_accepted, no_controls, outcome_ended_at, outcome_lost_at, standing_at, Controls, IsAccepted};
-ghost use Rattle.gw_control.specs.Moves.{after_move, outcomes_told, HasWholeCommands, IsSoundControls, IsWholeMove, Move, Spares};
+ghost use Rattle.gw_control.specs.Orders.{places};
+ghost use Rattle.gw_control.specs.Controls.{act_accepted, answer_of, controls_after_command, controls_after_end, controls_after_ended, controls_after_lost, controls_after_taking, is_order, no_controls, outcome_ended_at, outcome_lost_at, standing_at, Controls, IsAccepted};
+ghost use Rattle.gw_control.specs.Held.{controls_after_losses, orders_of, outcomes_to};
+ghost use Rattle.gw_control.specs.Moves.{after_move, one_if, outcomes_told, HasWholeCommands, IsSoundControls, IsWholeMove, Move, Spares};
 
 /// A selection ends by time, by its client's commands for the control, or with its session, and by nothing else: it
 /// stands at a moment after whatever else came before.
@@ -48,4 +50,33 @@ pub fn commands_stay_whole()
     ensures lost { (outstation : ℕ) (v : Controls)
         → HasWholeCommands v
         → IfSome (outcome_lost_at (slice_get v.outgoing outstation)) (λ outcome. IsWhole outcome.command) }
+{}
+
+/// What is accepted holds its places until its outcome, or until its session ends.
+pub fn places_are_held()
+    ensures first { (setup : Setup) (c : ℕ) → orders_of c (no_controls setup) ≡ 0 }
+    // One more where a command of the client is an order.
+    ensures command { (setup : Setup) (c : ℕ) (a : Asked) (v : Controls)
+        → orders_of c (controls_after_command setup a v)
+        ≡ orders_of c v + one_if ((a.client == c) && is_order (answer_of setup a v)) }
+    ensures taking { (c outstation : ℕ) (v : Controls)
+        → orders_of c (controls_after_taking outstation v) ≡ orders_of c v }
+    // One less for each outcome that it is told.
+    ensures ended { (c outstation : ℕ) (ended : Ended) (v : Controls)
+        → orders_of c v ≡ orders_of c (controls_after_ended outstation ended v)
+        + outcomes_to c (outcome_ended_at ended (slice_get v.outgoing outstation)) }
+    ensures lost { (c outstation : ℕ) (v : Controls)
+        → orders_of c v ≡ orders_of c (controls_after_lost outstation v)
+        + outcomes_to c (outcome_lost_at (slice_get v.outgoing outstation)) }
+    // None when its session ends, and nothing to others.
+    ensures end { (c : ℕ) (v : Controls) → orders_of c (controls_after_end c v) ≡ 0 }
+    ensures others { (c d : ℕ) → (c ≡ d → ⊥) → (v : Controls)
+        → orders_of d (controls_after_end c v) ≡ orders_of d v }
+{}
+
+/// Once as many orders of a lost outstation failed as may wait, none waits for it.
+pub fn losses_end()
+    ensures { (setup : Setup) (outstation : ℕ) (v : Controls)
+        → IsSoundControls setup v
+        → outcome_lost_at (slice_get (controls_after_losses places outstation v).outgoing outstation) ≡ None }
 {}
