@@ -4,6 +4,9 @@ use Rattle.std.specs.List.{AllByRecursion}
 use Rattle.gw_model.specs.declared.control.Ended.{Ended}
 use Rattle.gw_entries.specs.declared.control.Control.{Control}
 use Rattle.gw_map.specs.Settings.{Setup}
+use Rattle.iec_command.specs.declared.command.Action.{Action}
+use Rattle.iec_command.specs.declared.command.Action.TheVariants.{Single, Double, Setpoint}
+use Rattle.iec_command.specs.declared.command.Command.{Command}
 use Rattle.iec_command.specs.Commands.{IsWhole}
 use Rattle.gw_control.specs.declared.asked.Asked.{Asked}
 use Rattle.gw_control.specs.declared.accepted.Accepted.{Accepted}
@@ -89,13 +92,25 @@ pub record IsSoundControls (setup : Setup) (v : Controls) : Type 0 where
   pub outgoing : length v.outgoing ≡ length setup.outstations
   pub orders : AreInOrder v.ordered v.outgoing
 
--- the command of an order has the bits of its places, of an order under way too
+-- a type operates controls
+abbrev pub is_operating : Action → Bool
+is_operating (Single command) = true
+is_operating (Double command) = true
+is_operating (Setpoint command) = true
+is_operating _ = false
+
+-- the command of an order has the bits of its places, and a type that operates controls
+pub record IsWholeOrder (c : Command) : Type 0 where
+  pub whole : IsWhole c
+  pub operating : is_operating c.action ≡ true
+
+-- also that of an order under way
 abbrev pub IsWholeUnderWay : Option UnderWay → Type 0
 IsWholeUnderWay None = Unit {0}
-IsWholeUnderWay (Some u) = IsWhole u.accepted.command
+IsWholeUnderWay (Some u) = IsWholeOrder u.accepted.command
 
 pub record IsWholeOutgoing (o : Outgoing) : Type 0 where
-  pub waiting : AllByRecursion (λ x. IsWhole x.command) o.waiting
+  pub waiting : AllByRecursion (λ x. IsWholeOrder x.command) o.waiting
   pub under_way : IsWholeUnderWay o.under_way
 
 abbrev pub HasWholeCommands : Controls → Type 0

@@ -4,13 +4,12 @@ ghost use Rattle.gw_model.specs.declared.control.Act.{Act};
 ghost use Rattle.gw_model.specs.declared.control.Ended.{Ended};
 ghost use Rattle.gw_entries.specs.declared.control.Control.{Control};
 ghost use Rattle.gw_map.specs.Settings.{Setup};
-ghost use Rattle.iec_command.specs.Commands.{IsWhole};
 ghost use Rattle.gw_control.specs.declared.asked.Asked.{Asked};
 ghost use Rattle.gw_control.specs.declared.selection.Selection.{Selection};
 ghost use Rattle.gw_control.specs.Orders.{places};
 ghost use Rattle.gw_control.specs.Controls.{act_accepted, answer_of, controls_after_command, controls_after_end, controls_after_ended, controls_after_lost, controls_after_taking, is_order, no_controls, outcome_ended_at, outcome_lost_at, standing_at, Controls, IsAccepted};
 ghost use Rattle.gw_control.specs.Held.{controls_after_losses, orders_of, outcomes_to};
-ghost use Rattle.gw_control.specs.Moves.{after_move, one_if, outcomes_told, HasWholeCommands, IsSoundControls, IsWholeMove, Move, Spares};
+ghost use Rattle.gw_control.specs.Moves.{after_move, one_if, outcomes_told, HasWholeCommands, IsSoundControls, IsWholeMove, IsWholeOrder, Move, Spares};
 
 /// A selection ends by time, by its client's commands for the control, or with its session, and by nothing else: it
 /// stands at a moment after whatever else came before.
@@ -39,17 +38,18 @@ pub fn controls_stay_sound()
         → IsSoundControls setup v → IsSoundControls setup (after_move setup move v) }
 {}
 
-/// The commands of orders, and so of outcomes, have the bits of their places, where all that came had.
+/// The commands of orders, and so of outcomes, have the bits of their places, where all that came had, and types that
+/// operate controls.
 pub fn commands_stay_whole()
     ensures first { (setup : Setup) → HasWholeCommands (no_controls setup) }
     ensures kept { (setup : Setup) (move : Move) (v : Controls)
         → IsWholeMove move → HasWholeCommands v → HasWholeCommands (after_move setup move v) }
     ensures ended { (outstation : ℕ) (ended : Ended) (v : Controls)
         → HasWholeCommands v
-        → IfSome (outcome_ended_at ended (slice_get v.outgoing outstation)) (λ outcome. IsWhole outcome.command) }
+        → IfSome (outcome_ended_at ended (slice_get v.outgoing outstation)) (λ outcome. IsWholeOrder outcome.command) }
     ensures lost { (outstation : ℕ) (v : Controls)
         → HasWholeCommands v
-        → IfSome (outcome_lost_at (slice_get v.outgoing outstation)) (λ outcome. IsWhole outcome.command) }
+        → IfSome (outcome_lost_at (slice_get v.outgoing outstation)) (λ outcome. IsWholeOrder outcome.command) }
 {}
 
 /// What is accepted holds its places until its outcome, or until its session ends.

@@ -5,7 +5,6 @@ use Rattle.std.specs.List.{AllByRecursion}
 use Rattle.std.proofs.lemmas.List.{length-map, length-take, take_more, take_all}
 use Rattle.gw_entries.specs.Setup.{StationSetup}
 use Rattle.gw_map.specs.Settings.{Setup}
-use Rattle.iec_window.specs.declared.limits.Limits.{Limits}
 use Rattle.gw_control.specs.Controls.{Controls, no_controls}
 use Rattle.gw_control.specs.Held.{orders_of}
 use Rattle.gw_control.proofs.Held.{none_held}
@@ -55,13 +54,13 @@ all_down station (suc n) = (
 
 -- no order holds a place
 none_held_by : (setup : Setup) (c : ℕ) (v : Controls) (held : ℕ) → orders_of c v ≡ 0 → held ≡ 0 → held ≡ 2 * orders_of c v
-none_held_by setup c v held none zero = omega (arith, none, zero)
+none_held_by setup c v held none nothing = omega (arith, none, nothing)
 
-down_held : (limits : Limits) (queue n c : ℕ)
-    → IfSome (slice_get (replicate n (client_down limits queue)) c) (λ (k : Client). k.held ≡ 0)
-down_held limits queue zero c = tt
-down_held limits queue (suc n) zero = refl
-down_held limits queue (suc n) (suc c) = down_held limits queue n c
+down_held : (one : Client) (n c : ℕ) → one.held ≡ 0
+    → IfSome (slice_get (replicate n one) c) (λ (k : Client). k.held ≡ 0)
+down_held one zero c none = tt
+down_held one (suc n) zero none = none
+down_held one (suc n) (suc c) none = down_held one n c none
 
 if_some : {A : Type 0} (P Q : A → Type 0) (x : Option A) → ((y : A) → P y → Q y) → IfSome x P → IfSome x Q
 if_some P Q None step all = tt
@@ -78,7 +77,7 @@ sound_first setup = record {
   held = λ c. if_some (λ (k : Client). k.held ≡ 0) (λ (k : Client). k.held ≡ 2 * orders_of c (no_controls setup))
       (slice_get (at_first setup).clients c)
       (λ k none. none_held_by setup c (no_controls setup) k.held (none_held setup c) none)
-      (down_held (limits_of setup.station) setup.station.queue client_limit c);
+      (down_held (client_down (limits_of setup.station) setup.station.queue) client_limit c refl);
 }
 
 pub ran_first : (setup : Setup) → Ran setup [] (at_first setup)
