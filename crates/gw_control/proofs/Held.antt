@@ -147,7 +147,8 @@ among_own c (o ∷ os) = omega (arith, left_own c o.waiting o.under_way, among_o
 among_others : (c d : ℕ) → (c ≡ d → ⊥) → (os : List Outgoing)
     → orders_among d (map (outgoing_after_end c) os) ≡ orders_among d os
 among_others c d differ [] = refl
-among_others c d differ (o ∷ os) = omega (arith, left_other c d differ o.waiting o.under_way, among_others c d differ os)
+among_others c d differ (o ∷ os) =
+    omega (arith, left_other c d differ o.waiting o.under_way, among_others c d differ os)
 
 among_none : (c n : ℕ) → orders_among c (replicate n nothing_outgoing) ≡ 0
 among_none c zero = refl
