@@ -312,12 +312,12 @@ impl Controls {
         take_at(&mut self.outgoing, outstation)
     }
 
-    /// The order that was under way to an outstation ended: its outcome, where its session stands.
-    pub fn outcome(&mut self, outstation: u8, ended: Ended) -> Option<Outcome>
-        ensures outcome { result ≡ outcome_ended_at ended (slice_get self.old.outgoing outstation) }
-        ensures after { self.new ≡ controls_after_ended outstation ended self.old }
+    /// The order that was under way to the outstation at a position ended: its outcome, where its session stands.
+    pub fn outcome(&mut self, position: usize, ended: Ended) -> Option<Outcome>
+        ensures outcome { result ≡ outcome_ended_at ended (slice_get self.old.outgoing position) }
+        ensures after { self.new ≡ controls_after_ended position ended self.old }
     {
-        end_at(&mut self.outgoing, outstation, ended)
+        end_at(&mut self.outgoing, position, ended)
     }
 
     /// An outstation is lost: the oldest order that waits for it fails. None waits any more where nothing is answered.
@@ -485,11 +485,10 @@ fn take_at(outgoing: &mut [Outgoing], outstation: u8) -> Option<Order>
     }
 }
 
-fn end_at(outgoing: &mut [Outgoing], outstation: u8, ended: Ended) -> Option<Outcome>
-    ensures outcome { result ≡ outcome_ended_at ended (slice_get outgoing.old outstation) }
-    ensures after { outgoing.new ≡ change outstation (outgoing_after_ended ended) outgoing.old }
+fn end_at(outgoing: &mut [Outgoing], position: usize, ended: Ended) -> Option<Outcome>
+    ensures outcome { result ≡ outcome_ended_at ended (slice_get outgoing.old position) }
+    ensures after { outgoing.new ≡ change position (outgoing_after_ended ended) outgoing.old }
 {
-    let position = usize::from(outstation);
     if position < outgoing.len() {
         outgoing[position].end_order(ended)
     } else {

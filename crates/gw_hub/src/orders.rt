@@ -2,9 +2,10 @@
 ghost use Rattle.std.specs.Prelude.{◌≡◌, ◌×◌, ℕ, true, false, length, map, IfSome};
 ghost use Rattle.std.specs.Option.{option_to_list};
 ghost use Rattle.dnp_master.specs.Master.{ended_by_tick, master_after_tick};
+ghost use Rattle.gw_control.specs.Held.{controls_after_losses};
 ghost use Rattle.gw_control.specs.Orders.{places};
 ghost use Rattle.gw_control.specs.Intents.{control_for};
-ghost use Rattle.gw_steps.specs.Controls.{clients_told, controls_after_all_ended, controls_after_losses, controls_after_taken, controls_with_ended, is_control_up, outcome_ended, outcomes_ended, outcomes_lost, said_by};
+ghost use Rattle.gw_steps.specs.Controls.{clients_told, controls_after_all_ended, controls_after_taken, controls_with_ended, is_control_up, outcome_ended, outcomes_ended, outcomes_lost, said_by};
 ghost use Rattle.gw_hub.specs.Hub.{CanTell, HoldsPlaces};
 
 use gw_control::{Answer, Controls, MOST_WAITING, Outcome, control_for};
@@ -86,8 +87,8 @@ pub fn end_order(
 /// The oldest order that waits for a lost outstation fails.
 fn lose_order(controls: &mut Controls, clients: &mut Clients, outstation: u8)
     requires { HoldsPlaces clients.old controls.old }
-    ensures controls { controls.new ≡ controls_after_losses outstation 1 controls.old }
-    ensures clients { clients.new ≡ clients_told (outcomes_lost outstation 1 controls.old) clients.old }
+    ensures controls { controls.new ≡ controls_after_losses 1 outstation controls.old }
+    ensures clients { clients.new ≡ clients_told (outcomes_lost 1 outstation controls.old) clients.old }
 {
     let outcome = controls.lost(outstation);
     tell(clients, outcome);
@@ -96,8 +97,8 @@ fn lose_order(controls: &mut Controls, clients: &mut Clients, outstation: u8)
 /// All orders that wait for a lost outstation fail, the oldest first.
 pub fn lose_orders(controls: &mut Controls, clients: &mut Clients, outstation: u8)
     requires { HoldsPlaces clients.old controls.old }
-    ensures controls { controls.new ≡ controls_after_losses outstation places controls.old }
-    ensures clients { clients.new ≡ clients_told (outcomes_lost outstation places controls.old) clients.old }
+    ensures controls { controls.new ≡ controls_after_losses places outstation controls.old }
+    ensures clients { clients.new ≡ clients_told (outcomes_lost places outstation controls.old) clients.old }
 {
     for _ in 0..MOST_WAITING {
         lose_order(controls, clients, outstation);

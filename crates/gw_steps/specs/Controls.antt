@@ -111,13 +111,9 @@ controls_after_all_ended o (ended ∷ more) v = controls_after_all_ended (suc o)
 
 -- an outstation is lost: so many orders that wait for it fail, the oldest first
 abbrev pub outcomes_lost : ℕ → ℕ → Controls → List Outcome
-outcomes_lost o zero v = []
-outcomes_lost o (suc n) v =
-    option_to_list (outcome_lost_at (slice_get v.outgoing o)) ++ outcomes_lost o n (controls_after_lost o v)
-
-abbrev pub controls_after_losses : ℕ → ℕ → Controls → Controls
-controls_after_losses o zero v = v
-controls_after_losses o (suc n) v = controls_after_losses o n (controls_after_lost o v)
+outcomes_lost zero o v = []
+outcomes_lost (suc n) o v =
+    option_to_list (outcome_lost_at (slice_get v.outgoing o)) ++ outcomes_lost n o (controls_after_lost o v)
 
 -- the order that ends with a fragment
 abbrev pub ended_in : Verdict → Option Ended

@@ -13,6 +13,7 @@ use Rattle.iec_apci.specs.Apdu.{Content}
 use Rattle.iec_apci.specs.Buffer.{buffer_of}
 use Rattle.iec_command.specs.declared.command.Command.{Command}
 use Rattle.gw_control.specs.declared.answer.Outcome.{Outcome}
+use Rattle.gw_control.specs.Held.{controls_after_losses}
 use Rattle.gw_control.specs.Orders.{places}
 use Rattle.gw_control.specs.Controls.{Controls, controls_after_end, controls_after_taking, is_order}
 use Rattle.gw_model.specs.declared.control.Ended.{Ended}
@@ -33,7 +34,7 @@ use Rattle.gw_steps.specs.declared.step.Reply.TheVariants as replies
 use Rattle.gw_steps.specs.declared.step.StepFault.{StepFault}
 use Rattle.gw_steps.specs.declared.step.StepFault.TheVariants.{NoOutstation, NoClient, NotUp, AlreadyUp, Memory, Spent}
 use Rattle.gw_steps.specs.State.{State, Counts, later}
-use Rattle.gw_steps.specs.Controls.{answer_to, clients_told, controls_after_all_ended, controls_after_closes, controls_after_event, controls_after_losses, controls_with_ended, ended_by_fragment, ended_lost, order_due, outcome_ended, outcomes_ended, outcomes_lost, said_by}
+use Rattle.gw_steps.specs.Controls.{answer_to, clients_told, controls_after_all_ended, controls_after_closes, controls_after_event, controls_with_ended, ended_by_fragment, ended_lost, order_due, outcome_ended, outcomes_ended, outcomes_lost, said_by}
 
 -- ---- faults
 
@@ -287,14 +288,14 @@ abbrev pub outcomes_of_loss : State → ℕ → List Outcome
 outcomes_of_loss s o =
     let ended = ended_lost (slice_get s.outstations o) in
     option_to_list (outcome_ended o ended s.controls)
-    ++ outcomes_lost o places (controls_with_ended o ended s.controls)
+    ++ outcomes_lost places o (controls_with_ended o ended s.controls)
 
 abbrev pub parts_after_loss : Setup → State → ℕ → State
 parts_after_loss setup s o = record s {
   outstations = change o (λ m. master_down m.poll) s.outstations;
   picture = picture_after_loss o setup.rows s.picture;
   clients = clients_told (outcomes_of_loss s o) (map (client_with_news (losses setup s o)) s.clients);
-  controls = controls_after_losses o places
+  controls = controls_after_losses places o
       (controls_with_ended o (ended_lost (slice_get s.outstations o)) s.controls);
 }
 

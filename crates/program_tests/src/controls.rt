@@ -8,7 +8,7 @@ use std::test::Fail;
 fn orders_of_a_copy(alloc: Global) -> Result<u64, Fail> {
     let settings = Settings::read(alloc, DEFAULT_SETTINGS)?;
     let controls = Controls::new(alloc, &settings)?;
-    Ok(controls.copy(alloc)?.ordered())
+    Ok(controls.copy()?.ordered())
 }
 
 #[test]
