@@ -9,5 +9,5 @@ invariant_of-self c =
     all_written (IsInOrder c.self.inside.ordered) c.self.inside.outgoing.len c.end_at.new.outgoing
     c.self.inside.outgoing.items
     (omega (arith, c.end_at.auto.outgoing, c.deref_mut.ensures.len))
-    (rw c.end_at.ensures.after (ended_keeps c.self.inside.ordered c.args.outstation c.args.ended c.deref_mut.result.now
+    (rw c.end_at.ensures.after (ended_keeps c.self.inside.ordered c.args.position c.args.ended c.deref_mut.result.now
     (rw c.deref_mut.ensures.value c.self.invariant)))
