@@ -2,3 +2,4 @@ pub mod Places
 pub mod Walks
 pub mod Sounds
 pub mod Bits
+pub mod Closes

@@ -165,7 +165,8 @@ impl Clients {
         let Some(station) = self.get_mut(client) else {
             return Ok(Event::Taken);
         };
-        station.frame(apdu, moment, settings, picture)
+        let event = station.frame(apdu, moment, settings, picture)?;
+        Ok(event)
     }
 
     /// Says something of a command of a client, or what became of the order that it was.

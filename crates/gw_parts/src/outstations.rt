@@ -101,7 +101,10 @@ impl Outstations {
         ensures ended { result ≡ ended_lost (slice_get self.old outstation) }
         ensures masters { self.new ≡ change outstation (λ master. master_down master.poll) self.old }
     {
-        self.get_mut(outstation)?.down()
+        match self.get_mut(outstation) {
+            Some(master) => master.down(),
+            None => None,
+        }
     }
 
     /// A response of its outstation comes at a moment.

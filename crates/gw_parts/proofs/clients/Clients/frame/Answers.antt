@@ -1,16 +1,16 @@
-use Rattle.std.proofs.Common.{◌≡◌, ◌+◌, rules, arith, sym, subst}
+use Rattle.std.proofs.Common.{◌+◌, arith, sym, subst}
 use Rattle.std.proofs.lemmas.Result.{err_from_is_err_and}
-use Rattle.gw_station.specs.Sound.{IsSoundClient}
-use Rattle.gw_station.proofs.Sounds.{all_later}
-use Rattle.gw_steps.specs.Steps.{client_after_frame}
+use Rattle.gw_station.specs.Frames.{client_after_apdu, HasPlace}
+use Rattle.gw_station.specs.Sound.{CanAnswer, IsSoundClient}
+use Rattle.gw_station.proofs.Sounds.{all_later, sound_after_apdu}
 use Rattle.gw_parts.specs.Clients.{CanCount}
-use Rattle.gw_parts.proofs.Places.{has_too, lent_changed, lent_same, none_changed}
-use Rattle.gw_parts.proofs.Sounds.{sound_after_frame, sound_set}
+use Rattle.gw_parts.proofs.Places.{has_too, lent_changed, lent_has, lent_same, none_changed}
+use Rattle.gw_parts.proofs.Sounds.{sound_set}
 use Rattle.gw_parts.proofs.clients.Clients.frame.Goals as goal
 
 pub returns-in_default-clause-clients : goal.returns-in_default-clause-clients
 returns-in_default-clause-clients c =
-    none_changed c.args.client (client_after_frame c.args.settings.now c.args.picture.now c.args.moment c.args.apdu.now)
+    none_changed c.args.client (client_after_apdu c.args.settings.now c.args.picture.now c.args.moment c.args.apdu.now)
     c.args.self.now c.in_default.ensures.value
 
 pub returns-in_default-clause-sound : goal.returns-in_default-clause-sound
@@ -29,10 +29,13 @@ returns-in_err-event-clause-same c =
 
 pub returns-clause-clients : goal.returns-clause-clients
 returns-clause-clients c =
-    let after = client_after_frame c.args.settings.now c.args.picture.now c.args.moment c.args.apdu.now in
-    let one : c.replied.new.station ≡ after c.in-Some.station.now = search rules in
-    lent_changed c.args.client after c.args.self.now c.in-Some.station.now c.replied.new.station
-    c.in-Some.ensures.value one
+    let after = client_after_apdu c.args.settings.now c.args.picture.now c.args.moment c.args.apdu.now in
+    lent_changed c.args.client after c.args.self.now c.in-Some.station.now c.frame.new.self
+    c.in-Some.ensures.value c.in_ok-event.ensures.client
+
+pub returns-clause-place : goal.returns-clause-place
+returns-clause-place c =
+    lent_has (HasPlace c.in_ok-event.event) c.args.client c.args.self.now c.frame.new.self c.in_ok-event.ensures.place
 
 pub returns-clause-sound : goal.returns-clause-sound
 returns-clause-sound c = λ any n i shown all.
@@ -44,8 +47,7 @@ returns-clause-sound c = λ any n i shown all.
     let taken = c.in_ok-event.ensures in
     let sound = has_too (IsSoundClient any.station n i) c.args.client c.args.self.now old c.in-Some.ensures.value all in
     let answers = taken.sendable any.station.offset_minutes shown (sound.answers, sound.rest) in
-    let client : c.replied.new.station ≡ client_after_frame setup picture moment apdu old = search rules in
-    let here = sound_after_frame any n i setup picture moment apdu old c.frame.new.self c.in_ok-event.event taken.event
-    taken.whole taken.place taken.client answers sound in
-    sound_set any n i c.args.client c.args.self.now c.replied.new.station
-    (subst (IsSoundClient any.station (n + 1) i) (sym client) here) all
+    let here = sound_after_apdu any.station n i setup picture moment apdu old
+    (subst (CanAnswer any.station.offset_minutes) taken.client answers) sound in
+    sound_set any n i c.args.client c.args.self.now c.frame.new.self
+    (subst (IsSoundClient any.station (n + 1) i) (sym taken.client) here) all
