@@ -62,10 +62,10 @@ pub record IsTold (c : ℕ) (v new : Controls) (xs : List Outcome) : Type 0 wher
   pub operating : AllByRecursion IsOperating xs
   pub whole : HasWholeCommands new
 
-pub none_told : (c : ℕ) (v : Controls) → HasWholeCommands v → IsTold c v v []
+none_told : (c : ℕ) (v : Controls) → HasWholeCommands v → IsTold c v v []
 none_told c v whole = record { ends = omega arith; operating = tt; whole = whole }
 
-pub both_told : (c : ℕ) (v w new : Controls) (xs ys : List Outcome) → IsTold c v w xs → IsTold c w new ys
+both_told : (c : ℕ) (v w new : Controls) (xs ys : List Outcome) → IsTold c v w xs → IsTold c w new ys
     → IsTold c v new (xs ++ ys)
 both_told c v w new xs ys first others = record {
   ends =
@@ -105,7 +105,7 @@ told_ended setup c o (Some ended) v whole =
     one_told c v (controls_after_ended o ended v) (outcome_ended o (Some ended) v) (ended_frees c o ended v)
     (ended_whole o ended v whole) (stays_whole setup (Ends o ended) v tt whole)
 
-pub told_lost : (setup : Setup) (c n o : ℕ) (v : Controls) → HasWholeCommands v
+told_lost : (setup : Setup) (c n o : ℕ) (v : Controls) → HasWholeCommands v
     → IsTold c v (controls_after_losses n o v) (outcomes_lost n o v)
 told_lost setup c zero o v whole = none_told c v whole
 told_lost setup c (suc n) o v whole =
@@ -115,7 +115,7 @@ told_lost setup c (suc n) o v whole =
     (outcomes_lost n o (controls_after_lost o v)) one
     (told_lost setup c n o (controls_after_lost o v) one.whole)
 
-pub told_all_ended : (setup : Setup) (c o : ℕ) (ended : List (Option Ended)) (v : Controls) → HasWholeCommands v
+told_all_ended : (setup : Setup) (c o : ℕ) (ended : List (Option Ended)) (v : Controls) → HasWholeCommands v
     → IsTold c v (controls_after_all_ended o ended v) (outcomes_ended o ended v)
 told_all_ended setup c o [] v whole = none_told c v whole
 told_all_ended setup c o (e ∷ more) v whole =
@@ -126,7 +126,7 @@ told_all_ended setup c o (e ∷ more) v whole =
 
 -- ---- clients that are closed
 
-pub closed_whole : (setup : Setup) (n : ℕ) (closed : List Bool) (v : Controls) → HasWholeCommands v
+closed_whole : (setup : Setup) (n : ℕ) (closed : List Bool) (v : Controls) → HasWholeCommands v
     → HasWholeCommands (controls_after_closes n closed v)
 closed_whole setup n [] v whole = whole
 closed_whole setup n (true ∷ more) v whole =
@@ -150,7 +150,7 @@ closed_few c n (true ∷ more) v =
     ]
 
 -- a client that is closed has none
-pub closed_none : (n d c : ℕ) (closed : List Bool) (v : Controls) → c ≡ n + d → slice_get closed d ≡ Some true
+closed_none : (n d c : ℕ) (closed : List Bool) (v : Controls) → c ≡ n + d → slice_get closed d ≡ Some true
     → orders_of c (controls_after_closes n closed v) ≡ 0
 closed_none n d c [] v at is = absurd cc
 closed_none n zero c (b ∷ more) v at is = by b is
