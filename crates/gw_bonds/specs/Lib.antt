@@ -1,0 +1,4 @@
+pub mod Executes
+pub mod Marks
+pub mod Bonds
+pub mod Example
