@@ -1,2 +1,7 @@
 pub mod Story
 pub mod Fits
+pub mod Asks
+pub mod Moves
+pub mod Polls
+pub mod Ends
+pub mod Verdicts

@@ -15,7 +15,7 @@ use Rattle.gw_control.specs.Controls.{is_sbo}
 use Rattle.gw_control.specs.Intents.{command_intent}
 use Rattle.gw_steps.specs.Runs.{AtEach, Entry, IsRun}
 use Rattle.gw_steps.specs.Sound.{LeavesSound}
-use Rattle.gw_bonds.specs.Executes.{Execute, execute_at}
+use Rattle.gw_bonds.specs.Executes.{Execute, execute_at, executes, numbered}
 use Rattle.gw_bonds.specs.Marks.{Mark, Asked, Answered, given_in, marks}
 
 -- by which function a request operates an output
@@ -25,25 +25,25 @@ operation_in r = option_map (λ o. o.operation) (operating_of (octets_of r))
 -- ---- what a request asks for
 
 -- a request to an outstation that names order n asks what the command of its execute asks
-pub record AsksAsOrdered (setup : Setup) (past : List Entry) (outstation : ℕ) (r : Request) (n : ℕ) : Type 0 where
+pub record AsksAsOrdered (accepted : List Execute) (outstation : ℕ) (r : Request) (n : ℕ) : Type 0 where
   pub execute : Execute
   pub intent : Intent
-  pub accepted : execute_at setup n past ≡ Some execute
+  pub at : numbered n accepted ≡ Some execute
   pub asks : request_intent outstation (octets_of r) ≡ Some intent
   pub ordered : command_intent execute.control execute.command ≡ Some intent
 
-abbrev pub IsBoundTo : Setup → List Entry → ℕ → Request → Option ℕ → Type 0
-IsBoundTo setup past outstation r None = operating_of (octets_of r) ≡ None
-IsBoundTo setup past outstation r (Some n) = AsksAsOrdered setup past outstation r n
+abbrev pub IsBoundTo : List Execute → ℕ → Request → Option ℕ → Type 0
+IsBoundTo accepted outstation r None = operating_of (octets_of r) ≡ None
+IsBoundTo accepted outstation r (Some n) = AsksAsOrdered accepted outstation r n
 
--- a request that is given after a past asks as ordered, or it names no order and operates nothing
-abbrev pub IsBound : Setup → List Entry → Option (ℕ × Request) → Type 0
-IsBound setup past None = Unit {0}
-IsBound setup past (Some given) = IsBoundTo setup past given.0 given.1 given.1.bond
+-- a request that is given, once these executes were accepted, asks as ordered, or it names no order and operates nothing
+abbrev pub IsBound : List Execute → Option (ℕ × Request) → Type 0
+IsBound accepted None = Unit {0}
+IsBound accepted (Some given) = IsBoundTo accepted given.0 given.1 given.1.bond
 
 abbrev pub LastIsBound : Setup → List Entry → Type 0
 LastIsBound setup [] = Unit {0}
-LastIsBound setup (e ∷ past) = IsBound setup past (given_in e)
+LastIsBound setup (e ∷ past) = IsBound (executes setup past) (given_in e)
 
 -- ---- what is asked for one order
 

@@ -1,6 +1,6 @@
 -- What became of an order: the requests that named it and their answers, in turn. Nothing that is lost or late takes one
 -- of these back.
-use Rattle.std.specs.Prelude.{ℕ, Bool, false, ◌==◌, List, [], ◌∷◌, ◌++◌, Option, Some, None, if◌then◌else◌}
+use Rattle.std.specs.Prelude.{ℕ, Bool, false, ◌==◌, List, [], ◌∷◌, ◌++◌, Option, Some, None, option_map, if◌then◌else◌}
 use Rattle.std.specs.Option.{option_to_list}
 use Rattle.gw_model.specs.First.{when}
 use Rattle.dnp_app.specs.declared.request.Request.{Request}
@@ -29,11 +29,8 @@ request_of _ = None
 
 -- the request that a step gives, with its outstation
 abbrev pub given_by : Step → Reply → Option (ℕ × Request)
-given_by (steps.Poll outstation moment wall) reply = to outstation (request_of reply)
-  where
-    to : ℕ → Option Request → Option (ℕ × Request)
-    to outstation None = None
-    to outstation (Some r) = Some (outstation, r)
+given_by (steps.Poll outstation moment wall) reply =
+    option_map {U = ℕ × Request} (λ r. (outstation, r)) (request_of reply)
 given_by _ reply = None
 
 -- the request that an entry gives
@@ -58,12 +55,12 @@ is_end (replies.Verdict (Accepted confirm end control)) = end
 is_end _ = false
 
 -- the octets that end an answer, with their outstation
-abbrev pub ended_by : Step → Reply → Option (ℕ × List ℕ)
-ended_by (steps.Fragment f moment) reply = when (is_end reply) (f.outstation, f.octets)
-ended_by _ reply = None
+abbrev pub answer_by : Step → Reply → Option (ℕ × List ℕ)
+answer_by (steps.Fragment f moment) reply = when (is_end reply) (f.outstation, f.octets)
+answer_by _ reply = None
 
-abbrev pub ended_in : Entry → Option (ℕ × List ℕ)
-ended_in e = unless_fault None (ended_by e.step) e.reply
+abbrev pub answer_in : Entry → Option (ℕ × List ℕ)
+answer_in e = unless_fault None (answer_by e.step) e.reply
 
 -- the outstation took what a request operates, by the octets of both (IEEE Std 1815, 4.4): the answer gives the object
 -- back as it was sent, with status 0
@@ -74,12 +71,12 @@ took (Some operating) answer = is_taken operating.index operating.act (echo_of a
 -- ---- marks
 
 -- a request names an order
+abbrev pub is_number : ℕ → Option ℕ → Bool
+is_number n None = false
+is_number n (Some number) = number == n
+
 abbrev pub names : ℕ → Request → Bool
 names n r = is_number n r.bond
-  where
-    is_number : ℕ → Option ℕ → Bool
-    is_number n None = false
-    is_number n (Some number) = number == n
 
 -- the mark of a request that is given
 abbrev pub mark_asked : ℕ → Option (ℕ × Request) → Option Mark
@@ -93,10 +90,10 @@ mark_answering n answer (Some r) = when (names n r) (Answered (took (operating_o
 
 abbrev pub mark_answered : ℕ → List Entry → Option (ℕ × List ℕ) → Option Mark
 mark_answered n past None = None
-mark_answered n past (Some ended) = mark_answering n ended.1 (last_request ended.0 past)
+mark_answered n past (Some answer) = mark_answering n answer.1 (last_request answer.0 past)
 
 -- what became of order n, newest first
 abbrev pub marks : ℕ → List Entry → List Mark
 marks n [] = []
 marks n (e ∷ past) =
-    option_to_list (mark_asked n (given_in e)) ++ option_to_list (mark_answered n past (ended_in e)) ++ marks n past
+    option_to_list (mark_asked n (given_in e)) ++ option_to_list (mark_answered n past (answer_in e)) ++ marks n past
