@@ -5,3 +5,4 @@ pub mod Moves
 pub mod Polls
 pub mod Ends
 pub mod Verdicts
+pub mod Orders
