@@ -141,7 +141,7 @@ order_fails t o (Selected order) q k = sent_goes t o order (ended false order) q
 
 -- ---- answers are late
 
-idle_holds : (t : Story) (o : ℕ) (m new : Master) (q after : Option Outgoing) → new.exchange ≡ Idle
+pub idle_holds : (t : Story) (o : ℕ) (m new : Master) (q after : Option Outgoing) → new.exchange ≡ Idle
     → new.sequence < 16 → AllByRecursion (Waits t o) (waiting_at after) → under_way_at after ≡ None
     → Holds t o (Some new) after
 idle_holds t o m new q after idle small waiting none = record {

@@ -6,3 +6,4 @@ pub mod Polls
 pub mod Ends
 pub mod Verdicts
 pub mod Orders
+pub mod Steps

@@ -96,4 +96,4 @@ mark_answered n past (Some answer) = mark_answering n answer.1 (last_request ans
 abbrev pub marks : ℕ → List Entry → List Mark
 marks n [] = []
 marks n (e ∷ past) =
-    option_to_list (mark_asked n (given_in e)) ++ option_to_list (mark_answered n past (answer_in e)) ++ marks n past
+    option_to_list (mark_asked n (given_in e)) ++ (option_to_list (mark_answered n past (answer_in e)) ++ marks n past)
