@@ -1,12 +1,11 @@
 -- A request of an order is given: it asks what the order does, and what it may.
-use Rattle.std.proofs.Common.{◌≡◌, ℕ, ◌+◌, ◌≤◌, ◌<◌, ◌^◌, Bool, true, false, cond, List, [], ◌∷◌, ◌++◌, length, map, Option, Some, None, option_map, refl, sym, ap, subst, ◌∙◌, arith, inl, inr}
-use Rattle.std.specs.Prelude.{◌==◌, slice_get, if◌then◌else◌}
+use Rattle.std.proofs.Common.{◌≡◌, ℕ, ◌<◌, Bool, true, false, cond, List, [], ◌∷◌, ◌++◌, map, Option, Some, option_map, refl, sym, ap, subst, ◌∙◌, arith}
+use Rattle.std.specs.Prelude.{◌==◌, if◌then◌else◌}
 use Rattle.std.specs.List.{AllByRecursion}
 use Rattle.std.specs.Option.{option_to_list}
-use Rattle.std.proofs.lemmas.Bool.{cases_Bool, eqb-true, eq-eqb, ne_eqb}
+use Rattle.std.proofs.lemmas.Bool.{eqb-true, eq-eqb, ne_eqb}
 use Rattle.gw_model.specs.First.{when}
 use Rattle.gw_model.specs.declared.control.Order.{Order}
-use Rattle.gw_picture.proofs.Lists.{some_is}
 use Rattle.dnp_app.proofs.Operated.{operates_again}
 use Rattle.dnp_app.specs.declared.operation.Operation.{Operation}
 use Rattle.dnp_app.specs.declared.operation.Operation.TheVariants.{Select, Operate, DirectOperate}
@@ -17,9 +16,9 @@ use Rattle.gw_control.specs.declared.accepted.Accepted.{Accepted}
 use Rattle.gw_control.specs.Controls.{is_sbo}
 use Rattle.gw_control.specs.Orders.{Rise}
 use Rattle.gw_bonds.specs.Executes.{Execute, numbered}
-use Rattle.gw_bonds.specs.Marks.{Mark, Asked, Answered}
+use Rattle.gw_bonds.specs.Marks.{Mark, Asked}
 use Rattle.gw_bonds.specs.Bonds.{IsBonded, IsSelected, MayAsk, MayFollow, operation_in}
-use Rattle.gw_bonds.proofs.Story.{Alike, AskedBy, IsOrder, Keeps, OfOrder, Story, Waits, WasSelected, apart, asking, mark_elsewhere, mark_here, waits_kept, with_mark}
+use Rattle.gw_bonds.proofs.Story.{Alike, AskedBy, IsOrder, Keeps, OfOrder, Story, Waits, WasSelected, apart, asking, mark_elsewhere, waits_kept, with_mark}
 
 -- ---- what the request says
 

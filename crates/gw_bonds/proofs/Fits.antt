@@ -1,15 +1,13 @@
 -- What a command asks of its control can be written as a request, and read again.
-use Rattle.std.proofs.Common.{◌≡◌, ℕ, ℤ, pos, negsuc, ◌+◌, ◌≤◌, ◌<◌, ◌^◌, Bool, true, false, cond, ◌&&◌, List, [], ◌∷◌, Option, Some, None, option_map, refl, sym, ap, subst, ◌∙◌, arith, inl, inr}
+use Rattle.std.proofs.Common.{◌≡◌, ℕ, ℤ, pos, negsuc, ◌+◌, ◌≤◌, Bool, true, false, cond, List, [], ◌∷◌, Option, Some, None, option_map, refl, subst, arith}
 use Rattle.std.specs.Prelude.{◌==◌}
 use Rattle.std.specs.List.{AllByRecursion}
 use Rattle.std.specs.Int.{w16}
 use Rattle.std.specs.Int.RustNames.{FitsSigned}
-use Rattle.std.proofs.lemmas.Bool.{and_parts}
 use Rattle.std.proofs.lemmas.Int.{ints}
 use Rattle.gw_model.specs.Optional.{◌>>=◌}
 use Rattle.gw_model.specs.declared.control.Act.{Act}
 use Rattle.gw_model.specs.declared.control.Act.TheVariants.{Switch, Set}
-use Rattle.gw_model.specs.declared.control.Shape.{Shape}
 use Rattle.gw_model.specs.declared.control.Shape.TheVariants.{Latch, Pulse}
 use Rattle.gw_entries.specs.declared.control.Control.{Control}
 use Rattle.gw_entries.specs.declared.control.Operates.{Operates}
@@ -18,12 +16,11 @@ use Rattle.gw_entries.specs.declared.control.Pulses.{Pulses}
 use Rattle.gw_entries.specs.declared.control.Rest.{Rest}
 use Rattle.gw_entries.specs.declared.control.Rest.TheVariants as rests
 use Rattle.gw_map.specs.Settings.{Setup, control_at_from}
-use Rattle.gw_picture.proofs.Lists.{some_is}
 use Rattle.dnp_app.proofs.Operated.{FitsObject}
 use Rattle.iec_command.specs.declared.command.Action.{Action}
 use Rattle.iec_command.specs.declared.command.Action.TheVariants.{Single, Double, Setpoint}
 use Rattle.iec_command.specs.declared.command.Command.{Command}
-use Rattle.gw_control.specs.Intents.{act_of, control_for, if_of_type, is_of_type, has_16_bits, scaled_by, shape_at_rest, shape_of, state_of, switched, value_of}
+use Rattle.gw_control.specs.Intents.{act_of, control_for, if_of_type, is_of_type, has_16_bits, scaled_by, shape_at_rest, state_of, switched, value_of}
 use Rattle.gw_bonds.specs.Bonds.{HasShortIndex}
 
 abbrev FitsIf : Option Act → Type 0

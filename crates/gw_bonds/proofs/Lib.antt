@@ -7,3 +7,4 @@ pub mod Ends
 pub mod Verdicts
 pub mod Orders
 pub mod Steps
+pub mod Bonded

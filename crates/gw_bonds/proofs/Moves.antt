@@ -1,5 +1,5 @@
 -- What changes at one outstation.
-use Rattle.std.proofs.Common.{◌≡◌, ℕ, zero, suc, Bool, true, false, List, [], ◌∷◌, ◌++◌, length, Option, Some, None, refl, sym, ap, subst, ◌∙◌, inl, inr}
+use Rattle.std.proofs.Common.{◌≡◌, ℕ, zero, suc, List, [], ◌∷◌, length, Option, Some, None, subst, inl, inr}
 use Rattle.std.specs.Prelude.{slice_get}
 use Rattle.std.specs.List.{AllByRecursion}
 use Rattle.std.proofs.lemmas.Bool.{cases_eq}
@@ -7,7 +7,7 @@ use Rattle.dnp_master.specs.Master.{Master}
 use Rattle.gw_control.specs.declared.accepted.Accepted.{Accepted}
 use Rattle.gw_control.specs.Controls.{Controls, AreInOrder}
 use Rattle.gw_control.specs.Orders.{Outgoing, IsInOrder}
-use Rattle.gw_bonds.specs.Executes.{Execute, numbered}
+use Rattle.gw_bonds.specs.Executes.{numbered}
 use Rattle.gw_bonds.proofs.Story.{Alike, Holds, Keeps, OfOrder, Story, Tied, Waits, holds_kept, waits_kept}
 
 pub record Moves (t new : Story) (o : ℕ) (m : Option Master) (q : Option Outgoing) : Type 0 where

@@ -1,5 +1,5 @@
 -- An execute that is accepted is a new order, and nothing was asked for its number.
-use Rattle.std.proofs.Common.{◌≡◌, ℕ, suc, ◌+◌, ◌≤◌, ◌<◌, Bool, true, false, cond, List, [], ◌∷◌, ◌++◌, length, map, Option, Some, None, option_map, refl, sym, ap, subst, ◌∙◌, arith, inl, inr}
+use Rattle.std.proofs.Common.{◌≡◌, ℕ, suc, ◌+◌, ◌<◌, Bool, true, false, cond, List, [], ◌∷◌, ◌++◌, length, Option, Some, None, option_map, refl, sym, ap, subst, arith, inl, inr}
 use Rattle.std.specs.Prelude.{◌==◌, slice_get}
 use Rattle.std.specs.List.{AllByRecursion}
 use Rattle.std.specs.Option.{option_to_list}
@@ -10,17 +10,15 @@ use Rattle.gw_model.specs.declared.control.Intent.{Intent}
 use Rattle.gw_entries.specs.declared.control.Control.{Control}
 use Rattle.gw_map.specs.Settings.{Setup}
 use Rattle.gw_picture.proofs.Lists.{change-here, change-there, some_is}
-use Rattle.dnp_app.proofs.Operated.{FitsObject}
 use Rattle.dnp_master.specs.Master.{Master}
 use Rattle.iec_apci.specs.declared.apdu.Apdu.{Apdu}
 use Rattle.iec_apci.specs.declared.apdu.Apdu.TheVariants.{I, S, U}
 use Rattle.iec_apci.specs.declared.apdu.Signal.TheVariants.{StartAct, StartCon, StopAct, StopCon, TestAct, TestCon}
 use Rattle.iec_command.specs.declared.command.Command.{Command}
 use Rattle.gw_control.specs.declared.accepted.Accepted.{Accepted}
-use Rattle.gw_control.specs.declared.answer.Answer.TheVariants.{Confirm, Negative, Unknown, Ordered}
 use Rattle.gw_control.specs.declared.asked.Asked.{Asked}
 use Rattle.gw_control.specs.declared.selection.Selection.{Selection}
-use Rattle.gw_control.specs.Controls.{Controls, accepted_by, act_accepted, answer_at, answer_to_act, confirmed_if, controls_after_at, controls_ordering, controls_selecting, controls_unselecting, is_deactivation, is_sbo, is_selectable, standing_at, IsAccepted}
+use Rattle.gw_control.specs.Controls.{Controls, accepted_by, act_accepted, answer_at, answer_to_act, confirmed_if, controls_after_at, controls_ordering, controls_selecting, controls_unselecting, is_deactivation, is_selectable, standing_at, IsAccepted}
 use Rattle.gw_control.specs.Intents.{act_of, control_for, intent_of}
 use Rattle.gw_control.specs.Orders.{Outgoing, outgoing_with}
 use Rattle.gw_control.specs.Selections.{is_own, is_select}
@@ -36,7 +34,7 @@ use Rattle.gw_bonds.specs.Marks.{Mark}
 use Rattle.gw_bonds.specs.Bonds.{HasShortIndex}
 use Rattle.gw_bonds.proofs.Ends.{tied_end}
 use Rattle.gw_bonds.proofs.Fits.{act_fits, found_short}
-use Rattle.gw_bonds.proofs.Story.{Alike, Holds, OfOrder, Story, Tied, Waits, holds_kept, numbered_below, numbered_still, waiting_at}
+use Rattle.gw_bonds.proofs.Story.{Alike, Holds, OfOrder, Story, Tied, Waits, holds_kept, numbered_below, numbered_still}
 
 -- ---- the story
 

@@ -1,15 +1,15 @@
 -- A poll of an outstation gives the request of an order, or one that operates nothing.
-use Rattle.std.proofs.Common.{◌≡◌, ℕ, ◌+◌, ◌%◌, ◌<◌, Bool, true, false, cond, ◌&&◌, List, [], ◌∷◌, ◌++◌, length, map, Option, Some, None, option_map, refl, sym, ap, subst, ◌∙◌, arith, inl, inr}
-use Rattle.std.specs.Prelude.{◌==◌, is_some, slice_get}
+use Rattle.std.proofs.Common.{◌≡◌, ℕ, ◌+◌, ◌%◌, ◌<◌, Bool, true, false, cond, List, [], ◌∷◌, ◌++◌, Option, Some, None, option_map, refl, sym, ap, subst, ◌∙◌, arith}
+use Rattle.std.specs.Prelude.{is_some, slice_get}
 use Rattle.std.specs.List.{AllByRecursion}
 use Rattle.std.specs.Option.{option_to_list}
-use Rattle.std.proofs.lemmas.Bool.{and_parts, true≢false}
+use Rattle.std.proofs.lemmas.Bool.{true≢false}
 use Rattle.gw_model.specs.First.{when}
 use Rattle.gw_model.specs.declared.control.Order.{Order}
 use Rattle.gw_model.specs.declared.poll.Poll.{Poll}
 use Rattle.gw_picture.proofs.Lists.{some_is}
 use Rattle.dnp_app.specs.declared.operation.Operation.{Operation}
-use Rattle.dnp_app.specs.declared.operation.Operation.TheVariants.{Select, Operate, DirectOperate}
+use Rattle.dnp_app.specs.declared.operation.Operation.TheVariants.{Operate}
 use Rattle.dnp_app.specs.declared.request.Request.{Request}
 use Rattle.dnp_app.specs.Operating.{operating_of}
 use Rattle.dnp_app.specs.Requests.{octets_of}
@@ -18,7 +18,7 @@ use Rattle.dnp_master.specs.declared.exchange.Exchange.{Exchange}
 use Rattle.dnp_master.specs.declared.exchange.Exchange.TheVariants.{Idle, Waiting, Selected}
 use Rattle.dnp_master.specs.declared.task.Task.{Task}
 use Rattle.dnp_master.specs.declared.task.Task.TheVariants.{ClearRestart, WriteTime, RecordTime, Disable, Integrity, Enable, EventPoll, Command}
-use Rattle.dnp_master.specs.Master.{Master, first_task, if_due, is_event_poll_due, is_idle, is_integrity_due, is_ready, master_after_given, master_after_next, master_after_order, master_asking, order_of, order_task, request_ordered, task_given, task_request, tasks_due, time_due}
+use Rattle.dnp_master.specs.Master.{Master, first_task, if_due, is_event_poll_due, is_integrity_due, is_ready, master_after_given, master_after_next, master_after_order, master_asking, order_of, request_ordered, task_given, task_request, tasks_due, time_due}
 use Rattle.gw_control.specs.declared.accepted.Accepted.{Accepted}
 use Rattle.gw_control.specs.declared.accepted.UnderWay.{UnderWay}
 use Rattle.gw_control.specs.Controls.{order_at}
@@ -26,10 +26,10 @@ use Rattle.gw_control.specs.Orders.{Outgoing, outgoing_after_taking, IsInOrder}
 use Rattle.gw_steps.specs.Controls.{order_for}
 use Rattle.gw_steps.specs.Steps.{request_polled}
 use Rattle.gw_bonds.specs.Executes.{Execute, numbered}
-use Rattle.gw_bonds.specs.Marks.{Mark, Asked, Answered, is_number, names}
+use Rattle.gw_bonds.specs.Marks.{Mark, Asked, is_number, names}
 use Rattle.gw_bonds.specs.Bonds.{AsksAsOrdered, IsBound, IsBoundTo}
-use Rattle.gw_bonds.proofs.Story.{Alike, AskedBy, ForTask, GoesOn, Holds, IsOf, IsOrder, OfOrder, Sends, Story, Waits, WasSelected, alike_self, asking, mark_here, sends_kept, under_way_at, waiting_at, with_mark}
-use Rattle.gw_bonds.proofs.Asks.{Above, all_above, asked_first, first_of_order, given_apart, last_after, last_here, last_there, marked_apart, marked_bonded, may_first, may_operate, reads_intent, story_given, story_marked, waits_behind}
+use Rattle.gw_bonds.proofs.Story.{AskedBy, ForTask, GoesOn, Holds, IsOf, IsOrder, OfOrder, Story, Waits, alike_self, asking, mark_here, under_way_at, waiting_at, with_mark}
+use Rattle.gw_bonds.proofs.Asks.{Above, all_above, asked_first, first_of_order, given_apart, last_after, last_here, last_there, marked_apart, marked_bonded, may_first, may_operate, reads_intent, story_marked, waits_behind}
 use Rattle.gw_bonds.proofs.Moves.{InOrderAt, Moves, waits_same}
 
 -- ---- the story
@@ -71,10 +71,10 @@ order_polled : (t : Story) (o moment : ℕ) (m : Master) (ws : List Accepted) (o
     (way : UnderWay) → m.sequence < 16 → m.up ≡ true → IsOrder t.executes o order → IsOf t.executes way.accepted
     → way.accepted.order ≡ order
     → ((r : Request) → r ≡ asking operation order m.sequence
-      → AskedBy o operation order m.sequence (Asked o r ∷ t.marks order.number))
+    → AskedBy o operation order m.sequence (Asked o r ∷ t.marks order.number))
     → ((r : Request) → r ≡ asking operation order m.sequence
-      → (n : ℕ) → OfOrder (numbered n t.executes) (t.marks n)
-      → OfOrder (numbered n t.executes) (with_mark order.number (Asked o r) t.marks n))
+    → (n : ℕ) → OfOrder (numbered n t.executes) (t.marks n)
+    → OfOrder (numbered n t.executes) (with_mark order.number (Asked o r) t.marks n))
     → Above order.number ws → AllByRecursion (Waits t o) ws
     → Polled t o (Some (asking operation order m.sequence)) (master_asking moment (Command operation order) m)
     (Some (record { waiting = ws; under_way = Some way }))

@@ -1,15 +1,15 @@
 -- Each step keeps what ties the state to the history, and the request that it gives is bound.
-use Rattle.std.proofs.Common.{◌≡◌, ℕ, ◌+◌, ◌<◌, Bool, true, false, cond, List, [], ◌∷◌, ◌++◌, length, map, replicate, Option, Some, None, Result, Ok, Err, option_map, refl, sym, ap, subst, ◌∙◌, arith, inl, inr}
+use Rattle.std.proofs.Common.{◌≡◌, ℕ, Bool, true, false, List, ◌∷◌, ◌++◌, length, map, Option, Some, None, Ok, option_map, refl, sym, ap, subst, ◌∙◌, arith, inl, inr}
 use Rattle.std.specs.Prelude.{slice_get}
 use Rattle.std.specs.List.{AllByRecursion}
 use Rattle.std.specs.Option.{option_to_list}
-use Rattle.std.proofs.lemmas.Bool.{cases_Bool, true≢false}
+use Rattle.std.proofs.lemmas.Bool.{cases_Bool}
 use Rattle.gw_model.specs.First.{when}
 use Rattle.gw_model.specs.Places.{change}
 use Rattle.gw_model.specs.declared.control.Ended.{Ended}
 use Rattle.gw_model.specs.declared.control.Order.{Order}
 use Rattle.gw_map.specs.Settings.{Setup}
-use Rattle.gw_picture.proofs.Lists.{change-here, change-there, map-get}
+use Rattle.gw_picture.proofs.Lists.{change-here, change-there}
 use Rattle.dnp_app.specs.declared.request.Request.{Request}
 use Rattle.dnp_app.specs.Response.{Fragment}
 use Rattle.dnp_master.specs.declared.exchange.Exchange.{Exchange}
@@ -17,7 +17,7 @@ use Rattle.dnp_master.specs.declared.verdict.Verdict.{Verdict}
 use Rattle.dnp_master.specs.declared.verdict.Verdict.TheVariants.{Accepted, Repeated, Ignored}
 use Rattle.dnp_master.specs.Master.{Master, ended_by_loss, master_after_next, master_after_order, master_after_up, master_down}
 use Rattle.dnp_master.specs.Fragments.{accepts, is_acceptance, master_after_fragment, verdict_of}
-use Rattle.gw_control.specs.Controls.{Controls, AreInOrder, controls_after_taking}
+use Rattle.gw_control.specs.Controls.{Controls, controls_after_taking}
 use Rattle.gw_control.specs.Moves.{IsSoundControls}
 use Rattle.gw_control.specs.Orders.{Outgoing, outgoing_after_taking, places}
 use Rattle.gw_station.specs.Client.{is_timed_out}
@@ -25,7 +25,6 @@ use Rattle.gw_steps.specs.declared.step.Step.{Step}
 use Rattle.gw_steps.specs.declared.step.Step.TheVariants as steps
 use Rattle.gw_steps.specs.declared.step.Reply.{Reply}
 use Rattle.gw_steps.specs.declared.step.Reply.TheVariants as replies
-use Rattle.gw_steps.specs.declared.step.StepFault.{StepFault}
 use Rattle.gw_steps.specs.declared.step.StepFault.TheVariants.{NoOutstation}
 use Rattle.gw_steps.specs.Controls.{controls_with_ended, ended_by_fragment, ended_in, ended_lost, order_due, order_for}
 use Rattle.gw_steps.specs.State.{State}
@@ -33,15 +32,14 @@ use Rattle.gw_steps.specs.Steps.{outcome, needs, can_be_counted, controls_closed
 use Rattle.gw_steps.specs.Runs.{Entry, state_after}
 use Rattle.gw_steps.proofs.Inversion.{answered, who_is_up, who_is_down}
 use Rattle.gw_steps.proofs.Running.{entry}
-use Rattle.gw_bonds.specs.Executes.{execute_of}
-use Rattle.gw_bonds.specs.Marks.{is_end, given_by, mark_answered, answer_by, marks}
+use Rattle.gw_bonds.specs.Marks.{is_end, given_by, mark_answered, marks}
 use Rattle.gw_bonds.specs.Bonds.{HasShortIndex, IsBound}
-use Rattle.gw_bonds.proofs.Story.{Holds, Story, Tied, alike_self, exchange_at, story, under_way_at, up_at, GoesOn}
-use Rattle.gw_bonds.proofs.Moves.{AlikeBut, InOrderAt, Moves, in_order_at, moved}
+use Rattle.gw_bonds.proofs.Story.{Holds, Story, Tied, alike_self, story, under_way_at, GoesOn}
+use Rattle.gw_bonds.proofs.Moves.{AlikeBut, Moves, in_order_at, moved}
 use Rattle.gw_bonds.proofs.Polls.{Polled, outgoing_polled, master_polled, polled, story_polled, with_outstation}
-use Rattle.gw_bonds.proofs.Ends.{ended_at, ended_count, ended_here, ended_there, controls_lost, idle_holds, lost_count, lost_holds, lost_there, tied_closes, tied_end, tied_late}
+use Rattle.gw_bonds.proofs.Ends.{ended_count, ended_here, ended_there, controls_lost, idle_holds, lost_count, lost_holds, lost_there, tied_closes, tied_end, tied_late}
 use Rattle.gw_bonds.proofs.Verdicts.{Judged, judged, story_ended}
-use Rattle.gw_bonds.proofs.Orders.{frame_tied, story_executing}
+use Rattle.gw_bonds.proofs.Orders.{frame_tied}
 
 -- after a step with a reply
 pub record StepTied (setup : Setup) (past : List Entry) (step : Step) (r : Reply) (new : State) : Type 0 where
@@ -152,8 +150,11 @@ polled_moves t new s moment o wall m (Some order) at same k tied =
     (controls_after_taking o s.controls) o (tied.count ∙ sym (ap (λ (xs : List _). length xs) same))
     (one_changed o (master_after_order moment order) s.outstations)
     (one_changed o outgoing_after_taking s.controls.outgoing)
-    (rw (change-here o (master_after_order moment order) s.outstations, at,
-    change-here o outgoing_after_taking s.controls.outgoing) k) tied
+    (rw (
+      change-here o (master_after_order moment order) s.outstations,
+      at,
+      change-here o outgoing_after_taking s.controls.outgoing,
+    ) k) tied
 
 polled_executes : (t : Story) (o : ℕ) (given : Option Request) → (story_polled o given t).executes ≡ t.executes
 polled_executes t o None = refl
@@ -235,8 +236,11 @@ fragment_taken setup past f m s x sound at up takes tied =
     ∙ (tied.count ∙ sym (ap (λ (xs : List _). length xs) (ended_executes end o f.octets t))))
     (one_changed o (master_after_fragment moment f) s.outstations)
     (ended_there o (ended_in (verdict_of x f)) s.controls)
-    (rw (change-here o (master_after_fragment moment f) s.outstations, at,
-    ended_here o (ended_in (verdict_of x f)) s.controls) k) tied in
+    (rw (
+      change-here o (master_after_fragment moment f) s.outstations,
+      at,
+      ended_here o (ended_in (verdict_of x f)) s.controls,
+    ) k) tied in
     rw (accepting, ending) (record { tied = rw (sym (story_of_end end setup past f)) all; bound = tt })
 
 no_end : (v : Verdict) → is_acceptance v ≡ false → is_end (replies.Verdict v) ≡ false

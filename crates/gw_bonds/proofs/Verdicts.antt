@@ -1,10 +1,9 @@
 -- A fragment comes: it ends an answer, or it marks nothing.
-use Rattle.std.proofs.Common.{◌≡◌, ℕ, ◌+◌, ◌%◌, ◌<◌, Bool, true, false, cond, not, List, [], ◌∷◌, ◌++◌, length, map, Option, Some, None, option_map, refl, sym, ap, subst, ◌∙◌, arith, inl, inr}
-use Rattle.std.specs.Prelude.{◌==◌, slice_get}
+use Rattle.std.proofs.Common.{◌≡◌, ℕ, ◌<◌, Bool, true, false, cond, List, ◌∷◌, ◌++◌, Option, Some, None, refl, sym, ap, subst, ◌∙◌, arith}
+use Rattle.std.specs.Prelude.{◌==◌}
 use Rattle.std.specs.List.{AllByRecursion}
 use Rattle.std.specs.Option.{option_to_list}
 use Rattle.std.proofs.lemmas.Bool.{true≢false}
-use Rattle.gw_model.specs.First.{when}
 use Rattle.gw_model.specs.declared.control.Ended.{Ended}
 use Rattle.gw_model.specs.declared.control.Order.{Order}
 use Rattle.gw_picture.proofs.Lists.{some_is}
@@ -24,16 +23,16 @@ use Rattle.dnp_master.specs.declared.verdict.Verdict.{Verdict}
 use Rattle.dnp_master.specs.declared.verdict.Verdict.TheVariants.{Accepted, Repeated, Ignored}
 use Rattle.dnp_master.specs.declared.verdict.Ignored.TheVariants.{WrongSequence, WrongFirst}
 use Rattle.dnp_master.specs.Master.{Master, ended, following, order_of, task_request}
-use Rattle.dnp_master.specs.Fragments.{accepts, control_in, ended_answered, ended_with, exchange_after, exchange_once_answered, is_acceptance, is_begun_rightly, is_done, is_last, master_after_accepted, master_after_answer, master_after_fragment, master_after_unsolicited, verdict_of, verdict_of_answer, verdict_of_unsolicited}
+use Rattle.dnp_master.specs.Fragments.{accepts, control_in, ended_answered, ended_with, exchange_once_answered, is_acceptance, is_begun_rightly, is_done, is_last, master_after_accepted, master_after_answer, master_after_fragment, master_after_unsolicited, verdict_of, verdict_of_answer, verdict_of_unsolicited}
 use Rattle.gw_control.specs.declared.accepted.Accepted.{Accepted as AcceptedExecute}
 use Rattle.gw_control.specs.declared.accepted.UnderWay.{UnderWay}
 use Rattle.gw_control.specs.Orders.{Outgoing}
 use Rattle.gw_steps.specs.declared.step.Reply.TheVariants as replies
 use Rattle.gw_steps.specs.Controls.{ended_in}
-use Rattle.gw_bonds.specs.Executes.{Execute, numbered}
-use Rattle.gw_bonds.specs.Marks.{Mark, Asked, Answered, is_end, mark_answering, names, took}
+use Rattle.gw_bonds.specs.Executes.{numbered}
+use Rattle.gw_bonds.specs.Marks.{Mark, Answered, is_end, mark_answering, took}
 use Rattle.gw_bonds.specs.Bonds.{MayAnswer}
-use Rattle.gw_bonds.proofs.Story.{Alike, AskedBy, Awaits, ForTask, GoesOn, Holds, OfOrder, Sends, Story, Waits, WasSelected, alike_self, asking, mark_here, sends_kept, under_way_at, waiting_at}
+use Rattle.gw_bonds.proofs.Story.{AskedBy, Awaits, ForTask, GoesOn, Holds, OfOrder, Sends, Story, Waits, alike_self, asking, mark_here, sends_kept, under_way_at, waiting_at}
 use Rattle.gw_bonds.proofs.Asks.{Above, all_above, marked_apart, marked_bonded, reads_again, story_marked, waits_behind}
 use Rattle.gw_bonds.proofs.Moves.{InOrderAt, Moves, waits_same}
 use Rattle.gw_bonds.proofs.Polls.{nothing_named, plain_bond}

@@ -114,11 +114,11 @@ abbrev pub operated : List Mark → ℕ
 operated [] = 0
 operated (m ∷ before) = operates_in m + operated before
 
--- for an order there was one at most
-abbrev pub IsOperatedOnce : ℕ → List Entry → Type 0
-IsOperatedOnce n past = operated (marks n past) ≤ 1
+-- for each order there was one at most
+abbrev pub OperatesOnce : List Entry → Type 0
+OperatesOnce past = (n : ℕ) → operated (marks n past) ≤ 1
 
--- the newest entry gives no request that operates something
+-- the newest entry gives no request that operates an output
 abbrev pub NoOperation : Option (ℕ × Request) → Type 0
 NoOperation None = Unit {0}
 NoOperation (Some given) = operating_of (octets_of given.1) ≡ None

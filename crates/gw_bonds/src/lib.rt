@@ -3,5 +3,9 @@
 #![tactic(auto)]
 
 mod examples;
+mod laws;
 
 pub use examples::bonds_by_example;
+pub use laws::{
+    nothing_is_operated_without_controls, orders_are_operated_once, requests_are_bound,
+};
