@@ -17,7 +17,8 @@ use Rattle.gw_control.specs.Controls.{Controls, controls_after_end, controls_aft
 use Rattle.gw_control.specs.Held.{controls_after_losses}
 use Rattle.gw_control.specs.Orders.{Outgoing, is_of_others, left_by, outgoing_after_end, outgoing_after_ended, outgoing_after_lost, under_way_after}
 use Rattle.gw_steps.specs.Controls.{controls_after_all_ended, controls_after_closes, controls_with_ended}
-use Rattle.gw_bonds.proofs.Story.{ForTask, GoesOn, Holds, Sends, Story, Tied, Waits, exchange_at, under_way_at, waiting_at}
+use Rattle.gw_bonds.proofs.Held.{under_way_at, waiting_at}
+use Rattle.gw_bonds.proofs.Story.{ForTask, GoesOn, Holds, Sends, Story, Tied, Waits, exchange_at}
 use Rattle.gw_bonds.proofs.Moves.{AlikeBut}
 
 -- ---- a session ends

@@ -1,3 +1,4 @@
+pub mod Held
 pub mod Story
 pub mod Fits
 pub mod Asks

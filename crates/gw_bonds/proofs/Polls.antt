@@ -28,7 +28,8 @@ use Rattle.gw_steps.specs.Steps.{request_polled}
 use Rattle.gw_bonds.specs.Executes.{Execute, numbered}
 use Rattle.gw_bonds.specs.Marks.{Mark, Asked, is_number, names}
 use Rattle.gw_bonds.specs.Bonds.{AsksAsOrdered, IsBound, IsBoundTo}
-use Rattle.gw_bonds.proofs.Story.{AskedBy, ForTask, GoesOn, Holds, IsOf, IsOrder, OfOrder, Story, Waits, alike_self, asking, mark_here, under_way_at, waiting_at, with_mark}
+use Rattle.gw_bonds.proofs.Held.{under_way_at, waiting_at}
+use Rattle.gw_bonds.proofs.Story.{AskedBy, ForTask, GoesOn, Holds, IsOf, IsOrder, OfOrder, Story, Waits, alike_self, asking, mark_here, with_mark}
 use Rattle.gw_bonds.proofs.Asks.{Above, all_above, asked_first, first_of_order, given_apart, last_after, last_here, last_there, marked_apart, marked_bonded, may_first, may_operate, reads_intent, story_marked, waits_behind}
 use Rattle.gw_bonds.proofs.Moves.{InOrderAt, Moves, waits_same}
 

@@ -34,7 +34,8 @@ use Rattle.gw_steps.proofs.Inversion.{answered, who_is_up, who_is_down}
 use Rattle.gw_steps.proofs.Running.{entry}
 use Rattle.gw_bonds.specs.Marks.{is_end, given_by, mark_answered, marks}
 use Rattle.gw_bonds.specs.Bonds.{HasShortIndex, IsBound}
-use Rattle.gw_bonds.proofs.Story.{Holds, Story, Tied, alike_self, story, under_way_at, GoesOn}
+use Rattle.gw_bonds.proofs.Held.{under_way_at}
+use Rattle.gw_bonds.proofs.Story.{Holds, Story, Tied, alike_self, story, GoesOn}
 use Rattle.gw_bonds.proofs.Moves.{AlikeBut, Moves, in_order_at, moved}
 use Rattle.gw_bonds.proofs.Polls.{Polled, outgoing_polled, master_polled, polled, story_polled, with_outstation}
 use Rattle.gw_bonds.proofs.Ends.{ended_count, ended_here, ended_there, controls_lost, idle_holds, lost_count, lost_holds, lost_there, tied_closes, tied_end, tied_late}

@@ -26,6 +26,7 @@ use Rattle.gw_steps.specs.Runs.{Entry}
 use Rattle.gw_bonds.specs.Executes.{Execute, executes, numbered}
 use Rattle.gw_bonds.specs.Marks.{Mark, Asked, Answered, last_request, marks}
 use Rattle.gw_bonds.specs.Bonds.{IsBonded}
+use Rattle.gw_bonds.proofs.Held.{under_way_at, waiting_at}
 
 pub record Story : Type 0 where
   pub executes : List Execute
@@ -133,14 +134,6 @@ sequence_at (Some m) = m.sequence
 abbrev pub up_at : Option Master → Bool
 up_at None = false
 up_at (Some m) = m.up
-
-abbrev pub waiting_at : Option Outgoing → List Accepted
-waiting_at None = []
-waiting_at (Some q) = q.waiting
-
-abbrev pub under_way_at : Option Outgoing → Option UnderWay
-under_way_at None = None
-under_way_at (Some q) = q.under_way
 
 -- towards one outstation
 pub record Holds (t : Story) (o : ℕ) (m : Option Master) (q : Option Outgoing) : Type 0 where

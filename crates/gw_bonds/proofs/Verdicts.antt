@@ -32,7 +32,8 @@ use Rattle.gw_steps.specs.Controls.{ended_in}
 use Rattle.gw_bonds.specs.Executes.{numbered}
 use Rattle.gw_bonds.specs.Marks.{Mark, Answered, is_end, mark_answering, took}
 use Rattle.gw_bonds.specs.Bonds.{MayAnswer}
-use Rattle.gw_bonds.proofs.Story.{AskedBy, Awaits, ForTask, GoesOn, Holds, OfOrder, Sends, Story, Waits, alike_self, asking, mark_here, sends_kept, under_way_at, waiting_at}
+use Rattle.gw_bonds.proofs.Held.{under_way_at, waiting_at}
+use Rattle.gw_bonds.proofs.Story.{AskedBy, Awaits, ForTask, GoesOn, Holds, OfOrder, Sends, Story, Waits, alike_self, asking, mark_here, sends_kept}
 use Rattle.gw_bonds.proofs.Asks.{Above, all_above, marked_apart, marked_bonded, reads_again, story_marked, waits_behind}
 use Rattle.gw_bonds.proofs.Moves.{InOrderAt, Moves, waits_same}
 use Rattle.gw_bonds.proofs.Polls.{nothing_named, plain_bond}
