@@ -1,5 +1,5 @@
 -- A request of an order is given: it asks what the order does, and what it may.
-use Rattle.std.proofs.Common.{◌≡◌, ℕ, ◌<◌, Bool, true, false, cond, List, [], ◌∷◌, ◌++◌, map, Option, Some, option_map, refl, sym, ap, subst, ◌∙◌, arith}
+use Rattle.std.proofs.Common.{◌≡◌, ℕ, ◌≤◌, ◌<◌, Bool, true, false, cond, List, [], ◌∷◌, ◌++◌, map, Option, Some, option_map, refl, sym, ap, subst, ◌∙◌, arith}
 use Rattle.std.specs.Prelude.{◌==◌, if◌then◌else◌}
 use Rattle.std.specs.List.{AllByRecursion}
 use Rattle.std.specs.Option.{option_to_list}
@@ -14,10 +14,11 @@ use Rattle.dnp_app.specs.Operating.{Operating, operates_for, operating_of, reque
 use Rattle.dnp_app.specs.Requests.{octets_of}
 use Rattle.gw_control.specs.declared.accepted.Accepted.{Accepted}
 use Rattle.gw_control.specs.Controls.{is_sbo}
-use Rattle.gw_control.specs.Orders.{Rise}
 use Rattle.gw_bonds.specs.Executes.{Execute, numbered}
 use Rattle.gw_bonds.specs.Marks.{Mark, Asked}
 use Rattle.gw_bonds.specs.Bonds.{IsBonded, IsSelected, MayAsk, MayFollow, operation_in}
+use Rattle.gw_control.specs.Orders.{Outgoing, Rise}
+use Rattle.gw_bonds.proofs.Held.{held_at}
 use Rattle.gw_bonds.proofs.Story.{Alike, AskedBy, IsOrder, Keeps, OfOrder, Story, Waits, WasSelected, apart, asking, mark_elsewhere, waits_kept, with_mark}
 
 -- ---- what the request says
@@ -168,3 +169,10 @@ waits_behind t new o k mark (x ∷ xs) keeps marks above all = (
       (marks x.order.number ∙ mark_elsewhere k mark t.marks x.order.number (λ is. omega (arith, above.0, is))) all.0,
   waits_behind t new o k mark xs keeps marks above.1 all.1,
 )
+
+-- nothing becomes of orders that aren't there, where this one is
+pub marked_kept : (number : ℕ) (mark : Mark) (before : ℕ → List Mark) (q : Option Outgoing) → 1 ≤ held_at number q
+    → (n : ℕ) → held_at n q ≡ 0 → with_mark number mark before n ≡ before n
+marked_kept number mark before q there n none =
+    mark_elsewhere number mark before n
+    (λ same. let other : held_at number q ≡ 0 = ap (λ (i : ℕ). held_at i q) same ∙ none in omega (arith, other, there))

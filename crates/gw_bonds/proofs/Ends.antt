@@ -204,13 +204,18 @@ flat_map : (f : Master → Option Ended) (m : Option Master) → flat (option_ma
 flat_map f None = refl
 flat_map f (Some m) = refl
 
+pub flat_at : (masters : List Master) (moment i : ℕ)
+    → flat (slice_get (map (ended_by_tick moment) masters) i)
+    ≡ option_and_then (ended_by_tick moment) (slice_get masters i)
+flat_at masters moment i =
+    ap flat (map-get (ended_by_tick moment) masters i) ∙ flat_map (ended_by_tick moment) (slice_get masters i)
+
 late_at : (masters : List Master) (moment : ℕ) (v : Controls) (o : ℕ)
     → slice_get (controls_after_all_ended 0 (map (ended_by_tick moment) masters) v).outgoing o
     ≡ ended_at (option_and_then (ended_by_tick moment) (slice_get masters o)) (slice_get v.outgoing o)
 late_at masters moment v o =
     ended_from 0 (map (ended_by_tick moment) masters) v o o (omega arith)
-    ∙ ap (λ (e : Option Ended). ended_at e (slice_get v.outgoing o))
-    (ap flat (map-get (ended_by_tick moment) masters o) ∙ flat_map (ended_by_tick moment) (slice_get masters o))
+    ∙ ap (λ (e : Option Ended). ended_at e (slice_get v.outgoing o)) (flat_at masters moment o)
 
 pub tied_late : (t : Story) (masters : List Master) (moment : ℕ) (v : Controls) → Tied t masters v
     → Tied t (map (master_after_tick moment) masters)
@@ -224,7 +229,7 @@ tied_late t masters moment v tied = record {
 
 -- ---- an outstation is lost
 
-lost_waiting : (t : Story) (o : ℕ) (q : Option Outgoing) → AllByRecursion (Waits t o) (waiting_at q)
+pub lost_waiting : (t : Story) (o : ℕ) (q : Option Outgoing) → AllByRecursion (Waits t o) (waiting_at q)
     → AllByRecursion (Waits t o) (waiting_at (option_map outgoing_after_lost q))
 lost_waiting t o None all = tt
 lost_waiting t o (Some q) all = rest q.waiting all

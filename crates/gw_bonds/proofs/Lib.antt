@@ -5,6 +5,8 @@ pub mod Asks
 pub mod Moves
 pub mod Polls
 pub mod Ends
+pub mod Tells
+pub mod Told
 pub mod Verdicts
 pub mod Orders
 pub mod Steps

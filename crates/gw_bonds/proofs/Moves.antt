@@ -8,12 +8,17 @@ use Rattle.gw_control.specs.declared.accepted.Accepted.{Accepted}
 use Rattle.gw_control.specs.Controls.{Controls, AreInOrder}
 use Rattle.gw_control.specs.Orders.{Outgoing, IsInOrder}
 use Rattle.gw_bonds.specs.Executes.{numbered}
+use Rattle.gw_bonds.proofs.Held.{held_at}
 use Rattle.gw_bonds.proofs.Story.{Alike, Holds, Keeps, OfOrder, Story, Tied, Waits, holds_kept, waits_kept}
 
-pub record Moves (t new : Story) (o : ℕ) (m : Option Master) (q : Option Outgoing) : Type 0 where
+-- where there were these orders before
+pub record Moves (t new : Story) (o : ℕ) (before : Option Outgoing) (m : Option Master) (q : Option Outgoing)
+    : Type 0 where
   pub here : Holds new o m q
   pub others : (p : ℕ) → (o ≡ p → ⊥) → Alike t new p
   pub bonded : (n : ℕ) → OfOrder (numbered n t.executes) (t.marks n) → OfOrder (numbered n new.executes) (new.marks n)
+  -- nothing becomes of an order that isn't there
+  pub kept : (n : ℕ) → held_at n before ≡ 0 → new.marks n ≡ t.marks n
 
 -- lists that are alike but at one place
 abbrev pub AlikeBut : {A : Type 0} → ℕ → List A → List A → Type 0
@@ -21,7 +26,7 @@ AlikeBut o xs ys = (p : ℕ) → (o ≡ p → ⊥) → slice_get ys p ≡ slice_
 
 pub moved : (t new : Story) (masters more : List Master) (v after : Controls) (o : ℕ)
     → after.ordered ≡ length new.executes → AlikeBut o masters more → AlikeBut o v.outgoing after.outgoing
-    → Moves t new o (slice_get more o) (slice_get after.outgoing o) → Tied t masters v → Tied new more after
+    → Moves t new o (slice_get v.outgoing o) (slice_get more o) (slice_get after.outgoing o) → Tied t masters v → Tied new more after
 moved t new masters more v after o count same alike k tied = record {
   count = count;
   places = λ p. elim (cases_eq o p) [

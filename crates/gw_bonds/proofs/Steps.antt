@@ -59,12 +59,13 @@ same_all o xs p ne = refl
 -- ---- OutstationUp
 
 up_moves : (t : Story) (o moment : ℕ) (m : Master) (q : Option Outgoing) → m.up ≡ false → Holds t o (Some m) q
-    → Moves t t o (Some (master_after_up moment m)) q
+    → Moves t t o q (Some (master_after_up moment m)) q
 up_moves t o moment m q down k = record {
   here = idle_holds t o m (master_after_up moment m) q q refl (omega arith) k.waiting
       (subst (λ (ex : Exchange). GoesOn t o ex (under_way_at q)) (k.down down) k.going);
   others = λ p ne. alike_self t p;
   bonded = λ n so_far. so_far;
+  kept = λ n none. refl;
 }
 
 outstation_up : (setup : Setup) (past : List Entry) (o m : ℕ) (r : Reply) (s : State)
@@ -110,7 +111,13 @@ loss setup past o m r s x at tied =
       tied = moved t t s.outstations (change o down s.outstations) s.controls
           (controls_lost places o e s.controls) o (lost_count places o e s.controls ∙ tied.count)
           (one_changed o down s.outstations) (lost_there places o e s.controls)
-          (record { here = k; others = λ p ne. alike_self t p; bonded = λ n so_far. so_far }) tied;
+          (record {
+            here = k;
+            others = λ p ne. alike_self t p;
+            bonded = λ n so_far. so_far;
+            kept = λ n none. refl;
+          })
+          tied;
       bound = tt;
     }
 
@@ -138,7 +145,7 @@ given_of_poll o m wall (Some request) = refl
 
 polled_moves : (t new : Story) (s : State) (moment o wall : ℕ) (m : Master) (due : Option Order)
     → slice_get s.outstations o ≡ Some m → new.executes ≡ t.executes
-    → Moves t new o (Some (master_polled moment wall due m)) (outgoing_polled due (slice_get s.controls.outgoing o))
+    → Moves t new o (slice_get s.controls.outgoing o) (Some (master_polled moment wall due m)) (outgoing_polled due (slice_get s.controls.outgoing o))
     → Tied t s.outstations s.controls
     → Tied new (parts_after_poll s moment o wall due).outstations (parts_after_poll s moment o wall due).controls
 polled_moves t new s moment o wall m None at same k tied =
@@ -174,7 +181,7 @@ poll_taken setup past o m wall s x sound at up tied =
     let given : Option Request = request_polled due moment wall x in
     let held : Holds t o (Some x) q = subst (λ (y : Option Master). Holds t o y q) at (tied.places o) in
     let next : order_for (Some x) q ≡ due = ap (λ (y : Option Master). order_for y q) (sym at) in
-    let k : Polled t o given (master_polled moment wall due x) (outgoing_polled due q) =
+    let k : Polled t o q given (master_polled moment wall due x) (outgoing_polled due q) =
     polled t o moment wall s.controls.ordered x q due next up
     (in_order_at s.controls.ordered s.controls.outgoing o sound.orders) held in
     record {
@@ -241,7 +248,7 @@ fragment_taken setup past f m s x sound at up takes tied =
       change-here o (master_after_fragment moment f) s.outstations,
       at,
       ended_here o (ended_in (verdict_of x f)) s.controls,
-    ) k) tied in
+    ) k.moves) tied in
     rw (accepting, ending) (record { tied = rw (sym (story_of_end end setup past f)) all; bound = tt })
 
 no_end : (v : Verdict) → is_acceptance v ≡ false → is_end (replies.Verdict v) ≡ false

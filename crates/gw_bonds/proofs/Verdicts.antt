@@ -1,5 +1,5 @@
 -- A fragment comes: it ends an answer, or it marks nothing.
-use Rattle.std.proofs.Common.{◌≡◌, ℕ, ◌<◌, Bool, true, false, cond, List, ◌∷◌, ◌++◌, Option, Some, None, refl, sym, ap, subst, ◌∙◌, arith}
+use Rattle.std.proofs.Common.{◌≡◌, ℕ, ◌<◌, Bool, true, false, cond, List, [], ◌∷◌, ◌++◌, Option, Some, None, refl, sym, ap, subst, ◌∙◌, arith}
 use Rattle.std.specs.Prelude.{◌==◌}
 use Rattle.std.specs.List.{AllByRecursion}
 use Rattle.std.specs.Option.{option_to_list}
@@ -32,11 +32,13 @@ use Rattle.gw_steps.specs.Controls.{ended_in}
 use Rattle.gw_bonds.specs.Executes.{numbered}
 use Rattle.gw_bonds.specs.Marks.{Mark, Answered, is_end, mark_answering, took}
 use Rattle.gw_bonds.specs.Bonds.{MayAnswer}
-use Rattle.gw_bonds.proofs.Held.{under_way_at, waiting_at}
-use Rattle.gw_bonds.proofs.Story.{AskedBy, Awaits, ForTask, GoesOn, Holds, OfOrder, Sends, Story, Waits, alike_self, asking, mark_here, sends_kept}
-use Rattle.gw_bonds.proofs.Asks.{Above, all_above, marked_apart, marked_bonded, reads_again, story_marked, waits_behind}
+use Rattle.gw_bonds.specs.Outcomes.{was_done}
+use Rattle.gw_bonds.proofs.Held.{held_way, under_way_at, waiting_at}
+use Rattle.gw_bonds.proofs.Story.{AskedBy, Awaits, ForTask, GoesOn, Holds, OfOrder, Sends, Story, Waits, alike_self, asking, mark_here, with_mark, sends_kept}
+use Rattle.gw_bonds.proofs.Asks.{Above, all_above, marked_apart, marked_bonded, marked_kept, reads_again, story_marked, waits_behind}
 use Rattle.gw_bonds.proofs.Moves.{InOrderAt, Moves, waits_same}
 use Rattle.gw_bonds.proofs.Polls.{nothing_named, plain_bond}
+use Rattle.gw_bonds.proofs.Tells.{TellsAt, operated_as, refused_as, sent_tells}
 use Rattle.gw_bonds.proofs.Ends.{ended_at, ended_waiting, sent_goes}
 
 -- ---- the story
@@ -64,12 +66,17 @@ answered_holds t o new q ex is small up waiting going = record {
   down = λ not_up. absurd (true≢false (sym up ∙ not_up));
 }
 
+-- an answer leaves a master so, and ends this order
+pub record Answers (t new : Story) (o : ℕ) (m : Master) (e : Option Ended) (q : Option Outgoing) : Type 0 where
+  pub moves : Moves t new o q (Some m) (ended_at e q)
+  pub tells : TellsAt new e q
+
 -- ---- an answer that ends, to what is no part of an order
 
 plain_ended : (t : Story) (o : ℕ) (octets : List ℕ) (new : Master) (q : Option Outgoing) (task : Task)
     → new.exchange ≡ Idle → new.sequence < 16 → new.up ≡ true → order_of task ≡ None
     → AllByRecursion (Waits t o) (waiting_at q) → (n : ℕ) → t.last o ≡ Some (task_request task n)
-    → under_way_at q ≡ None → Moves t (story_answered o octets t) o (Some new) q
+    → under_way_at q ≡ None → Answers t (story_answered o octets t) o new None q
 plain_ended t o octets new q task idle small up plain waiting n last none =
     let r : Request = task_request task n in
     let after : Story = story_answered o octets t in
@@ -78,10 +85,14 @@ plain_ended t o octets new q task idle small up plain waiting n last none =
     ∙ nothing_named r.bond k (Answered (took (operating_of (octets_of r)) octets)) (t.marks k) (plain_bond task n plain)
     in
     record {
-      here = answered_holds after o new q Idle idle small up (waits_same t after o (waiting_at q) (λ k x e. e) same waiting)
-          none;
-      others = λ p ne. record { keeps = λ k x e. e; marks = λ k x e there. same k; last = refl };
-      bonded = λ k so_far. subst (OfOrder (numbered k t.executes)) (sym (same k)) so_far;
+      moves = record {
+        here = answered_holds after o new q Idle idle small up
+            (waits_same t after o (waiting_at q) (λ k x e. e) same waiting) none;
+        others = λ p ne. record { keeps = λ k x e. e; marks = λ k x e there. same k; last = refl };
+        bonded = λ k so_far. subst (OfOrder (numbered k t.executes)) (sym (same k)) so_far;
+        kept = λ k none_there. same k;
+      };
+      tells = tt;
     }
 
 -- ---- an answer that ends, to a request of an order
@@ -120,18 +131,24 @@ order_answered : (t : Story) (o count : ℕ) (new : Master) (q : Option Outgoing
     (ex : Exchange) (e : Option Ended) → new.exchange ≡ ex → new.sequence < 16 → new.up ≡ true → InOrderAt count q
     → AllByRecursion (Waits t o) (waiting_at q) → Sends t o order (under_way_at q) → MayAnswer (t.marks order.number)
     → GoesOn (story_marked order.number (Answered done) t) o ex (under_way_at (ended_at e q))
-    → Moves t (story_marked order.number (Answered done) t) o (Some new) (ended_at e q)
-order_answered t o count new q order done ex e is small up in_order waiting k may going =
+    → TellsAt (story_marked order.number (Answered done) t) e q
+    → Answers t (story_marked order.number (Answered done) t) o new e q
+order_answered t o count new q order done ex e is small up in_order waiting k may going tells =
     let mark : Mark = Answered done in
     let after : Story = story_marked order.number mark t in
     record {
-      here = answered_holds after o new (ended_at e q) ex is small up
-          (subst (AllByRecursion (Waits after o)) (sym (ended_waiting e q))
-          (waits_behind t after o order.number mark (waiting_at q) (λ n x f. f) (λ n. refl)
-          (above_sent t o count order q in_order k) waiting))
-          going;
-      others = λ p ne. marked_apart t o p order mark k.order_is ne;
-      bonded = marked_bonded t o order mark k.order_is may;
+      moves = record {
+        here = answered_holds after o new (ended_at e q) ex is small up
+            (subst (AllByRecursion (Waits after o)) (sym (ended_waiting e q))
+            (waits_behind t after o order.number mark (waiting_at q) (λ n x f. f) (λ n. refl)
+            (above_sent t o count order q in_order k) waiting))
+            going;
+        others = λ p ne. marked_apart t o p order mark k.order_is ne;
+        bonded = marked_bonded t o order mark k.order_is may;
+        kept = marked_kept order.number mark t.marks q
+            (held_way order.number q k.way k.is (ap (λ (x : Order). x.number) k.same));
+      };
+      tells = tells;
     }
 
 -- SELECT succeeded
@@ -148,25 +165,36 @@ selected_goes t o n order u small k asked = (
   },
 )
 
+answer_tells : (t : Story) (o : ℕ) (order : Order) (q : Option Outgoing) (done : Bool) → Sends t o order (under_way_at q)
+    → done ≡ was_done (with_mark order.number (Answered done) t.marks order.number)
+    → TellsAt (story_marked order.number (Answered done) t) (Some (ended done order)) q
+answer_tells t o order q done k is =
+    let after : Story = story_marked order.number (Answered done) t in
+    λ way at same. sent_tells after o order (under_way_at q) done
+    (sends_kept t after o order (under_way_at q) (λ i x e. e) k) is way at
+
 command_ended : (t : Story) (o count n : ℕ) (new : Master) (q : Option Outgoing) (operation : Operation) (order : Order)
     (done : Bool) → new.exchange ≡ exchange_once_answered (Command operation order) done
     → new.sequence < 16 → new.up ≡ true → InOrderAt count q → n < 16
     → AllByRecursion (Waits t o) (waiting_at q) → Sends t o order (under_way_at q)
     → AskedBy o operation order n (t.marks order.number)
-    → Moves t (story_marked order.number (Answered done) t) o (Some new)
-    (ended_at (ended_answered (Command operation order) done) q)
+    → Answers t (story_marked order.number (Answered done) t) o new (ended_answered (Command operation order) done) q
 command_ended t o count n new q Select order true is small up in_order few waiting k asked =
     order_answered t o count new q order true (Selected order) None is small up in_order waiting k
     (may_answer o n Select order (t.marks order.number) asked) (selected_goes t o n order (under_way_at q) few k asked)
+    tt
 command_ended t o count n new q Select order false is small up in_order few waiting k asked =
     order_answered t o count new q order false Idle (Some (ended false order)) is small up in_order waiting k
     (may_answer o n Select order (t.marks order.number) asked) (sent_goes t o order (ended false order) q k refl)
+    (answer_tells t o order q false k (refused_as t o n order asked))
 command_ended t o count n new q Operate order done is small up in_order few waiting k asked =
     order_answered t o count new q order done Idle (Some (ended done order)) is small up in_order waiting k
     (may_answer o n Operate order (t.marks order.number) asked) (sent_goes t o order (ended done order) q k refl)
+    (answer_tells t o order q done k (operated_as t o n Operate order done asked.0 k.order_is few refl asked.2))
 command_ended t o count n new q DirectOperate order done is small up in_order few waiting k asked =
     order_answered t o count new q order done Idle (Some (ended done order)) is small up in_order waiting k
     (may_answer o n DirectOperate order (t.marks order.number) asked) (sent_goes t o order (ended done order) q k refl)
+    (answer_tells t o order q done k (operated_as t o n DirectOperate order done [] k.order_is few refl asked.1))
 
 -- ---- an answer that ends
 
@@ -180,10 +208,10 @@ task_ended : (t : Story) (o count n : ℕ) (f : Fragment) (new : Master) (q : Op
     → new.exchange ≡ exchange_once_answered task (is_done task f) → new.sequence < 16 → new.up ≡ true
     → InOrderAt count q → n < 16 → AllByRecursion (Waits t o) (waiting_at q) → t.last o ≡ Some (task_request task n)
     → ForTask t o n task (under_way_at q)
-    → Moves t (story_answered o f.octets t) o (Some new) (ended_at (ended_answered task (is_done task f)) q)
+    → Answers t (story_answered o f.octets t) o new (ended_answered task (is_done task f)) q
 task_ended t o count n f new q (Command operation order) is small up in_order few waiting last k =
     let done : Bool = is_done (Command operation order) f in
-    subst (λ (x : Story). Moves t x o (Some new) (ended_at (ended_answered (Command operation order) done) q))
+    subst (λ (x : Story). Answers t x o new (ended_answered (Command operation order) done) q)
     (story_of_answer t o n f.octets operation order done last
     (took_is_done t o n f operation order (under_way_at q) few k.0))
     (command_ended t o count n new q operation order done is small up in_order few waiting k.0 k.1)
@@ -214,20 +242,23 @@ next_exchange moment f w fin =
 answer_goes : (t : Story) (o moment count : ℕ) (f : Fragment) (new : Master) (q : Option Outgoing) (w : Awaited)
     (fin : Bool) → new.exchange ≡ next_exchange moment f w fin → new.sequence < 16 → new.up ≡ true
     → InOrderAt count q → AllByRecursion (Waits t o) (waiting_at q) → Awaits t o w.task (under_way_at q)
-    → Moves t (story_ended fin o f.octets t) o (Some new)
-    (ended_at (cond fin (ended_answered w.task (is_done w.task f)) None) q)
+    → Answers t (story_ended fin o f.octets t) o new (cond fin (ended_answered w.task (is_done w.task f)) None) q
 answer_goes t o moment count f new q w true is small up in_order waiting k =
     task_ended t o count k.sequence f new q w.task is small up in_order k.small waiting k.last k.sent
 answer_goes t o moment count f new q w false is small up in_order waiting k = record {
-  here = answered_holds t o new q (going_on moment w) is small up waiting k;
-  others = λ p ne. alike_self t p;
-  bonded = λ n so_far. so_far;
+  moves = record {
+    here = answered_holds t o new q (going_on moment w) is small up waiting k;
+    others = λ p ne. alike_self t p;
+    bonded = λ n so_far. so_far;
+    kept = λ n none. refl;
+  };
+  tells = tt;
 }
 
 -- what becomes of an outstation, by the verdict on its fragment
 abbrev pub Judged : Story → ℕ → Fragment → Verdict → Master → Option Outgoing → Type 0
 Judged t o f v new q =
-    Moves t (story_ended (is_end (replies.Verdict v)) o f.octets t) o (Some new) (ended_at (ended_in v) q)
+    Answers t (story_ended (is_end (replies.Verdict v)) o f.octets t) o new (ended_in v) q
 
 abbrev answer_verdict : Fragment → Awaited → Bool → Bool → Verdict
 answer_verdict f w in_sequence rightly =
@@ -263,9 +294,13 @@ unsolicited_judged : (t : Story) (o : ℕ) (f : Fragment) (m : Master) (q : Opti
     (master_after_unsolicited f m) q
 unsolicited_judged t o f m q true k takes = absurd (let none : ⊥ = cc in none)
 unsolicited_judged t o f m q false k takes = record {
-  here = record { waiting = k.waiting; going = k.going; small = k.small; down = k.down };
-  others = λ p ne. alike_self t p;
-  bonded = λ n so_far. so_far;
+  moves = record {
+    here = record { waiting = k.waiting; going = k.going; small = k.small; down = k.down };
+    others = λ p ne. alike_self t p;
+    bonded = λ n so_far. so_far;
+    kept = λ n none. refl;
+  };
+  tells = tt;
 }
 
 -- ---- all fragments that are accepted
