@@ -112,17 +112,20 @@ impl<L: Ledger> Core<L> {
         ensures { Answers pass.old pass.new step result.0 }
     {
         let topic = Topic::of(&step);
+        let orders = self.hub.orders();
         let answer = self.step(pass, step);
-        let roused = self.rouse(topic, &answer.1);
+        let ordered = self.hub.orders() != orders;
+        let roused = self.rouse(topic, &answer.1, ordered);
         (answer, roused)
     }
 
-    /// Those of the workers whom a call serves for whom the bell has to ring.
-    fn rouse(&mut self, topic: Topic, reply: &Result<Reply, StepFault>) -> Roused
+    /// Those of the workers whom a call serves, which accepted an order or didn't, for whom the bell has to ring.
+    fn rouse(&mut self, topic: Topic, reply: &Result<Reply, StepFault>, ordered: bool) -> Roused
         ensures { self.new ≡ self.old }
     {
         self.awake.told(topic, reply);
-        self.awake.rouse(Roused::by(topic, reply, &self.hub))
+        self.awake
+            .rouse(Roused::by(topic, reply, ordered, &self.hub))
     }
 
     /// Pumps for a client at a moment, one call after another, and puts the APDUs into a batch: until an answer is none, or

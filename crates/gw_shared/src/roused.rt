@@ -68,10 +68,10 @@ impl Roused {
         }
     }
 
-    /// Whom a step serves that left the hub so with this reply: the writer of a peer that came, went or had its connection
-    /// closed; besides these, whoever has something to hand over now. A step with a fault, and a fragment that wasn't
-    /// accepted, serve nobody.
-    pub fn by(topic: Topic, reply: &Result<Reply, StepFault>, hub: &Hub) -> Roused {
+    /// Whom a step serves that left the hub so with this reply, and accepted an order or didn't: the writer of a peer that
+    /// came, went or had its connection closed; besides these, whoever has something to hand over now. A step with a fault,
+    /// and a fragment that wasn't accepted, serve nobody.
+    pub fn by(topic: Topic, reply: &Result<Reply, StepFault>, ordered: bool, hub: &Hub) -> Roused {
         match (topic, reply) {
             (_, Err(_) | Ok(Reply::Verdict(Verdict::Repeated { .. } | Verdict::Ignored(_)))) => {
                 Roused::nobody()
@@ -93,7 +93,7 @@ impl Roused {
                 clients: due_clients(hub),
             },
             (Topic::Client(client), Ok(reply)) => Roused {
-                outstations: 0,
+                outstations: if ordered { due_outstations(hub) } else { 0 },
                 clients: served_client(client, reply, hub),
             },
             (Topic::Poll | Topic::Pump(_) | Topic::Tick, Ok(_)) => Roused::nobody(),
