@@ -19,7 +19,7 @@ ghost use Rattle.gw_steps.specs.Sound.{IsSoundState};
 ghost use Rattle.gw_history.specs.Premises.{IsSoundRun};
 ghost use Rattle.gw_laws.specs.Promises.{Promises};
 ghost use Rattle.gw_parts.specs.Clients.{dropped_at, has_offer, queued_at, unacknowledged_at};
-ghost use Rattle.gw_hub.specs.Hub.{can_count, can_take, controls_polled, is_poll_due, news_of_all, news_of_one, started_at, state_counting, state_with_response, step_with, unless, Answers, IsCounted};
+ghost use Rattle.gw_hub.specs.Hub.{can_count, can_take, controls_polled, is_poll_due, is_ready_at, news_of_all, news_of_one, started_at, state_counting, state_with_response, step_with, unless, Answers, IsCounted};
 
 use crate::common::Common;
 use crate::counts::Counts;
@@ -198,6 +198,13 @@ impl Hub {
         self.counts.news()
     }
 
+    /// How many commands were accepted as orders since the hub began: the number of the last of them.
+    pub fn orders(&self) -> u64
+        ensures { result ≡ self.now.state.controls.ordered }
+    {
+        self.controls.ordered()
+    }
+
     /// Whether a client is up.
     pub fn stands(&self, client: u8) -> bool
         ensures { IsTrue result ↔ (client_up self.now.state client ≡ Some true) }
@@ -213,6 +220,17 @@ impl Hub {
             Some(master) => {
                 master.is_due(self.moment) || (master.ready() && self.controls.waits(outstation))
             }
+            None => false,
+        }
+    }
+
+    /// Whether an outstation could be given an order: it is up, no request awaits its answer, and no OPERATE is due. It
+    /// couldn't as long as one is under way to it.
+    pub fn is_ready(&self, outstation: u8) -> bool
+        ensures { result ≡ is_ready_at (slice_get self.now.state.outstations outstation) }
+    {
+        match self.outstations.get(outstation) {
+            Some(master) => master.ready(),
             None => false,
         }
     }
