@@ -1,5 +1,5 @@
 //! The core as one machine.
-ghost use Rattle.std.specs.Prelude.{◌≡◌, ◌<◌, ◌+◌, ◌↔◌, ℕ, [], length, map, true, false, IfOk, IfErr, IsTrue, OnOk, OnErr, Some, if◌then◌else◌, slice_get, slice_index};
+ghost use Rattle.std.specs.Prelude.{◌≡◌, ◌<◌, ◌+◌, ◌^◌, ◌↔◌, ℕ, [], length, map, true, false, IfOk, IfErr, IsTrue, OnOk, OnErr, Some, if◌then◌else◌, slice_get, slice_index};
 ghost use Rattle.std.specs.List.{AllByRecursion};
 ghost use Rattle.gw_entries.specs.Ranges.{IsStation};
 ghost use Rattle.gw_map.specs.Settings.{HasSingleAddresses};
@@ -18,6 +18,7 @@ ghost use Rattle.gw_steps.specs.Runs.{history, state_after, AtEach, IsRun};
 ghost use Rattle.gw_steps.specs.Sound.{IsSoundState};
 ghost use Rattle.gw_history.specs.Premises.{IsSoundRun};
 ghost use Rattle.gw_laws.specs.Promises.{Promises};
+ghost use Rattle.gw_bonds.specs.Bonds.{Bonds, HasShortIndex};
 ghost use Rattle.gw_parts.specs.Clients.{dropped_at, has_offer, queued_at, unacknowledged_at};
 ghost use Rattle.gw_hub.specs.Hub.{can_count, can_take, controls_polled, is_poll_due, is_ready_at, news_of_all, news_of_one, started_at, state_counting, state_with_response, step_with, unless, Answers, IsCounted};
 
@@ -27,7 +28,7 @@ use crate::orders::{Sender, end_order, is_control_up, lose_orders, pass_time, se
 use dnp_app::Response;
 use dnp_master::Verdict;
 use gw_control::Controls;
-use gw_map::{Settings, Station};
+use gw_map::{Control, Settings, Station};
 use gw_model::{Ended, Memory, Observation, Order, Report};
 use gw_parts::{Clients, Outstations};
 use gw_picture::Picture;
@@ -94,9 +95,11 @@ impl Hub {
         ensures setup { IfOk result (λ hub. hub.setup ≡ settings) }
         ensures state { IfOk result (λ hub. hub.state ≡ at_first settings) }
         ensures settings { HasSingleAddresses settings.rows settings.controls × IsStation settings.station }
+        ensures indices { AllByRecursion HasShortIndex settings.controls }
     {
         // The contracts of `rows` and `station` tell what all settings keep.
         let _rows = settings.rows();
+        attest_indices(settings.controls());
         let station = settings.station();
         let outstations = Outstations::new(alloc, settings.outstations())?;
         let picture = Picture::new(alloc, &settings)?;
@@ -278,6 +281,7 @@ impl Hub {
         ensures state { IfOk result (λ run.
             run.0.state ≡ state_after settings (history [] steps.items run.1.items)) }
         ensures promises { IfOk result (λ run. AtEach (Promises settings) (history [] steps.items run.1.items)) }
+        ensures bonds { IfOk result (λ run. AtEach (Bonds settings) (history [] steps.items run.1.items)) }
     {
         let mut hub = Hub::new(alloc, settings)?;
         let replies = hub.make(&steps)?;
@@ -666,6 +670,20 @@ impl Hub {
         Ok(self.clients.pump(client, self.settings.get(), self.moment))
     }
 }
+
+/// Tells a proof what the type of indices keeps. It does nothing.
+fn attest_indices(controls: &[Control])
+    ensures { AllByRecursion HasShortIndex controls.now }
+{
+    for control in controls {
+        attest_index(control.index);
+    }
+}
+
+/// Of one index. It does nothing.
+fn attest_index(index: u16)
+    ensures { index < 2 ^ 16 }
+{}
 
 /// A client's session has this number, where one begins.
 fn set_session(sessions: &mut [u64; CLIENTS as usize], client: u8, begins: bool, number: u64)

@@ -21,3 +21,6 @@ returns-clause-promises c =
     keeps_promises c.args.settings _
     (run_of _ _ _ c.args.steps.items c.in_ok-replies.replies.items c.in_ok-hub.ensures.setup c.deref.ensures.value
     c.in_ok-replies.ensures.run)
+
+pub returns-clause-bonds : goal.returns-clause-bonds
+returns-clause-bonds c = ?
