@@ -7,5 +7,6 @@ mod laws;
 
 pub use examples::bonds_by_example;
 pub use laws::{
-    nothing_is_operated_without_controls, orders_are_operated_once, requests_are_bound,
+    nothing_is_operated_without_controls, orders_are_operated_once, outcomes_are_of_executes,
+    requests_are_bound,
 };
