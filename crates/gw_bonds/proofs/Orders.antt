@@ -36,7 +36,7 @@ use Rattle.gw_bonds.specs.Executes.{Execute, execute_answered, execute_by, numbe
 use Rattle.gw_bonds.specs.Marks.{Mark}
 use Rattle.gw_bonds.specs.Outcomes.{counted}
 use Rattle.gw_bonds.specs.Bonds.{HasShortIndex}
-use Rattle.gw_bonds.proofs.Told.{ToldTied, all_more, end_fewer, none_counted, none_held, told_fewer}
+use Rattle.gw_bonds.proofs.Told.{Goes, ToldTied, all_more, end_fewer, none_counted, none_held, told_fewer}
 use Rattle.gw_bonds.proofs.Ends.{tied_end}
 use Rattle.gw_bonds.proofs.Fits.{act_fits, found_short}
 use Rattle.gw_bonds.proofs.Held.{held, held_changed, held_ordering}
@@ -55,10 +55,6 @@ executing_alike t x o = record {
 }
 
 -- ---- what it keeps
-
-pub record Goes (t new : Story) (masters : List Master) (v after : Controls) : Type 0 where
-  pub tied : Tied new masters after
-  pub told : (xs : List Outcome) → ToldTied t v.outgoing xs → ToldTied new after.outgoing xs
 
 -- what leaves orders alone
 still : (t : Story) (masters : List Master) (v after : Controls) → after.outgoing ≡ v.outgoing
@@ -124,7 +120,8 @@ pushed t o m (Some q) x waits k = record {
   down = k.down;
 }
 
-act_in : (control : Control) (act : Act) (x : Option Act) → option_map (intent_of control) x ≡ Some (intent_of control act)
+act_in : (control : Control) (act : Act) (x : Option Act)
+    → option_map (intent_of control) x ≡ Some (intent_of control act)
     → x ≡ Some act
 act_in control act None e = absurd (let none : ⊥ = cc in none)
 act_in control act (Some y) e =
@@ -229,8 +226,8 @@ confirmed t masters c command found told v after k =
 acted : (t : Story) (masters : List Master) (a : Asked) (found : ℕ × Control) (standing : Option Selection)
     (v : Controls) (act : Option Act) → HasShortIndex found.1 → act_accepted a found.1 standing v ≡ act
     → Tied t masters v
-    → Goes t (story_executing (execute_answered a.client a.command (Some found) (answer_to_act v.ordered act)) t) masters
-    v (controls_ordering a found.1 act (controls_unselecting a found.0 v))
+    → Goes t (story_executing (execute_answered a.client a.command (Some found) (answer_to_act v.ordered act)) t)
+    masters v (controls_ordering a found.1 act (controls_unselecting a found.0 v))
 acted t masters a found standing v None short e tied =
     still t masters v (controls_unselecting a found.0 v) refl refl tied
 acted t masters a found standing v (Some act) short e tied =

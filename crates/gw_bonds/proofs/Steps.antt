@@ -42,8 +42,8 @@ use Rattle.gw_bonds.proofs.Moves.{AlikeBut, Moves, in_order_at, moved}
 use Rattle.gw_bonds.proofs.Polls.{Polled, outgoing_polled, master_polled, polled, story_polled, with_outstation}
 use Rattle.gw_bonds.proofs.Ends.{ended_count, ended_here, ended_there, ended_waiting, controls_lost, idle_holds, lost_count, lost_holds, lost_there, tied_closes, tied_end, tied_late}
 use Rattle.gw_bonds.proofs.Tells.{TellsAt, failure_tells}
-use Rattle.gw_bonds.proofs.Told.{Ending, ToldTied, closes_fewer, end_fewer, ending_both, late_end, order_ends, told_ending, told_fewer, told_kept, waiting_fail}
-use Rattle.gw_bonds.proofs.Verdicts.{Judged, judged, story_ended}
+use Rattle.gw_bonds.proofs.Told.{Ending, Leads, ToldTied, closes_fewer, end_fewer, ending_both, late_end, order_ends, told_ending, told_fewer, told_kept, waiting_fail}
+use Rattle.gw_bonds.proofs.Verdicts.{Answers, judged, story_ended}
 use Rattle.gw_bonds.proofs.Orders.{frame_tied}
 
 -- after a step with a reply
@@ -124,7 +124,8 @@ loss setup past o m r s x at tied =
     let ended : Controls = controls_with_ended o e s.controls in
     let waits : AllByRecursion (Waits t o) (waiting_at (slice_get ended.outgoing o)) =
     subst (AllByRecursion (Waits t o))
-    (sym (ap waiting_at (ended_here o e s.controls) ∙ ended_waiting e (slice_get s.controls.outgoing o))) held.waiting in
+    (sym (ap waiting_at (ended_here o e s.controls) ∙ ended_waiting e (slice_get s.controls.outgoing o)))
+    held.waiting in
     let tells : TellsAt t e (slice_get s.controls.outgoing o) =
     subst (λ (y : Option Ended). TellsAt t y (slice_get s.controls.outgoing o)) (sym failed)
     (failure_tells t o x.exchange (slice_get s.controls.outgoing o) held.going) in
@@ -172,7 +173,8 @@ given_of_poll o m wall (Some request) = refl
 
 polled_moves : (t new : Story) (s : State) (moment o wall : ℕ) (m : Master) (due : Option Order)
     → slice_get s.outstations o ≡ Some m → new.executes ≡ t.executes
-    → Moves t new o (slice_get s.controls.outgoing o) (Some (master_polled moment wall due m)) (outgoing_polled due (slice_get s.controls.outgoing o))
+    → Moves t new o (slice_get s.controls.outgoing o) (Some (master_polled moment wall due m))
+    (outgoing_polled due (slice_get s.controls.outgoing o))
     → Tied t s.outstations s.controls
     → Tied new (parts_after_poll s moment o wall due).outstations (parts_after_poll s moment o wall due).controls
 polled_moves t new s moment o wall m None at same k tied =
@@ -258,6 +260,34 @@ ended_executes : (end : Bool) (o : ℕ) (octets : List ℕ) (t : Story) → (sto
 ended_executes true o octets t = refl
 ended_executes false o octets t = refl
 
+-- the story, the orders and what was told after a fragment that an outstation accepts
+taken_goes : (t : Story) (s : State) (f : Fragment) (moment : ℕ) (x : Master)
+    → slice_get s.outstations f.outstation ≡ Some x
+    → Answers t (story_ended (is_end (replies.Verdict (verdict_of x f))) f.outstation f.octets t) f.outstation
+    (master_after_fragment moment f x) (ended_in (verdict_of x f)) (slice_get s.controls.outgoing f.outstation)
+    → Tied t s.outstations s.controls
+    → Leads t (story_ended (is_end (replies.Verdict (verdict_of x f))) f.outstation f.octets t)
+    (change f.outstation (master_after_fragment moment f) s.outstations) s.controls
+    (controls_with_ended f.outstation (ended_in (verdict_of x f)) s.controls)
+    (option_to_list (outcome_ended f.outstation (ended_in (verdict_of x f)) s.controls))
+taken_goes t s f moment x at k tied =
+    let o : ℕ = f.outstation in
+    let end : Bool = is_end (replies.Verdict (verdict_of x f)) in
+    let e : Option Ended = ended_in (verdict_of x f) in
+    let new : Story = story_ended end o f.octets t in
+    let v : Controls = controls_with_ended o e s.controls in
+    let told : List Outcome = option_to_list (outcome_ended o e s.controls) in
+    record {
+      tied = moved t new s.outstations (change o (master_after_fragment moment f) s.outstations) s.controls v o
+          (ended_count o e s.controls
+          ∙ (tied.count ∙ sym (ap (λ (xs : List _). length xs) (ended_executes end o f.octets t))))
+          (one_changed o (master_after_fragment moment f) s.outstations) (ended_there o e s.controls)
+          (rw (change-here o (master_after_fragment moment f) s.outstations, at, ended_here o e s.controls) k.moves)
+          tied;
+      told = λ xs j. told_ending new s.controls.outgoing v.outgoing told xs (order_ends new o e s.controls k.tells)
+          (told_moved t new s.controls.outgoing o xs (ended_executes end o f.octets t) k.moves.kept j);
+    }
+
 fragment_taken : (setup : Setup) (past : List Entry) (f : Fragment) (m : ℕ) (s : State) (x : Master)
     → IsSoundControls setup s.controls → slice_get s.outstations f.outstation ≡ Some x → x.up ≡ true
     → accepts x f ≡ true → Before setup past s
@@ -267,39 +297,19 @@ fragment_taken setup past f m s x sound at up takes tied =
     let o : ℕ = f.outstation in
     let t : Story = story setup past in
     let end : Bool = is_end (replies.Verdict (verdict_of x f)) in
-    let moment : ℕ = latest s m in
     let q : Option Outgoing = slice_get s.controls.outgoing o in
-    let new : Story = story_ended end o f.octets t in
-    let v : Controls = controls_with_ended o (ended_in (verdict_of x f)) s.controls in
     let accepting : is_accepting s f ≡ true = rw at takes in
     let ending : order_ended s f ≡ ended_in (verdict_of x f) = ap (ended_by_fragment f) at in
-    let held : Holds t o (Some x) q = subst (λ (y : Option Master). Holds t o y q) at (tied.places o) in
-    let k : Judged t o f (verdict_of x f) (master_after_fragment moment f x) q =
-    judged t o moment s.controls.ordered f x q up
-    (in_order_at s.controls.ordered s.controls.outgoing o sound.orders) held takes in
-    let all : Tied new (change o (master_after_fragment moment f) s.outstations) v =
-    moved t new s.outstations (change o (master_after_fragment moment f) s.outstations) s.controls v o
-    (ended_count o (ended_in (verdict_of x f)) s.controls
-    ∙ (tied.count ∙ sym (ap (λ (xs : List _). length xs) (ended_executes end o f.octets t))))
-    (one_changed o (master_after_fragment moment f) s.outstations)
-    (ended_there o (ended_in (verdict_of x f)) s.controls)
-    (rw (
-      change-here o (master_after_fragment moment f) s.outstations,
-      at,
-      ended_here o (ended_in (verdict_of x f)) s.controls,
-    ) k.moves) tied in
     let outcomes : outcomes_of s (steps.Fragment f m)
     ≡ option_to_list (outcome_ended o (ended_in (verdict_of x f)) s.controls) = rw (accepting, ending) refl in
-    let tells : (xs : List Outcome) → ToldTied t s.controls.outgoing xs
-    → ToldTied new v.outgoing (option_to_list (outcome_ended o (ended_in (verdict_of x f)) s.controls) ++ xs) =
-    λ xs j. told_ending new s.controls.outgoing v.outgoing
-    (option_to_list (outcome_ended o (ended_in (verdict_of x f)) s.controls)) xs
-    (order_ends new o (ended_in (verdict_of x f)) s.controls k.tells)
-    (told_moved t new s.controls.outgoing o xs (ended_executes end o f.octets t) k.moves.kept j) in
+    let k = taken_goes t s f (latest s m) x at
+    (judged t o (latest s m) s.controls.ordered f x q up
+    (in_order_at s.controls.ordered s.controls.outgoing o sound.orders)
+    (subst (λ (y : Option Master). Holds t o y q) at (tied.places o)) takes) tied in
     rw (accepting, ending) (record {
-      tied = rw (sym (story_of_end end setup past f)) all;
+      tied = rw (sym (story_of_end end setup past f)) k.tied;
       bound = tt;
-      told = rw (sym (story_of_end end setup past f), outcomes) tells;
+      told = rw (sym (story_of_end end setup past f), outcomes) k.told;
     })
 
 no_end : (v : Verdict) → is_acceptance v ≡ false → is_end (replies.Verdict v) ≡ false

@@ -35,6 +35,15 @@ pub record ToldTied (t : Story) (qs : List Outgoing) (xs : List Outcome) : Type 
   pub tell : AllTell t.executes t.marks numbers xs
   pub once : (n : ℕ) → counted n numbers + held n qs ≤ 1
 
+-- what is tied stays so, and this is told
+pub record Leads (t new : Story) (masters : List Master) (v after : Controls) (outcomes : List Outcome) : Type 0 where
+  pub tied : Tied new masters after
+  pub told : (xs : List Outcome) → ToldTied t v.outgoing xs → ToldTied new after.outgoing (outcomes ++ xs)
+
+-- nothing is told
+abbrev pub Goes : Story → Story → List Master → Controls → Controls → Type 0
+Goes t new masters v after = Leads t new masters v after []
+
 -- ---- the story goes on
 
 tells_more : (accepted more : List Execute) (became after : List Mark) (n : ℕ) (x : Outcome) → Keeps accepted more
@@ -130,7 +139,8 @@ ending_at : (t : Story) (o : ℕ) (f : Outgoing → Outgoing) (qs : List Outgoin
 ending_at t o f qs x k = record {
   numbers = k.numbers;
   tell = k.tell;
-  within = λ n. let all = held_changed n o (counted n k.numbers) 0 f qs (omega (arith, k.within n)) in omega (arith, all);
+  within = λ n.
+      let all = held_changed n o (counted n k.numbers) 0 f qs (omega (arith, k.within n)) in omega (arith, all);
 }
 
 -- ---- one order ends
@@ -185,7 +195,8 @@ one_fails : (t : Story) (o : ℕ) (q : Option Outgoing) → AllByRecursion (Wait
 one_fails t o None all = none_ends t None None (λ n. omega arith)
 one_fails t o (Some q) all = oldest_fails t o q.waiting q.under_way all
 
-pub waiting_fail : (t : Story) (n o : ℕ) (v : Controls) → AllByRecursion (Waits t o) (waiting_at (slice_get v.outgoing o))
+pub waiting_fail : (t : Story) (n o : ℕ) (v : Controls)
+    → AllByRecursion (Waits t o) (waiting_at (slice_get v.outgoing o))
     → Ending t v.outgoing (controls_after_losses n o v).outgoing (outcomes_lost n o v)
 waiting_fail t zero o v all = nothing_ends t v.outgoing
 waiting_fail t (suc n) o v all =

@@ -7,9 +7,9 @@ ghost use Rattle.gw_steps.specs.Sound.{LeavesSound};
 ghost use Rattle.gw_bonds.specs.Bonds.{Bonds, IsControlRun, OperatesNothing, OperatesOnce};
 ghost use Rattle.gw_bonds.specs.Outcomes.{TellsOnce};
 
-/// At each point of a run: a request that names an order asks what the command of its execute asks, no other one
-/// operates anything, and for each execute there was at most one DIRECT_OPERATE, or one SELECT and after its success one
-/// OPERATE.
+/// At each point of a run: a request that names an order asks what the command of its execute asks, no other request
+/// operates anything, and for each execute there was at most one DIRECT_OPERATE, or one SELECT and after its success
+/// one OPERATE.
 pub fn requests_are_bound()
     ensures { (setup : Setup) (past : List Entry) → IsControlRun setup past → AtEach (Bonds setup) past }
 {}
@@ -19,9 +19,9 @@ pub fn orders_are_operated_once()
     ensures { (setup : Setup) (past : List Entry) → IsControlRun setup past → AtEach OperatesOnce past }
 {}
 
-/// At each point of a run, each outcome that a client was told is that of one accepted execute of that client, and of its
-/// command; of each execute at most one was told. It was done exactly where the newest request for the order was OPERATE
-/// or DIRECT_OPERATE, and the outstation took it.
+/// At each point of a run, each outcome that was told is that of one accepted execute: it is told the client of that
+/// execute, of its command, and once. It is positive exactly where the newest request for the order was OPERATE or
+/// DIRECT_OPERATE, and the outstation took what that asked.
 pub fn outcomes_are_of_executes()
     ensures { (setup : Setup) (past : List Entry) → IsControlRun setup past → AtEach (TellsOnce setup) past }
 {}
