@@ -1,7 +1,7 @@
 //! Worked runs: what was asked for an order, what was answered, and what its client was told.
 ghost use Rattle.std.specs.Prelude.{◌≡◌, [], ◌∷◌, length, map, true, false};
 ghost use Rattle.dnp_app.specs.declared.operation.Operation.TheVariants.{Select, Operate, DirectOperate};
-ghost use Rattle.gw_steps.specs.Example.{poll};
+ghost use Rattle.gw_steps.specs.Example.{outstation_down, outstation_up, poll};
 ghost use Rattle.gw_control.specs.Example.{setup};
 ghost use Rattle.gw_bonds.specs.Executes.{executes};
 ghost use Rattle.gw_bonds.specs.Marks.{marks, Asked, Answered};
@@ -26,4 +26,9 @@ pub fn bonds_by_example()
     // SELECT with status 4: no OPERATE.
     ensures refused { marks 1 (made (selected 4 (poll ∷ []))) ≡ Answered false ∷ Asked 0 (setting Select 1) ∷ [] }
     ensures refused_once { map (λ x. x.done) (told setup (made (selected 4 (poll ∷ [])))) ≡ false ∷ [] }
+    // The outstation is lost after SELECT succeeded: what was asked stays so, OPERATE isn't given, and the order failed.
+    ensures lost { marks 1 (made (selected 0 (outstation_down ∷ outstation_up ∷ poll ∷ []))) ≡ Answered true
+        ∷ Asked 0 (setting Select 1) ∷ [] }
+    ensures lost_once { map (λ x. x.done) (told setup (made (selected 0 (outstation_down ∷ outstation_up ∷ []))))
+        ≡ false ∷ [] }
 {}
