@@ -1,11 +1,12 @@
 -- What a reply confirms is what is due by the history.
 use Rattle.std.proofs.Common.{◌≡◌, ℕ, Bool, true, false, cond, List, [], ◌∷◌, Option, Some, None, Result, Ok, Err, refl, ap, subst, ◌∙◌}
 use Rattle.std.specs.Prelude.{slice_get, ◌||◌}
+use Rattle.gw_model.specs.declared.control.Order.{Order}
 use Rattle.gw_map.specs.Settings.{Setup}
 use Rattle.dnp_app.specs.Response.{Fragment, is_unsolicited}
 use Rattle.dnp_app.specs.Control.{confirm_of}
 use Rattle.dnp_app.specs.declared.request.Request.{Request}
-use Rattle.dnp_master.specs.Master.{Master, request_given}
+use Rattle.dnp_master.specs.Master.{Master}
 use Rattle.dnp_master.specs.Fragments.{is_last, verdict_of}
 use Rattle.iec_apci.specs.Apdu.{Content}
 use Rattle.gw_station.specs.declared.event.Event.{Event}
@@ -18,12 +19,13 @@ use Rattle.gw_steps.specs.declared.step.Step.TheVariants as steps
 use Rattle.gw_steps.specs.declared.step.Reply.{Reply}
 use Rattle.gw_steps.specs.declared.step.StepFault.{StepFault}
 use Rattle.gw_steps.specs.declared.step.StepFault.TheVariants.{NoOutstation, NoClient}
+use Rattle.gw_steps.specs.Controls.{order_for}
 use Rattle.gw_steps.specs.State.{State}
-use Rattle.gw_steps.specs.Steps.{Allowed, outcome, needs, can_rise, reply_to, fault_of, reply_of_event, reply_asking, reply_giving, latest}
+use Rattle.gw_steps.specs.Steps.{Allowed, outcome, needs, can_be_counted, reply_to, fault_of, reply_of_event, reply_asking, reply_giving, request_polled, latest}
 use Rattle.gw_steps.specs.Runs.{Entry, state_after}
 use Rattle.gw_steps.proofs.Inversion.{answered, who_is_up}
 use Rattle.gw_history.specs.Accepted.{last_text, Asked, is_in_sequence, is_in_place, is_answer, asked_of}
-use Rattle.gw_history.specs.Confirmations.{verdict_in, verdict_due_to_answer, verdict_due, confirmation_in, confirmation_due, Confirms, ConfirmsBy, Confirmations}
+use Rattle.gw_history.specs.Confirmations.{verdict_in, verdict_due_to_answer, verdict_due, confirmation_in, confirmation_due, without_order, Confirms, ConfirmsBy, Confirmations}
 use Rattle.gw_history.proofs.Masters.{MasterIs, MasterTied, verdict_is}
 use Rattle.gw_history.proofs.Tied.{Tied}
 use Rattle.gw_history.proofs.Places.{Place}
@@ -60,7 +62,7 @@ due_confirms setup past f m = go (is_unsolicited f) (is_last (last_text f.outsta
 confirms : (setup : Setup) (past : List Entry) (step : Step) (r : Reply) (s : State) → outcome setup s step ≡ Ok r
     → Tied setup past s → Confirms setup past step r
 confirms setup past step r s e tied =
-    let told = answered (fault_of s step) (can_rise s.counts (needs setup s step).counts) (reply_to setup s step) r e in
+    let told = answered (fault_of s step) (can_be_counted s (needs setup s step)) (reply_to setup s step) r e in
     subst (Confirms setup past step) told.2 (by step told.0)
   where
     of_event : (event : Event) → (verdict_in (reply_of_event event) ≡ None)
@@ -86,14 +88,15 @@ confirms setup past step r s e tied =
         let up = who_is_up (λ (x : Master). x.up) NoOutstation (slice_get s.outstations f.outstation) e in
         let is : MasterIs setup f.outstation past up.0 =
         subst (MasterTied setup f.outstation past) up.1 (tied.outstations f.outstation) in
-        let said : verdict_of up.0 f ≡ verdict_due setup past f = verdict_is setup past f up.0 is in
+        let said : without_order (verdict_of up.0 f) ≡ verdict_due setup past f = verdict_is setup past f up.0 is in
         rw up.1 (record {
           verdict = ap (λ v. Some v) said;
           confirmation = ap (λ v. confirmation_in (Some v)) said ∙ due_confirms setup past f m;
         })
     by (steps.Poll o m wall) e =
         let up = who_is_up (λ (x : Master). x.up) NoOutstation (slice_get s.outstations o) e in
-        let none = of_asking (request_given (latest s m) wall up.0) in
+        let order : Option Order = order_for (Some up.0) (slice_get s.controls.outgoing o) in
+        let none = of_asking (request_polled order (latest s m) wall up.0) in
         rw up.1 (record { verdict = none; confirmation = ap confirmation_in none })
     by (steps.Frame c a m) e =
         let up = who_is_up (λ (k : Client). is_up k.stage) NoClient (slice_get s.clients c) e in

@@ -4,6 +4,7 @@ pub mod Tied
 pub mod Outstations
 pub mod Steps
 pub mod Lives
+pub mod Told
 pub mod Clients
 pub mod Places
 pub mod Logged

@@ -6,6 +6,9 @@ use Rattle.gw_model.specs.declared.observation.Observation.{Observation}
 use Rattle.gw_map.specs.Settings.{Setup}
 use Rattle.gw_picture.specs.Log.{picture_of}
 use Rattle.iec_apci.specs.declared.apdu.Apdu.{Apdu}
+use Rattle.iec_command.specs.declared.command.Command.{Command}
+use Rattle.gw_control.specs.declared.answer.Outcome.{Outcome}
+use Rattle.gw_station.specs.declared.event.Said.{Said}
 use Rattle.gw_steps.specs.declared.step.Step.{Step}
 use Rattle.gw_steps.specs.declared.step.Step.TheVariants as steps
 use Rattle.gw_steps.specs.declared.step.Reply.{Reply}
@@ -15,7 +18,7 @@ use Rattle.gw_steps.specs.Runs.{Entry}
 use Rattle.gw_steps.specs.Said.{ApduMeaning, said}
 use Rattle.gw_steps.proofs.Running.{entry}
 use Rattle.gw_history.specs.Log.{log_of}
-use Rattle.gw_history.specs.Life.{Turn, Idle, bringing, Takes, PutsOut, Ends, puts_out, turn_taking, turn_giving, is_closed_in, turn_of, lived, life}
+use Rattle.gw_history.specs.Life.{Turn, Idle, bringing, Takes, PutsOut, Ends, puts_out, turn_taking, turn_giving, is_closed_in, nothing_new, outcomes_for, outcomes_in, said_in, turn_of, lived, life}
 
 -- a log that grew by a life's news, with its pictures on the way
 abbrev pub IsLogged : Setup → List Observation → List Turn → Type 0
@@ -26,49 +29,49 @@ IsLogged setup log (Takes a taking ∷ ts) = (taking.picture ≡ picture_of setu
 IsLogged setup log (PutsOut said ∷ ts) = IsLogged setup log ts
 IsLogged setup log (Ends ∷ ts) = IsLogged setup log ts
 
--- a turn that brings no news
+-- a turn that brings no news; it may bring outcomes
 abbrev IsQuiet : Setup → List Observation → Turn → Type 0
 IsQuiet setup log t = (ts : List Turn) → IsLogged setup log ts → IsLogged setup log (t ∷ ts)
 
-idle : (setup : Setup) (log : List Observation) → IsQuiet setup log (bringing [])
-idle setup log ts logged = (log, sym (append-nil log), logged)
+idle : (setup : Setup) (log : List Observation) (outcomes : List Outcome) → IsQuiet setup log (bringing [] outcomes)
+idle setup log outcomes ts logged = (log, sym (append-nil log), logged)
 
-taking : (setup : Setup) (log : List Observation) (a : Apdu) (r : Reply)
-    → IsQuiet setup log (turn_taking a (picture_of setup.rows log) r)
-taking setup log a replies.Done ts logged = (refl, logged)
-taking setup log a (replies.Verdict v) ts logged = (refl, logged)
-taking setup log a (replies.Request x) ts logged = (refl, logged)
-taking setup log a (replies.Apdu x) ts logged = (refl, logged)
-taking setup log a replies.Taken ts logged = (refl, logged)
-taking setup log a (replies.Closed why) ts logged = logged
-taking setup log a replies.Nothing ts logged = (refl, logged)
-taking setup log a (replies.Ticked bits) ts logged = (refl, logged)
+taking : (setup : Setup) (log : List Observation) (a : Apdu) (said : Command → Said) (r : Reply)
+    → IsQuiet setup log (turn_taking a (picture_of setup.rows log) said r)
+taking setup log a said replies.Done ts logged = (refl, logged)
+taking setup log a said (replies.Verdict v) ts logged = (refl, logged)
+taking setup log a said (replies.Request x) ts logged = (refl, logged)
+taking setup log a said (replies.Apdu x) ts logged = (refl, logged)
+taking setup log a said replies.Taken ts logged = (refl, logged)
+taking setup log a said (replies.Closed why) ts logged = logged
+taking setup log a said replies.Nothing ts logged = (refl, logged)
+taking setup log a said (replies.Ticked bits) ts logged = (refl, logged)
 
 putting : (setup : Setup) (log : List Observation) (x : Option ApduMeaning) → IsQuiet setup log (puts_out x)
-putting setup log None = idle setup log
+putting setup log None = idle setup log []
 putting setup log (Some x) = λ ts logged. logged
 
 giving : (setup : Setup) (log : List Observation) (r : Reply) → IsQuiet setup log (turn_giving setup r)
-giving setup log replies.Done = idle setup log
-giving setup log (replies.Verdict v) = idle setup log
-giving setup log (replies.Request x) = idle setup log
+giving setup log replies.Done = idle setup log []
+giving setup log (replies.Verdict v) = idle setup log []
+giving setup log (replies.Request x) = idle setup log []
 giving setup log (replies.Apdu x) = putting setup log (said setup.station.offset_minutes x)
-giving setup log replies.Taken = idle setup log
-giving setup log (replies.Closed why) = idle setup log
-giving setup log replies.Nothing = idle setup log
-giving setup log (replies.Ticked bits) = idle setup log
+giving setup log replies.Taken = idle setup log []
+giving setup log (replies.Closed why) = idle setup log []
+giving setup log replies.Nothing = idle setup log []
+giving setup log (replies.Ticked bits) = idle setup log []
 
 -- one turn more, where the log stays
-quiet : (setup : Setup) (log : List Observation) (ts : List Turn) (here : Bool) (t : Turn) → IsQuiet setup log t
-    → IsLogged setup log ts
-    → IsLogged setup (log ++ []) ((if here then t else bringing []) ∷ ts)
-quiet setup log ts true t is logged = subst (λ (l : List Observation). IsLogged setup l (t ∷ ts))
+quiet : (setup : Setup) (log : List Observation) (ts : List Turn) (here : Bool) (t : Turn) (outcomes : List Outcome)
+    → IsQuiet setup log t → IsLogged setup log ts
+    → IsLogged setup (log ++ []) ((if here then t else bringing [] outcomes) ∷ ts)
+quiet setup log ts true t outcomes is logged = subst (λ (l : List Observation). IsLogged setup l (t ∷ ts))
     (sym (append-nil log)) (is ts logged)
-quiet setup log ts false t is logged = subst (λ (l : List Observation). IsLogged setup l (bringing [] ∷ ts))
-    (sym (append-nil log)) (idle setup log ts logged)
+quiet setup log ts false t outcomes is logged = subst (λ (l : List Observation).
+    IsLogged setup l (bringing [] outcomes ∷ ts)) (sym (append-nil log)) (idle setup log outcomes ts logged)
 
 begins : (setup : Setup) (log : List Observation) (ts : List Turn) (here : Bool) → IsLogged setup log ts
-    → IsLogged setup (log ++ []) (lived (if here then None else Some (bringing [])) ts)
+    → IsLogged setup (log ++ []) (lived (if here then None else Some nothing_new) ts)
 begins setup log ts true logged = tt
 begins setup log ts false logged = (log, refl, logged)
 
@@ -88,11 +91,15 @@ logged_more setup c past e ts logged = by e.step e.reply
     by (steps.Fragment f m) (Ok r) = (log, refl, logged)
     by (steps.Poll o m wall) (Ok r) = (log, refl, logged)
     by (steps.ClientUp d m) (Ok r) = begins setup log ts (d == c) logged
-    by (steps.ClientDown d m) (Ok r) = quiet setup log ts (d == c) Ends (λ us is. is) logged
-    by (steps.Frame d a m) (Ok r) = quiet setup log ts (d == c) (turn_taking a (picture_of setup.rows log) r)
-        (taking setup log a r) logged
-    by (steps.Pump d m) (Ok r) = quiet setup log ts (d == c) (turn_giving setup r) (giving setup log r) logged
-    by (steps.Tick m) (Ok r) = quiet setup log ts (is_closed_in c r) Ends (λ us is. is) logged
+    by (steps.ClientDown d m) (Ok r) = quiet setup log ts (d == c) Ends [] (λ us is. is) logged
+    by (steps.Frame d a m) (Ok r) =
+        let said : Command → Said = said_in setup c past m in
+        quiet setup log ts (d == c) (turn_taking a (picture_of setup.rows log) said r) [] (taking setup log a said r)
+        logged
+    by (steps.Pump d m) (Ok r) = quiet setup log ts (d == c) (turn_giving setup r) [] (giving setup log r) logged
+    by (steps.Tick m) (Ok r) =
+        quiet setup log ts (is_closed_in c r) Ends (outcomes_for c (outcomes_in setup past (steps.Tick m)))
+        (λ us is. is) logged
 
 pub logged : (setup : Setup) (c : ℕ) (past : List Entry) → IsLogged setup (log_of setup past) (life setup c past)
 logged setup c [] = tt

@@ -1,20 +1,26 @@
 -- What ties an outstation's part of the state to its history, and how each step keeps it.
 use Rattle.std.proofs.Common.{◌≡◌, ℕ, ◌+◌, ◌%◌, ◌<◌, Bool, true, false, not, cond, eqb, List, ◌∷◌, Option, Some, None, Ok, refl, sym, ap, subst, ◌∙◌, arith, inl, inr}
-use Rattle.std.specs.Prelude.{◌++◌, slice_get, slice_index, option_map}
+use Rattle.std.specs.Prelude.{slice_index, option_map}
 use Rattle.std.proofs.lemmas.Bool.{cases_Bool, ne_eqb, eq-eqb, true≢false}
 use Rattle.std.proofs.lemmas.Slice.Eq.{bytes_eq-Decides}
+use Rattle.gw_model.specs.declared.control.Ended.{Ended}
+use Rattle.gw_model.specs.declared.control.Order.{Order}
 use Rattle.gw_model.specs.declared.poll.Poll.{Poll}
 use Rattle.gw_map.specs.Settings.{Setup}
+use Rattle.dnp_app.specs.declared.operation.Operation.TheVariants.{Select, Operate, DirectOperate}
 use Rattle.dnp_app.specs.declared.request.Request.{Request}
+use Rattle.dnp_app.specs.Control.{confirm_of}
 use Rattle.dnp_app.specs.Response.{Fragment, is_unsolicited}
-use Rattle.dnp_master.specs.declared.due.Due.{Due}
 use Rattle.dnp_master.specs.declared.exchange.Awaited.{Awaited}
 use Rattle.dnp_master.specs.declared.exchange.Exchange.{Exchange}
 use Rattle.dnp_master.specs.declared.exchange.Exchange.TheVariants.{Idle, Waiting, Selected}
 use Rattle.dnp_master.specs.declared.task.Task.{Task}
 use Rattle.dnp_master.specs.declared.task.Task.TheVariants.{ClearRestart, WriteTime, RecordTime, Disable, Integrity, Enable, EventPoll, Command}
-use Rattle.dnp_master.specs.Master.{Master, master_down, master_after_up, master_after_next, master_after_tick, master_with_exchange_after, first_task, if_due, order_of, task_given, task_octets, task_request, tasks_due, time_due, request_given, is_event_poll_due, is_integrity_due, is_late, following}
-use Rattle.dnp_master.specs.Fragments.{control_in, is_last, is_begun_rightly, verdict_of_answer, verdict_of, is_acceptance, accepts, ended_answered, ended_with, exchange_after, exchange_once_answered, is_done, master_after_answer, master_after_accepted, master_after_fragment}
+use Rattle.dnp_master.specs.declared.verdict.Verdict.{Verdict}
+use Rattle.dnp_master.specs.declared.verdict.Verdict.TheVariants.{Accepted, Repeated, Ignored}
+use Rattle.dnp_master.specs.declared.verdict.Ignored.TheVariants.{WrongFirst, WrongSequence}
+use Rattle.dnp_master.specs.Master.{Master, master_down, master_after_up, master_after_next, master_after_order, master_after_tick, master_asking, master_with_exchange_after, order_task, task_given, task_request, request_given, request_ordered, is_late, following}
+use Rattle.dnp_master.specs.Fragments.{control_in, is_last, is_begun_rightly, verdict_of_answer, verdict_of, is_acceptance, accepts, ended_with, exchange_once_answered, is_done, master_after_answer, master_after_accepted, master_after_fragment}
 use Rattle.gw_steps.specs.declared.step.Step.TheVariants as steps
 use Rattle.gw_steps.specs.declared.step.Reply.{Reply}
 use Rattle.gw_steps.specs.declared.step.Reply.TheVariants as replies
@@ -23,7 +29,7 @@ use Rattle.gw_steps.specs.Steps.{reply_asking}
 use Rattle.gw_steps.specs.Runs.{Entry}
 use Rattle.gw_steps.proofs.Running.{entry}
 use Rattle.gw_history.specs.Accepted.{moment_after, last_text, Asked, is_in_sequence, is_in_place, is_answer, asked_with, asked_at, poll_at, asked_of, is_accepted}
-use Rattle.gw_history.specs.Confirmations.{verdict_due_to_answer, verdict_due}
+use Rattle.gw_history.specs.Confirmations.{verdict_due_to_answer, verdict_due, without_order}
 
 -- ---- the tie
 
@@ -32,15 +38,15 @@ pub record AwaitsAlike (w : Awaited) (a : Asked) : Type 0 where
   pub expected : w.expected ≡ (a.sequence + a.fragments) % 16
   pub begun : w.begun ≡ not (eqb a.fragments 0)
   pub since : w.since ≡ a.since
-  -- no order is given yet
-  pub plain : order_of w.task ≡ None
 
 abbrev pub AwaitsAs : Exchange → Option Asked → Type 0
 AwaitsAs Idle None = Unit {0}
 AwaitsAs Idle (Some a) = ⊥
 AwaitsAs (Waiting w) None = ⊥
 AwaitsAs (Waiting w) (Some a) = AwaitsAlike w a
-AwaitsAs (Selected order) asked = ⊥
+-- nothing awaits once SELECT succeeded
+AwaitsAs (Selected order) None = Unit {0}
+AwaitsAs (Selected order) (Some a) = ⊥
 
 pub record MasterIs (setup : Setup) (o : ℕ) (past : List Entry) (m : Master) : Type 0 where
   pub poll : poll_at setup o ≡ Some m.poll
@@ -114,46 +120,6 @@ first_octet Enable n = refl
 first_octet EventPoll n = refl
 first_octet (Command operation order) n = refl
 
--- the first of tasks, if there is one, is no part of an order
-abbrev IsPlain : List Task → Type 0
-IsPlain tasks = (task : Task) → slice_get tasks 0 ≡ Some task → order_of task ≡ None
-
-abbrev task_in : Task → Option Task → Task
-task_in other None = other
-task_in other (Some task) = task
-
-plain_before : (due : Bool) (first : Task) (tasks : List Task) → order_of first ≡ None → IsPlain tasks
-    → IsPlain (if_due due first ++ tasks)
-plain_before true first tasks plain rest task e = subst (λ (x : Task). order_of x ≡ None) (ap (task_in task) e) plain
-plain_before false first tasks plain rest task e = rest task e
-
-plain_time : (time : Option ℕ) (tasks : List Task) → IsPlain tasks → IsPlain (time_due time ++ tasks)
-plain_time None tasks rest task e = rest task e
-plain_time (Some time) tasks rest task e = subst (λ (x : Task). order_of x ≡ None) (ap (task_in task) e) refl
-
-plain_last : (due : Bool) → IsPlain (if_due due EventPoll)
-plain_last true task e = subst (λ (x : Task). order_of x ≡ None) (ap (task_in task) e) refl
-plain_last false task e = absurd cc
-
-plain_due : (moment wall : ℕ) (poll : Poll) (due : Due) → IsPlain (tasks_due moment wall poll due)
-plain_due moment wall poll due =
-    plain_before due.clear_restart ClearRestart _ refl
-    (plain_time due.write_time _
-    (plain_before due.record_time (RecordTime wall) _ refl
-    (plain_before due.disable Disable _ refl
-    (plain_before (is_integrity_due moment poll due) Integrity _ refl
-    (plain_before due.enable Enable _ refl
-    (plain_last (is_event_poll_due moment poll due)))))))
-
--- so is the one that is given
-plain_given : (up : Bool) (exchange : Exchange) (asked : Option Asked) (tasks : List Task) (task : Task)
-    → IsPlain tasks → AwaitsAs exchange asked → cond up (first_task exchange tasks) None ≡ Some task
-    → order_of task ≡ None
-plain_given true Idle asked tasks task plain alike e = plain task e
-plain_given true (Waiting w) asked tasks task plain alike e = absurd cc
-plain_given true (Selected order) asked tasks task plain alike e = absurd alike
-plain_given false exchange asked tasks task plain alike e = absurd cc
-
 abbrev asked_by : Request → ℕ → Asked
 asked_by r moment = record { sequence = slice_index r.octets 0 % 16; fragments = 0; since = moment }
 
@@ -161,6 +127,27 @@ poll_asks : (setup : Setup) (o m wall : ℕ) (r : Request) (past : List Entry)
     → asked_of setup o (entry (steps.Poll o m wall) (Ok (replies.Request r)) ∷ past)
     ≡ Some (asked_by r (later (moment_after past) m))
 poll_asks setup o m wall r past = rw (eq-eqb o o refl) refl
+
+-- the request of a task is given
+master_asked : (setup : Setup) (o m wall moment : ℕ) (past : List Entry) (x : Master) (task : Task)
+    → moment ≡ later (moment_after past) m → MasterIs setup o past x
+    → MasterIs setup o (entry (steps.Poll o m wall) (Ok (replies.Request (task_request task x.sequence))) ∷ past)
+    (master_asking moment task x)
+master_asked setup o m wall moment past x task at tied =
+    let r : Request = task_request task x.sequence in
+    let first : slice_index r.octets 0 ≡ 192 + x.sequence = first_octet task x.sequence in
+    let expected : x.sequence ≡ (slice_index r.octets 0 % 16 + 0) % 16 = omega (arith, first, tied.number) in
+    let alike : AwaitsAlike (record { task = task; expected = x.sequence; begun = false; since = moment })
+    (asked_by r (later (moment_after past) m)) =
+    record { expected = expected; begun = refl; since = at } in
+    record {
+      poll = tied.poll;
+      last = tied.last;
+      number = omega arith;
+      awaits = subst (λ (y : Option Asked). AwaitsAs (Waiting
+          (record { task = task; expected = x.sequence; begun = false; since = moment })) y)
+          (sym (poll_asks setup o m wall r past)) alike;
+    }
 
 pub master_polled : (setup : Setup) (o m wall moment : ℕ) (past : List Entry) (x : Master) (task : Option Task)
     → task_given moment wall x ≡ task
@@ -170,26 +157,15 @@ pub master_polled : (setup : Setup) (o m wall moment : ℕ) (past : List Entry) 
 master_polled setup o m wall moment past x None given at tied =
     rw given (same_is setup o past (entry (steps.Poll o m wall) (Ok replies.Nothing)) x refl refl tied)
 master_polled setup o m wall moment past x (Some task) given at tied =
-    let r : Request = task_request task x.sequence in
-    let first : slice_index r.octets 0 ≡ 192 + x.sequence = first_octet task x.sequence in
-    let expected : x.sequence ≡ (slice_index r.octets 0 % 16 + 0) % 16 = omega (arith, first, tied.number) in
-    let alike : AwaitsAlike (record { task = task; expected = x.sequence; begun = false; since = moment })
-    (asked_by r (later (moment_after past) m)) =
-    record {
-      expected = expected;
-      begun = refl;
-      since = at;
-      plain = plain_given x.up x.exchange (asked_of setup o past) (tasks_due moment wall x.poll x.due) task
-          (plain_due moment wall x.poll x.due) tied.awaits given;
-    } in
-    rw given (record {
-      poll = tied.poll;
-      last = tied.last;
-      number = omega arith;
-      awaits = subst (λ (y : Option Asked). AwaitsAs (Waiting
-          (record { task = task; expected = x.sequence; begun = false; since = moment })) y)
-          (sym (poll_asks setup o m wall r past)) alike;
-    })
+    rw given (master_asked setup o m wall moment past x task at tied)
+
+-- that of an order is given
+pub master_ordered : (setup : Setup) (o m wall moment : ℕ) (past : List Entry) (x : Master) (order : Order)
+    → moment ≡ later (moment_after past) m → MasterIs setup o past x
+    → MasterIs setup o (entry (steps.Poll o m wall) (Ok (replies.Request (request_ordered order x))) ∷ past)
+    (master_after_order moment order x)
+master_ordered setup o m wall moment past x order at tied =
+    master_asked setup o m wall moment past x (order_task order) at tied
 
 -- ---- ticks
 
@@ -218,7 +194,11 @@ master_ticked setup o m moment r past (Some x) at tied = go x.exchange (asked_of
         same_is setup o past e x refl none tied
     go Idle (Some a) ea alike = absurd alike
     go (Waiting w) None ea alike = absurd alike
-    go (Selected order) asked ea alike = absurd alike
+    go (Selected order) None ea alike =
+        let none : asked_of setup o (e ∷ past) ≡ asked_of setup o past =
+        told ∙ (ap (asked_at moment (Some x.poll)) ea ∙ sym ea) in
+        same_is setup o past e x refl none tied
+    go (Selected order) (Some a) ea alike = absurd alike
     go (Waiting w) (Some a) ea alike =
         let there : asked_of setup o (e ∷ past) ≡ cond (is_late moment x.poll a.since) None (Some a) =
         told ∙ ap (asked_at moment (Some x.poll)) ea in
@@ -241,42 +221,41 @@ master_ticked setup o m moment r past (Some x) at tied = go x.exchange (asked_of
 
 -- ---- fragments
 
--- where no order is given none ends
-ended_none : (task : Task) (f : Fragment) → order_of task ≡ None → ended_with task f ≡ None
-ended_none task f plain = go task (control_in f).fin plain
-  where
-    go : (task : Task) (fin : Bool) → order_of task ≡ None → cond fin (ended_answered task (is_done task f)) None ≡ None
-    go ClearRestart true plain = refl
-    go (WriteTime time) true plain = refl
-    go (RecordTime wall) true plain = refl
-    go Disable true plain = refl
-    go Integrity true plain = refl
-    go Enable true plain = refl
-    go EventPoll true plain = refl
-    go (Command operation order) true plain = absurd cc
-    go task false plain = refl
-
--- and no OPERATE is due
-once_idle : (task : Task) (done : Bool) → order_of task ≡ None → exchange_once_answered task done ≡ Idle
-once_idle ClearRestart done plain = refl
-once_idle (WriteTime time) done plain = refl
-once_idle (RecordTime wall) done plain = refl
-once_idle Disable done plain = refl
-once_idle Integrity done plain = refl
-once_idle Enable done plain = refl
-once_idle EventPoll done plain = refl
-once_idle (Command operation order) done plain = absurd cc
+-- what awaits once an answer ended: nothing
+once_answered : (task : Task) (done : Bool) → AwaitsAs (exchange_once_answered task done) None
+once_answered ClearRestart done = tt
+once_answered (WriteTime time) done = tt
+once_answered (RecordTime wall) done = tt
+once_answered Disable done = tt
+once_answered Integrity done = tt
+once_answered Enable done = tt
+once_answered EventPoll done = tt
+once_answered (Command Select order) true = tt
+once_answered (Command Select order) false = tt
+once_answered (Command Operate order) done = tt
+once_answered (Command DirectOperate order) done = tt
 
 pub verdict_to_answer : (exchange : Exchange) (asked : Option Asked) (f : Fragment) → AwaitsAs exchange asked
-    → verdict_of_answer exchange f ≡ verdict_due_to_answer asked f
+    → without_order (verdict_of_answer exchange f) ≡ verdict_due_to_answer asked f
 verdict_to_answer Idle None f alike = refl
 verdict_to_answer Idle (Some a) f alike = absurd alike
 verdict_to_answer (Waiting w) None f alike = absurd alike
 verdict_to_answer (Waiting w) (Some a) f alike =
     let rightly : is_begun_rightly w.begun (control_in f).fir ≡ is_in_place a f =
     ap (λ (b : Bool). is_begun_rightly b (control_in f).fir) alike.begun in
-    rw (alike.expected, rightly, ended_none w.task f alike.plain) refl
-verdict_to_answer (Selected order) asked f alike = absurd alike
+    rw (alike.expected, rightly) (go (is_in_sequence a f) (is_in_place a f))
+  where
+    accepted : Option Ended → Verdict
+    accepted control = Accepted (confirm_of f.octets) (control_in f).fin control
+
+    go : (s p : Bool)
+        → without_order (cond s (cond p (accepted (ended_with w.task f)) (Ignored WrongFirst)) (Ignored WrongSequence))
+        ≡ cond s (cond p (accepted None) (Ignored WrongFirst)) (Ignored WrongSequence)
+    go true true = refl
+    go true false = refl
+    go false p = refl
+verdict_to_answer (Selected order) None f alike = refl
+verdict_to_answer (Selected order) (Some a) f alike = absurd alike
 
 unsolicited_verdict : (past : List Entry) (f : Fragment) (m : Master) → m.last ≡ last_text f.outstation past
     → is_last m.last f.octets ≡ is_last (last_text f.outstation past) f.octets
@@ -284,12 +263,25 @@ unsolicited_verdict past f m same = ap (λ (last : Option (List ℕ)). is_last l
 
 -- a fragment is judged as the history tells
 pub verdict_is : (setup : Setup) (past : List Entry) (f : Fragment) (m : Master) → MasterIs setup f.outstation past m
-    → verdict_of m f ≡ verdict_due setup past f
+    → without_order (verdict_of m f) ≡ verdict_due setup past f
 verdict_is setup past f m tied = go (is_unsolicited f) refl
   where
-    go : (b : Bool) → is_unsolicited f ≡ b → verdict_of m f ≡ verdict_due setup past f
-    go true e = rw (e, unsolicited_verdict past f m tied.last) refl
+    repeated : (again : Bool) → without_order (cond again (Repeated (confirm_of f.octets))
+        (Accepted (confirm_of f.octets) false None))
+        ≡ cond again (Repeated (confirm_of f.octets)) (Accepted (confirm_of f.octets) false None)
+    repeated true = refl
+    repeated false = refl
+
+    go : (b : Bool) → is_unsolicited f ≡ b → without_order (verdict_of m f) ≡ verdict_due setup past f
+    go true e =
+        rw (e, unsolicited_verdict past f m tied.last) (repeated (is_last (last_text f.outstation past) f.octets))
     go false e = rw e (verdict_to_answer m.exchange (asked_of setup f.outstation past) f tied.awaits)
+
+-- whether a verdict accepts doesn't depend on an order
+same_acceptance : (v : Verdict) → is_acceptance (without_order v) ≡ is_acceptance v
+same_acceptance (Accepted confirm end control) = refl
+same_acceptance (Repeated confirm) = refl
+same_acceptance (Ignored why) = refl
 
 answer_accepted : (asked : Option Asked) (f : Fragment)
     → is_acceptance (verdict_due_to_answer asked f) ≡ is_answer asked f
@@ -312,8 +304,9 @@ same_accepted setup past f m tied = go (is_unsolicited f) (is_last (last_text f.
     go true true e el = rw (e, unsolicited_verdict past f m tied.last, el) refl
     go true false e el = rw (e, unsolicited_verdict past f m tied.last, el) refl
     go false last e el =
-        rw e (ap is_acceptance (verdict_to_answer m.exchange (asked_of setup f.outstation past) f tied.awaits)
-        ∙ answer_accepted (asked_of setup f.outstation past) f)
+        rw e (sym (same_acceptance (verdict_of_answer m.exchange f))
+        ∙ (ap is_acceptance (verdict_to_answer m.exchange (asked_of setup f.outstation past) f tied.awaits)
+        ∙ answer_accepted (asked_of setup f.outstation past) f))
 
 is_last-true : (last : Option (List ℕ)) (octets : List ℕ) → is_last last octets ≡ true → last ≡ Some octets
 is_last-true None octets e = absurd cc
@@ -357,7 +350,8 @@ awaits_more : (moment : ℕ) (f : Fragment) (exchange : Exchange) (asked : Optio
 awaits_more moment f Idle None m small answers alike = absurd cc
 awaits_more moment f Idle (Some a) m small answers alike = absurd alike
 awaits_more moment f (Waiting w) None m small answers alike = absurd alike
-awaits_more moment f (Selected order) asked m small answers alike = absurd alike
+awaits_more moment f (Selected order) None m small answers alike = absurd cc
+awaits_more moment f (Selected order) (Some a) m small answers alike = absurd alike
 awaits_more moment f (Waiting w) (Some a) m small answers alike = (go (control_in f).fin, omega arith)
   where
     next : following w.expected ≡ (a.sequence + (a.fragments + 1)) % 16
@@ -370,8 +364,8 @@ awaits_more moment f (Waiting w) (Some a) m small answers alike = (go (control_i
         (cond fin (exchange_once_answered w.task (is_done w.task f))
         (Waiting (record w { expected = following w.expected; begun = true; since = moment })))
         (cond fin None (Some (record a { fragments = a.fragments + 1; since = moment })))
-    go true = subst (λ (x : Exchange). AwaitsAs x None) (sym (once_idle w.task (is_done w.task f) alike.plain)) tt
-    go false = record { expected = next; begun = begun; since = refl; plain = alike.plain }
+    go true = once_answered w.task (is_done w.task f)
+    go false = record { expected = next; begun = begun; since = refl }
 
 after_answer_poll : (moment : ℕ) (f : Fragment) (exchange : Exchange) (m : Master)
     → (master_after_answer moment f exchange m).poll ≡ m.poll

@@ -2,6 +2,7 @@
 use Rattle.std.proofs.Common.{◌≡◌, ℕ, true, false, List, ◌∷◌, ◌++◌, [], Option, Some, None, Ok, refl, sym, ap, subst, ◌∙◌, inl, inr}
 use Rattle.std.specs.Prelude.{slice_get, option_map}
 use Rattle.std.proofs.lemmas.Bool.{cases_Bool, cases_eq, ne_eqb}
+use Rattle.gw_model.specs.declared.control.Order.{Order}
 use Rattle.gw_model.specs.declared.observation.Observation.{Observation}
 use Rattle.gw_map.specs.Settings.{Setup, HasSingleAddresses}
 use Rattle.gw_model.specs.Places.{change}
@@ -12,20 +13,21 @@ use Rattle.gw_picture.proofs.Lists.{change-here, change-there, map-get}
 use Rattle.gw_picture.proofs.Losses.{loss_in_log}
 use Rattle.dnp_app.specs.declared.request.Request.{Request}
 use Rattle.dnp_app.specs.Response.{Fragment}
-use Rattle.dnp_master.specs.Master.{Master, master_down, master_after_up, master_after_next, master_after_tick, task_given, request_given}
+use Rattle.dnp_master.specs.Master.{Master, master_down, master_after_up, master_after_next, master_after_order, master_after_tick, task_given}
 use Rattle.dnp_master.specs.Fragments.{accepts, master_after_fragment}
 use Rattle.gw_steps.specs.declared.step.Step.{Step}
 use Rattle.gw_steps.specs.declared.step.Step.TheVariants as steps
 use Rattle.gw_steps.specs.declared.step.Reply.{Reply}
 use Rattle.gw_steps.specs.declared.step.StepFault.TheVariants.{NoOutstation}
-use Rattle.gw_steps.specs.State.{State}
-use Rattle.gw_steps.specs.Steps.{outcome, needs, can_rise, reply_to, fault_of, outstation_reply, reply_asking, is_accepting, latest, after}
+use Rattle.gw_steps.specs.Controls.{order_due}
+use Rattle.gw_steps.specs.State.{State, later}
+use Rattle.gw_steps.specs.Steps.{outcome, needs, can_be_counted, reply_to, fault_of, outstation_reply, parts_after_poll, reply_asking, request_polled, is_accepting, latest, after}
 use Rattle.gw_steps.specs.Runs.{Entry}
 use Rattle.gw_steps.proofs.Inversion.{answered, who_is_up}
 use Rattle.gw_steps.proofs.Running.{entry}
-use Rattle.gw_history.specs.Accepted.{last_text, asked_of, is_accepted}
+use Rattle.gw_history.specs.Accepted.{moment_after, last_text, asked_of, is_accepted}
 use Rattle.gw_history.specs.Log.{log_of, news_after_log}
-use Rattle.gw_history.proofs.Masters.{MasterIs, MasterTied, same_master, same_accepted, master_up, master_lost, master_polled, master_ticked, master_accepted, master_left, other_last, other_asked}
+use Rattle.gw_history.proofs.Masters.{MasterIs, MasterTied, same_master, same_accepted, master_up, master_lost, master_ordered, master_polled, master_ticked, master_accepted, master_left, other_last, other_asked}
 use Rattle.gw_history.proofs.Pictures.{news_same}
 use Rattle.gw_history.proofs.Tied.{Tied, told_moment, brought, same_log, quiet_tied}
 
@@ -75,34 +77,60 @@ outstation_down setup past o m r s single tied =
 
 -- ---- Poll
 
+-- what becomes of its master
+abbrev master_after_poll : ℕ → ℕ → Option Order → Master → Master
+master_after_poll moment wall None x = master_after_next moment wall x
+master_after_poll moment wall (Some order) x = master_after_order moment order x
+
+polled_outstations : (s : State) (moment o wall : ℕ) (order : Option Order)
+    → (parts_after_poll s moment o wall order).outstations
+    ≡ change o (master_after_poll moment wall order) s.outstations
+polled_outstations s moment o wall None = refl
+polled_outstations s moment o wall (Some order) = refl
+
+polled_picture : (s : State) (moment o wall : ℕ) (order : Option Order)
+    → (parts_after_poll s moment o wall order).picture ≡ s.picture
+polled_picture s moment o wall None = refl
+polled_picture s moment o wall (Some order) = refl
+
 other_polled : (setup : Setup) (past : List Entry) (o p m wall : ℕ) (given : Option Request) → (o ≡ p → ⊥)
     → asked_of setup p (entry (steps.Poll o m wall) (Ok (reply_asking given)) ∷ past) ≡ asked_of setup p past
 other_polled setup past o p m wall None ne = refl
 other_polled setup past o p m wall (Some request) ne = rw (ne_eqb o p ne) refl
+
+-- a poll gives the order that is due, or else a task
+master_given : (setup : Setup) (o m wall moment : ℕ) (past : List Entry) (order : Option Order) (x : Master)
+    → moment ≡ later (moment_after past) m → MasterIs setup o past x
+    → MasterIs setup o (entry (steps.Poll o m wall) (Ok (reply_asking (request_polled order moment wall x))) ∷ past)
+    (master_after_poll moment wall order x)
+master_given setup o m wall moment past None x at is =
+    master_polled setup o m wall moment past x (task_given moment wall x) refl at is
+master_given setup o m wall moment past (Some order) x at is =
+    master_ordered setup o m wall moment past x order at is
 
 pub poll : (setup : Setup) (past : List Entry) (o m wall : ℕ) (r : Reply) (s : State)
     → outcome setup s (steps.Poll o m wall) ≡ Ok r → Tied setup past s
     → Tied setup (entry (steps.Poll o m wall) (Ok r) ∷ past) (after setup s (steps.Poll o m wall))
 poll setup past o m wall r s e tied =
     let step : Step = steps.Poll o m wall in
-    let told = answered (fault_of s step) (can_rise s.counts (needs setup s step).counts) (reply_to setup s step) r e in
+    let told = answered (fault_of s step) (can_be_counted s (needs setup s step)) (reply_to setup s step) r e in
     let up = who_is_up (λ (x : Master). x.up) NoOutstation (slice_get s.outstations o) told.0 in
     let moment : ℕ = latest s m in
-    let given : Option Request = request_given moment wall up.0 in
+    let order : Option Order = order_due s o in
+    let given : Option Request = request_polled order moment wall up.0 in
     let reply : reply_asking given ≡ r = sym (ap (outstation_reply (λ (x : Master). reply_asking
-    (request_given moment wall x))) up.1) ∙ told.2 in
+    (request_polled order moment wall x))) up.1) ∙ told.2 in
     let is : MasterIs setup o past up.0 = subst (MasterTied setup o past) up.1 (tied.outstations o) in
     let here : Entry = entry step (Ok (reply_asking given)) in
-    let own : MasterTied setup o (here ∷ past) (option_map (master_after_next moment wall)
+    let own : MasterTied setup o (here ∷ past) (option_map (master_after_poll moment wall order)
     (slice_get s.outstations o)) =
-    subst (λ (y : Option Master). MasterTied setup o (here ∷ past) (option_map (master_after_next moment wall) y))
-    (sym up.1)
-    (master_polled setup o m wall moment past up.0 (task_given moment wall up.0) refl
-    (told_moment setup past s m tied) is) in
+    subst (λ (y : Option Master). MasterTied setup o (here ∷ past) (option_map (master_after_poll moment wall order) y))
+    (sym up.1) (master_given setup o m wall moment past order up.0 (told_moment setup past s m tied) is) in
     subst (λ (x : Reply). Tied setup (entry step (Ok x) ∷ past) (after setup s step)) reply
-    (quiet_tied setup past step (reply_asking given) s refl refl
-    (changed_outstations setup past here s o (master_after_next moment wall) (λ p ne. refl) (λ
-    p ne. other_polled setup past o p m wall given ne) own tied)
+    (quiet_tied setup past step (reply_asking given) s refl (polled_picture s moment o wall order)
+    (λ p. rw (polled_outstations s moment o wall order)
+    (changed_outstations setup past here s o (master_after_poll moment wall order) (λ p ne. refl) (λ
+    p ne. other_polled setup past o p m wall given ne) own tied p))
     tied)
 
 -- ---- Tick
@@ -171,7 +199,7 @@ pub fragment : (setup : Setup) (past : List Entry) (f : Fragment) (m : ℕ) (r :
     → Tied setup (entry (steps.Fragment f m) (Ok r) ∷ past) (after setup s (steps.Fragment f m))
 fragment setup past f m r s single e tied =
     let step : Step = steps.Fragment f m in
-    let told = answered (fault_of s step) (can_rise s.counts (needs setup s step).counts) (reply_to setup s step) r e in
+    let told = answered (fault_of s step) (can_be_counted s (needs setup s step)) (reply_to setup s step) r e in
     let up = who_is_up (λ (x : Master). x.up) NoOutstation (slice_get s.outstations f.outstation) told.0 in
     let is : MasterIs setup f.outstation past up.0 = subst (MasterTied setup f.outstation past) up.1
     (tied.outstations f.outstation) in

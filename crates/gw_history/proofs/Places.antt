@@ -48,6 +48,7 @@ down_lives setup (suc n) zero c few is = record {
   received = refl;
   limit = refl;
   answers = refl;
+  held = refl;
   queue = refl;
   dropped = refl;
   rest = refl;

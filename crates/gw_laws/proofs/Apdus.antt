@@ -13,7 +13,7 @@ use Rattle.gw_steps.specs.declared.step.Reply.{Reply}
 use Rattle.gw_steps.specs.declared.step.StepFault.{StepFault}
 use Rattle.gw_steps.specs.declared.step.StepFault.TheVariants.{NoClient}
 use Rattle.gw_steps.specs.State.{State}
-use Rattle.gw_steps.specs.Steps.{Allowed, outcome, needs, can_rise, reply_to, fault_of, client_reply, reply_giving, latest}
+use Rattle.gw_steps.specs.Steps.{Allowed, outcome, needs, can_be_counted, reply_to, fault_of, client_reply, reply_giving, latest}
 use Rattle.gw_steps.specs.Runs.{Entry, state_after}
 use Rattle.gw_steps.proofs.Inversion.{answered, who_is_up}
 use Rattle.gw_steps.proofs.Saying.{said-content}
@@ -34,7 +34,7 @@ pump_reads : (setup : Setup) (c m : ℕ) (r : Reply) (s : State) → outcome set
     → ReadsAsOne setup (steps.Pump c m) (Ok r)
 pump_reads setup c m r s e =
     let step : Step = steps.Pump c m in
-    let told = answered (fault_of s step) (can_rise s.counts (needs setup s step).counts) (reply_to setup s step) r e in
+    let told = answered (fault_of s step) (can_be_counted s (needs setup s step)) (reply_to setup s step) r e in
     let up = who_is_up (λ (k : Client). is_up k.stage) NoClient (slice_get s.clients c) told.0 in
     let reply : reply_giving (given setup.station.offset_minutes setup.station.common_address (latest s m) up.0) ≡ r =
     sym (ap (client_reply (λ (k : Client). reply_giving

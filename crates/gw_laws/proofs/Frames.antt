@@ -13,7 +13,7 @@ use Rattle.gw_judge.specs.declared.judging.Judged.TheVariants as judgements
 use Rattle.gw_answers.specs.Answers.{places_for}
 use Rattle.gw_station.specs.declared.event.Why.{Why}
 use Rattle.gw_station.specs.Client.{Client, is_up}
-use Rattle.gw_station.specs.Answers.{is_pending as is_asked}
+use Rattle.gw_station.specs.Answers.{is_pending as is_asked, places_taken}
 use Rattle.gw_station.specs.Frames.{close_of, is_malformed, overfills, judged_asdu, command_in, event_by, event_of}
 use Rattle.gw_steps.specs.declared.step.Step.{Step}
 use Rattle.gw_steps.specs.declared.step.Step.TheVariants as steps
@@ -21,7 +21,7 @@ use Rattle.gw_steps.specs.declared.step.Reply.{Reply}
 use Rattle.gw_steps.specs.declared.step.StepFault.{StepFault}
 use Rattle.gw_steps.specs.declared.step.StepFault.TheVariants.{NoClient}
 use Rattle.gw_steps.specs.State.{State}
-use Rattle.gw_steps.specs.Steps.{Allowed, outcome, needs, can_rise, reply_to, fault_of, client_reply, reply_of_event}
+use Rattle.gw_steps.specs.Steps.{Allowed, outcome, needs, can_be_counted, reply_to, fault_of, client_reply, reply_of_event}
 use Rattle.gw_steps.specs.Runs.{Entry, state_after}
 use Rattle.gw_steps.proofs.Inversion.{answered, who_is_up}
 use Rattle.gw_history.specs.Premises.{IsSoundSetup}
@@ -31,11 +31,12 @@ use Rattle.gw_history.proofs.Places.{SlotLives, Known, Place}
 use Rattle.gw_laws.specs.Interrogations.{is_pending, interrogation}
 use Rattle.gw_laws.specs.Fates.{fates}
 use Rattle.gw_laws.specs.Line.{owed}
-use Rattle.gw_laws.specs.Frames.{IsRight, IsWrong, JudgesBy, Frames}
+use Rattle.gw_laws.specs.Frames.{held, IsRight, IsWrong, JudgesBy, Frames}
 use Rattle.gw_station.proofs.Opens.{open_s, IsOpen, open_i}
 use Rattle.gw_laws.proofs.Numbers.{CountsTied, counts_tied, receive_is_right, right_receive_is}
 use Rattle.gw_laws.proofs.News.{NewsTied, news_tied, stands}
 use Rattle.gw_laws.proofs.Line.{LineTied, pending_told, line_tied}
+use Rattle.gw_laws.proofs.Held.{HeldTied, held_tied}
 
 -- ---- what is taken is right
 
@@ -47,18 +48,20 @@ record Ties (setup : Setup) (ts : List Turn) (k : Client) : Type 0 where
   counts : CountsTied setup ts k
   news : NewsTied setup (session ts) k
   line : LineTied setup (session ts) k
+  held : HeldTied setup (session ts) k
 
 -- the places that the life tells are those of the client
 same_places : (setup : Setup) (s : Option (List Turn)) (k : Client) (j : Judged) → NewsTied setup s k
-    → LineTied setup s k
-    → length (owed setup (turns_in s)) + places_for (is_pending (interrogation setup (turns_in s))) j
-    ≡ length k.answers + places_for (is_asked k.rest) j
-same_places setup None k j news tied = rw (news.answers, news.rest) refl
-same_places setup (Some hs) k j news tied =
-    ap (λ (b : Bool). length (owed setup hs) + places_for b j)
+    → LineTied setup s k → HeldTied setup s k
+    → length (owed setup (turns_in s)) + held setup (turns_in s)
+    + places_for (is_pending (interrogation setup (turns_in s))) j
+    ≡ places_taken k + places_for (is_asked k.rest) j
+same_places setup None k j news tied holds = rw (news.answers, news.rest, holds) refl
+same_places setup (Some hs) k j news tied holds =
+    ap (λ (b : Bool). length (owed setup hs) + held setup hs + places_for b j)
     (pending_told setup.station.common_address (owed setup hs) (interrogation setup hs)
     (length (fates setup.station hs)) k tied)
-    ∙ ap (λ (n : ℕ). n + places_for (is_asked k.rest) j) (ap length (sym tied.answers))
+    ∙ ap (λ (n : ℕ). n + places_for (is_asked k.rest) j) (omega (arith, ap length tied.answers, holds))
 
 taken_right : (setup : Setup) (ts : List Turn) (a : Apdu) (k : Client) → setup.station.k < 32768 → Ties setup ts k
     → close_of setup a k ≡ None → IsRight setup ts a
@@ -66,14 +69,14 @@ taken_right setup ts (I ns nr asdu) k small mine e =
     let j : Judged = judged_asdu setup asdu in
     let told : IsOpen ns nr j k = open_i ns nr j k e in
     let next : ns ≡ k.window.received % 32768 = eqb-true ns (receive_number k.window) told.send in
-    let few : length k.answers + places_for (is_asked k.rest) j ≤ 32 =
-    ltb-false 32 (length k.answers + places_for (is_asked k.rest) j) told.places in
+    let few : places_taken k + places_for (is_asked k.rest) j ≤ 32 =
+    ltb-false 32 (places_taken k + places_for (is_asked k.rest) j) told.places in
     record {
       started = sym (stands setup (session ts) k mine.news) ∙ told.started;
       send = next ∙ ap (λ (n : ℕ). n % 32768) mine.counts.window.received;
       receive = receive_is_right setup ts nr k.window small mine.counts.window told.receive;
       whole = not_malformed j told.whole;
-      places = omega (arith, few, same_places setup (session ts) k j mine.news mine.line);
+      places = omega (arith, few, same_places setup (session ts) k j mine.news mine.line mine.held);
     }
 taken_right setup ts (S nr) k small mine e = receive_is_right setup ts nr k.window small mine.counts.window
     (open_s setup nr k e)
@@ -101,9 +104,9 @@ right_open_i setup ts ns nr asdu k small mine right =
     let receive : is_right_receive nr k.window ≡ true =
     right_receive_is setup ts nr k.window small mine.counts.window right.receive in
     let whole : is_malformed j ≡ false = whole_judged j right.whole in
-    let within : length k.answers + places_for (is_asked k.rest) j ≤ 32 =
-    omega (arith, right.places, same_places setup (session ts) k j mine.news mine.line) in
-    let places : overfills j k ≡ false = le-ltb 32 (length k.answers + places_for (is_asked k.rest) j) within in
+    let within : places_taken k + places_for (is_asked k.rest) j ≤ 32 =
+    omega (arith, right.places, same_places setup (session ts) k j mine.news mine.line mine.held) in
+    let places : overfills j k ≡ false = le-ltb 32 (places_taken k + places_for (is_asked k.rest) j) within in
     rw (stands setup (session ts) k mine.news ∙ right.started, send, receive, whole, places) refl
 
 closed_wrong : (setup : Setup) (ts : List Turn) (a : Apdu) (k : Client) (why : Why) → setup.station.k < 32768
@@ -129,7 +132,7 @@ judges : (setup : Setup) (past : List Entry) (step : Step) (r : Reply) → IsSou
 judges setup past (steps.Frame c a m) r fit e known =
     let step : Step = steps.Frame c a m in
     let s : State = state_after setup past in
-    let told = answered (fault_of s step) (can_rise s.counts (needs setup s step).counts) (reply_to setup s step) r e in
+    let told = answered (fault_of s step) (can_be_counted s (needs setup s step)) (reply_to setup s step) r e in
     let up = who_is_up (λ (k : Client). is_up k.stage) NoClient (slice_get s.clients c) told.0 in
     let reply : reply_of_event (event_of setup a up.0) ≡ r =
     sym (ap (client_reply (λ (k : Client). reply_of_event (event_of setup a k))) up.1) ∙ told.2 in
@@ -139,6 +142,7 @@ judges setup past (steps.Frame c a m) r fit e known =
       counts = counts_tied setup ts up.0 lives;
       news = news_tied setup fit.queue fit.station ts up.0 lives;
       line = line_tied setup fit.queue fit.station ts up.0 lives;
+      held = held_tied setup fit.queue fit.station ts up.0 lives;
     } in
     subst (λ (x : Reply). JudgesBy setup past step (Ok x)) reply
     (judged setup past c m a up.0 (close_of setup a up.0) (command_in setup a) fit.window mine refl)

@@ -1,6 +1,7 @@
 pub mod Offered
 pub mod Settled
 pub mod Parts
+pub mod Told
 pub mod Known
 pub mod Joined
 pub mod Waits
@@ -8,6 +9,7 @@ pub mod Watches
 pub mod Numbers
 pub mod News
 pub mod Line
+pub mod Held
 pub mod Frames
 pub mod Mirror
 pub mod Apdus

@@ -15,12 +15,13 @@ use Rattle.iec_apci.specs.declared.apdu.Signal.TheVariants.{StartAct, StartCon, 
 use Rattle.iec_command.specs.declared.command.Command.{Command}
 use Rattle.iec_command.specs.declared.command.Action.{Action}
 use Rattle.iec_command.specs.declared.command.Action.TheVariants as actions
+use Rattle.gw_control.specs.declared.answer.Outcome.{Outcome}
 use Rattle.gw_judge.specs.declared.judging.Judged.{Judged}
 use Rattle.gw_judge.specs.declared.judging.Judged.TheVariants as judgements
 use Rattle.gw_answers.specs.declared.outgoing.AsduAnswer.{AsduAnswer}
 use Rattle.gw_answers.specs.declared.outgoing.AsduAnswer.TheVariants.{Made}
 use Rattle.gw_answers.specs.declared.outgoing.OwnAsdu.TheVariants as outgoing
-use Rattle.gw_answers.specs.Outgoing.{confirmed, news as told_news}
+use Rattle.gw_answers.specs.Outgoing.{news as told_news}
 use Rattle.gw_answers.specs.declared.outgoing.OwnAsdu.{OwnAsdu}
 use Rattle.gw_answers.specs.Interrogations.{is_accepted_act, answer_to}
 use Rattle.gw_answers.specs.Answers.{answered, answered_action, refused_act, shown_at, command_by}
@@ -29,6 +30,7 @@ use Rattle.gw_answers.specs.Meaning.{Meant, Tells as TellsAsdu, meaning_of, asdu
 use Rattle.gw_answers.proofs.Meant.{answer_means, outgoing_means}
 use Rattle.gw_station.specs.declared.event.Event.{Event}
 use Rattle.gw_station.specs.declared.event.Event.TheVariants as events
+use Rattle.gw_station.specs.declared.event.Said.{Said}
 use Rattle.gw_station.specs.declared.sending.Sending.{Sending}
 use Rattle.gw_station.specs.declared.sending.Sending.TheVariants as sendings
 use Rattle.gw_station.specs.Client.{Client, client_with_news}
@@ -36,16 +38,18 @@ use Rattle.gw_station.specs.Answers.{is_pending as is_asked, is_asking, answers_
 use Rattle.gw_station.specs.Frames.{close_of, judged_asdu, client_taking, client_with_signal, command_in, event_taking}
 use Rattle.gw_station.specs.Pump.{line as line_in, client_with_sent}
 use Rattle.gw_station.specs.Sound.{CanSend}
+use Rattle.gw_steps.specs.Controls.{client_told_all}
 use Rattle.gw_steps.specs.Steps.{client_answered}
 use Rattle.gw_steps.specs.Said.{ApduMeaning}
 use Rattle.gw_history.specs.Life.{Brought, Taking, Turn, Idle, Takes, PutsOut, Ends, session_with, session, turns_in}
-use Rattle.gw_history.proofs.Lives.{Becomes, Lives, lives_all}
+use Rattle.gw_history.proofs.Lives.{Becomes, Came, IsOperating, Lives, lives_all}
 use Rattle.gw_laws.specs.Fates.{spontaneous_of, Element, is_queued, items_of, fates, fates_with_put_out}
 use Rattle.gw_laws.specs.Interrogations.{Interrogation, parts_in, is_pending, as_told, answer_told, interrogation_telling, IsAnsweredInOrder, begun, interrogation, AnswersInterrogation}
-use Rattle.gw_laws.specs.Line.{answers_to, since_of, left_of, SaysFirst, owed, line, KeepsLine}
+use Rattle.gw_laws.specs.Line.{answers_to, told_of, told_outcomes, since_of, left_of, SaysFirst, owed, line, KeepsLine}
 use Rattle.gw_laws.proofs.Offered.{IsOffered, offered_is, news_first, part_first}
 use Rattle.gw_laws.proofs.Settled.{queued, take_queued, drop_queued, length-came, length-gone}
 use Rattle.gw_laws.proofs.Parts.{IsRequested, answer_no_news, IsApart, IsOfInterrogation, answer_apart, news_apart, told_nothing, part_told, accepted_is, answer_is, pending_is, said_more, left_more, nothing_asked, no_answer, no_answer_before}
+use Rattle.gw_laws.proofs.Told.{all_joined, answers_told, command_apart, outcomes_apart, same_beside}
 use Rattle.gw_laws.proofs.Numbers.{says}
 use Rattle.gw_laws.proofs.News.{InSession, NewsTied, news_tied}
 
@@ -121,18 +125,18 @@ line_is setup hs k news tied =
 
 -- ---- one turn more
 
--- what waits is the same
+-- what waits is the same, but for answers
 record Waits (k new : Client) : Type 0 where
-  answers : new.answers ≡ k.answers
   rest : new.rest ≡ k.rest
   older : new.older ≡ k.older
   queue : new.queue ≡ k.queue
 
-waits_on : (common : ℕ) (owes : List AsduAnswer) (q : Option Interrogation) (n : ℕ) (k new : Client) → Waits k new
-    → LineIs common owes q n k → LineIs common owes q n new
-waits_on common owes q n k new same tied = record {
-  answers = same.answers ∙ tied.answers;
-  apart = subst (AllByRecursion IsApart) (sym same.answers) tied.apart;
+waits_with : (common : ℕ) (owes more : List AsduAnswer) (q : Option Interrogation) (n : ℕ) (k new : Client)
+    → Waits k new → new.answers ≡ more → AllByRecursion IsApart new.answers → LineIs common owes q n k
+    → LineIs common more q n new
+waits_with common owes more q n k new same answers apart tied = record {
+  answers = answers;
+  apart = apart;
   rest = same.rest ∙ tied.rest;
   asked = subst (AllByRecursion IsOfInterrogation) (sym same.rest) tied.asked;
   said = subst (λ (rest : List OwnAsdu). IfSome q (λ i. i.said ++ map (as_told common) rest ≡ answer_told common i))
@@ -141,11 +145,33 @@ waits_on common owes q n k new same tied = record {
   older = λ is. omega (arith, same.older, tied.older (ap is_asked (sym same.rest) ∙ is), ap length same.queue);
 }
 
+-- and the answers are the same
+waits_on : (common : ℕ) (owes : List AsduAnswer) (q : Option Interrogation) (n : ℕ) (k new : Client) → Waits k new
+    → new.answers ≡ k.answers → LineIs common owes q n k → LineIs common owes q n new
+waits_on common owes q n k new same answers tied =
+    waits_with common owes owes q n k new same (answers ∙ tied.answers)
+    (subst (AllByRecursion IsApart) (sym answers) tied.apart) tied
+
+-- what becomes of orders joins the answers
+outcomes_wait : (common : ℕ) (owes : List AsduAnswer) (q : Option Interrogation) (n : ℕ) (k : Client)
+    (xs : List Outcome) → AllByRecursion IsOperating xs → LineIs common owes q n k
+    → LineIs common (owes ++ told_outcomes xs) q n (client_told_all xs k)
+outcomes_wait common owes q n k xs operating tied =
+    let same = same_beside xs k in
+    let answers : (client_told_all xs k).answers ≡ k.answers ++ told_outcomes xs = answers_told xs k in
+    waits_with common owes (owes ++ told_outcomes xs) q n k (client_told_all xs k)
+    (record { rest = same.rest; older = same.older; queue = same.queue })
+    (answers ∙ ap (λ (waiting : List AsduAnswer). waiting ++ told_outcomes xs) tied.answers)
+    (subst (AllByRecursion IsApart) (sym answers)
+    (all_joined k.answers (told_outcomes xs) tied.apart (outcomes_apart xs operating)))
+    tied
+
 -- news come
-came : (setup : Setup) (brought : Brought) (s : Option (List Turn)) (k : Client) → NewsTied setup s k
-    → LineTied setup s k → LineTied setup (session_with (Idle brought) s) (client_with_news brought.news k)
-came setup brought None k news tied = tt
-came setup brought (Some hs) k news tied =
+news_wait : (setup : Setup) (brought : Brought) (hs : List Turn) (k : Client) → InSession setup hs k
+    → LineTied setup (Some hs) k
+    → LineIs setup.station.common_address (owed setup hs) (interrogation setup hs)
+    (length (fates setup.station (Idle brought ∷ hs))) (client_with_news brought.news k)
+news_wait setup brought hs k news tied =
     let xs : List Observation = brought.news in
     let all = length-came setup.station.queue (fates setup.station hs) xs in
     let n : ℕ = length (k.queue ++ xs) - k.limit in
@@ -162,6 +188,16 @@ came setup brought (Some hs) k news tied =
       older = λ is. rw news.started (omega (arith, tied.older is, all, kept, both, within));
     }
 
+-- and outcomes
+came : (setup : Setup) (brought : Brought) (s : Option (List Turn)) (k new : Client) → Came brought k new
+    → NewsTied setup s k → LineTied setup s k → LineTied setup (session_with (Idle brought) s) new
+came setup brought None k new is news tied = tt
+came setup brought (Some hs) k new is news tied =
+    subst (LineTied setup (Some (Idle brought ∷ hs))) (sym is.becomes)
+    (outcomes_wait setup.station.common_address (owed setup hs) (interrogation setup hs)
+    (length (fates setup.station (Idle brought ∷ hs))) (client_with_news brought.news k) brought.outcomes is.operating
+    (news_wait setup brought hs k news tied))
+
 -- a control function
 signal_taken : (setup : Setup) (taking : Taking) (moment : ℕ) (signal : Signal) (s : Option (List Turn)) (k : Client)
     → NewsTied setup s k → LineTied setup s k → LineTied setup (session_with (Takes (U signal) taking) s)
@@ -177,12 +213,8 @@ signal_taken setup taking moment StartAct None k news tied = record {
 }
 signal_taken setup taking moment StartAct (Some hs) k news tied =
     waits_on _ _ _ _ k (client_with_signal moment StartAct k)
-    (record {
-      answers = rw news.started refl;
-      rest = rw news.started refl;
-      older = rw news.started refl;
-      queue = rw news.started refl;
-    }) tied
+    (record { rest = rw news.started refl; older = rw news.started refl; queue = rw news.started refl })
+    (rw news.started refl) tied
 signal_taken setup taking moment StopAct s k news tied = tt
 signal_taken setup taking moment TestAct None k news tied = tt
 signal_taken setup taking moment TestCon None k news tied = tt
@@ -190,16 +222,16 @@ signal_taken setup taking moment StartCon None k news tied = tt
 signal_taken setup taking moment StopCon None k news tied = tt
 signal_taken setup taking moment TestAct (Some hs) k news tied =
     waits_on _ _ _ _ k (client_with_signal moment TestAct k)
-    (record { answers = refl; rest = refl; older = refl; queue = refl }) tied
+    (record { rest = refl; older = refl; queue = refl }) refl tied
 signal_taken setup taking moment TestCon (Some hs) k news tied =
     waits_on _ _ _ _ k (client_with_signal moment TestCon k)
-    (record { answers = refl; rest = refl; older = refl; queue = refl }) tied
+    (record { rest = refl; older = refl; queue = refl }) refl tied
 signal_taken setup taking moment StartCon (Some hs) k news tied =
     waits_on _ _ _ _ k (client_with_signal moment StartCon k)
-    (record { answers = refl; rest = refl; older = refl; queue = refl }) tied
+    (record { rest = refl; older = refl; queue = refl }) refl tied
 signal_taken setup taking moment StopCon (Some hs) k news tied =
     waits_on _ _ _ _ k (client_with_signal moment StopCon k)
-    (record { answers = refl; rest = refl; older = refl; queue = refl }) tied
+    (record { rest = refl; older = refl; queue = refl }) refl tied
 
 -- ---- an ASDU is taken
 
@@ -207,11 +239,6 @@ signal_taken setup taking moment StopCon (Some hs) k news tied =
 and_false : (b : Bool) → b && false ≡ false
 and_false true = refl
 and_false false = refl
-
-all_joined : (xs ys : List AsduAnswer) → AllByRecursion IsApart xs → AllByRecursion IsApart ys
-    → AllByRecursion IsApart (xs ++ ys)
-all_joined [] ys ax ay = ay
-all_joined (x ∷ xs) ys ax ay = (ax.0, all_joined xs ys ax.1 ay)
 
 refused_apart : (pending : Bool) (command : Command)
     → AllByRecursion IsApart (option_to_list (refused_act pending command))
@@ -240,28 +267,22 @@ at_once_apart setup picture pending asdu (judgements.Refuse cause execute) = (tt
 at_once_apart setup picture pending asdu (judgements.Accepted command) =
     action_apart setup picture pending command command.action
 
-command_apart : (command : Option Command)
-    → AllByRecursion IsApart (map (λ x. Made (confirmed true x)) (option_to_list command))
-command_apart None = tt
-command_apart (Some command) = (and_false _, tt)
+-- something is said of a command for a control
+joined : (said : Command → Said) (answer : Option AsduAnswer) (command : Option Command) (k : Client)
+    (xs : List AsduAnswer) → k.answers ≡ answers_with answer xs
+    → (client_answered said (event_taking command) k).answers ≡ xs ++ (option_to_list answer ++ told_of said command)
+joined said None None k xs e = e ∙ sym (append-nil xs)
+joined said (Some answer) None k xs e = e
+joined said None (Some command) k xs e = ap (λ (l : List AsduAnswer). l ++ told_of said (Some command)) e
+joined said (Some answer) (Some command) k xs e = ap (λ (l : List AsduAnswer). l ++ told_of said (Some command)) e
+    ∙ append_assoc xs (answer ∷ []) (told_of said (Some command))
 
--- a command for a control is answered
-joined : (answer : Option AsduAnswer) (command : Option Command) (k : Client) (xs : List AsduAnswer)
-    → k.answers ≡ answers_with answer xs
-    → (client_answered (event_taking command) k).answers
-    ≡ xs ++ (option_to_list answer ++ map (λ x. Made (confirmed true x)) (option_to_list command))
-joined None None k xs e = e ∙ sym (append-nil xs)
-joined (Some answer) None k xs e = e
-joined None (Some command) k xs e = ap (λ (l : List AsduAnswer). l ++ Made (confirmed true command) ∷ []) e
-joined (Some answer) (Some command) k xs e = ap (λ (l : List AsduAnswer). l ++ Made (confirmed true command) ∷ []) e
-    ∙ append_assoc xs (answer ∷ []) (Made (confirmed true command) ∷ [])
-
-answered_waits : (event : Event) (k : Client)
-    → ((client_answered event k).rest ≡ k.rest) × ((client_answered event k).older ≡ k.older)
-    × ((client_answered event k).queue ≡ k.queue)
-answered_waits events.Taken k = (refl, refl, refl)
-answered_waits (events.Command command) k = (refl, refl, refl)
-answered_waits (events.Closed why) k = (refl, refl, refl)
+answered_waits : (said : Command → Said) (event : Event) (k : Client)
+    → ((client_answered said event k).rest ≡ k.rest) × ((client_answered said event k).older ≡ k.older)
+    × ((client_answered said event k).queue ≡ k.queue)
+answered_waits said events.Taken k = (refl, refl, refl)
+answered_waits said (events.Command command) k = (refl, refl, refl)
+answered_waits said (events.Closed why) k = (refl, refl, refl)
 
 -- the rest of an answer, and the mark of the queue, where this is the interrogation
 record Asks (common : ℕ) (q : Option Interrogation) (n : ℕ) (queue : List Observation) (rest : List OwnAsdu)
@@ -304,7 +325,7 @@ asks common picture owes q n k (judgements.Accepted command) few tied =
 asdu_taken : (setup : Setup) (taking : Taking) (moment ns nr : ℕ) (asdu : AsduOctets) (hs : List Turn) (k : Client)
     → InSession setup hs k → LineTied setup (Some hs) k
     → LineTied setup (Some (Takes (I ns nr asdu) taking ∷ hs))
-    (client_answered (event_taking (command_in setup (I ns nr asdu)))
+    (client_answered taking.said (event_taking (command_in setup (I ns nr asdu)))
     (client_taking setup taking.picture moment (I ns nr asdu) k))
 asdu_taken setup taking moment ns nr asdu hs k news tied =
     let picture : List Observation = taking.picture in
@@ -317,20 +338,20 @@ asdu_taken setup taking moment ns nr asdu hs k news tied =
     let few : length k.queue ≤ n = omega (arith, settled_is setup hs k news) in
     let is : Asks common (begun n picture j q) n k.queue between.rest between.older =
     asks common picture (owed setup hs) q n k j few tied in
-    let waits = answered_waits event between in
-    let answers : (client_answered event between).answers ≡ k.answers
-    ++ answers_to setup picture (is_asked k.rest) asdu j =
-    joined (answered setup picture (is_asked k.rest) asdu j) (command_by j) between k.answers refl in
+    let waits = answered_waits taking.said event between in
+    let answers : (client_answered taking.said event between).answers ≡ k.answers
+    ++ answers_to setup taking (is_asked k.rest) asdu j =
+    joined taking.said (answered setup picture (is_asked k.rest) asdu j) (command_by j) between k.answers refl in
     record {
-      answers = answers ∙ (ap (λ (xs : List AsduAnswer). xs ++ answers_to setup picture (is_asked k.rest) asdu j)
+      answers = answers ∙ (ap (λ (xs : List AsduAnswer). xs ++ answers_to setup taking (is_asked k.rest) asdu j)
           tied.answers
-          ∙ ap (λ (b : Bool). owed setup hs ++ answers_to setup picture b asdu j)
+          ∙ ap (λ (b : Bool). owed setup hs ++ answers_to setup taking b asdu j)
           (sym (pending_told common (owed setup hs) q n k tied)));
       apart = subst (AllByRecursion IsApart) (sym answers)
-          (all_joined k.answers (answers_to setup picture (is_asked k.rest) asdu j) tied.apart
+          (all_joined k.answers (answers_to setup taking (is_asked k.rest) asdu j) tied.apart
           (all_joined (option_to_list (answered setup picture (is_asked k.rest) asdu j))
-          (map (λ x. Made (confirmed true x)) (option_to_list (command_by j)))
-          (at_once_apart setup picture (is_asked k.rest) asdu j) (command_apart (command_by j))));
+          (told_of taking.said (command_by j)) (at_once_apart setup picture (is_asked k.rest) asdu j)
+          (command_apart taking.said j)));
       rest = waits.0 ∙ is.is;
       asked = subst (AllByRecursion IsOfInterrogation) (sym waits.0) is.asked;
       said = subst (λ (rest : List OwnAsdu). IfSome (begun n picture j q)
@@ -342,14 +363,14 @@ asdu_taken setup taking moment ns nr asdu hs k news tied =
 took : (setup : Setup) (a : Apdu) (taking : Taking) (moment : ℕ) (s : Option (List Turn)) (k : Client)
     → close_of setup a k ≡ None → NewsTied setup s k → LineTied setup s k
     → LineTied setup (session_with (Takes a taking) s)
-    (client_answered (event_taking (command_in setup a)) (client_taking setup taking.picture moment a k))
+    (client_answered taking.said (event_taking (command_in setup a)) (client_taking setup taking.picture moment a k))
 took setup (I ns nr asdu) taking moment None k opens news tied = tt
 took setup (I ns nr asdu) taking moment (Some hs) k opens news tied =
     asdu_taken setup taking moment ns nr asdu hs k news tied
 took setup (S nr) taking moment None k opens news tied = tt
 took setup (S nr) taking moment (Some hs) k opens news tied =
     waits_on _ _ _ _ k (client_taking setup taking.picture moment (S nr) k)
-    (record { answers = refl; rest = refl; older = refl; queue = refl }) tied
+    (record { rest = refl; older = refl; queue = refl }) refl tied
 took setup (U signal) taking moment s k opens news tied = signal_taken setup taking moment signal s k news tied
 
 -- ---- something is put out
@@ -429,13 +450,13 @@ gave : (setup : Setup) (moment : ℕ) (x : Sending) (s : Option (List Turn)) (k 
 gave setup moment x None k small is can news tied = tt
 gave setup moment (sendings.Confirm signal) (Some hs) k small is can news tied =
     waits_on _ _ _ _ k (client_with_sent moment (sendings.Confirm signal) k)
-    (record { answers = refl; rest = refl; older = refl; queue = refl }) tied
+    (record { rest = refl; older = refl; queue = refl }) refl tied
 gave setup moment sendings.Test (Some hs) k small is can news tied =
     waits_on _ _ _ _ k (client_with_sent moment sendings.Test k)
-    (record { answers = refl; rest = refl; older = refl; queue = refl }) tied
+    (record { rest = refl; older = refl; queue = refl }) refl tied
 gave setup moment sendings.SFormat (Some hs) k small is can news tied =
     waits_on _ _ _ _ k (client_with_sent moment sendings.SFormat k)
-    (record { answers = refl; rest = refl; older = refl; queue = refl }) tied
+    (record { rest = refl; older = refl; queue = refl }) refl tied
 gave setup moment (sendings.Answer answer) (Some hs) k small is can news tied =
     let offset : ℤ = setup.station.offset_minutes in
     let common : ℕ = setup.station.common_address in
@@ -515,8 +536,7 @@ line_more : (setup : Setup) → 0 < setup.station.queue → setup.station.common
     → (t : Turn) (ts : List Turn) (k new : Client) → Lives setup ts k → Becomes setup t k new
     → LineTied setup (session ts) k → LineTied setup (session (t ∷ ts)) new
 line_more setup some small (Idle brought) ts k new lives is tied =
-    subst (LineTied setup (session (Idle brought ∷ ts))) (sym is)
-    (came setup brought (session ts) k (news_tied setup some small ts k lives) tied)
+    came setup brought (session ts) k new is (news_tied setup some small ts k lives) tied
 line_more setup some small Ends ts k new lives is tied = tt
 line_more setup some small (Takes a taking) ts k new lives is tied =
     subst (LineTied setup (session (Takes a taking ∷ ts))) (sym is.becomes)

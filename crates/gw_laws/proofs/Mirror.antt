@@ -4,6 +4,7 @@ use Rattle.std.specs.Prelude.{◌&&◌, not, slice_get, option_map, IfSome}
 use Rattle.std.specs.List.{AllByRecursion, list_any}
 use Rattle.std.specs.Option.{option_to_list}
 use Rattle.std.proofs.lemmas.Bool.{cases_Bool, true≢false, and_parts}
+use Rattle.std.proofs.lemmas.List.{map-append}
 use Rattle.gw_model.specs.declared.observation.Observation.{Observation}
 use Rattle.gw_entries.specs.declared.row.Row.{Row as AnyRow}
 use Rattle.gw_map.specs.Settings.{Setup, row_at_from}
@@ -22,12 +23,13 @@ use Rattle.gw_judge.specs.declared.judging.Judged.TheVariants.{Malformed, Refuse
 use Rattle.gw_answers.specs.declared.outgoing.AsduAnswer.{AsduAnswer}
 use Rattle.gw_answers.specs.declared.outgoing.AsduAnswer.TheVariants.{Made}
 use Rattle.gw_answers.specs.declared.outgoing.OwnAsdu.TheVariants as outgoing
-use Rattle.gw_answers.specs.Outgoing.{confirmed, news as told_news}
+use Rattle.gw_answers.specs.Outgoing.{news as told_news}
 use Rattle.gw_answers.specs.declared.outgoing.OwnAsdu.{OwnAsdu}
 use Rattle.gw_answers.specs.Interrogations.{is_general, is_accepted_act}
 use Rattle.gw_answers.specs.Answers.{shown_by, refused_act, answered_action, answered, command_by}
 use Rattle.gw_answers.specs.Meaning.{Meant}
 use Rattle.gw_answers.proofs.Meant.{answer_means, outgoing_means}
+use Rattle.gw_station.specs.declared.event.Said.{Said}
 use Rattle.gw_station.specs.declared.sending.Sending.{Sending}
 use Rattle.gw_station.specs.declared.sending.Sending.TheVariants as sendings
 use Rattle.gw_station.specs.Client.{Client}
@@ -47,13 +49,14 @@ use Rattle.gw_history.proofs.Logged.{IsLogged, logged}
 use Rattle.gw_history.proofs.Places.{SlotLives, Place}
 use Rattle.gw_laws.specs.Fates.{spontaneous_of, fates}
 use Rattle.gw_laws.specs.Interrogations.{Interrogation, is_termination, is_pending, begun, interrogation}
-use Rattle.gw_laws.specs.Line.{answers_to, since_of, left_of, MeansSending, owed, line}
+use Rattle.gw_laws.specs.Line.{answers_to, told_of, told_outcomes, since_of, left_of, MeansSending, owed, line}
 use Rattle.gw_laws.specs.Mirror.{observations_of, waiting_in, is_station_interrogation, told, is_station_act, is_act, MirrorsPicture, Mirrors, Mirror}
 use Rattle.gw_laws.proofs.Offered.{IsOffered, offered_is}
 use Rattle.gw_laws.proofs.Known.{IsShown, shown_is, knows_picture}
-use Rattle.gw_laws.proofs.Waits.{IsPlain, returnable}
-use Rattle.gw_laws.proofs.Watches.{View, line_in, IsKept, kept_came, put_out, PutsFirst, kept_put_out, taken, begun as watched, kept_taken, IsNew, unheard_begun, heard_begun}
+use Rattle.gw_laws.proofs.Waits.{IsPlain, returnable, waiting_in-append}
+use Rattle.gw_laws.proofs.Watches.{View, line_in, IsKept, came as news_came, kept_came, put_out, PutsFirst, kept_put_out, taken, begun as watched, kept_taken, IsNew, unheard_begun, heard_begun}
 use Rattle.gw_laws.proofs.Parts.{nothing_asked}
+use Rattle.gw_laws.proofs.Told.{command_none, outcomes_none}
 use Rattle.gw_laws.proofs.Numbers.{says}
 use Rattle.gw_laws.proofs.News.{InSession, NewsTied, news_tied}
 use Rattle.gw_laws.proofs.Line.{LineTied, pending_told, line_is, line_tied}
@@ -88,10 +91,11 @@ one_shown : (rows : List AnyRow) (log : List Observation) (answer : Option AsduA
 one_shown rows log None is = tt
 one_shown rows log (Some answer) is = (is, tt)
 
-none_shown : (rows : List AnyRow) (log : List Observation) (commands : List Command)
-    → AllByRecursion (IsOfPicture rows log) (map (λ command. Made (confirmed true command)) commands)
-none_shown rows log [] = tt
-none_shown rows log (command ∷ commands) = (tt, none_shown rows log commands)
+-- answers that show nothing
+none_shown : (rows : List AnyRow) (log : List Observation) (answers : List AsduAnswer)
+    → waiting_in (map sendings.Answer answers) ≡ []
+    → AllByRecursion (IsShown rows log) (waiting_in (map sendings.Answer answers))
+none_shown rows log answers none = subst (AllByRecursion (IsShown rows log)) (sym none) tt
 
 refused_shown : (rows : List AnyRow) (log : List Observation) (pending : Bool) (c : Command)
     → IfSome (refused_act pending c) (IsOfPicture rows log)
@@ -131,17 +135,27 @@ at_once_shown setup log pending asdu Malformed single = tt
 at_once_shown setup log pending asdu (Refuse cause execute) single = tt
 at_once_shown setup log pending asdu (Accepted c) single = action_shown setup log pending c c.action single
 
-all_shown : (setup : Setup) (log : List Observation) (pending : Bool) (asdu : Asdu) (j : Judged)
+-- how an ASDU is taken while the picture is that of a log
+abbrev taking_at : Setup → List Observation → (Command → Said) → Taking
+taking_at setup log said = record { picture = picture_of setup.rows log; said = said }
+
+all_shown : (setup : Setup) (log : List Observation) (said : Command → Said) (pending : Bool) (asdu : Asdu) (j : Judged)
     → is_single setup.rows ≡ true
     → AllByRecursion (IsShown setup.rows log)
-    (waiting_in (map sendings.Answer (answers_to setup (picture_of setup.rows log) pending asdu j)))
-all_shown setup log pending asdu j single =
-    let picture : List Observation = picture_of setup.rows log in
-    answers_shown setup.rows log (answers_to setup picture pending asdu j)
-    (all-append (IsOfPicture setup.rows log) (option_to_list (answered setup picture pending asdu j))
-    (map (λ command. Made (confirmed true command)) (option_to_list (command_by j)))
-    (one_shown setup.rows log (answered setup picture pending asdu j) (at_once_shown setup log pending asdu j single))
-    (none_shown setup.rows log (option_to_list (command_by j))))
+    (waiting_in (map sendings.Answer (answers_to setup (taking_at setup log said) pending asdu j)))
+all_shown setup log said pending asdu j single =
+    let at_once : List AsduAnswer = option_to_list (answered setup (picture_of setup.rows log) pending asdu j) in
+    let told : List AsduAnswer = told_of said (command_by j) in
+    let joined : waiting_in (map sendings.Answer (at_once ++ told))
+    ≡ waiting_in (map sendings.Answer at_once) ++ waiting_in (map sendings.Answer told) =
+    ap waiting_in (map-append sendings.Answer at_once told)
+    ∙ waiting_in-append (map sendings.Answer at_once) (map sendings.Answer told) in
+    subst (AllByRecursion (IsShown setup.rows log)) (sym joined)
+    (all-append (IsShown setup.rows log) (waiting_in (map sendings.Answer at_once))
+    (waiting_in (map sendings.Answer told))
+    (answers_shown setup.rows log at_once (one_shown setup.rows log
+    (answered setup (picture_of setup.rows log) pending asdu j) (at_once_shown setup log pending asdu j single)))
+    (none_shown setup.rows log told (command_none said (command_by j))))
 
 -- none begins while one is pending
 not_pending : (pending : Bool) (command : Command) → is_accepted_act pending command ≡ true → pending ≡ false
@@ -242,10 +256,10 @@ mirrored setup log new t hs keeps tied (n ∷ newer) older act same is =
 -- ---- turns
 
 -- an ASDU is taken
-asdu_keeps : (setup : Setup) (log : List Observation) (taking : Taking) (ns nr : ℕ) (asdu : Asdu) (hs : List Turn)
-    (k : Client) → is_single setup.rows ≡ true → LineTied setup (Some hs) k
-    → Keeps setup log log (Takes (I ns nr asdu) (record taking { picture = picture_of setup.rows log })) hs
-asdu_keeps setup log taking ns nr asdu hs k single lined =
+asdu_keeps : (setup : Setup) (log : List Observation) (said : Command → Said) (ns nr : ℕ) (asdu : Asdu)
+    (hs : List Turn) (k : Client) → is_single setup.rows ≡ true → LineTied setup (Some hs) k
+    → Keeps setup log log (Takes (I ns nr asdu) (taking_at setup log said)) hs
+asdu_keeps setup log said ns nr asdu hs k single lined =
     record {
       begins = λ act. begins (judged_asdu setup asdu) act;
       goes = λ since newer kept. goes since (told newer) (judged_asdu setup asdu) kept;
@@ -255,7 +269,7 @@ asdu_keeps setup log taking ns nr asdu hs k single lined =
     v = view setup log hs
 
     more : Judged → List AsduAnswer
-    more j = answers_to setup (picture_of setup.rows log) (is_pending v.asked) asdu j
+    more j = answers_to setup (taking_at setup log said) (is_pending v.asked) asdu j
 
     next : Judged → View
     next j = record (taken (more j) v) { asked = begun (length v.elements) (picture_of setup.rows log) j v.asked }
@@ -287,7 +301,7 @@ asdu_keeps setup log taking ns nr asdu hs k single lined =
       where
         joined : (j : Judged) → IsKept setup.rows (taken (more j) v) since before
         joined j = kept_taken setup.rows since before (more j) v
-            (all_shown setup log (is_pending v.asked) asdu j single) kept
+            (all_shown setup log said (is_pending v.asked) asdu j single) kept
 
         by : (j : Judged) → IsKept setup.rows (next j) since before
         by Malformed = joined Malformed
@@ -316,8 +330,8 @@ takes setup log taking (I ns nr asdu) None k single shown lined tied = tt
 takes setup log taking (I ns nr asdu) (Some hs) k single shown lined tied =
     subst (λ (p : List Observation). MirrorTied setup log (Takes (I ns nr asdu) (record taking { picture = p }) ∷ hs))
     (sym shown)
-    (mirrored setup log log (Takes (I ns nr asdu) (record taking { picture = picture_of setup.rows log })) hs
-    (asdu_keeps setup log taking ns nr asdu hs k single lined) tied)
+    (mirrored setup log log (Takes (I ns nr asdu) (taking_at setup log taking.said)) hs
+    (asdu_keeps setup log taking.said ns nr asdu hs k single lined) tied)
 takes setup log taking (S nr) None k single shown lined tied = tt
 takes setup log taking (S nr) (Some hs) k single shown lined tied =
     mirrored setup log log (Takes (S nr) taking) hs (record
@@ -395,7 +409,7 @@ puts setup log moment (sendings.Part part) (Some hs) k small is can news lined n
     (puts_first setup log moment x hs _ k is.first can
     (outgoing_means setup.station.offset_minutes setup.station.common_address part small can) news lined now)) tied
 
--- news come
+-- news and outcomes come
 comes : (setup : Setup) (before : List Observation) (brought : Brought) (s : Option (List Turn)) (k : Client)
     → LineTied setup s k → SessionMirrored setup before s
     → SessionMirrored setup (before ++ brought.news) (session_with (Idle brought) s)
@@ -403,8 +417,13 @@ comes setup before brought None k lined tied = tt
 comes setup before brought (Some hs) k lined tied =
     mirrored setup before (before ++ brought.news) (Idle brought) hs (record {
       begins = λ act. absurd (true≢false (sym act));
-      goes = λ since newer kept. kept_came setup.rows setup.station.queue since (told newer) brought.news
-          (view setup before hs) lined.since kept;
+      goes = λ since newer kept.
+          kept_taken setup.rows since (told newer) (told_outcomes brought.outcomes)
+          (news_came setup.station.queue brought.news (view setup before hs))
+          (none_shown setup.rows (before ++ brought.news) (told_outcomes brought.outcomes)
+          (outcomes_none brought.outcomes))
+          (kept_came setup.rows setup.station.queue since (told newer) brought.news
+          (view setup before hs) lined.since kept);
     }) tied
 
 -- ---- lives

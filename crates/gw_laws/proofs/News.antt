@@ -14,6 +14,7 @@ use Rattle.iec_apci.specs.declared.apdu.Signal.TheVariants.{StartAct, StartCon, 
 use Rattle.iec_command.specs.declared.command.Command.{Command}
 use Rattle.iec_command.specs.declared.command.Action.{Action}
 use Rattle.iec_command.specs.declared.command.Action.TheVariants as actions
+use Rattle.gw_control.specs.declared.answer.Outcome.{Outcome}
 use Rattle.gw_judge.specs.declared.judging.Judged.{Judged}
 use Rattle.gw_judge.specs.declared.judging.Judged.TheVariants as judgements
 use Rattle.gw_answers.specs.declared.outgoing.AsduAnswer.{AsduAnswer}
@@ -27,6 +28,7 @@ use Rattle.gw_answers.specs.Meaning.{Meant, Tells, Commands, Unread, meaning_of,
 use Rattle.gw_answers.proofs.Meant.{answer_means, outgoing_means}
 use Rattle.gw_station.specs.declared.event.Event.{Event}
 use Rattle.gw_station.specs.declared.event.Event.TheVariants as events
+use Rattle.gw_station.specs.declared.event.Said.{Said}
 use Rattle.gw_station.specs.declared.sending.Sending.{Sending}
 use Rattle.gw_station.specs.declared.sending.Sending.TheVariants as sendings
 use Rattle.gw_station.specs.Client.{Client, is_started, client_with_news}
@@ -34,19 +36,21 @@ use Rattle.gw_station.specs.Answers.{rest_with, is_asking}
 use Rattle.gw_station.specs.Frames.{close_of, judged_asdu, client_taking, client_with_signal, command_in, event_taking}
 use Rattle.gw_station.specs.Pump.{client_with_sent}
 use Rattle.gw_station.specs.Sound.{CanSend}
+use Rattle.gw_steps.specs.Controls.{client_told_all}
 use Rattle.gw_steps.specs.Steps.{client_answered}
 use Rattle.gw_steps.specs.Runs.{Entry}
 use Rattle.gw_steps.specs.Said.{ApduMeaning}
 use Rattle.gw_history.specs.Premises.{client_at}
 use Rattle.gw_history.specs.Life.{Brought, Taking, Turn, Idle, Takes, PutsOut, Ends, session_with, session, turns_in, life}
 use Rattle.gw_history.proofs.Places.{Place, SlotLives, of_each}
-use Rattle.gw_history.proofs.Lives.{Becomes, IsFresh, Lives, lives_all}
+use Rattle.gw_history.proofs.Lives.{Becomes, Came, IsFresh, Lives, lives_all}
 use Rattle.gw_laws.specs.Fates.{spontaneous_of, spontaneous_in, Element, is_put_out, is_dropped, items_of, fates, gone, fates_with_news, fates_with_put_out}
 use Rattle.gw_laws.specs.News.{IsOfStation, TellsNews, Speaks, News}
 use Rattle.gw_laws.proofs.Offered.{IsOffered, offered_is, news_first, part_first}
 use Rattle.gw_laws.proofs.Parts.{IsRequested, answer_no_news, part_no_news}
 use Rattle.gw_station.proofs.Opens.{open_i}
 use Rattle.gw_laws.proofs.Settled.{put, AreSettled, before_queue, queue_shrinks, settled_more, kept_in, queued_in, dropped_in, put_out_more, dropped_same, grown}
+use Rattle.gw_laws.proofs.Told.{same_beside}
 use Rattle.gw_laws.proofs.Numbers.{says, counts_tied}
 
 -- ---- the tie
@@ -201,6 +205,24 @@ came setup brought (Some hs) k some limit tied =
       parts = tied.parts;
     }
 
+-- and outcomes
+outcomes_came : (setup : Setup) (brought : Brought) (s : Option (List Turn)) (k new : Client)
+    → 0 < setup.station.queue → k.limit ≡ setup.station.queue → Came brought k new
+    → NewsTied setup s k → NewsTied setup (session_with (Idle brought) s) new
+outcomes_came setup brought None k new some limit is tied =
+    subst NoSession (sym is.becomes) (subst (λ (xs : List Outcome).
+    NoSession (client_told_all xs (client_with_news brought.news k))) (sym (is.stopped tied.stopped))
+    (came setup brought None k some limit tied))
+outcomes_came setup brought (Some hs) k new some limit is tied =
+    let us : List Turn = Idle brought ∷ hs in
+    let between : Client = client_with_news brought.news k in
+    let same = same_beside brought.outcomes between in
+    let before : InSession setup us between = came setup brought (Some hs) k some limit tied in
+    subst (InSession setup us) (sym is.becomes)
+    (still setup us us between (client_told_all brought.outcomes between) refl refl
+    (record { stage = same.stage; limit = same.limit; queue = same.queue; dropped = same.dropped })
+    (subst (AllByRecursion IsRequested) (sym same.rest) before.parts) before)
+
 -- a control function is taken
 signal_taken : (setup : Setup) (taking : Taking) (moment : ℕ) (signal : Signal) (s : Option (List Turn)) (k : Client)
     → NewsTied setup s k → NewsTied setup (session_with (Takes (U signal) taking) s)
@@ -257,22 +279,23 @@ signal_taken setup taking moment StopCon (Some hs) k tied =
     (record { stage = refl; limit = refl; queue = refl; dropped = refl }) tied.parts tied
 
 -- an answer to a command changes nothing of a session's news
-answered_alike : (event : Event) (k : Client)
-    → Alike k (client_answered event k) × ((client_answered event k).rest ≡ k.rest)
-answered_alike events.Taken k = (record { stage = refl; limit = refl; queue = refl; dropped = refl }, refl)
-answered_alike (events.Command command) k = (record { stage = refl; limit = refl; queue = refl; dropped = refl }, refl)
-answered_alike (events.Closed why) k = (record { stage = refl; limit = refl; queue = refl; dropped = refl }, refl)
+answered_alike : (said : Command → Said) (event : Event) (k : Client)
+    → Alike k (client_answered said event k) × ((client_answered said event k).rest ≡ k.rest)
+answered_alike said events.Taken k = (record { stage = refl; limit = refl; queue = refl; dropped = refl }, refl)
+answered_alike said (events.Command command) k =
+    (record { stage = refl; limit = refl; queue = refl; dropped = refl }, refl)
+answered_alike said (events.Closed why) k = (record { stage = refl; limit = refl; queue = refl; dropped = refl }, refl)
 
 took : (setup : Setup) (a : Apdu) (taking : Taking) (moment : ℕ) (s : Option (List Turn)) (k : Client)
     → close_of setup a k ≡ None → NewsTied setup s k
     → NewsTied setup (session_with (Takes a taking) s)
-    (client_answered (event_taking (command_in setup a)) (client_taking setup taking.picture moment a k))
+    (client_answered taking.said (event_taking (command_in setup a)) (client_taking setup taking.picture moment a k))
 took setup (I ns nr asdu) taking moment None k opens tied =
     absurd (true≢false (sym (open_i ns nr (judged_asdu setup asdu) k opens).started ∙ tied.stopped))
 took setup (I ns nr asdu) taking moment (Some hs) k opens tied =
     let j : Judged = judged_asdu setup asdu in
     let between : Client = client_taking setup taking.picture moment (I ns nr asdu) k in
-    let same = answered_alike (event_taking (command_in setup (I ns nr asdu))) between in
+    let same = answered_alike taking.said (event_taking (command_in setup (I ns nr asdu))) between in
     still setup hs (Takes (I ns nr asdu) taking ∷ hs) k _ refl refl
     (record { stage = same.0.stage; limit = same.0.limit; queue = same.0.queue; dropped = same.0.dropped })
     (subst (AllByRecursion IsRequested) (sym same.1) (parts_with taking.picture j (is_asking j k) k tied.parts)) tied
@@ -365,8 +388,7 @@ pub news_more : (setup : Setup) → 0 < setup.station.queue → setup.station.co
     → (t : Turn) (ts : List Turn) (k new : Client) → Lives setup ts k → Becomes setup t k new
     → NewsTied setup (session ts) k → NewsTied setup (session (t ∷ ts)) new
 news_more setup some small (Idle brought) ts k new lives is tied =
-    subst (NewsTied setup (session (Idle brought ∷ ts))) (sym is)
-    (came setup brought (session ts) k some (counts_tied setup ts k lives).limit tied)
+    outcomes_came setup brought (session ts) k new some (counts_tied setup ts k lives).limit is tied
 news_more setup some small Ends ts k new lives is tied =
     subst NoSession (sym is) (record { stopped = refl; queue = refl; dropped = refl; answers = refl; rest = refl })
 news_more setup some small (Takes a taking) ts k new lives is tied =

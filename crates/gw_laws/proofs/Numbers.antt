@@ -7,6 +7,7 @@ use Rattle.iec_apci.specs.declared.apdu.Apdu.{Apdu}
 use Rattle.iec_apci.specs.declared.apdu.Apdu.TheVariants.{I, S, U}
 use Rattle.iec_apci.specs.declared.apdu.Signal.{Signal}
 use Rattle.iec_apci.specs.declared.apdu.Signal.TheVariants.{StartAct, StartCon, StopAct, StopCon, TestAct, TestCon}
+use Rattle.iec_command.specs.declared.command.Command.{Command}
 use Rattle.iec_window.specs.declared.limits.Limits.{Limits}
 use Rattle.iec_window.specs.Counts.{WindowCounts, sent_in_all}
 use Rattle.iec_window.specs.Sequence.{Acknowledges, new_acknowledgements, is_right_send, is_right_receive}
@@ -14,9 +15,10 @@ use Rattle.iec_window.specs.Steps.{counts_after_s, counts_after_i, counts_after_
 use Rattle.iec_window.proofs.Numbers.{number_of-ahead}
 use Rattle.gw_station.specs.declared.event.Event.{Event}
 use Rattle.gw_station.specs.declared.event.Event.TheVariants as events
+use Rattle.gw_station.specs.declared.event.Said.{Said}
 use Rattle.gw_station.specs.declared.sending.Sending.{Sending}
 use Rattle.gw_station.specs.declared.sending.Sending.TheVariants as sendings
-use Rattle.gw_station.specs.Client.{Client, is_started, limits_of}
+use Rattle.gw_station.specs.Client.{Client, client_with_news, is_started, limits_of}
 use Rattle.gw_station.specs.Frames.{close_of, judged_asdu, client_taking, client_with_signal, window_with_signal, command_in, event_taking}
 use Rattle.gw_station.specs.Pump.{has_room, content_of, client_with_sent}
 use Rattle.iec_window.proofs.Right.{right_split, right_names, named_right, right_sent, sent_one_more}
@@ -26,6 +28,7 @@ use Rattle.gw_history.specs.Life.{Taking, Turn, Idle, Takes, PutsOut, Ends}
 use Rattle.gw_history.proofs.Lives.{Becomes, IsFresh, Lives, lives_all}
 use Rattle.gw_laws.specs.Numbers.{NamesCount, SaysNumbers, sent, taken, last_receive_number, KeepsWindow, IsRightReceive, HasNumbers, HasRightNumbers}
 use Rattle.gw_laws.proofs.Offered.{IsOffered, offered_is}
+use Rattle.gw_laws.proofs.Told.{same_beside}
 use Rattle.gw_station.proofs.Opens.{open_s, IsOpen, open_i}
 
 pub record WindowTied (setup : Setup) (ts : List Turn) (w : WindowCounts) : Type 0 where
@@ -120,11 +123,11 @@ counts_same setup ts us k new es et er same limit tied =
       limit = limit ∙ tied.limit;
     }
 
-answered_same : (event : Event) (k : Client)
-    → ((client_answered event k).window ≡ k.window) × ((client_answered event k).limit ≡ k.limit)
-answered_same events.Taken k = (refl, refl)
-answered_same (events.Command command) k = (refl, refl)
-answered_same (events.Closed why) k = (refl, refl)
+answered_same : (said : Command → Said) (event : Event) (k : Client)
+    → ((client_answered said event k).window ≡ k.window) × ((client_answered said event k).limit ≡ k.limit)
+answered_same said events.Taken k = (refl, refl)
+answered_same said (events.Command command) k = (refl, refl)
+answered_same said (events.Closed why) k = (refl, refl)
 
 signal_counts : (moment : ℕ) (signal : Signal) (w : WindowCounts) → SameCounts w (window_with_signal moment signal w)
 signal_counts moment StartAct w = record { limits = refl; acknowledged = refl; waiting = refl; received = refl }
@@ -145,11 +148,11 @@ signal_limit moment TestCon k = refl
 took : (setup : Setup) (ts : List Turn) (a : Apdu) (taking : Taking) (moment : ℕ) (k : Client)
     → close_of setup a k ≡ None → CountsTied setup ts k
     → CountsTied setup (Takes a taking ∷ ts)
-    (client_answered (event_taking (command_in setup a)) (client_taking setup taking.picture moment a k))
+    (client_answered taking.said (event_taking (command_in setup a)) (client_taking setup taking.picture moment a k))
 took setup ts (I ns nr asdu) taking moment k opens tied =
     let told : IsOpen ns nr (judged_asdu setup asdu) k = open_i ns nr (judged_asdu setup asdu) k opens in
     let between : Client = client_taking setup taking.picture moment (I ns nr asdu) k in
-    let same = answered_same (event_taking (command_in setup (I ns nr asdu))) between in
+    let same = answered_same taking.said (event_taking (command_in setup (I ns nr asdu))) between in
     let us : List Turn = Takes (I ns nr asdu) taking ∷ ts in
     record {
       window = subst (WindowTied setup us) (sym same.0)
@@ -220,8 +223,13 @@ fresh setup k is = record {
 counts_more : (setup : Setup) (t : Turn) (ts : List Turn) (k new : Client) → Lives setup ts k → Becomes setup t k new
     → CountsTied setup ts k → CountsTied setup (t ∷ ts) new
 counts_more setup (Idle brought) ts k new lives is tied =
-    subst (CountsTied setup (Idle brought ∷ ts)) (sym is)
-    (counts_same setup ts (Idle brought ∷ ts) k _ refl refl refl (same_counts k.window) refl tied)
+    let same = same_beside brought.outcomes (client_with_news brought.news k) in
+    subst (CountsTied setup (Idle brought ∷ ts)) (sym is.becomes) (record {
+      window = subst (WindowTied setup (Idle brought ∷ ts)) (sym same.window)
+          (window_same setup ts (Idle brought ∷ ts) k.window k.window refl refl refl (same_counts k.window)
+          tied.window);
+      limit = same.limit ∙ tied.limit;
+    })
 counts_more setup Ends ts k new lives is tied = subst (CountsTied setup (Ends ∷ ts)) (sym is)
     (counts_same setup ts (Ends ∷ ts) k _ refl refl refl (same_counts k.window) refl tied)
 counts_more setup (Takes a taking) ts k new lives is tied =

@@ -1,9 +1,8 @@
--- Line: each I format that is put out to a client is the first of what waits for it: the answers to its ASDUs, what
--- became of its orders, the news
--- that came before the interrogation that is pending, the rest of its answer, and later news.
+-- Line: each I format that is put out to a client is the first of what waits for it: the answers to its ASDUs and what
+-- became of its orders, the news that came before the interrogation that is pending, the rest of its answer, and later
+-- news.
 use Rattle.std.specs.Prelude.{◌≡◌, ℕ, ℤ, Bool, List, [], ◌∷◌, ◌++◌, length, map, take, drop, slice_get, Option, Some, None}
 use Rattle.std.specs.Option.{option_to_list}
-use Rattle.gw_model.specs.declared.observation.Observation.{Observation}
 use Rattle.gw_map.specs.Settings.{Setup}
 use Rattle.iec_apci.specs.declared.apdu.Asdu.{Asdu}
 use Rattle.iec_apci.specs.declared.apdu.Apdu.TheVariants.{I}
@@ -29,7 +28,7 @@ use Rattle.gw_history.specs.Life.{Taking, Turn, Idle, Takes, PutsOut, session, t
 use Rattle.gw_laws.specs.Fates.{Element, items_of, is_queued, fates}
 use Rattle.gw_laws.specs.Interrogations.{Interrogation, is_pending, interrogation}
 
--- ---- the answers to ASDUs
+-- ---- the answers to ASDUs, and what becomes of orders
 
 -- what is said of a command for a control, if there is one
 abbrev pub told_of : (Command → Said) → Option Command → List AsduAnswer

@@ -1,5 +1,7 @@
-//! A worked run, told by the definitions.
+//! Worked runs, told by the definitions.
 ghost use Rattle.std.specs.Prelude.{◌≡◌, [], ◌∷◌, map, true, false, Some, None};
+ghost use Rattle.gw_judge.specs.Example.{setup as with_controls};
+ghost use Rattle.gw_answers.specs.declared.outgoing.AsduAnswer.TheVariants.{Made};
 ghost use Rattle.gw_answers.specs.declared.outgoing.OwnAsdu.TheVariants.{Observation as Told};
 ghost use Rattle.gw_answers.specs.Outgoing.{at_station, command_with};
 ghost use Rattle.gw_station.specs.declared.sending.Sending.TheVariants.{News, Part};
@@ -9,9 +11,10 @@ ghost use Rattle.gw_history.specs.Life.{life};
 ghost use Rattle.gw_history.specs.Example.{pumped};
 ghost use Rattle.gw_laws.specs.Numbers.{sent, taken, last_receive_number};
 ghost use Rattle.gw_laws.specs.Interrogations.{interrogation, is_pending};
-ghost use Rattle.gw_laws.specs.Line.{line};
+ghost use Rattle.gw_laws.specs.Frames.{held};
+ghost use Rattle.gw_laws.specs.Line.{line, owed};
 ghost use Rattle.gw_laws.specs.Mirror.{known_of, last_value};
-ghost use Rattle.gw_laws.specs.Example.{analog_at_first, analog_read, command, known_after, said_of, session_after, told_after};
+ghost use Rattle.gw_laws.specs.Example.{analog_at_first, analog_read, command, ended, executed, known_after, ordered, said_of, session_after, told_after};
 
 /// News wait, a client interrogates the station, and other news come.
 #[tactic(auto, unfolding(iec_command::specs::Commands::command_of, iec_apci::specs::Stream::reading, iec_apci::specs::Stream::answer_at_front, iec_apci::specs::Stream::content_of, iec_asdu::specs::Asdu::asdu_meaning, iec_asdu::specs::Asdu::objects_of, iec_asdu::specs::Asdu::objects_apart))]
@@ -36,4 +39,16 @@ pub fn promises_by_example()
     ensures binary { last_value 4101 (known_after 2) ≡ Some (known_of switched_on) }
     ensures analog { map (λ n. last_value 4201 (known_after n)) (2 ∷ 5 ∷ 6 ∷ [])
         ≡ Some (known_of analog_read) ∷ Some (known_of analog_read) ∷ Some (known_of analog_read) ∷ [] }
+{}
+
+/// An execute is an order, which is done or fails.
+#[tactic(auto, unfolding(iec_command::specs::Commands::command_of))]
+pub fn orders_by_example()
+    // It holds two places until then.
+    ensures held { map (held with_controls) (ordered ∷ ended true ∷ ended false ∷ []) ≡ 2 ∷ 0 ∷ 0 ∷ [] }
+    // It is told what became of it, and nothing before.
+    ensures ordered { owed with_controls ordered ≡ [] }
+    ensures done { owed with_controls (ended true)
+        ≡ Made (command_with 7 false executed) ∷ Made (command_with 10 false executed) ∷ [] }
+    ensures failed { owed with_controls (ended false) ≡ Made (command_with 7 true executed) ∷ [] }
 {}

@@ -5,5 +5,5 @@
 mod examples;
 mod laws;
 
-pub use examples::promises_by_example;
+pub use examples::{orders_by_example, promises_by_example};
 pub use laws::runs_keep_promises;
