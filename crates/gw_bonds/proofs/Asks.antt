@@ -71,7 +71,8 @@ marked_apart t o p order mark k ne = record {
   last = refl;
 }
 
-pub given_apart : (t new : Story) (o p : ℕ) (r : Request) → (o ≡ p → ⊥) → Alike t new p → Alike t (story_given o r new) p
+pub given_apart : (t new : Story) (o p : ℕ) (r : Request) → (o ≡ p → ⊥) → Alike t new p
+    → Alike t (story_given o r new) p
 given_apart t new o p r ne alike = record {
   keeps = alike.keeps;
   marks = alike.marks;

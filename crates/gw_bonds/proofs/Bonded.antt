@@ -29,8 +29,11 @@ use Rattle.gw_steps.specs.Sound.{LeavesSound}
 use Rattle.gw_steps.proofs.Running.{entry}
 use Rattle.gw_bonds.specs.Executes.{Execute, execute_answered, execute_by, execute_in, execute_of, executes, numbered}
 use Rattle.gw_bonds.specs.Marks.{Mark, Asked, Answered, given_in, marks}
+use Rattle.gw_bonds.specs.Outcomes.{TellsOnce, told}
 use Rattle.gw_bonds.specs.Bonds.{Bonds, HasShortIndex, IsBonded, IsBound, IsBoundTo, IsControlRun, LastIsBound, MayAsk, NoOperation, OperatesNothing, OperatesOnce, operated, operates, operation_in}
+use Rattle.gw_bonds.proofs.Held.{held}
 use Rattle.gw_bonds.proofs.Story.{Holds, OfOrder, Story, Tied, story}
+use Rattle.gw_bonds.proofs.Told.{ToldTied}
 use Rattle.gw_bonds.proofs.Steps.{StepTied, step_tied}
 
 -- ---- at first
@@ -52,11 +55,23 @@ first_tied setup = record {
   bonded = λ n. refl;
 }
 
+none_held : (n count : ℕ) → held n (replicate count nothing_outgoing) ≡ 0
+none_held n zero = refl
+none_held n (suc count) = omega (arith, none_held n count)
+
+first_told : (setup : Setup) → ToldTied (story setup []) (at_first setup).controls.outgoing []
+first_told setup = record {
+  numbers = [];
+  tell = tt;
+  once = λ n. omega (arith, none_held n (length setup.outstations));
+}
+
 -- ---- each place
 
 pub record Place (setup : Setup) (past : List Entry) : Type 0 where
   pub tied : Tied (story setup past) (state_after setup past).outstations (state_after setup past).controls
   pub bound : LastIsBound setup past
+  pub told : ToldTied (story setup past) (state_after setup past).controls.outgoing (told setup past)
 
 last_place : (P : List Entry → Type 0) (past : List Entry) → AtEach P past → P past
 last_place P [] at = at
@@ -70,12 +85,13 @@ one_more : (setup : Setup) (past : List Entry) (step : Step) (reply : Result Rep
     → Allowed setup (state_after setup past) step reply (state_after setup (entry step reply ∷ past))
     → Place setup past → Place setup (entry step reply ∷ past)
 one_more setup past step (Ok r) short sound allowed before =
-    let k : StepTied setup past step r _ = step_tied setup past step r short sound.controls allowed.0 before.tied in
-    record { tied = k.tied; bound = k.bound }
-one_more setup past step (Err f) short sound allowed before = record { tied = before.tied; bound = tt }
+    let k : StepTied setup past step r _ _ = step_tied setup past step r short sound.controls allowed.0 before.tied in
+    record { tied = k.tied; bound = k.bound; told = k.told (told setup past) before.told }
+one_more setup past step (Err f) short sound allowed before =
+    record { tied = before.tied; bound = tt; told = before.told }
 
 pub places : (setup : Setup) (past : List Entry) → IsControlRun setup past → AtEach (Place setup) past
-places setup [] given = record { tied = first_tied setup; bound = tt }
+places setup [] given = record { tied = first_tied setup; bound = tt; told = first_told setup }
 places setup (e ∷ past) given =
     let so_far = places setup past (earlier setup e past given) in (
       one_more setup past e.step e.reply given.indices (last_place (LeavesSound setup) past given.sound.1) given.run.0
@@ -133,6 +149,19 @@ operated_once setup past given =
     at_each (Place setup) OperatesOnce
     (λ before k n. of_order_once (numbered n (executes setup before)) (marks n before) (k.tied.bonded n)) past
     (places setup past given)
+
+-- ---- outcomes
+
+tells_of : (setup : Setup) (past : List Entry) → Place setup past → TellsOnce setup past
+tells_of setup past k = record {
+  numbers = k.told.numbers;
+  tell = k.told.tell;
+  once = λ n. omega (arith, k.told.once n);
+}
+
+pub told_once : (setup : Setup) (past : List Entry) → IsControlRun setup past → AtEach (TellsOnce setup) past
+told_once setup past given =
+    at_each (Place setup) (TellsOnce setup) (tells_of setup) past (places setup past given)
 
 -- ---- without controls
 

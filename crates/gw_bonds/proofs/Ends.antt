@@ -28,7 +28,8 @@ filter_all : {A : Type 0} (P : A → Type 0) (keep : A → Bool) (xs : List A) �
 filter_all P keep [] all = tt
 filter_all P keep (x ∷ xs) all = by (filter_all P keep xs all.1) (keep x)
   where
-    by : AllByRecursion P (filter keep xs) → (b : Bool) → AllByRecursion P (cond b (x ∷ filter keep xs) (filter keep xs))
+    by : AllByRecursion P (filter keep xs) → (b : Bool)
+        → AllByRecursion P (cond b (x ∷ filter keep xs) (filter keep xs))
     by rest true = (all.0, rest)
     by rest false = rest
 
@@ -161,7 +162,8 @@ late_holds t o moment (Some m) q k = by m.exchange refl
     late w is true =
         idle_holds t o m (record m { exchange = Idle; due = due_unanswered w.task m.due }) q
         (ended_at (option_map (ended false) (order_of w.task)) q) refl k.small
-        (subst (AllByRecursion (Waits t o)) (sym (ended_waiting (option_map (ended false) (order_of w.task)) q)) k.waiting)
+        (subst (AllByRecursion (Waits t o)) (sym (ended_waiting (option_map (ended false) (order_of w.task)) q))
+        k.waiting)
         (order_fails t o (Waiting w) q (subst (λ (ex : Exchange). GoesOn t o ex (under_way_at q)) is k.going))
     late w is false = k
 

@@ -26,7 +26,8 @@ AlikeBut o xs ys = (p : ℕ) → (o ≡ p → ⊥) → slice_get ys p ≡ slice_
 
 pub moved : (t new : Story) (masters more : List Master) (v after : Controls) (o : ℕ)
     → after.ordered ≡ length new.executes → AlikeBut o masters more → AlikeBut o v.outgoing after.outgoing
-    → Moves t new o (slice_get v.outgoing o) (slice_get more o) (slice_get after.outgoing o) → Tied t masters v → Tied new more after
+    → Moves t new o (slice_get v.outgoing o) (slice_get more o) (slice_get after.outgoing o)
+    → Tied t masters v → Tied new more after
 moved t new masters more v after o count same alike k tied = record {
   count = count;
   places = λ p. elim (cases_eq o p) [

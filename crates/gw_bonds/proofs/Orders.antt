@@ -1,9 +1,9 @@
 -- An execute that is accepted is a new order, and nothing was asked for its number.
-use Rattle.std.proofs.Common.{◌≡◌, ℕ, suc, ◌+◌, ◌<◌, Bool, true, false, cond, List, [], ◌∷◌, ◌++◌, length, Option, Some, None, option_map, refl, sym, ap, subst, arith, inl, inr}
+use Rattle.std.proofs.Common.{◌≡◌, ℕ, suc, ◌+◌, ◌≤◌, ◌<◌, Bool, true, false, cond, List, [], ◌∷◌, ◌++◌, length, Option, Some, None, option_map, refl, sym, ap, subst, ◌∙◌, arith, inl, inr}
 use Rattle.std.specs.Prelude.{◌==◌, slice_get}
 use Rattle.std.specs.List.{AllByRecursion}
 use Rattle.std.specs.Option.{option_to_list}
-use Rattle.std.proofs.lemmas.Bool.{cases_eq, eqb-true, eq-eqb}
+use Rattle.std.proofs.lemmas.Bool.{cases_eq, eqb-true, eq-eqb, ne_eqb}
 use Rattle.gw_model.specs.Places.{change}
 use Rattle.gw_model.specs.declared.control.Act.{Act}
 use Rattle.gw_model.specs.declared.control.Intent.{Intent}
@@ -16,10 +16,13 @@ use Rattle.iec_apci.specs.declared.apdu.Apdu.TheVariants.{I, S, U}
 use Rattle.iec_apci.specs.declared.apdu.Signal.TheVariants.{StartAct, StartCon, StopAct, StopCon, TestAct, TestCon}
 use Rattle.iec_command.specs.declared.command.Command.{Command}
 use Rattle.gw_control.specs.declared.accepted.Accepted.{Accepted}
+use Rattle.gw_control.specs.declared.answer.Answer.{Answer}
+use Rattle.gw_control.specs.declared.answer.Outcome.{Outcome}
 use Rattle.gw_control.specs.declared.asked.Asked.{Asked}
 use Rattle.gw_control.specs.declared.selection.Selection.{Selection}
-use Rattle.gw_control.specs.Controls.{Controls, accepted_by, act_accepted, answer_at, answer_to_act, confirmed_if, controls_after_at, controls_ordering, controls_selecting, controls_unselecting, is_deactivation, is_selectable, standing_at, IsAccepted}
+use Rattle.gw_control.specs.Controls.{Controls, controls_after_end, accepted_by, act_accepted, answer_at, answer_to_act, confirmed_if, controls_after_at, controls_ordering, controls_selecting, controls_unselecting, is_deactivation, is_selectable, standing_at, IsAccepted}
 use Rattle.gw_control.specs.Intents.{act_of, control_for, intent_of}
+use Rattle.gw_control.specs.Moves.{one_if}
 use Rattle.gw_control.specs.Orders.{Outgoing, outgoing_with}
 use Rattle.gw_control.specs.Selections.{is_own, is_select}
 use Rattle.gw_control.proofs.Keeps.{accepted}
@@ -31,9 +34,12 @@ use Rattle.gw_steps.specs.State.{State}
 use Rattle.gw_steps.specs.Steps.{command_of, controls_after_frame}
 use Rattle.gw_bonds.specs.Executes.{Execute, execute_answered, execute_by, numbered}
 use Rattle.gw_bonds.specs.Marks.{Mark}
+use Rattle.gw_bonds.specs.Outcomes.{counted}
 use Rattle.gw_bonds.specs.Bonds.{HasShortIndex}
+use Rattle.gw_bonds.proofs.Told.{Goes, ToldTied, all_more, end_fewer, none_counted, none_held, told_fewer}
 use Rattle.gw_bonds.proofs.Ends.{tied_end}
 use Rattle.gw_bonds.proofs.Fits.{act_fits, found_short}
+use Rattle.gw_bonds.proofs.Held.{held, held_changed, held_ordering}
 use Rattle.gw_bonds.proofs.Story.{Alike, Holds, OfOrder, Story, Tied, Waits, holds_kept, numbered_below, numbered_still}
 
 -- ---- the story
@@ -46,6 +52,28 @@ executing_alike t x o = record {
   keeps = λ n y e. numbered_still n t.executes y x e;
   marks = λ n y e there. refl;
   last = refl;
+}
+
+-- ---- what it keeps
+
+-- what leaves orders alone
+still : (t : Story) (masters : List Master) (v after : Controls) → after.outgoing ≡ v.outgoing
+    → after.ordered ≡ v.ordered → Tied t masters v → Goes t t masters v after
+still t masters v after same count tied = record {
+  tied = record {
+    count = count ∙ tied.count;
+    places = λ o. subst (λ (qs : List Outgoing). Holds t o (slice_get masters o) (slice_get qs o)) (sym same)
+        (tied.places o);
+    bonded = tied.bonded;
+  };
+  told = λ xs k. subst (λ (qs : List Outgoing). ToldTied t qs xs) (sym same) k;
+}
+
+session_ends : (t : Story) (masters : List Master) (v : Controls) (c : ℕ) → Tied t masters v
+    → Goes t t masters v (controls_after_end c v)
+session_ends t masters v c tied = record {
+  tied = tied_end t masters v c tied;
+  told = λ xs k. told_fewer t v.outgoing (controls_after_end c v).outgoing xs (λ n. end_fewer n c v) k;
 }
 
 -- ---- the new number
@@ -92,7 +120,8 @@ pushed t o m (Some q) x waits k = record {
   down = k.down;
 }
 
-act_in : (control : Control) (act : Act) (x : Option Act) → option_map (intent_of control) x ≡ Some (intent_of control act)
+act_in : (control : Control) (act : Act) (x : Option Act)
+    → option_map (intent_of control) x ≡ Some (intent_of control act)
     → x ≡ Some act
 act_in control act None e = absurd (let none : ⊥ = cc in none)
 act_in control act (Some y) e =
@@ -125,26 +154,58 @@ waits_new t a control act count o standing v short k is bonded there =
       unmarked = unmarked t (count + 1) (omega (arith, is)) bonded;
     }
 
+one_at_most : (b : Bool) → one_if b ≤ 1
+one_at_most true = omega arith
+one_at_most false = omega arith
+
+-- no outcome of the new number was told
+new_once : (t : Story) (masters : List Master) (v : Controls) (o : ℕ) (one : Accepted) (xs : List Outcome)
+    → one.order.number ≡ v.ordered + 1 → Tied t masters v → (k : ToldTied t v.outgoing xs) → (n : ℕ)
+    → counted n k.numbers + held n (change o (outgoing_with one) v.outgoing) ≤ 1
+new_once t masters v o one xs number tied k n =
+    let more : 0 + held n (change o (outgoing_with one) v.outgoing)
+    ≤ held n v.outgoing + one_if (one.order.number == n) =
+    held_changed n o 0 (one_if (one.order.number == n)) (outgoing_with one) v.outgoing
+    (omega (arith, held_ordering n one (slice_get v.outgoing o))) in
+    elim (cases_eq one.order.number n) [
+      | inl e ↦
+          let above : length t.executes < n = omega (arith, number, tied.count, e) in
+          let none : held n v.outgoing ≡ 0 = none_held t masters v n above tied in
+          let untold : counted n k.numbers ≡ 0 = none_counted t.executes t.marks n k.numbers xs above k.tell in
+          omega (arith, more, none, untold, one_at_most (one.order.number == n))
+      | inr ne ↦
+          let other : one_if (one.order.number == n) ≡ 0 = ap one_if (ne_eqb one.order.number n ne) in
+          omega (arith, more, other, k.once n)
+    ]
+
 ordered : (t : Story) (masters : List Master) (a : Asked) (control : Control) (act : Act) (standing : Option Selection)
     (v : Controls) → HasShortIndex control → IsAccepted a control standing v act → Tied t masters v
-    → Tied (story_executing (Some (execute_for a control)) t) masters (controls_ordering a control (Some act) v)
+    → Goes t (story_executing (Some (execute_for a control)) t) masters v (controls_ordering a control (Some act) v)
 ordered t masters a control act standing v short k tied =
     let x : Execute = execute_for a control in
     let new : Story = story_executing (Some x) t in
     let one : Accepted = accepted_by a control act (v.ordered + 1) in
+    let kept : (o : ℕ) → Holds new o (slice_get masters o) (slice_get v.outgoing o) =
+    λ o. holds_kept t new o (slice_get masters o) (slice_get v.outgoing o) (executing_alike t x o) (tied.places o) in
     record {
-      count = omega (arith, tied.count);
-      places = λ o. elim (cases_eq control.outstation o) [
-        | inl e ↦ subst (λ (p : ℕ). Holds new o (slice_get masters o)
-            (slice_get (change p (outgoing_with one) v.outgoing) o)) (sym e)
-            (rw (change-here o (outgoing_with one) v.outgoing)
-            (pushed new o (slice_get masters o) (slice_get v.outgoing o) one
-            (waits_new t a control act v.ordered o standing v short k tied.count (tied.bonded (v.ordered + 1)) e)
-            (holds_kept t new o (slice_get masters o) (slice_get v.outgoing o) (executing_alike t x o) (tied.places o))))
-        | inr ne ↦ rw (change-there control.outstation o (outgoing_with one) v.outgoing ne)
-            (holds_kept t new o (slice_get masters o) (slice_get v.outgoing o) (executing_alike t x o) (tied.places o))
-      ];
-      bonded = λ n. bonded_more t x n (tied.bonded n);
+      tied = record {
+        count = omega (arith, tied.count);
+        places = λ o. elim (cases_eq control.outstation o) [
+          | inl e ↦ subst (λ (p : ℕ). Holds new o (slice_get masters o)
+              (slice_get (change p (outgoing_with one) v.outgoing) o)) (sym e)
+              (rw (change-here o (outgoing_with one) v.outgoing)
+              (pushed new o (slice_get masters o) (slice_get v.outgoing o) one
+              (waits_new t a control act v.ordered o standing v short k tied.count (tied.bonded (v.ordered + 1)) e)
+              (kept o)))
+          | inr ne ↦ rw (change-there control.outstation o (outgoing_with one) v.outgoing ne) (kept o)
+        ];
+        bonded = λ n. bonded_more t x n (tied.bonded n);
+      };
+      told = λ xs j. record {
+        numbers = j.numbers;
+        tell = all_more t new j.numbers xs (λ n y e. numbered_still n t.executes y x e) (λ n there. refl) j.tell;
+        once = new_once t masters v control.outstation one xs refl tied j;
+      };
     }
 
 -- ---- a command
@@ -156,76 +217,89 @@ no_execute c command found false = refl
 
 -- what is confirmed is no order
 confirmed : (t : Story) (masters : List Master) (c : ℕ) (command : Command) (found : ℕ × Control) (told : Bool)
-    (v : Controls) → Tied t masters v
-    → Tied (story_executing (execute_answered c command (Some found) (confirmed_if told)) t) masters v
-confirmed t masters c command found told v tied =
-    subst (λ (x : Option Execute). Tied (story_executing x t) masters v) (sym (no_execute c command found told)) tied
+    (v after : Controls) → Goes t t masters v after
+    → Goes t (story_executing (execute_answered c command (Some found) (confirmed_if told)) t) masters v after
+confirmed t masters c command found told v after k =
+    subst (λ (x : Option Execute). Goes t (story_executing x t) masters v after)
+    (sym (no_execute c command found told)) k
 
 acted : (t : Story) (masters : List Master) (a : Asked) (found : ℕ × Control) (standing : Option Selection)
     (v : Controls) (act : Option Act) → HasShortIndex found.1 → act_accepted a found.1 standing v ≡ act
     → Tied t masters v
-    → Tied (story_executing (execute_answered a.client a.command (Some found) (answer_to_act v.ordered act)) t) masters
-    (controls_ordering a found.1 act (controls_unselecting a found.0 v))
+    → Goes t (story_executing (execute_answered a.client a.command (Some found) (answer_to_act v.ordered act)) t)
+    masters v (controls_ordering a found.1 act (controls_unselecting a found.0 v))
 acted t masters a found standing v None short e tied =
-    record { count = tied.count; places = tied.places; bonded = tied.bonded }
+    still t masters v (controls_unselecting a found.0 v) refl refl tied
 acted t masters a found standing v (Some act) short e tied =
     let k : IsAccepted a found.1 standing v act = accepted a found.1 standing v act e in
-    ordered t masters a found.1 act standing (controls_unselecting a found.0 v) short
+    let unselected : Controls = controls_unselecting a found.0 v in
+    let new : Goes _ _ masters unselected _ =
+    ordered t masters a found.1 act standing unselected short
     (record { intent = k.intent; up = k.up; free = k.free; selected = k.selected; place = k.place })
-    (record { count = tied.count; places = tied.places; bonded = tied.bonded })
+    (still t masters v unselected refl refl tied).tied in
+    record { tied = new.tied; told = new.told }
 
-pub commanded : (setup : Setup) (t : Story) (masters : List Master) (a : Asked) (found : Option (ℕ × Control))
+-- what is said of a command for this control, and what becomes of it
+abbrev said_for : Asked → ℕ × Control → Option Selection → Controls → Bool → Bool → Answer
+said_for a found standing v deactivation select =
+    cond deactivation (confirmed_if (is_own a standing))
+    (cond select (confirmed_if (is_selectable a found.1 standing))
+    (answer_to_act v.ordered (act_accepted a found.1 standing v)))
+
+abbrev after_for : Asked → ℕ × Control → Option Selection → Controls → Bool → Bool → Controls
+after_for a found standing v deactivation select =
+    cond deactivation (controls_unselecting a found.0 v)
+    (cond select (cond (is_selectable a found.1 standing) (controls_selecting a found.0 v) v)
+    (controls_ordering a found.1 (act_accepted a found.1 standing v) (controls_unselecting a found.0 v)))
+
+selecting : (t : Story) (masters : List Master) (a : Asked) (found : ℕ × Control) (v : Controls) (selectable : Bool)
+    → Tied t masters v → Goes t t masters v (cond selectable (controls_selecting a found.0 v) v)
+selecting t masters a found v true tied = still t masters v (controls_selecting a found.0 v) refl refl tied
+selecting t masters a found v false tied = still t masters v v refl refl tied
+
+by_kind : (t : Story) (masters : List Master) (a : Asked) (found : ℕ × Control) (standing : Option Selection)
+    (v : Controls) → HasShortIndex found.1 → Tied t masters v → (deactivation select : Bool)
+    → Goes t (story_executing (execute_answered a.client a.command (Some found)
+    (said_for a found standing v deactivation select)) t) masters v (after_for a found standing v deactivation select)
+by_kind t masters a found standing v short tied true select =
+    confirmed t masters a.client a.command found (is_own a standing) v (controls_unselecting a found.0 v)
+    (still t masters v (controls_unselecting a found.0 v) refl refl tied)
+by_kind t masters a found standing v short tied false true =
+    confirmed t masters a.client a.command found (is_selectable a found.1 standing) v
+    (cond (is_selectable a found.1 standing) (controls_selecting a found.0 v) v)
+    (selecting t masters a found v (is_selectable a found.1 standing) tied)
+by_kind t masters a found standing v short tied false false =
+    acted t masters a found standing v (act_accepted a found.1 standing v) short refl tied
+
+commanded : (setup : Setup) (t : Story) (masters : List Master) (a : Asked) (found : Option (ℕ × Control))
     (v : Controls) → ((x : ℕ × Control) → found ≡ Some x → HasShortIndex x.1) → Tied t masters v
-    → Tied (story_executing (execute_answered a.client a.command found (answer_at setup a found v)) t) masters
+    → Goes t (story_executing (execute_answered a.client a.command found (answer_at setup a found v)) t) masters v
     (controls_after_at setup a found v)
-commanded setup t masters a None v short tied = tied
+commanded setup t masters a None v short tied = still t masters v v refl refl tied
 commanded setup t masters a (Some found) v short tied =
-    by (is_deactivation a) (is_select a.command.action)
-  where
-    by : (deactivation select : Bool)
-        → Tied (story_executing (execute_answered a.client a.command (Some found)
-        (cond deactivation (confirmed_if (is_own a (standing_at setup a.moment found.0 v)))
-        (cond select (confirmed_if (is_selectable a found.1 (standing_at setup a.moment found.0 v)))
-        (answer_to_act v.ordered (act_accepted a found.1 (standing_at setup a.moment found.0 v) v))))) t) masters
-        (cond deactivation (controls_unselecting a found.0 v)
-        (cond select (cond (is_selectable a found.1 (standing_at setup a.moment found.0 v))
-        (controls_selecting a found.0 v) v)
-        (controls_ordering a found.1 (act_accepted a found.1 (standing_at setup a.moment found.0 v) v)
-        (controls_unselecting a found.0 v))))
-    by true select =
-        confirmed t masters a.client a.command found (is_own a (standing_at setup a.moment found.0 v))
-        (controls_unselecting a found.0 v)
-        (record { count = tied.count; places = tied.places; bonded = tied.bonded })
-    by false true = selecting (is_selectable a found.1 (standing_at setup a.moment found.0 v))
-      where
-        selecting : (selectable : Bool)
-            → Tied (story_executing (execute_answered a.client a.command (Some found) (confirmed_if selectable)) t)
-            masters (cond selectable (controls_selecting a found.0 v) v)
-        selecting true = record { count = tied.count; places = tied.places; bonded = tied.bonded }
-        selecting false = tied
-    by false false =
-        acted t masters a found (standing_at setup a.moment found.0 v) v
-        (act_accepted a found.1 (standing_at setup a.moment found.0 v) v) (short found refl) refl tied
+    by_kind t masters a found (standing_at setup a.moment found.0 v) v (short found refl) tied (is_deactivation a)
+    (is_select a.command.action)
 
 -- ---- an APDU
 
 taken : (t : Story) (masters : List Master) (c : ℕ) (apdu : Apdu) (v : Controls) → Tied t masters v
-    → Tied t masters (controls_after_taken c apdu v)
-taken t masters c (I ns nr asdu) v tied = tied
-taken t masters c (S nr) v tied = tied
-taken t masters c (U StartAct) v tied = tied
-taken t masters c (U StartCon) v tied = tied
-taken t masters c (U StopAct) v tied = tied_end t masters v c tied
-taken t masters c (U StopCon) v tied = tied
-taken t masters c (U TestAct) v tied = tied
-taken t masters c (U TestCon) v tied = tied
+    → Goes t t masters v (controls_after_taken c apdu v)
+taken t masters c (I ns nr asdu) v tied = still t masters v v refl refl tied
+taken t masters c (S nr) v tied = still t masters v v refl refl tied
+taken t masters c (U StartAct) v tied = still t masters v v refl refl tied
+taken t masters c (U StartCon) v tied = still t masters v v refl refl tied
+taken t masters c (U StopAct) v tied = session_ends t masters v c tied
+taken t masters c (U StopCon) v tied = still t masters v v refl refl tied
+taken t masters c (U TestAct) v tied = still t masters v v refl refl tied
+taken t masters c (U TestCon) v tied = still t masters v v refl refl tied
 
 event_tied : (setup : Setup) (t : Story) (s : State) (moment c : ℕ) (apdu : Apdu)
     → AllByRecursion HasShortIndex setup.controls → Tied t s.outstations s.controls
     → (why : Option Why) (command : Option Command)
-    → Tied (story_executing (execute_by setup s moment c (command_given why command)) t) s.outstations
+    → Goes t (story_executing (execute_by setup s moment c (command_given why command)) t) s.outstations s.controls
     (controls_after_event setup s moment c apdu (event_by why command))
-event_tied setup t s moment c apdu short tied (Some why) command = tied_end t s.outstations s.controls c tied
+event_tied setup t s moment c apdu short tied (Some why) command =
+    session_ends t s.outstations s.controls c tied
 event_tied setup t s moment c apdu short tied None None = taken t s.outstations c apdu s.controls tied
 event_tied setup t s moment c apdu short tied None (Some command) =
     commanded setup t s.outstations (asked_by setup s moment c command) (control_for setup command) s.controls
@@ -233,8 +307,9 @@ event_tied setup t s moment c apdu short tied None (Some command) =
 
 pub frame_tied : (setup : Setup) (t : Story) (s : State) (moment c : ℕ) (apdu : Apdu) (k : Option Client)
     → AllByRecursion HasShortIndex setup.controls → Tied t s.outstations s.controls
-    → Tied (story_executing (execute_by setup s moment c (command_of setup apdu k)) t) s.outstations
+    → Goes t (story_executing (execute_by setup s moment c (command_of setup apdu k)) t) s.outstations s.controls
     (controls_after_frame setup s moment c apdu k)
-frame_tied setup t s moment c apdu None short tied = tied
+frame_tied setup t s moment c apdu None short tied =
+    still t s.outstations s.controls s.controls refl refl tied
 frame_tied setup t s moment c apdu (Some k) short tied =
     event_tied setup t s moment c apdu short tied (close_of setup apdu k) (command_in setup apdu)

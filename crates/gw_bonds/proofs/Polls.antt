@@ -71,7 +71,8 @@ bound_order xs o order operation n k small = record {
 }
 
 order_polled : (t : Story) (o moment : ℕ) (before : Option Outgoing) (m : Master) (ws : List Accepted)
-    (operation : Operation) (order : Order) (way : UnderWay) → 1 ≤ held_at order.number before → m.sequence < 16 → m.up ≡ true → IsOrder t.executes o order → IsOf t.executes way.accepted
+    (operation : Operation) (order : Order) (way : UnderWay) → 1 ≤ held_at order.number before
+    → m.sequence < 16 → m.up ≡ true → IsOrder t.executes o order → IsOf t.executes way.accepted
     → way.accepted.order ≡ order
     → ((r : Request) → r ≡ asking operation order m.sequence
     → AskedBy o operation order m.sequence (Asked o r ∷ t.marks order.number))

@@ -7,7 +7,7 @@ use Rattle.std.proofs.lemmas.Bool.{eqb-true, eq-eqb, ne_eqb}
 use Rattle.gw_model.specs.First.{when}
 use Rattle.gw_model.specs.Places.{change}
 use Rattle.gw_model.specs.declared.control.Ended.{Ended}
-use Rattle.gw_picture.proofs.Lists.{change-here, map-get}
+use Rattle.gw_picture.proofs.Lists.{change-here}
 use Rattle.dnp_master.specs.declared.exchange.Exchange.{Exchange}
 use Rattle.dnp_master.specs.declared.exchange.Exchange.TheVariants.{Idle, Waiting, Selected}
 use Rattle.dnp_master.specs.declared.task.Task.{Task}
@@ -21,11 +21,11 @@ use Rattle.gw_control.specs.Held.{controls_after_losses}
 use Rattle.gw_control.specs.Moves.{one_if}
 use Rattle.gw_control.specs.Orders.{Outgoing, is_named, outcome_of, outgoing_after_end, outgoing_after_ended, outgoing_after_lost}
 use Rattle.gw_steps.specs.Controls.{controls_after_all_ended, controls_after_closes, controls_with_ended, outcome_ended, outcomes_ended, outcomes_lost}
-use Rattle.gw_bonds.specs.Executes.{Execute, numbered}
+use Rattle.gw_bonds.specs.Executes.{Execute}
 use Rattle.gw_bonds.specs.Marks.{Mark}
 use Rattle.gw_bonds.specs.Outcomes.{AllTell, TellsOf, counted, was_done}
-use Rattle.gw_bonds.proofs.Held.{held, held_at, held_changed, held_leaving, held_mapped, held_nowhere, held_under_way, held_waiting, held_within, under_way_at, waiting_at}
-use Rattle.gw_bonds.proofs.Story.{ForTask, GoesOn, Holds, IsOf, Keeps, Sends, Story, Tied, Waits, exchange_at, numbered_below}
+use Rattle.gw_bonds.proofs.Held.{held, held_at, held_changed, held_leaving, held_mapped, held_nowhere, held_under_way, held_waiting, under_way_at, waiting_at}
+use Rattle.gw_bonds.proofs.Story.{ForTask, GoesOn, Holds, Keeps, Sends, Story, Tied, Waits, exchange_at, numbered_below}
 use Rattle.gw_bonds.proofs.Ends.{ended_there, flat, flat_at, lost_waiting}
 use Rattle.gw_bonds.proofs.Tells.{Tells, TellsAt, failure_tells, waiting_tells}
 
@@ -34,6 +34,15 @@ pub record ToldTied (t : Story) (qs : List Outgoing) (xs : List Outcome) : Type 
   pub numbers : List ℕ
   pub tell : AllTell t.executes t.marks numbers xs
   pub once : (n : ℕ) → counted n numbers + held n qs ≤ 1
+
+-- what is tied stays so, and this is told
+pub record Leads (t new : Story) (masters : List Master) (v after : Controls) (outcomes : List Outcome) : Type 0 where
+  pub tied : Tied new masters after
+  pub told : (xs : List Outcome) → ToldTied t v.outgoing xs → ToldTied new after.outgoing (outcomes ++ xs)
+
+-- nothing is told
+abbrev pub Goes : Story → Story → List Master → Controls → Controls → Type 0
+Goes t new masters v after = Leads t new masters v after []
 
 -- ---- the story goes on
 
@@ -47,7 +56,7 @@ tells_more accepted more became after n x keeps same k = record {
   done = k.done ∙ sym (ap was_done same);
 }
 
-all_more : (t new : Story) (ns : List ℕ) (xs : List Outcome) → Keeps t.executes new.executes
+pub all_more : (t new : Story) (ns : List ℕ) (xs : List Outcome) → Keeps t.executes new.executes
     → ((n : ℕ) → 1 ≤ counted n ns → new.marks n ≡ t.marks n) → AllTell t.executes t.marks ns xs
     → AllTell new.executes new.marks ns xs
 all_more t new [] [] keeps same k = tt
@@ -130,7 +139,8 @@ ending_at : (t : Story) (o : ℕ) (f : Outgoing → Outgoing) (qs : List Outgoin
 ending_at t o f qs x k = record {
   numbers = k.numbers;
   tell = k.tell;
-  within = λ n. let all = held_changed n o (counted n k.numbers) 0 f qs (omega (arith, k.within n)) in omega (arith, all);
+  within = λ n.
+      let all = held_changed n o (counted n k.numbers) 0 f qs (omega (arith, k.within n)) in omega (arith, all);
 }
 
 -- ---- one order ends
@@ -185,7 +195,8 @@ one_fails : (t : Story) (o : ℕ) (q : Option Outgoing) → AllByRecursion (Wait
 one_fails t o None all = none_ends t None None (λ n. omega arith)
 one_fails t o (Some q) all = oldest_fails t o q.waiting q.under_way all
 
-pub waiting_fail : (t : Story) (n o : ℕ) (v : Controls) → AllByRecursion (Waits t o) (waiting_at (slice_get v.outgoing o))
+pub waiting_fail : (t : Story) (n o : ℕ) (v : Controls)
+    → AllByRecursion (Waits t o) (waiting_at (slice_get v.outgoing o))
     → Ending t v.outgoing (controls_after_losses n o v).outgoing (outcomes_lost n o v)
 waiting_fail t zero o v all = nothing_ends t v.outgoing
 waiting_fail t (suc n) o v all =

@@ -165,7 +165,8 @@ selected_goes t o n order u small k asked = (
   },
 )
 
-answer_tells : (t : Story) (o : ℕ) (order : Order) (q : Option Outgoing) (done : Bool) → Sends t o order (under_way_at q)
+answer_tells : (t : Story) (o : ℕ) (order : Order) (q : Option Outgoing) (done : Bool)
+    → Sends t o order (under_way_at q)
     → done ≡ was_done (with_mark order.number (Answered done) t.marks order.number)
     → TellsAt (story_marked order.number (Answered done) t) (Some (ended done order)) q
 answer_tells t o order q done k is =

@@ -36,7 +36,7 @@ abbrev pub IsBoundTo : List Execute → ℕ → Request → Option ℕ → Type 
 IsBoundTo accepted outstation r None = operating_of (octets_of r) ≡ None
 IsBoundTo accepted outstation r (Some n) = AsksAsOrdered accepted outstation r n
 
--- a request that is given, once these executes were accepted, asks as ordered, or it names no order and operates nothing
+-- once these executes were accepted, a request that is given asks as ordered, or it names no order and operates nothing
 abbrev pub IsBound : List Execute → Option (ℕ × Request) → Type 0
 IsBound accepted None = Unit {0}
 IsBound accepted (Some given) = IsBoundTo accepted given.0 given.1 given.1.bond
@@ -81,7 +81,8 @@ pub record Bonds (setup : Setup) (past : List Entry) : Type 0 where
   -- the request that the newest entry gives
   pub last : LastIsBound setup past
   -- what was asked for each execute: one DIRECT_OPERATE at most; or one SELECT, and after its success one OPERATE
-  pub bonded : (n : ℕ) (x : Execute) → execute_at setup n past ≡ Some x → IsBonded (is_sbo x.control.mode) (marks n past)
+  pub bonded : (n : ℕ) (x : Execute) → execute_at setup n past ≡ Some x
+      → IsBonded (is_sbo x.control.mode) (marks n past)
   -- nothing is asked for any other number
   pub no_other : (n : ℕ) → execute_at setup n past ≡ None → marks n past ≡ []
 

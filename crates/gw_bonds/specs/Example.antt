@@ -1,5 +1,5 @@
--- Worked runs of one outstation and one client, with the controls of the worked examples: 5001, which has to be selected
--- and is operated directly, and 5002, which is selected before it is operated.
+-- Worked runs of one outstation and one client, with two controls: 5001, which clients have to select, and which is
+-- operated directly; and 5002, which is selected before it is operated.
 use Rattle.std.specs.Prelude.{ℕ, pos, true, List, [], ◌∷◌, ◌++◌}
 use Rattle.std.proofs.Common.{lit≤}
 use Rattle.gw_model.specs.declared.control.Act.TheVariants.{Switch, Set}

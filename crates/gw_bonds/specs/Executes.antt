@@ -32,13 +32,13 @@ execute_answered client command (Some found) Unknown = None
 execute_answered client command (Some found) (Ordered number) =
     Some (record { client = client; control = found.1; command = command })
 
--- the command that a client gave at a moment
+-- the execute of a client's command that came at a moment, if it is accepted
 abbrev pub execute_by : Setup → State → ℕ → ℕ → Option Command → Option Execute
 execute_by setup s moment client None = None
 execute_by setup s moment client (Some command) =
     execute_answered client command (control_for setup command) (answer_to setup s moment client command)
 
--- an APDU of a client that was taken, with a command
+-- that of an APDU which is taken and carries a command
 abbrev pub execute_of : Setup → State → Step → Option Execute
 execute_of setup s (steps.Frame client apdu moment) =
     execute_by setup s (latest s moment) client (command_of setup apdu (slice_get s.clients client))

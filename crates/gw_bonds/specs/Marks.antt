@@ -1,5 +1,5 @@
--- What became of an order: the requests that named it and their answers, in turn. Nothing that is lost or late takes one
--- of these back.
+-- What became of an order: the requests that named it and their answers, in turn. Nothing that is lost or late takes
+-- one of these back.
 use Rattle.std.specs.Prelude.{ℕ, Bool, false, ◌==◌, List, [], ◌∷◌, ◌++◌, Option, Some, None, option_map, if◌then◌else◌}
 use Rattle.std.specs.Option.{option_to_list}
 use Rattle.gw_model.specs.First.{when}

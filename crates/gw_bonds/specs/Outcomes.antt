@@ -1,8 +1,8 @@
 -- What became of orders, as clients are told: each outcome is that of one accepted execute.
-use Rattle.std.specs.Prelude.{◌≡◌, ℕ, ◌+◌, ◌≤◌, Bool, true, false, ◌&&◌, ◌==◌, List, [], ◌∷◌, ◌++◌, Option, Some, None}
+use Rattle.std.specs.Prelude.{◌≡◌, ℕ, ◌+◌, ◌≤◌, Bool, true, false, ◌&&◌, ◌==◌, List, [], ◌∷◌, ◌++◌, Option, Some}
 use Rattle.gw_map.specs.Settings.{Setup}
 use Rattle.dnp_app.specs.declared.operation.Operation.{Operation}
-use Rattle.dnp_app.specs.declared.operation.Operation.TheVariants.{Select, Operate, DirectOperate}
+use Rattle.dnp_app.specs.declared.operation.Operation.TheVariants.{Operate, DirectOperate}
 use Rattle.gw_control.specs.declared.answer.Outcome.{Outcome}
 use Rattle.gw_control.specs.Moves.{one_if}
 use Rattle.gw_steps.specs.Runs.{Entry, state_after, unless_fault}

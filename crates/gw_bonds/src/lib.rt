@@ -1,5 +1,5 @@
-//! Each request that operates an output is that of an execute which was accepted: what it asks is what the command asks,
-//! and it is asked once (IEEE Std 1815, 4.4).
+//! Each request that operates an output is that of an accepted execute: it asks what the command asks, and it is given
+//! once (IEEE Std 1815, 4.4). Each outcome is that of one accepted execute too.
 #![tactic(auto)]
 
 mod examples;
@@ -7,5 +7,6 @@ mod laws;
 
 pub use examples::bonds_by_example;
 pub use laws::{
-    nothing_is_operated_without_controls, orders_are_operated_once, requests_are_bound,
+    nothing_is_operated_without_controls, orders_are_operated_once, outcomes_are_of_executes,
+    requests_are_bound,
 };
