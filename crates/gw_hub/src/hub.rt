@@ -19,6 +19,7 @@ ghost use Rattle.gw_steps.specs.Sound.{IsSoundState};
 ghost use Rattle.gw_history.specs.Premises.{IsSoundRun};
 ghost use Rattle.gw_laws.specs.Promises.{Promises};
 ghost use Rattle.gw_bonds.specs.Bonds.{Bonds, HasShortIndex};
+ghost use Rattle.gw_bonds.specs.Outcomes.{TellsOnce};
 ghost use Rattle.gw_parts.specs.Clients.{dropped_at, has_offer, queued_at, unacknowledged_at};
 ghost use Rattle.gw_hub.specs.Hub.{can_count, can_take, controls_polled, is_poll_due, is_ready_at, news_of_all, news_of_one, started_at, state_counting, state_with_response, step_with, unless, Answers, IsCounted};
 
@@ -269,7 +270,15 @@ impl Hub {
     ///   repeated fragment.
     /// - `meant`: each fragment reports what its octets mean, by the definition of responses.
     /// - `sound`: the picture shows each row of the point map by a value of its type that an ASDU can carry, there is a
-    ///   master for each outstation, and what waits for a client can be sent and is no more than may wait.
+    ///   master for each outstation, what waits for a client can be sent and is no more than may wait, and each order
+    ///   holds two places of its client until its outcome.
+    ///
+    /// And of controls:
+    /// - `bonds`: each request that operates an output names an execute that was accepted, and asks what its command asks
+    ///   of the outstation of its control. For each execute there is at most one DIRECT_OPERATE, or one SELECT, and after
+    ///   its success one OPERATE of the same; nothing that is lost or late leads to another.
+    /// - `outcomes`: what clients are told of orders is of accepted executes, of each one at most once, the client and the
+    ///   command of which it is: done where the outstation took what the newest request asked, and that operates.
     pub fn run(
         alloc: Global,
         settings: Settings,
@@ -282,6 +291,7 @@ impl Hub {
             run.0.state ≡ state_after settings (history [] steps.items run.1.items)) }
         ensures promises { IfOk result (λ run. AtEach (Promises settings) (history [] steps.items run.1.items)) }
         ensures bonds { IfOk result (λ run. AtEach (Bonds settings) (history [] steps.items run.1.items)) }
+        ensures outcomes { IfOk result (λ run. AtEach (TellsOnce settings) (history [] steps.items run.1.items)) }
     {
         let mut hub = Hub::new(alloc, settings)?;
         let replies = hub.make(&steps)?;
