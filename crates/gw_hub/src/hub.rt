@@ -1,5 +1,5 @@
 //! The core as one machine.
-ghost use Rattle.std.specs.Prelude.{◌≡◌, ◌<◌, ◌+◌, ◌↔◌, ℕ, [], length, map, true, false, IfOk, IfErr, IsTrue, OnOk, OnErr, slice_get};
+ghost use Rattle.std.specs.Prelude.{◌≡◌, ◌<◌, ◌+◌, ◌↔◌, ℕ, [], length, map, true, false, IfOk, IfErr, IsTrue, OnOk, OnErr, Some, if◌then◌else◌, slice_get, slice_index};
 ghost use Rattle.std.specs.List.{AllByRecursion};
 ghost use Rattle.gw_entries.specs.Ranges.{IsStation};
 ghost use Rattle.gw_map.specs.Settings.{HasSingleAddresses};
@@ -23,7 +23,7 @@ ghost use Rattle.gw_hub.specs.Hub.{can_count, can_take, controls_polled, is_poll
 
 use crate::common::Common;
 use crate::counts::Counts;
-use crate::orders::{end_by, end_order, is_control_up, lose_orders, pass_time, said_by};
+use crate::orders::{Sender, end_order, is_control_up, lose_orders, pass_time, settle};
 use dnp_app::Response;
 use dnp_master::Verdict;
 use gw_control::Controls;
@@ -502,10 +502,8 @@ impl Hub {
     {
         self.reached(outstation)?;
         self.count(moment)?;
-        Ok(match self.take_order(outstation) {
-            Some(order) => self.outstations.order(outstation, order, self.moment),
-            None => self.outstations.next(outstation, self.moment, wall),
-        })
+        let order = self.take_order(outstation);
+        Ok(self.outstations.poll(outstation, order, self.moment, wall))
     }
 
     /// Takes the order that is due for an outstation, if one is.
@@ -602,27 +600,27 @@ impl Hub {
         ensures step { Answers self.old (steps.Frame client apdu.now moment) result self.new }
         ensures setup { self.new.setup ≡ self.old.setup }
     {
-        let session = self.session(client);
+        let sender = Sender {
+            client,
+            session: self.session(client),
+            moment,
+        };
         let settings = self.settings.get();
         let picture = self.picture.rows();
         let Ok(event) = self.clients.frame(client, apdu, moment, settings, picture) else {
             return Err(StepFault::Memory);
         };
-        match event {
-            Event::Taken => end_by(&mut self.controls, client, apdu),
-            Event::Command(command) => {
-                let up = is_control_up(&self.outstations, &command, settings);
-                let answer = self
-                    .controls
-                    .command(client, session, &command, settings, up, moment);
-                self.clients.answer(client, &command, said_by(answer));
-            }
-            Event::Closed(_) => self.controls.end(client),
-        }
+        settle(
+            &mut self.controls,
+            &mut self.clients,
+            &self.outstations,
+            settings,
+            &sender,
+            apdu,
+            &event,
+        );
         self.counts.raise(0, u64::from(begins));
-        if begins {
-            set_session(&mut self.sessions, client, self.counts.sessions());
-        }
+        set_session(&mut self.sessions, client, begins, self.counts.sessions());
         self.moment = moment;
         Ok(reply_of(event))
     }
@@ -669,8 +667,17 @@ impl Hub {
     }
 }
 
+/// A client's session has this number, where one begins.
+fn set_session(sessions: &mut [u64; CLIENTS as usize], client: u8, begins: bool, number: u64)
+    ensures { sessions.new ≡ (if begins then change client (λ _. number) sessions.old else sessions.old) }
+{
+    if begins {
+        number_session(sessions, client, number);
+    }
+}
+
 /// A client's last session has this number.
-fn set_session(sessions: &mut [u64; CLIENTS as usize], client: u8, number: u64)
+fn number_session(sessions: &mut [u64; CLIENTS as usize], client: u8, number: u64)
     ensures { sessions.new ≡ change client (λ _. number) sessions.old }
 {
     let position = usize::from(client);
