@@ -1,5 +1,6 @@
 //! The interoperability list of IEC 60870-5-104, clause 9, filled in for settings, and the signals of the station.
 
+mod commands;
 mod sheet;
 mod signals;
 mod types;

@@ -1,5 +1,6 @@
 //! The interoperability list of IEC 60870-5-104, clause 9, in its order: `[x]` is used, `[ ]` isn't.
 
+use crate::profile::commands::{write_command_transmission, write_command_types};
 use crate::profile::types::point_types;
 use gw_map::{Settings, Show, Station};
 use gw_text::Plain;
@@ -85,18 +86,6 @@ const WITH_TIME: [Listed; 5] = [
     },
 ];
 
-const COMMANDS: &str = "
-Process information in control direction
-[ ] 45 C_SC_NA_1 single command: judged, and confirmed negatively
-[ ] 46 C_DC_NA_1 double command: judged, and confirmed negatively
-[ ] 47 C_RC_NA_1 regulating step command
-[ ] 48 C_SE_NA_1 set-point command, normalized
-[ ] 49 C_SE_NB_1 set-point command, scaled: judged, and confirmed negatively
-[ ] 50 C_SE_NC_1 set-point command, short floating point
-[ ] 51 C_BO_NA_1 bitstring of 32 bits
-[ ] 58 to 64: these seven with CP56Time2a
-";
-
 const SYSTEM: &str = "
 System information, parameters and file transfer
 [ ] 70 M_EI_NA_1 end of initialization
@@ -115,7 +104,7 @@ Type identification and cause of transmission
 1, 3, 7, 11: 3 spontaneous, 5 requested, 20 interrogated by station interrogation
 15: 3 spontaneous, 37 requested by general counter request
 30, 31, 33, 35, 37: 3 spontaneous
-45, 46, 49: 6 and 8 are taken; 7, 9, 45, 46 and 47 are sent with P/N 1
+45, 46, 49: 6 and 8 are taken; 7, 9 and 10 are sent, and 7, 9, 45, 46 and 47 with P/N 1
 100, 101: 6 and 8 are taken; 7 and 10 are sent, and 7, 9, 45, 46 and 47 with P/N 1
 102: 5 is taken; 45, 46 and 47 are sent with P/N 1
 any other that a client sends: 44 is sent with P/N 1
@@ -153,9 +142,12 @@ pub(crate) fn write_sheet<W: Write>(settings: &Settings, writer: &mut W) -> io::
     )?;
     writer.write_all(ADDRESSES.as_bytes())?;
     write_point_types(settings, writer)?;
-    for text in [COMMANDS, SYSTEM, CAUSES, FUNCTIONS] {
+    write_command_types(settings, writer)?;
+    for text in [SYSTEM, CAUSES, FUNCTIONS] {
         writer.write_all(text.as_bytes())?;
     }
+    write_offset(station, writer)?;
+    write_command_transmission(settings, writer)?;
     write_limits(station, writer)?;
     write_network(station, writer)
 }
@@ -189,16 +181,19 @@ fn mark_of(settings: &Settings, show: Show) -> char {
     }
 }
 
-/// Writes the offset of the clocks, the time-outs and the windows.
-fn write_limits<W: Write>(station: &Station, writer: &mut W) -> io::Result<()> {
+/// Writes the offset of the clocks.
+fn write_offset<W: Write>(station: &Station, writer: &mut W) -> io::Result<()> {
     let offset = station.offset_minutes;
-    let (t1, t2, t3) = (station.t1_ms, station.t2_ms, station.t3_ms);
-    let (k, w) = (station.k, station.w);
     writeln!(
         writer,
         "[x] time tags CP56Time2a: {offset} minutes ahead of UTC, the whole year round"
-    )?;
-    writeln!(writer, "[ ] command transmission")?;
+    )
+}
+
+/// Writes the time-outs and the windows.
+fn write_limits<W: Write>(station: &Station, writer: &mut W) -> io::Result<()> {
+    let (t1, t2, t3) = (station.t1_ms, station.t2_ms, station.t3_ms);
+    let (k, w) = (station.k, station.w);
     writeln!(writer, "\nTime-outs and windows")?;
     writeln!(writer, "[ ] t0: clients open the connections")?;
     writeln!(writer, "[x] t1: {t1} ms (15 s in the standard)")?;
