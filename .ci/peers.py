@@ -24,6 +24,8 @@ USER_DATA, MASTER_USER_DATA = 0x44, 0xC4
 EVENTS = bytes.fromhex("01 3C 02 06 3C 03 06 3C 04 06")
 INTEGRITY = EVENTS + bytes.fromhex("3C 01 06")
 DISABLE, ENABLE = (bytes([function]) + EVENTS[1:] for function in (0x15, 0x14))
+# The functions of requests that operate an output.
+SELECT, OPERATE, DIRECT_OPERATE = 3, 4, 5
 
 START, START_CON = "68 04 07 00 00 00", "68 04 0B 00 00 00"
 STOP, STOP_CON = "68 04 13 00 00 00", "68 04 23 00 00 00"
@@ -31,6 +33,8 @@ TEST, TEST_CON = "68 04 43 00 00 00", "68 04 83 00 00 00"
 
 # Causes of transmission.
 NEWS, REQUESTED, ACTIVATION, CONFIRMATION, TERMINATION, INTERROGATED, COUNTERS = 3, 5, 6, 7, 10, 20, 37
+# Of a deactivation and its confirmation, and P/N, with which a confirmation is negative.
+CANCEL, CANCELLED, NEGATIVE = 8, 9, 0x40
 # The front of the witness's events, of analog input 9; where this point is, the seconds between events, and how many
 # I formats it acknowledges at once.
 WITNESS_EVENT = bytes.fromhex("20 01 17 01 09 01")
@@ -146,6 +150,16 @@ def unsolicited(number, objects):
     return bytes([0xF0 | number % 16, 0x82, 0, 0]) + objects
 
 
+def latch(index, on, status=0):
+    """The object of a request that latches an output (group 12), or of its echo with this status."""
+    return bytes.fromhex("0C 01 28 01 00") + struct.pack("<HBBIIB", index, 3 if on else 4, 1, 0, 0, status)
+
+
+def analog(index, value, status=0):
+    """The same of a request that sets an analog output (group 41)."""
+    return bytes.fromhex("29 02 28 01 00") + struct.pack("<HhB", index, value, status)
+
+
 def confirmation(fragment):
     return bytes([0xC0 | fragment[0] & 0x1F, 0])
 
@@ -181,6 +195,11 @@ class Link(Line):
     def request(self, number, request):
         """The next fragment is this request, of this number."""
         self.wants(bytes([0xC0 | number % 16]) + request)
+
+    def operated(self, number, function, objects, answer=None):
+        """The next fragment operates outputs, and is answered by its echo, or by this."""
+        self.request(number, bytes([function]) + objects)
+        self.send(response(number, objects if answer is None else answer))
 
     def frames(self, fragment):
         """The frames of the next fragment that is sent."""

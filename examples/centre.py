@@ -3,7 +3,8 @@
 
 It connects, starts data transfer, interrogates the station and then its counters, and prints a line for each
 information object that comes: when it came, its address, its type, its value, the cause of transmission, its quality
-where that isn't good, and its time tag where it has one. When it came is in UTC. Ctrl-C ends it.
+where that isn't good, and its time tag where it has one. When it came is in UTC. With --operate it then selects and
+executes a single command, and prints what is said of that. Ctrl-C ends it.
 """
 import argparse
 import socket
@@ -17,9 +18,11 @@ STARTDT, STARTDT_CON, TESTFR, TESTFR_CON = 0x07, 0x0B, 0x43, 0x83
 # The common address of all stations (IEC 60870-5-101, 7.2.4): the answers have the station's own.
 ALL_STATIONS = 65535
 # Type identifications (7.2.1), causes, and what asks for all: QOI 20, QCC 5.
-INTERROGATION, COUNTERS, ACTIVATION, TERMINATION = 100, 101, 6, 10
+SINGLE_COMMAND, INTERROGATION, COUNTERS, ACTIVATION, CONFIRMATION, TERMINATION = 45, 100, 101, 6, 7, 10
 WHOLE = {INTERROGATION: 20, COUNTERS: 5}
 COMMANDS = {INTERROGATION: "station interrogation", COUNTERS: "counter interrogation", 70: "end of initialization"}
+# S/E, select or else execute, of a single command (7.2.6.26).
+SELECT = 0x80
 # Causes of transmission (7.2.3).
 CAUSES = {1: "periodic", 2: "background scan", 3: "spontaneous", 4: "initialized", 5: "requested", 6: "activation",
           7: "activation confirmation", 10: "activation termination", 20: "interrogated by station interrogation",
@@ -80,6 +83,10 @@ def tell_asdu(asdu):
     """Prints a line for each information object of an ASDU, or what the ASDU says of a command."""
     kind, qualifier, cause, _, station = struct.unpack_from("<BBBBH", asdu)
     why = CAUSES.get(cause & 63, f"cause {cause & 63}") + (", negative" if cause & 64 else "")
+    if kind == SINGLE_COMMAND:
+        state, phase = "on" if asdu[9] & 1 else "off", "select" if asdu[9] & SELECT else "execute"
+        tell(f"{int.from_bytes(asdu[6:9], 'little'):8}  {'single command':16}  {state:>8}  {phase}: {why}")
+        return
     if kind not in TYPES:
         tell(f"{COMMANDS.get(kind, f'type {kind}')} of station {station}: {why}")
         return
@@ -100,8 +107,9 @@ def tell_asdu(asdu):
 class Connection:
     """A connection to a station: APDUs (IEC 60870-5-104, clause 5), with the numbers of those sent and received."""
 
-    def __init__(self, connection):
-        self.connection, self.sent, self.received = connection, 0, 0
+    def __init__(self, connection, control):
+        """`control` is the address and the state of a single command, or nothing."""
+        self.connection, self.control, self.sent, self.received = connection, control, 0, 0
 
     def take(self, count):
         octets = b""
@@ -118,11 +126,24 @@ class Connection:
     def send_function(self, function):
         self.send(bytes([function, 0, 0, 0]))
 
-    def activate(self, kind):
-        """Asks for all that the station has of a kind: C_IC_NA_1 or C_CI_NA_1 (7.3.4)."""
-        asdu = struct.pack("<BBBBH4B", kind, 1, ACTIVATION, 0, ALL_STATIONS, 0, 0, 0, WHOLE[kind])
+    def activate(self, kind, station=ALL_STATIONS, address=0, element=None):
+        """Sends an activation (7.3.4): C_IC_NA_1 and C_CI_NA_1 ask for all that the station has of a kind."""
+        element = WHOLE[kind] if element is None else element
+        asdu = struct.pack("<BBBBH3sB", kind, 1, ACTIVATION, 0, station, address.to_bytes(3, "little"), element)
         self.send(struct.pack("<HH", self.sent * 2, self.received * 2), asdu)
         self.sent = (self.sent + 1) % 32768
+
+    def go_on(self, asdu):
+        """What comes behind an answer: the counters, then the command, and behind its selection its execution."""
+        kind, _, cause, _, station = struct.unpack_from("<BBBBH", asdu)
+        if (kind, cause) == (INTERROGATION, TERMINATION):
+            self.activate(COUNTERS)
+        elif (kind, cause) == (COUNTERS, TERMINATION) and self.control:
+            address, state = self.control
+            self.activate(SINGLE_COMMAND, station, address, SELECT | state)
+        elif (kind, cause) == (SINGLE_COMMAND, CONFIRMATION) and asdu[9] & SELECT:
+            address, state = self.control
+            self.activate(SINGLE_COMMAND, station, address, state)
 
     def run(self):
         """Prints what comes until the station ends the connection."""
@@ -143,15 +164,21 @@ class Connection:
                 tell_asdu(asdu)
                 # An S format acknowledges it. A busy centre would do so for up to w of them at once, or after t2.
                 self.send(struct.pack("<HH", 1, self.received * 2))
-                if asdu[0] == INTERROGATION and asdu[2] == TERMINATION:
-                    self.activate(COUNTERS)
+                self.go_on(asdu)
 
 
 def main():
     parser = argparse.ArgumentParser(description=__doc__, formatter_class=argparse.RawDescriptionHelpFormatter)
     parser.add_argument("station", nargs="?", default="127.0.0.1:2404", metavar="HOST:PORT",
                         help="where the station listens; 127.0.0.1:2404 by default")
-    place = parser.parse_args().station
+    parser.add_argument("--operate", nargs=2, metavar=("ADDRESS", "on|off"), help="a single command, as in 5001 on")
+    asked = parser.parse_args()
+    place, control = asked.station, None
+    if asked.operate:
+        address, state = asked.operate
+        if not address.isdecimal() or not 0 < int(address) < 1 << 24 or state not in ("on", "off"):
+            parser.error(f"{address} {state} is no address with on or off")
+        control = int(address), state == "on"
     host, _, port = place.rpartition(":")
     if not host or not port.isdecimal() or int(port) > 65535:
         parser.error(f"{place} is no HOST:PORT")
@@ -164,7 +191,7 @@ def main():
     with connection, suppress(EOFError, ConnectionError):
         connection.settimeout(None)
         tell(f"connected to {place}")
-        Connection(connection).run()
+        Connection(connection, control).run()
     tell("the station has ended the connection")
 
 

@@ -2,10 +2,11 @@
 """A DNP3 outstation (IEEE Std 1815-2012) to try the gateway with: a breaker that closes and opens.
 
 Its points are those of examples/first.toml: binary input 5 is the breaker (1 is closed), analog input 0 the current in
-amperes, counter 0 how often the breaker has moved. The breaker moves every five seconds once a master has connected;
-each move is an event of class 1 of all three points, which is kept until the master confirms it. The outstation
-listens on 127.0.0.1, for one master at a time, and prints what the master asks for; polls that find no event aren't
-printed. Times are in UTC. Ctrl-C ends it.
+amperes, counter 0 how often the breaker has moved. Binary output 3 closes and opens it, analog output 4 sets the
+current of the closed breaker. Once a master has connected the breaker moves every five seconds, until the master
+operates it; each move is an event of class 1 of all three points, which is kept until the master confirms it. The
+outstation listens on 127.0.0.1, for one master at a time, and prints what the master asks for; polls that find no event
+aren't printed. Times are in UTC. Ctrl-C ends it.
 """
 import argparse
 import errno
@@ -20,7 +21,7 @@ from datetime import datetime, timezone
 # The link address; seconds from a move to the next; how many moves are kept, which fit into one fragment.
 ADDRESS, REST, ROOM = 1, 5, 40
 # Function codes (4.4).
-CONFIRM, READ, WRITE, RESPONSE = 0, 1, 2, 129
+CONFIRM, READ, WRITE, SELECT, OPERATE, DIRECT_OPERATE, RESPONSE = 0, 1, 2, 3, 4, 5, 129
 # Object headers of reads: events of class 1 and all points (class 0), group 60; the front of a write of IIN, group 80.
 CLASS_1, CLASS_0, INDICATIONS = bytes([60, 2, 6]), bytes([60, 1, 6]), bytes([80, 1])
 # Each point's object header as a static value and as an event (Annex A): values with flags, events with time too.
@@ -29,6 +30,11 @@ POINTS = (
     (bytes([30, 2, 0, 0, 0]), bytes([32, 4, 0x17, 1, 0])),
     (bytes([20, 1, 0, 0, 0]), bytes([22, 5, 0x17, 1, 0])),
 )
+# The fronts of the objects that operate the outputs, groups 12 and 41; what the operation of a group 12 object does.
+SWITCH, SETTING = bytes([12, 1, 0x28, 1, 0, 3, 0]), bytes([41, 2, 0x28, 1, 0, 4, 0])
+MOVES = {0x03: True, 0x41: True, 0x04: False, 0x81: False}
+# Control status codes: done, no SELECT came before, not supported.
+DONE, NO_SELECT, NOT_SUPPORTED = 0, 2, 4
 # Flags of a point.
 ONLINE, STATE = 0x01, 0x80
 # Internal indications IIN1.1, IIN1.7, IIN2.0, IIN2.1 and IIN2.3 (4.2.2.6), IIN1 first.
@@ -43,33 +49,36 @@ class Breaker:
     """The points, and the events that no master has confirmed, oldest first."""
 
     def __init__(self):
-        self.is_closed, self.moves, self.events = False, 0, []
+        self.is_closed, self.load, self.moves, self.events = False, 312, 0, []
         self.has_restarted, self.has_overflowed = True, False
-        self.lock, self.begun = threading.Lock(), threading.Event()
+        self.lock, self.begun, self.operated = threading.RLock(), threading.Event(), threading.Event()
+        # The objects of the last SELECT, if nothing came since.
+        self.selected = b""
         # The events of the last response, and the control octet of the confirmation that it asks for.
         self.reported, self.awaited = [], None
 
     def values(self):
         """The flags and value of each point, in the order of POINTS."""
         binary = bytes([ONLINE | (STATE if self.is_closed else 0)])
-        current = 312 if self.is_closed else 0
+        current = self.load if self.is_closed else 0
         return binary, struct.pack("<Bh", ONLINE, current), struct.pack("<BI", ONLINE, self.moves)
 
-    def move(self):
+    def change(self, is_closed, load):
         with self.lock:
-            self.is_closed, self.moves = not self.is_closed, self.moves + 1
+            has_moved = is_closed != self.is_closed
+            self.is_closed, self.load, self.moves = is_closed, load, self.moves + has_moved
             # Milliseconds since 1970 in UTC, in 48 bits.
             moment = int(time.time() * 1000).to_bytes(6, "little")
             event = b"".join(head + value + moment for (_, head), value in zip(POINTS, self.values()))
             self.has_overflowed = self.has_overflowed or len(self.events) == ROOM
             self.events = [*self.events, event][-ROOM:]
-            tell(f"the breaker {'closes' if self.is_closed else 'opens'}")
+            if has_moved:
+                tell(f"the breaker {'closes' if self.is_closed else 'opens'}")
 
     def move_on(self):
         self.begun.wait()
-        while True:
-            time.sleep(REST)
-            self.move()
+        while not self.operated.wait(REST):
+            self.change(not self.is_closed, self.load)
 
     def answer(self, request):
         """The response to a request (clause 4), or nothing for a confirmation."""
@@ -81,6 +90,8 @@ class Breaker:
             self.reported, points, indications = [], [], 0
             if function == READ:
                 points = self.read(objects)
+            elif function in (SELECT, OPERATE, DIRECT_OPERATE):
+                points = [self.operate(function, objects)]
             elif function == WRITE and objects.startswith(INDICATIONS):
                 self.has_restarted = False
                 tell("the master clears the indication of a restart (IIN1.7)")
@@ -109,6 +120,21 @@ class Breaker:
         if sent:
             tell(f"{'integrity' if points else 'event'} poll: {' and '.join(sent)} sent")
         return points
+
+    def operate(self, function, objects):
+        """What a request that operates an output asks for is done; gives its echo, which has its status at the end."""
+        operation, status = objects[7:-1], NOT_SUPPORTED
+        if objects.startswith(SETTING) or objects.startswith(SWITCH) and operation[0] in MOVES:
+            status = NO_SELECT if function == OPERATE and objects != self.selected else DONE
+        tell(f"the master {'selects' if function == SELECT else 'operates'} output {objects[5]}: status {status}")
+        self.selected = objects if function == SELECT else b""
+        if status == DONE and function != SELECT:
+            self.operated.set()
+            if objects.startswith(SWITCH):
+                self.change(MOVES[operation[0]], self.load)
+            else:
+                self.change(self.is_closed, struct.unpack("<h", operation)[0])
+        return objects[:-1] + bytes([status])
 
     def confirm(self, control):
         if control == self.awaited:

@@ -1,3 +1,6 @@
+pub mod Holding
+pub mod Time
+pub mod Answered
 pub mod Taking
 pub mod Losing
 pub mod Sessions

@@ -1,6 +1,7 @@
 -- What every hub keeps of its clients: outside of a session no news wait, and none were dropped.
 use Rattle.std.specs.Prelude.{replicate}
-use Rattle.std.proofs.Common.{◌≡◌, ℕ, zero, suc, Option, Some, None, List, [], ◌∷◌, map, drop, inl, inr, refl, sym, ap, subst, arith}
+use Rattle.std.proofs.Math.ListN.{set}
+use Rattle.std.proofs.Common.{◌≡◌, ℕ, zero, suc, ◌≤◌, length, ◌∙◌, Option, Some, None, List, [], ◌∷◌, map, drop, inl, inr, refl, sym, ap, subst, arith}
 use Rattle.std.specs.List.{AllByRecursion}
 use Rattle.std.proofs.lemmas.Bool.{cases_Bool}
 use Rattle.gw_model.specs.declared.observation.Observation.{Observation}
@@ -11,15 +12,20 @@ use Rattle.iec_apci.specs.declared.apdu.Apdu.TheVariants.{I, S, U}
 use Rattle.iec_apci.specs.declared.apdu.Signal.{Signal}
 use Rattle.iec_apci.specs.declared.apdu.Signal.TheVariants.{StartAct, StartCon, StopAct, StopCon, TestAct, TestCon}
 use Rattle.iec_window.specs.declared.limits.Limits.{Limits}
-use Rattle.gw_station.specs.declared.event.Event.{Event}
-use Rattle.gw_station.specs.declared.event.Event.TheVariants as events
 use Rattle.gw_station.specs.declared.event.Why.{Why}
 use Rattle.gw_station.specs.declared.sending.Sending.{Sending}
 use Rattle.gw_station.specs.declared.sending.Sending.TheVariants as sendings
 use Rattle.gw_station.specs.Client.{Client, client_after_close, client_after_tick, client_after_up, client_down, client_with_news, is_started, is_timed_out}
-use Rattle.gw_station.specs.Frames.{client_after_apdu, client_by, client_taking, client_with_session, close_of, event_of}
+use Rattle.gw_station.specs.Frames.{client_after_apdu, client_by, client_taking, client_with_session, close_of}
 use Rattle.gw_station.specs.Pump.{client_after_pump, client_by_offer, offered}
-use Rattle.gw_steps.specs.Steps.{client_after_frame, client_answered}
+use Rattle.gw_control.specs.declared.answer.Outcome.{Outcome}
+use Rattle.iec_command.specs.declared.command.Command.{Command}
+use Rattle.gw_station.specs.declared.event.Event.{Event}
+use Rattle.gw_station.specs.declared.event.Event.TheVariants as events
+use Rattle.gw_station.specs.declared.event.Said.{Said}
+use Rattle.gw_steps.specs.Steps.{client_answered}
+use Rattle.gw_station.specs.Answers.{client_told}
+use Rattle.gw_steps.specs.Controls.{client_told_of, clients_told, said_of_outcome}
 use Rattle.gw_hub.specs.Hub.{KeepsToSession}
 
 -- ---- one client
@@ -65,17 +71,15 @@ after_apdu : (why : Option Why) (c d : Client) → KeepsToSession d → KeepsToS
 after_apdu None c d holds = holds
 after_apdu (Some why) c d holds = kept_after_close c
 
-answered : (event : Event) (c : Client) → KeepsToSession c → KeepsToSession (client_answered event c)
-answered events.Taken c holds = holds
-answered (events.Command command) c holds = record { outside = holds.outside }
-answered (events.Closed why) c holds = holds
+pub kept_after_apdu : (setup : Setup) (picture : List Observation) (moment : ℕ) (apdu : Apdu) (c : Client)
+    → KeepsToSession c → KeepsToSession (client_after_apdu setup picture moment apdu c)
+kept_after_apdu setup picture moment apdu c holds =
+    after_apdu (close_of setup apdu c) c (client_taking setup picture moment apdu c)
+    (taking setup picture moment apdu c holds)
 
-pub kept_after_frame : (setup : Setup) (picture : List Observation) (moment : ℕ) (apdu : Apdu) (c : Client)
-    → KeepsToSession c → KeepsToSession (client_after_frame setup picture moment apdu c)
-kept_after_frame setup picture moment apdu c holds =
-    answered (event_of setup apdu c) (client_after_apdu setup picture moment apdu c)
-    (after_apdu (close_of setup apdu c) c (client_taking setup picture moment apdu c)
-    (taking setup picture moment apdu c holds))
+pub kept_told : (command : Command) (said : Said) (c : Client) → KeepsToSession c
+    → KeepsToSession (client_told command said c)
+kept_told command said c holds = record { outside = holds.outside }
 
 pub kept_after_pump : (moment : ℕ) (c : Client) → KeepsToSession c → KeepsToSession (client_after_pump moment c)
 kept_after_pump moment c holds = go (offered moment c)
@@ -117,3 +121,35 @@ kept_mapped f cs changed e keeps all = subst (AllByRecursion KeepsToSession) (sy
     go : (cs : List Client) → AllByRecursion KeepsToSession cs → AllByRecursion KeepsToSession (map f cs)
     go [] all = tt
     go (c ∷ cs) all = (keeps c all.0, go cs all.1)
+
+pub kept_answered : (said : Command → Said) (event : Event) (c : Client) → KeepsToSession c
+    → KeepsToSession (client_answered said event c)
+kept_answered said events.Taken c holds = holds
+kept_answered said (events.Command command) c holds = record { outside = holds.outside }
+kept_answered said (events.Closed why) c holds = holds
+
+-- clients were told of outcomes
+pub kept_outcomes : (xs : List Outcome) (cs changed : List Client) → changed ≡ clients_told xs cs
+    → AllByRecursion KeepsToSession cs → AllByRecursion KeepsToSession changed
+kept_outcomes xs cs changed e all = subst (AllByRecursion KeepsToSession) (sym e) (go xs cs all)
+  where
+    go : (xs : List Outcome) (cs : List Client) → AllByRecursion KeepsToSession cs
+        → AllByRecursion KeepsToSession (clients_told xs cs)
+    go [] cs all = all
+    go (x ∷ xs) cs all = go xs (change x.client (client_told_of x) cs)
+        (kept_changed x.client (client_told_of x) cs _ refl (kept_told x.command (said_of_outcome x)) all)
+
+-- ---- the numbers of sessions
+
+pub set_changed : (p c n : ℕ) (ns : List ℕ) → p ≡ c → set ns p n ≡ change c (λ _. n) ns
+set_changed p c n ns e = ap (λ (q : ℕ). set ns q n) e ∙ go c ns
+  where
+    go : (c : ℕ) (ns : List ℕ) → set ns c n ≡ change c (λ _. n) ns
+    go c [] = refl
+    go zero (m ∷ ns) = refl
+    go (suc c) (m ∷ ns) = ap (λ (xs : List ℕ). m ∷ xs) (go c ns)
+
+pub past_changed : (c n : ℕ) (ns : List ℕ) → length ns ≤ c → ns ≡ change c (λ _. n) ns
+past_changed c n [] le = refl
+past_changed zero n (m ∷ ns) le = absurd (omega arith)
+past_changed (suc c) n (m ∷ ns) le = ap (λ (xs : List ℕ). m ∷ xs) (past_changed c n ns (omega arith))

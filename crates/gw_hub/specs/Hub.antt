@@ -1,23 +1,35 @@
 -- The hub, as its contracts see it: the settings that it runs with, and its state.
-use Rattle.std.specs.Prelude.{◌≡◌, ℕ, ◌+◌, ◌*◌, ◌^◌, ◌<◌, ◌≤◌, Bool, false, ◌||◌, is_some, List, [], length, slice_get, Option, Some, None, Result, Ok, Err, IfSome, if◌then◌else◌}
+use Rattle.std.specs.Prelude.{◌≡◌, ℕ, ◌+◌, ◌*◌, ◌^◌, ◌<◌, ◌≤◌, Bool, true, false, ◌==◌, ◌||◌, is_some, List, [], length, slice_get, Option, Some, None, Result, Ok, Err, IfSome, if◌then◌else◌}
 use Rattle.std.specs.List.{AllByRecursion}
 use Rattle.gw_model.specs.declared.point.Report.{Report}
 use Rattle.gw_map.specs.Settings.{Setup}
 use Rattle.gw_model.specs.declared.observation.Observation.{Observation}
 use Rattle.gw_picture.specs.Picture.{news_of, news_of_report}
 use Rattle.dnp_app.specs.Response.{Fragment}
+use Rattle.dnp_master.specs.Master.{Master, is_ready}
 use Rattle.gw_control.specs.declared.answer.Outcome.{Outcome}
-use Rattle.gw_control.specs.Controls.{Controls, controls_after_taking}
+use Rattle.iec_command.specs.declared.command.Command.{Command as AnyCommand}
+use Rattle.iec_apci.specs.declared.apdu.Apdu.{Apdu}
+use Rattle.dnp_master.specs.Master.{Master}
+use Rattle.gw_judge.specs.Judging.{is_execute}
+use Rattle.gw_control.specs.declared.asked.Asked.{Asked}
+use Rattle.gw_control.specs.Intents.{control_for}
+use Rattle.gw_control.specs.Selections.{asked, is_select}
+use Rattle.gw_control.specs.Controls.{Controls, answer_of, controls_after_command, controls_after_end, controls_after_taking, CanAnswer}
 use Rattle.gw_control.specs.Held.{orders_of}
+use Rattle.gw_station.specs.declared.event.Event.{Event}
+use Rattle.gw_station.specs.declared.event.Event.TheVariants.{Taken, Command, Closed}
+use Rattle.gw_station.specs.declared.event.Said.{Said}
 use Rattle.gw_station.specs.Answers.{places, places_taken, CanBeTold}
 use Rattle.gw_station.specs.Client.{Client, is_started}
 use Rattle.gw_station.specs.Sound.{IsSoundClient}
 use Rattle.gw_steps.specs.declared.step.Step.{Step}
 use Rattle.gw_steps.specs.declared.step.Reply.{Reply}
 use Rattle.gw_steps.specs.declared.step.StepFault.{StepFault}
-use Rattle.gw_steps.specs.Controls.{order_due, said_of_outcome}
+use Rattle.gw_steps.specs.Controls.{controls_after_taken, is_control_up, order_due, said_by, said_of_outcome}
 use Rattle.gw_steps.specs.Sound.{IsSoundState}
 use Rattle.gw_parts.specs.Outstations.{is_due}
+use Rattle.gw_hub.specs.declared.orders.Sender.{Sender}
 use Rattle.gw_steps.specs.State.{State, Counts}
 use Rattle.gw_steps.specs.Steps.{Allowed, can_rise, raised, latest, parts_after_fragment}
 
@@ -91,9 +103,44 @@ state_with_response hub moment response =
 abbrev pub is_poll_due : State → ℕ → Bool
 is_poll_due s o = is_due s.moment (slice_get s.outstations o) || is_some (order_due s o)
 
+-- an outstation could be given an order
+abbrev pub is_ready_at : Option Master → Bool
+is_ready_at None = false
+is_ready_at (Some m) = is_ready m
+
 -- once the order that is due for an outstation was taken
 abbrev pub controls_polled : State → ℕ → Controls
 controls_polled s o = if is_some (order_due s o) then controls_after_taking o s.controls else s.controls
+
+-- the command of a sender, as the controls see it
+abbrev pub asked_by_sender : Setup → List Master → Sender → AnyCommand → Asked
+asked_by_sender setup outstations x command =
+    asked x.client x.session command (is_control_up outstations (control_for setup command)) x.moment
+
+-- what is said of it
+abbrev pub said_to_sender : Setup → List Master → Sender → Controls → AnyCommand → Said
+said_to_sender setup outstations x v command =
+    said_by (answer_of setup (asked_by_sender setup outstations x command) v)
+
+-- what becomes of selections and orders
+abbrev pub controls_settled : Setup → List Master → Sender → Apdu → Event → Controls → Controls
+controls_settled setup outstations x apdu Taken v = controls_after_taken x.client apdu v
+controls_settled setup outstations x apdu (Command command) v =
+    controls_after_command setup (asked_by_sender setup outstations x command) v
+controls_settled setup outstations x apdu (Closed why) v = controls_after_end x.client v
+
+-- a command that is an order has a number
+abbrev pub CanOrder : Setup → List Master → Sender → Event → Controls → Type 0
+CanOrder setup outstations x Taken v = Unit {0}
+CanOrder setup outstations x (Command command) v =
+    CanAnswer setup (asked_by_sender setup outstations x command) v
+CanOrder setup outstations x (Closed why) v = Unit {0}
+
+-- a command that neither deactivates nor selects executes
+abbrev pub IsActEvent : Event → Type 0
+IsActEvent Taken = Unit {0}
+IsActEvent (Command c) = (c.cause == 8) ≡ false → is_select c.action ≡ false → is_execute c ≡ true
+IsActEvent (Closed why) = Unit {0}
 
 -- a client can be told of an outcome
 abbrev pub CanTell : List Client → Outcome → Type 0

@@ -1,5 +1,5 @@
 //! The core as one machine.
-ghost use Rattle.std.specs.Prelude.{◌≡◌, ◌<◌, ◌+◌, ◌↔◌, ℕ, [], length, map, true, false, IfOk, IfErr, IsTrue, OnOk, OnErr, slice_get};
+ghost use Rattle.std.specs.Prelude.{◌≡◌, ◌<◌, ◌+◌, ◌^◌, ◌↔◌, ℕ, [], length, map, true, false, IfOk, IfErr, IsTrue, OnOk, OnErr, Some, if◌then◌else◌, slice_get, slice_index};
 ghost use Rattle.std.specs.List.{AllByRecursion};
 ghost use Rattle.gw_entries.specs.Ranges.{IsStation};
 ghost use Rattle.gw_map.specs.Settings.{HasSingleAddresses};
@@ -18,16 +18,18 @@ ghost use Rattle.gw_steps.specs.Runs.{history, state_after, AtEach, IsRun};
 ghost use Rattle.gw_steps.specs.Sound.{IsSoundState};
 ghost use Rattle.gw_history.specs.Premises.{IsSoundRun};
 ghost use Rattle.gw_laws.specs.Promises.{Promises};
+ghost use Rattle.gw_bonds.specs.Bonds.{Bonds, HasShortIndex};
+ghost use Rattle.gw_bonds.specs.Outcomes.{TellsOnce};
 ghost use Rattle.gw_parts.specs.Clients.{dropped_at, has_offer, queued_at, unacknowledged_at};
-ghost use Rattle.gw_hub.specs.Hub.{can_count, can_take, controls_polled, is_poll_due, news_of_all, news_of_one, started_at, state_counting, state_with_response, step_with, unless, Answers, IsCounted};
+ghost use Rattle.gw_hub.specs.Hub.{can_count, can_take, controls_polled, is_poll_due, is_ready_at, news_of_all, news_of_one, started_at, state_counting, state_with_response, step_with, unless, Answers, IsCounted};
 
 use crate::common::Common;
 use crate::counts::Counts;
-use crate::orders::{end_by, end_order, is_control_up, lose_orders, pass_time, said_by};
+use crate::orders::{Sender, end_order, is_control_up, lose_orders, pass_time, settle};
 use dnp_app::Response;
 use dnp_master::Verdict;
 use gw_control::Controls;
-use gw_map::{Settings, Station};
+use gw_map::{Control, Settings, Station};
 use gw_model::{Ended, Memory, Observation, Order, Report};
 use gw_parts::{Clients, Outstations};
 use gw_picture::Picture;
@@ -94,9 +96,11 @@ impl Hub {
         ensures setup { IfOk result (λ hub. hub.setup ≡ settings) }
         ensures state { IfOk result (λ hub. hub.state ≡ at_first settings) }
         ensures settings { HasSingleAddresses settings.rows settings.controls × IsStation settings.station }
+        ensures indices { AllByRecursion HasShortIndex settings.controls }
     {
         // The contracts of `rows` and `station` tell what all settings keep.
         let _rows = settings.rows();
+        attest_indices(settings.controls());
         let station = settings.station();
         let outstations = Outstations::new(alloc, settings.outstations())?;
         let picture = Picture::new(alloc, &settings)?;
@@ -198,6 +202,13 @@ impl Hub {
         self.counts.news()
     }
 
+    /// How many commands were accepted as orders since the hub began: the number of the last of them.
+    pub fn orders(&self) -> u64
+        ensures { result ≡ self.now.state.controls.ordered }
+    {
+        self.controls.ordered()
+    }
+
     /// Whether a client is up.
     pub fn stands(&self, client: u8) -> bool
         ensures { IsTrue result ↔ (client_up self.now.state client ≡ Some true) }
@@ -213,6 +224,17 @@ impl Hub {
             Some(master) => {
                 master.is_due(self.moment) || (master.ready() && self.controls.waits(outstation))
             }
+            None => false,
+        }
+    }
+
+    /// Whether an outstation could be given an order: it is up, no request awaits its answer, and no OPERATE is due. It
+    /// couldn't as long as one is under way to it.
+    pub fn is_ready(&self, outstation: u8) -> bool
+        ensures { result ≡ is_ready_at (slice_get self.now.state.outstations outstation) }
+    {
+        match self.outstations.get(outstation) {
+            Some(master) => master.ready(),
             None => false,
         }
     }
@@ -248,7 +270,15 @@ impl Hub {
     ///   repeated fragment.
     /// - `meant`: each fragment reports what its octets mean, by the definition of responses.
     /// - `sound`: the picture shows each row of the point map by a value of its type that an ASDU can carry, there is a
-    ///   master for each outstation, and what waits for a client can be sent and is no more than may wait.
+    ///   master for each outstation, what waits for a client can be sent and is no more than may wait, and each order
+    ///   holds two places of its client until its outcome.
+    ///
+    /// And of controls:
+    /// - `bonds`: each request that operates an output names an execute that was accepted, and asks what its command asks
+    ///   of the outstation of its control. For each execute there is at most one DIRECT_OPERATE, or one SELECT, and after
+    ///   its success one OPERATE of the same; nothing that is lost or late leads to another.
+    /// - `outcomes`: what clients are told of orders is of accepted executes, of each one at most once, the client and the
+    ///   command of which it is: done where the outstation took what the newest request asked, and that operates.
     pub fn run(
         alloc: Global,
         settings: Settings,
@@ -260,6 +290,8 @@ impl Hub {
         ensures state { IfOk result (λ run.
             run.0.state ≡ state_after settings (history [] steps.items run.1.items)) }
         ensures promises { IfOk result (λ run. AtEach (Promises settings) (history [] steps.items run.1.items)) }
+        ensures bonds { IfOk result (λ run. AtEach (Bonds settings) (history [] steps.items run.1.items)) }
+        ensures outcomes { IfOk result (λ run. AtEach (TellsOnce settings) (history [] steps.items run.1.items)) }
     {
         let mut hub = Hub::new(alloc, settings)?;
         let replies = hub.make(&steps)?;
@@ -484,10 +516,8 @@ impl Hub {
     {
         self.reached(outstation)?;
         self.count(moment)?;
-        Ok(match self.take_order(outstation) {
-            Some(order) => self.outstations.order(outstation, order, self.moment),
-            None => self.outstations.next(outstation, self.moment, wall),
-        })
+        let order = self.take_order(outstation);
+        Ok(self.outstations.poll(outstation, order, self.moment, wall))
     }
 
     /// Takes the order that is due for an outstation, if one is.
@@ -584,30 +614,27 @@ impl Hub {
         ensures step { Answers self.old (steps.Frame client apdu.now moment) result self.new }
         ensures setup { self.new.setup ≡ self.old.setup }
     {
-        let session = self.session(client);
+        let sender = Sender {
+            client,
+            session: self.session(client),
+            moment,
+        };
         let settings = self.settings.get();
         let picture = self.picture.rows();
-        let Ok(event) = self
-            .clients
-            .frame(client, apdu, moment, settings, picture)
-        else {
+        let Ok(event) = self.clients.frame(client, apdu, moment, settings, picture) else {
             return Err(StepFault::Memory);
         };
-        match event {
-            Event::Taken => end_by(&mut self.controls, client, apdu),
-            Event::Command(command) => {
-                let up = is_control_up(&self.outstations, &command, settings);
-                let answer = self
-                    .controls
-                    .command(client, session, &command, settings, up, moment);
-                self.clients.answer(client, &command, said_by(answer));
-            }
-            Event::Closed(_) => self.controls.end(client),
-        }
+        settle(
+            &mut self.controls,
+            &mut self.clients,
+            &self.outstations,
+            settings,
+            &sender,
+            apdu,
+            &event,
+        );
         self.counts.raise(0, u64::from(begins));
-        if begins {
-            set_session(&mut self.sessions, client, self.counts.sessions());
-        }
+        set_session(&mut self.sessions, client, begins, self.counts.sessions());
         self.moment = moment;
         Ok(reply_of(event))
     }
@@ -654,8 +681,31 @@ impl Hub {
     }
 }
 
+/// Tells a proof what the type of indices keeps. It does nothing.
+fn attest_indices(controls: &[Control])
+    ensures { AllByRecursion HasShortIndex controls.now }
+{
+    for control in controls {
+        attest_index(control.index);
+    }
+}
+
+/// Of one index. It does nothing.
+fn attest_index(index: u16)
+    ensures { index < 2 ^ 16 }
+{}
+
+/// A client's session has this number, where one begins.
+fn set_session(sessions: &mut [u64; CLIENTS as usize], client: u8, begins: bool, number: u64)
+    ensures { sessions.new ≡ (if begins then change client (λ _. number) sessions.old else sessions.old) }
+{
+    if begins {
+        number_session(sessions, client, number);
+    }
+}
+
 /// A client's last session has this number.
-fn set_session(sessions: &mut [u64; CLIENTS as usize], client: u8, number: u64)
+fn number_session(sessions: &mut [u64; CLIENTS as usize], client: u8, number: u64)
     ensures { sessions.new ≡ change client (λ _. number) sessions.old }
 {
     let position = usize::from(client);

@@ -1,24 +1,27 @@
 //! What becomes of orders, and the clients that are told.
-ghost use Rattle.std.specs.Prelude.{◌≡◌, ◌×◌, ℕ, true, false, length, map, IfSome};
+ghost use Rattle.std.specs.Prelude.{◌≡◌, map, slice_get, IfSome};
 ghost use Rattle.std.specs.Option.{option_to_list};
 ghost use Rattle.dnp_master.specs.Master.{ended_by_tick, master_after_tick};
 ghost use Rattle.gw_control.specs.Held.{controls_after_losses};
 ghost use Rattle.gw_control.specs.Orders.{places};
 ghost use Rattle.gw_control.specs.Intents.{control_for};
 ghost use Rattle.gw_steps.specs.Controls.{clients_told, controls_after_all_ended, controls_after_taken, controls_with_ended, is_control_up, outcome_ended, outcomes_ended, outcomes_lost, said_by};
-ghost use Rattle.gw_hub.specs.Hub.{CanTell, HoldsPlaces};
+ghost use Rattle.gw_model.specs.Places.{change};
+ghost use Rattle.gw_station.specs.Frames.{HasPlace};
+ghost use Rattle.gw_steps.specs.Steps.{client_answered};
+ghost use Rattle.gw_hub.specs.Hub.{controls_settled, said_to_sender, CanOrder, CanTell, HoldsPlaces, IsActEvent};
 
 use gw_control::{Answer, Controls, MOST_WAITING, Outcome, control_for};
 use gw_map::Settings;
 use gw_model::Ended;
 use gw_parts::{Clients, Outstations};
-use gw_station::Said;
+use gw_station::{Event, Said};
 use iec_apci::{Apdu, Signal};
 use iec_command::Command;
 
 /// What is said of a command, by what the controls answer to it. A station gives no command for an address without a
 /// control of its type: it has sent it back.
-pub fn said_by(answer: Answer) -> Said
+fn said_by(answer: Answer) -> Said
     ensures { result ≡ said_by answer }
 {
     match answer {
@@ -42,11 +45,50 @@ pub fn is_control_up(outstations: &Outstations, command: &Command, settings: &Se
 }
 
 /// An APDU of a client that was taken, and carries no command for a control, ends its session where it is STOPDT act.
-pub fn end_by(controls: &mut Controls, client: u8, apdu: &Apdu)
+fn end_by(controls: &mut Controls, client: u8, apdu: &Apdu)
     ensures { controls.new ≡ controls_after_taken client apdu.now controls.old }
 {
     if let Apdu::U(Signal::StopAct) = apdu {
         controls.end(client);
+    }
+}
+
+/// Whose APDU came, in which of its sessions, and when, in milliseconds.
+#[derive(Clone, Copy)]
+pub struct Sender {
+    pub client: u8,
+    pub session: u64,
+    pub moment: u64,
+}
+
+/// Takes up with the controls what became of an APDU: a command for a control is answered, and STOPDT act or a close
+/// ends the session.
+pub fn settle(
+    controls: &mut Controls,
+    clients: &mut Clients,
+    outstations: &Outstations,
+    settings: &Settings,
+    sender: &Sender,
+    apdu: &Apdu,
+    event: &Event,
+)
+    requires place { IfSome (slice_get clients.old sender.now.client) (HasPlace event.now) }
+    requires acts { IsActEvent event.now }
+    requires number { CanOrder settings.now outstations.now sender.now event.now controls.old }
+    ensures clients { clients.new ≡ change sender.now.client
+        (client_answered (said_to_sender settings.now outstations.now sender.now controls.old) event.now) clients.old }
+    ensures controls { controls.new
+        ≡ controls_settled settings.now outstations.now sender.now apdu.now event.now controls.old }
+{
+    match event {
+        Event::Taken => end_by(controls, sender.client, apdu),
+        Event::Command(command) => {
+            let up = is_control_up(outstations, command, settings);
+            let (client, session) = (sender.client, sender.session);
+            let answer = controls.command(client, session, command, settings, up, sender.moment);
+            clients.answer(client, command, said_by(answer));
+        }
+        Event::Closed(_) => controls.end(sender.client),
     }
 }
 

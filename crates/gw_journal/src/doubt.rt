@@ -1,10 +1,8 @@
 //! What is doubtful in the settings.
 
-/// Something in the settings that reads like a slip, or that isn't served yet.
+/// Something in the settings that reads like a slip.
 #[derive(Clone, Copy)]
 pub enum Doubt {
-    /// So many controls are named, and none can be operated yet.
-    Controls(usize),
     /// The address of an outstation has no port.
     ConnectWithoutPort {
         /// The outstation.

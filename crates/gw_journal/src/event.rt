@@ -1,10 +1,12 @@
 //! What an operator is told.
 
 use crate::cause::Cause;
+use crate::control_event::{CommandEvent, OrderEvent};
 use crate::doubt::Doubt;
 use crate::failure::Failure;
 use crate::unreadable::Unreadable;
 use gw_text::RecordEnd;
+use iec_command::Command;
 use std::net::{IpAddr, SocketAddr};
 
 /// How much an event matters. Its number is the priority that journald reads in front of a line, as in `<4>`.
@@ -36,7 +38,7 @@ pub enum Event {
         /// How many outstations.
         outstations: usize,
     },
-    /// Something in the settings reads like a slip, or isn't served yet.
+    /// Something in the settings reads like a slip.
     Doubtful(Doubt),
     /// Control centres can connect here.
     Listening(SocketAddr),
@@ -97,6 +99,15 @@ pub enum Event {
         /// How many, since they were told last.
         count: u64,
     },
+    /// Something happened with an order to the outstation.
+    Order {
+        /// The outstation.
+        outstation: u8,
+        /// The number of the order.
+        order: u64,
+        /// What.
+        what: OrderEvent,
+    },
     /// A control centre connected.
     ClientConnected {
         /// Its place.
@@ -136,6 +147,17 @@ pub enum Event {
         /// How many, since they were told last.
         count: u64,
     },
+    /// Something happened with a command of it for a control.
+    Command {
+        /// Its place.
+        client: u8,
+        /// Where it connects from.
+        address: SocketAddr,
+        /// The command, as it came or as it goes back.
+        command: Command,
+        /// What.
+        what: CommandEvent,
+    },
     /// Further control centres have to wait.
     AllPlacesTaken,
     /// The next control centre is served again.
@@ -153,6 +175,8 @@ pub enum Event {
     RecordingEnded(RecordEnd),
     /// So many events weren't told, since they came faster than they were written.
     LeftOut(u64),
+    /// So many events of controls weren't.
+    ControlsLeftOut(u64),
     /// All workers have ended.
     Stopped,
 }
@@ -176,7 +200,10 @@ impl Event {
             Event::ClientLost { cause, .. } if cause.is_own() => Priority::Information,
             Event::OutstationLost { .. }
             | Event::OutstationUnreachable { .. }
-            | Event::NotAccepted(_) => Priority::Error,
+            | Event::NotAccepted(_)
+            | Event::ControlsLeftOut(_) => Priority::Error,
+            Event::Command { command, what, .. } => what.priority(command),
+            Event::Order { what, .. } => what.priority(),
             Event::Started { .. }
             | Event::Listening(_)
             | Event::OutstationConnected { .. }
@@ -213,6 +240,7 @@ impl Event {
             | Event::NotAccepted(_)
             | Event::RecordingEnded(_)
             | Event::LeftOut(_)
+            | Event::ControlsLeftOut(_)
             | Event::Stopped => Subject::Gateway,
             Event::OutstationConnected { outstation }
             | Event::OutstationUnreachable { outstation, .. }
@@ -222,7 +250,8 @@ impl Event {
             | Event::ClockNotSet { outstation }
             | Event::Unanswered { outstation, .. }
             | Event::FragmentRefused { outstation, .. }
-            | Event::OctetsSkipped { outstation, .. } => Subject::Outstation(*outstation),
+            | Event::OctetsSkipped { outstation, .. }
+            | Event::Order { outstation, .. } => Subject::Outstation(*outstation),
             Event::ClientConnected { client, address }
             | Event::TransferStarted { client, address }
             | Event::TransferStopped { client, address }
@@ -235,7 +264,20 @@ impl Event {
                 client,
                 address,
                 ..
+            }
+            | Event::Command {
+                client,
+                address,
+                ..
             } => Subject::Client(*client, *address),
+        }
+    }
+
+    /// Whether it tells of a control.
+    pub(crate) fn is_of_control(&self) -> bool {
+        match self {
+            Event::Command { .. } | Event::Order { .. } => true,
+            _ => false,
         }
     }
 }

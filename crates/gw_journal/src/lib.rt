@@ -4,6 +4,8 @@
 
 mod cause;
 mod client_figures;
+mod command_words;
+mod control_event;
 mod counted;
 mod doubt;
 mod event;
@@ -17,6 +19,7 @@ mod waiting;
 
 pub use cause::Cause;
 pub use client_figures::ClientFigures;
+pub use control_event::{CommandEvent, OrderEvent};
 pub use doubt::Doubt;
 pub use event::{Event, Priority};
 pub use failure::Failure;
@@ -25,4 +28,4 @@ pub use note_line::{Note, NoteLine};
 pub use outstation_figures::{Due, Noticed, OutstationFigures, Refused};
 pub use throttle::Throttle;
 pub use unreadable::Unreadable;
-pub use waiting::{MOST, Next, Waiting};
+pub use waiting::{MOST, MOST_OF_CONTROLS, Next, Waiting};

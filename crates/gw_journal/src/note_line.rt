@@ -1,5 +1,7 @@
 //! The lines of the journal.
 
+use crate::command_words::{AskedWords, ToldWords};
+use crate::control_event::CommandEvent;
 use crate::counted::{AndMore, Counted};
 use crate::doubt::Doubt;
 use crate::event::{Event, Subject};
@@ -101,6 +103,10 @@ impl<'a> NoteLine<'a> {
                 let events = Counted(*count, "event");
                 write!(f, "{events} left out")
             }
+            Event::ControlsLeftOut(count) => {
+                let events = Counted(*count, "event");
+                write!(f, "{events} of controls left out")
+            }
             Event::Stopped => f.write_str("stopped"),
             _ => Ok(()),
         }
@@ -130,13 +136,6 @@ impl<'a> NoteLine<'a> {
     /// Writes what is doubtful in the settings.
     fn write_doubt<W: fmt::Write>(&self, f: &mut fmt::Formatter<W>, doubt: Doubt) -> fmt::Result {
         match doubt {
-            Doubt::Controls(1) => f.write_str("1 control is named, and can't be operated yet"),
-            Doubt::Controls(count) => {
-                write!(
-                    f,
-                    "{count} controls are named, and none can be operated yet"
-                )
-            }
             Doubt::ConnectWithoutPort { outstation } => {
                 let place = self.place(outstation);
                 write!(
@@ -179,6 +178,7 @@ impl<'a> NoteLine<'a> {
                 let octets = Counted(*count, "octet");
                 write!(f, "{octets} skipped by the link")
             }
+            Event::Order { order, what, .. } => write!(f, "order {order} {what}"),
             _ => Ok(()),
         }
     }
@@ -194,6 +194,13 @@ impl<'a> NoteLine<'a> {
                 let observations = Counted(*count, "observation");
                 write!(f, "{observations} dropped, since too many waited")
             }
+            Event::Command { command, what, .. } => match *what {
+                CommandEvent::Came { order: Some(order) } => {
+                    write!(f, "asks: {}: order {order}", AskedWords(command))
+                }
+                CommandEvent::Came { order: None } => write!(f, "asks: {}", AskedWords(command)),
+                CommandEvent::Told => write!(f, "told: {}", ToldWords(command)),
+            },
             _ => Ok(()),
         }
     }

@@ -9,16 +9,45 @@ use std::collections::VecDeque;
 /// How many notes may wait.
 pub const MOST: usize = 1024;
 
+/// How many may where the next one tells of a control, so that other notes never keep one of these from being told.
+pub const MOST_OF_CONTROLS: usize = 4096;
+
 /// Notes that wait to be written. Where too many do the newest are left out and counted.
 #[derive(Drop)]
 pub struct Waiting {
-    /// At most `MOST`, and one that tells how many were left out.
+    /// Room for `MOST` from the beginning, and for one that tells how many were left out; for more only where notes of
+    /// controls come to wait behind these.
     notes: VecDeque<Note>,
-    /// How many notes found no room since the last one that did.
-    left_out: u64,
-    /// When the last of these was.
-    left_out_at: u64,
+    others: LeftOut,
+    of_controls: LeftOut,
     closed: bool,
+}
+
+/// The notes that found no room since the last one that did: how many, and when the last of them was.
+#[derive(Clone, Copy)]
+struct LeftOut {
+    count: u64,
+    at: u64,
+}
+
+impl LeftOut {
+    /// None.
+    fn nothing() -> LeftOut {
+        LeftOut { count: 0, at: 0 }
+    }
+
+    /// One more, at a time.
+    fn add(&mut self, wall: u64) {
+        self.count = self.count.saturating_add(1);
+        self.at = wall;
+    }
+
+    /// How many there are and when the last of them was, if there is one; then there is none.
+    fn take(&mut self) -> Option<(u64, u64)> {
+        let LeftOut { count, at } = *self;
+        self.count = 0;
+        if count == 0 { None } else { Some((count, at)) }
+    }
 }
 
 /// What is written next.
@@ -38,23 +67,38 @@ impl Waiting {
         let notes = VecDeque::with_capacity(alloc, MOST + 1)?;
         Ok(Waiting {
             notes,
-            left_out: 0,
-            left_out_at: 0,
+            others: LeftOut::nothing(),
+            of_controls: LeftOut::nothing(),
             closed: false,
         })
     }
 
     /// One more note, where there is room, behind one that tells how many found none before it.
     pub fn add(&mut self, note: Note) {
-        if self.notes.len() < MOST {
+        if note.event.is_of_control() {
+            self.add_of_control(note);
+        } else if self.notes.len() < MOST {
             if let Some(left_out) = self.take_left_out() {
                 let _ = self.notes.push_back(left_out);
             }
             let _ = self.notes.push_back(note);
         } else {
-            self.left_out = self.left_out.saturating_add(1);
-            self.left_out_at = note.wall;
+            self.others.add(note.wall);
         }
+    }
+
+    /// One more note of a control, likewise.
+    fn add_of_control(&mut self, note: Note) {
+        let wall = note.wall;
+        if self.notes.len() < MOST_OF_CONTROLS {
+            if let Some(left_out) = self.take_controls_left_out() {
+                let _ = self.notes.push_back(left_out);
+            }
+            if self.notes.push_back(note).is_ok() {
+                return;
+            }
+        }
+        self.of_controls.add(wall);
     }
 
     /// No further note comes.
@@ -67,6 +111,9 @@ impl Waiting {
         if let Some(note) = self.notes.pop_front() {
             return Next::Note(note);
         }
+        if let Some(note) = self.take_controls_left_out() {
+            return Next::Note(note);
+        }
         match self.take_left_out() {
             Some(note) => Next::Note(note),
             None if self.closed => Next::End,
@@ -76,14 +123,15 @@ impl Waiting {
 
     /// Takes the note that tells how many found no room, if some didn't.
     fn take_left_out(&mut self) -> Option<Note> {
-        if self.left_out == 0 {
-            return None;
-        }
-        let event = Event::LeftOut(self.left_out);
-        self.left_out = 0;
-        Some(Note {
-            wall: self.left_out_at,
-            event,
-        })
+        let (count, wall) = self.others.take()?;
+        let event = Event::LeftOut(count);
+        Some(Note { wall, event })
+    }
+
+    /// Takes the note that tells how many notes of controls found no room, if some didn't.
+    fn take_controls_left_out(&mut self) -> Option<Note> {
+        let (count, wall) = self.of_controls.take()?;
+        let event = Event::ControlsLeftOut(count);
+        Some(Note { wall, event })
     }
 }

@@ -1,18 +1,18 @@
 -- The masters of all outstations.
 use Rattle.std.specs.Prelude.{ℕ, Bool, false, is_some, Option, Some, None}
 use Rattle.gw_model.specs.declared.control.Order.{Order}
-use Rattle.dnp_master.specs.Master.{Master, request_given, request_ordered, task_given}
+use Rattle.dnp_master.specs.Master.{Master, master_after_next, master_after_order, task_given}
 use Rattle.gw_steps.specs.declared.step.Reply.{Reply}
-use Rattle.gw_steps.specs.declared.step.Reply.TheVariants as replies
-use Rattle.gw_steps.specs.Steps.{outstation_reply, reply_asking}
+use Rattle.gw_steps.specs.Steps.{outstation_reply, reply_asking, request_polled}
 
--- the reply to a poll at a moment and a wall time
-abbrev pub reply_to_poll : ℕ → ℕ → Option Master → Reply
-reply_to_poll moment wall = outstation_reply (λ m. reply_asking (request_given moment wall m))
+-- the reply to a poll at a moment and a wall time, by which this order is given, or none
+abbrev pub reply_to_poll : Option Order → ℕ → ℕ → Option Master → Reply
+reply_to_poll order moment wall = outstation_reply (λ m. reply_asking (request_polled order moment wall m))
 
--- the reply to a poll by which an order is given
-abbrev pub reply_to_order : Order → Option Master → Reply
-reply_to_order order = outstation_reply (λ m. replies.Request (request_ordered order m))
+-- after it
+abbrev pub master_polled : Option Order → ℕ → ℕ → Master → Master
+master_polled None moment wall m = master_after_next moment wall m
+master_polled (Some order) moment wall m = master_after_order moment order m
 
 -- a poll at a moment would be answered with a request
 abbrev pub is_due : ℕ → Option Master → Bool

@@ -1,5 +1,5 @@
 //! All outstations, by their position.
-ghost use Rattle.std.specs.Prelude.{◌≡◌, ◌<◌, length, map, option_and_then, option_copied, slice_get, true, IfOk, IfSome};
+ghost use Rattle.std.specs.Prelude.{◌≡◌, ◌<◌, length, map, option_and_then, option_copied, slice_get, true, IfOk, IfSome, None, Some, ℕ};
 ghost use Rattle.std.specs.Borrow.{sem};
 ghost use Rattle.std.specs.Option.{option_copied_mut};
 ghost use Rattle.gw_model.specs.Places.{change};
@@ -7,7 +7,7 @@ ghost use Rattle.dnp_master.specs.Master.{ended_by_tick, is_ready, master_after_
 ghost use Rattle.dnp_master.specs.Fragments.{master_after_fragment};
 ghost use Rattle.gw_parts.specs.Lending.{LendsMaster};
 ghost use Rattle.gw_steps.specs.Controls.{ended_lost};
-ghost use Rattle.gw_parts.specs.Outstations.{reply_to_order, reply_to_poll};
+ghost use Rattle.gw_parts.specs.Outstations.{master_polled, reply_to_poll};
 
 use dnp_app::Response;
 use dnp_master::Master;
@@ -116,9 +116,28 @@ impl Outstations {
         }
     }
 
-    /// The next request of an outstation, at a moment and a wall time.
-    pub fn next(&mut self, outstation: u8, moment: u64, wall: u64) -> Reply
-        ensures reply { result ≡ reply_to_poll moment wall (slice_get self.old outstation) }
+    /// The next request of an outstation, at a moment and a wall time: that of an order, where one is given to it, which
+    /// is ready then, or else of what is due first.
+    pub fn poll(
+        &mut self,
+        outstation: u8,
+        order: Option<Order>,
+        moment: u64,
+        wall: u64,
+    ) -> Reply
+        requires { IfSome order (λ _. IfSome (slice_get self.old outstation) (λ m. is_ready m ≡ true)) }
+        ensures reply { result ≡ reply_to_poll order moment wall (slice_get self.old outstation) }
+        ensures masters { self.new ≡ change outstation (master_polled order moment wall) self.old }
+    {
+        match order {
+            Some(order) => self.order(outstation, order, moment),
+            None => self.next(outstation, moment, wall),
+        }
+    }
+
+    /// The request of what is due first.
+    fn next(&mut self, outstation: u8, moment: u64, wall: u64) -> Reply
+        ensures reply { result ≡ reply_to_poll None moment wall (slice_get self.old outstation) }
         ensures masters { self.new ≡ change outstation (master_after_next moment wall) self.old }
     {
         let Some(master) = self.get_mut(outstation) else {
@@ -130,10 +149,11 @@ impl Outstations {
         }
     }
 
-    /// The request of an order of an outstation that is ready, at a moment.
-    pub fn order(&mut self, outstation: u8, order: Order, moment: u64) -> Reply
+    /// The request of an order.
+    fn order(&mut self, outstation: u8, order: Order, moment: u64) -> Reply
         requires { IfSome (slice_get self.old outstation) (λ m. is_ready m ≡ true) }
-        ensures reply { result ≡ reply_to_order order (slice_get self.old outstation) }
+        ensures reply { (wall : ℕ)
+            → result ≡ reply_to_poll (Some order) moment wall (slice_get self.old outstation) }
         ensures masters { self.new ≡ change outstation (master_after_order moment order) self.old }
     {
         match self.get_mut(outstation) {

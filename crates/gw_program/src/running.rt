@@ -279,7 +279,7 @@ fn started(
     })
 }
 
-/// Tells what reads like a slip in the settings, or isn't served yet.
+/// Tells what reads like a slip in the settings.
 fn tell_doubts<W: Wait>(
     alloc: Global,
     rt: &W,
@@ -287,10 +287,6 @@ fn tell_doubts<W: Wait>(
     wall: u64,
     settings: &Settings,
 ) -> Result<(), AllocError> {
-    let controls = settings.controls().len();
-    if controls > 0 {
-        journal.tell(rt, wall, Event::Doubtful(Doubt::Controls(controls)));
-    }
     for warning in &warnings_of(alloc, settings)? {
         if let Some(doubt) = doubt_of(*warning) {
             journal.tell(rt, wall, Event::Doubtful(doubt));

@@ -5,6 +5,7 @@
 mod accepting;
 mod board;
 mod client;
+mod controls;
 mod duty;
 mod ending;
 mod hold;

@@ -26,7 +26,7 @@ pub struct Watched<'a, R, C, G> {
 
 impl<'a, R: Wait, C: Clock, G: Gate> Watched<'a, R, C, G> {
     /// Tells an operator what happened just now.
-    fn tell(&self, event: Event) {
+    pub(crate) fn tell(&self, event: Event) {
         self.journal.tell(self.rt, self.clock.wall(), event);
     }
 
@@ -148,10 +148,12 @@ impl<'a, R: Wait, C: Clock, G: Gate> Gate for Watched<'a, R, C, G> {
             ) => self.signalled(client, signal),
             _ => {}
         }
+        self.tell_of_controls(&call);
         self.gate.made(call);
     }
 
     fn pumped(&self, run: &Run<'_>) {
+        self.tell_of_commands(run);
         self.gate.pumped(run);
     }
 }

@@ -61,6 +61,10 @@ fn share_of<L: Ledger>(pass: Pass<L>) -> Share<L>
     ensures parts { result.parts ≡ 1 }
     ensures amount { result.amount ≡ pass.made }
 {
-    let Pass { share, actor: _ } = pass;
+    let Pass {
+        share,
+        actor: _,
+        orders: _,
+    } = pass;
     share
 }

@@ -20,7 +20,7 @@ impl Watch {
         match topic {
             Topic::Client(client) => Watch::One(client, hub.dropped(client)),
             Topic::Tick => Watch::All(dropped_in(hub)),
-            Topic::Poll | Topic::Pump(_) | Topic::Fragment(_) | Topic::Up(_) | Topic::Loss(_) =>
+            Topic::Poll(_) | Topic::Pump(_) | Topic::Fragment(_) | Topic::Up(_) | Topic::Loss(_) =>
                 Watch::Nobody,
         }
     }

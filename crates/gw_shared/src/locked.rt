@@ -10,6 +10,7 @@ use crate::awake::Awake;
 use crate::batch::{Batch, LONGEST_APDU};
 use crate::dropped::{Dropped, Watch};
 use crate::figures::Figures;
+use crate::orders::UnderWay;
 use crate::pass::Pass;
 use crate::pumped::{Pumped, apdu_in};
 use crate::roused::{Roused, Topic};
@@ -23,8 +24,8 @@ use std::sync::ledger::{Book, Ledger, Share};
 /// How many pumps are made at most before others may take the lock.
 const MOST_PUMPS: u32 = 64;
 
-/// A hub with its recorder, the count of calls, and the book of all passes' counts; what was dropped for clients, and which
-/// writers are awake, which no contract sees.
+/// A hub with its recorder, the count of calls, and the book of all passes' counts; what was dropped for clients, which
+/// writers are awake, and which orders are under way, which no contract sees.
 #[derive(Drop)]
 pub struct Core<L: Ledger> {
     hub: Hub,
@@ -33,6 +34,7 @@ pub struct Core<L: Ledger> {
     book: Book<L>,
     dropped: Dropped,
     awake: Awake,
+    under_way: UnderWay,
 }
 
 impl<L: Ledger> Model for Core<L> {
@@ -72,6 +74,7 @@ impl<L: Ledger> Core<L> {
             book,
             dropped: Dropped::new(),
             awake: Awake::nobody(),
+            under_way: UnderWay::nothing(),
         })
     }
 
@@ -112,17 +115,30 @@ impl<L: Ledger> Core<L> {
         ensures { Answers pass.old pass.new step result.0 }
     {
         let topic = Topic::of(&step);
+        let orders = self.hub.orders();
         let answer = self.step(pass, step);
-        let roused = self.rouse(topic, &answer.1);
+        let roused = self.rouse(pass, topic, &answer.1, orders);
         (answer, roused)
     }
 
-    /// Those of the workers whom a call serves for whom the bell has to ring.
-    fn rouse(&mut self, topic: Topic, reply: &Result<Reply, StepFault>) -> Roused
-        ensures { self.new ≡ self.old }
+    /// Those of the workers whom a call serves for whom the bell has to ring; there were so many orders before. What the
+    /// call did to orders is kept with its pass.
+    fn rouse(
+        &mut self,
+        pass: &mut Pass<L>,
+        topic: Topic,
+        reply: &Result<Reply, StepFault>,
+        before: u64,
+    ) -> Roused
+        ensures core { self.new ≡ self.old }
+        ensures pass { pass.new ≡ pass.old }
     {
+        let orders = &mut pass.orders;
+        self.under_way.note(topic, reply, before, &self.hub, orders);
+        let ordered = orders.accepted().is_some();
         self.awake.told(topic, reply);
-        self.awake.rouse(Roused::by(topic, reply, &self.hub))
+        self.awake
+            .rouse(Roused::by(topic, reply, ordered, &self.hub))
     }
 
     /// Pumps for a client at a moment, one call after another, and puts the APDUs into a batch: until an answer is none, or
@@ -233,6 +249,7 @@ impl<L: Ledger> Core<L> {
             book: _,
             dropped: _,
             awake: _,
+            under_way: _,
         } = self;
         (hub, recorder)
     }

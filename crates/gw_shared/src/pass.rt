@@ -1,15 +1,17 @@
 //! The right to make calls.
 ghost use Rattle.std.specs.Prelude.{◌≡◌};
 
+use crate::orders::Orders;
 use std::marker::Model;
 use std::sync::ledger::{Ledger, Share};
 
 /// The right of one actor to make calls on a shared core, and the count of those that it made. A pass fits one core alone,
-/// since it has that core's type.
+/// since it has that core's type. It also has what its last call did to orders, which no contract sees.
 #[derive(Drop)]
 pub struct Pass<L: Ledger> {
     pub(crate) share: Share<L>,
     pub(crate) actor: usize,
+    pub(crate) orders: Orders,
 }
 
 impl<L: Ledger> Model for Pass<L> {
@@ -29,5 +31,10 @@ impl<L: Ledger> Pass<L> {
         ensures { result ≡ self.now.actor }
     {
         self.actor
+    }
+
+    /// What its last call did to orders, besides what the reply told.
+    pub fn orders(&self) -> &Orders {
+        &self.orders
     }
 }

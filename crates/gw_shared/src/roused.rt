@@ -11,8 +11,8 @@ pub const CLIENTS: u8 = 8;
 /// What a step is about.
 #[derive(Clone, Copy, Debug, PartialEq, Eq)]
 pub enum Topic {
-    /// A poll, which changes nothing that another waits for.
-    Poll,
+    /// A poll of an outstation, which changes nothing that another waits for.
+    Poll(u8),
     /// A pump for a client, which changes nothing either.
     Pump(u8),
     /// A fragment of an outstation.
@@ -38,7 +38,7 @@ impl Topic {
             | Step::ClientDown { client, .. }
             | Step::Frame { client, .. } => Topic::Client(*client),
             Step::Tick { .. } => Topic::Tick,
-            Step::Poll { .. } => Topic::Poll,
+            Step::Poll { outstation, .. } => Topic::Poll(*outstation),
             Step::Pump { client, .. } => Topic::Pump(*client),
         }
     }
@@ -68,10 +68,10 @@ impl Roused {
         }
     }
 
-    /// Whom a step serves that left the hub so with this reply: the writer of a peer that came, went or had its connection
-    /// closed; besides these, whoever has something to hand over now. A step with a fault, and a fragment that wasn't
-    /// accepted, serve nobody.
-    pub fn by(topic: Topic, reply: &Result<Reply, StepFault>, hub: &Hub) -> Roused {
+    /// Whom a step serves that left the hub so with this reply, and accepted an order or didn't: the writer of a peer that
+    /// came, went or had its connection closed; besides these, whoever has something to hand over now. A step with a fault,
+    /// and a fragment that wasn't accepted, serve nobody.
+    pub fn by(topic: Topic, reply: &Result<Reply, StepFault>, ordered: bool, hub: &Hub) -> Roused {
         match (topic, reply) {
             (_, Err(_) | Ok(Reply::Verdict(Verdict::Repeated { .. } | Verdict::Ignored(_)))) => {
                 Roused::nobody()
@@ -93,10 +93,10 @@ impl Roused {
                 clients: due_clients(hub),
             },
             (Topic::Client(client), Ok(reply)) => Roused {
-                outstations: 0,
+                outstations: if ordered { due_outstations(hub) } else { 0 },
                 clients: served_client(client, reply, hub),
             },
-            (Topic::Poll | Topic::Pump(_) | Topic::Tick, Ok(_)) => Roused::nobody(),
+            (Topic::Poll(_) | Topic::Pump(_) | Topic::Tick, Ok(_)) => Roused::nobody(),
         }
     }
 
@@ -141,7 +141,7 @@ impl Roused {
 }
 
 /// The bit of an outstation; none beyond the 32nd.
-fn outstation_bit(outstation: u8) -> u32 {
+pub(crate) fn outstation_bit(outstation: u8) -> u32 {
     if outstation < OUTSTATIONS {
         1 << outstation
     } else {

@@ -8,6 +8,7 @@ use crate::batch::Batch;
 use crate::bell::Bell;
 use crate::figures::Figures;
 use crate::locked::Core;
+use crate::orders::Orders;
 use crate::pass::Pass;
 use crate::pumped::Pumped;
 use crate::roused::{CLIENTS, OUTSTATIONS, Roused};
@@ -64,11 +65,13 @@ fn passes<L: Ledger>(alloc: Global, share: Share<L>, actors: usize) -> Result<Ve
         passes.push(Pass {
             share: share.split_off(1, 0),
             actor,
+            orders: Orders::untouched(),
         })?;
     }
     passes.push(Pass {
         share,
         actor: actors - 1,
+        orders: Orders::untouched(),
     })?;
     Ok(passes)
 }

@@ -3,8 +3,9 @@ ghost use Rattle.std.specs.Prelude.{◌≡◌};
 
 use crate::gate::Gate;
 use dnp_app::Response;
-use gw_shared::{Pass, Pumped, Reply, Shared, Step, StepFault};
+use gw_shared::{Orders, Pass, Pumped, Reply, Shared, Step, StepFault};
 use iec_apci::{Apdu, Signal};
+use iec_command::{Action, Command, read_command};
 use std::sync::Wait;
 use std::sync::ledger::Ledger;
 
@@ -30,11 +31,12 @@ pub enum About {
     ClientUp(u8),
     /// A client is lost.
     ClientDown(u8),
-    /// An APDU of a client: N(R) of an I or S format, or the function of a U format.
+    /// An APDU of a client: N(R) of an I or S format, the function of a U format, or a command for a control.
     Frame {
         client: u8,
         acknowledged: Option<u16>,
         signal: Option<Signal>,
+        command: Option<Command>,
     },
     /// An APDU for a client is asked for.
     Pump(u8),
@@ -61,6 +63,7 @@ impl About {
                 client: *client,
                 acknowledged: acknowledged_by(apdu),
                 signal: signal_of(apdu),
+                command: command_in(apdu),
             },
             Step::Pump { client, .. } => About::Pump(*client),
             Step::Tick { .. } => About::Tick,
@@ -93,6 +96,31 @@ fn signal_of(apdu: &Apdu) -> Option<Signal> {
     }
 }
 
+/// The command for a control in an APDU, if there is one.
+fn command_in(apdu: &Apdu) -> Option<Command> {
+    match apdu {
+        Apdu::I { asdu, .. } => control_command(asdu.as_slice()),
+        Apdu::S { .. } | Apdu::U(_) => None,
+    }
+}
+
+/// The command for a control that an ASDU spells, in whichever direction it goes: a single command, a double command or a
+/// set point.
+pub fn control_command(asdu: &[u8]) -> Option<Command> {
+    match read_command(asdu) {
+        Ok(command) if is_for_control(&command.action) => Some(command),
+        _ => None,
+    }
+}
+
+/// Whether a type of command operates controls.
+fn is_for_control(action: &Action) -> bool {
+    match action {
+        Action::Single(_) | Action::Double(_) | Action::Setpoint(_) => true,
+        Action::Interrogation { .. } | Action::CounterInterrogation { .. } | Action::Read => false,
+    }
+}
+
 /// A step that was made.
 #[derive(Drop)]
 pub struct Call<'a> {
@@ -104,6 +132,8 @@ pub struct Call<'a> {
     pub line: Option<Vec<u8>>,
     /// What it was answered with.
     pub reply: &'a Result<Reply, StepFault>,
+    /// What it did to orders besides.
+    pub orders: &'a Orders,
 }
 
 /// Pumps for a client that were made one after another, at one moment.
@@ -137,6 +167,7 @@ pub fn make_call<L: Ledger, R: Wait, G: Gate>(
         about,
         line,
         reply: &reply,
+        orders: pass.orders(),
     });
     reply
 }

@@ -20,13 +20,13 @@ mod times;
 mod wire;
 mod worker_end;
 
-pub use call::{About, Call, Run, make_call};
+pub use call::{About, Call, Run, control_command, make_call};
 pub use client_reading::client_reader;
 pub use client_writing::client_writer;
 pub use ends::{Arrival, Incoming, Outgoing, Unwritten};
 pub use gate::{Gate, OpenGate, Place};
 pub use gw_shared::{
-    Batch, Bell, CloseFault, Closed, Core, Figures, Hub, Pass, Pumped, Reply, Shared, Step,
+    Batch, Bell, CloseFault, Closed, Core, Figures, Hub, Orders, Pass, Pumped, Reply, Shared, Step,
     StepFault, Verdict, Why,
 };
 pub use line::Line;

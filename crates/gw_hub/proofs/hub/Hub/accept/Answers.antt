@@ -3,8 +3,11 @@ use Rattle.gw_picture.specs.Shown.{ShowsRows}
 use Rattle.gw_picture.proofs.ByType.{reports_rows}
 use Rattle.gw_picture.proofs.Lists.{change-length}
 use Rattle.gw_steps.specs.State.{Counts}
+use Rattle.std.specs.Option.{option_to_list}
+use Rattle.gw_steps.specs.Controls.{outcome_ended}
+use Rattle.gw_hub.proofs.Holding.{left_by_end, left_by_news, news_holds, orderly}
 use Rattle.gw_hub.proofs.Taking.{can_rise_news, news_can, sound_came}
-use Rattle.gw_hub.proofs.Sessions.{kept_mapped, kept_with_news}
+use Rattle.gw_hub.proofs.Sessions.{kept_mapped, kept_outcomes, kept_with_news}
 use Rattle.gw_hub.proofs.hub.Hub.accept.Goals as goal
 
 pub take_reports-news-requires : goal.take_reports-news-requires
@@ -15,6 +18,14 @@ take_reports-news-requires c =
 pub invariant_of-self : goal.invariant_of-self
 invariant_of-self c =
     let before = rw (← c.get.ensures) at c.self.invariant.sound in
+    let clients =
+    sound_came _ c.self.inside.counts.steps _ c.self.inside.counts.news _ _ _ _
+    c.take_reports-news.ensures.clients c.take_reports-news.ensures.sendable
+    (omega (arith, ap (λ (counts : Counts). counts.steps) c.raise.ensures))
+    (omega (arith, c.take_reports-news.ensures.count, ap (λ (counts : Counts). counts.news) c.raise.ensures))
+    before.clients in
+    let told = left_by_news _ _ _ _ _ _ _ _ _ _ c.take_reports-news.ensures.clients clients (orderly _ _ before) in
+    let orders = left_by_end _ _ _ _ _ _ _ _ _ _ c.end_order.ensures.clients c.end_order.ensures.controls told in
     rw (← c.get.ensures)
     (record {
       sound = record {
@@ -22,12 +33,18 @@ invariant_of-self c =
         rows = subst (ShowsRows _) (sym c.take_reports-news.ensures.picture)
             (reports_rows c.get.result.now.station.offset_minutes _ _ c.reports-reports.result.now before.rows);
         masters = ap length c.take.ensures ∙ (change-length _ _ _ ∙ before.masters);
-        clients =
-            sound_came _ c.self.inside.counts.steps _ c.self.inside.counts.news _ _ _ _
-            c.take_reports-news.ensures.clients c.take_reports-news.ensures.sendable
-            (omega (arith, ap (λ (counts : Counts). counts.steps) c.raise.ensures))
-            (omega (arith, c.take_reports-news.ensures.count, ap (λ (counts : Counts). counts.news) c.raise.ensures))
-            before.clients;
+        clients = orders.clients;
+        controls = orders.controls;
+        commands = orders.commands;
+        held = orders.held;
       };
-      sessions = kept_mapped _ _ _ c.take_reports-news.ensures.clients (kept_with_news _) c.self.invariant.sessions;
+      sessions = kept_outcomes (option_to_list (outcome_ended _ c.args.ended c.self.inside.controls)) _ _
+          c.end_order.ensures.clients
+          (kept_mapped _ _ _ c.take_reports-news.ensures.clients (kept_with_news _) c.self.invariant.sessions);
     })
+
+pub end_order-requires : goal.end_order-requires
+end_order-requires c =
+    let before = rw (← c.get.ensures) at c.self.invariant.sound in
+    news_holds _ _ _ _ _ _ _ _ c.take_reports-news.ensures.clients c.take_reports-news.ensures.sendable
+    (orderly _ _ before)

@@ -1,4 +1,8 @@
+use Rattle.std.proofs.Common.{◌≡◌, false, Some, rules}
+use Rattle.std.specs.Prelude.{option_map, slice_get}
+use Rattle.gw_station.specs.Client.{Client, is_up}
 use Rattle.gw_station.proofs.Sounds.{sound_after_up}
+use Rattle.gw_hub.proofs.Holding.{up_held}
 use Rattle.gw_hub.proofs.Taking.{sound_change_here}
 use Rattle.gw_hub.proofs.Sessions.{kept_after_up, kept_changed}
 use Rattle.gw_hub.proofs.hub.Hub.client_up.Goals as goal
@@ -6,6 +10,8 @@ use Rattle.gw_hub.proofs.hub.Hub.client_up.Goals as goal
 pub invariant_of-self : goal.invariant_of-self
 invariant_of-self c =
     let before = c.self-2.invariant.sound in
+    let down : option_map (λ (k : Client). is_up k.stage) (slice_get c.self-2.inside.clients c.args.client)
+    ≡ Some false = search (rules, c.presence.ensures, c.in-Some-false.is, c.in_ok-count.ensures.ok) in
     record {
       sound = record {
         picture = before.picture;
@@ -13,6 +19,10 @@ invariant_of-self c =
         masters = before.masters;
         clients = sound_change_here _ _ _ c.args.client _ _ _ c.come_up.ensures
             (sound_after_up _ _ _ c.self-2.inside.moment) before.clients;
+        controls = before.controls;
+        commands = before.commands;
+        held = rw c.come_up.ensures (up_held _ _ _ c.args.client c.self-2.inside.moment _ c.self-2.inside.controls
+            down before.clients before.held);
       };
       sessions = kept_changed c.args.client _ _ _ c.come_up.ensures
           (λ k _. kept_after_up c.self-2.inside.moment k) c.self-2.invariant.sessions;

@@ -13,8 +13,18 @@ invariant_of-result c =
     let clients : c.in_ok-clients.clients ≡ (at_first settings).clients = search rules in
     let common : c.in_ok-common.common ≡ settings = search rules in
     let counts : c.new-counts.result ≡ (at_first settings).counts = search rules in
-    rw (outstations, picture, clients, counts, common)
+    let controls : c.in_ok-controls.controls ≡ (at_first settings).controls = search rules in
+    let first = sound_first settings in
+    rw (outstations, picture, clients, counts, common, controls)
     (record {
-      sound = sound_first settings;
+      sound = record {
+        picture = first.picture;
+        rows = first.rows;
+        masters = first.masters;
+        clients = first.clients;
+        controls = first.controls;
+        commands = first.commands;
+        held = first.held;
+      };
       sessions = kept_at_first (limits_of settings.station) settings.station.queue client_limit;
     })

@@ -7,8 +7,12 @@ use Rattle.gw_picture.proofs.ByType.{loss_rows}
 use Rattle.gw_picture.proofs.Lists.{change-length}
 use Rattle.gw_picture.proofs.Shows.{loss_shown}
 use Rattle.gw_steps.specs.State.{Counts}
+use Rattle.std.specs.Option.{option_to_list}
+use Rattle.gw_control.specs.Orders.{places}
+use Rattle.gw_steps.specs.Controls.{outcome_ended, outcomes_lost}
+use Rattle.gw_hub.proofs.Holding.{end_holds, left_by_end, left_by_loss, left_by_news, news_holds, orderly}
 use Rattle.gw_hub.proofs.Taking.{can_rise_news, news_can, sound_came}
-use Rattle.gw_hub.proofs.Sessions.{kept_mapped, kept_with_news}
+use Rattle.gw_hub.proofs.Sessions.{kept_mapped, kept_outcomes, kept_with_news}
 use Rattle.gw_hub.proofs.hub.Hub.outstation_down.Goals as goal
 
 pub lose_rows-requires : goal.lose_rows-requires
@@ -24,18 +28,41 @@ invariant_of-self c =
     let same = ap (λ (s : Setup). length (losses_of c.args.outstation s.rows c.self.inside.picture))
     (c.get.ensures ∙ sym c.get-2.ensures) in
     let before = rw (← c.get-2.ensures) at c.self.invariant.sound in
+    let clients =
+    sound_came _ c.self.inside.counts.steps _ c.self.inside.counts.news _ _ _ _ c.lose_rows.ensures.clients
+    c.lose_rows.ensures.sendable
+    (omega (arith, ap (λ (counts : Counts). counts.steps) c.raise.ensures))
+    (omega (arith, c.losses-news.ensures, same, ap (λ (counts : Counts). counts.news) c.raise.ensures))
+    before.clients in
+    let told = left_by_news _ _ _ _ _ _ _ _ _ _ c.lose_rows.ensures.clients clients (orderly _ _ before) in
+    let ended = left_by_end _ _ _ _ _ c.go_down-ended.result _ _ _ _ c.end_order.ensures.clients c.end_order.ensures.controls told in
+    let orders =
+    left_by_loss _ _ _ _ places c.args.outstation _ _ _ _ c.lose_orders.ensures.clients c.lose_orders.ensures.controls
+    ended in
     rw (← c.get-2.ensures)
     (record {
       sound = record {
         picture = subst (AllByRecursion IsShown) (sym c.lose_rows.ensures.picture) (loss_shown _ _ _ before.picture);
         rows = subst (ShowsRows _) (sym c.lose_rows.ensures.picture) (loss_rows _ _ _ before.rows);
-        masters = ap length c.go_down.ensures ∙ (change-length c.args.outstation _ _ ∙ before.masters);
-        clients =
-            sound_came _ c.self.inside.counts.steps _ c.self.inside.counts.news _ _ _ _ c.lose_rows.ensures.clients
-            c.lose_rows.ensures.sendable
-            (omega (arith, ap (λ (counts : Counts). counts.steps) c.raise.ensures))
-            (omega (arith, c.losses-news.ensures, same, ap (λ (counts : Counts). counts.news) c.raise.ensures))
-            before.clients;
+        masters = ap length c.go_down-ended.ensures.masters ∙ (change-length c.args.outstation _ _ ∙ before.masters);
+        clients = orders.clients;
+        controls = orders.controls;
+        commands = orders.commands;
+        held = orders.held;
       };
-      sessions = kept_mapped _ _ _ c.lose_rows.ensures.clients (kept_with_news _) c.self.invariant.sessions;
+      sessions = kept_outcomes (outcomes_lost places c.args.outstation c.end_order.new.controls) _ _
+          c.lose_orders.ensures.clients (kept_outcomes
+          (option_to_list (outcome_ended _ c.go_down-ended.result c.self.inside.controls)) _ _ c.end_order.ensures.clients
+          (kept_mapped _ _ _ c.lose_rows.ensures.clients (kept_with_news _) c.self.invariant.sessions));
     })
+
+pub end_order-requires : goal.end_order-requires
+end_order-requires c =
+    let before = rw (← c.get-2.ensures) at c.self.invariant.sound in
+    news_holds _ _ _ _ _ _ _ _ c.lose_rows.ensures.clients c.lose_rows.ensures.sendable (orderly _ _ before)
+
+pub lose_orders-requires : goal.lose_orders-requires
+lose_orders-requires c =
+    let before = rw (← c.get-2.ensures) at c.self.invariant.sound in
+    end_holds _ c.go_down-ended.result _ _ _ _ c.end_order.ensures.clients c.end_order.ensures.controls
+    (news_holds _ _ _ _ _ _ _ _ c.lose_rows.ensures.clients c.lose_rows.ensures.sendable (orderly _ _ before))

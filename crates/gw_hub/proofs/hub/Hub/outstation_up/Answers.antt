@@ -11,6 +11,9 @@ invariant_of-self c =
         rows = before.rows;
         masters = ap length c.come_up.ensures ∙ (change-length c.args.outstation _ _ ∙ before.masters);
         clients = before.clients;
+        controls = before.controls;
+        commands = before.commands;
+        held = before.held;
       };
       sessions = c.self-2.invariant.sessions;
     }

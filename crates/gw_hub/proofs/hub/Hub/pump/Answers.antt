@@ -9,6 +9,7 @@ use Rattle.gw_steps.specs.State.{State}
 use Rattle.gw_steps.specs.Steps.{fault_of, can_rise, latest, outcome}
 use Rattle.gw_parts.specs.Clients.{reply_to_pump}
 use Rattle.gw_hub.specs.Hub.{Hub, IsCounted, step_with}
+use Rattle.gw_hub.proofs.Holding.{held_kept, pumped_held}
 use Rattle.gw_hub.proofs.Taking.{sound_change, pumps_can}
 use Rattle.gw_hub.proofs.Sessions.{kept_after_pump, kept_changed}
 use Rattle.gw_hub.proofs.hub.Hub.pump.Goals as goal
@@ -29,6 +30,10 @@ invariant_of-self c =
         masters = before.masters;
         clients = sound_change _ counted.before _ _ _ c.args.client _ _ _ c.pump.ensures.clients counted.counted
             (omega arith) (sound_after_pump _ _ _ c.self.inside.moment) counted.sound;
+        controls = before.controls;
+        commands = before.commands;
+        held = rw c.pump.ensures.clients
+            (held_kept c.args.client _ _ c.self.inside.controls (pumped_held c.self.inside.moment) before.held);
       };
       sessions = kept_changed c.args.client _ _ _ c.pump.ensures.clients
           (kept_after_pump c.self.inside.moment) c.self.invariant.sessions;

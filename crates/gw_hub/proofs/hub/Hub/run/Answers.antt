@@ -4,7 +4,10 @@ use Rattle.gw_steps.specs.declared.step.Step.{Step}
 use Rattle.gw_steps.specs.declared.step.Reply.{Reply}
 use Rattle.gw_steps.specs.declared.step.StepFault.{StepFault}
 use Rattle.gw_steps.specs.Runs.{history}
+use Rattle.std.specs.List.{AllByRecursion}
 use Rattle.gw_history.specs.Premises.{IsSoundRun}
+use Rattle.gw_bonds.specs.Bonds.{HasShortIndex, IsControlRun}
+use Rattle.gw_bonds.proofs.Bonded.{bound, told_once}
 use Rattle.gw_laws.proofs.Promised.{keeps_promises}
 use Rattle.gw_hub.proofs.hub.Hub.run.Goals as goal
 
@@ -21,3 +24,23 @@ returns-clause-promises c =
     keeps_promises c.args.settings _
     (run_of _ _ _ c.args.steps.items c.in_ok-replies.replies.items c.in_ok-hub.ensures.setup c.deref.ensures.value
     c.in_ok-replies.ensures.run)
+
+-- with what the settings keep of controls
+control_run : (setup settings : Setup) (held steps : List Step) (replies : List (Result Reply StepFault))
+    → setup ≡ settings → held ≡ steps → IsSoundRun setup (history [] held replies)
+    → AllByRecursion HasShortIndex settings.controls → IsControlRun settings (history [] steps replies)
+control_run setup settings held steps replies same all run short =
+    let here = run_of setup settings held steps replies same all run in
+    record { run = here.run; sound = here.sound; indices = short }
+
+pub returns-clause-bonds : goal.returns-clause-bonds
+returns-clause-bonds c =
+    bound c.args.settings _
+    (control_run _ _ _ c.args.steps.items c.in_ok-replies.replies.items c.in_ok-hub.ensures.setup c.deref.ensures.value
+    c.in_ok-replies.ensures.run c.in_ok-hub.ensures.indices)
+
+pub returns-clause-outcomes : goal.returns-clause-outcomes
+returns-clause-outcomes c =
+    told_once c.args.settings _
+    (control_run _ _ _ c.args.steps.items c.in_ok-replies.replies.items c.in_ok-hub.ensures.setup c.deref.ensures.value
+    c.in_ok-replies.ensures.run c.in_ok-hub.ensures.indices)

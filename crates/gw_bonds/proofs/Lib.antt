@@ -1,0 +1,13 @@
+pub mod Held
+pub mod Story
+pub mod Fits
+pub mod Asks
+pub mod Moves
+pub mod Polls
+pub mod Ends
+pub mod Tells
+pub mod Told
+pub mod Verdicts
+pub mod Orders
+pub mod Steps
+pub mod Bonded

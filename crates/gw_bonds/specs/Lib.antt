@@ -1,0 +1,5 @@
+pub mod Executes
+pub mod Marks
+pub mod Bonds
+pub mod Outcomes
+pub mod Example

@@ -1,0 +1,67 @@
+use Rattle.std.specs.Option.{option_to_list}
+use Rattle.std.proofs.Common.{◌<◌, List, length, refl, sym, ap, ◌∙◌, arith}
+use Rattle.gw_picture.proofs.Lists.{change-length}
+use Rattle.dnp_master.specs.Master.{ended_by_tick, master_after_tick}
+use Rattle.gw_control.specs.Controls.{Controls}
+use Rattle.gw_control.specs.declared.answer.Outcome.{Outcome}
+use Rattle.gw_station.specs.Client.{Client}
+use Rattle.gw_steps.specs.Controls.{clients_told, controls_with_ended, outcome_ended}
+use Rattle.gw_hub.proofs.Holding.{holds_ended, told_more}
+use Rattle.gw_hub.proofs.Time.{ends_end, ends_next, masters_end, masters_next, outcomes_end, outcomes_next}
+use Rattle.gw_hub.proofs.orders.pass_time.Goals as goal
+
+pub tick-ended-requires : goal.tick-ended-requires
+tick-ended-requires c =
+    omega (arith, c.loop-position-test.true, c.len-position-end.ensures, c.loop-position.invariant.1)
+
+pub end_order-requires : goal.end_order-requires
+end_order-requires c = c.loop-position.invariant.4
+
+pub loop-position-init : goal.loop-position-init
+loop-position-init c = (refl, refl, refl, refl, c.requires)
+
+pub loop-position-preserved : goal.loop-position-preserved
+loop-position-preserved c =
+    let n = c.loop-position.position in
+    let after = master_after_tick c.args.moment in
+    let ends = ended_by_tick c.args.moment in
+    let ms = c.loop-position.outstations in
+    let v = c.loop-position.controls in
+    let ks = c.loop-position.clients in
+    let ended = c.tick-ended.result in
+    let inside : n < length ms =
+    omega (arith, c.loop-position-test.true, c.len-position-end.ensures, c.loop-position.invariant.1) in
+    let masters = c.tick-ended.ensures.masters in
+    let is = c.tick-ended.ensures.ended in
+    let next : Controls = controls_with_ended n ended v in
+    let told : List Client = clients_told (option_to_list (outcome_ended n ended v)) ks in
+    rw (masters, c.end_order.ensures.controls, c.end_order.ensures.clients) (
+      masters_next n after ms inside ∙ c.loop-position.invariant.0,
+      change-length n after ms ∙ c.loop-position.invariant.1,
+      ends_next n after ends ms ended v inside is ∙ c.loop-position.invariant.2,
+      sym (told_more (option_to_list (outcome_ended n ended v)) _ ks)
+          ∙ (ap (λ (xs : List Outcome). clients_told xs ks) (outcomes_next n after ends ms ended v inside is)
+          ∙ c.loop-position.invariant.3),
+      holds_ended n ended ks v c.loop-position.invariant.4,
+    )
+
+pub returns-clause-outstations : goal.returns-clause-outstations
+returns-clause-outstations c =
+    sym (masters_end c.loop-position.position (master_after_tick c.args.moment) c.loop-position.outstations
+    (omega (arith, c.loop-position-test.false, c.len-position-end.ensures, c.loop-position.invariant.1)))
+    ∙ c.loop-position.invariant.0
+
+pub returns-clause-controls : goal.returns-clause-controls
+returns-clause-controls c =
+    sym (ends_end c.loop-position.position c.loop-position.position (ended_by_tick c.args.moment)
+    c.loop-position.outstations c.loop-position.controls
+    (omega (arith, c.loop-position-test.false, c.len-position-end.ensures, c.loop-position.invariant.1)))
+    ∙ c.loop-position.invariant.2
+
+pub returns-clause-clients : goal.returns-clause-clients
+returns-clause-clients c =
+    sym (ap (λ (xs : List Outcome). clients_told xs c.loop-position.clients)
+    (outcomes_end c.loop-position.position c.loop-position.position (ended_by_tick c.args.moment)
+    c.loop-position.outstations c.loop-position.controls
+    (omega (arith, c.loop-position-test.false, c.len-position-end.ensures, c.loop-position.invariant.1))))
+    ∙ c.loop-position.invariant.3
