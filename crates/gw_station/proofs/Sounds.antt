@@ -31,7 +31,7 @@ use Rattle.gw_answers.specs.Meaning.{CanSendAnswer, CanSendOutgoing, IsSendable}
 use Rattle.gw_station.specs.declared.sending.Sending.{Sending}
 use Rattle.gw_station.specs.declared.sending.Sending.TheVariants as sendings
 use Rattle.gw_station.specs.declared.event.Said.TheVariants as saids
-use Rattle.gw_station.specs.Answers.{client_judging, client_told, held_with, places, places_taken, terminated, told, CanBeTold}
+use Rattle.gw_station.specs.Answers.{client_judging, client_told, held_with, places, terminated, told, CanBeTold}
 use Rattle.gw_station.specs.Client.{Client, is_started, queue_with, overflow, is_timed_out, client_anew, client_with_news, client_after_close, client_after_up, client_after_tick}
 use Rattle.gw_station.specs.Frames.{floods, judged_asdu, close_of, confirmations_with, window_with_signal, client_with_session, client_with_signal, client_taking, client_by, client_after_apdu}
 use Rattle.gw_station.specs.Pump.{offered, client_by_offer, client_after_pump, IsRoomy}

@@ -1,5 +1,5 @@
 -- What the controls' part of the state says of commands, and what becomes of orders.
-use Rattle.std.specs.Prelude.{ℕ, zero, suc, Bool, true, false, List, [], ◌∷◌, ◌++◌, map, slice_get, slice_index, Option, Some, None, option_and_then, if◌then◌else◌}
+use Rattle.std.specs.Prelude.{ℕ, zero, suc, Bool, false, List, [], ◌∷◌, ◌++◌, slice_get, slice_index, Option, Some, None, option_and_then, if◌then◌else◌}
 use Rattle.std.specs.Option.{option_to_list}
 use Rattle.gw_model.specs.Places.{change}
 use Rattle.gw_model.specs.declared.control.Ended.{Ended}
@@ -7,7 +7,7 @@ use Rattle.gw_model.specs.declared.control.Order.{Order}
 use Rattle.gw_entries.specs.declared.control.Control.{Control}
 use Rattle.gw_map.specs.Settings.{Setup}
 use Rattle.dnp_app.specs.Response.{Fragment}
-use Rattle.dnp_master.specs.Master.{Master, ended_by_loss, ended_by_tick, is_ready}
+use Rattle.dnp_master.specs.Master.{Master, ended_by_loss, is_ready}
 use Rattle.dnp_master.specs.Fragments.{verdict_of}
 use Rattle.dnp_master.specs.declared.verdict.Verdict.{Verdict}
 use Rattle.dnp_master.specs.declared.verdict.Verdict.TheVariants.{Accepted, Repeated, Ignored}

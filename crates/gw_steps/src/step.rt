@@ -25,7 +25,8 @@ pub enum Step {
         response: Response,
         moment: u64,
     },
-    /// An outstation's writer asks for the next request, at a wall time in milliseconds since 1970 in UTC.
+    /// An outstation's writer asks for the next request, at a wall time in milliseconds since 1970 in UTC: that of an order
+    /// that waits, where the outstation is ready for it, or of what is due first.
     Poll {
         outstation: u8,
         moment: u64,
@@ -41,7 +42,8 @@ pub enum Step {
         client: u8,
         moment: u64,
     },
-    /// A client sent an APDU. A command for a control in it is confirmed negatively.
+    /// A client sent an APDU. A command for a control in it is answered: a select or a deactivation at once, also
+    /// negatively; an execute that is accepted is an order, which is answered by what becomes of it.
     Frame {
         client: u8,
         apdu: Apdu,
@@ -103,6 +105,6 @@ pub enum StepFault {
     AlreadyUp = 4,
     /// Memory ran out.
     Memory = 5,
-    /// A 64-bit count of steps, news or sessions can't rise by what the step needs.
+    /// A 64-bit count of steps, news, sessions or orders can't rise by what the step needs.
     Spent = 6,
 }

@@ -64,7 +64,8 @@ ticked
 ok
 ";
 
-/// A single command of two clients: one selects, the other executes, and then the first. Each is confirmed negatively.
+/// A single command of two clients: one selects, the other executes, which is confirmed negatively, and then the first;
+/// the outstation refuses it, and another execute without a select is confirmed negatively at once.
 const COMMAND: &str = "up 0 0
 poll 0 0 0
 frag 0 0 C0 81 00 00
@@ -80,6 +81,12 @@ frame 1 0 68 0E 00 00 00 00 2D 01 06 00 01 00 89 13 00 01
 pump 1 0
 frame 0 0 68 0E 02 00 02 00 2D 01 06 00 01 00 89 13 00 01
 pump 0 0
+poll 0 0 0
+frag 0 0 C1 81 00 00 0C 01 28 01 00 03 00 03 01 00 00 00 00 00 00 00 00 04
+pump 0 0
+frame 0 0 68 0E 04 00 04 00 2D 01 06 00 01 00 89 13 00 01
+pump 0 0
+poll 0 0 0
 tick 0
 close 0 0";
 
@@ -93,11 +100,17 @@ ok
 taken
 apdu 68 04 0B 00 00 00
 taken
-apdu 68 0E 00 00 02 00 2D 01 47 00 01 00 89 13 00 81
+apdu 68 0E 00 00 02 00 2D 01 07 00 01 00 89 13 00 81
 taken
 apdu 68 0E 00 00 02 00 2D 01 47 00 01 00 89 13 00 01
 taken
+nothing
+request C1 05 0C 01 28 01 00 03 00 03 01 00 00 00 00 00 00 00 00 00
+accepted end
 apdu 68 0E 02 00 04 00 2D 01 47 00 01 00 89 13 00 01
+taken
+apdu 68 0E 04 00 06 00 2D 01 47 00 01 00 89 13 00 01
+nothing
 ticked
 ok
 ";
