@@ -33,7 +33,7 @@ use Rattle.gw_steps.specs.declared.step.Reply.TheVariants.{Apdu}
 use Rattle.gw_steps.specs.declared.step.StepFault.TheVariants.{NoClient}
 use Rattle.gw_steps.specs.Said.{ApduMeaning, said_by}
 use Rattle.gw_steps.specs.State.{State}
-use Rattle.gw_steps.specs.Steps.{can_rise, client_reply, fault_of, latest, needs, reply_giving, reply_to}
+use Rattle.gw_steps.specs.Steps.{can_be_counted, client_reply, fault_of, latest, needs, reply_giving, reply_to}
 use Rattle.gw_steps.proofs.Inversion.{answered, who_is_up}
 use Rattle.gw_steps.proofs.Saying.{said-content}
 use Rattle.gw_map.specs.Settings.{Setup}
@@ -169,7 +169,7 @@ pumped_carries client apdu pumped =
     let offset : ℤ = setup.station.offset_minutes in
     let common : ℕ = setup.station.common_address in
     let moment : ℕ = latest s pumped.moment in
-    let told = answered (fault_of s step) (can_rise s.counts (needs setup s step).counts) (reply_to setup s step)
+    let told = answered (fault_of s step) (can_be_counted s (needs setup s step)) (reply_to setup s step)
     (Apdu apdu) pumped.allowed.0 in
     let up = who_is_up (λ (k : Client). is_up k.stage) NoClient (slice_get s.clients client) told.0 in
     let k : Client = up.0 in
