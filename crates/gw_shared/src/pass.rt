@@ -34,7 +34,7 @@ impl<L: Ledger> Pass<L> {
     }
 
     /// What its last call did to orders, besides what the reply told.
-    pub fn orders(&self) -> &Orders {
-        &self.orders
+    pub fn orders(&self) -> Orders {
+        self.orders
     }
 }

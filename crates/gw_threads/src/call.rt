@@ -133,7 +133,7 @@ pub struct Call<'a> {
     /// What it was answered with.
     pub reply: &'a Result<Reply, StepFault>,
     /// What it did to orders besides.
-    pub orders: &'a Orders,
+    pub orders: Orders,
 }
 
 /// Pumps for a client that were made one after another, at one moment.
@@ -162,12 +162,13 @@ pub fn make_call<L: Ledger, R: Wait, G: Gate>(
     let about = About::of(&step);
     let line = gate.line_of(&step);
     let (number, reply) = shared.step(rt, pass, step);
+    let orders = pass.orders();
     gate.made(Call {
         number,
         about,
         line,
         reply: &reply,
-        orders: pass.orders(),
+        orders,
     });
     reply
 }
