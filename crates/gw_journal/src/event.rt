@@ -230,18 +230,18 @@ impl Event {
 
     /// Whom it is of.
     pub(crate) fn subject(&self) -> Subject {
+        match self.client() {
+            Some((client, address)) => Subject::Client(client, address),
+            None => match self.outstation() {
+                Some(outstation) => Subject::Outstation(outstation),
+                None => Subject::Gateway,
+            },
+        }
+    }
+
+    /// The outstation that it is of, if it is of one.
+    fn outstation(&self) -> Option<u8> {
         match self {
-            Event::Started { .. }
-            | Event::Doubtful(_)
-            | Event::Listening(_)
-            | Event::AllPlacesTaken
-            | Event::PlaceFree
-            | Event::NotAllowed { .. }
-            | Event::NotAccepted(_)
-            | Event::RecordingEnded(_)
-            | Event::LeftOut(_)
-            | Event::ControlsLeftOut(_)
-            | Event::Stopped => Subject::Gateway,
             Event::OutstationConnected { outstation }
             | Event::OutstationUnreachable { outstation, .. }
             | Event::OutstationLost { outstation, .. }
@@ -251,7 +251,14 @@ impl Event {
             | Event::Unanswered { outstation, .. }
             | Event::FragmentRefused { outstation, .. }
             | Event::OctetsSkipped { outstation, .. }
-            | Event::Order { outstation, .. } => Subject::Outstation(*outstation),
+            | Event::Order { outstation, .. } => Some(*outstation),
+            _ => None,
+        }
+    }
+
+    /// The client that it is of, and where it connects from, if it is of one.
+    fn client(&self) -> Option<(u8, SocketAddr)> {
+        match self {
             Event::ClientConnected { client, address }
             | Event::TransferStarted { client, address }
             | Event::TransferStopped { client, address }
@@ -269,7 +276,8 @@ impl Event {
                 client,
                 address,
                 ..
-            } => Subject::Client(*client, *address),
+            } => Some((*client, *address)),
+            _ => None,
         }
     }
 

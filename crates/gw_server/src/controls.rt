@@ -1,5 +1,5 @@
-//! What an operator is told of controls: each command that comes, what the client is told of it, each request that is given
-//! for it, and how that ends.
+//! What an operator is told of controls: each command that comes, what the client is told of it, each request that is
+//! given for it, and how that ends.
 
 use crate::house::OUTSTATIONS;
 use crate::watched::Watched;
@@ -49,11 +49,7 @@ impl<'a, R: Wait, C: Clock, G: Gate> Watched<'a, R, C, G> {
             (About::OutstationDown(outstation), Ok(_)) => {
                 self.tell_failure(call, outstation, OrderEvent::Lost);
             }
-            (About::Tick, Ok(_)) => {
-                for outstation in 0..OUTSTATIONS {
-                    self.tell_failure(call, outstation, OrderEvent::Unanswered);
-                }
-            }
+            (About::Tick, Ok(_)) => self.tell_unanswered(call),
             _ => {}
         }
     }
@@ -105,6 +101,13 @@ impl<'a, R: Wait, C: Clock, G: Gate> Watched<'a, R, C, G> {
             OrderEvent::Refused
         };
         self.tell_order(outstation, ended.number, what);
+    }
+
+    /// Tells of each order that wasn't answered in time by a tick.
+    fn tell_unanswered(&self, call: &Call<'_>) {
+        for outstation in 0..OUTSTATIONS {
+            self.tell_failure(call, outstation, OrderEvent::Unanswered);
+        }
     }
 
     /// Tells of the order to an outstation that failed by a step without an answer, if one did.
