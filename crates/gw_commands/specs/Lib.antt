@@ -1,0 +1,3 @@
+pub mod Selections
+pub mod Commands
+pub mod Example

@@ -1,0 +1,4 @@
+pub mod Sessions
+pub mod Pending
+pub mod Outcomes
+pub mod Example
