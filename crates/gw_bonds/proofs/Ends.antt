@@ -212,7 +212,7 @@ pub flat_at : (masters : List Master) (moment i : ℕ)
 flat_at masters moment i =
     ap flat (map-get (ended_by_tick moment) masters i) ∙ flat_map (ended_by_tick moment) (slice_get masters i)
 
-late_at : (masters : List Master) (moment : ℕ) (v : Controls) (o : ℕ)
+pub late_at : (masters : List Master) (moment : ℕ) (v : Controls) (o : ℕ)
     → slice_get (controls_after_all_ended 0 (map (ended_by_tick moment) masters) v).outgoing o
     ≡ ended_at (option_and_then (ended_by_tick moment) (slice_get masters o)) (slice_get v.outgoing o)
 late_at masters moment v o =

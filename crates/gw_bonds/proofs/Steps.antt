@@ -246,12 +246,12 @@ poll setup past o m wall r s sound e tied =
 
 -- ---- Fragment
 
-abbrev story_with : Bool → Setup → List Entry → Fragment → Story
+abbrev pub story_with : Bool → Setup → List Entry → Fragment → Story
 story_with end setup past f = record (story setup past) {
   marks = λ n. option_to_list (mark_answered n past (when end (f.outstation, f.octets))) ++ marks n past;
 }
 
-story_of_end : (end : Bool) (setup : Setup) (past : List Entry) (f : Fragment)
+pub story_of_end : (end : Bool) (setup : Setup) (past : List Entry) (f : Fragment)
     → story_ended end f.outstation f.octets (story setup past) ≡ story_with end setup past f
 story_of_end true setup past f = refl
 story_of_end false setup past f = refl
@@ -312,7 +312,7 @@ fragment_taken setup past f m s x sound at up takes tied =
       told = rw (sym (story_of_end end setup past f), outcomes) k.told;
     })
 
-no_end : (v : Verdict) → is_acceptance v ≡ false → is_end (replies.Verdict v) ≡ false
+pub no_end : (v : Verdict) → is_acceptance v ≡ false → is_end (replies.Verdict v) ≡ false
 no_end (Accepted confirm end control) left = absurd (let none : ⊥ = cc in none)
 no_end (Repeated confirm) left = refl
 no_end (Ignored why) left = refl

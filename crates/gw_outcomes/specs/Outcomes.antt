@@ -30,13 +30,14 @@ telling_by past p = record { client = p.client; command = p.command; done = was_
 abbrev pub is_told : Setup → ℕ → List Entry → Entry → Pending → Bool
 is_told setup o past e p = is_over setup o past e e.step p && not p.left
 
-abbrev pub due_with : Setup → ℕ → List Entry → Entry → Reply → List Telling
-due_with setup o past e reply =
-    map (telling_by (e ∷ past)) (filter (is_told setup o past e) (kept setup past e reply (pending setup o past)))
+-- where these were pending
+abbrev pub due_with : Setup → ℕ → List Entry → Entry → List Pending → Reply → List Telling
+due_with setup o past e ps reply =
+    map (telling_by (e ∷ past)) (filter (is_told setup o past e) (kept setup past e reply ps))
 
 -- of the orders towards outstation o
 abbrev pub due_at : Setup → List Entry → Entry → ℕ → List Telling
-due_at setup past e o = unless_fault [] (due_with setup o past e) e.reply
+due_at setup past e o = unless_fault [] (due_with setup o past e (pending setup o past)) e.reply
 
 -- of so many outstations from one on, in turn
 abbrev pub due_from : Setup → List Entry → Entry → ℕ → ℕ → List Telling

@@ -1,0 +1,9 @@
+pub mod Rows
+pub mod Shapes
+pub mod Overs
+pub mod Finals
+pub mod Closes
+pub mod Frames
+pub mod Places
+pub mod Steps
+pub mod Follows
