@@ -1,20 +1,20 @@
 -- Sessions that end, one or several in a tick.
-use Rattle.std.proofs.Common.{◌≡◌, ℕ, zero, suc, ◌+◌, ◌*◌, ◌/◌, ◌%◌, ◌<◌, Bool, true, false, ◌&&◌, ◌||◌, List, [], ◌∷◌, map, Option, Some, None, option_map, refl, sym, ap, subst, ◌∙◌, arith}
+use Rattle.std.proofs.Common.{◌≡◌, ℕ, zero, suc, ◌+◌, ◌*◌, ◌/◌, ◌%◌, ◌<◌, Bool, true, false, ◌&&◌, ◌||◌, List, [], ◌∷◌, refl, sym, ap, ◌∙◌, arith}
 use Rattle.std.specs.Prelude.{◌==◌, slice_get}
 use Rattle.std.proofs.lemmas.Bool.{eq-eqb, ne_eqb}
 use Rattle.gw_map.specs.Settings.{Setup}
 use Rattle.gw_picture.proofs.Lists.{map-get}
 use Rattle.dnp_master.specs.Master.{Master}
 use Rattle.gw_control.specs.Controls.{Controls, controls_after_end}
-use Rattle.gw_control.specs.Orders.{Outgoing, outgoing_after_end}
+use Rattle.gw_control.specs.Orders.{outgoing_after_end}
 use Rattle.gw_steps.specs.Controls.{controls_after_closes}
 use Rattle.gw_steps.specs.Runs.{Entry}
 use Rattle.gw_steps.specs.Steps.{bits_of, one_if}
 use Rattle.gw_history.specs.Life.{has_bit}
 use Rattle.gw_bonds.proofs.Ends.{tied_end}
-use Rattle.gw_bonds.proofs.Story.{Story, Tied, story}
+use Rattle.gw_bonds.proofs.Story.{Tied, story}
 use Rattle.gw_outcomes.specs.Pending.{Pending, after_sessions}
-use Rattle.gw_outcomes.proofs.Rows.{leave_alike, leave_both, none_leaves, or_false, rows, rows_leave}
+use Rattle.gw_outcomes.proofs.Rows.{leave_alike, leave_both, none_leaves, rows, rows_leave}
 use Rattle.gw_outcomes.proofs.Shapes.{marked_of}
 
 -- ---- one session

@@ -1,8 +1,8 @@
 -- Which order a fragment or a tick ends, by the marks that it leaves.
 use Rattle.std.proofs.Common.{◌≡◌, ℕ, ◌<◌, Bool, true, false, cond, not, ◌&&◌, List, [], ◌∷◌, ◌++◌, Option, Some, None, option_map, refl, sym, ap, subst, ◌∙◌}
-use Rattle.std.specs.Prelude.{◌==◌, is_none, is_some, option_and_then}
+use Rattle.std.specs.Prelude.{◌==◌, is_none}
 use Rattle.std.specs.Option.{option_to_list}
-use Rattle.std.proofs.lemmas.Bool.{eq-eqb, eqb-true}
+use Rattle.std.proofs.lemmas.Bool.{eq-eqb}
 use Rattle.gw_model.specs.First.{when}
 use Rattle.gw_model.specs.declared.control.Ended.{Ended}
 use Rattle.gw_model.specs.declared.control.Order.{Order}
@@ -26,17 +26,15 @@ use Rattle.dnp_master.specs.declared.verdict.Ignored.TheVariants.{WrongSequence,
 use Rattle.dnp_master.specs.Master.{Master, ended, ended_by_tick, ended_late, is_late, order_of, task_request}
 use Rattle.dnp_master.specs.Fragments.{control_in, ended_answered, is_begun_rightly, is_done, is_last, verdict_of, verdict_of_answer, verdict_of_unsolicited}
 use Rattle.gw_control.specs.declared.accepted.UnderWay.{UnderWay}
-use Rattle.gw_control.specs.Orders.{is_named}
 use Rattle.gw_steps.specs.declared.step.Reply.TheVariants as replies
 use Rattle.gw_steps.specs.Controls.{ended_in}
 use Rattle.gw_steps.specs.Runs.{Entry}
-use Rattle.gw_history.specs.Accepted.{Asked as AskedRequest, asked_at, asked_of, poll_at}
-use Rattle.gw_history.proofs.Masters.{AwaitsAs, AwaitsAlike}
+use Rattle.gw_history.specs.Accepted.{Asked as AskedRequest, asked_of, poll_at}
+use Rattle.gw_history.proofs.Masters.{AwaitsAs}
 use Rattle.gw_bonds.specs.Marks.{Mark, Asked, Answered, is_end, last_request, mark_answered, marks, took}
 use Rattle.gw_bonds.specs.Executes.{Execute}
 use Rattle.gw_bonds.proofs.Asks.{reads_again, reads_operation}
-use Rattle.gw_bonds.proofs.Held.{under_way_at}
-use Rattle.gw_bonds.proofs.Story.{AskedBy, Awaits, ForTask, GoesOn, IsOrder, Sends, Story, asking, story}
+use Rattle.gw_bonds.proofs.Story.{AskedBy, Awaits, ForTask, GoesOn, IsOrder, Story, asking, story}
 use Rattle.gw_outcomes.specs.Pending.{awaits, is_final, is_late_at, is_select}
 use Rattle.gw_outcomes.proofs.Overs.{names_way}
 use Rattle.gw_outcomes.proofs.Shapes.{is_waiting, way_shape}
@@ -177,7 +175,7 @@ late_by : (setup : Setup) (o moment : ℕ) (past : List Entry) (poll : Poll) (w 
     → is_late_at setup o past moment ≡ is_late moment poll w.since
 late_by setup o moment past poll w None polled k is = absurd k
 late_by setup o moment past poll w (Some a) polled k is =
-    rw (is, polled, sym k.since) (by (is_late moment poll w.since))
+    rw (is, polled) (by (is_late moment poll a.since) ∙ ap (is_late moment poll) (sym k.since))
   where
     by : (late : Bool) → is_none (cond late None (Some a)) ≡ late
     by true = refl

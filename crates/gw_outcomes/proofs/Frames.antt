@@ -1,10 +1,9 @@
 -- An APDU comes: an execute that is accepted is pending, and a session ends.
-use Rattle.std.proofs.Common.{◌≡◌, ℕ, suc, ◌+◌, Bool, true, false, cond, List, [], ◌∷◌, ◌++◌, length, Option, Some, None, option_map, refl, sym, ap, subst, ◌∙◌, arith, inl, inr}
-use Rattle.std.specs.Prelude.{◌==◌, option_and_then, slice_get}
+use Rattle.std.proofs.Common.{◌≡◌, ℕ, ◌+◌, Bool, true, false, cond, List, [], ◌∷◌, ◌++◌, Option, Some, None, option_map, refl, sym, ap, subst, ◌∙◌, inl, inr}
+use Rattle.std.specs.Prelude.{option_and_then, slice_get}
 use Rattle.std.specs.Option.{option_to_list}
 use Rattle.std.proofs.lemmas.Bool.{cases_eq, eq-eqb, ne_eqb}
 use Rattle.std.proofs.lemmas.List.{append-nil}
-use Rattle.gw_model.specs.Places.{change}
 use Rattle.gw_model.specs.declared.control.Act.{Act}
 use Rattle.gw_entries.specs.declared.control.Control.{Control}
 use Rattle.gw_map.specs.Settings.{Setup}
@@ -13,7 +12,7 @@ use Rattle.gw_control.specs.declared.accepted.Accepted.{Accepted}
 use Rattle.gw_control.specs.declared.answer.Answer.{Answer}
 use Rattle.gw_control.specs.declared.asked.Asked.{Asked}
 use Rattle.gw_control.specs.declared.selection.Selection.{Selection}
-use Rattle.gw_control.specs.Controls.{Controls, IsAccepted, accepted_by, act_accepted, answer_at, answer_to_act, confirmed_if, controls_after_at, controls_ordering, controls_selecting, controls_unselecting, is_deactivation, is_full_at, is_selectable, standing_at}
+use Rattle.gw_control.specs.Controls.{Controls, accepted_by, act_accepted, answer_at, answer_to_act, confirmed_if, controls_after_at, controls_ordering, controls_selecting, controls_unselecting, is_deactivation, is_full_at, is_selectable, standing_at}
 use Rattle.gw_control.specs.Orders.{Outgoing, outgoing_with}
 use Rattle.gw_control.specs.Selections.{is_own, is_select}
 use Rattle.gw_control.proofs.Keeps.{accepted}
@@ -51,8 +50,10 @@ ordered o a control act v place =
     let x : Accepted = accepted_by a control act (v.ordered + 1) in
     elim (cases_eq control.outstation o) [
       | inl e ↦ subst (λ (p : ℕ). Makes p (Some (execute_for a control)) v (controls_ordering a control (Some act) v)) e
-          (rw (change-here control.outstation (outgoing_with x) v.outgoing,
-          eq-eqb control.outstation control.outstation refl)
+          (rw (
+            change-here control.outstation (outgoing_with x) v.outgoing,
+            eq-eqb control.outstation control.outstation refl,
+          )
           (has_place (slice_get v.outgoing control.outstation) x place))
       | inr ne ↦ rw (change-there control.outstation o (outgoing_with x) v.outgoing ne, ne_eqb control.outstation o ne)
           (sym (append-nil (rows (slice_get v.outgoing o))))

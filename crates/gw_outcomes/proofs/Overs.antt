@@ -1,5 +1,5 @@
 -- Orders that are over: the one under way, or all of an outstation that is lost.
-use Rattle.std.proofs.Common.{◌≡◌, ℕ, zero, suc, ◌≤◌, Bool, true, false, cond, not, ◌&&◌, List, [], ◌∷◌, ◌++◌, drop, length, map, Option, Some, None, option_map, refl, sym, ap, subst, ◌∙◌, arith}
+use Rattle.std.proofs.Common.{◌≡◌, ℕ, zero, suc, ◌≤◌, Bool, true, false, cond, not, ◌&&◌, List, [], ◌∷◌, ◌++◌, length, map, Option, Some, None, option_map, refl, sym, ap, subst, ◌∙◌, arith}
 use Rattle.std.specs.Prelude.{option_and_then, slice_get}
 use Rattle.std.specs.List.{AllByRecursion, filter}
 use Rattle.std.specs.Option.{option_to_list}
@@ -11,7 +11,7 @@ use Rattle.gw_control.specs.declared.accepted.UnderWay.{UnderWay}
 use Rattle.gw_control.specs.declared.answer.Outcome.{Outcome}
 use Rattle.gw_control.specs.Controls.{Controls, controls_after_lost}
 use Rattle.gw_control.specs.Held.{controls_after_losses}
-use Rattle.gw_control.specs.Orders.{Outgoing, is_named, outcome_at, outcome_by, outcome_lost, outcome_of, outgoing_after_lost, under_way_after}
+use Rattle.gw_control.specs.Orders.{Outgoing, is_named, outcome_at, outcome_lost, outcome_of, outgoing_after_lost, under_way_after}
 use Rattle.gw_steps.specs.Controls.{outcome_ended, outcomes_lost}
 use Rattle.gw_steps.specs.Runs.{Entry}
 use Rattle.gw_bonds.specs.Marks.{marks}

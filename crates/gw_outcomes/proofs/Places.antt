@@ -1,13 +1,12 @@
 -- What a step leaves pending towards one outstation and tells of it, and what it tells in all.
-use Rattle.std.proofs.Common.{◌≡◌, ℕ, zero, suc, ◌+◌, ◌≤◌, ◌<◌, Bool, true, false, cond, not, ◌&&◌, List, [], ◌∷◌, ◌++◌, length, map, Option, Some, None, Ok, refl, sym, ap, subst, ◌∙◌, arith, inl, inr}
+use Rattle.std.proofs.Common.{◌≡◌, ℕ, zero, suc, ◌+◌, ◌≤◌, ◌<◌, Bool, false, not, List, [], ◌∷◌, ◌++◌, length, map, Option, None, refl, sym, ap, ◌∙◌, arith, inl, inr}
 use Rattle.std.specs.Prelude.{slice_get}
-use Rattle.std.specs.List.{AllByRecursion, filter}
+use Rattle.std.specs.List.{filter}
 use Rattle.std.specs.Option.{option_to_list}
 use Rattle.std.proofs.lemmas.Bool.{cases_eq, cases_lt}
 use Rattle.std.proofs.lemmas.List.{append-nil, map-append}
 use Rattle.gw_model.specs.declared.control.Ended.{Ended}
 use Rattle.gw_map.specs.Settings.{Setup}
-use Rattle.gw_control.specs.declared.accepted.Accepted.{Accepted}
 use Rattle.gw_control.specs.declared.answer.Outcome.{Outcome}
 use Rattle.gw_control.specs.Controls.{Controls}
 use Rattle.gw_control.specs.Orders.{Outgoing}
@@ -15,11 +14,10 @@ use Rattle.gw_steps.specs.declared.step.Reply.{Reply}
 use Rattle.gw_steps.specs.Controls.{controls_with_ended, outcome_ended, outcomes_ended}
 use Rattle.gw_steps.specs.Runs.{Entry}
 use Rattle.gw_bonds.proofs.Ends.{ended_at, ended_there, flat}
-use Rattle.gw_bonds.proofs.Held.{waiting_at}
-use Rattle.gw_outcomes.specs.Pending.{Pending, after_sessions, is_over, kept, made_in, pending, pending_with}
-use Rattle.gw_outcomes.specs.Outcomes.{Telling, due_at, due_from, due_with, telling_by, telling_of}
-use Rattle.gw_outcomes.proofs.Rows.{none_leaves, quiet, row_waiting, rows}
-use Rattle.gw_outcomes.proofs.Overs.{EndsWay, SaysDone, all_told, outcome_in, outcome_there, rows_ended, rows_told, tells}
+use Rattle.gw_outcomes.specs.Pending.{Pending, after_sessions, is_over, kept, made_in, pending_with}
+use Rattle.gw_outcomes.specs.Outcomes.{Telling, due_at, due_from, due_with, telling_of}
+use Rattle.gw_outcomes.proofs.Rows.{none_leaves, quiet, rows}
+use Rattle.gw_outcomes.proofs.Overs.{EndsWay, SaysDone, all_told, outcome_in, outcome_there, rows_ended, rows_told}
 
 pub record At (setup : Setup) (past : List Entry) (e : Entry) (reply : Reply) (o : ℕ) (q new : Option Outgoing)
     (xs : List Telling) : Type 0 where

@@ -1,12 +1,11 @@
 -- The orders of the state towards one outstation, as pending ones: the one under way, and then those that wait.
-use Rattle.std.proofs.Common.{◌≡◌, ℕ, Bool, true, false, cond, not, ◌&&◌, ◌||◌, List, [], ◌∷◌, ◌++◌, map, Option, Some, None, option_map, refl, sym, ap, subst, ◌∙◌}
-use Rattle.std.specs.Prelude.{◌==◌}
+use Rattle.std.proofs.Common.{◌≡◌, ℕ, Bool, true, false, cond, not, ◌||◌, List, [], ◌∷◌, ◌++◌, map, Option, Some, None, option_map, refl, ap, ◌∙◌}
 use Rattle.std.specs.List.{AllByRecursion, filter}
 use Rattle.gw_control.specs.declared.accepted.Accepted.{Accepted}
 use Rattle.gw_control.specs.declared.accepted.UnderWay.{UnderWay}
 use Rattle.gw_control.specs.Orders.{Outgoing, outgoing_with}
 use Rattle.gw_steps.specs.Runs.{Entry}
-use Rattle.gw_bonds.specs.Marks.{Mark, marks}
+use Rattle.gw_bonds.specs.Marks.{marks}
 use Rattle.gw_bonds.proofs.Held.{under_way_at, waiting_at}
 use Rattle.gw_outcomes.specs.Pending.{Pending, after_sessions, is_marked, leaving, stays}
 
@@ -59,7 +58,7 @@ none_leaves past (p ∷ ps) =
 abbrev pub outgoing_ending : (ℕ → Bool) → Outgoing → Outgoing
 outgoing_ending ends q = record {
   waiting = filter (λ x. not (ends x.client)) q.waiting;
-  under_way = option_map (λ u. record u { left = u.left || ends u.accepted.client }) q.under_way;
+  under_way = option_map {U = UnderWay} (λ u. record u { left = u.left || ends u.accepted.client }) q.under_way;
 }
 
 waiting_leave : (ends : ℕ → Bool) (past : List Entry) (xs : List Accepted)
@@ -72,7 +71,7 @@ waiting_leave ends past (x ∷ xs) all = by (waiting_leave ends past xs all.1) (
         → (b : Bool) → ends x.client ≡ b
         → map row_waiting (filter (λ y. not (ends y.client)) (x ∷ xs)) ≡ after_sessions ends past (map row_waiting (x ∷ xs))
     by rest true is = rw (all.0, is) rest
-    by rest false is = rw (all.0, is) (ap (λ (ps : List Pending). row_waiting x ∷ ps) rest)
+    by rest false is = rw (all.0, is, is) (ap (λ (ps : List Pending). row_waiting x ∷ ps) rest)
 
 one_leaves : (ends : ℕ → Bool) (past : List Entry) (u : Option UnderWay) (xs : List Accepted)
     → Marked past (Some (record { waiting = xs; under_way = u }))
@@ -99,10 +98,18 @@ leave_both a b past (p ∷ ps) =
     by : after_sessions b past (after_sessions a past ps) ≡ after_sessions (λ c. a c || b c) past ps
         → (m : Bool) → is_marked (marks p.number past) ≡ m → (x : Bool) → a p.client ≡ x → (y : Bool) → b p.client ≡ y
         → after_sessions b past (after_sessions a past (p ∷ ps)) ≡ after_sessions (λ c. a c || b c) past (p ∷ ps)
-    by rest true marked x is y is_too = rw (marked, rest, or_either p.left (a p.client) (b p.client)) refl
+    by rest true marked x is y is_too =
+        rw (marked, marked)
+        (ap (λ (qs : List Pending). leaving b (leaving a p) ∷ qs) rest
+        ∙ ap (λ (l : Bool). record p { left = l } ∷ after_sessions (λ c. a c || b c) past ps)
+        (or_either p.left (a p.client) (b p.client)))
     by rest false marked true is y is_too = rw (marked, is) rest
-    by rest false marked false is true is_too = rw (marked, is, is_too) rest
-    by rest false marked false is false is_too = rw (marked, is, is_too, rest, or_false p.left) refl
+    by rest false marked false is true is_too = rw (marked, is, marked, is_too) rest
+    by rest false marked false is false is_too =
+        rw (marked, is, marked, is_too)
+        (ap (λ (qs : List Pending). leaving b (leaving a p) ∷ qs) rest
+        ∙ ap (λ (l : Bool). record p { left = l } ∷ after_sessions (λ c. a c || b c) past ps)
+        (or_either p.left (a p.client) (b p.client)))
 
 -- the same sessions
 pub leave_alike : (a b : ℕ → Bool) (past : List Entry) (ps : List Pending) → ((c : ℕ) → a c ≡ b c)

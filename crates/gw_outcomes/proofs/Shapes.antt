@@ -1,5 +1,5 @@
 -- What the marks of the order under way look like, by what its master does.
-use Rattle.std.proofs.Common.{◌≡◌, ℕ, ◌<◌, Bool, true, false, not, List, [], ◌∷◌, Option, Some, None, refl, sym, ap, subst, ◌∙◌}
+use Rattle.std.proofs.Common.{◌≡◌, ℕ, Bool, true, false, not, List, [], ◌∷◌, Option, Some, None, refl, sym, ap, subst, ◌∙◌}
 use Rattle.std.specs.List.{AllByRecursion}
 use Rattle.gw_model.specs.declared.control.Order.{Order}
 use Rattle.gw_map.specs.Settings.{Setup}
@@ -15,11 +15,10 @@ use Rattle.gw_control.specs.declared.accepted.Accepted.{Accepted}
 use Rattle.gw_control.specs.declared.accepted.UnderWay.{UnderWay}
 use Rattle.gw_control.specs.Orders.{Outgoing}
 use Rattle.gw_steps.specs.Runs.{Entry}
-use Rattle.gw_bonds.specs.Executes.{Execute}
-use Rattle.gw_bonds.specs.Marks.{Mark, Asked, Answered, marks}
+use Rattle.gw_bonds.specs.Marks.{Mark, Asked}
 use Rattle.gw_bonds.proofs.Asks.{reads_operation}
 use Rattle.gw_bonds.proofs.Held.{under_way_at, waiting_at}
-use Rattle.gw_bonds.proofs.Story.{AskedBy, Awaits, ForTask, GoesOn, Holds, IsOrder, Sends, Story, Waits, WasSelected, asking, exchange_at, story}
+use Rattle.gw_bonds.proofs.Story.{AskedBy, ForTask, GoesOn, Holds, IsOrder, Sends, Story, Waits, WasSelected, asking, exchange_at, story}
 use Rattle.gw_outcomes.specs.Pending.{awaits, is_final, is_marked, is_select}
 use Rattle.gw_outcomes.proofs.Rows.{Marked}
 

@@ -5,7 +5,6 @@ use Rattle.std.specs.List.{AllByRecursion, filter}
 use Rattle.std.specs.Option.{option_to_list}
 use Rattle.std.proofs.lemmas.Bool.{cases_Bool, cases_eq, eq-eqb, eqb-true, ne_eqb}
 use Rattle.std.proofs.lemmas.List.{append-nil, length-map}
-use Rattle.gw_model.specs.First.{when}
 use Rattle.gw_model.specs.Places.{change}
 use Rattle.gw_model.specs.declared.control.Ended.{Ended}
 use Rattle.gw_model.specs.declared.control.Order.{Order}
@@ -15,8 +14,8 @@ use Rattle.dnp_app.specs.Response.{Fragment}
 use Rattle.dnp_master.specs.declared.exchange.Exchange.{Exchange}
 use Rattle.dnp_master.specs.declared.exchange.Exchange.TheVariants.{Idle, Waiting, Selected}
 use Rattle.dnp_master.specs.declared.verdict.Verdict.{Verdict}
-use Rattle.dnp_master.specs.Master.{Master, ended, ended_by_loss, ended_by_tick, ended_late as late_of, is_late, is_ready, order_of, order_taken}
-use Rattle.dnp_master.specs.Fragments.{accepts, is_acceptance, verdict_of}
+use Rattle.dnp_master.specs.Master.{Master, ended, ended_by_loss, ended_by_tick, ended_late as late_of, is_late, is_ready, order_of}
+use Rattle.dnp_master.specs.Fragments.{accepts, verdict_of}
 use Rattle.iec_apci.specs.declared.apdu.Apdu.{Apdu}
 use Rattle.iec_apci.specs.declared.apdu.Apdu.TheVariants.{I, S, U}
 use Rattle.iec_apci.specs.declared.apdu.Signal.TheVariants.{StartAct, StartCon, StopAct, StopCon, TestAct, TestCon}
@@ -24,9 +23,8 @@ use Rattle.iec_command.specs.declared.command.Command.{Command}
 use Rattle.gw_control.specs.declared.accepted.Accepted.{Accepted}
 use Rattle.gw_control.specs.declared.accepted.UnderWay.{UnderWay}
 use Rattle.gw_control.specs.declared.answer.Outcome.{Outcome}
-use Rattle.gw_control.specs.Controls.{Controls, controls_after_end, controls_after_taking}
+use Rattle.gw_control.specs.Controls.{Controls}
 use Rattle.gw_control.specs.Intents.{control_for}
-use Rattle.gw_control.specs.Moves.{IsSoundControls}
 use Rattle.gw_control.specs.Orders.{Outgoing, is_named, order_given, outcome_of, outgoing_after_taking, places}
 use Rattle.gw_station.specs.declared.event.Why.{Why}
 use Rattle.gw_station.specs.Client.{Client, is_timed_out, is_up}
@@ -36,36 +34,35 @@ use Rattle.gw_steps.specs.declared.step.Step.TheVariants as steps
 use Rattle.gw_steps.specs.declared.step.Reply.{Reply}
 use Rattle.gw_steps.specs.declared.step.Reply.TheVariants as replies
 use Rattle.gw_steps.specs.declared.step.StepFault.TheVariants.{NoClient, NoOutstation}
-use Rattle.gw_steps.specs.Controls.{asked_by, controls_after_event, controls_with_ended, ended_by_fragment, ended_in, ended_lost, order_due, order_for, outcome_ended, outcomes_ended, outcomes_lost}
+use Rattle.gw_steps.specs.Controls.{asked_by, controls_after_event, controls_with_ended, ended_by_fragment, ended_in, ended_lost, order_due, order_for, outcomes_lost}
 use Rattle.gw_steps.specs.State.{State, later}
-use Rattle.gw_steps.specs.Steps.{after, bits_of, can_be_counted, client_reply, command_of, controls_after_frame, controls_closed, fault_of, is_accepting, latest, needs, order_ended, outcome, outcomes_of, outcomes_of_fragment, outcomes_of_loss, outcomes_of_tick, outstation_reply, parts_after_poll, reply_of_event, reply_to}
+use Rattle.gw_steps.specs.Steps.{after, bits_of, can_be_counted, client_reply, command_of, controls_after_frame, controls_closed, fault_of, is_accepting, latest, needs, order_ended, outcome, outcomes_of, outcomes_of_loss, outstation_reply, parts_after_poll, reply_of_event, reply_to}
 use Rattle.gw_steps.specs.Runs.{Entry, state_after}
 use Rattle.gw_steps.specs.Sound.{IsSoundState}
-use Rattle.gw_steps.proofs.Inversion.{answered, who_is_down, who_is_up}
+use Rattle.gw_steps.proofs.Inversion.{answered, who_is_up}
 use Rattle.gw_steps.proofs.Running.{entry}
-use Rattle.gw_history.specs.Accepted.{asked_of, moment_after, poll_at}
-use Rattle.gw_history.specs.Life.{has_bit}
-use Rattle.gw_history.proofs.Masters.{AwaitsAs, MasterTied}
+use Rattle.gw_history.specs.Accepted.{moment_after}
+use Rattle.gw_history.proofs.Masters.{MasterTied}
 use Rattle.gw_history.proofs.Tied.{Tied as HistoryTied, told_moment}
-use Rattle.gw_bonds.specs.Executes.{Execute, execute_by, executes}
+use Rattle.gw_bonds.specs.Executes.{execute_by, executes}
 use Rattle.gw_bonds.specs.Marks.{Mark, Asked, Answered, is_end, marks}
 use Rattle.gw_bonds.specs.Outcomes.{was_done}
-use Rattle.gw_bonds.proofs.Ends.{controls_lost, ended_at, ended_here, ended_there, ended_waiting, flat_at, late_at, lost_there, order_fails, tied_closes}
+use Rattle.gw_bonds.proofs.Ends.{ended_at, ended_here, ended_there, ended_waiting, flat_at, late_at, lost_there, order_fails, tied_closes}
 use Rattle.gw_bonds.proofs.Held.{under_way_at, waiting_at}
 use Rattle.gw_bonds.proofs.Moves.{InOrderAt, in_order_at}
-use Rattle.gw_bonds.proofs.Steps.{no_end, story_of_end}
+use Rattle.gw_bonds.proofs.Steps.{story_of_end}
 use Rattle.gw_bonds.proofs.Story.{GoesOn, Holds, Story, Tied, exchange_at, story}
 use Rattle.gw_bonds.proofs.Tells.{TellsAt, failure_tells}
 use Rattle.gw_bonds.proofs.Verdicts.{judged, story_ended}
-use Rattle.gw_outcomes.specs.Sessions.{ends_by, ends_session}
-use Rattle.gw_outcomes.specs.Pending.{Pending, after_sessions, awaits, is_final, is_late_at, is_over, kept, made_in, pending, pending_with}
+use Rattle.gw_outcomes.specs.Sessions.{ends_by}
+use Rattle.gw_outcomes.specs.Pending.{Pending, after_sessions, awaits, is_final, is_late_at, is_over, kept, pending, pending_with}
 use Rattle.gw_outcomes.specs.Outcomes.{Telling, due, due_at, due_from, due_with, telling_of}
 use Rattle.gw_outcomes.proofs.Closes.{rows_end, rows_tick}
-use Rattle.gw_outcomes.proofs.Finals.{fragment_final, marks_judged, tick_ends}
-use Rattle.gw_outcomes.proofs.Frames.{Makes, order_made, rows_commanded}
+use Rattle.gw_outcomes.proofs.Finals.{fragment_final, tick_ends}
+use Rattle.gw_outcomes.proofs.Frames.{order_made, rows_commanded}
 use Rattle.gw_outcomes.proofs.Overs.{EndsWay, HasFew, all_told, SaysDone, names_way, nothing_left, outcome_in, outcome_there, rows_lost, waiting_fail}
 use Rattle.gw_outcomes.proofs.Places.{At, at_calm, at_over, ended_due, none_due, one_due, same_rows}
-use Rattle.gw_outcomes.proofs.Rows.{none_leaves, quiet, row_under_way, row_waiting, rows, rows_in}
+use Rattle.gw_outcomes.proofs.Rows.{none_leaves, quiet, rows, rows_in}
 use Rattle.gw_outcomes.proofs.Shapes.{all_unmarked, way_shape}
 
 -- what the orders of a state are, after a history
@@ -151,9 +148,12 @@ outstation_up setup past o m r s =
 
 -- ---- OutstationDown
 
+none_left : (ps : List Pending) → filter (λ p. not true) ps ≡ []
+none_left [] = refl
+none_left (p ∷ ps) = none_left ps
+
 all_over : (b : Bool) (ps : List Pending) → b ≡ true → filter (λ p. not b) ps ≡ []
-all_over b [] is = refl
-all_over b (p ∷ ps) is = rw is (all_over true ps refl)
+all_over b ps is = subst (λ (x : Bool). filter (λ p. not x) ps ≡ []) (sym is) (none_left ps)
 
 says_failed : (setup : Setup) (past : List Entry) (e : Option Ended) (q : Option Outgoing)
     → TellsAt (story setup past) e q → SaysDone past e q
@@ -535,7 +535,7 @@ tick setup past m r s e k =
     let v : Controls = controls_closed s moment in
     let es : List (Option Ended) = map (ended_by_tick moment) s.outstations in
     let many : length es ≡ length setup.outstations =
-    length-map (ended_by_tick moment) s.outstations ∙ k.sound.masters in
+    length-map s.outstations (ended_by_tick moment) ∙ k.sound.masters in
     subst (λ (x : Reply). StepFollows setup past step x s (after setup s step)) told.2 (record {
       pending = λ p. (tick_at setup past m s p k).pending;
       told = λ follows.
@@ -601,6 +601,13 @@ frame_at setup past s moment c o apdu k None (Some command) is = commanded apdu 
     commanded (S nr) found = absurd (let no : ⊥ = cc in no)
     commanded (U signal) found = absurd (let no : ⊥ = cc in no)
 
+-- with this number for the next order, and this client
+abbrev FoundAt : Setup → List Entry → State → ℕ → ℕ → Apdu → ℕ → Reply → ℕ → Option Client → Type 0
+FoundAt setup past s moment c apdu o reply number found =
+    rows (slice_get (controls_after_frame setup s moment c apdu found).outgoing o)
+    ≡ after_sessions (λ d. ends_by reply apdu && (d == c)) past (rows (slice_get s.controls.outgoing o))
+    ++ option_to_list (order_made o number (execute_by setup s moment c (command_of setup apdu found)))
+
 frame : (setup : Setup) (past : List Entry) (c : ℕ) (apdu : Apdu) (m : ℕ) (r : Reply)
     → outcome setup (state_after setup past) (steps.Frame c apdu m) ≡ Ok r
     → Before setup past (state_after setup past)
@@ -612,16 +619,20 @@ frame setup past c apdu m r e k =
     let moment : ℕ = latest s m in
     let told = answered (fault_of s step) (can_be_counted s (needs setup s step)) (reply_to setup s step) r e in
     let up = who_is_up (λ (x : Client). is_up x.stage) NoClient (slice_get s.clients c) told.0 in
-    let reply : reply_of_event (event_of setup apdu up.0) ≡ r =
+    let became : Reply = reply_of_event (event_of setup apdu up.0) in
+    let reply : became ≡ r =
     sym (ap (client_reply (λ (x : Client). reply_of_event (event_of setup apdu x))) up.1) ∙ told.2 in
     let count : s.controls.ordered + 1 ≡ suc (length (executes setup past)) = omega (arith, k.orders.count) in
+    let each : (o : ℕ) → FoundAt setup past s moment c apdu o became (suc (length (executes setup past)))
+    (slice_get s.clients c) =
+    λ o. subst (λ (x : Option Client). FoundAt setup past s moment c apdu o became (suc (length (executes setup past))) x)
+    (sym up.1)
+    (subst (λ (n : ℕ). FoundAt setup past s moment c apdu o became n (Some up.0)) count
+    (frame_at setup past s moment c o apdu k (close_of setup apdu up.0) (command_in setup apdu) refl)) in
     subst (λ (x : Reply). StepFollows setup past step x s (after setup s step)) reply
-    (calm setup past step (reply_of_event (event_of setup apdu up.0)) s (after setup s step) refl
-    (λ p. at_calm setup past (entry step (Ok (reply_of_event (event_of setup apdu up.0))))
-    (reply_of_event (event_of setup apdu up.0)) p (slice_get s.controls.outgoing p)
-    (slice_get (after setup s step).controls.outgoing p)
-    (rw (up.1, sym count) (frame_at setup past s moment c p apdu k (close_of setup apdu up.0) (command_in setup apdu) refl))
-    (λ x. refl)))
+    (calm setup past step became s (after setup s step) refl
+    (λ p. at_calm setup past (entry step (Ok became)) became p (slice_get s.controls.outgoing p)
+    (slice_get (after setup s step).controls.outgoing p) (each p) (λ x. refl)))
 
 -- ---- all steps
 
