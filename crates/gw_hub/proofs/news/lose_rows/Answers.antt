@@ -5,7 +5,7 @@ use Rattle.gw_picture.specs.Loss.{picture_losing_at}
 use Rattle.gw_picture.proofs.Losses.{losing_length}
 use Rattle.gw_station.specs.Sound.{CanTake}
 use Rattle.gw_hub.proofs.Losing.{left_at_first, left_behind, left_at_last, can_apart, can_for_row, rest_of}
-use Rattle.gw_hub.proofs.hub.lose_rows.Goals as goal
+use Rattle.gw_hub.proofs.news.lose_rows.Goals as goal
 
 pub loop-position-init : goal.loop-position-init
 loop-position-init c = (

@@ -1,7 +1,7 @@
 use Rattle.std.proofs.Common.{◌≡◌, ◌+◌, ℤ, [], ◌∷◌, length, ap, subst, arith}
 use Rattle.gw_picture.specs.Picture.{news_of_report}
 use Rattle.gw_hub.proofs.Taking.{came_none, can_same, can_fewer}
-use Rattle.gw_hub.proofs.hub.take_report.Goals as goal
+use Rattle.gw_hub.proofs.news.take_report.Goals as goal
 
 pub returns-in-None-clause-clients : goal.returns-in-None-clause-clients
 returns-in-None-clause-clients c =

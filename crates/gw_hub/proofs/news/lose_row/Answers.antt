@@ -3,7 +3,7 @@ use Rattle.std.specs.List.{AllByRecursion}
 use Rattle.gw_model.specs.Fit.{HasWidth}
 use Rattle.gw_answers.specs.Meaning.{IsSendable}
 use Rattle.gw_hub.proofs.Taking.{came_none, can_same}
-use Rattle.gw_hub.proofs.hub.lose_row.Goals as goal
+use Rattle.gw_hub.proofs.news.lose_row.Goals as goal
 
 pub returns-in-Some-clause-more : goal.returns-in-Some-clause-more
 returns-in-Some-clause-more c = λ n all.

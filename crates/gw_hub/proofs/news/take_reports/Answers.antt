@@ -7,7 +7,7 @@ use Rattle.gw_picture.specs.Picture.{news_of, picture_after_report}
 use Rattle.gw_picture.proofs.Counts.{report_one}
 use Rattle.gw_station.specs.Sound.{CanTake}
 use Rattle.gw_hub.proofs.Taking.{left_first, left_more, left_none, can_same, can_fewer, rest_length}
-use Rattle.gw_hub.proofs.hub.take_reports.Goals as goal
+use Rattle.gw_hub.proofs.news.take_reports.Goals as goal
 
 pub loop-report-init : goal.loop-report-init
 loop-report-init c = (
