@@ -1,7 +1,7 @@
 -- Commands that are given find places for what is said of them.
 use Rattle.std.specs.Prelude.{slice_get, slice_index, option_map, take, not, ◌^◌, ◌&&◌, ◌||◌, IfSome, IsTrue, if◌then◌else◌}
 use Rattle.std.specs.List.{AllByRecursion}
-use Rattle.std.proofs.Common.{◌≡◌, ℕ, zero, suc, ◌+◌, ◌*◌, ◌<◌, ◌≤◌, ◌==◌, Bool, true, false, List, [], ◌∷◌, map, Option, Some, None, Result, Ok, Err, refl, sym, ap, subst, ◌∙◌, arith}
+use Rattle.std.proofs.Common.{◌≡◌, ℕ, zero, suc, ◌+◌, ◌*◌, ◌<◌, ◌≤◌, ◌==◌, Bool, true, false, List, [], ◌∷◌, map, length, Option, Some, None, Result, Ok, Err, refl, sym, ap, subst, ◌∙◌, arith}
 use Rattle.std.proofs.lemmas.List.{length-append}
 use Rattle.std.proofs.lemmas.Bool.{eq-eqb, ltb-true, ne_eqb}
 use Rattle.gw_model.specs.First.{first_of, when}
@@ -197,30 +197,25 @@ two_places : (b : Bool) → b ≡ true → needed b ≡ 2
 two_places true e = refl
 two_places false e = absurd cc
 
+-- what is said at once takes one place
+said_fits : (command : Command) (said : Said) (k : Client) → length (map Made (told command said)) ≤ 1
+    → held_with said k.held ≡ k.held → HasPlace (events.Command command) k → CanBeTold command said k
+said_fits command said k short same place =
+    omega (
+      arith,
+      place.1,
+      one_place (is_execute command),
+      short,
+      same,
+      length-append k.answers (map Made (told command said)),
+    )
+
 pub answer_fits : (setup : Setup) (a : Asked) (v : Controls) (answer : Answer) (k : Client)
     → answer ≡ answer_of setup a v → HasPlace (events.Command a.command) k → IsActEvent (events.Command a.command)
     → CanBeTold a.command (said_by answer) k
-answer_fits setup a v answers.Confirm k e place act =
-    omega (
-      arith,
-      place.1,
-      one_place (is_execute a.command),
-      length-append k.answers (map Made (told a.command saids.Confirm)),
-    )
-answer_fits setup a v answers.Negative k e place act =
-    omega (
-      arith,
-      place.1,
-      one_place (is_execute a.command),
-      length-append k.answers (map Made (told a.command saids.Negative)),
-    )
-answer_fits setup a v answers.Unknown k e place act =
-    omega (
-      arith,
-      place.1,
-      one_place (is_execute a.command),
-      length-append k.answers (map Made (told a.command saids.Negative)),
-    )
+answer_fits setup a v answers.Confirm k e place act = said_fits a.command saids.Confirm k (omega arith) refl place
+answer_fits setup a v answers.Negative k e place act = said_fits a.command saids.Negative k (omega arith) refl place
+answer_fits setup a v answers.Unknown k e place act = said_fits a.command saids.Negative k (omega arith) refl place
 answer_fits setup a v (answers.Ordered n) k e place act =
     let kind = ordered_executes setup a v n (sym e) in
     let two : needed (is_execute a.command) ≡ 2 = two_places (is_execute a.command) (act kind.0 kind.1) in
