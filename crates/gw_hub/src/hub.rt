@@ -64,28 +64,11 @@ impl Model for Hub {
 
     ghost Value = { Seen };
 
-    ghost view = { λ h. record {
-      setup = h.settings;
-      state = record {
-        outstations = h.outstations;
-        picture = h.picture;
-        clients = h.clients;
-        sessions = h.sessions;
-        controls = h.controls;
-        counts = h.counts;
-        moment = h.moment;
-      };
-    } };
+    ghost use Rattle.gw_hub.specs.View.{state_in};
 
-    ghost invariant = { λ h. IsKept h.settings (record {
-      outstations = h.outstations;
-      picture = h.picture;
-      clients = h.clients;
-      sessions = h.sessions;
-      controls = h.controls;
-      counts = h.counts;
-      moment = h.moment;
-    }) };
+    ghost view = { λ h. record { setup = h.settings; state = state_in h } };
+
+    ghost invariant = { λ h. IsKept h.settings (state_in h) };
 }
 
 impl Hub {

@@ -13,6 +13,7 @@ use Rattle.gw_steps.specs.Steps.{after, can_order, can_rise, client_answered, cl
 use Rattle.gw_parts.specs.Clients.{event_at}
 use Rattle.gw_hub.specs.declared.orders.Sender.{Sender}
 use Rattle.gw_hub.specs.Hub.{Hub, controls_settled, said_to_sender, step_with}
+use Rattle.gw_hub.specs.View.{state_in}
 use Rattle.gw_hub.proofs.Answered.{frame_answer, frame_state, given_acts, left_by_apdu, number_left}
 use Rattle.gw_hub.proofs.Holding.{orderly}
 use Rattle.gw_hub.proofs.Taking.{can_rise_step, counts_can, sendable_shown}
@@ -37,16 +38,7 @@ settle-requires-clause-number c =
     let event = subst (λ (s : Setup). c.in-Ok.event
     ≡ event_at s c.args.apdu.now (slice_get c.self.inside.clients c.args.client)) c.get-settings.ensures
     c.in-Ok.ensures.event in
-    rw c.get-settings.ensures (number_left c.self.inside.settings
-    (record {
-      outstations = c.self.inside.outstations;
-      picture = c.self.inside.picture;
-      clients = c.self.inside.clients;
-      sessions = c.self.inside.sessions;
-      controls = c.self.inside.controls;
-      counts = c.self.inside.counts;
-      moment = c.self.inside.moment;
-    })
+    rw c.get-settings.ensures (number_left c.self.inside.settings (state_in c.self.inside)
     (record { client = c.args.client; session = c.session.result; moment = c.args.moment })
     c.args.apdu.now (slice_get c.self.inside.clients c.args.client) c.in-Ok.event event
     (c.session.ensures ∙ ap (λ (h : Hub). slice_index h.state.sessions c.args.client) (sym c.self.view_is)) can)
@@ -94,15 +86,7 @@ returns-clause-step c =
     let apdu = c.args.apdu.now in
     let moment = c.args.moment in
     let setup : Setup = c.self.inside.settings in
-    let state : State = record {
-      outstations = c.self.inside.outstations;
-      picture = c.self.inside.picture;
-      clients = c.self.inside.clients;
-      sessions = c.self.inside.sessions;
-      controls = c.self.inside.controls;
-      counts = c.self.inside.counts;
-      moment = c.self.inside.moment;
-    } in
+    let state : State = state_in c.self.inside in
     let sender : Sender = record { client = client; session = c.session.result; moment = moment } in
     let back = sym c.self.view_is in
     let at = subst (λ (h : Hub). moment ≡ latest h.state moment) back c.requires.moment in
