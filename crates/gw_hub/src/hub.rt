@@ -140,18 +140,18 @@ impl Hub {
     /// Makes steps one after the other on a new hub; gives it with a reply for each of them.
     ///
     /// These are a run of the step relation, and at each place of the list these promises hold:
-    /// - `news`: the picture is that of the log, and for each client's session the observations meant by the spontaneous
-    ///   ASDUs put out since its STARTDT, followed by those queued, are the news since then, in order, less those dropped.
-    ///   I formats are put out in a session alone, and carry what a station may say.
+    /// - `news`: the picture is that of the log, and for each client's session the observations meant by the
+    ///   spontaneous ASDUs put out since its STARTDT, followed by those queued, are the news since then, in order, less
+    ///   those dropped. I formats are put out in a session alone, and carry what a station may say.
     /// - `interrogations`: what was put out of the answer to a client's interrogation is the front of it, and all of it
     ///   once its termination is out: the confirmation, what the picture showed at its act, and the termination.
     /// - `line`: each I format put out to a client is the first of what waited for it: answers to its ASDUs, news that
     ///   came before the interrogation that is pending, the rest of its answer, and later news.
     /// - `mirror`: once a station interrogation was confirmed, and while no news since its act was dropped, the
-    ///   observations put out from then on and those that wait have as their last values what the picture shows, but for
-    ///   totals.
-    /// - `numbers`: the nth I format put out since a client came up, counted from 0, has N(S) n modulo 32,768, each N(R)
-    ///   is the number of I formats taken, modulo 32,768, and at most k lie beyond the client's last N(R).
+    ///   observations put out from then on and those that wait have as their last values what the picture shows, but
+    ///   for totals.
+    /// - `numbers`: the nth I format put out since a client came up, counted from 0, has N(S) n modulo 32,768, each
+    ///   N(R) is the number of I formats taken, modulo 32,768, and at most k lie beyond the client's last N(R).
     /// - `frames`: an I or S format is taken where it is right, and closes the connection where it isn't.
     /// - `apdus`: what a pump puts out reads as one APDU.
     /// - `confirmations`: a confirmation was given to an outstation only with the news put into the log, or for a
@@ -162,11 +162,11 @@ impl Hub {
     ///   holds two places of its client until its outcome.
     ///
     /// And of controls:
-    /// - `bonds`: each request that operates an output names an execute that was accepted, and asks what its command asks
-    ///   of the outstation of its control. For each execute there is at most one DIRECT_OPERATE, or one SELECT, and after
-    ///   its success one OPERATE of the same; nothing that is lost or late leads to another.
-    /// - `outcomes`: what clients are told of orders is of accepted executes, of each one at most once, the client and the
-    ///   command of which it is: done where the outstation took what the newest request asked, and that operates.
+    /// - `bonds`: each request that operates an output names an execute that was accepted, and asks what its command
+    ///   asks of the outstation of its control. For each execute there is at most one DIRECT_OPERATE, or one SELECT,
+    ///   and after its success one OPERATE of the same; nothing that is lost or late leads to another.
+    /// - `outcomes`: what clients are told of orders is of accepted executes, of each one at most once, the client and
+    ///   the command of which it is: done where the outstation took what the newest request asked, and that operates.
     pub fn run(
         alloc: Global,
         settings: Settings,
@@ -372,7 +372,8 @@ impl Hub {
     /// Takes the order that is due for an outstation, if one is.
     fn take_order(&mut self, outstation: u8) -> Option<Order>
         ensures order { result ≡ order_due self.old.state outstation }
-        ensures state { self.new.state ≡ record self.old.state { controls = controls_polled self.old.state outstation } }
+        ensures state { self.new.state
+            ≡ record self.old.state { controls = controls_polled self.old.state outstation } }
         ensures setup { self.new.setup ≡ self.old.setup }
     {
         if self.outstations.get(outstation)?.ready() {

@@ -22,7 +22,8 @@ fn take_report(
 ) -> u64
     requires { AllByRecursion (CanTake (length (news_of_one settings.now picture.old report.now))) clients.old }
     ensures count { result ≡ length (news_of_one settings.now picture.old report.now) }
-    ensures picture { picture.new ≡ picture_after_report settings.now.station.offset_minutes settings.now.rows picture.old report.now }
+    ensures picture { picture.new
+        ≡ picture_after_report settings.now.station.offset_minutes settings.now.rows picture.old report.now }
     ensures clients { clients.new
         ≡ map (client_with_news (news_of_one settings.now picture.old report.now)) clients.old }
     ensures more { (n : ℕ)
@@ -49,7 +50,8 @@ pub fn take_reports(
 ) -> u64
     requires { AllByRecursion (CanTake (length (news_of_all settings.now picture.old reports.now))) clients.old }
     ensures count { result ≡ length (news_of_all settings.now picture.old reports.now) }
-    ensures picture { picture.new ≡ picture_after settings.now.station.offset_minutes settings.now.rows picture.old reports.now }
+    ensures picture { picture.new
+        ≡ picture_after settings.now.station.offset_minutes settings.now.rows picture.old reports.now }
     ensures clients { clients.new
         ≡ map (client_with_news (news_of_all settings.now picture.old reports.now)) clients.old }
     ensures sendable { AllByRecursion (IsSendable settings.now.station.offset_minutes)
@@ -76,7 +78,8 @@ fn lose_row(
     ensures clients { clients.new
         ≡ map (client_with_news (losses_at outstation settings.now.rows picture.old position)) clients.old }
     ensures more { (n : ℕ)
-        → AllByRecursion (CanTake (n + length (losses_at outstation settings.now.rows picture.old position))) clients.old
+        → AllByRecursion (CanTake (n + length (losses_at outstation settings.now.rows picture.old position)))
+        clients.old
         → AllByRecursion (CanTake n) clients.new }
     ensures sendable { AllByRecursion (IsSendable settings.now.station.offset_minutes)
         (losses_at outstation settings.now.rows picture.old position) }
