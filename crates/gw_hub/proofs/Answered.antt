@@ -1,7 +1,7 @@
 -- Commands that are given find places for what is said of them.
 use Rattle.std.specs.Prelude.{slice_get, slice_index, option_map, take, not, ◌^◌, ◌&&◌, ◌||◌, IfSome, IsTrue, if◌then◌else◌}
 use Rattle.std.specs.List.{AllByRecursion}
-use Rattle.std.proofs.Common.{◌≡◌, ℕ, zero, suc, ◌+◌, ◌*◌, ◌<◌, ◌≤◌, ◌==◌, Bool, true, false, List, [], ◌∷◌, map, Option, Some, None, Result, Ok, Err, refl, sym, ap, subst, ◌∙◌, arith}
+use Rattle.std.proofs.Common.{◌≡◌, ℕ, zero, suc, ◌+◌, ◌*◌, ◌<◌, ◌≤◌, ◌==◌, Bool, true, false, List, [], ◌∷◌, map, length, Option, Some, None, Result, Ok, Err, refl, sym, ap, subst, ◌∙◌, arith}
 use Rattle.std.proofs.lemmas.List.{length-append}
 use Rattle.std.proofs.lemmas.Bool.{eq-eqb, ltb-true, ne_eqb}
 use Rattle.gw_model.specs.First.{first_of, when}
@@ -9,12 +9,12 @@ use Rattle.gw_map.specs.Settings.{Setup}
 use Rattle.iec_apci.specs.declared.apdu.Apdu.{Apdu}
 use Rattle.iec_apci.specs.declared.apdu.Apdu.TheVariants.{I, S, U}
 use Rattle.iec_command.specs.declared.command.Action.{Action}
-use Rattle.iec_command.specs.declared.command.Action.TheVariants.{Single, Double, Setpoint, Interrogation, CounterInterrogation, Read}
+use Rattle.iec_command.specs.declared.command.Action.TheVariants.{Single, Double, Setpoint}
 use Rattle.iec_command.specs.declared.command.Command.{Command}
 use Rattle.iec_command.specs.declared.fault.CommandFault.{CommandFault}
 use Rattle.iec_command.specs.declared.fault.CommandFault.TheVariants as faults
 use Rattle.iec_command.specs.Commands.{command_of}
-use Rattle.iec_apci.specs.declared.apdu.Signal.TheVariants.{StartAct, StartCon, StopAct, StopCon, TestAct, TestCon}
+use Rattle.iec_apci.specs.declared.apdu.Signal.TheVariants.{StartAct, StopAct}
 use Rattle.gw_model.specs.Places.{change}
 use Rattle.gw_model.specs.declared.observation.Observation.{Observation}
 use Rattle.gw_entries.specs.Setup.{StationSetup}
@@ -28,7 +28,7 @@ use Rattle.gw_control.specs.Moves.{Comes, Leaves, one_if, HasWholeCommands, IsSo
 use Rattle.gw_control.proofs.Held.{command_holds, end_frees_own, end_keeps_others}
 use Rattle.gw_control.proofs.Sounds.{stays_sound}
 use Rattle.gw_control.proofs.Whole.{stays_whole}
-use Rattle.gw_judge.specs.Judging.{has_known_cause, has_object, is_addressed, is_execute, is_known_cause, judged_by, judged_reading, refusal_of}
+use Rattle.gw_judge.specs.Judging.{executes, has_known_cause, has_object, is_addressed, is_execute, is_known_cause, judged_by, judged_reading, refusal_of}
 use Rattle.gw_control.specs.declared.answer.Answer.{Answer}
 use Rattle.gw_control.specs.declared.answer.Answer.TheVariants as answers
 use Rattle.gw_control.specs.Selections.{is_own, is_select}
@@ -55,7 +55,8 @@ use Rattle.gw_steps.specs.Steps.{after, can_order, can_rise, client_after_frame,
 use Rattle.gw_parts.specs.Clients.{event_at}
 use Rattle.gw_hub.specs.Hub.{asked_by_sender, controls_settled, said_to_sender, step_with, CanOrder, IsActEvent}
 use Rattle.gw_hub.specs.declared.orders.Sender.{Sender}
-use Rattle.gw_hub.proofs.Holding.{has_at, held_change, Orderly}
+use Rattle.gw_hub.proofs.Each.{all_changed, has_at}
+use Rattle.gw_hub.proofs.Holding.{held_change, HoldsFor, Orderly}
 
 -- ---- what is given executes, selects or deactivates
 
@@ -74,27 +75,23 @@ first_none : (a b c : Bool)
 first_none true b c e = refl
 first_none false b c e = absurd cc
 
--- a command for a control, with a cause that is known for it
-activates : (c : Command) → (c.cause == 6) || (c.cause == 8) ≡ true → (c.cause == 8) ≡ false → (c.cause == 6) ≡ true
-activates c e none = not_other (c.cause == 6) (c.cause == 8) e none
+off : (select : Bool) → select ≡ false → not select ≡ true
+off false e = refl
+off true e = absurd cc
 
-acts : (c : Command) (action : Action) → c.action ≡ action → not c.negative && not c.test && is_known_cause action c.cause ≡ true
+-- a command for a control, with a cause that is known for it
+controls_act : (c : Command) → not c.negative && not c.test && ((c.cause == 6) || (c.cause == 8)) ≡ true
+    → (is_select c.action ≡ false → executes c.action ≡ true) → IsActEvent (events.Command c)
+controls_act c has executing = λ not_eight none.
+    rw (not_other (c.cause == 6) (c.cause == 8) (known c.negative c.test _ has) not_eight, executing none) refl
+
+acts : (c : Command) (action : Action) → c.action ≡ action
+    → not c.negative && not c.test && is_known_cause action c.cause ≡ true
     → IfSome (control_command c action) (λ (x : Command). IsActEvent (events.Command x))
-acts c (Single x) e has = λ not_eight none.
-    let six = activates c (known c.negative c.test _ has) not_eight in
-    let off : x.select ≡ false = subst (λ (a : Action). is_select a ≡ false) e none in
-    rw (six, e, off) refl
-acts c (Double x) e has = λ not_eight none.
-    let six = activates c (known c.negative c.test _ has) not_eight in
-    let off : x.select ≡ false = subst (λ (a : Action). is_select a ≡ false) e none in
-    rw (six, e, off) refl
-acts c (Setpoint x) e has = λ not_eight none.
-    let six = activates c (known c.negative c.test _ has) not_eight in
-    let off : x.select ≡ false = subst (λ (a : Action). is_select a ≡ false) e none in
-    rw (six, e, off) refl
-acts c (Interrogation x) e has = tt
-acts c (CounterInterrogation x) e has = tt
-acts c Read e has = tt
+acts c (Single x) e has = controls_act c has (rw e (off x.select))
+acts c (Double x) e has = controls_act c has (rw e (off x.select))
+acts c (Setpoint x) e has = controls_act c has (rw e (off x.select))
+acts c _ e has = tt
 
 of_judged : (setup : Setup) (c : Command) (refusal : Option ℕ) → refusal_of setup c ≡ refusal
     → IfSome (command_by (judged_by refusal c)) (λ (x : Command). IsActEvent (events.Command x))
@@ -106,9 +103,7 @@ of_reading : (setup : Setup) (read : Result Command CommandFault)
     → IfSome (command_by (judged_reading setup read)) (λ (x : Command). IsActEvent (events.Command x))
 of_reading setup (Ok c) = of_judged setup c (refusal_of setup c) refl
 of_reading setup (Err faults.UnknownType) = tt
-of_reading setup (Err faults.Short) = tt
-of_reading setup (Err faults.Count) = tt
-of_reading setup (Err faults.Long) = tt
+of_reading setup (Err _) = tt
 
 of_command : (why : Option Why) (command : Option Command)
     → IfSome command (λ (x : Command). IsActEvent (events.Command x)) → IsActEvent (event_by why command)
@@ -116,7 +111,8 @@ of_command (Some why) command act = tt
 of_command None None act = tt
 of_command None (Some command) act = act
 
-of_apdu : (setup : Setup) (apdu : Apdu) → IfSome (command_in setup apdu) (λ (x : Command). IsActEvent (events.Command x))
+of_apdu : (setup : Setup) (apdu : Apdu)
+    → IfSome (command_in setup apdu) (λ (x : Command). IsActEvent (events.Command x))
 of_apdu setup (I ns nr asdu) = of_reading setup (command_of (take asdu.len asdu.octets))
 of_apdu setup (S nr) = tt
 of_apdu setup (U signal) = tt
@@ -193,37 +189,28 @@ one_place : (b : Bool) → 1 ≤ needed b
 one_place true = omega arith
 one_place false = omega arith
 
-two_places : (b : Bool) → b ≡ true → needed b ≡ 2
-two_places true e = refl
-two_places false e = absurd cc
+-- what is said at once takes one place
+said_fits : (command : Command) (said : Said) (k : Client) → length (map Made (told command said)) ≤ 1
+    → held_with said k.held ≡ k.held → HasPlace (events.Command command) k → CanBeTold command said k
+said_fits command said k short same place =
+    omega (
+      arith,
+      place.1,
+      one_place (is_execute command),
+      short,
+      same,
+      length-append k.answers (map Made (told command said)),
+    )
 
 pub answer_fits : (setup : Setup) (a : Asked) (v : Controls) (answer : Answer) (k : Client)
     → answer ≡ answer_of setup a v → HasPlace (events.Command a.command) k → IsActEvent (events.Command a.command)
     → CanBeTold a.command (said_by answer) k
-answer_fits setup a v answers.Confirm k e place act =
-    omega (
-      arith,
-      place.1,
-      one_place (is_execute a.command),
-      length-append k.answers (map Made (told a.command saids.Confirm)),
-    )
-answer_fits setup a v answers.Negative k e place act =
-    omega (
-      arith,
-      place.1,
-      one_place (is_execute a.command),
-      length-append k.answers (map Made (told a.command saids.Negative)),
-    )
-answer_fits setup a v answers.Unknown k e place act =
-    omega (
-      arith,
-      place.1,
-      one_place (is_execute a.command),
-      length-append k.answers (map Made (told a.command saids.Negative)),
-    )
+answer_fits setup a v answers.Confirm k e place act = said_fits a.command saids.Confirm k (omega arith) refl place
+answer_fits setup a v answers.Negative k e place act = said_fits a.command saids.Negative k (omega arith) refl place
+answer_fits setup a v answers.Unknown k e place act = said_fits a.command saids.Negative k (omega arith) refl place
 answer_fits setup a v (answers.Ordered n) k e place act =
     let kind = ordered_executes setup a v n (sym e) in
-    let two : needed (is_execute a.command) ≡ 2 = two_places (is_execute a.command) (act kind.0 kind.1) in
+    let two : needed (is_execute a.command) ≡ 2 = ap needed (act kind.0 kind.1) in
     omega (arith, place.1, two, length-append k.answers (map Made (told a.command saids.Ordered)))
 
 pub all_fit : (setup : Setup) (a : Asked) (v : Controls) (answer : Answer) (found : Option Client)
@@ -234,17 +221,10 @@ all_fit setup a v answer (Some k) e place act = answer_fits setup a v answer k e
 
 -- ---- what is not answered stays
 
-pub not_told : (said : Command → Said) (event : Event) (c : ℕ) (ks : List Client)
-    → ((k : Client) → client_answered said event k ≡ k) → ks ≡ change c (client_answered said event) ks
-not_told said event c ks same = sym (change-still c (client_answered said event) ks (λ k at. same k))
-
-pub taken_still : (said : Command → Said) (event : Event) → event ≡ events.Taken → (k : Client)
-    → client_answered said event k ≡ k
-taken_still said event e k = ap (λ (x : Event). client_answered said x k) e
-
-pub closed_still : (said : Command → Said) (event : Event) (why : Why) → event ≡ events.Closed why → (k : Client)
-    → client_answered said event k ≡ k
-closed_still said event why e k = ap (λ (x : Event). client_answered said x k) e
+pub not_told : (said : Command → Said) (event quiet : Event) (c : ℕ) (ks : List Client) → event ≡ quiet
+    → ((k : Client) → client_answered said quiet k ≡ k) → ks ≡ change c (client_answered said event) ks
+not_told said event quiet c ks is same =
+    rw is (sym (change-still c (client_answered said quiet) ks (λ k at. same k)))
 
 -- ---- all that orders keep
 
@@ -258,9 +238,7 @@ change_twice (suc c) f g (k ∷ ks) = ap (λ (xs : List Client). k ∷ xs) (chan
 held_ordered : (answer : Answer) (held orders more : ℕ) → held ≡ 2 * orders → more ≡ orders + one_if (is_order answer)
     → held_with (said_by answer) held ≡ 2 * more
 held_ordered answers.Confirm held orders more e m = omega (arith, e, m)
-held_ordered answers.Negative held orders more e m = omega (arith, e, m)
-held_ordered answers.Unknown held orders more e m = omega (arith, e, m)
-held_ordered (answers.Ordered n) held orders more e m = omega (arith, e, m)
+held_ordered _ held orders more e m = omega (arith, e, m)
 
 -- the places of the client whose APDU it is
 own_held : (setup : Setup) (picture : List Observation) (outstations : List Master) (x : Sender) (apdu : Apdu)
@@ -306,13 +284,9 @@ own_held setup picture outstations x apdu v k held stopped = by (close_of setup 
             ≡ 2 * orders_of c (controls_settled setup outstations x (I ns nr asdu) (event_taking command) v)
         carried None = held
         carried (Some command) = commands command
-    taken (S nr) = held
     taken (U StartAct) = starts (is_started k.stage) refl
     taken (U StopAct) = stops (is_started k.stage) refl
-    taken (U TestAct) = held
-    taken (U StartCon) = held
-    taken (U StopCon) = held
-    taken (U TestCon) = held
+    taken _ = held
 
     by : (why : Option Why)
         → (client_answered (said_to_sender setup outstations x v) (event_by why (command_in setup apdu))
@@ -326,13 +300,7 @@ others_held : (setup : Setup) (outstations : List Master) (x : Sender) (apdu : A
     (d : ℕ) → (x.client ≡ d → ⊥)
     → orders_of d (controls_settled setup outstations x apdu event v) ≡ orders_of d v
 others_held setup outstations x (U StopAct) events.Taken v d ne = end_keeps_others x.client d ne v
-others_held setup outstations x (U StartAct) events.Taken v d ne = refl
-others_held setup outstations x (U TestAct) events.Taken v d ne = refl
-others_held setup outstations x (U StartCon) events.Taken v d ne = refl
-others_held setup outstations x (U StopCon) events.Taken v d ne = refl
-others_held setup outstations x (U TestCon) events.Taken v d ne = refl
-others_held setup outstations x (I ns nr asdu) events.Taken v d ne = refl
-others_held setup outstations x (S nr) events.Taken v d ne = refl
+others_held setup outstations x _ events.Taken v d ne = refl
 others_held setup outstations x apdu (events.Command command) v d ne =
     let a : Asked = asked_by_sender setup outstations x command in
     command_holds setup d a v ∙ omega (
@@ -354,19 +322,9 @@ settled_sound setup outstations x apdu (events.Closed why) v whole sound command
     (stays_sound setup (Leaves x.client) v sound, stays_whole setup (Leaves x.client) v tt commands)
 settled_sound setup outstations x (U StopAct) events.Taken v whole sound commands =
     (stays_sound setup (Leaves x.client) v sound, stays_whole setup (Leaves x.client) v tt commands)
-settled_sound setup outstations x (U StartAct) events.Taken v whole sound commands = (sound, commands)
-settled_sound setup outstations x (U TestAct) events.Taken v whole sound commands = (sound, commands)
-settled_sound setup outstations x (U StartCon) events.Taken v whole sound commands = (sound, commands)
-settled_sound setup outstations x (U StopCon) events.Taken v whole sound commands = (sound, commands)
-settled_sound setup outstations x (U TestCon) events.Taken v whole sound commands = (sound, commands)
-settled_sound setup outstations x (I ns nr asdu) events.Taken v whole sound commands = (sound, commands)
-settled_sound setup outstations x (S nr) events.Taken v whole sound commands = (sound, commands)
+settled_sound setup outstations x _ events.Taken v whole sound commands = (sound, commands)
 
 -- the client was answered
-is_ordered_said : (setup : Setup) (a : Asked) (v : Controls) (k : Client) → HasPlace (events.Command a.command) k
-    → said_by (answer_of setup a v) ≡ saids.Ordered → is_started k.stage ≡ true
-is_ordered_said setup a v k place e = place.0
-
 one_answered : (setup : Setup) (station : StationSetup) (n i : ℕ) (outstations : List Master) (x : Sender)
     (v : Controls) (event : Event) (k : Client) → IsWholeEvent event → IsActEvent event → HasPlace event k
     → IsSoundClient station n i k
@@ -376,18 +334,7 @@ one_answered setup station n i outstations x v (events.Closed why) k whole act p
 one_answered setup station n i outstations x v (events.Command command) k whole act place sound =
     let a : Asked = asked_by_sender setup outstations x command in
     sound_told station n i (said_by (answer_of setup a v)) command k whole
-    (answer_fits setup a v (answer_of setup a v) k refl place act)
-    (is_ordered_said setup a v k place) sound
-
-all_answered : (setup : Setup) (station : StationSetup) (n i : ℕ) (outstations : List Master) (x : Sender)
-    (v : Controls) (event : Event) (c : ℕ) (ks : List Client) → IsWholeEvent event → IsActEvent event
-    → IfSome (slice_get ks c) (HasPlace event) → AllByRecursion (IsSoundClient station n i) ks
-    → AllByRecursion (IsSoundClient station n i) (change c (client_answered (said_to_sender setup outstations x v) event) ks)
-all_answered setup station n i outstations x v event c [] whole act place all = tt
-all_answered setup station n i outstations x v event zero (k ∷ ks) whole act place all =
-    (one_answered setup station n i outstations x v event k whole act place all.0, all.1)
-all_answered setup station n i outstations x v event (suc c) (k ∷ ks) whole act place all =
-    (all.0, all_answered setup station n i outstations x v event c ks whole act place all.1)
+    (answer_fits setup a v (answer_of setup a v) k refl place act) (λ _. place.0) sound
 
 pub left_by_apdu : (setup : Setup) (station : StationSetup) (n m i j : ℕ) (picture : List Observation)
     (outstations : List Master) (x : Sender) (apdu : Apdu) (event : Event) (ks mid new : List Client)
@@ -398,23 +345,26 @@ pub left_by_apdu : (setup : Setup) (station : StationSetup) (n m i j : ℕ) (pic
     → IsWholeEvent event → IsActEvent event → IfSome (slice_get mid x.client) (HasPlace event)
     → AllByRecursion (IsSoundClient station m j) mid
     → Orderly setup station n i ks v → Orderly setup station m j new out
-left_by_apdu setup station n m i j picture outstations x apdu event ks mid new v out is em en eo whole act place sound o =
+left_by_apdu setup station n m i j picture outstations x apdu event ks mid new v out is em en eo whole act place all o =
     let kept = settled_sound setup outstations x apdu event v whole o.controls o.commands in
     let said : Command → Said = said_to_sender setup outstations x v in
     let f : Client → Client = client_after_apdu setup picture x.moment apdu in
+    let sound = IsSoundClient station m j in
     rw (en, eo) (record {
-      clients = all_answered setup station m j outstations x v event x.client mid whole act place sound;
+      clients = all_changed sound (HasPlace event) sound x.client (client_answered said event) mid (λ k one. one)
+          (λ k has one. one_answered setup station m j outstations x v event k whole act has one) place all;
       controls = kept.0;
       commands = kept.1;
       held = rw (em, change_twice x.client f (client_answered said event) ks)
           (held_change x.client (λ (k : Client). client_answered said event (f k)) ks v
           (controls_settled setup outstations x apdu event v)
           (λ d ne. others_held setup outstations x apdu event v d ne)
-          (own (slice_get ks x.client) is (o.held x.client) (has_at (IsSoundClient station n i) ks x.client o.clients)) o.held);
+          (own (slice_get ks x.client) is (o.held x.client)
+          (has_at (IsSoundClient station n i) ks x.client o.clients)) o.held);
     })
   where
     own : (found : Option Client) → event ≡ event_at setup apdu found
-        → IfSome found (λ (k : Client). k.held ≡ 2 * orders_of x.client v) → IfSome found (IsSoundClient station n i)
+        → IfSome found (HoldsFor x.client v) → IfSome found (IsSoundClient station n i)
         → IfSome found (λ (k : Client). (client_answered (said_to_sender setup outstations x v) event
         (client_after_apdu setup picture x.moment apdu k)).held
         ≡ 2 * orders_of x.client (controls_settled setup outstations x apdu event v))

@@ -44,12 +44,18 @@ use Rattle.gw_steps.specs.Steps.{after, can_rise, fault_of, latest, outcome, rep
 use Rattle.gw_parts.specs.Outstations.{master_polled, reply_to_poll}
 use Rattle.gw_steps.specs.Sound.{IsSoundState}
 use Rattle.gw_hub.specs.Hub.{CanTell, HoldsPlaces, controls_polled, state_counting, step_with}
+use Rattle.gw_picture.specs.Shown.{IsShown, ShowsRows}
+use Rattle.gw_hub.proofs.Each.{all_changed, all_so, has_at}
 use Rattle.gw_hub.proofs.Taking.{sound_came}
 
 -- ---- each order holds two places
 
+-- a client with this number
+abbrev pub HoldsFor : ℕ → Controls → Client → Type 0
+HoldsFor c v k = k.held ≡ 2 * orders_of c v
+
 abbrev pub AllHeld : List Client → Controls → Type 0
-AllHeld ks v = (c : ℕ) → IfSome (slice_get ks c) (λ (k : Client). k.held ≡ 2 * orders_of c v)
+AllHeld ks v = (c : ℕ) → IfSome (slice_get ks c) (HoldsFor c v)
 
 if_some : {A : Type 0} (P Q : A → Type 0) (x : Option A) → ((y : A) → P y → Q y) → IfSome x P → IfSome x Q
 if_some P Q None step all = tt
@@ -63,56 +69,50 @@ if_mapped f P (Some y) all = all
 -- one client changed, and its orders; those of the others are as many as before
 pub held_change : (p : ℕ) (f : Client → Client) (ks : List Client) (v new : Controls)
     → ((d : ℕ) → (p ≡ d → ⊥) → orders_of d new ≡ orders_of d v)
-    → IfSome (slice_get ks p) (λ (k : Client). (f k).held ≡ 2 * orders_of p new)
+    → IfSome (slice_get ks p) (λ (k : Client). HoldsFor p new (f k))
     → AllHeld ks v → AllHeld (change p f ks) new
 held_change p f ks v new others own all d = elim (cases_eq p d) [
-  | inl same ↦ subst (λ (n : ℕ). IfSome (slice_get (change p f ks) n) (λ (k : Client). k.held ≡ 2 * orders_of n new)) same
-      (subst (λ (x : Option Client). IfSome x (λ (k : Client). k.held ≡ 2 * orders_of p new))
-      (sym (change-here p f ks)) (if_mapped f (λ (k : Client). k.held ≡ 2 * orders_of p new) (slice_get ks p) own))
-  | inr ne ↦ subst (λ (x : Option Client). IfSome x (λ (k : Client). k.held ≡ 2 * orders_of d new))
-      (sym (change-there p d f ks ne))
-      (if_some (λ (k : Client). k.held ≡ 2 * orders_of d v) (λ (k : Client). k.held ≡ 2 * orders_of d new)
-      (slice_get ks d) (λ k held. held ∙ ap (λ (n : ℕ). 2 * n) (sym (others d ne))) (all d))
+  | inl same ↦ subst (λ (n : ℕ). IfSome (slice_get (change p f ks) n) (HoldsFor n new)) same
+      (subst (λ (x : Option Client). IfSome x (HoldsFor p new)) (sym (change-here p f ks))
+      (if_mapped f (HoldsFor p new) (slice_get ks p) own))
+  | inr ne ↦ subst (λ (x : Option Client). IfSome x (HoldsFor d new)) (sym (change-there p d f ks ne))
+      (if_some (HoldsFor d v) (HoldsFor d new) (slice_get ks d)
+      (λ k held. held ∙ ap (λ (n : ℕ). 2 * n) (sym (others d ne))) (all d))
 ]
 
 -- all clients changed, but not in the places that they hold
-pub held_map : (f : Client → Client) (ks : List Client) (v : Controls) → ((k : Client) → (f k).held ≡ k.held)
+held_map : (f : Client → Client) (ks : List Client) (v : Controls) → ((k : Client) → (f k).held ≡ k.held)
     → AllHeld ks v → AllHeld (map f ks) v
 held_map f ks v same all c =
-    subst (λ (x : Option Client). IfSome x (λ (k : Client). k.held ≡ 2 * orders_of c v)) (sym (map-get f ks c))
-    (if_mapped f (λ (k : Client). k.held ≡ 2 * orders_of c v) (slice_get ks c)
-    (if_some (λ (k : Client). k.held ≡ 2 * orders_of c v) (λ (k : Client). (f k).held ≡ 2 * orders_of c v)
-    (slice_get ks c) (λ k held. same k ∙ held) (all c)))
+    subst (λ (x : Option Client). IfSome x (HoldsFor c v)) (sym (map-get f ks c))
+    (if_mapped f (HoldsFor c v) (slice_get ks c)
+    (if_some (HoldsFor c v) (λ (k : Client). HoldsFor c v (f k)) (slice_get ks c)
+    (λ k held. same k ∙ held) (all c)))
 
 -- one did
 pub held_kept : (p : ℕ) (f : Client → Client) (ks : List Client) (v : Controls) → ((k : Client) → (f k).held ≡ k.held)
     → AllHeld ks v → AllHeld (change p f ks) v
 held_kept p f ks v same all =
     held_change p f ks v v (λ d ne. refl)
-    (if_some (λ (k : Client). k.held ≡ 2 * orders_of p v) (λ (k : Client). (f k).held ≡ 2 * orders_of p v)
-    (slice_get ks p) (λ k held. same k ∙ held) (all p)) all
+    (if_some (HoldsFor p v) (λ (k : Client). HoldsFor p v (f k)) (slice_get ks p) (λ k held. same k ∙ held) (all p)) all
 
 -- a session ended
-pub held_end : (p : ℕ) (f : Client → Client) (ks : List Client) (v : Controls)
+held_end : (p : ℕ) (f : Client → Client) (ks : List Client) (v : Controls)
     → ((k : Client) → (f k).held ≡ 0) → AllHeld ks v → AllHeld (change p f ks) (controls_after_end p v)
 held_end p f ks v none all =
-    held_change p f ks v (controls_after_end p v) (λ d ne. end_keeps_others p d ne v)
-    (at (slice_get ks p)) all
+    held_change p f ks v (controls_after_end p v) (λ d ne. end_keeps_others p d ne v) (at (slice_get ks p)) all
   where
-    at : (x : Option Client) → IfSome x (λ (k : Client). (f k).held ≡ 2 * orders_of p (controls_after_end p v))
+    at : (x : Option Client) → IfSome x (λ (k : Client). HoldsFor p (controls_after_end p v) (f k))
     at None = tt
     at (Some k) = omega (arith, none k, end_frees_own p v)
 
--- ---- a client at a place
-
-pub has_at : (P : Client → Type 0) (ks : List Client) (c : ℕ) → AllByRecursion P ks → IfSome (slice_get ks c) P
-has_at P [] c all = tt
-has_at P (k ∷ ks) zero all = all.0
-has_at P (k ∷ ks) (suc c) all = has_at P ks c all.1
-
 -- ---- outcomes
 
-tell_fits : (command : Command) (done : Bool) (k : Client) → 2 ≤ k.held → places_taken k ≤ places
+-- no more places are taken than there are
+abbrev HasPlaces : Client → Type 0
+HasPlaces k = places_taken k ≤ places
+
+tell_fits : (command : Command) (done : Bool) (k : Client) → 2 ≤ k.held → HasPlaces k
     → CanBeTold command (if done then saids.Done else saids.Failed) k
 tell_fits command true k held few =
     omega (arith, held, few, length-append k.answers (map Made (told command saids.Done)))
@@ -120,18 +120,16 @@ tell_fits command false k held few =
     omega (arith, held, few, length-append k.answers (map Made (told command saids.Failed)))
 
 -- of an outcome there is an order, for which its client holds two places
-pub can_tell : (x : Outcome) (ks : List Client) (v new : Controls)
+can_tell : (x : Outcome) (ks : List Client) (v new : Controls)
     → orders_of x.client v ≡ orders_of x.client new + outcomes_to x.client (Some x)
     → HoldsPlaces ks v → CanTell ks x
 can_tell x ks v new frees holds =
-    go (slice_get ks x.client) (holds.held x.client)
-    (has_at (λ (k : Client). places_taken k ≤ places) ks x.client holds.places)
+    go (slice_get ks x.client) (holds.held x.client) (has_at HasPlaces ks x.client holds.places)
   where
     one : outcomes_to x.client (Some x) ≡ 1
     one = ap one_if (eq-eqb x.client x.client refl)
 
-    go : (found : Option Client) → IfSome found (λ (k : Client). k.held ≡ 2 * orders_of x.client v)
-        → IfSome found (λ (k : Client). places_taken k ≤ places)
+    go : (found : Option Client) → IfSome found (HoldsFor x.client v) → IfSome found HasPlaces
         → IfSome found (CanBeTold x.command (said_of_outcome x))
     go None held few = tt
     go (Some k) held few = tell_fits x.command x.done k (omega (arith, held, frees, one)) few
@@ -148,42 +146,40 @@ fewer command false k = refl
 told_held : (outcome : Option Outcome) (ks : List Client) (v new : Controls) → Frees outcome v new → AllHeld ks v
     → AllHeld (clients_told (option_to_list outcome) ks) new
 told_held None ks v new frees all = λ c.
-    if_some (λ (k : Client). k.held ≡ 2 * orders_of c v) (λ (k : Client). k.held ≡ 2 * orders_of c new)
-    (slice_get ks c) (λ k held. omega (arith, held, frees c)) (all c)
+    if_some (HoldsFor c v) (HoldsFor c new) (slice_get ks c) (λ k held. omega (arith, held, frees c)) (all c)
 told_held (Some x) ks v new frees all =
-    held_change x.client (client_told_of x) ks v new (λ d ne. others d ne) (own (slice_get ks x.client) (all x.client)) all
+    held_change x.client (client_told_of x) ks v new (λ d ne. others d ne) (own (slice_get ks x.client) (all x.client))
+    all
   where
     others : (d : ℕ) → (x.client ≡ d → ⊥) → orders_of d new ≡ orders_of d v
     others d ne = omega (arith, frees d, ap one_if (ne_eqb x.client d ne))
 
-    own : (found : Option Client) → IfSome found (λ (k : Client). k.held ≡ 2 * orders_of x.client v)
-        → IfSome found (λ (k : Client). (client_told_of x k).held ≡ 2 * orders_of x.client new)
+    own : (found : Option Client) → IfSome found (HoldsFor x.client v)
+        → IfSome found (λ (k : Client). HoldsFor x.client new (client_told_of x k))
     own None held = tt
     own (Some k) held =
         omega (arith, held, frees x.client, ap one_if (eq-eqb x.client x.client refl), fewer x.command x.done k)
 
-places_told : (x : Outcome) (c : ℕ) (ks : List Client)
-    → IfSome (slice_get ks c) (CanBeTold x.command (said_of_outcome x))
-    → AllByRecursion (λ (k : Client). places_taken k ≤ places) ks
-    → AllByRecursion (λ (k : Client). places_taken k ≤ places) (change c (client_told_of x) ks)
-places_told x c [] fits all = tt
-places_told x zero (k ∷ ks) fits all = (fits, all.1)
-places_told x (suc c) (k ∷ ks) fits all = (all.0, places_told x c ks fits all.1)
-
-pub holds_told : (outcome : Option Outcome) (ks : List Client) (v new : Controls) → Frees outcome v new
+holds_told : (outcome : Option Outcome) (ks : List Client) (v new : Controls) → Frees outcome v new
     → HoldsPlaces ks v → HoldsPlaces (clients_told (option_to_list outcome) ks) new
-holds_told None ks v new frees holds =
-    record { held = told_held None ks v new frees holds.held; places = holds.places }
-holds_told (Some x) ks v new frees holds = record {
-  held = told_held (Some x) ks v new frees holds.held;
-  places = places_told x x.client ks (can_tell x ks v new (frees x.client) holds) holds.places;
-}
+holds_told outcome ks v new frees holds =
+    record { held = told_held outcome ks v new frees holds.held; places = by outcome frees }
+  where
+    by : (x : Option Outcome) → Frees x v new → AllByRecursion HasPlaces (clients_told (option_to_list x) ks)
+    by None frees = holds.places
+    by (Some x) frees =
+        all_changed HasPlaces (CanBeTold x.command (said_of_outcome x)) HasPlaces x.client (client_told_of x) ks
+        (λ k few. few) (λ k fits few. fits) (can_tell x ks v new (frees x.client) holds) holds.places
 
 -- it can be told
-pub can_tell_it : (outcome : Option Outcome) (ks : List Client) (v new : Controls) → Frees outcome v new
-    → HoldsPlaces ks v → IfSome outcome (CanTell ks)
-can_tell_it None ks v new frees holds = tt
-can_tell_it (Some x) ks v new frees holds = can_tell x ks v new (frees x.client) holds
+can_tell_it : (freed outcome : Option Outcome) (ks : List Client) (v new : Controls) → outcome ≡ freed
+    → Frees freed v new → HoldsPlaces ks v → IfSome outcome (CanTell ks)
+can_tell_it freed outcome ks v new is frees holds =
+    subst (λ (x : Option Outcome). IfSome x (CanTell ks)) (sym is) (by freed frees)
+  where
+    by : (x : Option Outcome) → Frees x v new → IfSome x (CanTell ks)
+    by None frees = tt
+    by (Some x) frees = can_tell x ks v new (frees x.client) holds
 
 -- ---- all that orders keep
 
@@ -193,63 +189,56 @@ pub record Orderly (setup : Setup) (station : StationSetup) (n i : ℕ) (ks : Li
   pub commands : HasWholeCommands v
   pub held : AllHeld ks v
 
-all_places : (station : StationSetup) (n i : ℕ) (ks : List Client) → AllByRecursion (IsSoundClient station n i) ks
-    → AllByRecursion (λ (k : Client). places_taken k ≤ places) ks
-all_places station n i [] all = tt
-all_places station n i (k ∷ ks) all = (all.0.places, all_places station n i ks all.1)
-
 pub holds : (setup : Setup) (station : StationSetup) (n i : ℕ) (ks : List Client) (v : Controls)
     → Orderly setup station n i ks v → HoldsPlaces ks v
-holds setup station n i ks v o = record { held = o.held; places = all_places station n i ks o.clients }
+holds setup station n i ks v o = record {
+  held = o.held;
+  places = all_so (IsSoundClient station n i) HasPlaces ks (λ k sound. sound.places) o.clients;
+}
 
 -- one client was told
-told_sound : (station : StationSetup) (n i : ℕ) (x : Outcome) (c : ℕ) (ks : List Client) → IsWhole x.command
-    → IfSome (slice_get ks c) (CanBeTold x.command (said_of_outcome x))
+told_sound : (station : StationSetup) (n i : ℕ) (x : Outcome) (ks : List Client) → IsWhole x.command → CanTell ks x
     → AllByRecursion (IsSoundClient station n i) ks
-    → AllByRecursion (IsSoundClient station n i) (change c (client_told_of x) ks)
-told_sound station n i x c [] whole fits all = tt
-told_sound station n i x zero (k ∷ ks) whole fits all =
-    (sound_told station n i (said_of_outcome x) x.command k whole fits (never_ordered x.done) all.0, all.1)
+    → AllByRecursion (IsSoundClient station n i) (change x.client (client_told_of x) ks)
+told_sound station n i x ks whole fits all =
+    let sound = IsSoundClient station n i in
+    all_changed sound (CanBeTold x.command (said_of_outcome x)) sound x.client (client_told_of x) ks (λ k all. all)
+    (λ k fits all. sound_told station n i (said_of_outcome x) x.command k whole fits
+    (λ e. absurd (never_ordered x.done e)) all) fits all
   where
-    never_ordered : (done : Bool) → (if done then saids.Done else saids.Failed) ≡ saids.Ordered
-        → is_started k.stage ≡ true
+    never_ordered : (done : Bool) → (if done then saids.Done else saids.Failed) ≡ saids.Ordered → ⊥
     never_ordered true e = absurd cc
     never_ordered false e = absurd cc
-told_sound station n i x (suc c) (k ∷ ks) whole fits all =
-    (all.0, told_sound station n i x c ks whole fits all.1)
 
 told_one : (setup : Setup) (station : StationSetup) (n i : ℕ) (outcome : Option Outcome) (ks : List Client)
     (v new : Controls) → Frees outcome v new
     → IfSome outcome (λ (x : Outcome). IsWholeOrder x.command) → IsSoundControls setup new → HasWholeCommands new
     → Orderly setup station n i ks v → Orderly setup station n i (clients_told (option_to_list outcome) ks) new
-told_one setup station n i None ks v new frees whole sound commands o = record {
-  clients = o.clients;
+told_one setup station n i outcome ks v new frees whole sound commands o = record {
+  clients = by outcome frees whole;
   controls = sound;
   commands = commands;
-  held = told_held None ks v new frees o.held;
+  held = told_held outcome ks v new frees o.held;
 }
-told_one setup station n i (Some x) ks v new frees whole sound commands o = record {
-  clients = told_sound station n i x x.client ks whole.whole
-      (can_tell x ks v new (frees x.client) (holds setup station n i ks v o)) o.clients;
-  controls = sound;
-  commands = commands;
-  held = told_held (Some x) ks v new frees o.held;
-}
+  where
+    by : (x : Option Outcome) → Frees x v new → IfSome x (λ (y : Outcome). IsWholeOrder y.command)
+        → AllByRecursion (IsSoundClient station n i) (clients_told (option_to_list x) ks)
+    by None frees whole = o.clients
+    by (Some x) frees whole =
+        told_sound station n i x ks whole.whole (can_tell x ks v new (frees x.client) (holds setup station n i ks v o))
+        o.clients
 
 -- ---- orders that end
 
 pub can_tell_ended : (o : ℕ) (ended : Ended) (ks : List Client) (v : Controls) (outcome : Option Outcome)
     → outcome ≡ outcome_ended_at ended (slice_get v.outgoing o) → HoldsPlaces ks v → IfSome outcome (CanTell ks)
 can_tell_ended o ended ks v outcome is holds =
-    subst (λ (x : Option Outcome). IfSome x (CanTell ks)) (sym is)
-    (can_tell_it (outcome_ended_at ended (slice_get v.outgoing o)) ks v (controls_after_ended o ended v)
-    (λ c. ended_frees c o ended v) holds)
+    can_tell_it _ outcome ks v (controls_after_ended o ended v) is (λ c. ended_frees c o ended v) holds
 
 pub can_tell_lost : (o : ℕ) (ks : List Client) (v : Controls) (outcome : Option Outcome)
     → outcome ≡ outcome_lost_at (slice_get v.outgoing o) → HoldsPlaces ks v → IfSome outcome (CanTell ks)
 can_tell_lost o ks v outcome is holds =
-    subst (λ (x : Option Outcome). IfSome x (CanTell ks)) (sym is)
-    (can_tell_it (outcome_lost_at (slice_get v.outgoing o)) ks v (controls_after_lost o v) (λ c. lost_frees c o v) holds)
+    can_tell_it _ outcome ks v (controls_after_lost o v) is (λ c. lost_frees c o v) holds
 
 pub holds_ended : (o : ℕ) (ended : Option Ended) (ks : List Client) (v : Controls) → HoldsPlaces ks v
     → HoldsPlaces (clients_told (option_to_list (outcome_ended o ended v)) ks) (controls_with_ended o ended v)
@@ -259,13 +248,15 @@ holds_ended o (Some ended) ks v holds =
     (λ c. ended_frees c o ended v) holds
 
 pub holds_lost : (o : ℕ) (ks : List Client) (v : Controls) → HoldsPlaces ks v
-    → HoldsPlaces (clients_told (option_to_list (outcome_lost_at (slice_get v.outgoing o))) ks) (controls_after_lost o v)
+    → HoldsPlaces (clients_told (option_to_list (outcome_lost_at (slice_get v.outgoing o))) ks)
+    (controls_after_lost o v)
 holds_lost o ks v holds =
     holds_told (outcome_lost_at (slice_get v.outgoing o)) ks v (controls_after_lost o v) (λ c. lost_frees c o v) holds
 
-pub ended_orderly : (setup : Setup) (station : StationSetup) (n i o : ℕ) (ended : Option Ended) (ks : List Client)
+ended_orderly : (setup : Setup) (station : StationSetup) (n i o : ℕ) (ended : Option Ended) (ks : List Client)
     (v : Controls) → Orderly setup station n i ks v
-    → Orderly setup station n i (clients_told (option_to_list (outcome_ended o ended v)) ks) (controls_with_ended o ended v)
+    → Orderly setup station n i (clients_told (option_to_list (outcome_ended o ended v)) ks)
+    (controls_with_ended o ended v)
 ended_orderly setup station n i o None ks v orderly = orderly
 ended_orderly setup station n i o (Some ended) ks v orderly =
     told_one setup station n i (outcome_ended_at ended (slice_get v.outgoing o)) ks v (controls_after_ended o ended v)
@@ -273,7 +264,7 @@ ended_orderly setup station n i o (Some ended) ks v orderly =
     (stays_sound setup (Ends o ended) v orderly.controls)
     (stays_whole setup (Ends o ended) v tt orderly.commands) orderly
 
-pub lost_orderly : (setup : Setup) (station : StationSetup) (n i o : ℕ) (ks : List Client) (v : Controls)
+lost_orderly : (setup : Setup) (station : StationSetup) (n i o : ℕ) (ks : List Client) (v : Controls)
     → Orderly setup station n i ks v
     → Orderly setup station n i (clients_told (option_to_list (outcome_lost_at (slice_get v.outgoing o))) ks)
     (controls_after_lost o v)
@@ -283,11 +274,12 @@ lost_orderly setup station n i o ks v orderly =
     (stays_sound setup (Loses o) v orderly.controls) (stays_whole setup (Loses o) v tt orderly.commands) orderly
 
 -- told of some, and then of others
-pub told_more : (xs ys : List Outcome) (ks : List Client) → clients_told (xs ++ ys) ks ≡ clients_told ys (clients_told xs ks)
+pub told_more : (xs ys : List Outcome) (ks : List Client)
+    → clients_told (xs ++ ys) ks ≡ clients_told ys (clients_told xs ks)
 told_more [] ys ks = refl
 told_more (x ∷ xs) ys ks = told_more xs ys (change x.client (client_told_of x) ks)
 
-pub losses_orderly : (setup : Setup) (station : StationSetup) (n i m o : ℕ) (ks : List Client) (v : Controls)
+losses_orderly : (setup : Setup) (station : StationSetup) (n i m o : ℕ) (ks : List Client) (v : Controls)
     → Orderly setup station n i ks v
     → Orderly setup station n i (clients_told (outcomes_lost m o v) ks) (controls_after_losses m o v)
 losses_orderly setup station n i zero o ks v orderly = orderly
@@ -298,7 +290,7 @@ losses_orderly setup station n i (suc m) o ks v orderly =
     (losses_orderly setup station n i m o (clients_told first ks) (controls_after_lost o v)
     (lost_orderly setup station n i o ks v orderly))
 
-pub all_ended_orderly : (setup : Setup) (station : StationSetup) (n i o : ℕ) (ends : List (Option Ended))
+all_ended_orderly : (setup : Setup) (station : StationSetup) (n i o : ℕ) (ends : List (Option Ended))
     (ks : List Client) (v : Controls) → Orderly setup station n i ks v
     → Orderly setup station n i (clients_told (outcomes_ended o ends v) ks) (controls_after_all_ended o ends v)
 all_ended_orderly setup station n i o [] ks v orderly = orderly
@@ -312,19 +304,9 @@ all_ended_orderly setup station n i o (ended ∷ more) ks v orderly =
 
 -- ---- sessions that end
 
-pub end_orderly : (setup : Setup) (station : StationSetup) (n i p : ℕ) (f : Client → Client) (ks : List Client)
-    (v : Controls) → ((k : Client) → (f k).held ≡ 0) → AllByRecursion (IsSoundClient station n i) (change p f ks)
-    → Orderly setup station n i ks v → Orderly setup station n i (change p f ks) (controls_after_end p v)
-end_orderly setup station n i p f ks v none sound o = record {
-  clients = sound;
-  controls = stays_sound setup (Leaves p) v o.controls;
-  commands = stays_whole setup (Leaves p) v tt o.commands;
-  held = held_end p f ks v none o.held;
-}
-
 -- clients from a place on
 abbrev HeldFrom : ℕ → List Client → Controls → Type 0
-HeldFrom c ks v = (j : ℕ) → IfSome (slice_get ks j) (λ (k : Client). k.held ≡ 2 * orders_of (c + j) v)
+HeldFrom c ks v = (j n : ℕ) → n ≡ c + j → IfSome (slice_get ks j) (HoldsFor n v)
 
 -- an earlier client keeps its orders
 closes_later : (c d : ℕ) (closed : List Bool) (v : Controls) → d < c
@@ -337,15 +319,15 @@ closes_later c d (false ∷ more) v lt = closes_later (suc c) d more v (omega (a
 
 closes_held : (moment c : ℕ) (ks : List Client) (v : Controls) → HeldFrom c ks v
     → HeldFrom c (map (client_after_tick moment) ks) (controls_after_closes c (map (is_timed_out moment) ks) v)
-closes_held moment c [] v all j = tt
-closes_held moment c (k ∷ ks) v all zero = by (is_timed_out moment k) refl
+closes_held moment c [] v all j n is = tt
+closes_held moment c (k ∷ ks) v all zero n is = by (is_timed_out moment k) refl
   where
-    here : c + 0 ≡ c
-    here = omega arith
+    here : n ≡ c
+    here = omega (arith, is)
 
     by : (closed : Bool) → is_timed_out moment k ≡ closed
         → (client_after_tick moment k).held
-        ≡ 2 * orders_of (c + 0) (controls_after_closes c (closed ∷ map (is_timed_out moment) ks) v)
+        ≡ 2 * orders_of n (controls_after_closes c (closed ∷ map (is_timed_out moment) ks) v)
     by true e =
         rw (e, here) (omega (
           arith,
@@ -353,38 +335,26 @@ closes_held moment c (k ∷ ks) v all zero = by (is_timed_out moment k) refl
           end_frees_own c v,
         ))
     by false e =
-        let mine : k.held ≡ 2 * orders_of c v = subst (λ (n : ℕ). k.held ≡ 2 * orders_of n v) here (all 0) in
+        let mine : k.held ≡ 2 * orders_of c v = all zero c (omega arith) in
         rw (e, here) (omega (arith, mine, closes_later (suc c) c (map (is_timed_out moment) ks) v (omega arith)))
-closes_held moment c (k ∷ ks) v all (suc j) = elim (cases_Bool (is_timed_out moment k)) [
-  | inl late ↦ rw (later j, late) (closes_held moment (suc c) ks (controls_after_end c v) closed j)
-  | inr on ↦ rw (later j, on) (closes_held moment (suc c) ks v still j)
+closes_held moment c (k ∷ ks) v all (suc j) n is = elim (cases_Bool (is_timed_out moment k)) [
+  | inl late ↦ rw late (closes_held moment (suc c) ks (controls_after_end c v) closed j n (omega (arith, is)))
+  | inr on ↦ rw on (closes_held moment (suc c) ks v still j n (omega (arith, is)))
 ]
   where
-    later : (m : ℕ) → c + suc m ≡ suc c + m
-    later m = omega arith
+    still : HeldFrom (suc c) ks v
+    still m d at = all (suc m) d (omega (arith, at))
 
     closed : HeldFrom (suc c) ks (controls_after_end c v)
-    closed m =
-        if_some (λ (x : Client). x.held ≡ 2 * orders_of (c + suc m) v)
-        (λ (x : Client). x.held ≡ 2 * orders_of (suc c + m) (controls_after_end c v)) (slice_get ks m)
-        (λ x held. held ∙ ap (λ (n : ℕ). 2 * n) (ap (λ (n : ℕ). orders_of n v) (later m)
-        ∙ sym (end_keeps_others c (suc c + m) (λ same. absurd (omega (arith, same))) v))) (all (suc m))
-
-    still : HeldFrom (suc c) ks v
-    still m =
-        if_some (λ (x : Client). x.held ≡ 2 * orders_of (c + suc m) v)
-        (λ (x : Client). x.held ≡ 2 * orders_of (suc c + m) v) (slice_get ks m)
-        (λ x held. held ∙ ap (λ (n : ℕ). 2 * orders_of n v) (later m)) (all (suc m))
+    closed m d at =
+        if_some (HoldsFor d v) (HoldsFor d (controls_after_end c v)) (slice_get ks m)
+        (λ x held. held ∙ ap (λ (n : ℕ). 2 * n)
+        (sym (end_keeps_others c d (λ same. absurd (omega (arith, same, at))) v))) (still m d at)
 
 from_first : (ks : List Client) (v : Controls) → AllHeld ks v → HeldFrom 0 ks v
-from_first ks v all j =
-    let same : j ≡ 0 + j = omega arith in
-    subst (λ (n : ℕ). IfSome (slice_get ks j) (λ (k : Client). k.held ≡ 2 * orders_of n v)) same (all j)
-
-all_from : (ks : List Client) (v : Controls) → HeldFrom 0 ks v → AllHeld ks v
-all_from ks v all j =
-    let same : 0 + j ≡ j = omega arith in
-    subst (λ (n : ℕ). IfSome (slice_get ks j) (λ (k : Client). k.held ≡ 2 * orders_of n v)) same (all j)
+from_first ks v all j n is =
+    let same : j ≡ n = omega (arith, is) in
+    subst (λ (m : ℕ). IfSome (slice_get ks j) (HoldsFor m v)) same (all j)
 
 closes_sound : (setup : Setup) (c : ℕ) (closed : List Bool) (v : Controls) → IsSoundControls setup v
     → HasWholeCommands v
@@ -395,7 +365,7 @@ closes_sound setup c (true ∷ more) v sound whole =
     (stays_whole setup (Leaves c) v tt whole)
 closes_sound setup c (false ∷ more) v sound whole = closes_sound setup (suc c) more v sound whole
 
-pub closes_orderly : (setup : Setup) (station : StationSetup) (n i moment : ℕ) (ks : List Client) (v : Controls)
+closes_orderly : (setup : Setup) (station : StationSetup) (n i moment : ℕ) (ks : List Client) (v : Controls)
     → AllByRecursion (IsSoundClient station n i) (map (client_after_tick moment) ks)
     → Orderly setup station n i ks v
     → Orderly setup station n i (map (client_after_tick moment) ks)
@@ -406,8 +376,7 @@ closes_orderly setup station n i moment ks v sound o =
       clients = sound;
       controls = kept.0;
       commands = kept.1;
-      held = all_from (map (client_after_tick moment) ks) (controls_after_closes 0 (map (is_timed_out moment) ks) v)
-          (closes_held moment 0 ks v (from_first ks v o.held));
+      held = λ c. closes_held moment 0 ks v (from_first ks v o.held) c c (omega arith);
     }
 
 -- ---- an order that is given
@@ -418,8 +387,7 @@ taking_orderly setup station n i o ks v orderly = record {
   clients = orderly.clients;
   controls = stays_sound setup (Takes o) v orderly.controls;
   commands = stays_whole setup (Takes o) v tt orderly.commands;
-  held = λ c. if_some (λ (k : Client). k.held ≡ 2 * orders_of c v)
-      (λ (k : Client). k.held ≡ 2 * orders_of c (controls_after_taking o v)) (slice_get ks c)
+  held = λ c. if_some (HoldsFor c v) (HoldsFor c (controls_after_taking o v)) (slice_get ks c)
       (λ k held. held ∙ ap (λ (n : ℕ). 2 * n) (sym (taking_holds c o v))) (orderly.held c);
 }
 
@@ -430,18 +398,28 @@ pub orderly : (setup : Setup) (s : State) → IsSoundState setup s
 orderly setup s sound =
     record { clients = sound.clients; controls = sound.controls; commands = sound.commands; held = sound.held }
 
+-- and back, with the rest of what a state keeps
+pub sound_of : (setup : Setup) (s : State) → AllByRecursion IsShown s.picture → ShowsRows setup.rows s.picture
+    → length s.outstations ≡ length setup.outstations
+    → Orderly setup setup.station s.counts.steps s.counts.news s.clients s.controls → IsSoundState setup s
+sound_of setup s picture rows masters o = record {
+  picture = picture;
+  rows = rows;
+  masters = masters;
+  clients = o.clients;
+  controls = o.controls;
+  commands = o.commands;
+  held = o.held;
+}
+
 -- where no client's places change, orders keep theirs
 pub pumped_held : (moment : ℕ) (k : Client) → (client_after_pump moment k).held ≡ k.held
 pumped_held moment k = go (offered moment k)
   where
     go : (x : Option Sending) → (client_by_offer moment x k).held ≡ k.held
     go None = refl
-    go (Some (sendings.Confirm signal)) = refl
     go (Some sendings.Test) = refl
-    go (Some (sendings.Answer answer)) = refl
-    go (Some (sendings.News x)) = refl
-    go (Some (sendings.Part part)) = refl
-    go (Some sendings.SFormat) = refl
+    go (Some _) = refl
 
 -- a client that is down has no orders
 pub up_held : (station : StationSetup) (n i p moment : ℕ) (ks : List Client) (v : Controls)
@@ -457,8 +435,8 @@ up_held station n i p moment ks v down sound all =
     not_started Started e = absurd cc
 
     by : (found : Option Client) → option_map (λ (k : Client). is_up k.stage) found ≡ Some false
-        → IfSome found (IsSoundClient station n i) → IfSome found (λ (k : Client). k.held ≡ 2 * orders_of p v)
-        → IfSome found (λ (k : Client). (client_after_up moment k).held ≡ 2 * orders_of p v)
+        → IfSome found (IsSoundClient station n i) → IfSome found (HoldsFor p v)
+        → IfSome found (λ (k : Client). HoldsFor p v (client_after_up moment k))
     by None e one held = tt
     by (Some k) e one held = omega (arith, held, one.stopped (not_started k.stage cc))
 
@@ -508,9 +486,12 @@ pub left_by_close : (setup : Setup) (station : StationSetup) (n i p : ℕ) (f : 
     (v out : Controls) → new ≡ change p f ks → out ≡ controls_after_end p v → ((k : Client) → (f k).held ≡ 0)
     → AllByRecursion (IsSoundClient station n i) new
     → Orderly setup station n i ks v → Orderly setup station n i new out
-left_by_close setup station n i p f ks new v out clients controls none sound before =
-    rw (clients, controls) (end_orderly setup station n i p f ks v none
-    (subst (AllByRecursion (IsSoundClient station n i)) clients sound) before)
+left_by_close setup station n i p f ks new v out clients controls none sound before = rw controls (record {
+  clients = sound;
+  controls = stays_sound setup (Leaves p) v before.controls;
+  commands = stays_whole setup (Leaves p) v tt before.commands;
+  held = rw clients (held_end p f ks v none before.held);
+})
 
 pub news_holds : (setup : Setup) (station : StationSetup) (n i : ℕ) (xs : List Observation) (ks new : List Client)
     (v : Controls) → new ≡ map (client_with_news xs) ks → AllByRecursion (IsSendable station.offset_minutes) xs
@@ -545,7 +526,8 @@ none_next x none = go (next_of x) none
 
 none_taken : (o : ℕ) (xs : List Outgoing) → order_at (slice_get xs o) ≡ None → change o outgoing_after_taking xs ≡ xs
 none_taken o xs none =
-    change-still o outgoing_after_taking xs (λ x at. none_next x (subst (λ (y : Option Outgoing). order_at y ≡ None) at none))
+    change-still o outgoing_after_taking xs
+    (λ x at. none_next x (subst (λ (y : Option Outgoing). order_at y ≡ None) at none))
 
 -- where the master is ready, what is taken is the order that is due
 pub ready_polled : (s : State) (o : ℕ) (m : Master) (v : Controls) → slice_get s.outstations o ≡ Some m

@@ -1,3 +1,4 @@
+pub mod Each
 pub mod Holding
 pub mod Time
 pub mod Answered
@@ -5,4 +6,3 @@ pub mod Taking
 pub mod Losing
 pub mod Sessions
 pub mod Made
-pub mod Meant

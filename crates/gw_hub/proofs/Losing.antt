@@ -10,7 +10,7 @@ use Rattle.gw_station.specs.Client.{Client, client_with_news}
 use Rattle.gw_answers.specs.Meaning.{IsSendable}
 use Rattle.gw_station.specs.Sound.{CanTake}
 use Rattle.gw_station.proofs.Sounds.{sendable-append}
-use Rattle.gw_hub.proofs.Taking.{map_came-twice, map_came-nil, can_same, can_fewer}
+use Rattle.gw_hub.proofs.Taking.{can_fewer, map_came-nil, map_came-twice}
 
 -- what the rows from a place on still lose
 abbrev pub rest_of : ℕ → List Row → ℕ → List Observation → List Observation
@@ -78,7 +78,7 @@ pub can_apart : (o : ℕ) (rows : List Row) (n : ℕ) (picture : List Observatio
     → AllByRecursion (CanTake (length (rest_of o rows n picture))) cs
     → AllByRecursion (CanTake (length (rest_of o rows (n + 1) (picture_losing_at o rows picture n))
     + length (losses_at o rows picture n))) cs
-can_apart o rows n picture cs within all = can_same _ _ cs (rest_length o rows n picture within) all
+can_apart o rows n picture cs within all = can_fewer _ _ cs (omega (arith, rest_length o rows n picture within)) all
 
 pub can_for_row : (o : ℕ) (rows : List Row) (n : ℕ) (picture : List Observation) (cs : List Client) → n < length picture
     → AllByRecursion (CanTake (length (rest_of o rows n picture))) cs

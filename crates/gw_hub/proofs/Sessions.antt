@@ -1,7 +1,6 @@
 -- What every hub keeps of its clients: outside of a session no news wait, and none were dropped.
 use Rattle.std.specs.Prelude.{replicate}
-use Rattle.std.proofs.Math.ListN.{set}
-use Rattle.std.proofs.Common.{◌≡◌, ℕ, zero, suc, ◌≤◌, length, ◌∙◌, Option, Some, None, List, [], ◌∷◌, map, drop, inl, inr, refl, sym, ap, subst, arith}
+use Rattle.std.proofs.Common.{◌≡◌, ℕ, zero, suc, Option, Some, None, List, [], ◌∷◌, drop, inl, inr, refl, sym, ap, subst, arith}
 use Rattle.std.specs.List.{AllByRecursion}
 use Rattle.std.proofs.lemmas.Bool.{cases_Bool}
 use Rattle.gw_model.specs.declared.observation.Observation.{Observation}
@@ -10,7 +9,7 @@ use Rattle.gw_map.specs.Settings.{Setup}
 use Rattle.iec_apci.specs.declared.apdu.Apdu.{Apdu}
 use Rattle.iec_apci.specs.declared.apdu.Apdu.TheVariants.{I, S, U}
 use Rattle.iec_apci.specs.declared.apdu.Signal.{Signal}
-use Rattle.iec_apci.specs.declared.apdu.Signal.TheVariants.{StartAct, StartCon, StopAct, StopCon, TestAct, TestCon}
+use Rattle.iec_apci.specs.declared.apdu.Signal.TheVariants.{StartAct, StopAct}
 use Rattle.iec_window.specs.declared.limits.Limits.{Limits}
 use Rattle.gw_station.specs.declared.event.Why.{Why}
 use Rattle.gw_station.specs.declared.sending.Sending.{Sending}
@@ -27,6 +26,7 @@ use Rattle.gw_steps.specs.Steps.{client_answered}
 use Rattle.gw_station.specs.Answers.{client_told}
 use Rattle.gw_steps.specs.Controls.{client_told_of, clients_told, said_of_outcome}
 use Rattle.gw_hub.specs.Hub.{KeepsToSession}
+use Rattle.gw_hub.proofs.Each.{all_kept}
 
 -- ---- one client
 
@@ -56,10 +56,7 @@ with_session StopAct c holds = elim (cases_Bool (is_started c.stage)) [
   | inl is ↦ rw is (record { outside = λ _. (refl, refl) })
   | inr isnt ↦ rw isnt holds
 ]
-with_session TestAct c holds = holds
-with_session StartCon c holds = holds
-with_session StopCon c holds = holds
-with_session TestCon c holds = holds
+with_session _ c holds = holds
 
 taking : (setup : Setup) (picture : List Observation) (moment : ℕ) (apdu : Apdu) (c : Client) → KeepsToSession c
     → KeepsToSession (client_taking setup picture moment apdu c)
@@ -86,13 +83,9 @@ kept_after_pump moment c holds = go (offered moment c)
   where
     go : (x : Option Sending) → KeepsToSession (client_by_offer moment x c)
     go None = holds
-    go (Some (sendings.Confirm signal)) = record { outside = holds.outside }
-    go (Some sendings.Test) = record { outside = holds.outside }
-    go (Some (sendings.Answer answer)) = record { outside = holds.outside }
     go (Some (sendings.News x)) =
         record { outside = λ idle. (ap (drop 1) (holds.outside idle).0, (holds.outside idle).1) }
-    go (Some (sendings.Part part)) = record { outside = holds.outside }
-    go (Some sendings.SFormat) = record { outside = holds.outside }
+    go (Some _) = record { outside = holds.outside }
 
 -- ---- all clients
 
@@ -100,27 +93,6 @@ pub kept_at_first : (limits : Limits) (queue n : ℕ)
     → AllByRecursion KeepsToSession (replicate n (client_down limits queue))
 kept_at_first limits queue zero = tt
 kept_at_first limits queue (suc n) = (record { outside = λ _. (refl, refl) }, kept_at_first limits queue n)
-
--- one client changed
-pub kept_changed : (p : ℕ) (f : Client → Client) (cs changed : List Client) → changed ≡ change p f cs
-    → ((c : Client) → KeepsToSession c → KeepsToSession (f c))
-    → AllByRecursion KeepsToSession cs → AllByRecursion KeepsToSession changed
-kept_changed p f cs changed e keeps all = subst (AllByRecursion KeepsToSession) (sym e) (go p cs all)
-  where
-    go : (p : ℕ) (cs : List Client) → AllByRecursion KeepsToSession cs → AllByRecursion KeepsToSession (change p f cs)
-    go p [] all = tt
-    go zero (c ∷ cs) all = (keeps c all.0, all.1)
-    go (suc p) (c ∷ cs) all = (all.0, go p cs all.1)
-
--- every client changed
-pub kept_mapped : (f : Client → Client) (cs changed : List Client) → changed ≡ map f cs
-    → ((c : Client) → KeepsToSession c → KeepsToSession (f c))
-    → AllByRecursion KeepsToSession cs → AllByRecursion KeepsToSession changed
-kept_mapped f cs changed e keeps all = subst (AllByRecursion KeepsToSession) (sym e) (go cs all)
-  where
-    go : (cs : List Client) → AllByRecursion KeepsToSession cs → AllByRecursion KeepsToSession (map f cs)
-    go [] all = tt
-    go (c ∷ cs) all = (keeps c all.0, go cs all.1)
 
 pub kept_answered : (said : Command → Said) (event : Event) (c : Client) → KeepsToSession c
     → KeepsToSession (client_answered said event c)
@@ -137,19 +109,4 @@ kept_outcomes xs cs changed e all = subst (AllByRecursion KeepsToSession) (sym e
         → AllByRecursion KeepsToSession (clients_told xs cs)
     go [] cs all = all
     go (x ∷ xs) cs all = go xs (change x.client (client_told_of x) cs)
-        (kept_changed x.client (client_told_of x) cs _ refl (kept_told x.command (said_of_outcome x)) all)
-
--- ---- the numbers of sessions
-
-pub set_changed : (p c n : ℕ) (ns : List ℕ) → p ≡ c → set ns p n ≡ change c (λ _. n) ns
-set_changed p c n ns e = ap (λ (q : ℕ). set ns q n) e ∙ go c ns
-  where
-    go : (c : ℕ) (ns : List ℕ) → set ns c n ≡ change c (λ _. n) ns
-    go c [] = refl
-    go zero (m ∷ ns) = refl
-    go (suc c) (m ∷ ns) = ap (λ (xs : List ℕ). m ∷ xs) (go c ns)
-
-pub past_changed : (c n : ℕ) (ns : List ℕ) → length ns ≤ c → ns ≡ change c (λ _. n) ns
-past_changed c n [] le = refl
-past_changed zero n (m ∷ ns) le = absurd (omega arith)
-past_changed (suc c) n (m ∷ ns) le = ap (λ (xs : List ℕ). m ∷ xs) (past_changed c n ns (omega arith))
+        (all_kept KeepsToSession x.client (client_told_of x) cs _ refl (kept_told x.command (said_of_outcome x)) all)

@@ -4,7 +4,7 @@ use Rattle.std.proofs.lemmas.Bool.{ltb-true}
 use Rattle.gw_steps.specs.State.{Counts}
 use Rattle.gw_steps.specs.Steps.{can_rise}
 use Rattle.gw_hub.specs.Hub.{step_with}
-use Rattle.std.proofs.Common.{◌≡◌, Bool, true, false, ltb, ℕ, ℤ, zero, suc, ◌+◌, ◌^◌, ◌<◌, ◌≤◌, List, [], ◌∷◌, ◌++◌, map, length, refl, sym, ap, subst, ◌∙◌, arith}
+use Rattle.std.proofs.Common.{◌≡◌, Bool, true, false, ltb, ℕ, ℤ, ◌+◌, ◌^◌, ◌<◌, ◌≤◌, List, [], ◌∷◌, ◌++◌, map, length, refl, sym, ap, subst, ◌∙◌, arith}
 use Rattle.std.specs.List.{AllByRecursion}
 use Rattle.std.proofs.lemmas.List.{length-append}
 use Rattle.gw_model.specs.declared.observation.Observation.{Observation}
@@ -15,12 +15,13 @@ use Rattle.gw_entries.specs.Setup.{StationSetup}
 use Rattle.gw_picture.specs.Picture.{news_of, news_of_report, picture_after_report, picture_after}
 use Rattle.gw_picture.specs.Shown.{IsShown}
 use Rattle.gw_picture.proofs.Shows.{shown_fit}
-use Rattle.gw_station.specs.Client.{Client, client_with_news}
+use Rattle.gw_station.specs.Client.{Client, client_after_tick, client_with_news}
 use Rattle.gw_answers.specs.Meaning.{IsSendable}
 use Rattle.gw_station.specs.Sound.{IsSoundClient, CanTake}
 use Rattle.gw_station.proofs.Queues.{came-nil, came-twice}
-use Rattle.gw_station.proofs.Sounds.{all_later, sendable-append, sound_later, sound_with_news}
+use Rattle.gw_station.proofs.Sounds.{all_later, sendable-append, sound_after_tick, sound_later, sound_with_news}
 use Rattle.gw_parts.specs.Clients.{CanCount, CanPump}
+use Rattle.gw_hub.proofs.Each.{all_changed, all_mapped, all_so, has_at}
 
 -- ---- news that come one after the other
 
@@ -40,32 +41,11 @@ map_came-twice xs ys (c ∷ cs) = let one = came-twice xs ys c in let rest = map
 
 -- ---- how many more can come
 
-pub can_same : (m n : ℕ) (cs : List Client) → m ≡ n → AllByRecursion (CanTake m) cs → AllByRecursion (CanTake n) cs
-can_same m n cs e all = subst (λ (k : ℕ). AllByRecursion (CanTake k) cs) e all
-
 pub can_fewer : (m n : ℕ) (cs : List Client) → n ≤ m → AllByRecursion (CanTake m) cs → AllByRecursion (CanTake n) cs
-can_fewer m n [] le all = tt
-can_fewer m n (c ∷ cs) le all =
-    (record { count = omega (arith, le, all.0.count); few = all.0.few }, can_fewer m n cs le all.1)
+can_fewer m n cs le all =
+    all_so (CanTake m) (CanTake n) cs (λ c can. record { count = omega (arith, le, can.count); few = can.few }) all
 
 -- ---- what every client keeps
-
-change_sound : (station : StationSetup) (n m i p : ℕ) (f : Client → Client) (cs : List Client) → n ≤ m
-    → ((c : Client) → IsSoundClient station n i c → IsSoundClient station m i (f c))
-    → AllByRecursion (IsSoundClient station n i) cs → AllByRecursion (IsSoundClient station m i) (change p f cs)
-change_sound station n m i p f [] le keeps all = tt
-change_sound station n m i zero f (c ∷ cs) le keeps all =
-    (keeps c all.0, all_later station n m i i cs le (omega arith) all.1)
-change_sound station n m i (suc p) f (c ∷ cs) le keeps all =
-    (sound_later station n m i i c le (omega arith) all.0, change_sound station n m i p f cs le keeps all.1)
-
--- one client changed
-pub sound_change_here : (station : StationSetup) (n i p : ℕ) (f : Client → Client) (cs changed : List Client)
-    → changed ≡ change p f cs
-    → ((c : Client) → IsSoundClient station n i c → IsSoundClient station n i (f c))
-    → AllByRecursion (IsSoundClient station n i) cs → AllByRecursion (IsSoundClient station n i) changed
-sound_change_here station n i p f cs changed e keeps all = subst (AllByRecursion (IsSoundClient station n i)) (sym e)
-    (change_sound station n n i p f cs (omega arith) keeps all)
 
 -- one client changed in a step
 pub sound_change : (station : StationSetup) (n m i j p : ℕ) (f : Client → Client) (cs changed : List Client)
@@ -73,23 +53,20 @@ pub sound_change : (station : StationSetup) (n m i j p : ℕ) (f : Client → Cl
     → ((c : Client) → IsSoundClient station n i c → IsSoundClient station (n + 1) i (f c))
     → AllByRecursion (IsSoundClient station n i) cs → AllByRecursion (IsSoundClient station m j) changed
 sound_change station n m i j p f cs changed e one few keeps all =
+    let sound = IsSoundClient station n i in
+    let step = IsSoundClient station (n + 1) i in
     all_later station (n + 1) m i j changed (omega (arith, one)) few
-    (subst (AllByRecursion (IsSoundClient station (n + 1) i)) (sym e)
-    (change_sound station n (n + 1) i p f cs (omega arith) keeps all))
+    (subst (AllByRecursion step) (sym e) (all_changed sound sound step p f cs
+    (λ c all. sound_later station n (n + 1) i i c (omega arith) (omega arith) all) (λ c _ all. keeps c all)
+    (has_at sound cs p all) all))
 
-map_sound : (station : StationSetup) (n i j : ℕ) (f : Client → Client) (cs : List Client)
-    → ((c : Client) → IsSoundClient station n i c → IsSoundClient station n j (f c))
-    → AllByRecursion (IsSoundClient station n i) cs → AllByRecursion (IsSoundClient station n j) (map f cs)
-map_sound station n i j f [] keeps all = tt
-map_sound station n i j f (c ∷ cs) keeps all = (keeps c all.0, map_sound station n i j f cs keeps all.1)
-
--- every client changed
-pub sound_changed : (station : StationSetup) (n i j : ℕ) (f : Client → Client) (cs changed : List Client)
-    → changed ≡ map f cs
-    → ((c : Client) → IsSoundClient station n i c → IsSoundClient station n j (f c))
-    → AllByRecursion (IsSoundClient station n i) cs → AllByRecursion (IsSoundClient station n j) changed
-sound_changed station n i j f cs changed e keeps all =
-    subst (AllByRecursion (IsSoundClient station n j)) (sym e) (map_sound station n i j f cs keeps all)
+-- time passed for every client
+pub sound_ticked : (station : StationSetup) (n i moment : ℕ) (cs : List Client)
+    → AllByRecursion (IsSoundClient station n i) cs
+    → AllByRecursion (IsSoundClient station n i) (map (client_after_tick moment) cs)
+sound_ticked station n i moment cs all =
+    let sound = IsSoundClient station n i in
+    all_mapped sound sound (client_after_tick moment) cs _ refl (sound_after_tick station n i moment) all
 
 -- news came to every client in a step
 pub sound_came : (station : StationSetup) (n m i j : ℕ) (xs : List Observation) (cs changed : List Client)
@@ -98,15 +75,15 @@ pub sound_came : (station : StationSetup) (n m i j : ℕ) (xs : List Observation
     → AllByRecursion (IsSoundClient station m j) changed
 sound_came station n m i j xs cs changed e sends le few all =
     all_later station n m (i + length xs) j changed le few
-    (sound_changed station n i (i + length xs) (client_with_news xs) cs changed e
+    (all_mapped (IsSoundClient station n i) (IsSoundClient station n (i + length xs)) (client_with_news xs) cs changed e
     (λ c sound. sound_with_news station n i xs c sends sound) all)
 
 -- what is shown can be sent
 pub sendable_shown : (offset : ℤ) (xs : List Observation) → AllByRecursion IsShown xs
     → AllByRecursion (IsSendable offset) xs
-sendable_shown offset [] all = tt
-sendable_shown offset (x ∷ xs) all =
-    (record { fit = shown_fit offset x all.0; width = all.0.width }, sendable_shown offset xs all.1)
+sendable_shown offset xs all =
+    all_so IsShown (IsSendable offset) xs
+    (λ x shown. record { fit = shown_fit offset x shown; width = shown.width }) all
 
 -- ---- what can be counted
 
@@ -139,23 +116,23 @@ can_rise_news counts news sessions e =
 -- where one step more can be counted, each client's I formats can
 pub counts_can : (station : StationSetup) (n i : ℕ) (cs : List Client) → n + 1 < 2 ^ 64
     → AllByRecursion (IsSoundClient station n i) cs → AllByRecursion CanCount cs
-counts_can station n i [] lt all = tt
-counts_can station n i (c ∷ cs) lt all =
-    (record { received = omega (arith, lt, all.0.window.received) }, counts_can station n i cs lt all.1)
+counts_can station n i cs lt all =
+    all_so (IsSoundClient station n i) CanCount cs
+    (λ c sound. record { received = omega (arith, lt, sound.window.received) }) all
 
 -- so one more can be put out to each client
 pub pumps_can : (station : StationSetup) (n i : ℕ) (cs : List Client) → n + 1 < 2 ^ 64
     → AllByRecursion (IsSoundClient station n i) cs → AllByRecursion CanPump cs
-pumps_can station n i [] lt all = tt
-pumps_can station n i (c ∷ cs) lt all =
-    (record { sent = omega (arith, lt, all.0.window.sent) }, pumps_can station n i cs lt all.1)
+pumps_can station n i cs lt all =
+    all_so (IsSoundClient station n i) CanPump cs
+    (λ c sound. record { sent = omega (arith, lt, sound.window.sent) }) all
 
 -- where so many news more can be counted, each client can take them
 pub news_can : (station : StationSetup) (n i news : ℕ) (cs : List Client) → i + news < 2 ^ 64
     → AllByRecursion (IsSoundClient station n i) cs → AllByRecursion (CanTake news) cs
-news_can station n i news [] lt all = tt
-news_can station n i news (c ∷ cs) lt all =
-    (record { count = omega (arith, lt, all.0.dropped); few = all.0.few }, news_can station n i news cs lt all.1)
+news_can station n i news cs lt all =
+    all_so (IsSoundClient station n i) (CanTake news) cs
+    (λ c sound. record { count = omega (arith, lt, sound.dropped); few = sound.few }) all
 
 -- ---- what is left to take
 

@@ -1,7 +1,8 @@
 -- Time that passes for the outstations, one after the other.
 use Rattle.std.specs.Prelude.{slice_get, option_and_then}
 use Rattle.std.specs.Option.{option_to_list}
-use Rattle.std.proofs.Common.{◌≡◌, ℕ, zero, suc, ◌+◌, ◌<◌, ◌≤◌, List, [], ◌∷◌, ◌++◌, map, take, drop, length, Option, refl, ap, subst, arith}
+use Rattle.std.proofs.Common.{◌≡◌, ℕ, zero, suc, ◌+◌, ◌<◌, ◌≤◌, List, [], ◌∷◌, ◌++◌, map, take, drop, length, Option, refl, sym, ap, arith}
+use Rattle.std.proofs.lemmas.List.{append-nil, drop_all, take_all}
 use Rattle.gw_model.specs.Places.{change}
 use Rattle.gw_model.specs.declared.control.Ended.{Ended}
 use Rattle.dnp_master.specs.Master.{Master}
@@ -21,45 +22,28 @@ masters_behind (suc n) f (m ∷ ms) lt = ap (λ (xs : List Master). m ∷ xs) (m
 pub masters_next : (n : ℕ) (f : Master → Master) (ms : List Master) → n < length ms
     → map_from (n + 1) f (change n f ms) ≡ map_from n f ms
 masters_next n f ms lt =
-    let up : suc n ≡ n + 1 = omega arith in
-    subst (λ (m : ℕ). map_from m f (change n f ms) ≡ map_from n f ms) up (masters_behind n f ms lt)
+    let up : n + 1 ≡ suc n = omega arith in
+    rw up (masters_behind n f ms lt)
 
 pub masters_end : (n : ℕ) (f : Master → Master) (ms : List Master) → length ms ≤ n → map_from n f ms ≡ ms
-masters_end zero f [] le = refl
-masters_end (suc n) f [] le = refl
-masters_end zero f (m ∷ ms) le = absurd (omega arith)
-masters_end (suc n) f (m ∷ ms) le = ap (λ (xs : List Master). m ∷ xs) (masters_end n f ms (omega arith))
+masters_end n f ms le = rw (take_all n ms le, drop_all n ms le) (append-nil ms)
 
 -- ---- the orders that end with it
 
-ends_behind : (o n : ℕ) (f : Master → Master) (e : Master → Option Ended) (ms : List Master) (ended : Option Ended)
-    (v : Controls) → n < length ms → ended ≡ option_and_then e (slice_get ms n)
-    → controls_after_all_ended (suc o) (map e (drop (suc n) (change n f ms))) (controls_with_ended o ended v)
-    ≡ controls_after_all_ended o (map e (drop n ms)) v
-ends_behind o n f e [] ended v lt is = absurd (omega arith)
-ends_behind o zero f e (m ∷ ms) ended v lt is =
-    ap (λ (x : Option Ended). controls_after_all_ended (suc o) (map e ms) (controls_with_ended o x v)) is
-ends_behind o (suc n) f e (m ∷ ms) ended v lt is = ends_behind o n f e ms ended v (omega arith) is
-
-outcomes_behind : (o n : ℕ) (f : Master → Master) (e : Master → Option Ended) (ms : List Master)
-    (ended : Option Ended) (v : Controls) → n < length ms → ended ≡ option_and_then e (slice_get ms n)
-    → option_to_list (outcome_ended o ended v)
-    ++ outcomes_ended (suc o) (map e (drop (suc n) (change n f ms))) (controls_with_ended o ended v)
-    ≡ outcomes_ended o (map e (drop n ms)) v
-outcomes_behind o n f e [] ended v lt is = absurd (omega arith)
-outcomes_behind o zero f e (m ∷ ms) ended v lt is =
-    ap (λ (x : Option Ended). option_to_list (outcome_ended o x v)
-    ++ outcomes_ended (suc o) (map e ms) (controls_with_ended o x v)) is
-outcomes_behind o (suc n) f e (m ∷ ms) ended v lt is = outcomes_behind o n f e ms ended v (omega arith) is
+ends_behind : (n : ℕ) (f : Master → Master) (e : Master → Option Ended) (ms : List Master) (ended : Option Ended)
+    → n < length ms → ended ≡ option_and_then e (slice_get ms n)
+    → map e (drop n ms) ≡ ended ∷ map e (drop (suc n) (change n f ms))
+ends_behind n f e [] ended lt is = absurd (omega arith)
+ends_behind zero f e (m ∷ ms) ended lt is = ap (λ (x : Option Ended). x ∷ map e ms) (sym is)
+ends_behind (suc n) f e (m ∷ ms) ended lt is = ends_behind n f e ms ended (omega arith) is
 
 pub ends_next : (n : ℕ) (f : Master → Master) (e : Master → Option Ended) (ms : List Master) (ended : Option Ended)
     (v : Controls) → n < length ms → ended ≡ option_and_then e (slice_get ms n)
     → controls_after_all_ended (n + 1) (map e (drop (n + 1) (change n f ms))) (controls_with_ended n ended v)
     ≡ controls_after_all_ended n (map e (drop n ms)) v
 ends_next n f e ms ended v lt is =
-    let up : suc n ≡ n + 1 = omega arith in
-    subst (λ (m : ℕ). controls_after_all_ended m (map e (drop m (change n f ms))) (controls_with_ended n ended v)
-    ≡ controls_after_all_ended n (map e (drop n ms)) v) up (ends_behind n n f e ms ended v lt is)
+    let up : n + 1 ≡ suc n = omega arith in
+    rw (up, ends_behind n f e ms ended lt is) refl
 
 pub outcomes_next : (n : ℕ) (f : Master → Master) (e : Master → Option Ended) (ms : List Master)
     (ended : Option Ended) (v : Controls) → n < length ms → ended ≡ option_and_then e (slice_get ms n)
@@ -67,21 +51,9 @@ pub outcomes_next : (n : ℕ) (f : Master → Master) (e : Master → Option End
     ++ outcomes_ended (n + 1) (map e (drop (n + 1) (change n f ms))) (controls_with_ended n ended v)
     ≡ outcomes_ended n (map e (drop n ms)) v
 outcomes_next n f e ms ended v lt is =
-    let up : suc n ≡ n + 1 = omega arith in
-    subst (λ (m : ℕ). option_to_list (outcome_ended n ended v)
-    ++ outcomes_ended m (map e (drop m (change n f ms))) (controls_with_ended n ended v)
-    ≡ outcomes_ended n (map e (drop n ms)) v) up (outcomes_behind n n f e ms ended v lt is)
+    let up : n + 1 ≡ suc n = omega arith in
+    rw (up, ends_behind n f e ms ended lt is) refl
 
-pub ends_end : (o n : ℕ) (e : Master → Option Ended) (ms : List Master) (v : Controls) → length ms ≤ n
-    → controls_after_all_ended o (map e (drop n ms)) v ≡ v
-ends_end o zero e [] v le = refl
-ends_end o (suc n) e [] v le = refl
-ends_end o zero e (m ∷ ms) v le = absurd (omega arith)
-ends_end o (suc n) e (m ∷ ms) v le = ends_end o n e ms v (omega arith)
-
-pub outcomes_end : (o n : ℕ) (e : Master → Option Ended) (ms : List Master) (v : Controls) → length ms ≤ n
-    → outcomes_ended o (map e (drop n ms)) v ≡ []
-outcomes_end o zero e [] v le = refl
-outcomes_end o (suc n) e [] v le = refl
-outcomes_end o zero e (m ∷ ms) v le = absurd (omega arith)
-outcomes_end o (suc n) e (m ∷ ms) v le = outcomes_end o n e ms v (omega arith)
+-- none is left
+pub ends_past : (n : ℕ) (e : Master → Option Ended) (ms : List Master) → length ms ≤ n → map e (drop n ms) ≡ []
+ends_past n e ms le = ap (map e) (drop_all n ms le)

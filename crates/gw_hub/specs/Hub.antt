@@ -10,7 +10,6 @@ use Rattle.dnp_master.specs.Master.{Master, is_ready}
 use Rattle.gw_control.specs.declared.answer.Outcome.{Outcome}
 use Rattle.iec_command.specs.declared.command.Command.{Command as AnyCommand}
 use Rattle.iec_apci.specs.declared.apdu.Apdu.{Apdu}
-use Rattle.dnp_master.specs.Master.{Master}
 use Rattle.gw_judge.specs.Judging.{is_execute}
 use Rattle.gw_control.specs.declared.asked.Asked.{Asked}
 use Rattle.gw_control.specs.Intents.{control_for}

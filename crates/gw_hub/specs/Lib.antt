@@ -1,1 +1,2 @@
 pub mod Hub
+pub mod View

@@ -1,36 +1,32 @@
 //! The core as one machine.
-ghost use Rattle.std.specs.Prelude.{◌≡◌, ◌<◌, ◌+◌, ◌^◌, ◌↔◌, ℕ, [], length, map, true, false, IfOk, IfErr, IsTrue, OnOk, OnErr, Some, if◌then◌else◌, slice_get, slice_index};
+ghost use Rattle.std.specs.Prelude.{◌≡◌, ◌<◌, ◌^◌, [], length, true, false, IfOk, IfErr, IsTrue, OnOk, OnErr, Some, if◌then◌else◌, slice_get};
 ghost use Rattle.std.specs.List.{AllByRecursion};
 ghost use Rattle.gw_entries.specs.Ranges.{IsStation};
 ghost use Rattle.gw_map.specs.Settings.{HasSingleAddresses};
-ghost use Rattle.gw_picture.specs.Loss.{losses_at, losses_of, picture_after_loss, picture_losing_at};
-ghost use Rattle.gw_picture.specs.Picture.{picture_after, picture_after_report};
-ghost use Rattle.gw_station.specs.Client.{client_with_news, limits_of};
-ghost use Rattle.gw_answers.specs.Meaning.{IsSendable};
-ghost use Rattle.gw_station.specs.Sound.{CanTake};
+ghost use Rattle.gw_station.specs.Client.{limits_of};
 ghost use Rattle.gw_steps.specs.declared.step.Step.TheVariants as steps;
-ghost use Rattle.gw_steps.specs.declared.step.StepFault.TheVariants.{NoClient, NoOutstation, Spent};
+ghost use Rattle.gw_steps.specs.declared.step.StepFault.TheVariants.{Spent};
 ghost use Rattle.gw_steps.specs.State.{at_first};
 ghost use Rattle.gw_model.specs.Places.{change};
 ghost use Rattle.gw_steps.specs.Controls.{order_due};
-ghost use Rattle.gw_steps.specs.Steps.{can_order, can_rise, client_up, command_of, fault_unless_up, is_beginning, is_ordering, latest, one_if, order_ended, outstation_up, reply_of_event, Allowed};
+ghost use Rattle.gw_steps.specs.Steps.{can_order, can_rise, client_up, command_of, is_beginning, is_ordering, latest, one_if, order_ended, reply_of_event, Allowed};
 ghost use Rattle.gw_steps.specs.Runs.{history, state_after, AtEach, IsRun};
 ghost use Rattle.gw_steps.specs.Sound.{IsSoundState};
 ghost use Rattle.gw_history.specs.Premises.{IsSoundRun};
 ghost use Rattle.gw_laws.specs.Promises.{Promises};
 ghost use Rattle.gw_bonds.specs.Bonds.{Bonds, HasShortIndex};
 ghost use Rattle.gw_bonds.specs.Outcomes.{TellsOnce};
-ghost use Rattle.gw_parts.specs.Clients.{dropped_at, has_offer, queued_at, unacknowledged_at};
-ghost use Rattle.gw_hub.specs.Hub.{can_count, can_take, controls_polled, is_poll_due, is_ready_at, news_of_all, news_of_one, started_at, state_counting, state_with_response, step_with, unless, Answers, IsCounted};
+ghost use Rattle.gw_hub.specs.Hub.{can_count, can_take, controls_polled, state_counting, state_with_response, step_with, Answers, IsCounted};
 
 use crate::common::Common;
 use crate::counts::Counts;
-use crate::orders::{Sender, end_order, is_control_up, lose_orders, pass_time, settle};
+use crate::news::{lose_rows, take_reports};
+use crate::orders::{Sender, end_order, lose_orders, pass_time, settle};
 use dnp_app::Response;
 use dnp_master::Verdict;
 use gw_control::Controls;
 use gw_map::{Control, Settings, Station};
-use gw_model::{Ended, Memory, Observation, Order, Report};
+use gw_model::{Ended, Memory, Order};
 use gw_parts::{Clients, Outstations};
 use gw_picture::Picture;
 use gw_station::Event;
@@ -39,6 +35,8 @@ use iec_apci::Apdu;
 use iec_window::Limits;
 use std::alloc::Global;
 use std::marker::Model;
+
+mod queries;
 
 /// How many clients there can be.
 const CLIENTS: u8 = 8;
@@ -66,28 +64,11 @@ impl Model for Hub {
 
     ghost Value = { Seen };
 
-    ghost view = { λ h. record {
-      setup = h.settings;
-      state = record {
-        outstations = h.outstations;
-        picture = h.picture;
-        clients = h.clients;
-        sessions = h.sessions;
-        controls = h.controls;
-        counts = h.counts;
-        moment = h.moment;
-      };
-    } };
+    ghost use Rattle.gw_hub.specs.View.{state_in};
 
-    ghost invariant = { λ h. IsKept h.settings (record {
-      outstations = h.outstations;
-      picture = h.picture;
-      clients = h.clients;
-      sessions = h.sessions;
-      controls = h.controls;
-      counts = h.counts;
-      moment = h.moment;
-    }) };
+    ghost view = { λ h. record { setup = h.settings; state = state_in h } };
+
+    ghost invariant = { λ h. IsKept h.settings (state_in h) };
 }
 
 impl Hub {
@@ -156,114 +137,21 @@ impl Hub {
         })
     }
 
-    /// For each row of the point map its value and quality as last shown.
-    pub fn picture(&self) -> &[Observation]
-        ensures { result.now ≡ self.now.state.picture }
-    {
-        self.picture.rows()
-    }
-
-    /// How many news wait for a client; 0 where it isn't started, or there is no such client.
-    pub fn queued(&self, client: u8) -> usize
-        ensures count { result ≡ queued_at (slice_get self.now.state.clients client) }
-        ensures outside { started_at (slice_get self.now.state.clients client) ≡ false → result ≡ 0 }
-    {
-        match self.clients.get(client) {
-            Some(station) => station.queued(),
-            None => 0,
-        }
-    }
-
-    /// How many news of a client's session were dropped; 0 where it isn't started, or there is no such client.
-    pub fn dropped(&self, client: u8) -> u64
-        ensures count { result ≡ dropped_at (slice_get self.now.state.clients client) }
-        ensures outside { started_at (slice_get self.now.state.clients client) ≡ false → result ≡ 0 }
-    {
-        match self.clients.get(client) {
-            Some(station) => station.dropped(),
-            None => 0,
-        }
-    }
-
-    /// How many I formats sent to a client are not acknowledged; 0 where there is no such client.
-    pub fn unacknowledged(&self, client: u8) -> usize
-        ensures { result ≡ unacknowledged_at (slice_get self.now.state.clients client) }
-    {
-        match self.clients.get(client) {
-            Some(station) => station.unacknowledged(),
-            None => 0,
-        }
-    }
-
-    /// How many observations were news since the hub began.
-    pub fn news(&self) -> u64
-        ensures { result ≡ self.now.state.counts.news }
-    {
-        self.counts.news()
-    }
-
-    /// How many commands were accepted as orders since the hub began: the number of the last of them.
-    pub fn orders(&self) -> u64
-        ensures { result ≡ self.now.state.controls.ordered }
-    {
-        self.controls.ordered()
-    }
-
-    /// Whether a client is up.
-    pub fn stands(&self, client: u8) -> bool
-        ensures { IsTrue result ↔ (client_up self.now.state client ≡ Some true) }
-    {
-        self.clients.presence(client) == Some(true)
-    }
-
-    /// Whether a poll of an outstation would give a request at the largest moment so far.
-    pub fn is_poll_due(&self, outstation: u8) -> bool
-        ensures { result ≡ is_poll_due self.now.state outstation }
-    {
-        match self.outstations.get(outstation) {
-            Some(master) => {
-                master.is_due(self.moment) || (master.ready() && self.controls.waits(outstation))
-            }
-            None => false,
-        }
-    }
-
-    /// Whether an outstation could be given an order: it is up, no request awaits its answer, and no OPERATE is due. It
-    /// couldn't as long as one is under way to it.
-    pub fn is_ready(&self, outstation: u8) -> bool
-        ensures { result ≡ is_ready_at (slice_get self.now.state.outstations outstation) }
-    {
-        match self.outstations.get(outstation) {
-            Some(master) => master.ready(),
-            None => false,
-        }
-    }
-
-    /// Whether a pump for a client would give an APDU at the largest moment so far.
-    pub fn is_pump_due(&self, client: u8) -> bool
-        ensures { result ≡ has_offer self.now.state.moment (slice_get self.now.state.clients client) }
-    {
-        match self.clients.get(client) {
-            Some(station) => station.has_offer(self.moment),
-            None => false,
-        }
-    }
-
     /// Makes steps one after the other on a new hub; gives it with a reply for each of them.
     ///
     /// These are a run of the step relation, and at each place of the list these promises hold:
-    /// - `news`: the picture is that of the log, and for each client's session the observations meant by the spontaneous
-    ///   ASDUs put out since its STARTDT, followed by those queued, are the news since then, in order, less those dropped.
-    ///   I formats are put out in a session alone, and carry what a station may say.
+    /// - `news`: the picture is that of the log, and for each client's session the observations meant by the
+    ///   spontaneous ASDUs put out since its STARTDT, followed by those queued, are the news since then, in order, less
+    ///   those dropped. I formats are put out in a session alone, and carry what a station may say.
     /// - `interrogations`: what was put out of the answer to a client's interrogation is the front of it, and all of it
     ///   once its termination is out: the confirmation, what the picture showed at its act, and the termination.
     /// - `line`: each I format put out to a client is the first of what waited for it: answers to its ASDUs, news that
     ///   came before the interrogation that is pending, the rest of its answer, and later news.
     /// - `mirror`: once a station interrogation was confirmed, and while no news since its act was dropped, the
-    ///   observations put out from then on and those that wait have as their last values what the picture shows, but for
-    ///   totals.
-    /// - `numbers`: the nth I format put out since a client came up, counted from 0, has N(S) n modulo 32,768, each N(R)
-    ///   is the number of I formats taken, modulo 32,768, and at most k lie beyond the client's last N(R).
+    ///   observations put out from then on and those that wait have as their last values what the picture shows, but
+    ///   for totals.
+    /// - `numbers`: the nth I format put out since a client came up, counted from 0, has N(S) n modulo 32,768, each
+    ///   N(R) is the number of I formats taken, modulo 32,768, and at most k lie beyond the client's last N(R).
     /// - `frames`: an I or S format is taken where it is right, and closes the connection where it isn't.
     /// - `apdus`: what a pump puts out reads as one APDU.
     /// - `confirmations`: a confirmation was given to an outstation only with the news put into the log, or for a
@@ -274,11 +162,11 @@ impl Hub {
     ///   holds two places of its client until its outcome.
     ///
     /// And of controls:
-    /// - `bonds`: each request that operates an output names an execute that was accepted, and asks what its command asks
-    ///   of the outstation of its control. For each execute there is at most one DIRECT_OPERATE, or one SELECT, and after
-    ///   its success one OPERATE of the same; nothing that is lost or late leads to another.
-    /// - `outcomes`: what clients are told of orders is of accepted executes, of each one at most once, the client and the
-    ///   command of which it is: done where the outstation took what the newest request asked, and that operates.
+    /// - `bonds`: each request that operates an output names an execute that was accepted, and asks what its command
+    ///   asks of the outstation of its control. For each execute there is at most one DIRECT_OPERATE, or one SELECT,
+    ///   and after its success one OPERATE of the same; nothing that is lost or late leads to another.
+    /// - `outcomes`: what clients are told of orders is of accepted executes, of each one at most once, the client and
+    ///   the command of which it is: done where the outstation took what the newest request asked, and that operates.
     pub fn run(
         alloc: Global,
         settings: Settings,
@@ -352,17 +240,6 @@ impl Hub {
         reply
     }
 
-    /// The largest moment so far, this one included.
-    fn latest(&self, moment: u64) -> u64
-        ensures { result ≡ latest self.now.state moment }
-    {
-        if self.moment < moment {
-            moment
-        } else {
-            self.moment
-        }
-    }
-
     /// Counts a step that brings no news and begins no session.
     fn count(&mut self, moment: u64) -> Result<(), StepFault>
         ensures ok { OnOk result ((can_count self.old ≡ true)
@@ -380,18 +257,6 @@ impl Hub {
         Ok(())
     }
 
-    /// Whether the counts can rise by a step, and by the news that these reports would be.
-    fn can_rise(&self, reports: &[Report]) -> bool
-        ensures { result ≡ can_take self.now reports.now }
-    {
-        if self.counts.can_rise(reports.len() as u64, 0) {
-            return true;
-        }
-        let settings = self.settings.get();
-        let news = self.picture.news(reports, settings, &settings.zone());
-        self.counts.can_rise(news, 0)
-    }
-
     fn outstation_up(&mut self, outstation: u8, moment: u64) -> Result<Reply, StepFault>
         ensures step { Answers self.old (steps.OutstationUp outstation moment) result self.new }
         ensures setup { self.new.setup ≡ self.old.setup }
@@ -407,22 +272,6 @@ impl Hub {
         self.count(moment)?;
         self.outstations.come_up(outstation, self.moment);
         Ok(Reply::Done)
-    }
-
-    /// Whether an outstation is up, or why it isn't.
-    fn reached(&self, outstation: u8) -> Result<(), StepFault>
-        ensures { result ≡ unless (fault_unless_up NoOutstation (outstation_up self.now.state outstation)) }
-    {
-        match self.outstations.get(outstation) {
-            None => Err(StepFault::NoOutstation),
-            Some(master) => {
-                if master.is_up() {
-                    Ok(())
-                } else {
-                    Err(StepFault::NotUp)
-                }
-            }
-        }
     }
 
     /// An outstation is lost.
@@ -523,7 +372,8 @@ impl Hub {
     /// Takes the order that is due for an outstation, if one is.
     fn take_order(&mut self, outstation: u8) -> Option<Order>
         ensures order { result ≡ order_due self.old.state outstation }
-        ensures state { self.new.state ≡ record self.old.state { controls = controls_polled self.old.state outstation } }
+        ensures state { self.new.state
+            ≡ record self.old.state { controls = controls_polled self.old.state outstation } }
         ensures setup { self.new.setup ≡ self.old.setup }
     {
         if self.outstations.get(outstation)?.ready() {
@@ -571,17 +421,6 @@ impl Hub {
         self.clients.go_down(client);
         self.controls.end(client);
         Ok(Reply::Done)
-    }
-
-    /// Whether a client is up, or why it isn't.
-    fn connected(&self, client: u8) -> Result<(), StepFault>
-        ensures { result ≡ unless (fault_unless_up NoClient (client_up self.now.state client)) }
-    {
-        match self.clients.presence(client) {
-            None => Err(StepFault::NoClient),
-            Some(false) => Err(StepFault::NotUp),
-            Some(true) => Ok(()),
-        }
     }
 
     fn frame(&mut self, client: u8, apdu: &Apdu, moment: u64) -> Result<Reply, StepFault>
@@ -637,38 +476,6 @@ impl Hub {
         set_session(&mut self.sessions, client, begins, self.counts.sessions());
         self.moment = moment;
         Ok(reply_of(event))
-    }
-
-    /// Whether the command for a control in an APDU of a client is no order, or one more order has a number.
-    fn can_order(&self, client: u8, apdu: &Apdu, moment: u64) -> bool
-        ensures { result ≡ can_order (is_ordering self.now.setup self.now.state moment client
-            (command_of self.now.setup apdu.now (slice_get self.now.state.clients client))) self.now.state.controls }
-    {
-        if self.controls.ordered() != u64::MAX {
-            return true;
-        }
-        let settings = self.settings.get();
-        match self.clients.gives(client, apdu, settings) {
-            None => true,
-            Some(command) => !self.controls.orders(
-                client,
-                self.session(client),
-                &command,
-                settings,
-                is_control_up(&self.outstations, &command, settings),
-                moment,
-            ),
-        }
-    }
-
-    /// The number of a client's last session.
-    fn session(&self, client: u8) -> u64
-        ensures { result ≡ slice_index self.now.state.sessions client }
-    {
-        match self.sessions.get(usize::from(client)) {
-            Some(session) => *session,
-            None => 0,
-        }
     }
 
     fn pump(&mut self, client: u8, moment: u64) -> Result<Reply, StepFault>
@@ -734,92 +541,5 @@ fn limits_of(station: &Station) -> Limits
         t1: u64::from(station.t1_ms),
         t2: u64::from(station.t2_ms),
         t3: u64::from(station.t3_ms),
-    }
-}
-
-/// Takes a report; gives how many news it is.
-fn take_report(
-    picture: &mut Picture,
-    clients: &mut Clients,
-    settings: &Settings,
-    report: &Report,
-) -> u64
-    requires { AllByRecursion (CanTake (length (news_of_one settings.now picture.old report.now))) clients.old }
-    ensures count { result ≡ length (news_of_one settings.now picture.old report.now) }
-    ensures picture { picture.new ≡ picture_after_report settings.now.station.offset_minutes settings.now.rows picture.old report.now }
-    ensures clients { clients.new
-        ≡ map (client_with_news (news_of_one settings.now picture.old report.now)) clients.old }
-    ensures more { (n : ℕ)
-        → AllByRecursion (CanTake (n + length (news_of_one settings.now picture.old report.now))) clients.old
-        → AllByRecursion (CanTake n) clients.new }
-    ensures sendable { AllByRecursion (IsSendable settings.now.station.offset_minutes)
-        (news_of_one settings.now picture.old report.now) }
-{
-    match picture.take(report, settings, &settings.zone()) {
-        None => 0,
-        Some(image) => {
-            clients.put(image);
-            1
-        }
-    }
-}
-
-/// Takes reports in turn; gives how many news they are.
-fn take_reports(
-    picture: &mut Picture,
-    clients: &mut Clients,
-    settings: &Settings,
-    reports: &[Report],
-) -> u64
-    requires { AllByRecursion (CanTake (length (news_of_all settings.now picture.old reports.now))) clients.old }
-    ensures count { result ≡ length (news_of_all settings.now picture.old reports.now) }
-    ensures picture { picture.new ≡ picture_after settings.now.station.offset_minutes settings.now.rows picture.old reports.now }
-    ensures clients { clients.new
-        ≡ map (client_with_news (news_of_all settings.now picture.old reports.now)) clients.old }
-    ensures sendable { AllByRecursion (IsSendable settings.now.station.offset_minutes)
-        (news_of_all settings.now picture.old reports.now) }
-{
-    let mut news = 0;
-    for report in reports {
-        news += take_report(picture, clients, settings, report);
-    }
-    news
-}
-
-/// Shows the loss of the row at a position, and puts it into the queues.
-fn lose_row(
-    picture: &mut Picture,
-    clients: &mut Clients,
-    settings: &Settings,
-    position: usize,
-    outstation: u8,
-)
-    requires { AllByRecursion (CanTake (length (losses_at outstation settings.now.rows picture.old position)))
-        clients.old }
-    ensures picture { picture.new ≡ picture_losing_at outstation settings.now.rows picture.old position }
-    ensures clients { clients.new
-        ≡ map (client_with_news (losses_at outstation settings.now.rows picture.old position)) clients.old }
-    ensures more { (n : ℕ)
-        → AllByRecursion (CanTake (n + length (losses_at outstation settings.now.rows picture.old position))) clients.old
-        → AllByRecursion (CanTake n) clients.new }
-    ensures sendable { AllByRecursion (IsSendable settings.now.station.offset_minutes)
-        (losses_at outstation settings.now.rows picture.old position) }
-{
-    if let Some(news) = picture.lose(position, outstation, settings) {
-        clients.put(news);
-    }
-}
-
-/// Shows the loss of an outstation, row by row, and puts it into the queues.
-fn lose_rows(picture: &mut Picture, clients: &mut Clients, settings: &Settings, outstation: u8)
-    requires { AllByRecursion (CanTake (length (losses_of outstation settings.now.rows picture.old))) clients.old }
-    ensures picture { picture.new ≡ picture_after_loss outstation settings.now.rows picture.old }
-    ensures clients { clients.new
-        ≡ map (client_with_news (losses_of outstation settings.now.rows picture.old)) clients.old }
-    ensures sendable { AllByRecursion (IsSendable settings.now.station.offset_minutes)
-        (losses_of outstation settings.now.rows picture.old) }
-{
-    for position in 0..picture.rows().len() {
-        lose_row(picture, clients, settings, position, outstation);
     }
 }

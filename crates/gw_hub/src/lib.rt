@@ -6,6 +6,7 @@
 mod common;
 mod counts;
 mod hub;
+mod news;
 mod orders;
 
 pub use dnp_master::{Ignored, Verdict};

@@ -1,5 +1,5 @@
 use Rattle.std.specs.Option.{option_to_list}
-use Rattle.std.proofs.Common.{◌<◌, List, length, refl, sym, ap, ◌∙◌, arith}
+use Rattle.std.proofs.Common.{◌<◌, ◌≤◌, List, length, refl, sym, ap, ◌∙◌, arith}
 use Rattle.gw_picture.proofs.Lists.{change-length}
 use Rattle.dnp_master.specs.Master.{ended_by_tick, master_after_tick}
 use Rattle.gw_control.specs.Controls.{Controls}
@@ -7,7 +7,7 @@ use Rattle.gw_control.specs.declared.answer.Outcome.{Outcome}
 use Rattle.gw_station.specs.Client.{Client}
 use Rattle.gw_steps.specs.Controls.{clients_told, controls_with_ended, outcome_ended}
 use Rattle.gw_hub.proofs.Holding.{holds_ended, told_more}
-use Rattle.gw_hub.proofs.Time.{ends_end, ends_next, masters_end, masters_next, outcomes_end, outcomes_next}
+use Rattle.gw_hub.proofs.Time.{ends_next, ends_past, masters_end, masters_next, outcomes_next}
 use Rattle.gw_hub.proofs.orders.pass_time.Goals as goal
 
 pub tick-ended-requires : goal.tick-ended-requires
@@ -45,23 +45,15 @@ loop-position-preserved c =
       holds_ended n ended ks v c.loop-position.invariant.4,
     )
 
-pub returns-clause-outstations : goal.returns-clause-outstations
-returns-clause-outstations c =
-    sym (masters_end c.loop-position.position (master_after_tick c.args.moment) c.loop-position.outstations
-    (omega (arith, c.loop-position-test.false, c.len-position-end.ensures, c.loop-position.invariant.1)))
-    ∙ c.loop-position.invariant.0
-
-pub returns-clause-controls : goal.returns-clause-controls
-returns-clause-controls c =
-    sym (ends_end c.loop-position.position c.loop-position.position (ended_by_tick c.args.moment)
-    c.loop-position.outstations c.loop-position.controls
-    (omega (arith, c.loop-position-test.false, c.len-position-end.ensures, c.loop-position.invariant.1)))
-    ∙ c.loop-position.invariant.2
-
-pub returns-clause-clients : goal.returns-clause-clients
-returns-clause-clients c =
-    sym (ap (λ (xs : List Outcome). clients_told xs c.loop-position.clients)
-    (outcomes_end c.loop-position.position c.loop-position.position (ended_by_tick c.args.moment)
-    c.loop-position.outstations c.loop-position.controls
-    (omega (arith, c.loop-position-test.false, c.len-position-end.ensures, c.loop-position.invariant.1))))
-    ∙ c.loop-position.invariant.3
+pub returns : goal.returns
+returns c =
+    let n = c.loop-position.position in
+    let ms = c.loop-position.outstations in
+    let past : length ms ≤ n =
+    omega (arith, c.loop-position-test.false, c.len-position-end.ensures, c.loop-position.invariant.1) in
+    let none = ends_past n (ended_by_tick c.args.moment) ms past in
+    record {
+      outstations = sym (masters_end n (master_after_tick c.args.moment) ms past) ∙ c.loop-position.invariant.0;
+      controls = rw none at c.loop-position.invariant.2;
+      clients = rw none at c.loop-position.invariant.3;
+    }

@@ -1,9 +1,10 @@
 use Rattle.std.specs.Prelude.{slice_get, IfSome}
-use Rattle.std.proofs.Common.{subst}
+use Rattle.std.proofs.Common.{refl, subst}
 use Rattle.gw_station.specs.declared.event.Event.{Event}
+use Rattle.gw_station.specs.declared.event.Event.TheVariants as events
 use Rattle.gw_station.specs.Frames.{HasPlace}
 use Rattle.gw_hub.specs.Hub.{asked_by_sender, said_to_sender, IsActEvent}
-use Rattle.gw_hub.proofs.Answered.{all_fit, closed_still, not_told, taken_still}
+use Rattle.gw_hub.proofs.Answered.{all_fit, not_told}
 use Rattle.gw_hub.proofs.orders.settle.Goals as goal
 
 pub answer-requires : goal.answer-requires
@@ -20,11 +21,10 @@ answer-requires c =
 pub returns-in-Taken-clause-clients : goal.returns-in-Taken-clause-clients
 returns-in-Taken-clause-clients c =
     let said = said_to_sender c.args.settings.now c.args.outstations.now c.args.sender.now c.args.controls.now in
-    not_told said c.args.event.now c.args.sender.now.client c.args.clients.now
-    (taken_still said c.args.event.now c.in-Taken.is)
+    not_told said c.args.event.now events.Taken c.args.sender.now.client c.args.clients.now c.in-Taken.is (λ k. refl)
 
 pub returns-in-Closed-clause-clients : goal.returns-in-Closed-clause-clients
 returns-in-Closed-clause-clients c =
     let said = said_to_sender c.args.settings.now c.args.outstations.now c.args.sender.now c.args.controls.now in
-    not_told said c.args.event.now c.args.sender.now.client c.args.clients.now
-    (closed_still said c.args.event.now _ c.in-Closed.is)
+    not_told said c.args.event.now (events.Closed _) c.args.sender.now.client c.args.clients.now c.in-Closed.is
+    (λ k. refl)

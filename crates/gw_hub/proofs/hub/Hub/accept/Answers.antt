@@ -5,9 +5,11 @@ use Rattle.gw_picture.proofs.Lists.{change-length}
 use Rattle.gw_steps.specs.State.{Counts}
 use Rattle.std.specs.Option.{option_to_list}
 use Rattle.gw_steps.specs.Controls.{outcome_ended}
-use Rattle.gw_hub.proofs.Holding.{left_by_end, left_by_news, news_holds, orderly}
+use Rattle.gw_hub.specs.Hub.{KeepsToSession}
+use Rattle.gw_hub.proofs.Each.{all_mapped}
+use Rattle.gw_hub.proofs.Holding.{left_by_end, left_by_news, news_holds, orderly, sound_of}
 use Rattle.gw_hub.proofs.Taking.{can_rise_news, news_can, sound_came}
-use Rattle.gw_hub.proofs.Sessions.{kept_mapped, kept_outcomes, kept_with_news}
+use Rattle.gw_hub.proofs.Sessions.{kept_outcomes, kept_with_news}
 use Rattle.gw_hub.proofs.hub.Hub.accept.Goals as goal
 
 pub take_reports-news-requires : goal.take_reports-news-requires
@@ -28,19 +30,14 @@ invariant_of-self c =
     let orders = left_by_end _ _ _ _ _ _ _ _ _ _ c.end_order.ensures.clients c.end_order.ensures.controls told in
     rw (← c.get.ensures)
     (record {
-      sound = record {
-        picture = c.rows-shown.ensures.sendable;
-        rows = subst (ShowsRows _) (sym c.take_reports-news.ensures.picture)
-            (reports_rows c.get.result.now.station.offset_minutes _ _ c.reports-reports.result.now before.rows);
-        masters = ap length c.take.ensures ∙ (change-length _ _ _ ∙ before.masters);
-        clients = orders.clients;
-        controls = orders.controls;
-        commands = orders.commands;
-        held = orders.held;
-      };
+      sound = sound_of _ _ c.rows-shown.ensures.sendable
+          (subst (ShowsRows _) (sym c.take_reports-news.ensures.picture)
+          (reports_rows c.get.result.now.station.offset_minutes _ _ c.reports-reports.result.now before.rows))
+          (ap length c.take.ensures ∙ (change-length _ _ _ ∙ before.masters)) orders;
       sessions = kept_outcomes (option_to_list (outcome_ended _ c.args.ended c.self.inside.controls)) _ _
           c.end_order.ensures.clients
-          (kept_mapped _ _ _ c.take_reports-news.ensures.clients (kept_with_news _) c.self.invariant.sessions);
+          (all_mapped KeepsToSession KeepsToSession _ _ _ c.take_reports-news.ensures.clients (kept_with_news _)
+          c.self.invariant.sessions);
     })
 
 pub end_order-requires : goal.end_order-requires

@@ -2,9 +2,11 @@ use Rattle.std.proofs.Common.{◌≡◌, false, Some, rules}
 use Rattle.std.specs.Prelude.{option_map, slice_get}
 use Rattle.gw_station.specs.Client.{Client, is_up}
 use Rattle.gw_station.proofs.Sounds.{sound_after_up}
+use Rattle.gw_station.specs.Sound.{IsSoundClient}
+use Rattle.gw_hub.specs.Hub.{KeepsToSession}
+use Rattle.gw_hub.proofs.Each.{all_kept}
 use Rattle.gw_hub.proofs.Holding.{up_held}
-use Rattle.gw_hub.proofs.Taking.{sound_change_here}
-use Rattle.gw_hub.proofs.Sessions.{kept_after_up, kept_changed}
+use Rattle.gw_hub.proofs.Sessions.{kept_after_up}
 use Rattle.gw_hub.proofs.hub.Hub.client_up.Goals as goal
 
 pub invariant_of-self : goal.invariant_of-self
@@ -17,13 +19,13 @@ invariant_of-self c =
         picture = before.picture;
         rows = before.rows;
         masters = before.masters;
-        clients = sound_change_here _ _ _ c.args.client _ _ _ c.come_up.ensures
+        clients = all_kept (IsSoundClient _ _ _) c.args.client _ _ _ c.come_up.ensures
             (sound_after_up _ _ _ c.self-2.inside.moment) before.clients;
         controls = before.controls;
         commands = before.commands;
         held = rw c.come_up.ensures (up_held _ _ _ c.args.client c.self-2.inside.moment _ c.self-2.inside.controls
             down before.clients before.held);
       };
-      sessions = kept_changed c.args.client _ _ _ c.come_up.ensures
+      sessions = all_kept KeepsToSession c.args.client _ _ _ c.come_up.ensures
           (λ k _. kept_after_up c.self-2.inside.moment k) c.self-2.invariant.sessions;
     }

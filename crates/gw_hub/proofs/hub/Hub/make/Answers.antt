@@ -1,11 +1,12 @@
 use Rattle.std.proofs.Common.{[], length, refl, sym, ap, subst, ◌∙◌, arith}
 use Rattle.gw_map.specs.Settings.{Setup}
+use Rattle.gw_steps.specs.Carried.{IsMeant}
 use Rattle.gw_steps.specs.Sound.{IsSoundState}
 use Rattle.gw_steps.specs.State.{State}
 use Rattle.gw_steps.specs.Steps.{Allowed}
 use Rattle.gw_steps.proofs.Running.{Ran, ran_first, run_on, run_all}
 use Rattle.gw_hub.proofs.Made.{made}
-use Rattle.gw_hub.proofs.Meant.{meant_more}
+use Rattle.gw_hub.proofs.Each.{all_more}
 use Rattle.gw_hub.proofs.hub.Hub.make.Goals as goal
 
 pub loop-step-init : goal.loop-step-init
@@ -32,7 +33,7 @@ loop-step-preserved c =
           c.step-item.result c.step.result before new
           allowed sound (omega (arith, c.loop-step-test.true)) c.step-item.is c.loop-step.invariant.0
           c.in_ok-push.ensures.items c.loop-step.invariant.2,
-      meant_more c.args.steps.now c.loop-step.step-index c.step-item.result
+      all_more IsMeant c.args.steps.now c.loop-step.step-index c.step-item.result
           (omega (arith, c.loop-step-test.true)) c.step-item.is c.attest.ensures
           c.loop-step.invariant.3,
     )

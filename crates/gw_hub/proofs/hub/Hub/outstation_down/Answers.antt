@@ -10,9 +10,11 @@ use Rattle.gw_steps.specs.State.{Counts}
 use Rattle.std.specs.Option.{option_to_list}
 use Rattle.gw_control.specs.Orders.{places}
 use Rattle.gw_steps.specs.Controls.{outcome_ended, outcomes_lost}
-use Rattle.gw_hub.proofs.Holding.{end_holds, left_by_end, left_by_loss, left_by_news, news_holds, orderly}
+use Rattle.gw_hub.specs.Hub.{KeepsToSession}
+use Rattle.gw_hub.proofs.Each.{all_mapped}
+use Rattle.gw_hub.proofs.Holding.{end_holds, left_by_end, left_by_loss, left_by_news, news_holds, orderly, sound_of}
 use Rattle.gw_hub.proofs.Taking.{can_rise_news, news_can, sound_came}
-use Rattle.gw_hub.proofs.Sessions.{kept_mapped, kept_outcomes, kept_with_news}
+use Rattle.gw_hub.proofs.Sessions.{kept_outcomes, kept_with_news}
 use Rattle.gw_hub.proofs.hub.Hub.outstation_down.Goals as goal
 
 pub lose_rows-requires : goal.lose_rows-requires
@@ -35,25 +37,23 @@ invariant_of-self c =
     (omega (arith, c.losses-news.ensures, same, ap (λ (counts : Counts). counts.news) c.raise.ensures))
     before.clients in
     let told = left_by_news _ _ _ _ _ _ _ _ _ _ c.lose_rows.ensures.clients clients (orderly _ _ before) in
-    let ended = left_by_end _ _ _ _ _ c.go_down-ended.result _ _ _ _ c.end_order.ensures.clients c.end_order.ensures.controls told in
+    let ended = c.go_down-ended.result in
+    let first =
+    left_by_end _ _ _ _ _ ended _ _ _ _ c.end_order.ensures.clients c.end_order.ensures.controls told in
     let orders =
     left_by_loss _ _ _ _ places c.args.outstation _ _ _ _ c.lose_orders.ensures.clients c.lose_orders.ensures.controls
-    ended in
+    first in
     rw (← c.get-2.ensures)
     (record {
-      sound = record {
-        picture = subst (AllByRecursion IsShown) (sym c.lose_rows.ensures.picture) (loss_shown _ _ _ before.picture);
-        rows = subst (ShowsRows _) (sym c.lose_rows.ensures.picture) (loss_rows _ _ _ before.rows);
-        masters = ap length c.go_down-ended.ensures.masters ∙ (change-length c.args.outstation _ _ ∙ before.masters);
-        clients = orders.clients;
-        controls = orders.controls;
-        commands = orders.commands;
-        held = orders.held;
-      };
+      sound = sound_of _ _
+          (subst (AllByRecursion IsShown) (sym c.lose_rows.ensures.picture) (loss_shown _ _ _ before.picture))
+          (subst (ShowsRows _) (sym c.lose_rows.ensures.picture) (loss_rows _ _ _ before.rows))
+          (ap length c.go_down-ended.ensures.masters ∙ (change-length c.args.outstation _ _ ∙ before.masters)) orders;
       sessions = kept_outcomes (outcomes_lost places c.args.outstation c.end_order.new.controls) _ _
-          c.lose_orders.ensures.clients (kept_outcomes
-          (option_to_list (outcome_ended _ c.go_down-ended.result c.self.inside.controls)) _ _ c.end_order.ensures.clients
-          (kept_mapped _ _ _ c.lose_rows.ensures.clients (kept_with_news _) c.self.invariant.sessions));
+          c.lose_orders.ensures.clients
+          (kept_outcomes (option_to_list (outcome_ended _ ended c.self.inside.controls)) _ _ c.end_order.ensures.clients
+          (all_mapped KeepsToSession KeepsToSession _ _ _ c.lose_rows.ensures.clients (kept_with_news _)
+          c.self.invariant.sessions));
     })
 
 pub end_order-requires : goal.end_order-requires

@@ -3,7 +3,7 @@ use Rattle.gw_steps.specs.declared.step.Step.TheVariants as steps
 use Rattle.gw_steps.specs.State.{State}
 use Rattle.gw_steps.specs.Steps.{fault_of}
 use Rattle.gw_hub.specs.Hub.{Hub}
-use Rattle.gw_hub.proofs.Holding.{due_ready, poll_answer, poll_state}
+use Rattle.gw_hub.proofs.Holding.{due_ready, orderly, poll_answer, poll_state, sound_of}
 use Rattle.gw_picture.proofs.Lists.{change-length}
 use Rattle.gw_hub.proofs.hub.Hub.poll.Goals as goal
 
@@ -11,15 +11,9 @@ pub invariant_of-self : goal.invariant_of-self
 invariant_of-self c =
     let before = c.self.invariant.sound in
     record {
-      sound = record {
-        picture = before.picture;
-        rows = before.rows;
-        masters = ap length c.poll.ensures.masters ∙ (change-length c.args.outstation _ _ ∙ before.masters);
-        clients = before.clients;
-        controls = before.controls;
-        commands = before.commands;
-        held = before.held;
-      };
+      sound = sound_of _ _ before.picture before.rows
+          (ap length c.poll.ensures.masters ∙ (change-length c.args.outstation _ _ ∙ before.masters))
+          (orderly _ _ before);
       sessions = c.self.invariant.sessions;
     }
 

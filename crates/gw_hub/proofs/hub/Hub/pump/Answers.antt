@@ -8,10 +8,11 @@ use Rattle.gw_steps.specs.declared.step.Step.TheVariants as steps
 use Rattle.gw_steps.specs.State.{State}
 use Rattle.gw_steps.specs.Steps.{fault_of, can_rise, latest, outcome}
 use Rattle.gw_parts.specs.Clients.{reply_to_pump}
-use Rattle.gw_hub.specs.Hub.{Hub, IsCounted, step_with}
+use Rattle.gw_hub.specs.Hub.{Hub, IsCounted, KeepsToSession, step_with}
+use Rattle.gw_hub.proofs.Each.{all_kept}
 use Rattle.gw_hub.proofs.Holding.{held_kept, pumped_held}
 use Rattle.gw_hub.proofs.Taking.{sound_change, pumps_can}
-use Rattle.gw_hub.proofs.Sessions.{kept_after_pump, kept_changed}
+use Rattle.gw_hub.proofs.Sessions.{kept_after_pump}
 use Rattle.gw_hub.proofs.hub.Hub.pump.Goals as goal
 
 pub pump-requires : goal.pump-requires
@@ -35,7 +36,7 @@ invariant_of-self c =
         held = rw c.pump.ensures.clients
             (held_kept c.args.client _ _ c.self.inside.controls (pumped_held c.self.inside.moment) before.held);
       };
-      sessions = kept_changed c.args.client _ _ _ c.pump.ensures.clients
+      sessions = all_kept KeepsToSession c.args.client _ _ _ c.pump.ensures.clients
           (kept_after_pump c.self.inside.moment) c.self.invariant.sessions;
     }
 
@@ -54,10 +55,9 @@ returns-clause-step c =
     let setup : c.self.inside.settings ≡ old.setup =
     ap (λ (h : Hub). h.setup) c.self.view_is ∙ c.in_ok-count.ensures.setup in
     let state = c.in_ok-count.ensures.ok.1 in
-    let moment : c.self.inside.moment ≡ latest old.state c.args.moment =
-    ap (λ (h : Hub). h.state.moment) c.self.view_is ∙ ap (λ (s : State). s.moment) state in
-    let clients : c.self.inside.clients ≡ old.state.clients =
-    ap (λ (h : Hub). h.state.clients) c.self.view_is ∙ ap (λ (s : State). s.clients) state in
+    let seen = ap (λ (h : Hub). h.state) c.self.view_is ∙ state in
+    let moment : c.self.inside.moment ≡ latest old.state c.args.moment = ap (λ (s : State). s.moment) seen in
+    let clients : c.self.inside.clients ≡ old.state.clients = ap (λ (s : State). s.clients) seen in
     let reply : c.pump.result
     ≡ reply_to_pump old.setup (latest old.state c.args.moment) (slice_get old.state.clients c.args.client) =
     c.pump.ensures.reply ∙ same_reply c.args.client _ _ _ _ _ _ (c.get.ensures ∙ setup) moment clients in

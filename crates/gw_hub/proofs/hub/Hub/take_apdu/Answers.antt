@@ -12,11 +12,13 @@ use Rattle.gw_map.specs.Settings.{Setup}
 use Rattle.gw_steps.specs.Steps.{after, can_order, can_rise, client_answered, client_up, command_of, is_beginning, is_ordering, latest, one_if, outcome, raised}
 use Rattle.gw_parts.specs.Clients.{event_at}
 use Rattle.gw_hub.specs.declared.orders.Sender.{Sender}
-use Rattle.gw_hub.specs.Hub.{Hub, controls_settled, said_to_sender, step_with}
+use Rattle.gw_hub.specs.Hub.{Hub, KeepsToSession, controls_settled, said_to_sender, step_with}
+use Rattle.gw_hub.specs.View.{state_in}
 use Rattle.gw_hub.proofs.Answered.{frame_answer, frame_state, given_acts, left_by_apdu, number_left}
-use Rattle.gw_hub.proofs.Holding.{orderly}
+use Rattle.gw_hub.proofs.Each.{all_kept}
+use Rattle.gw_hub.proofs.Holding.{orderly, sound_of}
 use Rattle.gw_hub.proofs.Taking.{can_rise_step, counts_can, sendable_shown}
-use Rattle.gw_hub.proofs.Sessions.{kept_after_apdu, kept_answered, kept_changed}
+use Rattle.gw_hub.proofs.Sessions.{kept_after_apdu, kept_answered}
 use Rattle.gw_hub.proofs.hub.Hub.take_apdu.Goals as goal
 
 pub frame-requires : goal.frame-requires
@@ -37,16 +39,7 @@ settle-requires-clause-number c =
     let event = subst (λ (s : Setup). c.in-Ok.event
     ≡ event_at s c.args.apdu.now (slice_get c.self.inside.clients c.args.client)) c.get-settings.ensures
     c.in-Ok.ensures.event in
-    rw c.get-settings.ensures (number_left c.self.inside.settings
-    (record {
-      outstations = c.self.inside.outstations;
-      picture = c.self.inside.picture;
-      clients = c.self.inside.clients;
-      sessions = c.self.inside.sessions;
-      controls = c.self.inside.controls;
-      counts = c.self.inside.counts;
-      moment = c.self.inside.moment;
-    })
+    rw c.get-settings.ensures (number_left c.self.inside.settings (state_in c.self.inside)
     (record { client = c.args.client; session = c.session.result; moment = c.args.moment })
     c.args.apdu.now (slice_get c.self.inside.clients c.args.client) c.in-Ok.event event
     (c.session.ensures ∙ ap (λ (h : Hub). slice_index h.state.sessions c.args.client) (sym c.self.view_is)) can)
@@ -61,30 +54,23 @@ invariant_of-self-2 c =
     let sends = subst (AllByRecursion (IsSendable offset)) (sym rows.shown)
     (sendable_shown offset c.self.inside.picture rows.sendable) in
     let sender : Sender = record { client = c.args.client; session = c.session.result; moment = c.args.moment } in
-    let mid = c.in-Ok.ensures.sound setup counts.steps counts.news sends before.clients in
-    let orders = left_by_apdu setup setup.station counts.steps (counts.steps + 1) counts.news counts.news
+    let steps : counts.steps + 1 ≤ c.raise.new.self.steps =
+    omega (arith, ap (λ (counts : Counts). counts.steps) c.raise.ensures) in
+    let news : counts.news ≤ c.raise.new.self.news =
+    omega (arith, ap (λ (counts : Counts). counts.news) c.raise.ensures) in
+    let mid = all_later setup.station _ _ _ _ _ steps news
+    (c.in-Ok.ensures.sound setup counts.steps counts.news sends before.clients) in
+    let orders = left_by_apdu setup setup.station counts.steps c.raise.new.self.steps counts.news c.raise.new.self.news
     c.rows-picture.result.now c.self.inside.outstations sender c.args.apdu.now c.in-Ok.event c.self.inside.clients
     c.frame.new.self c.settle.new.clients c.self.inside.controls c.settle.new.controls c.in-Ok.ensures.event
     c.in-Ok.ensures.clients c.settle.ensures.clients c.settle.ensures.controls c.in-Ok.ensures.whole
     (given_acts setup c.args.apdu.now (slice_get c.self.inside.clients c.args.client) c.in-Ok.event
     c.in-Ok.ensures.event) c.in-Ok.ensures.place mid (orderly _ _ before) in
-    let steps : counts.steps + 1 ≤ c.raise.new.self.steps =
-    omega (arith, ap (λ (counts : Counts). counts.steps) c.raise.ensures) in
-    let news : counts.news ≤ c.raise.new.self.news =
-    omega (arith, ap (λ (counts : Counts). counts.news) c.raise.ensures) in
     rw (← c.get-settings.ensures)
     (record {
-      sound = record {
-        picture = before.picture;
-        rows = before.rows;
-        masters = before.masters;
-        clients = all_later setup.station _ _ _ _ _ steps news orders.clients;
-        controls = orders.controls;
-        commands = orders.commands;
-        held = orders.held;
-      };
-      sessions = kept_changed c.args.client _ _ _ c.settle.ensures.clients (kept_answered _ c.in-Ok.event)
-          (kept_changed c.args.client _ _ _ c.in-Ok.ensures.clients
+      sound = sound_of _ _ before.picture before.rows before.masters orders;
+      sessions = all_kept KeepsToSession c.args.client _ _ _ c.settle.ensures.clients (kept_answered _ c.in-Ok.event)
+          (all_kept KeepsToSession c.args.client _ _ _ c.in-Ok.ensures.clients
           (kept_after_apdu setup c.rows-picture.result.now c.args.moment c.args.apdu.now) c.self.invariant.sessions);
     })
 
@@ -94,15 +80,7 @@ returns-clause-step c =
     let apdu = c.args.apdu.now in
     let moment = c.args.moment in
     let setup : Setup = c.self.inside.settings in
-    let state : State = record {
-      outstations = c.self.inside.outstations;
-      picture = c.self.inside.picture;
-      clients = c.self.inside.clients;
-      sessions = c.self.inside.sessions;
-      controls = c.self.inside.controls;
-      counts = c.self.inside.counts;
-      moment = c.self.inside.moment;
-    } in
+    let state : State = state_in c.self.inside in
     let sender : Sender = record { client = client; session = c.session.result; moment = moment } in
     let back = sym c.self.view_is in
     let at = subst (λ (h : Hub). moment ≡ latest h.state moment) back c.requires.moment in
@@ -119,8 +97,8 @@ returns-clause-step c =
     let mid = subst (λ (s : Setup). c.frame.new.self
     ≡ change client (client_after_apdu s state.picture moment apdu) state.clients) c.get-settings.ensures
     (subst (λ (p : List Observation). c.frame.new.self
-    ≡ change client (client_after_apdu c.get-settings.result.now p moment apdu) state.clients) c.rows-picture.ensures.shown
-    c.in-Ok.ensures.clients) in
+    ≡ change client (client_after_apdu c.get-settings.result.now p moment apdu) state.clients)
+    c.rows-picture.ensures.shown c.in-Ok.ensures.clients) in
     let clients = subst (λ (s : Setup). c.settle.new.clients
     ≡ change client (client_answered (said_to_sender s state.outstations sender state.controls) c.in-Ok.event)
     c.frame.new.self) c.get-settings.ensures c.settle.ensures.clients in

@@ -1,6 +1,6 @@
 use Rattle.std.proofs.Common.{ap, rules}
 use Rattle.gw_hub.specs.Hub.{Hub}
-use Rattle.gw_hub.proofs.Holding.{orderly, polled_state, taking_orderly}
+use Rattle.gw_hub.proofs.Holding.{orderly, polled_state, sound_of, taking_orderly}
 use Rattle.gw_hub.proofs.hub.Hub.take_order.Goals as goal
 
 pub invariant_of-self : goal.invariant_of-self
@@ -8,15 +8,7 @@ invariant_of-self c =
     let before = c.self.invariant.sound in
     let orders = taking_orderly _ _ _ _ c.args.outstation _ _ (orderly _ _ before) in
     rw c.take_order.ensures.after (record {
-      sound = record {
-        picture = before.picture;
-        rows = before.rows;
-        masters = before.masters;
-        clients = before.clients;
-        controls = orders.controls;
-        commands = orders.commands;
-        held = orders.held;
-      };
+      sound = sound_of _ _ before.picture before.rows before.masters orders;
       sessions = c.self.invariant.sessions;
     })
 

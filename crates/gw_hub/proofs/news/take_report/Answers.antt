@@ -1,7 +1,7 @@
 use Rattle.std.proofs.Common.{◌≡◌, ◌+◌, ℤ, [], ◌∷◌, length, ap, subst, arith}
 use Rattle.gw_picture.specs.Picture.{news_of_report}
-use Rattle.gw_hub.proofs.Taking.{came_none, can_same, can_fewer}
-use Rattle.gw_hub.proofs.hub.take_report.Goals as goal
+use Rattle.gw_hub.proofs.Taking.{came_none, can_fewer}
+use Rattle.gw_hub.proofs.news.take_report.Goals as goal
 
 pub returns-in-None-clause-clients : goal.returns-in-None-clause-clients
 returns-in-None-clause-clients c =
@@ -17,4 +17,4 @@ pub returns-in-Some-clause-more : goal.returns-in-Some-clause-more
 returns-in-Some-clause-more c = λ n all.
     let one = subst (λ (offset : ℤ). c.in-Some.image ∷ [] ≡ news_of_report offset c.args.settings.now.rows
     c.args.picture.now c.args.report.now) c.zone.ensures c.in-Some.ensures.news in
-    c.put.ensures.more n (can_same _ (n + 1) c.args.clients.now (omega (arith, ap length one)) all)
+    c.put.ensures.more n (can_fewer _ (n + 1) c.args.clients.now (omega (arith, ap length one)) all)

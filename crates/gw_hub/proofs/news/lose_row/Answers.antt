@@ -2,12 +2,12 @@ use Rattle.std.proofs.Common.{rules, ◌+◌, length, ap, subst, arith}
 use Rattle.std.specs.List.{AllByRecursion}
 use Rattle.gw_model.specs.Fit.{HasWidth}
 use Rattle.gw_answers.specs.Meaning.{IsSendable}
-use Rattle.gw_hub.proofs.Taking.{came_none, can_same}
-use Rattle.gw_hub.proofs.hub.lose_row.Goals as goal
+use Rattle.gw_hub.proofs.Taking.{came_none, can_fewer}
+use Rattle.gw_hub.proofs.news.lose_row.Goals as goal
 
 pub returns-in-Some-clause-more : goal.returns-in-Some-clause-more
 returns-in-Some-clause-more c = λ n all.
-    c.put.ensures.more n (can_same _ (n + 1) c.args.clients.now (omega (arith, ap length c.in-Some.ensures.news)) all)
+    c.put.ensures.more n (can_fewer _ (n + 1) c.args.clients.now (omega (arith, ap length c.in-Some.ensures.news)) all)
 
 pub returns-in-Some-clause-sendable : goal.returns-in-Some-clause-sendable
 returns-in-Some-clause-sendable c =

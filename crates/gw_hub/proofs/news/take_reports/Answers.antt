@@ -6,8 +6,8 @@ use Rattle.gw_model.specs.declared.observation.Observation.{Observation}
 use Rattle.gw_picture.specs.Picture.{news_of, picture_after_report}
 use Rattle.gw_picture.proofs.Counts.{report_one}
 use Rattle.gw_station.specs.Sound.{CanTake}
-use Rattle.gw_hub.proofs.Taking.{left_first, left_more, left_none, can_same, can_fewer, rest_length}
-use Rattle.gw_hub.proofs.hub.take_reports.Goals as goal
+use Rattle.gw_hub.proofs.Taking.{left_first, left_more, left_none, can_fewer, rest_length}
+use Rattle.gw_hub.proofs.news.take_reports.Goals as goal
 
 pub loop-report-init : goal.loop-report-init
 loop-report-init c = (
@@ -51,7 +51,7 @@ loop-report-preserved c =
           c.take_report-news.new.clients) (sym c.take_report-news.ensures.picture)
           (c.take_report-news.ensures.more
           (length (news_of offset rows (picture_after_report offset rows before c.report-item.result) rest))
-          (can_same _ _ c.loop-report.clients size c.loop-report.invariant.1)),
+          (can_fewer _ _ c.loop-report.clients (omega (arith, size)) c.loop-report.invariant.1)),
       omega (
         arith,
         c.loop-report.invariant.2,
@@ -60,22 +60,9 @@ loop-report-preserved c =
       ),
     )
 
-pub returns-clause-count : goal.returns-clause-count
-returns-clause-count c =
-    (left_none _ _ _ _ _ _ _ _ _ _ (drop_all c.loop-report.report-index c.args.reports.now c.loop-report-test.false)
-    c.loop-report.invariant.1 c.loop-report.invariant.0).0
-
-pub returns-clause-picture : goal.returns-clause-picture
-returns-clause-picture c =
-    (left_none _ _ _ _ _ _ _ _ _ _ (drop_all c.loop-report.report-index c.args.reports.now c.loop-report-test.false)
-    c.loop-report.invariant.1 c.loop-report.invariant.0).1
-
-pub returns-clause-clients : goal.returns-clause-clients
-returns-clause-clients c =
-    (left_none _ _ _ _ _ _ _ _ _ _ (drop_all c.loop-report.report-index c.args.reports.now c.loop-report-test.false)
-    c.loop-report.invariant.1 c.loop-report.invariant.0).2
-
-pub returns-clause-sendable : goal.returns-clause-sendable
-returns-clause-sendable c =
-    (left_none _ _ _ _ _ _ _ _ _ _ (drop_all c.loop-report.report-index c.args.reports.now c.loop-report-test.false)
-    c.loop-report.invariant.1 c.loop-report.invariant.0).3
+pub returns : goal.returns
+returns c =
+    let last = left_none _ _ _ _ _ _ _ _ _ _
+    (drop_all c.loop-report.report-index c.args.reports.now c.loop-report-test.false)
+    c.loop-report.invariant.1 c.loop-report.invariant.0 in
+    record { count = last.0; picture = last.1; clients = last.2; sendable = last.3 }

@@ -5,7 +5,7 @@ use Rattle.gw_picture.specs.Loss.{losses_of, picture_after_loss}
 use Rattle.gw_station.specs.Client.{client_with_news}
 use Rattle.gw_station.specs.Sound.{CanTake}
 use Rattle.gw_hub.proofs.Losing.{LeftToLose, rest_of}
-use Rattle.gw_hub.proofs.hub.lose_rows.Given as goal
+use Rattle.gw_hub.proofs.news.lose_rows.Given as goal
 
 abbrev pub invariant-loop-position : goal.invariant-loop-position
 invariant-loop-position l =

@@ -5,7 +5,7 @@ use Rattle.gw_picture.specs.Picture.{news_of, picture_after}
 use Rattle.gw_station.specs.Client.{client_with_news}
 use Rattle.gw_station.specs.Sound.{CanTake}
 use Rattle.gw_hub.proofs.Taking.{Left}
-use Rattle.gw_hub.proofs.hub.take_reports.Given as goal
+use Rattle.gw_hub.proofs.news.take_reports.Given as goal
 
 abbrev pub invariant-loop-report : goal.invariant-loop-report
 invariant-loop-report l =

@@ -5,7 +5,7 @@ use Rattle.gw_picture.specs.Loss.{picture_losing_at}
 use Rattle.gw_picture.proofs.Losses.{losing_length}
 use Rattle.gw_station.specs.Sound.{CanTake}
 use Rattle.gw_hub.proofs.Losing.{left_at_first, left_behind, left_at_last, can_apart, can_for_row, rest_of}
-use Rattle.gw_hub.proofs.hub.lose_rows.Goals as goal
+use Rattle.gw_hub.proofs.news.lose_rows.Goals as goal
 
 pub loop-position-init : goal.loop-position-init
 loop-position-init c = (
@@ -49,32 +49,13 @@ loop-position-preserved c =
       ap length c.lose_row.ensures.picture ∙ (losing_length o rows before n ∙ c.loop-position.invariant.2),
     )
 
-pub returns-clause-picture : goal.returns-clause-picture
-returns-clause-picture c =
-    (left_at_last _ _ _ _ _ _ _ _ _ _ (omega (
+pub returns : goal.returns
+returns c =
+    let last = left_at_last _ _ _ _ _ _ _ _ _ _ (omega (
       arith,
       c.loop-position.auto,
       c.loop-position-test.false,
       c.loop-position.invariant.2,
       ap length c.rows-position-end.ensures.shown,
-    )) c.loop-position.invariant.1 c.loop-position.invariant.0).0
-
-pub returns-clause-clients : goal.returns-clause-clients
-returns-clause-clients c =
-    (left_at_last _ _ _ _ _ _ _ _ _ _ (omega (
-      arith,
-      c.loop-position.auto,
-      c.loop-position-test.false,
-      c.loop-position.invariant.2,
-      ap length c.rows-position-end.ensures.shown,
-    )) c.loop-position.invariant.1 c.loop-position.invariant.0).1
-
-pub returns-clause-sendable : goal.returns-clause-sendable
-returns-clause-sendable c =
-    (left_at_last _ _ _ _ _ _ _ _ _ _ (omega (
-      arith,
-      c.loop-position.auto,
-      c.loop-position-test.false,
-      c.loop-position.invariant.2,
-      ap length c.rows-position-end.ensures.shown,
-    )) c.loop-position.invariant.1 c.loop-position.invariant.0).2
+    )) c.loop-position.invariant.1 c.loop-position.invariant.0 in
+    record { picture = last.0; clients = last.1; sendable = last.2 }

@@ -1,0 +1,104 @@
+//! What reports and losses show, and what of it comes to the clients.
+ghost use Rattle.std.specs.Prelude.{◌≡◌, ◌+◌, ℕ, length, map};
+ghost use Rattle.std.specs.List.{AllByRecursion};
+ghost use Rattle.gw_picture.specs.Loss.{losses_at, losses_of, picture_after_loss, picture_losing_at};
+ghost use Rattle.gw_picture.specs.Picture.{picture_after, picture_after_report};
+ghost use Rattle.gw_station.specs.Client.{client_with_news};
+ghost use Rattle.gw_answers.specs.Meaning.{IsSendable};
+ghost use Rattle.gw_station.specs.Sound.{CanTake};
+ghost use Rattle.gw_hub.specs.Hub.{news_of_all, news_of_one};
+
+use gw_map::Settings;
+use gw_model::Report;
+use gw_parts::Clients;
+use gw_picture::Picture;
+
+/// Takes a report; gives how many news it is.
+fn take_report(
+    picture: &mut Picture,
+    clients: &mut Clients,
+    settings: &Settings,
+    report: &Report,
+) -> u64
+    requires { AllByRecursion (CanTake (length (news_of_one settings.now picture.old report.now))) clients.old }
+    ensures count { result ≡ length (news_of_one settings.now picture.old report.now) }
+    ensures picture { picture.new
+        ≡ picture_after_report settings.now.station.offset_minutes settings.now.rows picture.old report.now }
+    ensures clients { clients.new
+        ≡ map (client_with_news (news_of_one settings.now picture.old report.now)) clients.old }
+    ensures more { (n : ℕ)
+        → AllByRecursion (CanTake (n + length (news_of_one settings.now picture.old report.now))) clients.old
+        → AllByRecursion (CanTake n) clients.new }
+    ensures sendable { AllByRecursion (IsSendable settings.now.station.offset_minutes)
+        (news_of_one settings.now picture.old report.now) }
+{
+    match picture.take(report, settings, &settings.zone()) {
+        None => 0,
+        Some(image) => {
+            clients.put(image);
+            1
+        }
+    }
+}
+
+/// Takes reports in turn; gives how many news they are.
+pub fn take_reports(
+    picture: &mut Picture,
+    clients: &mut Clients,
+    settings: &Settings,
+    reports: &[Report],
+) -> u64
+    requires { AllByRecursion (CanTake (length (news_of_all settings.now picture.old reports.now))) clients.old }
+    ensures count { result ≡ length (news_of_all settings.now picture.old reports.now) }
+    ensures picture { picture.new
+        ≡ picture_after settings.now.station.offset_minutes settings.now.rows picture.old reports.now }
+    ensures clients { clients.new
+        ≡ map (client_with_news (news_of_all settings.now picture.old reports.now)) clients.old }
+    ensures sendable { AllByRecursion (IsSendable settings.now.station.offset_minutes)
+        (news_of_all settings.now picture.old reports.now) }
+{
+    let mut news = 0;
+    for report in reports {
+        news += take_report(picture, clients, settings, report);
+    }
+    news
+}
+
+/// Shows the loss of the row at a position, and puts it into the queues.
+fn lose_row(
+    picture: &mut Picture,
+    clients: &mut Clients,
+    settings: &Settings,
+    position: usize,
+    outstation: u8,
+)
+    requires { AllByRecursion (CanTake (length (losses_at outstation settings.now.rows picture.old position)))
+        clients.old }
+    ensures picture { picture.new ≡ picture_losing_at outstation settings.now.rows picture.old position }
+    ensures clients { clients.new
+        ≡ map (client_with_news (losses_at outstation settings.now.rows picture.old position)) clients.old }
+    ensures more { (n : ℕ)
+        → AllByRecursion (CanTake (n + length (losses_at outstation settings.now.rows picture.old position)))
+        clients.old
+        → AllByRecursion (CanTake n) clients.new }
+    ensures sendable { AllByRecursion (IsSendable settings.now.station.offset_minutes)
+        (losses_at outstation settings.now.rows picture.old position) }
+{
+    if let Some(news) = picture.lose(position, outstation, settings) {
+        clients.put(news);
+    }
+}
+
+/// Shows the loss of an outstation, row by row, and puts it into the queues.
+pub fn lose_rows(picture: &mut Picture, clients: &mut Clients, settings: &Settings, outstation: u8)
+    requires { AllByRecursion (CanTake (length (losses_of outstation settings.now.rows picture.old))) clients.old }
+    ensures picture { picture.new ≡ picture_after_loss outstation settings.now.rows picture.old }
+    ensures clients { clients.new
+        ≡ map (client_with_news (losses_of outstation settings.now.rows picture.old)) clients.old }
+    ensures sendable { AllByRecursion (IsSendable settings.now.station.offset_minutes)
+        (losses_of outstation settings.now.rows picture.old) }
+{
+    for position in 0..picture.rows().len() {
+        lose_row(picture, clients, settings, position, outstation);
+    }
+}
