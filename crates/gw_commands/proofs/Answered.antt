@@ -1,5 +1,5 @@
 -- What is answered to a command is what is due by the history.
-use Rattle.std.proofs.Common.{◌≡◌, ℕ, zero, suc, ◌+◌, ◌<◌, Bool, true, false, cond, not, ◌&&◌, ◌||◌, nat_lt, List, [], ◌∷◌, length, Option, Some, None, option_map, is_none, is_some, Result, Ok, Err, refl, sym, ap, subst, ◌∙◌, arith}
+use Rattle.std.proofs.Common.{◌≡◌, ℕ, zero, suc, ◌+◌, Bool, true, false, cond, not, ◌&&◌, ◌||◌, nat_lt, List, [], ◌∷◌, length, Option, Some, None, option_map, is_none, is_some, Result, Ok, Err, refl, sym, ap, subst, ◌∙◌, arith}
 use Rattle.std.specs.Prelude.{slice_get, slice_index}
 use Rattle.gw_model.specs.First.{first_of, when}
 use Rattle.gw_model.specs.declared.control.Act.{Act}
@@ -16,16 +16,13 @@ use Rattle.gw_control.specs.Controls.{Controls, NoPlace, NotPermitted, NotSelect
 use Rattle.gw_control.specs.Intents.{control_for, intent_of}
 use Rattle.gw_control.specs.Orders.{Outgoing}
 use Rattle.gw_control.specs.Selections.{is_own, is_select, is_selected, is_taken}
-use Rattle.gw_station.specs.declared.event.Said.{Said}
 use Rattle.gw_station.specs.declared.event.Said.TheVariants as saids
 use Rattle.gw_station.specs.declared.event.Why.{Why}
-use Rattle.gw_station.specs.declared.event.Why.TheVariants as whys
 use Rattle.gw_station.specs.Client.{Client, is_up as is_connected}
-use Rattle.gw_station.specs.Frames.{close_of, command_given, command_in, event_by, event_of, event_taking}
+use Rattle.gw_station.specs.Frames.{close_of, command_given, command_in, event_by, event_of}
 use Rattle.gw_steps.specs.declared.step.Step.{Step}
 use Rattle.gw_steps.specs.declared.step.Step.TheVariants as steps
 use Rattle.gw_steps.specs.declared.step.Reply.{Reply}
-use Rattle.gw_steps.specs.declared.step.Reply.TheVariants as replies
 use Rattle.gw_steps.specs.declared.step.StepFault.{StepFault}
 use Rattle.gw_steps.specs.declared.step.StepFault.TheVariants.{NoClient}
 use Rattle.gw_steps.specs.Controls.{asked_by, is_control_up, is_up_at, said_by}
@@ -36,12 +33,11 @@ use Rattle.gw_steps.specs.Runs.{Entry, state_after}
 use Rattle.gw_steps.proofs.Inversion.{answered, who_is_up}
 use Rattle.gw_steps.proofs.Running.{entry}
 use Rattle.gw_history.specs.Accepted.{moment_after}
-use Rattle.gw_history.specs.Life.{said_in}
-use Rattle.gw_bonds.specs.Executes.{Execute, execute_answered, execute_by as execute_made}
+use Rattle.gw_bonds.specs.Executes.{execute_answered, execute_by as execute_made}
 use Rattle.gw_bonds.proofs.Held.{waiting_at}
-use Rattle.gw_commands.specs.Commands.{AnswersBy, AnswersDue, SaysDue, confirmed_if as said_if, execute_by, execute_due, execute_for, is_accepted, is_up, said_due, said_for, waiting}
+use Rattle.gw_commands.specs.Commands.{AnswersBy, AnswersDue, SaysDue, confirmed_if as said_if, execute_by, execute_for, is_accepted, is_up, said_due, waiting}
 use Rattle.gw_commands.specs.Selections.{Selected, if_fresh, is_deactivation, is_free_for, is_selected_by, is_selected_for, may_select, moment_at, selected, standing}
-use Rattle.gw_commands.proofs.Opened.{open_at, told_of}
+use Rattle.gw_commands.proofs.Opened.{told_of}
 use Rattle.gw_commands.proofs.Commanded.{own_is, selectable_is, selected_is, standing_open, standing_told, taken_is}
 use Rattle.gw_commands.proofs.Frames.{taken_reply}
 use Rattle.gw_commands.proofs.Stages.{started_at}

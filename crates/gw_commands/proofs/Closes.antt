@@ -5,7 +5,6 @@ use Rattle.std.proofs.lemmas.Bool.{eq-eqb, ne_eqb}
 use Rattle.gw_model.specs.declared.control.Ended.{Ended}
 use Rattle.gw_control.specs.Controls.{Controls, controls_after_end, controls_after_lost}
 use Rattle.gw_control.specs.Held.{controls_after_losses}
-use Rattle.gw_control.specs.declared.selection.Selection.{Selection}
 use Rattle.gw_steps.specs.Controls.{controls_after_all_ended, controls_after_closes, controls_with_ended}
 use Rattle.gw_steps.specs.Steps.{bits_of, one_if}
 use Rattle.gw_history.specs.Life.{has_bit}

@@ -1,7 +1,7 @@
 -- What a command makes of the selections whose sessions stand.
-use Rattle.std.proofs.Common.{◌≡◌, ℕ, zero, suc, ◌+◌, ◌<◌, ◌≤◌, Bool, true, false, cond, not, ◌&&◌, List, [], ◌∷◌, length, Option, Some, None, option_map, is_none, is_some, refl, sym, ap, subst, ◌∙◌, arith, inl, inr, true≢false}
+use Rattle.std.proofs.Common.{◌≡◌, ℕ, zero, suc, ◌<◌, Bool, true, false, cond, not, ◌&&◌, List, [], ◌∷◌, length, Option, Some, None, option_map, is_none, is_some, refl, sym, ap, subst, ◌∙◌, arith, inl, inr, true≢false}
 use Rattle.std.specs.Prelude.{◌==◌, slice_get, IfSome}
-use Rattle.std.proofs.lemmas.Bool.{cases_eq, eq-eqb, eqb-true, eqb-false, ne_eqb}
+use Rattle.std.proofs.lemmas.Bool.{cases_eq, eq-eqb, eqb-true, eqb-false}
 use Rattle.gw_model.specs.First.{first_of, when}
 use Rattle.gw_model.specs.Places.{change}
 use Rattle.gw_model.specs.declared.control.Act.{Act}
@@ -13,7 +13,7 @@ use Rattle.gw_control.specs.declared.selection.Selection.{Selection}
 use Rattle.gw_control.specs.Controls.{Controls, NotPermitted, SelectedByAnother, act_accepted, act_by, controls_after_for, controls_ordering, controls_selecting, controls_unselecting, is_deactivation, is_selectable, standing_at}
 use Rattle.gw_control.specs.Intents.{intent_of}
 use Rattle.gw_control.specs.Selections.{asks_same, is_fresh, is_open, is_own, is_select, is_selected, is_session, is_taken, selection_by, standing_in, stands, unselected_by}
-use Rattle.gw_commands.specs.Selections.{Selected, if_fresh, is_free_for, is_permitted, is_selected_by, is_selected_for, may_select, selected_after, unless_by}
+use Rattle.gw_commands.specs.Selections.{Selected, if_fresh, is_free_for, is_selected_by, is_selected_for, may_select, selected_after, unless_by}
 use Rattle.gw_commands.proofs.Opened.{Fresh, IsCurrent, IsKept, KeptAt, open_at, open_selection, told_of}
 
 -- ---- a selection ends

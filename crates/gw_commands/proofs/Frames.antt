@@ -15,12 +15,9 @@ use Rattle.gw_control.specs.declared.asked.Asked.{Asked}
 use Rattle.gw_control.specs.Controls.{Controls, controls_after_at, controls_after_end}
 use Rattle.gw_control.specs.Intents.{control_for, if_of_type, is_of_type}
 use Rattle.gw_control.specs.Moves.{IsSoundControls}
-use Rattle.gw_station.specs.declared.event.Event.{Event}
-use Rattle.gw_station.specs.declared.event.Said.{Said}
 use Rattle.gw_station.specs.declared.event.Why.{Why}
 use Rattle.gw_station.specs.Client.{Client, is_started}
 use Rattle.gw_station.specs.Frames.{begins, client_taking, close_of, command_in, event_by, event_taking}
-use Rattle.gw_steps.specs.declared.step.Step.{Step}
 use Rattle.gw_steps.specs.declared.step.Step.TheVariants as steps
 use Rattle.gw_steps.specs.declared.step.Reply.{Reply}
 use Rattle.gw_steps.specs.declared.step.Reply.TheVariants as replies

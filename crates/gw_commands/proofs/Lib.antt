@@ -6,4 +6,5 @@ pub mod Frames
 pub mod Steps
 pub mod Up
 pub mod Answered
+pub mod Waits
 pub mod Told

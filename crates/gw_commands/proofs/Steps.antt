@@ -1,5 +1,5 @@
 -- At each place of a run the selections whose sessions stand are those that the history tells.
-use Rattle.std.proofs.Common.{◌≡◌, ℕ, zero, suc, ◌+◌, ◌≤◌, Bool, true, false, cond, List, [], ◌∷◌, length, map, replicate, Option, Some, None, Result, Ok, Err, refl, sym, ap, subst, ◌∙◌, arith, inl, inr}
+use Rattle.std.proofs.Common.{◌≡◌, ℕ, zero, suc, ◌+◌, Bool, false, cond, List, [], ◌∷◌, length, map, replicate, Option, Some, None, Result, Ok, Err, refl, sym, ap, subst, ◌∙◌, arith, inl, inr}
 use Rattle.std.specs.Prelude.{◌==◌, slice_get, slice_index}
 use Rattle.std.proofs.lemmas.Bool.{cases_Bool}
 use Rattle.std.proofs.lemmas.List.{length-map}
@@ -19,17 +19,16 @@ use Rattle.gw_control.specs.Orders.{places as order_places}
 use Rattle.gw_station.specs.declared.client.Stage.{Stage}
 use Rattle.gw_station.specs.declared.client.Stage.TheVariants.{Down, Started, Stopped}
 use Rattle.gw_station.specs.Client.{Client, client_after_close, client_after_tick, client_after_up, client_with_news, is_started, is_timed_out, is_up}
-use Rattle.gw_station.specs.Frames.{begins, close_of, command_in, event_by, event_of}
+use Rattle.gw_station.specs.Frames.{begins, close_of, event_of}
 use Rattle.gw_station.specs.Pump.{client_after_pump}
 use Rattle.gw_steps.specs.declared.step.Step.{Step}
 use Rattle.gw_steps.specs.declared.step.Step.TheVariants as steps
 use Rattle.gw_steps.specs.declared.step.Reply.{Reply}
-use Rattle.gw_steps.specs.declared.step.Reply.TheVariants as replies
 use Rattle.gw_steps.specs.declared.step.StepFault.{StepFault}
 use Rattle.gw_steps.specs.declared.step.StepFault.TheVariants.{NoClient}
 use Rattle.gw_steps.specs.Controls.{clients_told, controls_with_ended, ended_lost, order_due}
 use Rattle.gw_steps.specs.State.{State, at_first, client_limit, later}
-use Rattle.gw_steps.specs.Steps.{Allowed, after, begun_by, bits_of, can_be_counted, client_reply, controls_after_frame, ended_late, fault_of, is_accepting, latest, losses, needs, one_if, order_ended, outcome, outcomes_of_fragment, outcomes_of_loss, outcomes_of_tick, parts_after_poll, reply_of_event, reply_to, sessions_with}
+use Rattle.gw_steps.specs.Steps.{Allowed, after, begun_by, bits_of, can_be_counted, client_reply, controls_after_frame, ended_late, fault_of, is_accepting, latest, losses, needs, order_ended, outcome, outcomes_of_fragment, outcomes_of_loss, outcomes_of_tick, parts_after_poll, reply_of_event, reply_to}
 use Rattle.gw_steps.specs.Runs.{Entry, state_after}
 use Rattle.gw_steps.proofs.Inversion.{answered, who_is_down, who_is_up}
 use Rattle.gw_steps.proofs.Running.{entry}
@@ -38,7 +37,7 @@ use Rattle.gw_history.specs.Life.{has_bit}
 use Rattle.gw_commands.specs.Selections.{Selected, moment_at, selected, selected_with}
 use Rattle.gw_commands.proofs.Opened.{Leaves, end_leaves, none_current, none_kept, none_open, open_at, open_left, still_leaves, unless_none}
 use Rattle.gw_commands.proofs.Closes.{bit_told, ended_selections, ended_sessions, lost_selections, lost_sessions, tick_leaves}
-use Rattle.gw_commands.proofs.Stages.{pumped_stage, stage_changed, stage_kept, stage_stays, stages_kept, started_at, ticked_stage, told_length, told_stage, true_at}
+use Rattle.gw_commands.proofs.Stages.{pumped_stage, stage_changed, stage_kept, stage_stays, stages_kept, started_at, ticked_stage, told_length, told_stage}
 use Rattle.gw_commands.proofs.Frames.{FreshState, IsFresh, Framed, framed, framing, leaving}
 
 -- after a step with a reply

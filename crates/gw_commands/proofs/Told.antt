@@ -1,13 +1,17 @@
 -- Every run answers commands as is due.
 use Rattle.std.proofs.Common.{List, [], ◌∷◌}
+use Rattle.std.specs.List.{AllByRecursion}
 use Rattle.gw_map.specs.Settings.{Setup}
 use Rattle.gw_steps.specs.Runs.{AtEach, Entry, state_after}
 use Rattle.gw_history.specs.Premises.{IsSoundRun}
 use Rattle.gw_history.proofs.Places.{Place as HistoryPlace, places as history_places}
+use Rattle.gw_bonds.specs.Bonds.{HasShortIndex}
+use Rattle.gw_outcomes.proofs.Follows.{Place as OrderPlace, places as order_places}
 use Rattle.gw_commands.specs.Commands.{AnswersCommands}
 use Rattle.gw_commands.proofs.Answered.{HasWaiting, Known, answers_by}
 use Rattle.gw_commands.proofs.Steps.{Selects, first_selects, selects_more}
 use Rattle.gw_commands.proofs.Up.{AreUp, first_up, up_more}
+use Rattle.gw_commands.proofs.Waits.{has_waiting}
 
 -- the selections and the outstations are as the history tells
 record Place (setup : Setup) (past : List Entry) : Type 0 where
@@ -52,8 +56,15 @@ each setup (e ∷ past) at places waits = (
   each setup past at.1 places.1 waits.1,
 )
 
--- where as many orders wait as the history tells
-pub commands_answered : (setup : Setup) (past : List Entry) → IsSoundRun setup past → AtEach (HasWaiting setup) past
-    → AtEach (AnswersCommands setup) past
-commands_answered setup past given waits =
-    let here = history_places setup past given in each setup past here (places setup past here) waits
+at_each : (P Q : List Entry → Type 0) → ((past : List Entry) → P past → Q past) → (past : List Entry) → AtEach P past
+    → AtEach Q past
+at_each P Q law [] at = law [] at
+at_each P Q law (e ∷ past) at = (law (e ∷ past) at.0, at_each P Q law past at.1)
+
+pub commands_answered : (setup : Setup) (past : List Entry) → IsSoundRun setup past
+    → AllByRecursion HasShortIndex setup.controls → AtEach (AnswersCommands setup) past
+commands_answered setup past given short =
+    let here = history_places setup past given in
+    let waits : AtEach (HasWaiting setup) past = at_each (OrderPlace setup) (HasWaiting setup) (has_waiting setup) past
+    (order_places setup past given short) in
+    each setup past here (places setup past here) waits

@@ -6,12 +6,12 @@ use Rattle.gw_model.specs.Places.{change}
 use Rattle.gw_model.specs.declared.control.Order.{Order}
 use Rattle.gw_entries.specs.Setup.{OutstationSetup}
 use Rattle.gw_map.specs.Settings.{Setup}
-use Rattle.gw_picture.proofs.Lists.{change-here, change-there, map-get}
+use Rattle.gw_picture.proofs.Lists.{change-here, change-there}
 use Rattle.dnp_app.specs.Response.{Fragment, is_unsolicited}
 use Rattle.dnp_master.specs.declared.exchange.Exchange.{Exchange}
 use Rattle.dnp_master.specs.declared.exchange.Exchange.TheVariants.{Idle, Selected, Waiting}
 use Rattle.dnp_master.specs.declared.task.Task.{Task}
-use Rattle.dnp_master.specs.Fragments.{accepts, master_after_accepted, master_after_answer, master_after_fragment, master_after_unsolicited}
+use Rattle.dnp_master.specs.Fragments.{accepts, master_after_answer, master_after_fragment, master_after_unsolicited}
 use Rattle.dnp_master.specs.Master.{Master, due_unanswered, is_late, master_after_given, master_after_next, master_after_order, master_after_tick, master_after_up, master_down, master_with_exchange_after, task_given}
 use Rattle.gw_steps.specs.declared.step.Step.{Step}
 use Rattle.gw_steps.specs.declared.step.Step.TheVariants as steps
