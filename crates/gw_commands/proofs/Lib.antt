@@ -1,0 +1,10 @@
+pub mod Opened
+pub mod Commanded
+pub mod Stages
+pub mod Closes
+pub mod Frames
+pub mod Steps
+pub mod Up
+pub mod Answered
+pub mod Waits
+pub mod Told
