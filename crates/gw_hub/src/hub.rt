@@ -16,6 +16,8 @@ ghost use Rattle.gw_history.specs.Premises.{IsSoundRun};
 ghost use Rattle.gw_laws.specs.Promises.{Promises};
 ghost use Rattle.gw_bonds.specs.Bonds.{Bonds, HasShortIndex};
 ghost use Rattle.gw_bonds.specs.Outcomes.{TellsOnce};
+ghost use Rattle.gw_outcomes.specs.Outcomes.{TellsDue};
+ghost use Rattle.gw_commands.specs.Commands.{AnswersCommands};
 ghost use Rattle.gw_hub.specs.Hub.{can_count, can_take, controls_polled, state_counting, state_with_response, step_with, Answers, IsCounted};
 
 use crate::common::Common;
@@ -167,6 +169,10 @@ impl Hub {
     ///   and after its success one OPERATE of the same; nothing that is lost or late leads to another.
     /// - `outcomes`: what clients are told of orders is of accepted executes, of each one at most once, the client and
     ///   the command of which it is: done where the outstation took what the newest request asked, and that operates.
+    /// - `due`: each order's outcome is told in the step that ends it, while the session of its execute stands: where
+    ///   its request was answered to the end, where no answer came in time, or where its outstation is lost.
+    /// - `commands`: a command for a control is confirmed, and an execute accepted, exactly where the history permits
+    ///   it: by its value, who selected the control, whether its outstation is up, and how many orders wait for it.
     pub fn run(
         alloc: Global,
         settings: Settings,
@@ -180,6 +186,9 @@ impl Hub {
         ensures promises { IfOk result (λ run. AtEach (Promises settings) (history [] steps.items run.1.items)) }
         ensures bonds { IfOk result (λ run. AtEach (Bonds settings) (history [] steps.items run.1.items)) }
         ensures outcomes { IfOk result (λ run. AtEach (TellsOnce settings) (history [] steps.items run.1.items)) }
+        ensures due { IfOk result (λ run. AtEach (TellsDue settings) (history [] steps.items run.1.items)) }
+        ensures commands { IfOk result (λ run.
+            AtEach (AnswersCommands settings) (history [] steps.items run.1.items)) }
     {
         let mut hub = Hub::new(alloc, settings)?;
         let replies = hub.make(&steps)?;

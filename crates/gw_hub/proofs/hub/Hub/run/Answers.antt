@@ -8,6 +8,8 @@ use Rattle.std.specs.List.{AllByRecursion}
 use Rattle.gw_history.specs.Premises.{IsSoundRun}
 use Rattle.gw_bonds.specs.Bonds.{HasShortIndex, IsControlRun}
 use Rattle.gw_bonds.proofs.Bonded.{bound, told_once}
+use Rattle.gw_outcomes.proofs.Follows.{told_when_due}
+use Rattle.gw_commands.proofs.Told.{commands_answered}
 use Rattle.gw_laws.proofs.Promised.{keeps_promises}
 use Rattle.gw_hub.proofs.hub.Hub.run.Goals as goal
 
@@ -44,3 +46,15 @@ returns-clause-outcomes c =
     told_once c.args.settings _
     (control_run _ _ _ c.args.steps.items c.in_ok-replies.replies.items c.in_ok-hub.ensures.setup c.deref.ensures.value
     c.in_ok-replies.ensures.run c.in_ok-hub.ensures.indices)
+
+pub returns-clause-due : goal.returns-clause-due
+returns-clause-due c =
+    told_when_due c.args.settings _
+    (run_of _ _ _ c.args.steps.items c.in_ok-replies.replies.items c.in_ok-hub.ensures.setup c.deref.ensures.value
+    c.in_ok-replies.ensures.run) c.in_ok-hub.ensures.indices
+
+pub returns-clause-commands : goal.returns-clause-commands
+returns-clause-commands c =
+    commands_answered c.args.settings _
+    (run_of _ _ _ c.args.steps.items c.in_ok-replies.replies.items c.in_ok-hub.ensures.setup c.deref.ensures.value
+    c.in_ok-replies.ensures.run) c.in_ok-hub.ensures.indices
