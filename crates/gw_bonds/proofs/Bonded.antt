@@ -30,7 +30,7 @@ use Rattle.gw_steps.proofs.Running.{entry}
 use Rattle.gw_bonds.specs.Executes.{Execute, execute_answered, execute_by, execute_in, execute_of, executes, numbered}
 use Rattle.gw_bonds.specs.Marks.{Mark, Asked, Answered, given_in, marks}
 use Rattle.gw_bonds.specs.Outcomes.{TellsOnce, told}
-use Rattle.gw_bonds.specs.Bonds.{Bonds, HasShortIndex, IsBonded, IsBound, IsBoundTo, IsControlRun, LastIsBound, MayAsk, NoOperation, OperatesNothing, OperatesOnce, operated, operates, operation_in}
+use Rattle.gw_bonds.specs.Bonds.{Bonds, HasShortIndex, IsBonded, IsBound, IsBoundTo, IsControlRun, LastIsBound, MayAsk, NoOperation, OperatesNothing, OperatesOnce, operated, operates, operation_in, is_control_request}
 use Rattle.gw_bonds.proofs.Held.{held}
 use Rattle.gw_bonds.proofs.Story.{Holds, OfOrder, Story, Tied, story}
 use Rattle.gw_bonds.proofs.Told.{ToldTied}
@@ -200,7 +200,8 @@ no_executes setup (e ∷ past) none =
     (no_execute_in setup past e.step e.reply none)
     ∙ no_executes setup past none
 
-not_bound : (o : ℕ) (r : Request) (bond : Option ℕ) → IsBoundTo [] o r bond → operating_of (octets_of r) ≡ None
+not_bound : (o : ℕ) (r : Request) (bond : Option ℕ) → IsBoundTo [] o r bond
+    → is_control_request (octets_of r) ≡ false
 not_bound o r None k = k
 not_bound o r (Some n) k = absurd (let none : None ≡ Some k.execute = k.at in let no : ⊥ = cc in no)
 

@@ -28,7 +28,7 @@ use Rattle.gw_steps.specs.Controls.{order_for}
 use Rattle.gw_steps.specs.Steps.{request_polled}
 use Rattle.gw_bonds.specs.Executes.{Execute, numbered}
 use Rattle.gw_bonds.specs.Marks.{Mark, Asked, is_number, names}
-use Rattle.gw_bonds.specs.Bonds.{AsksAsOrdered, IsBound, IsBoundTo}
+use Rattle.gw_bonds.specs.Bonds.{AsksAsOrdered, IsBound, IsBoundTo, is_control_request}
 use Rattle.gw_bonds.proofs.Held.{held_at, held_way, under_way_at, waiting_at}
 use Rattle.gw_bonds.proofs.Story.{AskedBy, ForTask, GoesOn, Holds, IsOf, IsOrder, OfOrder, Story, Waits, alike_self, asking, mark_here, with_mark}
 use Rattle.gw_bonds.proofs.Asks.{Above, all_above, asked_first, first_of_order, given_apart, last_after, last_here, last_there, marked_apart, marked_bonded, marked_kept, may_first, may_operate, reads_intent, story_marked, waits_behind}
@@ -187,7 +187,8 @@ operate_at t o moment count m (Some q) order up small in_order waiting k =
 
 -- ---- a request that operates nothing
 
-operates_nothing : (task : Task) (n : ℕ) → order_of task ≡ None → operating_of (octets_of (task_request task n)) ≡ None
+operates_nothing : (task : Task) (n : ℕ) → order_of task ≡ None
+    → is_control_request (octets_of (task_request task n)) ≡ false
 operates_nothing ClearRestart n plain = refl
 operates_nothing (WriteTime time) n plain = refl
 operates_nothing (RecordTime wall) n plain = refl

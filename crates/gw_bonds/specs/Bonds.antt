@@ -1,7 +1,7 @@
 -- What binds requests to accepted executes. A request that names an order asks what the command of its execute asks, of
 -- the outstation of its control. For each execute there is at most one DIRECT_OPERATE (5), or one SELECT (3) and after
--- its success one OPERATE (4; IEEE Std 1815, 4.4). No other request operates anything.
-use Rattle.std.specs.Prelude.{◌≡◌, ℕ, ◌+◌, ◌<◌, ◌≤◌, ◌^◌, Bool, true, false, List, [], ◌∷◌, Option, Some, None, option_map}
+-- its success one OPERATE (4; IEEE Std 1815, 4.4). No other request is a control request.
+use Rattle.std.specs.Prelude.{◌≡◌, ℕ, ◌+◌, ◌<◌, ◌≤◌, ◌^◌, Bool, true, false, List, [], ◌∷◌, Option, Some, None, option_map, ◌&&◌, nat_le}
 use Rattle.std.specs.List.{AllByRecursion}
 use Rattle.gw_model.specs.declared.control.Intent.{Intent}
 use Rattle.gw_entries.specs.declared.control.Control.{Control}
@@ -32,11 +32,17 @@ pub record AsksAsOrdered (accepted : List Execute) (outstation : ℕ) (r : Reque
   pub asks : request_intent outstation (octets_of r) ≡ Some intent
   pub ordered : command_intent execute.control execute.command ≡ Some intent
 
+-- SELECT, OPERATE, DIRECT_OPERATE and DIRECT_OPERATE_NR, functions 3 to 6 (IEEE Std 1815, 4.4), whatever the objects are
+abbrev pub is_control_request : List ℕ → Bool
+is_control_request (octet ∷ function ∷ objects) = nat_le 3 function && nat_le function 6
+is_control_request _ = false
+
 abbrev pub IsBoundTo : List Execute → ℕ → Request → Option ℕ → Type 0
-IsBoundTo accepted outstation r None = operating_of (octets_of r) ≡ None
+IsBoundTo accepted outstation r None = is_control_request (octets_of r) ≡ false
 IsBoundTo accepted outstation r (Some n) = AsksAsOrdered accepted outstation r n
 
--- once these executes were accepted, a request that is given asks as ordered, or it names no order and operates nothing
+-- once these executes were accepted, a request that is given asks as ordered, or it names no order and is no control
+-- request
 abbrev pub IsBound : List Execute → Option (ℕ × Request) → Type 0
 IsBound accepted None = Unit {0}
 IsBound accepted (Some given) = IsBoundTo accepted given.0 given.1 given.1.bond
@@ -119,10 +125,10 @@ operated (m ∷ before) = operates_in m + operated before
 abbrev pub OperatesOnce : List Entry → Type 0
 OperatesOnce past = (n : ℕ) → operated (marks n past) ≤ 1
 
--- the newest entry gives no request that operates an output
+-- the newest entry gives no control request
 abbrev pub NoOperation : Option (ℕ × Request) → Type 0
 NoOperation None = Unit {0}
-NoOperation (Some given) = operating_of (octets_of given.1) ≡ None
+NoOperation (Some given) = is_control_request (octets_of given.1) ≡ false
 
 abbrev pub OperatesNothing : List Entry → Type 0
 OperatesNothing [] = Unit {0}

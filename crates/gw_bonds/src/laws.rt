@@ -7,8 +7,8 @@ ghost use Rattle.gw_steps.specs.Sound.{LeavesSound};
 ghost use Rattle.gw_bonds.specs.Bonds.{Bonds, IsControlRun, OperatesNothing, OperatesOnce};
 ghost use Rattle.gw_bonds.specs.Outcomes.{TellsOnce};
 
-/// At each point of a run: a request that names an order asks what the command of its execute asks, no other request
-/// operates anything, and for each execute there was at most one DIRECT_OPERATE, or one SELECT and after its success
+/// At each point of a run: a request that names an order asks what the command of its execute asks, no other one is a
+/// control request, and for each execute there was at most one DIRECT_OPERATE, or one SELECT and after its success
 /// one OPERATE.
 pub fn requests_are_bound()
     ensures { (setup : Setup) (past : List Entry) → IsControlRun setup past → AtEach (Bonds setup) past }
@@ -26,7 +26,7 @@ pub fn outcomes_are_of_executes()
     ensures { (setup : Setup) (past : List Entry) → IsControlRun setup past → AtEach (TellsOnce setup) past }
 {}
 
-/// Without controls in the settings nothing is operated: no request of a run selects or operates an output.
+/// Without controls in the settings nothing is operated: no request of a run is a control request.
 pub fn nothing_is_operated_without_controls()
     ensures { (setup : Setup) (past : List Entry)
         → setup.controls ≡ [] → IsRun setup past → AtEach (LeavesSound setup) past → AtEach OperatesNothing past }

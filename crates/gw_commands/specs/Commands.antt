@@ -1,6 +1,6 @@
--- How each command for a control is answered, by steps and replies alone: a deactivation is confirmed where its client
--- has the control selected; a select where its value is permitted and no other client has it selected; an execute is
--- accepted where all that an order wants is there. All else is confirmed negatively.
+-- How each command for a control is answered, by steps, replies and the executes that were accepted before: a
+-- deactivation is confirmed where its client has the control selected; a select where its value is permitted and no other
+-- client has it selected; an execute is accepted under five conditions (is_accepted). All else is confirmed negatively.
 use Rattle.std.specs.Prelude.{◌≡◌, ℕ, Bool, true, false, not, ◌&&◌, ◌||◌, ◌==◌, nat_lt, List, [], ◌∷◌, length, Option, Some, None, Result, Ok, Err, if◌then◌else◌}
 use Rattle.std.specs.List.{filter}
 use Rattle.gw_model.specs.First.{when}
@@ -23,7 +23,7 @@ use Rattle.gw_bonds.specs.Marks.{marks}
 use Rattle.gw_outcomes.specs.Pending.{Pending, is_marked, pending}
 use Rattle.gw_commands.specs.Selections.{command_taken, is_deactivation, is_free_for, is_permitted, is_selected_by, is_selected_for, may_select, moment_at, selected, standing}
 
--- ---- what an order wants
+-- ---- when an execute is accepted
 
 abbrev pub up_after : ℕ → Step → Bool → Bool
 up_after o (steps.OutstationUp p moment) up = if p == o then true else up
@@ -55,7 +55,7 @@ abbrev pub confirmed_if : Bool → Said
 confirmed_if true = Confirm
 confirmed_if false = Negative
 
--- of a command of client c for the control at a position
+-- of a command of client c for the control at a position; without a control it comes back with 47
 abbrev pub said_for : Setup → List Entry → ℕ → ℕ → ℕ → Control → Command → Said
 said_for setup past c moment position control command =
     if is_deactivation command then confirmed_if (is_selected_by c (standing setup position moment past))

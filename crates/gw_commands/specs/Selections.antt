@@ -1,6 +1,6 @@
--- Which controls are selected, and by whom, by steps and replies alone. A select that is confirmed begins a selection.
--- It ends by its client's deactivation or execute, by the select of another one that is confirmed, and with its
--- client's session; it stands for a time.
+-- Which controls are selected, and by whom, by steps and replies alone. A select that is confirmed begins a selection, in
+-- place of any other. It ends by its client's deactivation or execute, and with its client's session. It stands for a
+-- time; then another client may select the control.
 use Rattle.std.specs.Prelude.{ℕ, ◌-◌, Bool, true, false, ◌&&◌, ◌==◌, is_some, nat_lt, List, [], ◌∷◌, Option, Some, None, option_map, if◌then◌else◌}
 use Rattle.gw_model.specs.First.{when}
 use Rattle.gw_entries.specs.declared.control.Control.{Control}
@@ -75,7 +75,7 @@ may_select setup c moment control command x =
 
 -- ---- how it changes
 
--- not selected by this client any more
+-- dropped where its client is one of these
 abbrev pub unless_by : (ℕ → Bool) → Option Selected → Option Selected
 unless_by left None = None
 unless_by left (Some x) = if left x.client then None else Some x

@@ -10,7 +10,8 @@ ghost use Rattle.gw_commands.specs.Commands.{AnswersCommands};
 
 /// At each point of a run: what is said of a command for a control is what is due, and an execute is accepted exactly
 /// where all that it wants is there: its value is permitted, its outstation is up, no other client has the control
-/// selected, its own client has in this session where the control wants that, and fewer than 16 orders wait.
+/// selected, its own client has in this session and for the same where the control wants that, and fewer than 16 orders
+/// wait for the outstation.
 pub fn commands_are_answered_as_due()
     ensures { (setup : Setup) (past : List Entry) → IsSoundRun setup past → AllByRecursion HasShortIndex setup.controls
         → AtEach (AnswersCommands setup) past }

@@ -172,7 +172,7 @@ impl Hub {
     /// - `due`: each order's outcome is told in the step that ends it, while the session of its execute stands: where
     ///   its request was answered to the end, where no answer came in time, or where its outstation is lost.
     /// - `commands`: a command for a control is confirmed, and an execute accepted, exactly where the history permits
-    ///   it: by its value, who selected the control, whether its outstation is up, and how many orders wait for it.
+    ///   it: by its value, who selected the control, and whether the outstation is up and how many orders wait there.
     pub fn run(
         alloc: Global,
         settings: Settings,

@@ -24,7 +24,8 @@ use Rattle.gw_outcomes.specs.Pending.{Pending, is_marked, pending, pending_with}
 use Rattle.gw_outcomes.proofs.Places.{none_due}
 use Rattle.gw_outcomes.proofs.Rows.{Marked, row_waiting, rows, rows_in}
 use Rattle.gw_outcomes.proofs.Shapes.{marked_of}
-use Rattle.gw_outcomes.proofs.Steps.{Before, Follows, StepFollows, step_follows}
+use Rattle.gw_outcomes.proofs.Kept.{Before, Follows, StepFollows}
+use Rattle.gw_outcomes.proofs.Steps.{step_follows}
 
 pub record Place (setup : Setup) (past : List Entry) : Type 0 where
   pub history : HistoryPlace setup past

@@ -5,5 +5,11 @@ pub mod Finals
 pub mod Closes
 pub mod Frames
 pub mod Places
+pub mod Kept
+pub mod Losses
+pub mod Polls
+pub mod Fragments
+pub mod Ticks
+pub mod Apdus
 pub mod Steps
 pub mod Follows

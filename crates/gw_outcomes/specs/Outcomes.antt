@@ -1,5 +1,5 @@
 -- Which outcomes are told, and when: that of each order in the step that ends it, to the client whose execute it is,
--- where the session of the execute stands. By steps and replies alone.
+-- where the session of the execute stands. By steps, replies and the executes that were accepted.
 use Rattle.std.specs.Prelude.{◌≡◌, ℕ, zero, suc, Bool, not, ◌&&◌, List, [], ◌∷◌, ◌++◌, length, map}
 use Rattle.std.specs.List.{filter}
 use Rattle.gw_map.specs.Settings.{Setup}

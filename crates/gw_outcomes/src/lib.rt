@@ -1,5 +1,5 @@
-//! What becomes of accepted executes, by steps and replies alone: which orders are pending, when each is over, and what
-//! its client is told then.
+//! What becomes of accepted executes, by the history alone: which orders are pending, when each is over, and what its
+//! client is told then.
 #![tactic(auto)]
 
 mod examples;
