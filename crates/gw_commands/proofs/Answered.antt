@@ -12,7 +12,7 @@ use Rattle.gw_control.specs.declared.answer.Answer.{Answer}
 use Rattle.gw_control.specs.declared.answer.Answer.TheVariants as answers
 use Rattle.gw_control.specs.declared.asked.Asked.{Asked}
 use Rattle.gw_control.specs.declared.selection.Selection.{Selection}
-use Rattle.gw_control.specs.Controls.{Controls, NoPlace, NotPermitted, NotSelected, OutstationDown, SelectedByAnother, act_by, act_unless, answer_at, answer_for, answer_to_act, confirmed_if, is_full_at, is_selectable, standing_at}
+use Rattle.gw_control.specs.Controls.{NoPlace, NotPermitted, NotSelected, OutstationDown, SelectedByAnother, act_accepted, act_by, act_unless, answer_at, answer_for, answer_to_act, confirmed_if, is_full_at, is_selectable, standing_at}
 use Rattle.gw_control.specs.Intents.{control_for, intent_of}
 use Rattle.gw_control.specs.Orders.{Outgoing}
 use Rattle.gw_control.specs.Selections.{is_own, is_select, is_selected, is_taken}
@@ -177,45 +177,70 @@ module _ (setup : Setup) (past : List Entry) (moment c : ℕ) (command : Command
       standing_told setup moment s.controls.sessions (slice_get s.controls.selections q)
       ∙ ap (if_fresh setup moment) (k.selects.tells q)
 
+  own_so : (q : ℕ) → Known setup past
+      → is_own a (standing_at setup moment q s.controls) ≡ is_selected_by c (standing setup q moment past)
+  own_so q k =
+      own_is (λ d. started_at (slice_get s.clients d)) (λ d. slice_index s.sessions d) s.counts.sessions a s.controls
+      (standing_at setup moment q s.controls) k.selects.fresh.fresh refl
+      (standing_open setup.station.select_ms moment s.controls.sessions (slice_get s.controls.selections q))
+      ∙ ap (is_selected_by c) (stands_so q k)
+
+  same_so : (q : ℕ) → Known setup past → is_selected a (standing_at setup moment q s.controls)
+      ≡ is_selected_for c command.action (standing setup q moment past)
+  same_so q k =
+      selected_is (λ d. started_at (slice_get s.clients d)) (λ d. slice_index s.sessions d) s.counts.sessions a
+      s.controls
+      (standing_at setup moment q s.controls) k.selects.fresh.fresh refl
+      (standing_open setup.station.select_ms moment s.controls.sessions (slice_get s.controls.selections q))
+      ∙ ap (is_selected_for c command.action) (stands_so q k)
+
+  taken_so : (q : ℕ) → Known setup past
+      → is_taken a (standing_at setup moment q s.controls) ≡ not (is_free_for c (standing setup q moment past))
+  taken_so q k =
+      taken_is a (standing_at setup moment q s.controls)
+      ∙ ap (λ (y : Option Selected). not (is_free_for c y)) (stands_so q k)
+
+  may_so : (q : ℕ) (control : Control) → Known setup past
+      → is_selectable a control (standing_at setup moment q s.controls)
+      ≡ may_select setup c moment control command (selected setup q past)
+  may_so q control k =
+      selectable_is setup a control q s.controls ∙ ap (may_select setup c moment control command) (k.selects.tells q)
+
+  full_so : (o : ℕ) → Known setup past → is_up o past ≡ true
+      → is_full_at (slice_get s.controls.outgoing o) ≡ not (nat_lt (length (waiting setup o past)) 16)
+  full_so o k on =
+      full_is o (length (waiting setup o past)) s.controls.outgoing s.outstations (slice_get s.controls.outgoing o) refl
+      (k.sound.masters ∙ sym k.sound.controls.outgoing) (k.waits o) (k.up o ∙ on)
+
+  -- an execute is accepted where it is due
+  accepted_so : (found : ℕ × Control) → control_for setup command ≡ Some found → Known setup past
+      → answer_to_act s.controls.ordered
+      (act_accepted a found.1 (standing_at setup moment found.0 s.controls) s.controls)
+      ≡ ordered_if s.controls.ordered (is_accepted setup past c moment found.0 found.1 command)
+  accepted_so found is k =
+      let q : ℕ = found.0 in
+      let control : Control = found.1 in
+      let o : ℕ = control.outstation in
+      let x : Option Selection = standing_at setup moment q s.controls in
+      let so : Option Selected = standing setup q moment past in
+      let full : Bool = is_full_at (slice_get s.controls.outgoing o) in
+      acting_same s.controls.ordered control.select (act_by a control) full a.up (is_up o past) (is_taken a x)
+      (not (is_free_for c so)) (is_selected a x) (is_selected_for c command.action so)
+      (ap (is_control_up s.outstations) is ∙ k.up o) (taken_so q k) (same_so q k)
+      ∙ acted control s.controls.ordered control.select (act_by a control) (is_up o past) (is_free_for c so)
+      (is_selected_for c command.action so) full (nat_lt (length (waiting setup o past)) 16) (full_so o k)
+
   answer_is : (found : ℕ × Control) → control_for setup command ≡ Some found → Known setup past
       → answer_for a found.1 (standing_at setup moment found.0 s.controls) s.controls
       ≡ answer_due found.0 found.1
   answer_is found is k =
-      let q : ℕ = found.0 in
-      let control : Control = found.1 in
-      let o : ℕ = control.outstation in
-      let v : Controls = s.controls in
-      let x : Option Selection = standing_at setup moment q v in
-      let so : option_map told_of x ≡ standing setup q moment past = stands_so q k in
-      let started : ℕ → Bool = λ d. started_at (slice_get s.clients d) in
-      let number : ℕ → ℕ = λ d. slice_index s.sessions d in
-      let opened = standing_open setup.station.select_ms moment v.sessions (slice_get v.selections q) in
-      let up : a.up ≡ is_up o past = ap (is_control_up s.outstations) is ∙ k.up o in
-      let taken : is_taken a x ≡ not (is_free_for c (standing setup q moment past)) =
-      taken_is a x ∙ ap (λ (y : Option Selected). not (is_free_for c y)) so in
-      let own : is_own a x ≡ is_selected_by c (standing setup q moment past) =
-      own_is started number s.counts.sessions a v x k.selects.fresh.fresh refl opened ∙ ap (is_selected_by c) so in
-      let same : is_selected a x ≡ is_selected_for c command.action (standing setup q moment past) =
-      selected_is started number s.counts.sessions a v x k.selects.fresh.fresh refl opened
-      ∙ ap (is_selected_for c command.action) so in
-      let may : is_selectable a control x ≡ may_select setup c moment control command (selected setup q past) =
-      selectable_is setup a control q v ∙ ap (may_select setup c moment control command) (k.selects.tells q) in
-      let full : is_up o past ≡ true
-      → is_full_at (slice_get v.outgoing o) ≡ not (nat_lt (length (waiting setup o past)) 16) =
-      λ on. full_is o (length (waiting setup o past)) v.outgoing s.outstations (slice_get v.outgoing o) refl
-      (k.sound.masters ∙ sym k.sound.controls.outgoing) (k.waits o) (k.up o ∙ on) in
+      let x : Option Selection = standing_at setup moment found.0 s.controls in
       answers_same (is_deactivation command) (is_select command.action) (is_own a x)
-      (is_selected_by c (standing setup q moment past)) (is_selectable a control x)
-      (may_select setup c moment control command (selected setup q past))
-      (acting v.ordered control.select (act_by a control) a.up (is_taken a x) (is_selected a x)
-      (is_full_at (slice_get v.outgoing o)))
-      (ordered_if v.ordered (is_accepted setup past c moment q control command)) own may
-      (acting_same v.ordered control.select (act_by a control) (is_full_at (slice_get v.outgoing o)) a.up (is_up o past)
-      (is_taken a x) (not (is_free_for c (standing setup q moment past))) (is_selected a x)
-      (is_selected_for c command.action (standing setup q moment past)) up taken same
-      ∙ acted control v.ordered control.select (act_by a control) (is_up o past)
-      (is_free_for c (standing setup q moment past)) (is_selected_for c command.action (standing setup q moment past))
-      (is_full_at (slice_get v.outgoing o)) (nat_lt (length (waiting setup o past)) 16) full)
+      (is_selected_by c (standing setup found.0 moment past)) (is_selectable a found.1 x)
+      (may_select setup c moment found.1 command (selected setup found.0 past))
+      (answer_to_act s.controls.ordered (act_accepted a found.1 x s.controls))
+      (ordered_if s.controls.ordered (is_accepted setup past c moment found.0 found.1 command))
+      (own_so found.0 k) (may_so found.0 found.1 k) (accepted_so found is k)
 
   said_of : (found : Option (ℕ × Control)) → control_for setup command ≡ found → Known setup past
       → said_by (answer_at setup a found s.controls) ≡ said_due setup past c moment command found
