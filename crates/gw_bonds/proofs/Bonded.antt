@@ -10,7 +10,6 @@ use Rattle.gw_picture.proofs.Lists.{map-get}
 use Rattle.dnp_app.specs.declared.operation.Operation.{Operation}
 use Rattle.dnp_app.specs.declared.operation.Operation.TheVariants.{Select, Operate, DirectOperate}
 use Rattle.dnp_app.specs.declared.request.Request.{Request}
-use Rattle.dnp_app.specs.Operating.{operating_of}
 use Rattle.dnp_app.specs.Requests.{octets_of}
 use Rattle.dnp_master.specs.Master.{master_down}
 use Rattle.iec_command.specs.declared.command.Command.{Command}

@@ -11,7 +11,6 @@ use Rattle.gw_picture.proofs.Lists.{some_is}
 use Rattle.dnp_app.specs.declared.operation.Operation.{Operation}
 use Rattle.dnp_app.specs.declared.operation.Operation.TheVariants.{Operate}
 use Rattle.dnp_app.specs.declared.request.Request.{Request}
-use Rattle.dnp_app.specs.Operating.{operating_of}
 use Rattle.dnp_app.specs.Requests.{octets_of}
 use Rattle.dnp_master.specs.declared.due.Due.{Due}
 use Rattle.dnp_master.specs.declared.exchange.Exchange.{Exchange}
