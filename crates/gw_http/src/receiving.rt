@@ -31,8 +31,8 @@ pub fn receive<R: Read>(reader: &mut R) -> Option<Request>
     None
 }
 
-/// Reads once behind the octets that came so far, if it was interrupted nothing; how many came so far then, if it wasn't
-/// the end of the input or a fault.
+/// Reads once behind the octets that came so far, if it was interrupted nothing; how many came so far then, if it
+/// wasn't the end of the input or a fault.
 fn read_more<R: Read>(reader: &mut R, octets: &mut [u8], filled: usize) -> Option<usize>
     requires { filled ≤ length octets.old }
     ensures within { IfSome result (λ total. total ≤ length octets.old) }

@@ -9,7 +9,8 @@ use std::net::SocketAddr;
 /// The milliseconds between two tellings of dropped observations.
 const MINUTE_MS: u64 = 60_000;
 
-/// How it is with a place for a client, as the journal and the status tell. The counts go on from one client to the next.
+/// How it is with a place for a client, as the journal and the status tell. The counts go on from one client to the
+/// next.
 #[derive(Drop)]
 pub struct ClientFigures {
     /// Who is connected; nobody where the place is free.

@@ -26,8 +26,10 @@ pub enum OrderEvent {
     Refused,
     /// No answer came in time.
     Unanswered,
-    /// The outstation was lost before its answer came.
+    /// The outstation was lost before its answer came, or before it was given.
     Lost,
+    /// Its client's session ended before it was given.
+    LetGo,
 }
 
 impl CommandEvent {
@@ -47,7 +49,8 @@ impl OrderEvent {
     pub(crate) fn priority(self) -> Priority {
         match self {
             OrderEvent::Given(_) | OrderEvent::Done => Priority::Information,
-            OrderEvent::Refused | OrderEvent::Unanswered | OrderEvent::Lost => Priority::Warning,
+            OrderEvent::Refused | OrderEvent::Unanswered | OrderEvent::Lost | OrderEvent::LetGo =>
+                Priority::Warning,
         }
     }
 }
@@ -75,6 +78,7 @@ impl fmt::Display for OrderEvent {
             OrderEvent::Refused => f.write_str("failed: the outstation answered otherwise"),
             OrderEvent::Unanswered => f.write_str("failed: no answer in time"),
             OrderEvent::Lost => f.write_str("failed: the outstation was lost"),
+            OrderEvent::LetGo => f.write_str("let go: its session ended before it was given"),
         }
     }
 }

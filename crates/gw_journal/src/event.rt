@@ -230,17 +230,6 @@ impl Event {
 
     /// Whom it is of.
     pub(crate) fn subject(&self) -> Subject {
-        match self.client() {
-            Some((client, address)) => Subject::Client(client, address),
-            None => match self.outstation() {
-                Some(outstation) => Subject::Outstation(outstation),
-                None => Subject::Gateway,
-            },
-        }
-    }
-
-    /// The outstation that it is of, if it is of one.
-    fn outstation(&self) -> Option<u8> {
         match self {
             Event::OutstationConnected { outstation }
             | Event::OutstationUnreachable { outstation, .. }
@@ -251,14 +240,7 @@ impl Event {
             | Event::Unanswered { outstation, .. }
             | Event::FragmentRefused { outstation, .. }
             | Event::OctetsSkipped { outstation, .. }
-            | Event::Order { outstation, .. } => Some(*outstation),
-            _ => None,
-        }
-    }
-
-    /// The client that it is of, and where it connects from, if it is of one.
-    fn client(&self) -> Option<(u8, SocketAddr)> {
-        match self {
+            | Event::Order { outstation, .. } => Subject::Outstation(*outstation),
             Event::ClientConnected { client, address }
             | Event::TransferStarted { client, address }
             | Event::TransferStopped { client, address }
@@ -276,8 +258,18 @@ impl Event {
                 client,
                 address,
                 ..
-            } => Some((*client, *address)),
-            _ => None,
+            } => Subject::Client(*client, *address),
+            Event::Started { .. }
+            | Event::Doubtful(_)
+            | Event::Listening(_)
+            | Event::AllPlacesTaken
+            | Event::PlaceFree
+            | Event::NotAllowed { .. }
+            | Event::NotAccepted(_)
+            | Event::RecordingEnded(_)
+            | Event::LeftOut(_)
+            | Event::ControlsLeftOut(_)
+            | Event::Stopped => Subject::Gateway,
         }
     }
 

@@ -74,8 +74,8 @@ impl Failure {
         }
     }
 
-    /// Why a host's name couldn't be looked up. The system's resolver tells of a name that no host has as of what it has
-    /// no word for.
+    /// Why a host's name couldn't be looked up. The system's resolver tells of a name that no host has as of what it
+    /// has no word for.
     pub fn of_look_up(kind: ErrorKind) -> Failure {
         match Failure::from(kind) {
             Failure::Other => Failure::NoSuchHost,

@@ -1,5 +1,5 @@
-//! What an operator is told of the gateway: events as lines of the journal, which a thread of its own writes to standard
-//! error; and the figures of outstations and clients, from which some of the events come.
+//! What an operator is told of the gateway: events as lines of the journal, which a thread of its own writes to
+//! standard error; and the figures of outstations and clients, from which some of the events come.
 #![tactic(auto)]
 
 mod cause;

@@ -18,8 +18,8 @@ const RESTART: u16 = 1 << 7;
 /// IIN2.3: an event buffer of the outstation overflowed.
 const OVERFLOW: u16 = 1 << 11;
 
-/// How it is with an outstation, as the journal and the status tell. Times are milliseconds since 1970 in UTC. The counts
-/// go on from one connection to the next.
+/// How it is with an outstation, as the journal and the status tell. Times are milliseconds since 1970 in UTC. The
+/// counts go on from one connection to the next.
 #[derive(Drop)]
 pub struct OutstationFigures {
     /// Since when a connection stands, if one does.
@@ -143,7 +143,8 @@ impl OutstationFigures {
         self.earlier_setting = Setting::Idle;
     }
 
-    /// A request is sent, which the step of this number gave: whether it awaits an answer, and whether it writes the time.
+    /// A request is sent, which the step of this number gave: whether it awaits an answer, and whether it writes the
+    /// time.
     pub fn asked(&mut self, step: u64, awaits_answer: bool, writes_time: bool) {
         self.requests = self.requests.saturating_add(1);
         if self.is_awaited {
@@ -157,8 +158,8 @@ impl OutstationFigures {
         self.setting = self.setting.once_asked(writes_time);
     }
 
-    /// A fragment was taken by the step of this number: its internal indications, whether it ends the answer to a request,
-    /// and how many events it reports. Gives what is new.
+    /// A fragment was taken by the step of this number: its internal indications, whether it ends the answer to a
+    /// request, and how many events it reports. Gives what is new.
     pub fn answered(
         &mut self,
         step: u64,
@@ -181,8 +182,8 @@ impl OutstationFigures {
         }
     }
 
-    /// What a fragment means for the request that it may answer; whether it is to be told that the clock isn't set. Where
-    /// the next request was told first, the fragment is of the one before, which counted as unanswered then.
+    /// What a fragment means for the request that it may answer; whether it is to be told that the clock isn't set.
+    /// Where the next request was told first, the fragment is of the one before, which counted as unanswered then.
     fn ends(&mut self, step: u64, indications: u16, solicited_end: bool) -> bool {
         if step < self.asked_by {
             return self.ends_earlier(indications, solicited_end);
@@ -193,7 +194,8 @@ impl OutstationFigures {
         clock_not_set
     }
 
-    /// What a fragment means that may answer the request before the last one, as if it had been told before the last one was.
+    /// What a fragment means that may answer the request before the last one, as if it had been told before the last
+    /// one was.
     fn ends_earlier(&mut self, indications: u16, solicited_end: bool) -> bool {
         if solicited_end {
             self.unanswered = self.unanswered.saturating_sub(1);
@@ -255,7 +257,8 @@ impl Setting {
         }
     }
 
-    /// Once a fragment with these internal indications was taken, and whether it is to be told that the clock isn't set.
+    /// Once a fragment with these internal indications was taken, and whether it is to be told that the clock isn't
+    /// set.
     fn once_answered(self, indications: u16, solicited_end: bool) -> (Setting, bool) {
         if indications & NEED_TIME == 0 {
             return (Setting::Idle, false);

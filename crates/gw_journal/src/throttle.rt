@@ -34,8 +34,8 @@ impl Throttle {
         }
     }
 
-    /// Something happens at a moment in milliseconds. Where it may be told now, how much was left out before; else it is
-    /// counted.
+    /// Something happens at a moment in milliseconds. Where it may be told now, how much was left out before; else it
+    /// is counted.
     pub fn ask(&mut self, now: u64) -> Option<u64>
         ensures told { IfSome result (λ count. count ≡ self.old) }
         ensures taken { OnSome result (self.new ≡ 0) }

@@ -115,8 +115,8 @@ fn refuse<L: Ledger, R: Host, C: Clock, G: Gate>(
     }
 }
 
-/// Lets a listener come back from a wait for a client every 100 milliseconds: a listener has no option for that, but those of
-/// its socket are shared by its handles.
+/// Lets a listener come back from a wait for a client every 100 milliseconds: a listener has no option for that, but
+/// those of its socket are shared by its handles.
 pub fn look_up_from_accept(listener: &TcpListener) {
     if let Ok(handle) = listener.try_clone() {
         let stream = TcpStream::from(OwnedFd::from(handle));

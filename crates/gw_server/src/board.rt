@@ -41,8 +41,8 @@ impl ClientCard {
         self.hold.lock(rt).leaves()
     }
 
-    /// So many observations were dropped at this place by now. Where that is to be told, where its client connects from, and how
-    /// many weren't told yet.
+    /// So many observations were dropped at this place by now. Where that is to be told, where its client connects
+    /// from, and how many weren't told yet.
     pub fn dropped<R: Wait>(&self, rt: &R, wall: u64, total: u64) -> Option<(SocketAddr, u64)> {
         let mut figures = self.figures.lock(rt);
         let address = figures.address?;
@@ -111,8 +111,8 @@ impl Board {
         }
     }
 
-    /// Of the clients from an address that don't transfer data though they connected a second before a moment or earlier, but
-    /// for the newcomer, the one that connected first is made to leave its place.
+    /// Of the clients from an address that don't transfer data though they connected a second before a moment or
+    /// earlier, but for the newcomer, the one that connected first is made to leave its place.
     pub fn make_room<R: Wait>(&self, rt: &R, address: IpAddr, newcomer: u8, moment: u64) {
         let mut oldest: Option<(u64, &ClientCard)> = None;
         for (client, card) in (0u8..).zip(&self.clients) {

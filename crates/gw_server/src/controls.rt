@@ -1,16 +1,13 @@
 //! What an operator is told of controls: each command that comes, what the client is told of it, each request that is
-//! given for it, and how that ends.
+//! given for it, and what becomes of it.
 
-use crate::house::OUTSTATIONS;
 use crate::watched::Watched;
 use gw_journal::{CommandEvent, Event, OrderEvent};
 use gw_model::Ended;
+use gw_shared::{Apdus, Fate};
 use gw_threads::{About, Call, Clock, Gate, Reply, Run, Verdict, control_command};
 use iec_command::Command;
 use std::sync::Wait;
-
-/// The most APDUs that a run of pumps gives: they have six octets at least.
-const MOST_APDUS: usize = 683;
 
 /// The octets in front of an ASDU in its APDU.
 const FRONT: usize = 6;
@@ -46,25 +43,17 @@ impl<'a, R: Wait, C: Clock, G: Gate> Watched<'a, R, C, G> {
                     ),
                 ),
             ) => self.tell_end(outstation, *ended),
-            (About::OutstationDown(outstation), Ok(_)) => {
-                self.tell_failure(call, outstation, OrderEvent::Lost);
-            }
-            (About::Tick, Ok(_)) => self.tell_unanswered(call),
             _ => {}
         }
+        self.tell_settled(call);
     }
 
     /// Tells what a client is told of its commands for controls by a run of pumps.
     pub(crate) fn tell_of_commands(&self, run: &Run<'_>) {
-        let mut octets = run.octets;
-        for _ in 0..MOST_APDUS {
-            let Some((asdu, behind)) = first_asdu(octets) else {
-                return;
-            };
-            if let Some(command) = control_command(asdu) {
+        for apdu in Apdus(run.octets) {
+            if let Some(command) = command_in(apdu) {
                 self.tell_command(run.client, command, CommandEvent::Told);
             }
-            octets = behind;
         }
     }
 
@@ -103,24 +92,24 @@ impl<'a, R: Wait, C: Clock, G: Gate> Watched<'a, R, C, G> {
         self.tell_order(outstation, ended.number, what);
     }
 
-    /// Tells of each order that wasn't answered in time by a tick.
-    fn tell_unanswered(&self, call: &Call<'_>) {
-        for outstation in 0..OUTSTATIONS {
-            self.tell_failure(call, outstation, OrderEvent::Unanswered);
+    /// Tells what became of the orders that ended by a step without an answer.
+    fn tell_settled(&self, call: &Call<'_>) {
+        for settled in call.orders.settled() {
+            let what = match settled.fate {
+                Fate::Lost => OrderEvent::Lost,
+                Fate::Unanswered => OrderEvent::Unanswered,
+                Fate::LetGo => OrderEvent::LetGo,
+            };
+            self.tell_order(settled.outstation, settled.order, what);
         }
-    }
-
-    /// Tells of the order to an outstation that failed by a step without an answer, if one did.
-    fn tell_failure(&self, call: &Call<'_>, outstation: u8, what: OrderEvent) {
-        if let Some(order) = call.orders.failed(outstation) {
-            self.tell_order(outstation, order, what);
+        let left_out = call.orders.left_out();
+        if left_out > 0 {
+            self.tell(Event::ControlsLeftOut(left_out));
         }
     }
 }
 
-/// The ASDU of the first of these APDUs, and what comes behind; empty for an APDU without one.
-fn first_asdu(octets: &[u8]) -> Option<(&[u8], &[u8])> {
-    let length = 2 + usize::from(*octets.get(1)?);
-    let asdu = octets.get(FRONT..length)?;
-    Some((asdu, octets.get(length..)?))
+/// The command for a control in an APDU, if there is one.
+fn command_in(apdu: &[u8]) -> Option<Command> {
+    control_command(apdu.get(FRONT..)?)
 }

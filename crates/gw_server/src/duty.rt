@@ -105,8 +105,8 @@ impl<L: Ledger> Returned<L> {
     }
 }
 
-/// A duty for each thread: the journal's first, then the lookout's, the clock's, the outstations', and those of the places; behind them
-/// that of standard input, where its end is awaited. `passes` are
+/// A duty for each thread: the journal's first, then the lookout's, the clock's, the outstations', and those of the
+/// places; behind them that of standard input, where its end is awaited. `passes` are
 /// those of the outstations' readers and writers, of the clients' readers and writers, and the clock's.
 pub fn duties_of<L: Ledger>(
     alloc: Global,

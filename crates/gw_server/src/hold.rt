@@ -53,8 +53,8 @@ impl Hold {
         self.has_started = starts;
     }
 
-    /// How many had connected before a client from this address that doesn't transfer data, and connected a second before this
-    /// moment or earlier.
+    /// How many had connected before a client from this address that doesn't transfer data, and connected a second
+    /// before this moment or earlier.
     pub fn idle_since(&self, address: IpAddr, moment: u64) -> Option<u64> {
         if self.is_from(address) && !self.has_started && self.is_old(moment) {
             Some(self.order)

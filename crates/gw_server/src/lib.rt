@@ -1,5 +1,5 @@
-//! The gateway on sockets: it listens for control centres, connects to outstations, and runs the workers round the shared
-//! core, each in a thread of its own.
+//! The gateway on sockets: it listens for control centres, connects to outstations, and runs the workers round the
+//! shared core, each in a thread of its own.
 #![tactic(auto)]
 
 mod accepting;

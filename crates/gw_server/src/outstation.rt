@@ -51,8 +51,8 @@ pub fn serve_outstation<L: Ledger + Send + Sync, R: Host, C: Clock + Sync, G: Ga
     passes
 }
 
-/// Whether it is to be told that no connection could be made: for another reason than it was told, or an hour later. An hour
-/// has passed where the clock was set back.
+/// Whether it is to be told that no connection could be made: for another reason than it was told, or an hour later. An
+/// hour has passed where the clock was set back.
 fn is_news(told: Option<(Failure, u64)>, cause: Failure, wall: u64) -> bool {
     match told {
         Some((before, at)) if before == cause => match wall.checked_sub(at) {

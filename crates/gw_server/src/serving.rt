@@ -14,6 +14,7 @@ use crate::plan::{Plan, plans_of};
 use gw_journal::{Event, Journal};
 use gw_map::Settings;
 use gw_model::Memory;
+use gw_shared::Routes;
 use gw_threads::{Clock, Closed, Gate, Hub, Pass, Shared};
 use std::alloc::Global;
 use std::io;
@@ -87,6 +88,7 @@ pub fn serve_as<R: Host, C: Clock + Sync, G: Gate + Sync>(
     let outstations = plans.len().min(usize::from(OUTSTATIONS));
     let board = Board::new(alloc, outstations, CLIENTS)?;
     let capacity = (settings.station().recorder as usize).max(1);
+    let routes = Routes::of(alloc, settings.controls())?;
     let hub = Hub::new(alloc, settings)?;
     let actors = 2 * (outstations + usize::from(CLIENTS)) + 1;
     let site = Site {
@@ -98,6 +100,7 @@ pub fn serve_as<R: Host, C: Clock + Sync, G: Gate + Sync>(
     let blank = Blank::new(actors as u64);
     let core = Opening {
         hub,
+        routes,
         actors,
         capacity,
     };
@@ -108,6 +111,7 @@ pub fn serve_as<R: Host, C: Clock + Sync, G: Gate + Sync>(
 #[derive(Drop)]
 struct Opening {
     hub: Hub,
+    routes: Routes,
     actors: usize,
     capacity: usize,
 }
@@ -130,10 +134,12 @@ fn serve_with<L: Ledger + Send + Sync, R: Host, C: Clock + Sync, G: Gate + Sync>
 {
     let Opening {
         hub,
+        routes,
         actors,
         capacity,
     } = opening;
-    let (shared, passes) = Shared::<L>::new(alloc, blank, hub, actors, capacity)?;
+    let (mut shared, passes) = Shared::<L>::new(alloc, blank, hub, actors, capacity)?;
+    shared.follow(routes);
     let lobby = Lobby::new(alloc, CLIENTS)?;
     let outstations = site.plans.len().min(usize::from(OUTSTATIONS)) as u8;
     let duties = duties_of(alloc, outstations, passes, &site.options)?;
@@ -191,9 +197,9 @@ fn perform_all<L: Ledger + Send + Sync, R: Host, C: Clock + Sync, G: Gate + Sync
     )
 }
 
-/// Lets the threads end once no further client is accepted: those of the places, then the others, and behind what still waited
-/// to be told the journal's. The passes come back. The thread that reads standard input was started last, behind those of the
-/// places, and the journal's first.
+/// Lets the threads end once no further client is accepted: those of the places, then the others, and behind what still
+/// waited to be told the journal's. The passes come back. The thread that reads standard input was started last, behind
+/// those of the places, and the journal's first.
 fn end_all<L: Ledger, R: Host, C: Clock, G: Gate>(
     house: &House<'_, L, R, C, G>,
     site: Site<'_>,

@@ -14,15 +14,16 @@ const TRIES: u32 = 1_000_000;
 /// The milliseconds that a client's reader waits before it looks whether the client still stands.
 const LOOK_MS: u64 = 250;
 
-/// A connection to a client. A read that takes long comes back, so that the reader may look whether it is to go on. That
-/// nothing more comes is noted in the connection's ending, before the reader tells it to the core.
+/// A connection to a client. A read that takes long comes back, so that the reader may look whether it is to go on.
+/// That nothing more comes is noted in the connection's ending, before the reader tells it to the core.
 #[derive(Clone, Copy)]
 pub struct ClientSocket<'a> {
     stream: &'a TcpStream,
     ending: &'a Ending,
 }
 
-/// A connection to an outstation. A read or a write that takes too long fails. That nothing more comes is noted likewise.
+/// A connection to an outstation. A read or a write that takes too long fails. That nothing more comes is noted
+/// likewise.
 #[derive(Clone, Copy)]
 pub struct OutstationSocket<'a> {
     stream: &'a TcpStream,

@@ -8,7 +8,8 @@ use crate::lookout::pause;
 use crate::sockets::shut;
 use gw_http::{Asked, Request, answer, receive, refuse};
 use gw_model::Memory;
-use gw_status::{ClientStatus, Metrics, OutstationStatus, Page, Status};
+use gw_shared::OrderCounts;
+use gw_status::{ClientStatus, Metrics, OrderStatus, OutstationStatus, Page, Status};
 use gw_threads::{Clock, Figures, Gate};
 use std::alloc::Global;
 use std::io::{self, ErrorKind, Read, Write};
@@ -169,7 +170,7 @@ fn status_of<L: Ledger, R: Host, C: Clock, G: Gate>(
         started: site.started,
         steps: figures.calls,
         news: figures.news,
-        outstations: outstations_of(house, site)?,
+        outstations: outstations_of(house, site, &figures)?,
         clients: clients_of(house, &figures)?,
     })
 }
@@ -178,10 +179,11 @@ fn status_of<L: Ledger, R: Host, C: Clock, G: Gate>(
 fn outstations_of<L: Ledger, R: Host, C: Clock, G: Gate>(
     house: &House<'_, L, R, C, G>,
     site: Site<'_>,
+    counted: &Figures,
 ) -> Result<Vec<OutstationStatus>, Memory> {
     let cards = house.board.outstations();
     let mut outstations = Vec::with_capacity(house.alloc, cards.len())?;
-    for (card, plan) in cards.iter().zip(site.plans) {
+    for (card, (plan, orders)) in cards.iter().zip(site.plans.iter().zip(&counted.orders)) {
         let place = plan.connect.clone()?;
         let figures = card.figures.lock(house.rt);
         outstations.push(OutstationStatus {
@@ -194,9 +196,21 @@ fn outstations_of<L: Ledger, R: Host, C: Clock, G: Gate>(
             skipped: figures.skipped,
             indications: figures.indications,
             events: figures.events,
+            orders: orders_of(*orders),
         })?;
     }
     Ok(outstations)
+}
+
+/// The orders of an outstation.
+fn orders_of(counts: OrderCounts) -> OrderStatus {
+    OrderStatus {
+        accepted: counts.accepted,
+        done: counts.done,
+        failed: counts.failed,
+        let_go: counts.let_go,
+        waiting: counts.waiting(),
+    }
 }
 
 /// How it is with each place for a client.

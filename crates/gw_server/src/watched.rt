@@ -1,5 +1,5 @@
-//! The server's gate: it keeps what is known of each peer, tells the journal what an operator should know, and hands on to the
-//! gate that it was given. No lock of the core is held here.
+//! The server's gate: it keeps what is known of each peer, tells the journal what an operator should know, and hands on
+//! to the gate that it was given. No lock of the core is held here.
 
 use crate::board::Board;
 use dnp_app::AppFault;

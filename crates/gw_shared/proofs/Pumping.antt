@@ -56,6 +56,9 @@ pumped_apdu client apdu given = elim given as (λ _. IsPumped client (Ok (Apdu a
   | inr spent ↦ absurd cc
 ]
 
+-- what is known of a call that pumps
+pub ruleset pump_laws = (given_pumped, same_actor, pumped_apdu, counted_apdu)
+
 all-append : (P : ApduBuf → Type 0) (a b : List ApduBuf) → AllByRecursion P a → AllByRecursion P b
     → AllByRecursion P (a ++ b)
 all-append P [] b first more = more

@@ -3,8 +3,8 @@
 use crate::roused::{Roused, Topic};
 use gw_hub::{Reply, StepFault};
 
-/// The writers of clients that are awake: each that was rung for and hasn't been told since that nothing is due. It asks
-/// again before it sleeps, so whoever steps meanwhile needn't ring.
+/// The writers of clients that are awake: each that was rung for and hasn't been told since that nothing is due. It
+/// asks again before it sleeps, so whoever steps meanwhile needn't ring.
 #[derive(Clone, Copy, Debug)]
 pub(crate) struct Awake {
     writers: Roused,

@@ -47,7 +47,8 @@ impl Dropped {
         Dropped { counts: [0; 8] }
     }
 
-    /// A step was made that left the hub so: a client of whom fewer are counted than before has ended its data transfer.
+    /// A step was made that left the hub so: a client of whom fewer are counted than before has ended its data
+    /// transfer.
     pub fn note(&mut self, before: Watch, hub: &Hub) {
         match before {
             Watch::Nobody => {}

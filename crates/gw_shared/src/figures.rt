@@ -1,10 +1,12 @@
 //! What is counted under the lock.
 
 use crate::dropped::Dropped;
-use crate::roused::CLIENTS;
+use crate::pending::Pending;
+use crate::roused::{CLIENTS, OUTSTATIONS};
+use crate::settled::OrderCounts;
 use gw_hub::Hub;
 
-/// How many calls were made, how many observations were news, and what waits for clients.
+/// How many calls were made, how many observations were news, what waits for clients, and what became of orders.
 #[derive(Clone, Copy, Debug, PartialEq, Eq)]
 pub struct Figures {
     /// The calls.
@@ -17,11 +19,14 @@ pub struct Figures {
     pub unacknowledged: [usize; 8],
     /// For each client the news that were dropped, in all its data transfers and those of the clients before it.
     pub dropped: [u64; 8],
+    /// For each outstation its orders.
+    pub orders: [OrderCounts; OUTSTATIONS as usize],
 }
 
 impl Figures {
-    /// Those of a hub on which so many calls were made, and so much was dropped in data transfers that have ended.
-    pub(crate) fn of(calls: u64, hub: &Hub, dropped: &Dropped) -> Figures {
+    /// Those of a hub on which so many calls were made, with what was dropped in data transfers that have ended, and
+    /// with the orders.
+    pub(crate) fn of(calls: u64, hub: &Hub, dropped: &Dropped, pending: &Pending) -> Figures {
         let mut queued = [0; 8];
         let mut unacknowledged = [0; 8];
         for client in 0..CLIENTS {
@@ -34,6 +39,7 @@ impl Figures {
             queued,
             unacknowledged,
             dropped: dropped.in_all(hub),
+            orders: pending.counts(),
         }
     }
 }

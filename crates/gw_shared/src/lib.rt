@@ -1,5 +1,5 @@
-//! The core under one lock: any thread makes steps on it, each with a pass of its own. A step counts on the pass and under
-//! the lock alike, so that whoever has all passes again knows how many steps were made.
+//! The core under one lock: any thread makes steps on it, each with a pass of its own. A step counts on the pass and
+//! under the lock alike, so that whoever has all passes again knows how many steps were made.
 #![tactic(auto)]
 
 mod awake;
@@ -11,11 +11,14 @@ mod figures;
 mod locked;
 mod orders;
 mod pass;
+mod pending;
 mod pumped;
 mod roused;
+mod routes;
+mod settled;
 mod shared;
 
-pub use batch::{Batch, LONGEST_APDU};
+pub use batch::{Apdus, Batch, LONGEST_APDU};
 pub use bell::Bell;
 pub use close::{CloseFault, Closed};
 pub use figures::Figures;
@@ -24,4 +27,6 @@ pub use locked::Core;
 pub use orders::Orders;
 pub use pass::Pass;
 pub use pumped::{Pumped, apdu_in};
+pub use routes::Routes;
+pub use settled::{Fate, OrderCounts, Settled};
 pub use shared::Shared;

@@ -10,10 +10,11 @@ use crate::awake::Awake;
 use crate::batch::{Batch, LONGEST_APDU};
 use crate::dropped::{Dropped, Watch};
 use crate::figures::Figures;
-use crate::orders::UnderWay;
 use crate::pass::Pass;
+use crate::pending::{Pending, Wish};
 use crate::pumped::{Pumped, apdu_in};
 use crate::roused::{Roused, Topic};
+use crate::routes::Routes;
 use gw_hub::{Hub, Reply, Step, StepFault};
 use gw_model::Memory;
 use gw_record::Recorder;
@@ -25,7 +26,7 @@ use std::sync::ledger::{Book, Ledger, Share};
 const MOST_PUMPS: u32 = 64;
 
 /// A hub with its recorder, the count of calls, and the book of all passes' counts; what was dropped for clients, which
-/// writers are awake, and which orders are under way, which no contract sees.
+/// writers are awake, and which orders have not ended, which no contract sees.
 #[derive(Drop)]
 pub struct Core<L: Ledger> {
     hub: Hub,
@@ -34,7 +35,7 @@ pub struct Core<L: Ledger> {
     book: Book<L>,
     dropped: Dropped,
     awake: Awake,
-    under_way: UnderWay,
+    pending: Pending,
 }
 
 impl<L: Ledger> Model for Core<L> {
@@ -74,8 +75,15 @@ impl<L: Ledger> Core<L> {
             book,
             dropped: Dropped::new(),
             awake: Awake::nobody(),
-            under_way: UnderWay::nothing(),
+            pending: Pending::new(alloc)?,
         })
+    }
+
+    /// Orders go these ways from now on.
+    pub(crate) fn follow(&mut self, routes: Routes)
+        ensures { self.new ≡ self.old }
+    {
+        self.pending.follow(routes);
     }
 
     /// Makes a call: the step is made on the hub and noted with its reply. Gives the call's number, counted over all
@@ -114,19 +122,20 @@ impl<L: Ledger> Core<L> {
     ) -> ((u64, Result<Reply, StepFault>), Roused)
         ensures { Answers pass.old pass.new step result.0 }
     {
-        let topic = Topic::of(&step);
+        let (topic, wish) = (Topic::of(&step), Wish::of(&step));
         let orders = self.hub.orders();
         let answer = self.step(pass, step);
-        let roused = self.rouse(pass, topic, &answer.1, orders);
+        let roused = self.rouse(pass, topic, wish, &answer.1, orders);
         (answer, roused)
     }
 
-    /// Those of the workers whom a call serves for whom the bell has to ring; there were so many orders before. What the
-    /// call did to orders is kept with its pass.
+    /// Those of the workers whom a call serves for whom the bell has to ring; there were so many orders before. What
+    /// the call did to orders is kept with its pass.
     fn rouse(
         &mut self,
         pass: &mut Pass<L>,
         topic: Topic,
+        wish: Wish,
         reply: &Result<Reply, StepFault>,
         before: u64,
     ) -> Roused
@@ -134,15 +143,16 @@ impl<L: Ledger> Core<L> {
         ensures pass { pass.new ≡ pass.old }
     {
         let orders = &mut pass.orders;
-        self.under_way.note(topic, reply, before, &self.hub, orders);
+        self.pending
+            .note(topic, wish, reply, before, &self.hub, orders);
         let ordered = orders.accepted().is_some();
         self.awake.told(topic, reply);
         self.awake
             .rouse(Roused::by(topic, reply, ordered, &self.hub))
     }
 
-    /// Pumps for a client at a moment, one call after another, and puts the APDUs into a batch: until an answer is none, or
-    /// there is no room for one more.
+    /// Pumps for a client at a moment, one call after another, and puts the APDUs into a batch: until an answer is
+    /// none, or there is no room for one more.
     pub fn pump(&mut self, pass: &mut Pass<L>, client: u8, moment: u64, batch: &mut Batch) -> Pumped
         ensures run { IsPumpedRun client batch.old batch.new result }
         ensures more { MayGoOn pass.old pass.new batch.new result }
@@ -157,7 +167,7 @@ impl<L: Ledger> Core<L> {
     }
 
     /// Pumps once; how the run ended, if it did.
-    #[tactic(auto, using(crate::proofs::Pumping::given_pumped, crate::proofs::Pumping::same_actor, crate::proofs::Pumping::pumped_apdu, crate::proofs::Pumping::counted_apdu))]
+    #[tactic(auto, using(crate::proofs::Pumping::pump_laws))]
     fn pump_next(
         &mut self,
         pass: &mut Pass<L>,
@@ -225,7 +235,7 @@ impl<L: Ledger> Core<L> {
 
     /// What is counted.
     pub fn figures(&self) -> Figures {
-        Figures::of(self.made, &self.hub, &self.dropped)
+        Figures::of(self.made, &self.hub, &self.dropped, &self.pending)
     }
 
     /// How many calls were made, for whoever has all passes' shares.
@@ -249,7 +259,7 @@ impl<L: Ledger> Core<L> {
             book: _,
             dropped: _,
             awake: _,
-            under_way: _,
+            pending: _,
         } = self;
         (hub, recorder)
     }

@@ -1,125 +1,84 @@
 //! What calls do to orders, besides what their replies tell.
+ghost use Rattle.std.specs.Prelude.{◌≡◌, ◌⊎◌, ◌+◌, ◌^◌, ◌-◌, min};
+ghost use Rattle.gw_shared.specs.Orders.{accepted_since, accepting, settling, untouched};
 
-use crate::roused::{OUTSTATIONS, Topic, outstation_bit};
-use gw_hub::{Hub, Reply, StepFault, Verdict};
+use crate::settled::Settled;
+use std::alloc::Global;
+use std::marker::Model;
 
 /// What a call did to orders, besides what its reply tells.
-#[derive(Clone, Copy, Debug, PartialEq, Eq)]
+#[derive(Drop)]
 pub struct Orders {
-    /// The number of the order as which the command of a client was accepted.
     accepted: Option<u64>,
-    /// The outstations whose order failed without an answer, a bit for each; and the numbers of these orders.
-    outstations: u32,
-    numbers: [u64; OUTSTATIONS as usize],
+    settled: Vec<Settled>,
+    left_out: u64,
+}
+
+impl Model for Orders {
+    ghost use Rattle.gw_shared.specs.Orders.{Orders as Seen};
+
+    ghost Value = { Seen };
+
+    ghost view = { λ o. record { accepted = o.accepted; settled = o.settled.items; left_out = o.left_out } };
+}
+
+/// The number of the order that was accepted, if one was: before there were so many, and now are so many.
+fn accepted_since(before: u64, now: u64) -> Option<u64>
+    ensures { result ≡ accepted_since before now }
+{
+    if now == before { None } else { Some(now) }
 }
 
 impl Orders {
     /// Nothing.
-    pub(crate) fn untouched() -> Orders {
+    pub(crate) fn untouched(alloc: Global) -> Orders
+        ensures { result ≡ untouched }
+    {
         Orders {
             accepted: None,
-            outstations: 0,
-            numbers: [0; OUTSTATIONS as usize],
+            settled: Vec::new(alloc),
+            left_out: 0,
         }
     }
 
     /// The number of the order as which the command of a client was accepted, if it was.
-    pub fn accepted(&self) -> Option<u64> {
+    pub fn accepted(&self) -> Option<u64>
+        ensures { result ≡ self.now.accepted }
+    {
         self.accepted
     }
 
-    /// The number of the order that was under way to an outstation and failed without an answer, if one did: the outstation
-    /// was lost, or its time passed.
-    pub fn failed(&self, outstation: u8) -> Option<u64> {
-        let number = *self.numbers.get(usize::from(outstation))?;
-        if self.outstations & outstation_bit(outstation) != 0 {
-            Some(number)
-        } else {
-            None
-        }
+    /// The orders that ended without an answer.
+    pub fn settled(&self) -> &[Settled]
+        ensures { result.now ≡ self.now.settled }
+    {
+        &self.settled
+    }
+
+    /// How many more of these there was no memory for.
+    pub fn left_out(&self) -> u64
+        ensures { result ≡ self.now.left_out }
+    {
+        self.left_out
     }
 
     /// A further call is made, before which there were so many orders, and now are so many.
-    fn begin(&mut self, before: u64, now: u64) {
-        self.accepted = if now == before { None } else { Some(now) };
-        self.outstations = 0;
+    pub(crate) fn begin(&mut self, before: u64, now: u64)
+        ensures { self.new ≡ accepting before now }
+    {
+        self.accepted = accepted_since(before, now);
+        self.settled.clear();
+        self.left_out = 0;
     }
 
-    /// The order under way to an outstation failed.
-    fn fail(&mut self, outstation: u8, order: u64) {
-        if let Some(number) = self.numbers.get_mut(usize::from(outstation)) {
-            *number = order;
-            self.outstations |= outstation_bit(outstation);
-        }
-    }
-}
-
-/// For each outstation the number of the order that is under way to it.
-#[derive(Clone, Copy)]
-pub(crate) struct UnderWay {
-    numbers: [Option<u64>; OUTSTATIONS as usize],
-}
-
-impl UnderWay {
-    /// No order.
-    pub fn nothing() -> UnderWay {
-        UnderWay {
-            numbers: [None; OUTSTATIONS as usize],
-        }
-    }
-
-    /// A call was made that left the hub so; there were so many orders before.
-    pub fn note(
-        &mut self,
-        topic: Topic,
-        reply: &Result<Reply, StepFault>,
-        before: u64,
-        hub: &Hub,
-        orders: &mut Orders,
-    ) {
-        orders.begin(before, hub.orders());
-        match (topic, reply) {
-            (Topic::Poll(outstation), Ok(Reply::Request(request))) if request.bond.is_some() => {
-                self.set(outstation, request.bond);
-            }
-            (
-                Topic::Fragment(outstation),
-                Ok(
-                    Reply::Verdict(
-                        Verdict::Accepted {
-                            control: Some(_),
-                            ..
-                        },
-                    ),
-                ),
-            ) => self.set(outstation, None),
-            (Topic::Loss(outstation), Ok(_)) => self.fail(outstation, orders),
-            (Topic::Tick, Ok(_)) => self.fail_late(hub, orders),
-            _ => {}
-        }
-    }
-
-    /// This order is under way to an outstation now, or none is.
-    fn set(&mut self, outstation: u8, order: Option<u64>) {
-        if let Some(number) = self.numbers.get_mut(usize::from(outstation)) {
-            *number = order;
-        }
-    }
-
-    /// The order under way to an outstation failed, if there is one.
-    fn fail(&mut self, outstation: u8, orders: &mut Orders) {
-        if let Some(Some(order)) = self.numbers.get(usize::from(outstation)) {
-            orders.fail(outstation, *order);
-        }
-        self.set(outstation, None);
-    }
-
-    /// Those of the orders under way failed whose outstations could be given the next by now.
-    fn fail_late(&mut self, hub: &Hub, orders: &mut Orders) {
-        for outstation in 0..OUTSTATIONS {
-            if hub.is_ready(outstation) {
-                self.fail(outstation, orders);
-            }
-        }
+    /// An order ended without an answer.
+    pub(crate) fn settle(&mut self, order: Settled)
+        ensures { (self.new ≡ settling order self.old)
+            ⊎ (self.new ≡ record self.old { left_out = min (self.old.left_out + 1) (2 ^ 64 - 1) }) }
+    {
+        let Err(_refused) = self.settled.push(order) else {
+            return;
+        };
+        self.left_out = self.left_out.saturating_add(1);
     }
 }

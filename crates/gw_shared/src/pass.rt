@@ -5,8 +5,8 @@ use crate::orders::Orders;
 use std::marker::Model;
 use std::sync::ledger::{Ledger, Share};
 
-/// The right of one actor to make calls on a shared core, and the count of those that it made. A pass fits one core alone,
-/// since it has that core's type. It also has what its last call did to orders, which no contract sees.
+/// The right of one actor to make calls on a shared core, and the count of those that it made. A pass fits one core
+/// alone, since it has that core's type. It also has what its last call did to orders, which no contract sees.
 #[derive(Drop)]
 pub struct Pass<L: Ledger> {
     pub(crate) share: Share<L>,
@@ -34,7 +34,7 @@ impl<L: Ledger> Pass<L> {
     }
 
     /// What its last call did to orders, besides what the reply told.
-    pub fn orders(&self) -> Orders {
-        self.orders
+    pub fn orders(&self) -> &Orders {
+        &self.orders
     }
 }

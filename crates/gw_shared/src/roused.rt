@@ -68,9 +68,9 @@ impl Roused {
         }
     }
 
-    /// Whom a step serves that left the hub so with this reply, and accepted an order or didn't: the writer of a peer that
-    /// came, went or had its connection closed; besides these, whoever has something to hand over now. A step with a fault,
-    /// and a fragment that wasn't accepted, serve nobody.
+    /// Whom a step serves that left the hub so with this reply, and accepted an order or didn't: the writer of a peer
+    /// that came, went or had its connection closed; besides these, whoever has something to hand over now. A step with
+    /// a fault, and a fragment that wasn't accepted, serve nobody.
     pub fn by(topic: Topic, reply: &Result<Reply, StepFault>, ordered: bool, hub: &Hub) -> Roused {
         match (topic, reply) {
             (_, Err(_) | Ok(Reply::Verdict(Verdict::Repeated { .. } | Verdict::Ignored(_)))) => {
@@ -150,7 +150,7 @@ pub(crate) fn outstation_bit(outstation: u8) -> u32 {
 }
 
 /// The bit of a client; none beyond the eighth.
-fn client_bit(client: u8) -> u8 {
+pub(crate) fn client_bit(client: u8) -> u8 {
     if client < CLIENTS { 1 << client } else { 0 }
 }
 

@@ -12,6 +12,7 @@ use crate::orders::Orders;
 use crate::pass::Pass;
 use crate::pumped::Pumped;
 use crate::roused::{CLIENTS, OUTSTATIONS, Roused};
+use crate::routes::Routes;
 use gw_hub::{Hub, Reply, Step, StepFault};
 use gw_model::Memory;
 use gw_record::Recorder;
@@ -65,20 +66,20 @@ fn passes<L: Ledger>(alloc: Global, share: Share<L>, actors: usize) -> Result<Ve
         passes.push(Pass {
             share: share.split_off(1, 0),
             actor,
-            orders: Orders::untouched(),
+            orders: Orders::untouched(alloc),
         })?;
     }
     passes.push(Pass {
         share,
         actor: actors - 1,
-        orders: Orders::untouched(),
+        orders: Orders::untouched(alloc),
     })?;
     Ok(passes)
 }
 
 impl<L: Ledger> Shared<L> {
-    /// A hub under its lock, for so many actors; the recorder keeps `capacity` calls at most. Gives a pass for each actor
-    /// too, by their positions.
+    /// A hub under its lock, for so many actors; the recorder keeps `capacity` calls at most. Gives a pass for each
+    /// actor too, by their positions.
     pub fn new(
         alloc: Global,
         blank: Blank,
@@ -104,6 +105,13 @@ impl<L: Ledger> Shared<L> {
             stopping: AtomicBool::new(false),
         };
         Ok((shared, passes))
+    }
+
+    /// Orders go these ways from now on. Of an order whose way isn't known nothing is kept until it is given.
+    pub fn follow(&mut self, routes: Routes)
+        ensures { self.new ≡ self.old }
+    {
+        self.core.get_mut().follow(routes);
     }
 
     /// Makes a call under the lock (`Core::step`), and wakes those whom the step may serve. Gives the call's number and

@@ -7,6 +7,7 @@ mod escaped;
 mod family;
 mod indications;
 mod metrics;
+mod order_figure;
 mod outstation_figure;
 mod page;
 mod rows;
@@ -16,4 +17,4 @@ mod time;
 
 pub use metrics::Metrics;
 pub use page::Page;
-pub use status::{ClientStatus, Closes, OutstationStatus, Status};
+pub use status::{ClientStatus, Closes, OrderStatus, OutstationStatus, Status};

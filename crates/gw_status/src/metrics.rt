@@ -3,6 +3,7 @@
 use crate::client_figure::write_clients;
 use crate::escaped::Label;
 use crate::family::{Family, Figure};
+use crate::order_figure::write_orders;
 use crate::outstation_figure::write_outstations;
 use crate::status::Status;
 use std::fmt;
@@ -16,6 +17,7 @@ impl<'a> fmt::Display for Metrics<'a> {
         write_version(f, self.0.version)?;
         write_gateway(f, self.0)?;
         write_outstations(f, self.0.outstations.as_slice())?;
+        write_orders(f, self.0.outstations.as_slice())?;
         write_clients(f, self.0.clients.as_slice())
     }
 }

@@ -124,10 +124,21 @@ fn write_figure<W: fmt::Write>(
     number: usize,
     outstation: &OutstationStatus,
 ) -> fmt::Result {
-    let Some(figure) = what.figure(outstation) else {
-        return Ok(());
-    };
-    let (name, place) = (what.family().name(), Label(outstation.place.as_str()));
+    match what.figure(outstation) {
+        Some(figure) => write_labelled(f, what.family(), number, outstation, figure),
+        None => Ok(()),
+    }
+}
+
+/// Writes a figure of a family, with the labels of an outstation.
+pub fn write_labelled<W: fmt::Write>(
+    f: &mut fmt::Formatter<W>,
+    family: Family,
+    number: usize,
+    outstation: &OutstationStatus,
+    figure: Figure,
+) -> fmt::Result {
+    let (name, place) = (family.name(), Label(outstation.place.as_str()));
     writeln!(
         f,
         "{name}{{outstation=\"{number}\",place=\"{place}\"}} {figure}"

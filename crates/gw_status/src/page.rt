@@ -61,7 +61,8 @@ const NARROW: &str = "\
 @media (max-width: 50rem) {\n\
 thead { display: none }\n\
 table, tbody { display: block }\n\
-tr { display: grid; grid-template-columns: 1fr 1fr; column-gap: .5rem; padding: .5rem 0; border-bottom: 1px solid var(--line) }\n\
+tr { display: grid; grid-template-columns: 1fr 1fr; column-gap: .5rem; padding: .5rem 0; \
+border-bottom: 1px solid var(--line) }\n\
 th, td { border: 0; padding: .15rem 0 }\n\
 tbody th, tr td:first-of-type { grid-column: 1 / -1 }\n\
 td::before { content: attr(data-column) \": \"; color: var(--faint) }\n\
@@ -117,8 +118,8 @@ fn write_outstations<W: fmt::Write>(
     f.write_str(
         "<h2>Outstations</h2>\n<table>\n<thead><tr><th>Outstation</th><th>State</th><th>Last answer</th>\
         <th>Indications</th><th class=number>Events</th><th class=number>Requests</th>\
-        <th class=number>Unanswered</th><th class=number>Refused fragments</th><th class=number>Skipped octets</th></tr></thead>\n\
-        <tbody>\n",
+        <th class=number>Unanswered</th><th class=number>Refused fragments</th><th class=number>Skipped octets</th>\
+        <th>Orders</th></tr></thead>\n<tbody>\n",
     )?;
     for (number, outstation) in outstations.iter().enumerate() {
         write_outstation(f, number, outstation, now)?;

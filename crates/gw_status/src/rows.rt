@@ -2,7 +2,7 @@
 
 use crate::escaped::Html;
 use crate::indications::{Names, tell_of_trouble};
-use crate::status::{ClientStatus, Closes, OutstationStatus};
+use crate::status::{ClientStatus, Closes, OrderStatus, OutstationStatus};
 use crate::time::{Moment, Span};
 use std::fmt;
 
@@ -83,7 +83,33 @@ fn write_counts<W: fmt::Write>(
     write_count(f, "Unanswered", outstation.unanswered)?;
     write_count(f, "Refused fragments", outstation.refused)?;
     write_count(f, "Skipped octets", outstation.skipped)?;
-    f.write_str("</tr>\n")
+    write_orders(f, outstation.orders)
+}
+
+/// Writes what became of orders, as `2 done, 1 waiting`, and the end of the row.
+fn write_orders<W: fmt::Write>(f: &mut fmt::Formatter<W>, orders: OrderStatus) -> fmt::Result {
+    f.write_str("<td data-column=Orders>")?;
+    write_parts(f, &orders.by_fate())?;
+    f.write_str("</td></tr>\n")
+}
+
+/// Writes how many there are of each part, where there are some; `none` where there are none at all.
+fn write_parts<W: fmt::Write>(
+    f: &mut fmt::Formatter<W>,
+    parts: &[(&'static str, u64)],
+) -> fmt::Result {
+    let mut separator = "";
+    for (part, count) in parts {
+        if *count != 0 {
+            write!(f, "{separator}{count} {part}")?;
+            separator = ", ";
+        }
+    }
+    if separator.is_empty() {
+        f.write_str("none")
+    } else {
+        Ok(())
+    }
 }
 
 /// Writes a cell with a number.
@@ -140,16 +166,6 @@ fn write_session<W: fmt::Write>(
 /// Writes why connections ended, as `2 t1, 1 lost`, and the end of the row.
 fn write_closes<W: fmt::Write>(f: &mut fmt::Formatter<W>, closes: Closes) -> fmt::Result {
     f.write_str("<td data-column=Ended>")?;
-    let mut separator = "";
-    for (cause, count) in closes.by_cause() {
-        if count != 0 {
-            write!(f, "{separator}{count} {cause}")?;
-            separator = ", ";
-        }
-    }
-    f.write_str(if separator.is_empty() {
-        "none</td></tr>\n"
-    } else {
-        "</td></tr>\n"
-    })
+    write_parts(f, &closes.by_cause())?;
+    f.write_str("</td></tr>\n")
 }

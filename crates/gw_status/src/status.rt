@@ -49,6 +49,35 @@ pub struct OutstationStatus {
     pub indications: u16,
     /// The events that it reported.
     pub events: u64,
+    /// The orders for it.
+    pub orders: OrderStatus,
+}
+
+/// How many commands were accepted as orders for an outstation, and what became of them.
+#[derive(Clone, Copy)]
+pub struct OrderStatus {
+    /// Those that were accepted.
+    pub accepted: u64,
+    /// Those that the outstation did.
+    pub done: u64,
+    /// Those that failed.
+    pub failed: u64,
+    /// Those that were let go, since their client's session ended before they were given.
+    pub let_go: u64,
+    /// Those that wait for the outstation, or for its answer.
+    pub waiting: u64,
+}
+
+impl OrderStatus {
+    /// What became of them in a word each, with its number.
+    pub fn by_fate(self) -> [(&'static str, u64); 4] {
+        [
+            ("done", self.done),
+            ("failed", self.failed),
+            ("let go", self.let_go),
+            ("waiting", self.waiting),
+        ]
+    }
 }
 
 /// How it is with a place for a client.

@@ -104,8 +104,8 @@ fn command_in(apdu: &Apdu) -> Option<Command> {
     }
 }
 
-/// The command for a control that an ASDU spells, in whichever direction it goes: a single command, a double command or a
-/// set point.
+/// The command for a control that an ASDU spells, in whichever direction it goes: a single command, a double command or
+/// a set point.
 pub fn control_command(asdu: &[u8]) -> Option<Command> {
     match read_command(asdu) {
         Ok(command) if is_for_control(&command.action) => Some(command),
@@ -133,7 +133,7 @@ pub struct Call<'a> {
     /// What it was answered with.
     pub reply: &'a Result<Reply, StepFault>,
     /// What it did to orders besides.
-    pub orders: Orders,
+    pub orders: &'a Orders,
 }
 
 /// Pumps for a client that were made one after another, at one moment.
@@ -162,13 +162,24 @@ pub fn make_call<L: Ledger, R: Wait, G: Gate>(
     let about = About::of(&step);
     let line = gate.line_of(&step);
     let (number, reply) = shared.step(rt, pass, step);
-    let orders = pass.orders();
+    tell(gate, number, about, line, &reply, pass.orders());
+    reply
+}
+
+/// Tells the gate of a step that was made.
+fn tell<'a, G: Gate>(
+    gate: &G,
+    number: u64,
+    about: About,
+    line: Option<Vec<u8>>,
+    reply: &'a Result<Reply, StepFault>,
+    orders: &'a Orders,
+) {
     gate.made(Call {
         number,
         about,
         line,
-        reply: &reply,
+        reply,
         orders,
     });
-    reply
 }

@@ -59,7 +59,8 @@ const APDUS: &[u8] = &[
 /// The lines of the replies to the pumps that gave them.
 const APDU_LINES: &str = "apdu 68 04 0B 00 00 00\napdu 68 05 00 00 00 00 64\n";
 
-/// How a run of pumps may end: how many pumps it has then, of which how many have a line, and the last line of an answer.
+/// How a run of pumps may end: how many pumps it has then, of which how many have a line, and the last line of an
+/// answer.
 const ENDS: &[(Option<Result<Reply, StepFault>>, u64, usize, &str)] = &[
     (None, 2, 2, ""),
     (Some(Ok(Reply::Nothing)), 3, 3, "nothing\n"),

@@ -1,7 +1,7 @@
 //! Tests of printed texts and worked requests.
 
 use gw_http::{Asked, MOST_FIELDS, MOST_OCTETS, Refusal, Request, answer, receive, refuse};
-use gw_status::{ClientStatus, Closes, Metrics, OutstationStatus, Page, Status};
+use gw_status::{ClientStatus, Closes, Metrics, OrderStatus, OutstationStatus, Page, Status};
 use std::alloc::{AllocError, Global};
 use std::io::{self, ErrorKind, Read};
 use std::net::{IpAddr, Ipv4Addr, SocketAddr};
@@ -23,6 +23,13 @@ fn connected(alloc: Global) -> Result<OutstationStatus, AllocError> {
         skipped: 3,
         indications: 0x0892,
         events: 45,
+        orders: OrderStatus {
+            accepted: 9,
+            done: 5,
+            failed: 2,
+            let_go: 0,
+            waiting: 2,
+        },
     })
 }
 
@@ -38,6 +45,13 @@ fn missing(alloc: Global) -> Result<OutstationStatus, AllocError> {
         skipped: 0,
         indications: 0,
         events: 0,
+        orders: OrderStatus {
+            accepted: 0,
+            done: 0,
+            failed: 0,
+            let_go: 0,
+            waiting: 0,
+        },
     })
 }
 
@@ -341,6 +355,29 @@ gateway_outstation_indication{outstation=\"0\",place=\"rtu-1:20000\",indication=
 gateway_outstation_indication{outstation=\"0\",place=\"rtu-1:20000\",indication=\"ALREADY_EXECUTING\"} 0\n\
 gateway_outstation_indication{outstation=\"0\",place=\"rtu-1:20000\",indication=\"CONFIGURATION_CORRUPT\"} 0\n";
 
+/// The figures of orders.
+const OF_ORDERS: &str = "\
+# HELP gateway_outstation_orders_total Commands accepted as orders for the outstation.\n\
+# TYPE gateway_outstation_orders_total counter\n\
+gateway_outstation_orders_total{outstation=\"0\",place=\"rtu-1:20000\"} 9\n\
+gateway_outstation_orders_total{outstation=\"1\",place=\"a\\\"b\\\\c\\n<&'>\\\\t:1\"} 0\n\
+# HELP gateway_outstation_done_orders_total Orders that the outstation did.\n\
+# TYPE gateway_outstation_done_orders_total counter\n\
+gateway_outstation_done_orders_total{outstation=\"0\",place=\"rtu-1:20000\"} 5\n\
+gateway_outstation_done_orders_total{outstation=\"1\",place=\"a\\\"b\\\\c\\n<&'>\\\\t:1\"} 0\n\
+# HELP gateway_outstation_failed_orders_total Orders that failed.\n\
+# TYPE gateway_outstation_failed_orders_total counter\n\
+gateway_outstation_failed_orders_total{outstation=\"0\",place=\"rtu-1:20000\"} 2\n\
+gateway_outstation_failed_orders_total{outstation=\"1\",place=\"a\\\"b\\\\c\\n<&'>\\\\t:1\"} 0\n\
+# HELP gateway_outstation_let_go_orders_total Orders whose client's session ended before they were given.\n\
+# TYPE gateway_outstation_let_go_orders_total counter\n\
+gateway_outstation_let_go_orders_total{outstation=\"0\",place=\"rtu-1:20000\"} 0\n\
+gateway_outstation_let_go_orders_total{outstation=\"1\",place=\"a\\\"b\\\\c\\n<&'>\\\\t:1\"} 0\n\
+# HELP gateway_outstation_waiting_orders Orders that wait for the outstation, or for its answer.\n\
+# TYPE gateway_outstation_waiting_orders gauge\n\
+gateway_outstation_waiting_orders{outstation=\"0\",place=\"rtu-1:20000\"} 2\n\
+gateway_outstation_waiting_orders{outstation=\"1\",place=\"a\\\"b\\\\c\\n<&'>\\\\t:1\"} 0\n";
+
 /// The figures of the clients.
 const OF_CLIENTS: &str = "\
 # HELP gateway_client_connected Whether a client is connected at this place.\n\
@@ -389,7 +426,7 @@ fn metrics(rt: HostRuntime) -> Result<(), Fail> {
     let status = status(rt.alloc())?;
     let text = format!(in rt.alloc(); "{}", Metrics(&status))?;
     let wanted = format!(in rt.alloc();
-        "{OF_GATEWAY}{OF_OUTSTATIONS}{OF_INDICATIONS}{OF_CLIENTS}"
+        "{OF_GATEWAY}{OF_OUTSTATIONS}{OF_INDICATIONS}{OF_ORDERS}{OF_CLIENTS}"
     )?;
     assert_eq!(rt; text.as_str(), wanted.as_str());
     Ok(())
@@ -416,10 +453,10 @@ const PAGE_TOP: &str = "\
 <p>Version 1.2.3, 123456 steps of the core, 789 spontaneous observations.</p>\n\
 <h2>Outstations</h2>\n\
 <table>\n\
-<thead><tr><th>Outstation</th><th>State</th><th>Last answer</th><th>Indications</th><th class=number>Events</th><th class=number>Requests</th><th class=number>Unanswered</th><th class=number>Refused fragments</th><th class=number>Skipped octets</th></tr></thead>\n\
+<thead><tr><th>Outstation</th><th>State</th><th>Last answer</th><th>Indications</th><th class=number>Events</th><th class=number>Requests</th><th class=number>Unanswered</th><th class=number>Refused fragments</th><th class=number>Skipped octets</th><th>Orders</th></tr></thead>\n\
 <tbody>\n\
-<tr><th scope=row><i>0</i> rtu-1:20000</th><td data-column=State>connected <small>for 3 h 20 min</small> <small>since 2023-11-14T18:53:20Z</small></td><td data-column=\"Last answer\">12 s ago <small>2023-11-14T22:13:07Z</small></td><td data-column=Indications><strong>TROUBLE:</strong> CLASS_1, NEED_TIME, RESTART, OVERFLOW <small>0x0892</small></td><td class=number data-column=\"Events\">45</td><td class=number data-column=\"Requests\">1200</td><td class=number data-column=\"Unanswered\">1</td><td class=number data-column=\"Refused fragments\">2</td><td class=number data-column=\"Skipped octets\">3</td></tr>\n\
-<tr><th scope=row><i>1</i> a&quot;b\\c\\n&lt;&amp;&#39;&gt;\\t:1</th><td data-column=State><strong>NOT CONNECTED</strong></td><td data-column=\"Last answer\">never</td><td data-column=Indications>none</td><td class=number data-column=\"Events\">0</td><td class=number data-column=\"Requests\">0</td><td class=number data-column=\"Unanswered\">0</td><td class=number data-column=\"Refused fragments\">0</td><td class=number data-column=\"Skipped octets\">0</td></tr>\n\
+<tr><th scope=row><i>0</i> rtu-1:20000</th><td data-column=State>connected <small>for 3 h 20 min</small> <small>since 2023-11-14T18:53:20Z</small></td><td data-column=\"Last answer\">12 s ago <small>2023-11-14T22:13:07Z</small></td><td data-column=Indications><strong>TROUBLE:</strong> CLASS_1, NEED_TIME, RESTART, OVERFLOW <small>0x0892</small></td><td class=number data-column=\"Events\">45</td><td class=number data-column=\"Requests\">1200</td><td class=number data-column=\"Unanswered\">1</td><td class=number data-column=\"Refused fragments\">2</td><td class=number data-column=\"Skipped octets\">3</td><td data-column=Orders>5 done, 2 failed, 2 waiting</td></tr>\n\
+<tr><th scope=row><i>1</i> a&quot;b\\c\\n&lt;&amp;&#39;&gt;\\t:1</th><td data-column=State><strong>NOT CONNECTED</strong></td><td data-column=\"Last answer\">never</td><td data-column=Indications>none</td><td class=number data-column=\"Events\">0</td><td class=number data-column=\"Requests\">0</td><td class=number data-column=\"Unanswered\">0</td><td class=number data-column=\"Refused fragments\">0</td><td class=number data-column=\"Skipped octets\">0</td><td data-column=Orders>none</td></tr>\n\
 </tbody>\n\
 </table>\n";
 

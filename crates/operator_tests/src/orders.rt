@@ -1,0 +1,181 @@
+//! Tests of what calls on a shared core tell of the orders that end without an answer, and of how orders are counted.
+ghost use Rattle.std.specs.Prelude.{◌≡◌};
+
+use gw_map::Settings;
+use gw_replay::{Instruction, read_instruction};
+use gw_shared::{Fate, Hub, Pass, Routes, Settled, Shared, Step};
+use std::marker::Brand;
+use std::process::Abort;
+use std::sync::Wait;
+use std::sync::ledger::{Blank, Ledger};
+
+/// Two outstations with a control each.
+const SETTINGS: &str = "\
+[station]\ncommon_address = 1\n\
+[[outstation]]\naddress = 1\n\
+[[outstation]]\naddress = 2\n\
+[[control]]\noutstation = 0\nshow = \"single\"\nindex = 3\naddress = 5001\n\
+[[control]]\noutstation = 1\nshow = \"single\"\nindex = 3\naddress = 5101\n";
+
+/// A client has commanded the first outstation twice, and the second one once. The first of these orders is given.
+const BEGINNING: &[&str] = &[
+    "up 0 0",
+    "up 1 0",
+    "open 0 0",
+    "frame 0 0 68 04 07 00 00 00",
+    "pump 0 0",
+    "frame 0 0 68 0E 00 00 00 00 2D 01 06 00 01 00 89 13 00 01",
+    "frame 0 0 68 0E 02 00 00 00 2D 01 06 00 01 00 89 13 00 00",
+    "frame 0 0 68 0E 04 00 00 00 2D 01 06 00 01 00 ED 13 00 01",
+    "poll 0 0 0",
+];
+
+/// The outstation answers that it did the first order.
+const DONE: &str = "frag 0 1 C0 81 00 00 0C 01 28 01 00 03 00 03 01 00 00 00 00 00 00 00 00 00";
+
+/// The first order, whose outstation was lost.
+const FIRST_LOST: Settled = Settled {
+    order: 1,
+    outstation: 0,
+    fate: Fate::Lost,
+};
+
+const FIRST_UNANSWERED: Settled = Settled {
+    fate: Fate::Unanswered,
+    ..FIRST_LOST
+};
+
+const SECOND_LOST: Settled = Settled {
+    order: 2,
+    ..FIRST_LOST
+};
+
+const SECOND_LET_GO: Settled = Settled {
+    fate: Fate::LetGo,
+    ..SECOND_LOST
+};
+
+const THIRD_LOST: Settled = Settled {
+    order: 3,
+    outstation: 1,
+    fate: Fate::Lost,
+};
+
+const THIRD_LET_GO: Settled = Settled {
+    fate: Fate::LetGo,
+    ..THIRD_LOST
+};
+
+/// What happens then; the orders that end by that without an answer; and how many of the two orders for the first
+/// outstation were done, failed, were let go, and wait still.
+#[derive(Clone, Copy)]
+struct Course {
+    lines: &'static [&'static str],
+    settled: &'static [Settled],
+    counts: [u64; 4],
+}
+
+/// Losses, the ways in which a session ends, and an answer that doesn't come.
+const COURSES: &[Course] = &[
+    Course {
+        lines: &["down 1 1"],
+        settled: &[THIRD_LOST],
+        counts: [0, 0, 0, 2],
+    },
+    Course {
+        lines: &["down 0 1"],
+        settled: &[FIRST_LOST, SECOND_LOST],
+        counts: [0, 2, 0, 0],
+    },
+    // STOPDT act.
+    Course {
+        lines: &["frame 0 1 68 04 13 00 00 00", DONE, "close 0 2"],
+        settled: &[SECOND_LET_GO, THIRD_LET_GO],
+        counts: [1, 0, 1, 0],
+    },
+    Course {
+        lines: &["close 0 1", "down 0 2"],
+        settled: &[SECOND_LET_GO, THIRD_LET_GO, FIRST_LOST],
+        counts: [0, 1, 1, 0],
+    },
+    // An N(R) that nothing was sent with.
+    Course {
+        lines: &["frame 0 1 68 04 01 00 FE FF", DONE],
+        settled: &[SECOND_LET_GO, THIRD_LET_GO],
+        counts: [1, 0, 1, 0],
+    },
+    // The answer to the first command isn't acknowledged before t1 expires.
+    Course {
+        lines: &["tick 5000", "pump 0 5000", "tick 20000"],
+        settled: &[FIRST_UNANSWERED, SECOND_LET_GO, THIRD_LET_GO],
+        counts: [0, 1, 1, 0],
+    },
+];
+
+#[test]
+fn orders(rt: HostRuntime) {
+    for course in COURSES {
+        let settings = Settings::read(rt.alloc(), SETTINGS).expect(&rt, "settings");
+        let routes = Routes::of(rt.alloc(), settings.controls()).expect(&rt, "routes");
+        let hub = Hub::new(rt.alloc(), settings).expect(&rt, "a hub");
+        run::<Brand, _>(&rt, Blank::new(1), hub, routes, course);
+    }
+}
+
+/// Goes through a course on a core of its own.
+fn run<L: Ledger, R: Wait + Abort + AllocGlobal>(
+    rt: &R,
+    blank: Blank,
+    hub: Hub,
+    routes: Routes,
+    course: &Course,
+)
+    requires name { blank.name ≡ L.name }
+    requires parts { (blank.parts ≡ L.parts) × (blank.parts ≡ 1) }
+{
+    let (mut shared, mut passes) = Shared::<L>::new(rt.alloc(), blank, hub, 1, 8).expect(
+        rt,
+        "a shared core",
+    );
+    shared.follow(routes);
+    let mut pass = passes.pop().expect(rt, "a pass");
+    let mut ended = Vec::new(rt.alloc());
+    for lines in [BEGINNING, course.lines] {
+        for line in lines {
+            make(rt, &shared, &mut pass, line, &mut ended);
+        }
+    }
+    assert_eq!(rt; ended.as_slice(), course.settled);
+    check_counts(rt, &shared, course);
+}
+
+/// Makes the step of a line, and adds the orders that ended by it without an answer.
+fn make<L: Ledger, R: Wait + Abort + AllocGlobal>(
+    rt: &R,
+    shared: &Shared<L>,
+    pass: &mut Pass<L>,
+    line: &str,
+    ended: &mut Vec<Settled>,
+) {
+    let (_, reply) = shared.step(rt, pass, step_of(rt, line));
+    assert!(rt; reply.is_ok(), "{line}");
+    ended
+        .extend_from_slice(pass.orders().settled())
+        .expect(rt, "memory");
+}
+
+/// The step of a line.
+fn step_of<R: Abort + AllocGlobal>(rt: &R, line: &str) -> Step {
+    match read_instruction(rt.alloc(), line.as_bytes()) {
+        Ok(Some(Instruction::Make(step))) => step,
+        _ => rt.panic("a line is no step"),
+    }
+}
+
+/// The two orders for the first outstation are counted so.
+fn check_counts<L: Ledger, R: Wait + Abort>(rt: &R, shared: &Shared<L>, course: &Course) {
+    let orders = shared.figures(rt).orders[0];
+    let counts = [orders.done, orders.failed, orders.let_go, orders.waiting()];
+    assert_eq!(rt; orders.accepted, 2);
+    assert_eq!(rt; counts, course.counts);
+}
