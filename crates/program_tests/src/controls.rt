@@ -76,7 +76,10 @@ fn copies_keep_orders(rt: HostRuntime) -> Result<(), Fail> {
         hub,
     ];
     for mut copy in copies {
-        assert_eq!(rt; replies_of(&rt, &mut copy, NEXT)?.as_slice(), REPLIES.as_bytes());
+        assert_eq!(rt;
+            replies_of(&rt, &mut copy, NEXT)?.as_slice(),
+            REPLIES.as_bytes()
+        );
     }
     Ok(())
 }
