@@ -1,6 +1,6 @@
 //! APDUs written into octets, and read back from these in pieces.
 ghost use Rattle.std.specs.Prelude.{◌≤◌};
-ghost use Rattle.iec_apci.specs.Content.{IsNumbered};
+ghost use Rattle.iec_apci.specs.ApduContent.{IsNumbered};
 
 use gw_model::Memory;
 use iec_apci::{Apdu, ApduFeed, Asdu, write_apdu};

@@ -1,6 +1,6 @@
 //! What a stream of octets shows, counted.
 ghost use Rattle.std.specs.Prelude.{◌≡◌, ◌+◌, ◌∷◌, [], None, IfOk, IfSome, OnOk};
-ghost use Rattle.dnp_link.specs.Content.{event_content};
+ghost use Rattle.dnp_link.specs.FrameContent.{event_content};
 ghost use Rattle.dnp_link.specs.Stream.{reading};
 ghost use Rattle.bench_link.specs.Counts.{counts_of};
 ghost use Rattle.bench_link.specs.Meter.{Meters};

@@ -18,7 +18,7 @@ use Rattle.dnp_app.specs.declared.echoed.Echo.{Echo}
 use Rattle.dnp_app.specs.declared.operation.Operation.{Operation}
 use Rattle.dnp_app.specs.declared.operation.Operation.TheVariants.{Select, Operate, DirectOperate}
 use Rattle.dnp_app.specs.declared.request.Request.{Request}
-use Rattle.dnp_app.specs.declared.response.Control.{Control}
+use Rattle.dnp_app.specs.declared.response.ApplicationControl.{ApplicationControl}
 use Rattle.dnp_app.specs.Asking.{Asking, asking_of}
 use Rattle.dnp_app.specs.Control.{control_of}
 use Rattle.dnp_app.specs.Echo.{body_of, command_in, echo_taken, is_same_echo, is_taken}
@@ -75,7 +75,7 @@ object-again index act small fits =
     found_with (number (to_le_bytes w16 index)) index
     (act_in (group_of act) (variation_of act) (command_object act)) act (number-two index small) (act-again act fits)
 
-whole : (octet function : ℕ) (control : Control) (operation : Operation) (index : ℕ) (act : Act)
+whole : (octet function : ℕ) (control : ApplicationControl) (operation : Operation) (index : ℕ) (act : Act)
     (found : Option (ℕ × Act)) → control_of octet ≡ control → operation_of function ≡ Some operation
     → found ≡ Some (index, act)
     → (operation_of function >>= λ o. option_map (λ (x : ℕ × Act). operating (control_of octet) o x.0 x.1) found)

@@ -4,7 +4,7 @@ use Rattle.std.specs.Prelude.{replicate}
 use Rattle.std.proofs.lemmas.List.{drop-replicate}
 use Rattle.std.proofs.lemmas.Nat.{mod-pow-add}
 use Rattle.dnp_objects.specs.Headers.{number}
-use Rattle.dnp_app.specs.declared.response.Control.{Control}
+use Rattle.dnp_app.specs.declared.response.ApplicationControl.{ApplicationControl}
 use Rattle.dnp_app.specs.Control.{control_of}
 use Rattle.dnp_app.specs.Requests.{octets_of, request, time_octets, write_time_octets}
 use Rattle.dnp_app.specs.Asking.{Asking, Asks, asking_of, asks_for, WriteTime}
@@ -29,10 +29,10 @@ number-time_octets time =
     (time % 281474976710656) (mod-pow-add time 8 8) (mod-pow-add time 8 16) (mod-pow-add time 8 24)
     (mod-pow-add time 8 32) (mod-pow-add time 8 40)
 
-abbrev asking_with : Control → Asks → Option Asking
+abbrev asking_with : ApplicationControl → Asks → Option Asking
 asking_with control asks = Some (record { control = control; asks = asks })
 
-asking_is : (read written : Control) (asked asks : Asks) → read ≡ written → asked ≡ asks
+asking_is : (read written : ApplicationControl) (asked asks : Asks) → read ≡ written → asked ≡ asks
     → asking_with read asked ≡ asking_with written asks
 asking_is read written asked asks e f = rw (e, f) refl
 

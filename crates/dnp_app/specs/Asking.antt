@@ -2,7 +2,7 @@
 -- writes one.
 use Rattle.std.specs.Prelude.{ℕ, ◌-◌, ◌%◌, Bool, true, false, ◌&&◌, ◌==◌, nat_le, List, [], ◌∷◌, length, Option, Some, None, option_map, if◌then◌else◌}
 use Rattle.dnp_objects.specs.Headers.{number}
-use Rattle.dnp_app.specs.declared.response.Control.{Control}
+use Rattle.dnp_app.specs.declared.response.ApplicationControl.{ApplicationControl}
 use Rattle.dnp_app.specs.Control.{control_of}
 
 pub data Asks : Type 0 where
@@ -20,7 +20,7 @@ pub data Asks : Type 0 where
 
 -- with its application control
 pub record Asking : Type 0 where
-  pub control : Control
+  pub control : ApplicationControl
   pub asks : Asks
 
 -- ---- classes

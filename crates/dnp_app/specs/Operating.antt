@@ -7,14 +7,14 @@ use Rattle.gw_model.specs.declared.control.Act.{Act}
 use Rattle.gw_model.specs.declared.control.Act.TheVariants.{Switch, Set}
 use Rattle.gw_model.specs.declared.control.Intent.{Intent}
 use Rattle.dnp_objects.specs.Headers.{number}
-use Rattle.dnp_app.specs.declared.response.Control.{Control}
+use Rattle.dnp_app.specs.declared.response.ApplicationControl.{ApplicationControl}
 use Rattle.dnp_app.specs.declared.operation.Operation.{Operation}
 use Rattle.dnp_app.specs.declared.operation.Operation.TheVariants.{Select, Operate, DirectOperate}
 use Rattle.dnp_app.specs.Control.{control_of}
 
 -- an act on the output of an index, by which function, with the application control
 pub record Operating : Type 0 where
-  pub control : Control
+  pub control : ApplicationControl
   pub operation : Operation
   pub index : ℕ
   pub act : Act
@@ -73,7 +73,7 @@ operation_of function =
     else if function == 5 then Some DirectOperate
     else None
 
-abbrev pub operating : Control → Operation → ℕ → Act → Operating
+abbrev pub operating : ApplicationControl → Operation → ℕ → Act → Operating
 operating control operation index act =
     record { control = control; operation = operation; index = index; act = act }
 
@@ -86,7 +86,7 @@ operating_of _ = None
 -- a request of one fragment that asks for no confirmation
 abbrev pub operates_for : ℕ → Operation → ℕ → Act → Option Operating
 operates_for sequence operation index act =
-    let control : Control = record { fir = true; fin = true; con = false; uns = false; sequence = sequence } in
+    let control : ApplicationControl = record { fir = true; fin = true; con = false; uns = false; sequence = sequence } in
     Some (operating control operation index act)
 
 -- what a request, given for an outstation, operates there

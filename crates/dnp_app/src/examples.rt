@@ -1,7 +1,7 @@
 //! Worked examples of the definitions, computed by the definitions themselves.
 ghost use Rattle.std.specs.Prelude.{◌≡◌, ℕ, pos, negsuc, [], ◌∷◌, Ok, Err, Some, None, true, false};
 ghost use Rattle.dnp_objects.specs.Headers.{number};
-ghost use Rattle.dnp_objects.specs.declared.fault.Why.TheVariants.{UnknownObject, ShortData};
+ghost use Rattle.dnp_objects.specs.declared.fault.HeaderFault.TheVariants.{UnknownObject, ShortData};
 ghost use Rattle.dnp_points.specs.Objects.{binary_report};
 ghost use Rattle.dnp_app.specs.declared.fault.AppFault.TheVariants.{Short, NotResponse, Object};
 ghost use Rattle.dnp_app.specs.Control.{control_of, confirmation_of, confirm_of};

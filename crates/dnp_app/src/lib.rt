@@ -22,4 +22,4 @@ pub use fault::AppFault;
 pub use law::{controls_apart, one_echo, taken_as_sent};
 pub use operation::{Operation, control_request};
 pub use request::{Request, clear_restart, disable, enable, read_poll, record_time, write_time};
-pub use response::{Control, Response, read_response};
+pub use response::{ApplicationControl, Response, read_response};

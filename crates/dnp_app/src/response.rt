@@ -8,7 +8,7 @@ use crate::confirmation::confirm;
 use crate::echoed::{Echo, only_echo};
 use crate::fault::AppFault;
 use crate::skipped::count_stepped_over;
-use dnp_objects::{Why, headers};
+use dnp_objects::{HeaderFault, headers};
 use dnp_points::reports;
 use gw_model::Report;
 use std::alloc::Global;
@@ -16,7 +16,7 @@ use std::marker::Model;
 
 /// The application control octet of a fragment (IEEE Std 1815, 4.2.2.4).
 #[derive(Clone, Copy, Debug, PartialEq, Eq)]
-pub struct Control {
+pub struct ApplicationControl {
     /// The first fragment of a message.
     pub fir: bool,
     /// The last fragment of a message.
@@ -100,12 +100,12 @@ impl Response {
     }
 
     /// The application control octet.
-    pub fn control(&self) -> Control
+    pub fn control(&self) -> ApplicationControl
         ensures control { result ≡ control_of (slice_index self.now.octets 0) }
         ensures sequence { result.sequence < 16 }
     {
         let octet = self.octets[0];
-        Control {
+        ApplicationControl {
             fir: octet >= 0x80,
             fin: octet / 64 % 2 == 1,
             con: octet / 32 % 2 == 1,
@@ -176,7 +176,7 @@ fn read(alloc: Global, outstation: u8, octets: Vec<u8>) -> Result<Response, AppF
     let part = &octets[4..];
     let headers = match headers(alloc, part) {
         Ok(headers) => headers,
-        Err(fault) if fault.why == Why::Memory => return Err(AppFault::Memory),
+        Err(fault) if fault.why == HeaderFault::Memory => return Err(AppFault::Memory),
         Err(fault) => return Err(AppFault::Object(fault)),
     };
     let Ok(reports) = reports(alloc, outstation, &headers, part) else {

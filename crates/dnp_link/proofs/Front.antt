@@ -1,9 +1,9 @@
 -- What the front of octets shows: how much it takes, and that octets behind it change nothing.
 use Rattle.std.proofs.Common.{◌≡◌, ℕ, zero, suc, ◌+◌, ◌-◌, ◌*◌, ◌≤◌, ◌<◌, min, Bool, true, false, not, ◌||◌, List, [], ◌∷◌, ◌++◌, length, take, drop, Option, Some, None, refl, ap, arith, length-append, nat_lt, slice_index, if◌then◌else◌, IfSome, subst, ltb-false, le-ltb, eqb}
 use Rattle.std.proofs.lemmas.List.{length-take, length-drop, take-append-le, drop-append-le, get_or_append_left}
-use Rattle.dnp_link.specs.Frame.{Content, block_count, frame_length, is_sealed, are_sealed, user_data_in_blocks}
+use Rattle.dnp_link.specs.Frame.{FrameContent, block_count, frame_length, is_sealed, are_sealed, user_data_in_blocks}
 use Rattle.dnp_link.specs.Stream.{Event, Framed, Dropped, octets_used_by, is_bad_start, user_length, content_at, event_at_front}
-use Rattle.dnp_link.specs.declared.event.Why.TheVariants.{BadStart, BadLength, BadHeaderCrc, BadBlockCrc}
+use Rattle.dnp_link.specs.declared.event.SkipReason.TheVariants.{BadStart, BadLength, BadHeaderCrc, BadBlockCrc}
 
 -- n blocks of u octets of user data carry u octets
 pub length-user_data_in_blocks : (n u : ℕ) (octets : List ℕ) → n ≡ block_count u → u + 2 * n ≤ length octets
@@ -59,7 +59,7 @@ some_none : {e : Event} → ◌≡◌ {A = Option Event} (Some e) None → ⊥
 some_none h = cc
 
 -- the order of the tests
-abbrev pub chain : (bad short3 low short10 wrong short broken : Bool) → Content → Option Event
+abbrev pub chain : (bad short3 low short10 wrong short broken : Bool) → FrameContent → Option Event
 chain bad short3 low short10 wrong short broken c =
     if bad then Some (Dropped BadStart)
     else if short3 then None
@@ -80,13 +80,13 @@ record Same10 (wrong wrong' short10' : Bool) : Type 0 where
   pub long : short10' ≡ false
   pub wrong_same : wrong' ≡ wrong
 
-record SameFrame (broken broken' short' : Bool) (c c' : Content) : Type 0 where
+record SameFrame (broken broken' short' : Bool) (c c' : FrameContent) : Type 0 where
   pub long : short' ≡ false
   pub broken_same : broken' ≡ broken
   pub content_same : c' ≡ c
 
-chain-append : (bad short3 low short10 wrong short broken : Bool) (c : Content)
-    (bad' short3' low' short10' wrong' short' broken' : Bool) (c' : Content) (e : Event)
+chain-append : (bad short3 low short10 wrong short broken : Bool) (c : FrameContent)
+    (bad' short3' low' short10' wrong' short' broken' : Bool) (c' : FrameContent) (e : Event)
     → (bad ≡ true → bad' ≡ true)
     → (short3 ≡ false → Same3 bad short3 low bad' short3' low')
     → (short10 ≡ false → Same10 wrong wrong' short10')
@@ -125,7 +125,7 @@ chain-append false false false false false false false c bad' short3' low' short
     rw (s.bad_same, s.long, s.low_same, t.long, t.wrong_same, u.long, u.broken_same, u.content_same) h
 
 -- an event uses up octets that are there
-chain_taken : (bad short3 low short10 wrong short broken : Bool) (c : Content) (n : ℕ) (e : Event)
+chain_taken : (bad short3 low short10 wrong short broken : Bool) (c : FrameContent) (n : ℕ) (e : Event)
     → (bad ≡ true → 0 < n)
     → (short3 ≡ false → 0 < n)
     → (short10 ≡ false → short ≡ false → octets_used_by (Framed c) ≤ n)

@@ -3,9 +3,9 @@ use Rattle.std.proofs.Common.{◌≡◌, ℕ, zero, suc, ◌+◌, ◌-◌, ◌*�
 use Rattle.std.proofs.lemmas.List.{take-take, length-take-le, length-take, length-drop, take_at, drop_at, get_or-take, get_or-drop, take_all, take-append-drop, nil_from_length, drop_more, drop_all, append-nil, get_or_past}
 use Rattle.std.proofs.lemmas.Bool.{cases_lt, eqb-true}
 use Rattle.std.proofs.Math.Seq.{take-add}
-use Rattle.dnp_link.specs.declared.event.Why.{Why}
+use Rattle.dnp_link.specs.declared.event.SkipReason.{SkipReason}
 use Rattle.dnp_link.specs.Crc.{crc_of}
-use Rattle.dnp_link.specs.Frame.{Content, block_count, header, octets_with_crc, blocks, frame, frame_length, is_sealed, are_sealed, user_data_in_blocks}
+use Rattle.dnp_link.specs.Frame.{FrameContent, block_count, header, octets_with_crc, blocks, frame, frame_length, is_sealed, are_sealed, user_data_in_blocks}
 use Rattle.dnp_link.specs.Stream.{Event, Framed, Dropped, is_bad_start, user_length, content_at, event_at_front}
 use Rattle.gw_model.specs.Octets.{AreOctets}
 use Rattle.dnp_link.specs.Laws.{BeginsWith}
@@ -123,7 +123,7 @@ header_is (a0 ∷ a1 ∷ a2 ∷ a3 ∷ a4 ∷ a5 ∷ a6 ∷ a7 ∷ rest) l o b f
     let seven : (a6 + 256 * a7) / 256 ≡ a7 = omega arith in
     rw (told, four, five, six, seven, first, second) refl
 
-record Passed (bad short3 low short10 wrong short broken : Bool) (c c' : Content) : Type 0 where
+record Passed (bad short3 low short10 wrong short broken : Bool) (c c' : FrameContent) : Type 0 where
   pub start : bad ≡ false
   pub length : low ≡ false
   pub header : short10 ≡ false
@@ -132,16 +132,16 @@ record Passed (bad short3 low short10 wrong short broken : Bool) (c c' : Content
   pub blocks_right : broken ≡ false
   pub same : c ≡ c'
 
-dropped : (why : Why) (c : Content) → ◌≡◌ {A = Option Event} (Some (Dropped why)) (Some (Framed c)) → ⊥
+dropped : (why : SkipReason) (c : FrameContent) → ◌≡◌ {A = Option Event} (Some (Dropped why)) (Some (Framed c)) → ⊥
 dropped why c h = cc
 
-nothing : (c : Content) → ◌≡◌ {A = Option Event} None (Some (Framed c)) → ⊥
+nothing : (c : FrameContent) → ◌≡◌ {A = Option Event} None (Some (Framed c)) → ⊥
 nothing c h = cc
 
-same_content : (c c' : Content) → ◌≡◌ {A = Option Event} (Some (Framed c)) (Some (Framed c')) → c ≡ c'
+same_content : (c c' : FrameContent) → ◌≡◌ {A = Option Event} (Some (Framed c)) (Some (Framed c')) → c ≡ c'
 same_content c c' h = cc
 
-passed : (bad short3 low short10 wrong short broken : Bool) (c c' : Content)
+passed : (bad short3 low short10 wrong short broken : Bool) (c c' : FrameContent)
     → chain bad short3 low short10 wrong short broken c ≡ Some (Framed c')
     → Passed bad short3 low short10 wrong short broken c c'
 passed true short3 low short10 wrong short broken c c' h = absurd (dropped _ c' h)
@@ -191,7 +191,7 @@ begins_here octets o start five ten right whole blocks_right =
     )
 
 -- what octets show as a frame, they begin with
-pub begins : (octets : List ℕ) (c : Content) → AreOctets octets → event_at_front octets ≡ Some (Framed c)
+pub begins : (octets : List ℕ) (c : FrameContent) → AreOctets octets → event_at_front octets ≡ Some (Framed c)
     → BeginsWith octets c
 unfolding event_at_front
 begins octets c o h =
@@ -204,5 +204,5 @@ begins octets c o h =
     (ltb-false (length octets) (frame_length u) p.whole) (not_false _ p.blocks_right))
 
 -- and the other way round
-pub begins_shows : (octets : List ℕ) (c : Content) → BeginsWith octets c → event_at_front octets ≡ Some (Framed c)
+pub begins_shows : (octets : List ℕ) (c : FrameContent) → BeginsWith octets c → event_at_front octets ≡ Some (Framed c)
 begins_shows octets c b = ap event_at_front b.1.1 ∙ front_frame-append c b.1.0

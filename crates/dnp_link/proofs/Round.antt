@@ -2,7 +2,7 @@
 use Rattle.std.proofs.Common.{◌≡◌, ℕ, zero, suc, ◌+◌, ◌-◌, ◌*◌, ◌/◌, ◌%◌, min, Bool, true, false, not, List, [], ◌∷◌, ◌++◌, length, get_or, take, drop, Some, refl, sym, ◌∙◌, ap, arith, append_assoc, length-append, nat_lt, le-ltb, eq-eqb}
 use Rattle.std.proofs.lemmas.List.{length-take, length-drop, take_at, drop_at, get_or_at, get_or-append-add, take-append-drop, nil_from_length}
 use Rattle.dnp_link.specs.Crc.{crc_of}
-use Rattle.dnp_link.specs.Frame.{Content, block_count, header, octets_with_crc, blocks, frame, frame_length, is_sealed, are_sealed, user_data_in_blocks}
+use Rattle.dnp_link.specs.Frame.{FrameContent, block_count, header, octets_with_crc, blocks, frame, frame_length, is_sealed, are_sealed, user_data_in_blocks}
 use Rattle.dnp_link.specs.Stream.{Framed, octets_used_by, content_at, event_at_front, reading_with_first, reading}
 use Rattle.dnp_link.proofs.Blocks.{length-octets_with_crc}
 use Rattle.dnp_link.proofs.Front.{chain, front-append}
@@ -70,7 +70,7 @@ length-blocks (suc n) user e =
       rest,
     )
 
-pub length-frame : (c : Content) → length (frame c) ≡ frame_length (length c.user)
+pub length-frame : (c : FrameContent) → length (frame c) ≡ frame_length (length c.user)
 unfolding frame
 length-frame c = omega (
   arith,
@@ -79,14 +79,14 @@ length-frame c = omega (
   length-blocks (block_count (length c.user)) c.user refl,
 )
 
-chain_frame : (bad short3 low short10 wrong short broken : Bool) (c c' : Content) → bad ≡ false → short3 ≡ false
+chain_frame : (bad short3 low short10 wrong short broken : Bool) (c c' : FrameContent) → bad ≡ false → short3 ≡ false
     → low ≡ false → short10 ≡ false → wrong ≡ false → short ≡ false → broken ≡ false → c ≡ c'
     → chain bad short3 low short10 wrong short broken c ≡ Some (Framed c')
 chain_frame bad short3 low short10 wrong short broken c c' h1 h2 h3 h4 h5 h6 h7 h8 =
     rw (h1, h2, h3, h4, h5, h6, h7, h8) refl
 
 -- the front of a frame shows it
-pub front_frame : (c : Content) → event_at_front (frame c) ≡ Some (Framed c)
+pub front_frame : (c : FrameContent) → event_at_front (frame c) ≡ Some (Framed c)
 unfolding event_at_front frame octets_with_crc
 front_frame c =
     let n = length c.user in
@@ -109,11 +109,11 @@ front_frame c =
     (rw (told, destination, source, user_data_in_blocks-blocks (block_count n) c.user refl) refl)
 
 -- whatever follows it
-pub front_frame-append : (c : Content) (behind : List ℕ) → event_at_front (frame c ++ behind) ≡ Some (Framed c)
+pub front_frame-append : (c : FrameContent) (behind : List ℕ) → event_at_front (frame c ++ behind) ≡ Some (Framed c)
 front_frame-append c behind = front-append (frame c) behind (Framed c) (front_frame c)
 
 -- a frame is read first, and then what follows it
-pub reading-frame : (c : Content) (behind : List ℕ)
+pub reading-frame : (c : FrameContent) (behind : List ℕ)
     → reading (frame c ++ behind) ≡ reading_with_first (Framed c) (reading behind)
 reading-frame c behind =
     reading_event (frame c ++ behind) (Framed c) (front_frame-append c behind)

@@ -3,14 +3,14 @@ use Rattle.std.specs.Prelude.{ℕ, zero, suc, ◌+◌, ◌-◌, ◌*◌, ◌/◌
 use Rattle.dnp_link.specs.Crc.{crc_of}
 
 -- what a frame carries
-pub record Content : Type 0 where
+pub record FrameContent : Type 0 where
   pub control : ℕ
   pub destination : ℕ
   pub source : ℕ
   pub user : List ℕ
 
 -- what a frame with these fields carries
-abbrev pub frame_content : ℕ → ℕ → ℕ → List ℕ → Content
+abbrev pub frame_content : ℕ → ℕ → ℕ → List ℕ → FrameContent
 frame_content control destination source user =
     record { control = control; destination = destination; source = source; user = user }
 
@@ -19,7 +19,7 @@ unfoldable pub octets_with_crc : List ℕ → List ℕ
 octets_with_crc octets = octets ++ crc_of octets % 256 ∷ crc_of octets / 256 ∷ []
 
 -- START, LENGTH (the octets of control, addresses and user data), CONTROL, DESTINATION, SOURCE
-abbrev pub header : Content → List ℕ
+abbrev pub header : FrameContent → List ℕ
 header c =
     5 ∷ 100 ∷ (5 + length c.user) ∷ c.control ∷ (c.destination % 256) ∷ (c.destination / 256)
     ∷ (c.source % 256) ∷ (c.source / 256) ∷ []
@@ -34,7 +34,7 @@ blocks zero user = []
 blocks (suc n) user = octets_with_crc (take 16 user) ++ blocks n (drop 16 user)
 
 -- the frame that carries this
-unfoldable pub frame : Content → List ℕ
+unfoldable pub frame : FrameContent → List ℕ
 frame c = octets_with_crc (header c) ++ blocks (block_count (length c.user)) c.user
 
 -- the octets of a frame that carries n octets of user data

@@ -1,6 +1,6 @@
 -- What the tests of a front found.
 use Rattle.std.specs.Prelude.{◌≡◌, ℕ, ◌<◌, ◌≤◌, List, length, drop, Option, Some, None, if◌then◌else◌}
-use Rattle.dnp_link.specs.declared.event.Why.TheVariants.{BadBlockCrc}
+use Rattle.dnp_link.specs.declared.event.SkipReason.TheVariants.{BadBlockCrc}
 use Rattle.dnp_link.specs.declared.reading.Front.{Front}
 use Rattle.dnp_link.specs.declared.reading.Front.TheVariants.{Nothing, Skip, Whole}
 use Rattle.dnp_link.specs.Frame.{block_count, frame_length, are_sealed}

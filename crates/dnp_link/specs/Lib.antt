@@ -2,7 +2,7 @@ pub mod Polynomial
 pub mod Crc
 pub mod Frame
 pub mod Stream
-pub mod Content
+pub mod FrameContent
 pub mod Front
 pub mod Station
 pub mod Secondary

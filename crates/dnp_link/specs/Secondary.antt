@@ -1,6 +1,6 @@
 -- What a secondary station does with a frame (IEEE Std 1815-2012, clause 9).
 use Rattle.std.specs.Prelude.{ℕ, ◌/◌, ◌%◌, Bool, true, false, not, ◌&&◌, ◌==◌, List, [], Option, Some, None, if◌then◌else◌}
-use Rattle.dnp_link.specs.Frame.{Content, frame, frame_content}
+use Rattle.dnp_link.specs.Frame.{FrameContent, frame, frame_content}
 use Rattle.dnp_link.specs.Polynomial.{differs}
 use Rattle.dnp_link.specs.Station.{Station}
 use Rattle.dnp_link.specs.declared.secondary.Answer.{Answer}
@@ -32,11 +32,11 @@ decision expected function bit =
     else record { deliver = false; reply = Some 0x8F; expected = expected }
 
 -- the frame goes from the primary station (PRM 1, DIR 0) at the peer's address to this one
-abbrev pub is_for : Station → Content → Bool
+abbrev pub is_for : Station → FrameContent → Bool
 is_for s c = c.destination == s.own && c.source == s.peer && c.control / 64 == 1
 
 -- the decision on a frame, by its function code and its frame count bit; other frames are ignored
-abbrev pub decision_on : Station → Content → Decision
+abbrev pub decision_on : Station → FrameContent → Decision
 decision_on s c =
     if is_for s c then decision s.expected (c.control % 16) (c.control / 32 % 2 == 1)
     else record { deliver = false; reply = None; expected = s.expected }
@@ -53,9 +53,9 @@ answer_by s true (Some control) = Both (reply_frame s control)
 answer_by s false (Some control) = Reply (reply_frame s control)
 
 -- the answer to a frame
-abbrev pub answer_of : Station → Content → Answer
+abbrev pub answer_of : Station → FrameContent → Answer
 answer_of s c = answer_by s (decision_on s c).deliver (decision_on s c).reply
 
 -- the station after a frame
-abbrev pub station_after : Station → Content → Station
+abbrev pub station_after : Station → FrameContent → Station
 station_after s c = record s { expected = (decision_on s c).expected }

@@ -1,13 +1,13 @@
 -- What a stream of octets says: frames, and octets that begin none.
 use Rattle.std.specs.Prelude.{ℕ, zero, suc, ◌+◌, ◌-◌, ◌*◌, Bool, false, not, ◌||◌, ◌==◌, nat_lt, List, [], ◌∷◌, ◌++◌, length, take, drop, slice_index, Option, Some, None, if◌then◌else◌}
-use Rattle.dnp_link.specs.Frame.{Content, block_count, frame_length, is_sealed, are_sealed, user_data_in_blocks}
-use Rattle.dnp_link.specs.declared.event.Why.{Why}
-use Rattle.dnp_link.specs.declared.event.Why.TheVariants.{BadStart, BadLength, BadHeaderCrc, BadBlockCrc}
+use Rattle.dnp_link.specs.Frame.{FrameContent, block_count, frame_length, is_sealed, are_sealed, user_data_in_blocks}
+use Rattle.dnp_link.specs.declared.event.SkipReason.{SkipReason}
+use Rattle.dnp_link.specs.declared.event.SkipReason.TheVariants.{BadStart, BadLength, BadHeaderCrc, BadBlockCrc}
 
 -- a frame, or an octet that begins none, and why
 pub data Event : Type 0 where
-  Framed : Content → Event
-  Dropped : Why → Event
+  Framed : FrameContent → Event
+  Dropped : SkipReason → Event
 
 -- the octets that the event uses up
 abbrev pub octets_used_by : Event → ℕ
@@ -25,7 +25,7 @@ abbrev pub user_length : List ℕ → ℕ
 user_length octets = slice_index octets 2 - 5
 
 -- what the octets carry as a frame
-abbrev pub content_at : List ℕ → Content
+abbrev pub content_at : List ℕ → FrameContent
 content_at octets = record {
   control = slice_index octets 3;
   destination = slice_index octets 4 + 256 * slice_index octets 5;

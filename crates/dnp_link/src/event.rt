@@ -4,7 +4,7 @@ use crate::frame::Frame;
 
 /// Why no frame begins at an octet, in the order in which it is tried.
 #[derive(Clone, Copy, Debug, PartialEq, Eq)]
-pub enum Why {
+pub enum SkipReason {
     /// The start octets are not 05 64 hex.
     BadStart = 1,
     /// LENGTH is below 5.
@@ -21,5 +21,5 @@ pub enum LinkEvent {
     /// A whole frame whose CRCs are right.
     Frame(Frame),
     /// One octet was dropped: no frame begins there.
-    Skipped(Why),
+    Skipped(SkipReason),
 }

@@ -3,7 +3,7 @@ ghost use Rattle.std.specs.Prelude.{◌≡◌, true, false, [], ◌∷◌, ◌++
 ghost use Rattle.dnp_link.specs.Crc.{crc_of};
 ghost use Rattle.dnp_link.specs.Stream.{Framed, Dropped, reading};
 ghost use Rattle.dnp_link.specs.Examples.{replies_to};
-ghost use Rattle.dnp_link.specs.declared.event.Why.TheVariants.{BadStart, BadLength, BadHeaderCrc};
+ghost use Rattle.dnp_link.specs.declared.event.SkipReason.TheVariants.{BadStart, BadLength, BadHeaderCrc};
 
 /// The check value of the CRC.
 #[tactic(auto, unfolding(crate::specs::Crc::crc_of, crate::specs::Polynomial::remainder, crate::specs::Polynomial::long_division))]

@@ -1,9 +1,9 @@
 //! A stream of octets that comes in pieces.
 ghost use Rattle.std.specs.Prelude.{◌≡◌, ◌<◌, [], ◌++◌, length, drop, IsOk, OnOk, OnErr, IfNone, IfSome};
 ghost use Rattle.dnp_link.specs.Stream.{event_at_front, octets_used_if_any, reading, reading_with_front};
-ghost use Rattle.dnp_link.specs.Content.{event_content_if, HasPaddedFrame};
+ghost use Rattle.dnp_link.specs.FrameContent.{event_content_if, HasPaddedFrame};
 
-use crate::event::{LinkEvent, Why};
+use crate::event::{LinkEvent, SkipReason};
 use crate::reading::{Front, frame_at, frame_length_of, front_of};
 use gw_model::Memory;
 use gw_octets::OctetQueue;
@@ -70,7 +70,7 @@ impl LinkFeed {
             Front::Whole(len) => {
                 let Some(frame) = frame_at(self.octets.left(), len) else {
                     self.octets.use_up(1);
-                    return Some(LinkEvent::Skipped(Why::BadBlockCrc));
+                    return Some(LinkEvent::Skipped(SkipReason::BadBlockCrc));
                 };
                 self.octets.use_up(frame_length_of(usize::from(len)));
                 Some(LinkEvent::Frame(frame))

@@ -18,7 +18,7 @@ pub struct Frame {
 }
 
 impl Frame {
-    ghost use Rattle.dnp_link.specs.Content.{content};
+    ghost use Rattle.dnp_link.specs.FrameContent.{content};
 
     /// The user data: 0 to 250 octets.
     pub fn user(&self) -> &[u8]

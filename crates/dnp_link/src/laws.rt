@@ -3,10 +3,10 @@ ghost use Rattle.std.specs.Prelude.{◌≡◌, Bool, List, ℕ, [], ◌++◌, dr
 ghost use Rattle.std.specs.List.{flat_map};
 ghost use Rattle.gw_model.specs.Octets.{AreOctets};
 ghost use Rattle.dnp_link.specs.Polynomial.{IsRemainder, remainder};
-ghost use Rattle.dnp_link.specs.Frame.{Content, frame};
+ghost use Rattle.dnp_link.specs.Frame.{FrameContent, frame};
 ghost use Rattle.dnp_link.specs.Stream.{Framed, octets_used_if_any, event_at_front, reading, reading_with_front, reading_with_first, joined_readings};
 ghost use Rattle.dnp_link.specs.Laws.{BeginsWith};
-ghost use Rattle.dnp_link.specs.Content.{event_content};
+ghost use Rattle.dnp_link.specs.FrameContent.{event_content};
 
 use crate::event::LinkEvent;
 use crate::feed::LinkFeed;
@@ -34,13 +34,13 @@ pub fn cut_anywhere()
 
 /// A frame is read back as what it carries, whatever follows it.
 pub fn written_is_read()
-    ensures { (c : Content) (behind : List ℕ)
+    ensures { (c : FrameContent) (behind : List ℕ)
         → reading (frame c ++ behind) ≡ reading_with_first (Framed c) (reading behind) }
 {}
 
 /// Octets show a frame exactly where they begin with the one that carries this.
 pub fn read_was_written()
-    ensures { (octets : List ℕ) (c : Content) → AreOctets octets → (event_at_front octets ≡ Some (Framed c))
+    ensures { (octets : List ℕ) (c : FrameContent) → AreOctets octets → (event_at_front octets ≡ Some (Framed c))
         ↔ BeginsWith octets c }
 {}
 

@@ -14,7 +14,7 @@ mod table;
 mod writing;
 
 pub use checksum::crc;
-pub use event::{LinkEvent, Why};
+pub use event::{LinkEvent, SkipReason};
 pub use feed::LinkFeed;
 pub use frame::Frame;
 pub use secondary::{Answer, Secondary};

@@ -2,11 +2,11 @@
 ghost use Rattle.std.specs.Prelude.{◌≡◌, ◌+◌, ◌-◌, ◌*◌, ◌≤◌, length, drop, IsTrue, IfSome, option_map, if◌then◌else◌};
 ghost use Rattle.dnp_link.specs.Frame.{block_count, frame_length, is_sealed as is_sealed_lem, are_sealed, user_data_in_blocks};
 ghost use Rattle.dnp_link.specs.Stream.{event_at_front, content_at, user_length, is_bad_start as is_bad_start_lem};
-ghost use Rattle.dnp_link.specs.Content.{content, IsPadded};
+ghost use Rattle.dnp_link.specs.FrameContent.{content, IsPadded};
 ghost use Rattle.dnp_link.specs.Front.{event_shown_by, Tells};
 
 use crate::checksum::crc;
-use crate::event::Why;
+use crate::event::SkipReason;
 use crate::frame::Frame;
 
 /// The last two octets of a block are the CRC of the others.
@@ -91,7 +91,7 @@ pub enum Front {
     /// Nothing yet.
     Nothing,
     /// No frame begins there.
-    Skip(Why),
+    Skip(SkipReason),
     /// A right header block, and all octets of a frame with this many octets of user data.
     Whole(u8),
 }
@@ -104,19 +104,19 @@ pub fn front_of(octets: &[u8]) -> Front
     ensures tested { Tells result octets.now }
 {
     if is_bad_start(octets) {
-        return Front::Skip(Why::BadStart);
+        return Front::Skip(SkipReason::BadStart);
     }
     if octets.len() < 3 {
         return Front::Nothing;
     }
     if octets[2] < 5 {
-        return Front::Skip(Why::BadLength);
+        return Front::Skip(SkipReason::BadLength);
     }
     if octets.len() < 10 {
         return Front::Nothing;
     }
     if !is_sealed(&octets[..10]) {
-        return Front::Skip(Why::BadHeaderCrc);
+        return Front::Skip(SkipReason::BadHeaderCrc);
     }
     let len = octets[2] - 5;
     if octets.len() < frame_length_of(usize::from(len)) {

@@ -1,7 +1,7 @@
 //! The secondary station of the link: what it answers to the frames of the primary station.
 ghost use Rattle.std.specs.Prelude.{◌≡◌, [], None};
 ghost use Rattle.dnp_link.specs.Frame.{frame, frame_content};
-ghost use Rattle.dnp_link.specs.Content.{content};
+ghost use Rattle.dnp_link.specs.FrameContent.{content};
 ghost use Rattle.dnp_link.specs.Secondary.{answer_of, station_after};
 
 use crate::frame::Frame;

@@ -4,7 +4,7 @@ use Rattle.std.specs.Str.{bytes_eq}
 use Rattle.gw_model.specs.declared.control.Ended.{Ended}
 use Rattle.gw_model.specs.declared.poll.Poll.{Poll}
 use Rattle.dnp_app.specs.declared.operation.Operation.TheVariants.{Select, Operate, DirectOperate}
-use Rattle.dnp_app.specs.declared.response.Control.{Control}
+use Rattle.dnp_app.specs.declared.response.ApplicationControl.{ApplicationControl}
 use Rattle.dnp_app.specs.Control.{confirm_of, control_of}
 use Rattle.dnp_app.specs.Echo.{echo_of, is_taken}
 use Rattle.dnp_app.specs.Response.{Fragment, is_unsolicited}
@@ -13,7 +13,7 @@ use Rattle.dnp_master.specs.declared.verdict.Verdict.TheVariants.{Accepted, Repe
 use Rattle.dnp_master.specs.declared.verdict.Ignored.TheVariants.{NoRequest, WrongSequence, WrongFirst}
 use Rattle.dnp_master.specs.declared.task.Task.{Task}
 use Rattle.dnp_master.specs.declared.task.Task.TheVariants.{ClearRestart, WriteTime, RecordTime, Disable, Integrity, Enable, EventPoll, Command}
-use Rattle.dnp_master.specs.declared.due.Due.{Due}
+use Rattle.dnp_master.specs.declared.due.DueTasks.{DueTasks}
 use Rattle.dnp_master.specs.declared.exchange.Awaited.{Awaited}
 use Rattle.dnp_master.specs.declared.exchange.Exchange.{Exchange}
 use Rattle.dnp_master.specs.declared.exchange.Exchange.TheVariants.{Idle, Waiting, Selected}
@@ -27,7 +27,7 @@ abbrev pub is_last : Option (List ℕ) → List ℕ → Bool
 is_last None octets = false
 is_last (Some last) octets = bytes_eq last octets
 
-abbrev pub control_in : Fragment → Control
+abbrev pub control_in : Fragment → ApplicationControl
 control_in f = control_of (slice_index f.octets 0)
 
 abbrev pub verdict_of_unsolicited : Option (List ℕ) → List ℕ → Verdict
@@ -107,7 +107,7 @@ abbrev pub is_newly_set : Bool → Bool → Bool
 is_newly_set before now = now && not before
 
 -- what an accepted fragment makes due, which answers this task or none
-abbrev pub due_with : Poll → Option Task → Indications → Indications → Due → Due
+abbrev pub due_with : Poll → Option Task → Indications → Indications → DueTasks → DueTasks
 due_with poll answered before now due = record due {
   clear_restart = due.clear_restart || (now.restart && not (clears_restart answered));
   record_time = due.record_time || (poll.lan_time && (now.need_time && not (records_time answered)));
@@ -119,7 +119,7 @@ due_with poll answered before now due = record due {
 -- ---- what is accepted
 
 -- the end of an answer to the recording of a time makes its writing due
-abbrev pub due_once_answered : Task → Due → Due
+abbrev pub due_once_answered : Task → DueTasks → DueTasks
 due_once_answered ClearRestart due = due
 due_once_answered (WriteTime time) due = due
 due_once_answered (RecordTime wall) due = record due { write_time = Some wall }

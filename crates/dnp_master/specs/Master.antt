@@ -10,7 +10,7 @@ use Rattle.dnp_app.specs.Operating.{request_intent}
 use Rattle.dnp_app.specs.Requests.{octets_of, request, read_octets, enable_octets, disable_octets, clear_restart_octets, record_time_octets, write_time_octets, control_octets}
 use Rattle.dnp_master.specs.declared.task.Task.{Task}
 use Rattle.dnp_master.specs.declared.task.Task.TheVariants.{ClearRestart, WriteTime, RecordTime, Disable, Integrity, Enable, EventPoll, Command}
-use Rattle.dnp_master.specs.declared.due.Due.{Due}
+use Rattle.dnp_master.specs.declared.due.DueTasks.{DueTasks}
 use Rattle.dnp_master.specs.declared.exchange.Exchange.{Exchange}
 use Rattle.dnp_master.specs.declared.exchange.Exchange.TheVariants.{Idle, Waiting, Selected}
 use Rattle.dnp_master.specs.declared.indications.Indications.{Indications}
@@ -28,12 +28,12 @@ pub record Master : Type 0 where
   pub sequence : ℕ
   -- nothing, the request that awaits its answer, or the order whose OPERATE is due
   pub exchange : Exchange
-  pub due : Due
+  pub due : DueTasks
 
 abbrev pub no_indications : Indications
 no_indications = record { events = false; need_time = false; restart = false; overflow = false }
 
-abbrev pub nothing_due : Due
+abbrev pub nothing_due : DueTasks
 nothing_due = record {
   clear_restart = false;
   write_time = None;
@@ -75,11 +75,11 @@ master_after_up moment m = record (master_down m.poll) {
 -- ---- what is due
 
 -- an integrity poll: by itself, or by its period
-abbrev pub is_integrity_due : ℕ → Poll → Due → Bool
+abbrev pub is_integrity_due : ℕ → Poll → DueTasks → Bool
 is_integrity_due moment poll due =
     due.integrity || (not (poll.integrity_ms == 0) && nat_le poll.integrity_ms (moment - due.integrity_since))
 
-abbrev pub is_event_poll_due : ℕ → Poll → Due → Bool
+abbrev pub is_event_poll_due : ℕ → Poll → DueTasks → Bool
 is_event_poll_due moment poll due = due.events || nat_le poll.poll_ms (moment - due.events_since)
 
 abbrev pub if_due : Bool → Task → List Task
@@ -90,7 +90,7 @@ time_due None = []
 time_due (Some time) = WriteTime time ∷ []
 
 -- the tasks that are due at a moment, in their order of rank; a time that is recorded now is this wall time
-abbrev pub tasks_due : ℕ → ℕ → Poll → Due → List Task
+abbrev pub tasks_due : ℕ → ℕ → Poll → DueTasks → List Task
 tasks_due moment wall poll due =
     if_due due.clear_restart ClearRestart
     ++ (time_due due.write_time
@@ -155,7 +155,7 @@ abbrev pub following : ℕ → ℕ
 following sequence = (sequence + 1) % 16
 
 -- what is due once a task was given at a moment
-abbrev pub due_without : ℕ → Task → Due → Due
+abbrev pub due_without : ℕ → Task → DueTasks → DueTasks
 due_without moment ClearRestart due = record due { clear_restart = false }
 due_without moment (WriteTime time) due = record due { write_time = None }
 due_without moment (RecordTime wall) due = record due { record_time = false }
@@ -211,7 +211,7 @@ ended_by_loss m = option_map (ended false) (order_taken m.exchange)
 
 -- an integrity poll is due again, and with the recording of the time its writing is given up; an order has failed; any
 -- other task is given up until it becomes due again
-abbrev pub due_unanswered : Task → Due → Due
+abbrev pub due_unanswered : Task → DueTasks → DueTasks
 due_unanswered ClearRestart due = due
 due_unanswered (WriteTime time) due = due
 due_unanswered (RecordTime wall) due = record due { record_time = false; write_time = None }

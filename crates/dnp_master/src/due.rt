@@ -16,7 +16,7 @@ use gw_model::Poll;
 
 /// The tasks that are due, and the moments from which the two periods run.
 #[derive(Clone, Copy, Debug, PartialEq, Eq)]
-pub struct Due {
+pub struct DueTasks {
     pub clear_restart: bool,
     /// The time to be written, where it was recorded.
     pub write_time: Option<u64>,
@@ -50,12 +50,12 @@ fn records_time(answered: Option<Task>) -> bool
     matches!(answered, Some(Task::RecordTime(_)))
 }
 
-impl Due {
+impl DueTasks {
     /// Nothing is due.
-    pub fn nothing() -> Due
+    pub fn nothing() -> DueTasks
         ensures { result ≡ nothing_due }
     {
-        Due {
+        DueTasks {
             clear_restart: false,
             write_time: None,
             record_time: false,
@@ -114,7 +114,7 @@ impl Due {
     }
 
     /// Once a task was given at a moment.
-    pub fn without(self, moment: u64, task: Task) -> Due
+    pub fn without(self, moment: u64, task: Task) -> DueTasks
         ensures { result ≡ due_without moment task self }
     {
         let mut due = self;
@@ -138,7 +138,7 @@ impl Due {
     }
 
     /// Once a task ended without an answer.
-    pub fn unanswered(self, task: Task) -> Due
+    pub fn unanswered(self, task: Task) -> DueTasks
         ensures { result ≡ due_unanswered task self }
     {
         let mut due = self;
@@ -154,11 +154,11 @@ impl Due {
     }
 
     /// Once a task's answer ended.
-    pub fn once_answered(self, task: Task) -> Due
+    pub fn once_answered(self, task: Task) -> DueTasks
         ensures { result ≡ due_once_answered task self }
     {
         match task {
-            Task::RecordTime(wall) => Due {
+            Task::RecordTime(wall) => DueTasks {
                 write_time: Some(wall),
                 ..self
             },
@@ -173,10 +173,10 @@ impl Due {
         answered: Option<Task>,
         before: Indications,
         now: Indications,
-    ) -> Due
+    ) -> DueTasks
         ensures { result ≡ due_with poll.now answered before now self }
     {
-        Due {
+        DueTasks {
             clear_restart: self.clear_restart || (now.restart && !clears_restart(answered)),
             record_time: self.record_time
                 || (poll.lan_time && (now.need_time && !records_time(answered))),

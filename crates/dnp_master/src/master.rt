@@ -33,7 +33,7 @@ ghost use Rattle.dnp_master.specs.Fragments.{
   verdict_of_unsolicited,
 };
 
-use crate::due::Due;
+use crate::due::DueTasks;
 use crate::exchange::{Awaited, Exchange, following};
 use crate::indications::Indications;
 use crate::kept::KeptOctets;
@@ -53,7 +53,7 @@ pub struct Master {
     before: Indications,
     sequence: u8,
     exchange: Exchange,
-    due: Due,
+    due: DueTasks,
 }
 
 impl Model for Master {
@@ -87,7 +87,7 @@ impl Master {
             before: Indications::none(),
             sequence: 0,
             exchange: Exchange::Idle,
-            due: Due::nothing(),
+            due: DueTasks::nothing(),
         }
     }
 
@@ -117,13 +117,13 @@ impl Master {
     {
         self.down();
         self.up = true;
-        self.due = Due {
+        self.due = DueTasks {
             disable: self.poll.unsolicited,
             integrity: true,
             integrity_since: moment,
             enable: self.poll.unsolicited,
             events_since: moment,
-            ..Due::nothing()
+            ..DueTasks::nothing()
         };
     }
 

@@ -3,7 +3,7 @@ use Rattle.std.proofs.Common.{◌≡◌, ℕ, suc, ◌-◌, ◌<◌, List, [], �
 use Rattle.std.proofs.lemmas.List.{append-nil}
 use Rattle.gw_model.specs.Outcome.{◌>>=◌, UnlessMemory}
 use Rattle.dnp_objects.specs.declared.fault.ObjectFault.{ObjectFault}
-use Rattle.dnp_objects.specs.declared.fault.Why.TheVariants.{TooMany}
+use Rattle.dnp_objects.specs.declared.fault.HeaderFault.TheVariants.{TooMany}
 use Rattle.dnp_objects.specs.declared.header.Header.{Header}
 use Rattle.dnp_objects.specs.Headers.{header_at, headers_from, is_memory}
 use Rattle.dnp_objects.proofs.Results.{UnlessMemory-map}

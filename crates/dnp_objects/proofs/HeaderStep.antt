@@ -3,7 +3,7 @@ use Rattle.std.proofs.Common.{◌≡◌, ℕ, ◌+◌, ◌-◌, ◌<◌, ◌≤�
 use Rattle.std.proofs.lemmas.Bool.{le-ltb, lt-ltb}
 use Rattle.std.proofs.lemmas.List.{length-drop, drop-drop}
 use Rattle.std.proofs.Math.Seq.{take-length}
-use Rattle.dnp_objects.specs.declared.fault.Why.TheVariants.{ShortData}
+use Rattle.dnp_objects.specs.declared.fault.HeaderFault.TheVariants.{ShortData}
 use Rattle.dnp_objects.specs.declared.object.Form.{Form}
 use Rattle.dnp_objects.specs.declared.range.Range.{Range}
 use Rattle.dnp_objects.specs.declared.range.RangeField.{RangeField}

@@ -3,7 +3,7 @@ use Rattle.std.proofs.Common.{◌≡◌, Bool, true, false, cond, Option, Some, 
 use Rattle.std.specs.Option.{option_map}
 use Rattle.gw_model.specs.Outcome.{◌>>=◌, UnlessMemory}
 use Rattle.dnp_objects.specs.declared.fault.ObjectFault.{ObjectFault}
-use Rattle.dnp_objects.specs.declared.fault.Why.{Why}
+use Rattle.dnp_objects.specs.declared.fault.HeaderFault.{HeaderFault}
 use Rattle.dnp_objects.specs.Headers.{some_or}
 
 pub bind_ok : {A B : Type 0} (r : Result A ObjectFault) (f : A → Result B ObjectFault) (y : B) → (r >>= f) ≡ Ok y
@@ -21,7 +21,7 @@ pub otherwise_ok : {A : Type 0} (b : Bool) (d : ObjectFault) (r : Result A Objec
 otherwise_ok true d r y e = absurd cc
 otherwise_ok false d r y e = (refl, e)
 
-pub some_ok : {A : Type 0} (place : _) (why : Why) (o : Option A) (x : A) → some_or place why o ≡ Ok x → o ≡ Some x
+pub some_ok : {A : Type 0} (place : _) (why : HeaderFault) (o : Option A) (x : A) → some_or place why o ≡ Ok x → o ≡ Some x
 some_ok place why None x e = absurd cc
 some_ok place why (Some y) x e = cc
 

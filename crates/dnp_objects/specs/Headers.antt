@@ -3,8 +3,8 @@
 use Rattle.std.specs.Prelude.{◌≡◌, ℕ, zero, suc, ◌+◌, ◌-◌, ◌*◌, ◌/◌, ◌<◌, ◌≤◌, Bool, true, false, ◌||◌, ◌==◌, List, [], ◌∷◌, ◌++◌, length, take, drop, Option, Some, None, Result, Ok, Err, IsOk, nat_lt, if◌then◌else◌}
 use Rattle.gw_model.specs.Outcome.{◌>>=◌}
 use Rattle.dnp_objects.specs.declared.fault.ObjectFault.{ObjectFault}
-use Rattle.dnp_objects.specs.declared.fault.Why.{Why}
-use Rattle.dnp_objects.specs.declared.fault.Why.TheVariants.{UnknownObject, UnknownQualifier, ShortRange, StopBeforeStart, ShortData, TooMany, Memory}
+use Rattle.dnp_objects.specs.declared.fault.HeaderFault.{HeaderFault}
+use Rattle.dnp_objects.specs.declared.fault.HeaderFault.TheVariants.{UnknownObject, UnknownQualifier, ShortRange, StopBeforeStart, ShortData, TooMany, Memory}
 use Rattle.dnp_objects.specs.declared.header.Header.{Header}
 use Rattle.dnp_objects.specs.declared.object.Size.{Size}
 use Rattle.dnp_objects.specs.declared.object.Size.TheVariants.{Octets, Bits}
@@ -111,11 +111,11 @@ IsPart part hs = AreHeaders 0 part hs × (length hs ≤ 512)
 -- ---- reading from left to right
 
 -- a fault of the header at this place
-abbrev pub fault_at : {A : Type 0} → ℕ → Why → Result A ObjectFault
+abbrev pub fault_at : {A : Type 0} → ℕ → HeaderFault → Result A ObjectFault
 fault_at place why = Err (record { why = why; place = place })
 
 -- what is looked up, or a fault of the header at this place
-abbrev pub some_or : {A : Type 0} → ℕ → Why → Option A → Result A ObjectFault
+abbrev pub some_or : {A : Type 0} → ℕ → HeaderFault → Option A → Result A ObjectFault
 some_or place why None = fault_at place why
 some_or place why (Some x) = Ok x
 
@@ -192,7 +192,7 @@ pub record IsStoredAt (part : List ℕ) (place : ℕ) : Type 0 where
 -- ---- what a function returned
 
 -- the reason is that memory ran out
-abbrev pub is_memory_reason : Why → Bool
+abbrev pub is_memory_reason : HeaderFault → Bool
 is_memory_reason Memory = true
 is_memory_reason UnknownObject = false
 is_memory_reason UnknownQualifier = false

@@ -5,7 +5,7 @@ use thiserror::Error;
 
 /// What is wrong with an object header or its objects.
 #[derive(Clone, Copy, Debug, PartialEq, Eq, Error)]
-pub enum Why {
+pub enum HeaderFault {
     /// No such group and variation is known.
     #[error("1 UnknownObject")]
     UnknownObject,
@@ -34,12 +34,12 @@ pub enum Why {
 #[error("{why} at {place}")]
 pub struct ObjectFault {
     /// What is wrong.
-    pub why: Why,
+    pub why: HeaderFault,
     /// The first octet of the header at fault, counted in the part from 0.
     pub place: usize,
 }
 
-impl Why {
+impl HeaderFault {
     /// This fault, of the header at a place.
     pub(crate) fn at(self, place: usize) -> ObjectFault
         ensures { result ≡ record { why = self; place = place } }

@@ -3,7 +3,7 @@ ghost use Rattle.std.specs.Prelude.{◌≡◌, ◌≢◌, ◌+◌, ◌^◌, ◌<
 ghost use Rattle.gw_model.specs.Outcome.{Gives};
 ghost use Rattle.dnp_objects.specs.Headers.{is_memory, body_length, header_at, headers_of, IsPart, IsStoredAt};
 
-use crate::fault::{ObjectFault, Why};
+use crate::fault::{ObjectFault, HeaderFault};
 use crate::object::{Size, form_of};
 use crate::range::{range_at, range_for};
 use std::alloc::Global;
@@ -47,17 +47,17 @@ fn header_at(place: usize, front: &[u8]) -> Result<(Header, &[u8]), ObjectFault>
     ensures read { Gives is_memory (λ x. (x.0, x.1.now)) result (header_at place front.now) }
     ensures goes { IfOk result (λ x. length x.1.now < length front.now) }
     ensures place { IfErr result (λ fault. fault.place ≡ place) }
-    ensures no_memory { IfErr result (λ fault. fault.why ≢ Why.Memory) }
+    ensures no_memory { IfErr result (λ fault. fault.why ≢ HeaderFault.Memory) }
 {
     if front.len() < 3 {
-        return Err(Why::ShortRange.at(place));
+        return Err(HeaderFault::ShortRange.at(place));
     }
     let (group, variation, code) = (front[0], front[1], front[2]);
     let Some(form) = form_of(group, variation) else {
-        return Err(Why::UnknownObject.at(place));
+        return Err(HeaderFault::UnknownObject.at(place));
     };
     let Some(range) = range_for(form.access, code) else {
-        return Err(Why::UnknownQualifier.at(place));
+        return Err(HeaderFault::UnknownQualifier.at(place));
     };
     let field = &front[3..];
     let ranged = match range_at(place, range, field) {
@@ -67,7 +67,7 @@ fn header_at(place: usize, front: &[u8]) -> Result<(Header, &[u8]), ObjectFault>
     let start = 3 + ranged.octets;
     let body = body_length(form.size, ranged.count, ranged.prefix);
     if front.len() - start < body {
-        return Err(Why::ShortData.at(place));
+        return Err(HeaderFault::ShortData.at(place));
     }
     let header = Header {
         group,
@@ -85,21 +85,21 @@ fn header_at(place: usize, front: &[u8]) -> Result<(Header, &[u8]), ObjectFault>
 fn all_headers(alloc: Global, part: &[u8]) -> Result<Vec<Header>, ObjectFault>
     ensures exact { Gives is_memory (λ v. v.items) result (headers_of part.now) }
     ensures place { IfErr result (λ fault. fault.place < length part.now) }
-    ensures memory { IfErr result (λ fault. fault.why ≡ Why.Memory → IsStoredAt part.now fault.place) }
+    ensures memory { IfErr result (λ fault. fault.why ≡ HeaderFault.Memory → IsStoredAt part.now fault.place) }
 {
     let mut found = Vec::new(alloc);
     let mut rest = part;
     while !rest.is_empty() {
         let place = part.len() - rest.len();
         if found.len() == MOST_HEADERS {
-            return Err(Why::TooMany.at(place));
+            return Err(HeaderFault::TooMany.at(place));
         }
         let (header, after) = match header_at(place, rest) {
             Ok(read) => read,
             Err(fault) => return Err(fault),
         };
         if found.push(header).is_err() {
-            return Err(Why::Memory.at(place));
+            return Err(HeaderFault::Memory.at(place));
         }
         rest = after;
     }
@@ -118,7 +118,7 @@ pub fn headers(alloc: Global, part: &[u8]) -> Result<Vec<Header>, ObjectFault>
     ensures exact { Gives is_memory (λ v. v.items) result (headers_of part.now) }
     // Each fault is told of a place in the part; memory runs out only where a header is stored.
     ensures place { IfErr result (λ fault. fault.place < length part.now) }
-    ensures memory { IfErr result (λ fault. fault.why ≡ Why.Memory → IsStoredAt part.now fault.place) }
+    ensures memory { IfErr result (λ fault. fault.why ≡ HeaderFault.Memory → IsStoredAt part.now fault.place) }
 {
     all_headers(alloc, part)
 }

@@ -2,7 +2,7 @@
 ghost use Rattle.std.specs.Prelude.{◌≡◌, ◌≢◌, ◌≤◌, length, take, IfOk, IfErr};
 ghost use Rattle.dnp_objects.specs.Headers.{number, octets_of, is_among, codes_of, qualifiers, range_of, range_for, range_at};
 
-use crate::fault::{ObjectFault, Why};
+use crate::fault::{ObjectFault, HeaderFault};
 use crate::numbers::number;
 use crate::object::Access;
 
@@ -97,16 +97,16 @@ fn start_stop_at(place: usize, width: Width, field: &[u8]) -> Result<RangeField,
     ensures read { result ≡ range_at place (Range.StartStop width) field.now }
     ensures within { IfOk result (λ range. range.octets ≤ length field.now) }
     ensures place { IfErr result (λ fault. fault.place ≡ place) }
-    ensures no_memory { IfErr result (λ fault. fault.why ≢ Why.Memory) }
+    ensures no_memory { IfErr result (λ fault. fault.why ≢ HeaderFault.Memory) }
 {
     let octets = octets_of(width);
     if field.len() < octets + octets {
-        return Err(Why::ShortRange.at(place));
+        return Err(HeaderFault::ShortRange.at(place));
     }
     let first = number_at(width, field);
     let last = number_at(width, &field[octets..]);
     if last < first {
-        return Err(Why::StopBeforeStart.at(place));
+        return Err(HeaderFault::StopBeforeStart.at(place));
     }
     Ok(RangeField {
         octets: octets + octets,
@@ -120,11 +120,11 @@ fn count_at(place: usize, width: Width, prefix: u8, field: &[u8]) -> Result<Rang
     ensures read { result ≡ range_at place (Range.Count width prefix) field.now }
     ensures within { IfOk result (λ range. range.octets ≤ length field.now) }
     ensures place { IfErr result (λ fault. fault.place ≡ place) }
-    ensures no_memory { IfErr result (λ fault. fault.why ≢ Why.Memory) }
+    ensures no_memory { IfErr result (λ fault. fault.why ≢ HeaderFault.Memory) }
 {
     let octets = octets_of(width);
     if field.len() < octets {
-        return Err(Why::ShortRange.at(place));
+        return Err(HeaderFault::ShortRange.at(place));
     }
     Ok(RangeField {
         octets,
@@ -139,7 +139,7 @@ pub fn range_at(place: usize, range: Range, field: &[u8]) -> Result<RangeField, 
     ensures read { result ≡ range_at place range field.now }
     ensures within { IfOk result (λ range. range.octets ≤ length field.now) }
     ensures place { IfErr result (λ fault. fault.place ≡ place) }
-    ensures no_memory { IfErr result (λ fault. fault.why ≢ Why.Memory) }
+    ensures no_memory { IfErr result (λ fault. fault.why ≢ HeaderFault.Memory) }
 {
     match range {
         Range::StartStop(width) => start_stop_at(place, width, field),

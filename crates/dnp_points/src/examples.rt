@@ -5,7 +5,7 @@ ghost use Rattle.std.specs.Prelude.{◌≡◌, ℕ, pos, negsuc, [], ◌∷◌, 
 ghost use Rattle.gw_model.specs.declared.point.Kind.TheVariants.{Binary, Double, Output, Counter, Analog};
 ghost use Rattle.gw_model.specs.declared.point.Raw.TheVariants.{Bit, Two, Count, Number};
 ghost use Rattle.gw_model.specs.declared.point.Stamp.TheVariants.{Untimed, At, Doubtful};
-ghost use Rattle.dnp_objects.specs.declared.fault.Why.TheVariants.{UnknownObject, UnknownQualifier, ShortRange, ShortData};
+ghost use Rattle.dnp_objects.specs.declared.fault.HeaderFault.TheVariants.{UnknownObject, UnknownQualifier, ShortRange, ShortData};
 ghost use Rattle.dnp_objects.specs.Headers.{fault_at};
 ghost use Rattle.dnp_points.specs.Objects.{binary_report};
 ghost use Rattle.dnp_points.specs.Meaning.{meaning_of};

@@ -3,7 +3,7 @@ use Rattle.std.proofs.Common.{Vec, Global, ◌≡◌, ℕ, List, [], ◌∷◌, 
 use Rattle.std.specs.Prelude.{option_map, option_to_list}
 use Rattle.std.proofs.lemmas.List.{map-append}
 use Rattle.std.proofs.lemmas.List.Elements.{filter_map-append}
-use Rattle.dnp_link.specs.Frame.{Content}
+use Rattle.dnp_link.specs.Frame.{FrameContent}
 use Rattle.dnp_link.specs.Stream.{Reading, reading, joined_readings}
 use Rattle.dnp_link.proofs.Streams.{reading-append}
 use Rattle.dnp_transport.specs.Fragment.{fragments_of}
@@ -15,13 +15,13 @@ use Rattle.dnp_receive.specs.Gathering.{HasGathered}
 use Rattle.dnp_receive.proofs.Receiving.{replies_by-more, fragments-more}
 
 -- what was gathered are frames that these come behind, all of them together
-pub record Completes (own peer : ℕ) (g : Gathering) (left all : List Content) : Type 0 where
-  pub so_far : List Content
+pub record Completes (own peer : ℕ) (g : Gathering) (left all : List FrameContent) : Type 0 where
+  pub so_far : List FrameContent
   pub gathered : HasGathered own peer so_far g
   pub together : so_far ++ left ≡ all
 
 -- the fragments of what frames deliver
-abbrev given : ℕ → ℕ → List Content → List (List ℕ)
+abbrev given : ℕ → ℕ → List FrameContent → List (List ℕ)
 given own peer frames = fragments_of (delivered_user_data (station_at own peer) frames)
 
 map-to_list : {X Y : Type 0} (f : X → Y) (o : Option X) → map f (option_to_list o) ≡ option_to_list (option_map f o)
@@ -29,7 +29,7 @@ map-to_list f None = refl
 map-to_list f (Some x) = refl
 
 -- one frame more was taken, and what it brought was added
-pub gathered_more : (own peer : ℕ) (before : List Content) (old new : Gathering) (c : Content)
+pub gathered_more : (own peer : ℕ) (before : List FrameContent) (old new : Gathering) (c : FrameContent)
     (reply : Option (List ℕ)) (fragment : Option (Vec ℕ Global)) → HasGathered own peer before old
     → HasTaken own peer (before ++ c ∷ []) new.receiver → reply ≡ reply_owed own peer before c
     → option_map (λ f. f.items) fragment ≡ fragment_completed own peer before c
@@ -81,6 +81,6 @@ piece_more own peer now next octets piece held fed left so_far fed_is gathered l
     ap (λ (r : Reading). frames_of r.events) goes_on
     ∙ filter_map-append frame_in (reading octets).events (reading fed).events in
     record {
-      gathered = subst (λ (fs : List Content). HasGathered own peer fs next) (sym frames) gathered;
+      gathered = subst (λ (fs : List FrameContent). HasGathered own peer fs next) (sym frames) gathered;
       held_is = left_is ∙ sym (ap (λ (r : Reading). r.rest) goes_on);
     }

@@ -5,7 +5,7 @@ use Rattle.std.specs.List.{cons_option}
 use Rattle.std.proofs.lemmas.Bool.{cases_Bool, cond-true, cond-false}
 use Rattle.std.proofs.lemmas.List.{append-nil, append_cancel_left, reverse-append}
 use Rattle.std.proofs.lemmas.List.Elements.{filter-append}
-use Rattle.dnp_link.specs.Frame.{Content}
+use Rattle.dnp_link.specs.Frame.{FrameContent}
 use Rattle.dnp_link.specs.Station.{Station}
 use Rattle.dnp_link.specs.Secondary.{decision_on, station_after, answer_by, answer_of}
 use Rattle.dnp_link.specs.declared.secondary.Answer.{Answer}
@@ -81,19 +81,19 @@ append-cons_option : {X : Type 0} (front : List X) (o : Option X) (rest : List X
 append-cons_option front None rest = ap (λ (xs : List _). xs ++ rest) (append-nil front)
 append-cons_option front (Some x) rest = append_assoc front (x ∷ []) rest
 
-station_after_all-more : (s : Station) (a : List Content) (c : Content)
+station_after_all-more : (s : Station) (a : List FrameContent) (c : FrameContent)
     → station_after_all s (a ++ c ∷ []) ≡ station_after (station_after_all s a) c
 station_after_all-more s [] c = refl
 station_after_all-more s (first ∷ a) c = station_after_all-more (station_after s first) a c
 
-pub replies_by-more : (s : Station) (a : List Content) (c : Content)
+pub replies_by-more : (s : Station) (a : List FrameContent) (c : FrameContent)
     → replies_by s (a ++ c ∷ []) ≡ replies_by s a ++ option_to_list (reply_by (station_after_all s a) c)
 replies_by-more s [] c = cons_option-nil (reply_by s c)
 replies_by-more s (first ∷ a) c =
     ap (cons_option (reply_by s first)) (replies_by-more (station_after s first) a c)
     ∙ cons_option-append (reply_by s first) (replies_by (station_after s first) a) _
 
-delivered_user_data-more : (s : Station) (a : List Content) (c : Content)
+delivered_user_data-more : (s : Station) (a : List FrameContent) (c : FrameContent)
     → delivered_user_data s (a ++ c ∷ [])
     ≡ delivered_user_data s a ++ option_to_list (user_data_by (station_after_all s a) c)
 delivered_user_data-more s [] c = cons_option-nil (user_data_by s c)
@@ -108,7 +108,7 @@ fragments_if : (segments : List (List ℕ)) (o : Option (List ℕ))
 fragments_if segments None = ap fragments_of (append-nil segments) ∙ sym (append-nil (fragments_of segments))
 fragments_if segments (Some s) = fragments_of-more segments s
 
-pub fragments-more : (own peer : ℕ) (before : List Content) (c : Content)
+pub fragments-more : (own peer : ℕ) (before : List FrameContent) (c : FrameContent)
     → fragments_of (delivered_user_data (station_at own peer) (before ++ c ∷ []))
     ≡ fragments_of (delivered_user_data (station_at own peer) before)
     ++ option_to_list (fragment_completed own peer before c)
@@ -119,7 +119,7 @@ fragments-more own peer before c =
 
 -- ---- frames one after another
 
-replies_go_on : (own peer : ℕ) (before frames : List Content)
+replies_go_on : (own peer : ℕ) (before frames : List FrameContent)
     → replies_by (station_at own peer) before ++ replies_owed own peer before frames
     ≡ replies_by (station_at own peer) (before ++ frames)
 replies_go_on own peer before [] = append-nil _ ∙ ap (replies_by (station_at own peer)) (sym (append-nil before))
@@ -131,10 +131,10 @@ replies_go_on own peer before (c ∷ more) =
     ∙ ap (replies_by (station_at own peer)) (append_assoc before (c ∷ []) more)))
 
 -- the fragments of what frames deliver
-abbrev fragments_from : ℕ → ℕ → List Content → List (List ℕ)
+abbrev fragments_from : ℕ → ℕ → List FrameContent → List (List ℕ)
 fragments_from own peer frames = fragments_of (delivered_user_data (station_at own peer) frames)
 
-fragments_go_on : (own peer : ℕ) (before frames : List Content)
+fragments_go_on : (own peer : ℕ) (before frames : List FrameContent)
     → fragments_from own peer before ++ fragments_completed own peer before frames
     ≡ fragments_from own peer (before ++ frames)
 fragments_go_on own peer before [] = append-nil _ ∙ ap (fragments_from own peer) (sym (append-nil before))
@@ -145,11 +145,11 @@ fragments_go_on own peer before (c ∷ more) =
     ∙ (fragments_go_on own peer (before ++ c ∷ []) more
     ∙ ap (fragments_from own peer) (append_assoc before (c ∷ []) more)))
 
-pub replies_owed_in_turn : (own peer : ℕ) (frames : List Content)
+pub replies_owed_in_turn : (own peer : ℕ) (frames : List FrameContent)
     → replies_owed own peer [] frames ≡ replies_by (station_at own peer) frames
 replies_owed_in_turn own peer frames = replies_go_on own peer [] frames
 
-pub fragments_completed_in_turn : (own peer : ℕ) (frames : List Content)
+pub fragments_completed_in_turn : (own peer : ℕ) (frames : List FrameContent)
     → fragments_completed own peer [] frames ≡ fragments_of (delivered_user_data (station_at own peer) frames)
 fragments_completed_in_turn own peer frames = fragments_go_on own peer [] frames
 
@@ -157,7 +157,7 @@ fragments_completed_in_turn own peer frames = fragments_go_on own peer [] frames
 
 -- What a call does, by the receiver as it is: the station has taken the frame, and the assembler its user data,
 -- where that is delivered.
-record Steps (old new : Reception) (c : Content) (fragment : Option (List ℕ)) : Type 0 where
+record Steps (old new : Reception) (c : FrameContent) (fragment : Option (List ℕ)) : Type 0 where
   pub station : new.station ≡ station_after old.station c
   pub series : new.series ≡ series_after old.series (option_to_list (user_data_by old.station c))
   pub given :
@@ -165,7 +165,7 @@ record Steps (old new : Reception) (c : Content) (fragment : Option (List ℕ)) 
       ≡ option_and_then (λ (segment : List ℕ). fragment_in (step old.series segment).0) (user_data_by old.station c)
 
 -- by all frames so far
-taken_more : (own peer : ℕ) (before : List Content) (old new : Reception) (c : Content)
+taken_more : (own peer : ℕ) (before : List FrameContent) (old new : Reception) (c : FrameContent)
     (fragment : Option (List ℕ)) → HasTaken own peer before old → Steps old new c fragment
     → HasTaken own peer (before ++ c ∷ []) new
 taken_more own peer before old new c fragment h steps =
@@ -190,7 +190,7 @@ ends_if : (segments : List (List ℕ)) (o : Option (List ℕ))
 ends_if segments None = refl
 ends_if segments (Some s) = step_ends segments s
 
-fragment_by_all : (own peer : ℕ) (before : List Content) (old new : Reception) (c : Content)
+fragment_by_all : (own peer : ℕ) (before : List FrameContent) (old new : Reception) (c : FrameContent)
     (fragment : Option (List ℕ)) → HasTaken own peer before old → Steps old new c fragment
     → fragment ≡ fragment_completed own peer before c
 fragment_by_all own peer before old new c fragment h steps =
@@ -211,7 +211,7 @@ is_delivery-answer_by s false None = refl
 is_delivery-answer_by s false (Some control) = refl
 
 -- the user data that the answer hands on are those that the station delivers
-handed_on-answer_of : (s : Station) (c : Content) (a : Answer) (user : List ℕ) → a ≡ answer_of s c → user ≡ c.user
+handed_on-answer_of : (s : Station) (c : FrameContent) (a : Answer) (user : List ℕ) → a ≡ answer_of s c → user ≡ c.user
     → handed_on a user ≡ user_data_by s c
 handed_on-answer_of s c a user is same =
     ap (λ (o : List ℕ). handed_on a o) same
@@ -219,13 +219,13 @@ handed_on-answer_of s c a user is same =
     (ap is_delivery is ∙ is_delivery-answer_by s (decision_on s c).deliver (decision_on s c).reply)
 
 -- what is kept and given after a call, by all frames so far
-pub record IsAnswered (own peer : ℕ) (before : List Content) (c : Content) (new : Reception)
+pub record IsAnswered (own peer : ℕ) (before : List FrameContent) (c : FrameContent) (new : Reception)
     (fragment : Option (List ℕ)) : Type 0 where
   pub taken : HasTaken own peer (before ++ c ∷ []) new
   pub completed : fragment ≡ fragment_completed own peer before c
 
 -- the station has taken the frame, and the assembler what the answer hands on
-pub answered : (own peer : ℕ) (before : List Content) (now old new : Reception) (c : Content) (a : Answer)
+pub answered : (own peer : ℕ) (before : List FrameContent) (now old new : Reception) (c : FrameContent) (a : Answer)
     (user : List ℕ) (fragment : Option (List ℕ)) → HasTaken own peer before now → old ≡ now
     → a ≡ answer_of old.station c → new.station ≡ station_after old.station c → user ≡ c.user
     → new.series ≡ series_after old.series (option_to_list (handed_on a user))

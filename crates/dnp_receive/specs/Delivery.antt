@@ -3,7 +3,7 @@
 use Rattle.std.specs.Prelude.{ℕ, List, [], ◌∷◌, Option, Some, None, filter_map, option_map, if◌then◌else◌}
 use Rattle.std.specs.List.{cons_option}
 use Rattle.std.specs.Result.{result_ok}
-use Rattle.dnp_link.specs.Frame.{Content}
+use Rattle.dnp_link.specs.Frame.{FrameContent}
 use Rattle.dnp_link.specs.Stream.{Event, Framed, Dropped, reading}
 use Rattle.dnp_link.specs.Station.{Station}
 use Rattle.dnp_link.specs.Secondary.{decision_on, reply_frame, station_after}
@@ -11,12 +11,12 @@ use Rattle.dnp_transport.specs.Fragment.{fragments_of}
 use Rattle.dnp_app.specs.Response.{Fragment, response_of}
 
 -- the frame that an event is, if it is one
-abbrev pub frame_in : Event → Option Content
+abbrev pub frame_in : Event → Option FrameContent
 frame_in (Framed c) = Some c
 frame_in (Dropped why) = None
 
 -- the frames among events, in order
-abbrev pub frames_of : List Event → List Content
+abbrev pub frames_of : List Event → List FrameContent
 frames_of events = filter_map frame_in events
 
 -- the station at `own` of a link to the primary station at `peer`, which was not reset yet
@@ -24,25 +24,25 @@ abbrev pub station_at : ℕ → ℕ → Station
 station_at own peer = record { own = own; peer = peer; expected = None }
 
 -- the station after these frames, which come one after another
-abbrev pub station_after_all : Station → List Content → Station
+abbrev pub station_after_all : Station → List FrameContent → Station
 station_after_all s [] = s
 station_after_all s (c ∷ more) = station_after_all (station_after s c) more
 
 -- the reply that the station owes for a frame, if any
-abbrev pub reply_by : Station → Content → Option (List ℕ)
+abbrev pub reply_by : Station → FrameContent → Option (List ℕ)
 reply_by s c = option_map (reply_frame s) (decision_on s c).reply
 
 -- the replies that the station owes for these frames, which come one after another
-abbrev pub replies_by : Station → List Content → List (List ℕ)
+abbrev pub replies_by : Station → List FrameContent → List (List ℕ)
 replies_by s [] = []
 replies_by s (c ∷ more) = cons_option (reply_by s c) (replies_by (station_after s c) more)
 
 -- the user data of a frame, where the station delivers it
-abbrev pub user_data_by : Station → Content → Option (List ℕ)
+abbrev pub user_data_by : Station → FrameContent → Option (List ℕ)
 user_data_by s c = if (decision_on s c).deliver then Some c.user else None
 
 -- the user data that the station delivers of these frames, which come one after another
-abbrev pub delivered_user_data : Station → List Content → List (List ℕ)
+abbrev pub delivered_user_data : Station → List FrameContent → List (List ℕ)
 delivered_user_data s [] = []
 delivered_user_data s (c ∷ more) = cons_option (user_data_by s c) (delivered_user_data (station_after s c) more)
 

@@ -1,6 +1,6 @@
 -- The frames of the worked examples: 14 octets with one segment of two octets, or 10 octets.
 use Rattle.std.specs.Prelude.{ℕ, List, [], ◌∷◌}
-use Rattle.dnp_link.specs.Frame.{Content, frame_content}
+use Rattle.dnp_link.specs.Frame.{FrameContent, frame_content}
 
 -- UNCONFIRMED_USER_DATA from station 1 to station 1024, with the first segment of a fragment (FIR, number 62)
 abbrev pub first_frame : List ℕ
@@ -55,18 +55,18 @@ abbrev pub link_status : List ℕ
 link_status = 0x05 ∷ 0x64 ∷ 0x05 ∷ 0x8B ∷ 0x01 ∷ 0x00 ∷ 0x00 ∷ 0x04 ∷ 0x10 ∷ 0x21 ∷ []
 
 -- what a frame from station 1 to station 1024 with this CONTROL octet and these user data carries
-abbrev pub sent : ℕ → List ℕ → Content
+abbrev pub sent : ℕ → List ℕ → FrameContent
 sent control user = frame_content control 1024 1 user
 
 -- what `reset_frame`, `status_request`, `whole_frame` and `confirmed_whole_frame` carry
-abbrev pub reset : Content
+abbrev pub reset : FrameContent
 reset = sent 0x40 []
 
-abbrev pub asked_status : Content
+abbrev pub asked_status : FrameContent
 asked_status = sent 0x49 []
 
-abbrev pub whole : Content
+abbrev pub whole : FrameContent
 whole = sent 0x44 (0xC0 ∷ 0xDD ∷ [])
 
-abbrev pub confirmed_whole : Content
+abbrev pub confirmed_whole : FrameContent
 confirmed_whole = sent 0x73 (0xC0 ∷ 0xDD ∷ [])

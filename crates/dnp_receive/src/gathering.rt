@@ -1,7 +1,7 @@
 //! What the frames of a stream brought.
 ghost use Rattle.std.specs.Prelude.{◌≡◌, ℕ, List, [], ◌∷◌, ◌++◌, option_to_list, OnOk};
-ghost use Rattle.dnp_link.specs.Frame.{Content};
-ghost use Rattle.dnp_link.specs.Content.{content};
+ghost use Rattle.dnp_link.specs.Frame.{FrameContent};
+ghost use Rattle.dnp_link.specs.FrameContent.{content};
 ghost use Rattle.dnp_link.specs.Stream.{reading};
 ghost use Rattle.dnp_receive.specs.Delivery.{frames_of};
 
@@ -34,7 +34,7 @@ impl Gathering {
 
     /// Takes the events that a feed shows.
     pub fn drain(&mut self, feed: &mut LinkFeed) -> Result<(), Memory>
-        ensures gathered { (own peer : ℕ) (before : List Content) → HasGathered own peer before self.old
+        ensures gathered { (own peer : ℕ) (before : List FrameContent) → HasGathered own peer before self.old
             → OnOk result (HasGathered own peer (before ++ frames_of (reading feed.old).events) self.new) }
         ensures rest { OnOk result (feed.new ≡ (reading feed.old).rest) }
     {
@@ -48,7 +48,7 @@ impl Gathering {
 
     /// Takes a frame, and keeps what it brings.
     fn take(&mut self, frame: &Frame) -> Result<(), Memory>
-        ensures { (own peer : ℕ) (before : List Content) → HasGathered own peer before self.old
+        ensures { (own peer : ℕ) (before : List FrameContent) → HasGathered own peer before self.old
             → OnOk result (HasGathered own peer (before ++ content frame.now ∷ []) self.new) }
     {
         let Received { reply, fragment } = self.receiver.take(frame)?;

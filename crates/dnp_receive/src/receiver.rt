@@ -18,8 +18,8 @@ ghost use Rattle.std.specs.Prelude.{
   OnErr,
   IfSome,
 };
-ghost use Rattle.dnp_link.specs.Frame.{Content};
-ghost use Rattle.dnp_link.specs.Content.{content};
+ghost use Rattle.dnp_link.specs.Frame.{FrameContent};
+ghost use Rattle.dnp_link.specs.FrameContent.{content};
 ghost use Rattle.dnp_transport.specs.Segment.{may_begin};
 ghost use Rattle.dnp_transport.specs.Series.{step};
 ghost use Rattle.dnp_transport.specs.Runs.{series_after, fragment_in};
@@ -70,11 +70,11 @@ impl Receiver {
     /// Takes a frame of the link. What it brings is told by it and all frames before it; the link may owe a reply
     /// whether or not a fragment is complete.
     pub fn take(&mut self, frame: &Frame) -> Result<Received, Memory>
-        ensures taken { (own peer : ℕ) (before : List Content) → HasTaken own peer before self.old
+        ensures taken { (own peer : ℕ) (before : List FrameContent) → HasTaken own peer before self.old
             → OnOk result (HasTaken own peer (before ++ content frame.now ∷ []) self.new) }
-        ensures reply { (own peer : ℕ) (before : List Content) → HasTaken own peer before self.old
+        ensures reply { (own peer : ℕ) (before : List FrameContent) → HasTaken own peer before self.old
             → IfOk result (λ received. received.reply ≡ reply_owed own peer before (content frame.now)) }
-        ensures fragment { (own peer : ℕ) (before : List Content) → HasTaken own peer before self.old
+        ensures fragment { (own peer : ℕ) (before : List FrameContent) → HasTaken own peer before self.old
             → IfOk result (λ received. option_map (λ f. f.items) received.fragment
             ≡ fragment_completed own peer before (content frame.now)) }
 

@@ -18,7 +18,7 @@ use Rattle.iec_command.specs.declared.command.Command.{Command}
 use Rattle.gw_control.specs.declared.accepted.Accepted.{Accepted}
 use Rattle.gw_control.specs.declared.answer.Answer.{Answer}
 use Rattle.gw_control.specs.declared.answer.Outcome.{Outcome}
-use Rattle.gw_control.specs.declared.asked.Asked.{Asked}
+use Rattle.gw_control.specs.declared.asked.AskedCommand.{AskedCommand}
 use Rattle.gw_control.specs.declared.selection.Selection.{Selection}
 use Rattle.gw_control.specs.Controls.{Controls, controls_after_end, accepted_by, act_accepted, answer_at, answer_to_act, confirmed_if, controls_after_at, controls_ordering, controls_selecting, controls_unselecting, is_deactivation, is_selectable, standing_at, IsAccepted}
 use Rattle.gw_control.specs.Intents.{act_of, control_for, intent_of}
@@ -128,10 +128,10 @@ act_in control act (Some y) e =
     ap Some (ap (λ (i : Intent). i.act) (some_is (intent_of control y) (intent_of control act) e))
 
 -- the execute of a command for a control
-abbrev execute_for : Asked → Control → Execute
+abbrev execute_for : AskedCommand → Control → Execute
 execute_for a control = record { client = a.client; control = control; command = a.command }
 
-waits_new : (t : Story) (a : Asked) (control : Control) (act : Act) (count o : ℕ) (standing : Option Selection)
+waits_new : (t : Story) (a : AskedCommand) (control : Control) (act : Act) (count o : ℕ) (standing : Option Selection)
     (v : Controls) → HasShortIndex control → IsAccepted a control standing v act → count ≡ length t.executes
     → OfOrder (numbered (count + 1) t.executes) (t.marks (count + 1)) → control.outstation ≡ o
     → Waits (story_executing (Some (execute_for a control)) t) o (accepted_by a control act (count + 1))
@@ -178,7 +178,7 @@ new_once t masters v o one xs number tied k n =
           omega (arith, more, other, k.once n)
     ]
 
-ordered : (t : Story) (masters : List Master) (a : Asked) (control : Control) (act : Act) (standing : Option Selection)
+ordered : (t : Story) (masters : List Master) (a : AskedCommand) (control : Control) (act : Act) (standing : Option Selection)
     (v : Controls) → HasShortIndex control → IsAccepted a control standing v act → Tied t masters v
     → Goes t (story_executing (Some (execute_for a control)) t) masters v (controls_ordering a control (Some act) v)
 ordered t masters a control act standing v short k tied =
@@ -223,7 +223,7 @@ confirmed t masters c command found told v after k =
     subst (λ (x : Option Execute). Goes t (story_executing x t) masters v after)
     (sym (no_execute c command found told)) k
 
-acted : (t : Story) (masters : List Master) (a : Asked) (found : ℕ × Control) (standing : Option Selection)
+acted : (t : Story) (masters : List Master) (a : AskedCommand) (found : ℕ × Control) (standing : Option Selection)
     (v : Controls) (act : Option Act) → HasShortIndex found.1 → act_accepted a found.1 standing v ≡ act
     → Tied t masters v
     → Goes t (story_executing (execute_answered a.client a.command (Some found) (answer_to_act v.ordered act)) t)
@@ -240,24 +240,24 @@ acted t masters a found standing v (Some act) short e tied =
     record { tied = new.tied; told = new.told }
 
 -- what is said of a command for this control, and what becomes of it
-abbrev said_for : Asked → ℕ × Control → Option Selection → Controls → Bool → Bool → Answer
+abbrev said_for : AskedCommand → ℕ × Control → Option Selection → Controls → Bool → Bool → Answer
 said_for a found standing v deactivation select =
     cond deactivation (confirmed_if (is_own a standing))
     (cond select (confirmed_if (is_selectable a found.1 standing))
     (answer_to_act v.ordered (act_accepted a found.1 standing v)))
 
-abbrev after_for : Asked → ℕ × Control → Option Selection → Controls → Bool → Bool → Controls
+abbrev after_for : AskedCommand → ℕ × Control → Option Selection → Controls → Bool → Bool → Controls
 after_for a found standing v deactivation select =
     cond deactivation (controls_unselecting a found.0 v)
     (cond select (cond (is_selectable a found.1 standing) (controls_selecting a found.0 v) v)
     (controls_ordering a found.1 (act_accepted a found.1 standing v) (controls_unselecting a found.0 v)))
 
-selecting : (t : Story) (masters : List Master) (a : Asked) (found : ℕ × Control) (v : Controls) (selectable : Bool)
+selecting : (t : Story) (masters : List Master) (a : AskedCommand) (found : ℕ × Control) (v : Controls) (selectable : Bool)
     → Tied t masters v → Goes t t masters v (cond selectable (controls_selecting a found.0 v) v)
 selecting t masters a found v true tied = still t masters v (controls_selecting a found.0 v) refl refl tied
 selecting t masters a found v false tied = still t masters v v refl refl tied
 
-by_kind : (t : Story) (masters : List Master) (a : Asked) (found : ℕ × Control) (standing : Option Selection)
+by_kind : (t : Story) (masters : List Master) (a : AskedCommand) (found : ℕ × Control) (standing : Option Selection)
     (v : Controls) → HasShortIndex found.1 → Tied t masters v → (deactivation select : Bool)
     → Goes t (story_executing (execute_answered a.client a.command (Some found)
     (said_for a found standing v deactivation select)) t) masters v (after_for a found standing v deactivation select)
@@ -271,7 +271,7 @@ by_kind t masters a found standing v short tied false true =
 by_kind t masters a found standing v short tied false false =
     acted t masters a found standing v (act_accepted a found.1 standing v) short refl tied
 
-commanded : (setup : Setup) (t : Story) (masters : List Master) (a : Asked) (found : Option (ℕ × Control))
+commanded : (setup : Setup) (t : Story) (masters : List Master) (a : AskedCommand) (found : Option (ℕ × Control))
     (v : Controls) → ((x : ℕ × Control) → found ≡ Some x → HasShortIndex x.1) → Tied t masters v
     → Goes t (story_executing (execute_answered a.client a.command found (answer_at setup a found v)) t) masters v
     (controls_after_at setup a found v)

@@ -12,7 +12,7 @@ use Rattle.dnp_app.specs.declared.operation.Operation.{Operation}
 use Rattle.dnp_app.specs.declared.operation.Operation.TheVariants.{Operate}
 use Rattle.dnp_app.specs.declared.request.Request.{Request}
 use Rattle.dnp_app.specs.Requests.{octets_of}
-use Rattle.dnp_master.specs.declared.due.Due.{Due}
+use Rattle.dnp_master.specs.declared.due.DueTasks.{DueTasks}
 use Rattle.dnp_master.specs.declared.exchange.Exchange.{Exchange}
 use Rattle.dnp_master.specs.declared.exchange.Exchange.TheVariants.{Idle, Waiting, Selected}
 use Rattle.dnp_master.specs.declared.task.Task.{Task}
@@ -273,7 +273,7 @@ plain_last : (due : Bool) → IsPlain (if_due due EventPoll)
 plain_last true task e = plain_first EventPoll task [] refl e
 plain_last false task e = absurd (let none : ⊥ = cc in none)
 
-plain_due : (moment wall : ℕ) (poll : Poll) (due : Due) → IsPlain (tasks_due moment wall poll due)
+plain_due : (moment wall : ℕ) (poll : Poll) (due : DueTasks) → IsPlain (tasks_due moment wall poll due)
 plain_due moment wall poll due =
     plain_before due.clear_restart ClearRestart _ refl
     (plain_time due.write_time _

@@ -2,7 +2,7 @@
 use Rattle.std.specs.Prelude.{ℕ, List, [], ◌∷◌, ◌++◌, codes}
 use Rattle.std.specs.Fmt.{decimal}
 use Rattle.iec_apci.specs.Apdu.{apdu as apdu_octets}
-use Rattle.iec_apci.specs.Content.{content, IsNumbered}
+use Rattle.iec_apci.specs.ApduContent.{content, IsNumbered}
 use Rattle.gw_steps.specs.declared.step.Step.{Step}
 use Rattle.gw_steps.specs.declared.step.Step.TheVariants as steps
 use Rattle.gw_text.specs.Hex.{spaced_digits}

@@ -4,7 +4,7 @@ use crate::files::Files;
 use crate::kept::Kept;
 use crate::lines::Lines;
 use crate::pumps::Pumps;
-use crate::waiting::{Turn, Waiting};
+use crate::waiting::{Turn, WaitingLines};
 use gw_model::Memory;
 use gw_shared::{Bell, Reply, Step, StepFault};
 use gw_text::{RecordEnd, RecordEndCause};
@@ -20,7 +20,7 @@ pub struct Capture {
     alloc: Global,
     megabytes: u64,
     is_on: AtomicBool,
-    waiting: Mutex<Waiting>,
+    waiting: Mutex<WaitingLines>,
     bell: Bell,
 }
 
@@ -31,14 +31,14 @@ impl Capture {
             alloc,
             megabytes,
             is_on: AtomicBool::new(true),
-            waiting: Mutex::new(Waiting::new(alloc)),
+            waiting: Mutex::new(WaitingLines::new(alloc)),
             bell: Bell::new(),
         }
     }
 
     /// One that captures nothing.
     pub fn off(alloc: Global) -> Capture {
-        let mut waiting = Waiting::new(alloc);
+        let mut waiting = WaitingLines::new(alloc);
         waiting.end(RecordEndCause::Closed);
         Capture {
             alloc,

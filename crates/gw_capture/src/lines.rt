@@ -3,11 +3,11 @@ ghost use Rattle.std.specs.Prelude.{◌≡◌, ◌++◌, [], IfOk, OnOk};
 ghost use Rattle.gw_replay.specs.Replies.{reply_line};
 ghost use Rattle.gw_capture.specs.Lines.{apdu_line, is_refused, unless_refused};
 
-use crate::pumps::{Apdus, Pumps};
+use crate::pumps::Pumps;
 use crate::step_line::push_step;
 use gw_model::Memory;
 use gw_replay::push_reply;
-use gw_shared::{Reply, Step, StepFault};
+use gw_shared::{Apdus, Reply, Step, StepFault};
 use gw_text::push_spaced;
 use std::alloc::Global;
 

@@ -1,6 +1,6 @@
 //! The lines of `gateway replay` that make steps.
 ghost use Rattle.std.specs.Prelude.{◌≡◌, ◌++◌, ◌↔◌, IsTrue, OnOk};
-ghost use Rattle.iec_apci.specs.Content.{IsNumbered};
+ghost use Rattle.iec_apci.specs.ApduContent.{IsNumbered};
 ghost use Rattle.gw_capture.specs.StepLines.{step_line, words_at, words_of_tick, words_of_wall, HasLine};
 
 use gw_model::Memory;

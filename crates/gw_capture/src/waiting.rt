@@ -68,7 +68,7 @@ pub enum Turn {
 
 /// What was handed over and isn't written yet.
 #[derive(Drop)]
-pub struct Waiting {
+pub struct WaitingLines {
     lines: Vec<Lines>,
     /// How much isn't written yet, with what the thread that writes has taken.
     amount: Amount,
@@ -76,10 +76,10 @@ pub struct Waiting {
     ended: Option<RecordEndCause>,
 }
 
-impl Waiting {
+impl WaitingLines {
     /// Nothing yet.
-    pub fn new(alloc: Global) -> Waiting {
-        Waiting {
+    pub fn new(alloc: Global) -> WaitingLines {
+        WaitingLines {
             lines: Vec::new(alloc),
             amount: Amount::NONE,
             ended: None,

@@ -1,6 +1,6 @@
 //! What may stand at each key of a settings file, in words.
 
-use gw_map::{Absence, Content, Key, OUTSTATIONS, ROWS, Section, keys_of};
+use gw_map::{Absence, KeyContent, Key, OUTSTATIONS, ROWS, Section, keys_of};
 use std::io::{self, Write};
 
 /// Writes what may stand at a key of a section.
@@ -46,20 +46,20 @@ fn allowed_at_top(name: &str) -> &'static str {
 /// Writes what may stand at a key by its row.
 fn write_content<W: Write>(key: &Key, writer: &mut W) -> io::Result<()> {
     match key.content {
-        Content::Number(first, last) => write!(writer, "a whole number from {first} to {last}"),
-        Content::NumberTo(first, other) => write!(writer, "a whole number from {first} to {other}"),
-        Content::NumberBelow(first, other) => {
+        KeyContent::Number(first, last) => write!(writer, "a whole number from {first} to {last}"),
+        KeyContent::NumberTo(first, other) => write!(writer, "a whole number from {first} to {other}"),
+        KeyContent::NumberBelow(first, other) => {
             write!(writer, "a whole number from {first} on, below {other}")
         }
-        Content::Outstation => {
+        KeyContent::Outstation => {
             writer.write_all(b"the position of an outstation in the file, from 0")
         }
-        Content::Word(words) => write_words(words, writer),
-        Content::Text => match key.absence {
+        KeyContent::Word(words) => write_words(words, writer),
+        KeyContent::Text => match key.absence {
             Absence::Text(text) => write!(writer, "a text, as \"{text}\""),
             _ => writer.write_all(b"a text"),
         },
-        Content::Flag => writer.write_all(b"true or false"),
+        KeyContent::Flag => writer.write_all(b"true or false"),
     }
 }
 

@@ -12,7 +12,7 @@ mod warning;
 mod warnings;
 
 pub use reading::{LONGEST_FILE, Unusable, read_file, read_settings};
-pub use report::Report;
+pub use report::CheckReport;
 pub use sentence::explain;
 pub use warning::Warning;
 pub use warnings::{warnings_of, write_warnings};

@@ -7,19 +7,19 @@ use std::io::{self, Write};
 
 /// What is written of settings that are accepted.
 #[derive(Clone, Copy, Debug)]
-pub enum Report {
+pub enum CheckReport {
     /// A line for each point and each control, and how many there are.
     Listing,
     /// The interoperability list of the station (IEC 60870-5-104, clause 9), and its signals.
     Profile,
 }
 
-impl Report {
+impl CheckReport {
     /// Writes it.
     pub fn write<W: Write>(self, settings: &Settings, writer: &mut W) -> io::Result<()> {
         match self {
-            Report::Listing => write_listing(settings, writer),
-            Report::Profile => write_profile(settings, writer),
+            CheckReport::Listing => write_listing(settings, writer),
+            CheckReport::Profile => write_profile(settings, writer),
         }
     }
 }

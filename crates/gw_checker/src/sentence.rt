@@ -2,7 +2,7 @@
 
 use crate::allowed::write_allowed;
 use crate::reading::{Unusable, read_settings};
-use gw_map::{Fault, Place, Section, SettingsFault};
+use gw_map::{Fault, KeyPlace, Section, SettingsFault};
 use gw_text::Plain;
 use std::alloc::Global;
 use std::io::{self, Write};
@@ -61,7 +61,7 @@ fn table_of(alloc: Global, octets: &[u8]) -> Option<Table> {
 /// Writes a sentence on what is wrong at a place of a document.
 fn write_place<W: Write>(
     fault: Fault,
-    place: &Place,
+    place: &KeyPlace,
     top: &Table,
     writer: &mut W,
 ) -> io::Result<()> {
@@ -82,7 +82,7 @@ fn entries<'a>(top: &'a Table, section: Section) -> &'a [Value] {
 }
 
 /// The table of a place, if it has one.
-fn entry_at<'a>(top: &'a Table, place: &Place) -> Option<&'a Table> {
+fn entry_at<'a>(top: &'a Table, place: &KeyPlace) -> Option<&'a Table> {
     let found = match place.section {
         Section::Top => return Some(top),
         Section::Station => top.get("station"),
@@ -97,7 +97,7 @@ fn value_at<'a>(table: Option<&'a Table>, key: &str) -> Option<&'a Value> {
 }
 
 /// Writes which entry it is: its section, its position, and its address and outstation where it has them.
-fn write_entry<W: Write>(place: &Place, entry: Option<&Table>, writer: &mut W) -> io::Result<()> {
+fn write_entry<W: Write>(place: &KeyPlace, entry: Option<&Table>, writer: &mut W) -> io::Result<()> {
     let section = place.section.name();
     match place.section {
         Section::Top | Section::Station => write!(writer, "{section}: "),
@@ -121,7 +121,7 @@ fn write_number<W: Write>(words: &str, value: Option<&Value>, writer: &mut W) ->
 /// Writes what was found.
 fn write_found<W: Write>(
     fault: Fault,
-    place: &Place,
+    place: &KeyPlace,
     top: &Table,
     entry: Option<&Table>,
     writer: &mut W,

@@ -10,7 +10,7 @@ use Rattle.iec_apci.specs.declared.apdu.Apdu.{Apdu}
 use Rattle.iec_command.specs.declared.command.Command.{Command}
 use Rattle.gw_control.specs.declared.answer.Answer.{Answer}
 use Rattle.gw_control.specs.declared.answer.Answer.TheVariants as answers
-use Rattle.gw_control.specs.declared.asked.Asked.{Asked}
+use Rattle.gw_control.specs.declared.asked.AskedCommand.{AskedCommand}
 use Rattle.gw_control.specs.declared.selection.Selection.{Selection}
 use Rattle.gw_control.specs.Controls.{NoPlace, NotPermitted, NotSelected, OutstationDown, SelectedByAnother, act_accepted, act_by, act_unless, answer_at, answer_for, answer_to_act, confirmed_if, is_full_at, is_selectable, standing_at}
 use Rattle.gw_control.specs.Intents.{control_for, intent_of}
@@ -160,7 +160,7 @@ module _ (setup : Setup) (past : List Entry) (moment c : ℕ) (command : Command
   abbrev s : State
   s = state_after setup past
 
-  abbrev a : Asked
+  abbrev a : AskedCommand
   a = asked_by setup s moment c command
 
   -- what is to be answered of a control at a position

@@ -8,7 +8,7 @@ use Rattle.gw_model.specs.declared.control.Act.{Act}
 use Rattle.gw_entries.specs.declared.control.Control.{Control}
 use Rattle.gw_map.specs.Settings.{Setup}
 use Rattle.gw_picture.proofs.Lists.{change-here, change-there}
-use Rattle.gw_control.specs.declared.asked.Asked.{Asked}
+use Rattle.gw_control.specs.declared.asked.AskedCommand.{AskedCommand}
 use Rattle.gw_control.specs.declared.selection.Selection.{Selection}
 use Rattle.gw_control.specs.Controls.{Controls, NotPermitted, SelectedByAnother, act_accepted, act_by, controls_after_for, controls_ordering, controls_selecting, controls_unselecting, is_deactivation, is_selectable, standing_at}
 use Rattle.gw_control.specs.Intents.{intent_of}
@@ -32,7 +32,7 @@ unselected sessions c (Some (Some x)) = by (x.client == c) (is_open sessions x) 
         ap (λ (i : Bool). when i (told_of x)) k ∙ sym (ap (λ (y : Bool). cond y None (Some (told_of x))) e)
     by false false e k = ap (λ (i : Bool). when i (told_of x)) k
 
-open_unselecting : (a : Asked) (q p : ℕ) (v : Controls) → open_at p (controls_unselecting a q v)
+open_unselecting : (a : AskedCommand) (q p : ℕ) (v : Controls) → open_at p (controls_unselecting a q v)
     ≡ cond (q == p) (unless_by (λ d. d == a.client) (open_at p v)) (open_at p v)
 open_unselecting a q p v = by (q == p) refl
   where
@@ -57,7 +57,7 @@ kept_unselected started number count sessions c (Some (Some x)) k = by (x.client
     by true = tt
     by false = k
 
-fresh_unselecting : (started : ℕ → Bool) (number : ℕ → ℕ) (count : ℕ) (a : Asked) (q : ℕ) (v : Controls)
+fresh_unselecting : (started : ℕ → Bool) (number : ℕ → ℕ) (count : ℕ) (a : AskedCommand) (q : ℕ) (v : Controls)
     → Fresh started number count v → Fresh started number count (controls_unselecting a q v)
 fresh_unselecting started number count a q v fresh = record {
   counted = fresh.counted;
@@ -85,7 +85,7 @@ not_it started number session x (Some None) is ne k = refl
 not_it started number session x (Some (Some current)) is ne k = ap (λ (n : ℕ). n == x) (k.1 ∙ sym is) ∙ ne
 
 -- the session of its client is current, so that no other selection opens
-module _ (started : ℕ → Bool) (number : ℕ → ℕ) (count : ℕ) (a : Asked) (q : ℕ) (v : Controls) where
+module _ (started : ℕ → Bool) (number : ℕ → ℕ) (count : ℕ) (a : AskedCommand) (q : ℕ) (v : Controls) where
   abbrev begun : List (Option ℕ)
   begun = change a.client (λ _. Some a.session) v.sessions
 
@@ -174,12 +174,12 @@ module _ (started : ℕ → Bool) (number : ℕ → ℕ) (count : ℕ) (a : Aske
 
 -- ---- orders leave selections alone
 
-open_ordering : (a : Asked) (control : Control) (act : Option Act) (p : ℕ) (v : Controls)
+open_ordering : (a : AskedCommand) (control : Control) (act : Option Act) (p : ℕ) (v : Controls)
     → open_at p (controls_ordering a control act v) ≡ open_at p v
 open_ordering a control None p v = refl
 open_ordering a control (Some act) p v = refl
 
-fresh_ordering : (started : ℕ → Bool) (number : ℕ → ℕ) (count : ℕ) (a : Asked) (control : Control) (act : Option Act)
+fresh_ordering : (started : ℕ → Bool) (number : ℕ → ℕ) (count : ℕ) (a : AskedCommand) (control : Control) (act : Option Act)
     (v : Controls) → Fresh started number count v → Fresh started number count (controls_ordering a control act v)
 fresh_ordering started number count a control None v fresh = fresh
 fresh_ordering started number count a control (Some act) v fresh =
@@ -214,7 +214,7 @@ standing_open limit moment sessions (Some (Some x)) = by (is_open sessions x) (i
     by true false e = tt
     by false f e = tt
 
-pub taken_is : (a : Asked) (standing : Option Selection)
+pub taken_is : (a : AskedCommand) (standing : Option Selection)
     → is_taken a standing ≡ not (is_free_for a.client (option_map told_of standing))
 taken_is a None = refl
 taken_is a (Some x) = refl
@@ -225,7 +225,7 @@ session_is started number session None is k = absurd (true≢false (sym is))
 session_is started number session (Some None) is k = absurd (true≢false (sym is))
 session_is started number session (Some (Some current)) is k = sym (eqb-true current session is) ∙ k.1
 
-module _ (started : ℕ → Bool) (number : ℕ → ℕ) (count : ℕ) (a : Asked) (v : Controls) where
+module _ (started : ℕ → Bool) (number : ℕ → ℕ) (count : ℕ) (a : AskedCommand) (v : Controls) where
   pub own_is : (standing : Option Selection) → Fresh started number count v → a.session ≡ number a.client
       → IfSome standing (λ x. is_open v.sessions x ≡ true)
       → is_own a standing ≡ is_selected_by a.client (option_map told_of standing)
@@ -255,7 +255,7 @@ selectable_by control None free = refl
 selectable_by control (Some act) true = refl
 selectable_by control (Some act) false = refl
 
-pub selectable_is : (setup : Setup) (a : Asked) (control : Control) (q : ℕ) (v : Controls)
+pub selectable_is : (setup : Setup) (a : AskedCommand) (control : Control) (q : ℕ) (v : Controls)
     → is_selectable a control (standing_at setup a.moment q v)
     ≡ may_select setup a.client a.moment control a.command (open_at q v)
 selectable_is setup a control q v =
@@ -269,14 +269,14 @@ selectable_is setup a control q v =
 -- ---- a command
 
 -- what a command makes of the controls
-pub record Commands (setup : Setup) (started : ℕ → Bool) (number : ℕ → ℕ) (count : ℕ) (a : Asked) (q : ℕ)
+pub record Commands (setup : Setup) (started : ℕ → Bool) (number : ℕ → ℕ) (count : ℕ) (a : AskedCommand) (q : ℕ)
     (control : Control) (v w : Controls) : Type 0 where
   pub fresh : Fresh started number count w
   pub opened : (p : ℕ) → open_at p w
       ≡ cond (q == p) (selected_after setup a.client a.moment control a.command (open_at p v)) (open_at p v)
 
 -- a select, by whether it is confirmed
-module _ (setup : Setup) (a : Asked) (q : ℕ) (control : Control) (v : Controls) where
+module _ (setup : Setup) (a : AskedCommand) (q : ℕ) (control : Control) (v : Controls) where
   abbrev new_selection : Option Selected
   new_selection = Some (record { client = a.client; action = a.command.action; since = a.moment })
 
@@ -299,7 +299,7 @@ module _ (setup : Setup) (a : Asked) (q : ℕ) (control : Control) (v : Controls
   selected_there p true false e k new = new ∙ ap (λ (y : Bool). cond y new_selection (open_at p v)) e
   selected_there p false false e k new = refl
 
-module _ (setup : Setup) (started : ℕ → Bool) (number : ℕ → ℕ) (count : ℕ) (a : Asked) (q : ℕ) (control : Control)
+module _ (setup : Setup) (started : ℕ → Bool) (number : ℕ → ℕ) (count : ℕ) (a : AskedCommand) (q : ℕ) (control : Control)
     (v : Controls) where
   selecting : (b : Bool) → is_selectable a control (standing_at setup a.moment q v) ≡ b
       → Fresh started number count v → started a.client ≡ true → a.session ≡ number a.client

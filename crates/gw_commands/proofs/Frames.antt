@@ -11,7 +11,7 @@ use Rattle.iec_apci.specs.declared.apdu.Apdu.TheVariants.{I, S, U}
 use Rattle.iec_apci.specs.declared.apdu.Signal.TheVariants.{StartAct, StartCon, StopAct, StopCon, TestAct, TestCon}
 use Rattle.iec_command.specs.declared.command.Action.{Action}
 use Rattle.iec_command.specs.declared.command.Command.{Command}
-use Rattle.gw_control.specs.declared.asked.Asked.{Asked}
+use Rattle.gw_control.specs.declared.asked.AskedCommand.{AskedCommand}
 use Rattle.gw_control.specs.Controls.{Controls, controls_after_at, controls_after_end}
 use Rattle.gw_control.specs.Intents.{control_for, if_of_type, is_of_type}
 use Rattle.gw_control.specs.Moves.{IsSoundControls}
@@ -171,7 +171,7 @@ module _ (setup : Setup) (past : List Entry) (c m ns nr : ℕ) (asdu : Asdu) (s 
       × ((p : ℕ) → open_at p w ≡ selected_if setup p c moment command found (open_at p s.controls))
   for_found command None is at up sound fresh = (fresh, λ p. refl)
   for_found command (Some found) is at up sound fresh =
-      let a : Asked = asked_by setup s moment c command in
+      let a : AskedCommand = asked_by setup s moment c command in
       let here : c < length s.controls.sessions = omega (arith, place_of c s.clients k at, fresh.few, sound.sessions) in
       let there : found.0 < length s.controls.selections =
       omega (arith, found_within setup command found is, sound.selections) in

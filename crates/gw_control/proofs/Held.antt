@@ -9,7 +9,7 @@ use Rattle.gw_model.specs.declared.control.Act.{Act}
 use Rattle.gw_model.specs.declared.control.Ended.{Ended}
 use Rattle.gw_entries.specs.declared.control.Control.{Control}
 use Rattle.gw_map.specs.Settings.{Setup}
-use Rattle.gw_control.specs.declared.asked.Asked.{Asked}
+use Rattle.gw_control.specs.declared.asked.AskedCommand.{AskedCommand}
 use Rattle.gw_control.specs.declared.accepted.Accepted.{Accepted}
 use Rattle.gw_control.specs.declared.accepted.UnderWay.{UnderWay}
 use Rattle.gw_control.specs.declared.selection.Selection.{Selection}
@@ -161,7 +161,7 @@ no_order true told e = ap one_if e
 no_order false told e = refl
 
 -- what v accepts, in controls w with the same orders and as many of them before
-ordering : (c : ℕ) (a : Asked) (control : Control) (standing : Option Selection) (v w : Controls) (act : Option Act)
+ordering : (c : ℕ) (a : AskedCommand) (control : Control) (standing : Option Selection) (v w : Controls) (act : Option Act)
     → act_accepted a control standing v ≡ act → w.outgoing ≡ v.outgoing
     → orders_of c (controls_ordering a control act w)
     ≡ orders_of c w + one_if ((a.client == c) && is_order (answer_to_act w.ordered act))
@@ -175,7 +175,7 @@ ordering c a control standing v w (Some act) is same =
     and_true true = refl
     and_true false = refl
 
-command : (setup : Setup) (c : ℕ) (a : Asked) (found : Option (ℕ × Control)) (v : Controls)
+command : (setup : Setup) (c : ℕ) (a : AskedCommand) (found : Option (ℕ × Control)) (v : Controls)
     → orders_of c (controls_after_at setup a found v)
     ≡ orders_of c v + one_if ((a.client == c) && is_order (answer_at setup a found v))
 command setup c a None v = omega (arith, no_order (a.client == c) false refl)
@@ -207,7 +207,7 @@ command setup c a (Some found) v =
 pub none_held : (setup : Setup) (c : ℕ) → orders_of c (no_controls setup) ≡ 0
 none_held setup c = among_none c (length setup.outstations)
 
-pub command_holds : (setup : Setup) (c : ℕ) (a : Asked) (v : Controls)
+pub command_holds : (setup : Setup) (c : ℕ) (a : AskedCommand) (v : Controls)
     → orders_of c (controls_after_command setup a v)
     ≡ orders_of c v + one_if ((a.client == c) && is_order (answer_of setup a v))
 command_holds setup c a v = command setup c a (control_for setup a.command) v

@@ -8,7 +8,7 @@ use Rattle.gw_model.specs.Places.{change}
 use Rattle.gw_model.specs.declared.control.Act.{Act}
 use Rattle.gw_model.specs.declared.control.Ended.{Ended}
 use Rattle.gw_entries.specs.declared.control.Control.{Control}
-use Rattle.gw_control.specs.declared.asked.Asked.{Asked}
+use Rattle.gw_control.specs.declared.asked.AskedCommand.{AskedCommand}
 use Rattle.gw_control.specs.declared.accepted.Accepted.{Accepted}
 use Rattle.gw_control.specs.declared.accepted.UnderWay.{UnderWay}
 use Rattle.gw_control.specs.declared.selection.Selection.{Selection}
@@ -188,7 +188,7 @@ then : (b d : Bool) → (b && not d) ≡ false → b ≡ true → d ≡ true
 then true d e f = so d e
 then false d e f = absurd (let none : ⊥ = cc in none)
 
-pub accepted : (a : Asked) (control : Control) (standing : Option Selection) (v : Controls) (act : Act)
+pub accepted : (a : AskedCommand) (control : Control) (standing : Option Selection) (v : Controls) (act : Act)
     → act_accepted a control standing v ≡ Some act → IsAccepted a control standing v act
 accepted a control standing v act is =
     let k = allowed (is_none (act_by a control)) (not a.up) (is_taken a standing)

@@ -10,7 +10,7 @@ use Rattle.gw_model.specs.declared.control.Act.{Act}
 use Rattle.gw_model.specs.declared.control.Ended.{Ended}
 use Rattle.gw_entries.specs.declared.control.Control.{Control}
 use Rattle.gw_map.specs.Settings.{Setup}
-use Rattle.gw_control.specs.declared.asked.Asked.{Asked}
+use Rattle.gw_control.specs.declared.asked.AskedCommand.{AskedCommand}
 use Rattle.gw_control.specs.declared.accepted.Accepted.{Accepted}
 use Rattle.gw_control.specs.declared.accepted.UnderWay.{UnderWay}
 use Rattle.gw_control.specs.Intents.{control_for}
@@ -198,7 +198,7 @@ raised count n after before fewer none = by_number (nat_lt (count + 1) n) (nat_l
         let other : one_if ((count + 1) == n) ≡ 0 = not_below (count + 1) n (omega arith) in
         omega (arith, fewer, other)
 
-ordering_spends : (n : ℕ) (a : Asked) (control : Control) (act : Option Act) (v : Controls)
+ordering_spends : (n : ℕ) (a : AskedCommand) (control : Control) (act : Option Act) (v : Controls)
     → AreInOrder v.ordered v.outgoing
     → budget n (controls_ordering a control act v) ≤ budget n v
 ordering_spends n a control None v k = omega arith
@@ -206,7 +206,7 @@ ordering_spends n a control (Some act) v k =
     raised v.ordered n _ _ (all_ordering n control.outstation (accepted_by a control act (v.ordered + 1)) v.outgoing)
     (λ lt. none_held_above v.ordered n v.outgoing lt k)
 
-command_spends : (setup : Setup) (n : ℕ) (a : Asked) (found : Option (ℕ × Control)) (v : Controls)
+command_spends : (setup : Setup) (n : ℕ) (a : AskedCommand) (found : Option (ℕ × Control)) (v : Controls)
     → AreInOrder v.ordered v.outgoing
     → budget n (controls_after_at setup a found v) ≤ budget n v
 command_spends setup n a None v k = omega arith

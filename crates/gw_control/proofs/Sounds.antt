@@ -5,7 +5,7 @@ use Rattle.gw_model.specs.Places.{change}
 use Rattle.gw_model.specs.declared.control.Act.{Act}
 use Rattle.gw_entries.specs.declared.control.Control.{Control}
 use Rattle.gw_map.specs.Settings.{Setup}
-use Rattle.gw_control.specs.declared.asked.Asked.{Asked}
+use Rattle.gw_control.specs.declared.asked.AskedCommand.{AskedCommand}
 use Rattle.gw_control.specs.declared.selection.Selection.{Selection}
 use Rattle.gw_control.specs.Intents.{control_for}
 use Rattle.gw_control.specs.Selections.{is_select, selection_by, unselected_by}
@@ -35,7 +35,7 @@ none_sound setup = record {
   orders = nothing_keeps (length setup.outstations);
 }
 
-unselecting_sound : (setup : Setup) (a : Asked) (position : ℕ) (v : Controls) → IsSoundControls setup v
+unselecting_sound : (setup : Setup) (a : AskedCommand) (position : ℕ) (v : Controls) → IsSoundControls setup v
     → IsSoundControls setup (controls_unselecting a position v)
 unselecting_sound setup a position v k = record {
   sessions = k.sessions;
@@ -44,7 +44,7 @@ unselecting_sound setup a position v k = record {
   orders = k.orders;
 }
 
-selecting_sound : (setup : Setup) (a : Asked) (position : ℕ) (v : Controls) → IsSoundControls setup v
+selecting_sound : (setup : Setup) (a : AskedCommand) (position : ℕ) (v : Controls) → IsSoundControls setup v
     → IsSoundControls setup (controls_selecting a position v)
 selecting_sound setup a position v k = record {
   sessions = length-change a.client (λ _. Some a.session) v.sessions ∙ k.sessions;
@@ -54,7 +54,7 @@ selecting_sound setup a position v k = record {
 }
 
 -- what is accepted by v, in controls w with the same orders
-ordering_sound : (setup : Setup) (a : Asked) (control : Control) (standing : Option Selection) (v w : Controls)
+ordering_sound : (setup : Setup) (a : AskedCommand) (control : Control) (standing : Option Selection) (v w : Controls)
     (act : Option Act)
     → act_accepted a control standing v ≡ act → w.outgoing ≡ v.outgoing → IsSoundControls setup w
     → IsSoundControls setup (controls_ordering a control act w)
@@ -69,7 +69,7 @@ ordering_sound setup a control standing v w (Some act) is same k =
           (rw same (accepted a control standing v act is).place) k.orders;
     }
 
-command_sound : (setup : Setup) (a : Asked) (found : Option (ℕ × Control)) (v : Controls) → IsSoundControls setup v
+command_sound : (setup : Setup) (a : AskedCommand) (found : Option (ℕ × Control)) (v : Controls) → IsSoundControls setup v
     → IsSoundControls setup (controls_after_at setup a found v)
 command_sound setup a None v k = k
 command_sound setup a (Some found) v k =

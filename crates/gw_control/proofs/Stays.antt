@@ -7,7 +7,7 @@ use Rattle.gw_model.specs.Places.{change}
 use Rattle.gw_model.specs.declared.control.Act.{Act}
 use Rattle.gw_entries.specs.declared.control.Control.{Control}
 use Rattle.gw_map.specs.Settings.{Setup}
-use Rattle.gw_control.specs.declared.asked.Asked.{Asked}
+use Rattle.gw_control.specs.declared.asked.AskedCommand.{AskedCommand}
 use Rattle.gw_control.specs.declared.selection.Selection.{Selection}
 use Rattle.gw_control.specs.Intents.{control_for}
 use Rattle.gw_control.specs.Selections.{is_fresh, is_open, is_select, is_session, selection_by, standing_in, stands, unselected_by}
@@ -118,7 +118,7 @@ apart_cases true true true e = absurd (let none : ⊥ = cc in none)
 apart_cases true false place e = absurd (let none : ⊥ = cc in none)
 
 -- a select is confirmed where nobody else has the control selected
-selectable_alone : (a : Asked) (control : Control) (s : Selection) → is_selectable a control (Some s) ≡ true
+selectable_alone : (a : AskedCommand) (control : Control) (s : Selection) → is_selectable a control (Some s) ≡ true
     → (s.client == a.client) ≡ true
 selectable_alone a control s e = alone (is_none (act_by a control)) (s.client == a.client) e
   where
@@ -129,7 +129,7 @@ selectable_alone a control s e = alone (is_none (act_by a control)) (s.client ==
     alone false false e = absurd (let none : ⊥ = cc in none)
 
 -- at its control, by a command that comes no later
-selecting_elsewhere : (setup : Setup) (a : Asked) (control : Control) (q p moment : ℕ) (v : Controls) (s : Selection)
+selecting_elsewhere : (setup : Setup) (a : AskedCommand) (control : Control) (q p moment : ℕ) (v : Controls) (s : Selection)
     → a.moment ≤ moment
     → ((s.client == a.client) ≡ false) ⊎ ((q == p) ≡ false)
     → slice_get v.selections p ≡ Some (Some s) → stands setup.station.select_ms moment v.sessions s ≡ true
@@ -149,12 +149,12 @@ selecting_elsewhere setup a control q p moment v s le (inl differs) here valid f
         (sym (ap (is_selectable a control) standing) ∙ free) in
         absurd (let none : ⊥ = cc in none)
 
-ordering_spares : (setup : Setup) (a : Asked) (control : Control) (act : Option Act) (v : Controls) (moment p : ℕ)
+ordering_spares : (setup : Setup) (a : AskedCommand) (control : Control) (act : Option Act) (v : Controls) (moment p : ℕ)
     → standing_at setup moment p (controls_ordering a control act v) ≡ standing_at setup moment p v
 ordering_spares setup a control None v moment p = refl
 ordering_spares setup a control (Some act) v moment p = refl
 
-command_spares : (setup : Setup) (a : Asked) (moment p : ℕ) (found : Option (ℕ × Control)) (v : Controls)
+command_spares : (setup : Setup) (a : AskedCommand) (moment p : ℕ) (found : Option (ℕ × Control)) (v : Controls)
     (s : Selection)
     → a.moment ≤ moment → (not (s.client == a.client) || ((s.session == a.session) && not (is_at p found))) ≡ true
     → standing_at setup moment p v ≡ Some s → standing_at setup moment p (controls_after_at setup a found v) ≡ Some s

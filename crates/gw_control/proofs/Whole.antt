@@ -11,7 +11,7 @@ use Rattle.gw_entries.specs.declared.control.Operates.{Operates}
 use Rattle.iec_command.specs.declared.command.Action.{Action}
 use Rattle.iec_command.specs.declared.command.Action.TheVariants.{Single, Double, Setpoint, Interrogation, CounterInterrogation, Read}
 use Rattle.iec_command.specs.Commands.{IsWhole}
-use Rattle.gw_control.specs.declared.asked.Asked.{Asked}
+use Rattle.gw_control.specs.declared.asked.AskedCommand.{AskedCommand}
 use Rattle.gw_control.specs.declared.accepted.Accepted.{Accepted}
 use Rattle.gw_control.specs.declared.accepted.UnderWay.{UnderWay}
 use Rattle.gw_control.specs.Intents.{act_of, control_for}
@@ -86,7 +86,7 @@ unless_refused : (why : Option Refusal) (action : Action) (operates : Operates) 
 unless_refused None action operates act e = operates_by action operates act e
 unless_refused (Some why) action operates act e = absurd cc
 
-ordering_whole : (a : Asked) (control : Control) (act : Option Act) (v : Controls) → IsWhole a.command
+ordering_whole : (a : AskedCommand) (control : Control) (act : Option Act) (v : Controls) → IsWhole a.command
     → IfSome act (λ _. is_operating a.command.action ≡ true) → HasWholeCommands v
     → HasWholeCommands (controls_ordering a control act v)
 ordering_whole a control None v whole operating k = k
@@ -96,7 +96,7 @@ ordering_whole a control (Some act) v whole operating k =
     { waiting = more_whole x o.waiting (record { whole = whole; operating = operating }) all.waiting; under_way = all.under_way })
     control.outstation v.outgoing k
 
-command_whole : (setup : Setup) (a : Asked) (found : Option (ℕ × Control)) (v : Controls) → IsWhole a.command
+command_whole : (setup : Setup) (a : AskedCommand) (found : Option (ℕ × Control)) (v : Controls) → IsWhole a.command
     → HasWholeCommands v
     → HasWholeCommands (controls_after_at setup a found v)
 command_whole setup a None v whole k = k

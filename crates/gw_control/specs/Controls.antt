@@ -11,7 +11,7 @@ use Rattle.gw_entries.specs.declared.control.Control.{Control}
 use Rattle.gw_entries.specs.declared.control.Mode.{Mode}
 use Rattle.gw_entries.specs.declared.control.Mode.TheVariants.{Direct, Sbo}
 use Rattle.gw_map.specs.Settings.{Setup}
-use Rattle.gw_control.specs.declared.asked.Asked.{Asked}
+use Rattle.gw_control.specs.declared.asked.AskedCommand.{AskedCommand}
 use Rattle.gw_control.specs.declared.accepted.Accepted.{Accepted}
 use Rattle.gw_control.specs.declared.answer.Answer.{Answer}
 use Rattle.gw_control.specs.declared.answer.Answer.TheVariants.{Confirm, Negative, Unknown, Ordered}
@@ -62,7 +62,7 @@ pub data Refusal : Type 0 where
   NoPlace : Refusal
 
 -- what it does to its control
-abbrev pub act_by : Asked → Control → Option Act
+abbrev pub act_by : AskedCommand → Control → Option Act
 act_by a control = act_of a.command.action control.operates
 
 -- no further order may wait; none may where there is no such outstation
@@ -71,14 +71,14 @@ is_full_at None = true
 is_full_at (Some o) = is_full o
 
 -- of a select
-abbrev pub refusals_of_select : Asked → Control → Option Selection → List (Option Refusal)
+abbrev pub refusals_of_select : AskedCommand → Control → Option Selection → List (Option Refusal)
 refusals_of_select a control standing =
     when (is_none (act_by a control)) NotPermitted
     ∷ when (is_taken a standing) SelectedByAnother
     ∷ []
 
 -- of an execute
-abbrev pub refusals_of_execute : Asked → Control → Option Selection → Controls → List (Option Refusal)
+abbrev pub refusals_of_execute : AskedCommand → Control → Option Selection → Controls → List (Option Refusal)
 refusals_of_execute a control standing v =
     when (is_none (act_by a control)) NotPermitted
     ∷ when (not a.up) OutstationDown
@@ -92,7 +92,7 @@ refusals_of_execute a control standing v =
 abbrev pub confirmed_if : Bool → Answer
 confirmed_if told = if told then Confirm else Negative
 
-abbrev pub is_selectable : Asked → Control → Option Selection → Bool
+abbrev pub is_selectable : AskedCommand → Control → Option Selection → Bool
 is_selectable a control standing = is_none (first_of (refusals_of_select a control standing))
 
 abbrev pub act_unless : Option Refusal → Option Act → Option Act
@@ -100,7 +100,7 @@ act_unless None act = act
 act_unless (Some why) act = None
 
 -- what an execute that is accepted does to its control
-abbrev pub act_accepted : Asked → Control → Option Selection → Controls → Option Act
+abbrev pub act_accepted : AskedCommand → Control → Option Selection → Controls → Option Act
 act_accepted a control standing v =
     act_unless (first_of (refusals_of_execute a control standing v)) (act_by a control)
 
@@ -110,20 +110,20 @@ answer_to_act count None = Negative
 answer_to_act count (Some act) = Ordered (count + 1)
 
 -- a deactivation has cause 8
-abbrev pub is_deactivation : Asked → Bool
+abbrev pub is_deactivation : AskedCommand → Bool
 is_deactivation a = a.command.cause == 8
 
-abbrev pub answer_for : Asked → Control → Option Selection → Controls → Answer
+abbrev pub answer_for : AskedCommand → Control → Option Selection → Controls → Answer
 answer_for a control standing v =
     if is_deactivation a then confirmed_if (is_own a standing)
     else if is_select a.command.action then confirmed_if (is_selectable a control standing)
     else answer_to_act v.ordered (act_accepted a control standing v)
 
-abbrev pub answer_at : Setup → Asked → Option (ℕ × Control) → Controls → Answer
+abbrev pub answer_at : Setup → AskedCommand → Option (ℕ × Control) → Controls → Answer
 answer_at setup a None v = Unknown
 answer_at setup a (Some found) v = answer_for a found.1 (standing_at setup a.moment found.0 v) v
 
-abbrev pub answer_of : Setup → Asked → Controls → Answer
+abbrev pub answer_of : Setup → AskedCommand → Controls → Answer
 answer_of setup a v = answer_at setup a (control_for setup a.command) v
 
 abbrev pub is_order : Answer → Bool
@@ -133,18 +133,18 @@ is_order Unknown = false
 is_order (Ordered number) = true
 
 -- the count of orders can rise where it has to
-abbrev pub CanAnswer : Setup → Asked → Controls → Type 0
+abbrev pub CanAnswer : Setup → AskedCommand → Controls → Type 0
 CanAnswer setup a v = is_order (answer_of setup a v) ≡ true → v.ordered + 1 < 2 ^ 64
 
 -- ---- what becomes of selections and orders
 
 -- the client has a control selected no more
-abbrev pub controls_unselecting : Asked → ℕ → Controls → Controls
+abbrev pub controls_unselecting : AskedCommand → ℕ → Controls → Controls
 controls_unselecting a position v =
     record v { selections = change position (unselected_by a.client) v.selections }
 
 -- the client selects a control
-abbrev pub controls_selecting : Asked → ℕ → Controls → Controls
+abbrev pub controls_selecting : AskedCommand → ℕ → Controls → Controls
 controls_selecting a position v = record v {
   sessions = change a.client (λ _. Some a.session) v.sessions;
   selections = change position (λ _. Some (selection_by a)) v.selections;
@@ -155,7 +155,7 @@ is_sbo Direct = false
 is_sbo Sbo = true
 
 -- an execute that was accepted, with its number
-abbrev pub accepted_by : Asked → Control → Act → ℕ → Accepted
+abbrev pub accepted_by : AskedCommand → Control → Act → ℕ → Accepted
 accepted_by a control act number = record {
   order = record { number = number; intent = intent_of control act; sbo = is_sbo control.mode };
   client = a.client;
@@ -164,7 +164,7 @@ accepted_by a control act number = record {
 }
 
 -- it is an order
-abbrev pub controls_ordering : Asked → Control → Option Act → Controls → Controls
+abbrev pub controls_ordering : AskedCommand → Control → Option Act → Controls → Controls
 controls_ordering a control None v = v
 controls_ordering a control (Some act) v = record v {
   outgoing = change control.outstation (outgoing_with (accepted_by a control act (v.ordered + 1))) v.outgoing;
@@ -172,20 +172,20 @@ controls_ordering a control (Some act) v = record v {
 }
 
 -- an execute ends its client's selection, accepted or not
-abbrev pub controls_after_for : Asked → ℕ → Control → Option Selection → Controls → Controls
+abbrev pub controls_after_for : AskedCommand → ℕ → Control → Option Selection → Controls → Controls
 controls_after_for a position control standing v =
     if is_deactivation a then controls_unselecting a position v
     else if is_select a.command.action
     then (if is_selectable a control standing then controls_selecting a position v else v)
     else controls_ordering a control (act_accepted a control standing v) (controls_unselecting a position v)
 
-abbrev pub controls_after_at : Setup → Asked → Option (ℕ × Control) → Controls → Controls
+abbrev pub controls_after_at : Setup → AskedCommand → Option (ℕ × Control) → Controls → Controls
 controls_after_at setup a None v = v
 controls_after_at setup a (Some found) v =
     controls_after_for a found.0 found.1 (standing_at setup a.moment found.0 v) v
 
 -- a command came
-abbrev pub controls_after_command : Setup → Asked → Controls → Controls
+abbrev pub controls_after_command : Setup → AskedCommand → Controls → Controls
 controls_after_command setup a v = controls_after_at setup a (control_for setup a.command) v
 
 -- ---- orders on their way
@@ -222,7 +222,7 @@ controls_after_end client v = record v {
 
 -- ---- what is known of an execute that is accepted
 
-pub record IsAccepted (a : Asked) (control : Control) (standing : Option Selection) (v : Controls) (act : Act)
+pub record IsAccepted (a : AskedCommand) (control : Control) (standing : Option Selection) (v : Controls) (act : Act)
     : Type 0 where
   -- what its order asks is what the command asks
   pub intent : command_intent control a.command ≡ Some (intent_of control act)

@@ -18,7 +18,7 @@ use Rattle.iec_command.specs.declared.command.Action.{Action}
 use Rattle.iec_command.specs.Example.{command, single, double, setpoint}
 use Rattle.gw_control.specs.declared.answer.Answer.{Answer}
 use Rattle.gw_control.specs.declared.answer.Outcome.{Outcome}
-use Rattle.gw_control.specs.declared.asked.Asked.{Asked}
+use Rattle.gw_control.specs.declared.asked.AskedCommand.{AskedCommand}
 use Rattle.gw_control.specs.Selections.{asked}
 use Rattle.gw_control.specs.Controls.{Controls, answer_of, controls_after_command, controls_after_end, controls_after_ended, controls_after_taking, no_controls, order_at, outcome_ended_at, outcome_lost_at}
 
@@ -105,59 +105,59 @@ setup = setup_with one_to_one
 -- ---- commands
 
 -- client 0 in session 10, client 1 in session 11; the outstation is up
-abbrev pub of_client : ℕ → ℕ → ℕ → Action → ℕ → Asked
+abbrev pub of_client : ℕ → ℕ → ℕ → Action → ℕ → AskedCommand
 of_client client cause address action moment =
     asked client (10 + client) (command cause 1 address action) true moment
 
 -- a client selects and executes 5001 with this state and QU, and takes the selection back
-abbrev pub selects : ℕ → Bool → ℕ → ℕ → Asked
+abbrev pub selects : ℕ → Bool → ℕ → ℕ → AskedCommand
 selects client on qualifier moment = of_client client 6 5001 (single on false qualifier true) moment
 
-abbrev pub executes : ℕ → Bool → ℕ → ℕ → Asked
+abbrev pub executes : ℕ → Bool → ℕ → ℕ → AskedCommand
 executes client on qualifier moment = of_client client 6 5001 (single on false qualifier false) moment
 
-abbrev pub cancels : ℕ → ℕ → Asked
+abbrev pub cancels : ℕ → ℕ → AskedCommand
 cancels client moment = of_client client 8 5001 (single true false 0 true) moment
 
 -- it sets 5002, and operates 5003
-abbrev pub sets : ℕ → ℤ → Asked
+abbrev pub sets : ℕ → ℤ → AskedCommand
 sets client z = of_client client 6 5002 (setpoint z 0 false) 0
 
-abbrev pub operates : ℕ → ℕ → Bool → Asked
+abbrev pub operates : ℕ → ℕ → Bool → AskedCommand
 operates state qualifier select = of_client 0 6 5003 (double state qualifier select) 0
 
 -- it selects 5002, for a value with this QL
-abbrev pub selects_value : ℕ → ℤ → ℕ → Asked
+abbrev pub selects_value : ℕ → ℤ → ℕ → AskedCommand
 selects_value client z level = of_client client 6 5002 (setpoint z level true) 0
 
 -- the outstation is down
-abbrev pub while_down : Asked → Asked
+abbrev pub while_down : AskedCommand → AskedCommand
 while_down a = record a { up = false }
 
 -- ---- what becomes of them
 
 -- these came, the first one first
-abbrev pub taking : List Asked → Controls → Controls
+abbrev pub taking : List AskedCommand → Controls → Controls
 taking [] v = v
 taking (a ∷ more) v = taking more (controls_after_command setup a v)
 
-abbrev pub after : List Asked → Controls
+abbrev pub after : List AskedCommand → Controls
 after commands = taking commands (no_controls setup)
 
 -- and then the session of a client ended
-abbrev pub after_end : ℕ → List Asked → Controls
+abbrev pub after_end : ℕ → List AskedCommand → Controls
 after_end client commands = controls_after_end client (after commands)
 
 -- and then this one came
-abbrev pub answered : List Asked → Asked → Answer
+abbrev pub answered : List AskedCommand → AskedCommand → Answer
 answered commands a = answer_of setup a (after commands)
 
-abbrev pub times : ℕ → Asked → List Asked
+abbrev pub times : ℕ → AskedCommand → List AskedCommand
 times zero a = []
 times (suc n) a = a ∷ times n a
 
 -- eight set points of each of two clients
-abbrev pub sixteen : List Asked
+abbrev pub sixteen : List AskedCommand
 sixteen = times 8 (sets 0 (pos 1)) ++ times 8 (sets 1 (pos 1))
 
 -- ---- orders of the outstation

@@ -8,7 +8,7 @@ use Rattle.iec_command.specs.declared.command.Action.{Action}
 use Rattle.iec_command.specs.declared.command.Action.TheVariants.{Single, Double, Setpoint}
 use Rattle.iec_command.specs.declared.command.Command.{Command}
 use Rattle.iec_command.specs.Commands.{IsWhole}
-use Rattle.gw_control.specs.declared.asked.Asked.{Asked}
+use Rattle.gw_control.specs.declared.asked.AskedCommand.{AskedCommand}
 use Rattle.gw_control.specs.declared.accepted.Accepted.{Accepted}
 use Rattle.gw_control.specs.declared.accepted.UnderWay.{UnderWay}
 use Rattle.gw_control.specs.declared.selection.Selection.{Selection}
@@ -18,7 +18,7 @@ use Rattle.gw_control.specs.Controls.{Controls, clients, controls_after_command,
 
 pub data Move : Type 0 where
   -- a command comes
-  Comes : Asked → Move
+  Comes : AskedCommand → Move
   -- the next order is given for an outstation
   Takes : ℕ → Move
   -- the order under way to an outstation ends
@@ -71,7 +71,7 @@ is_at position None = false
 is_at position (Some found) = found.0 == position
 
 -- a command is of another client, or for another control in the same session
-abbrev pub is_apart : Setup → Asked → ℕ → Selection → Bool
+abbrev pub is_apart : Setup → AskedCommand → ℕ → Selection → Bool
 is_apart setup a position s =
     not (s.client == a.client) || ((s.session == a.session) && not (is_at position (control_for setup a.command)))
 

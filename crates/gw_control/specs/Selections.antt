@@ -6,13 +6,13 @@ use Rattle.gw_model.specs.First.{when}
 use Rattle.iec_command.specs.declared.command.Action.{Action}
 use Rattle.iec_command.specs.declared.command.Action.TheVariants.{Single, Double, Setpoint}
 use Rattle.iec_command.specs.declared.command.Command.{Command}
-use Rattle.gw_control.specs.declared.asked.Asked.{Asked}
+use Rattle.gw_control.specs.declared.asked.AskedCommand.{AskedCommand}
 use Rattle.gw_control.specs.declared.selection.Selection.{Selection}
 
 -- ---- commands
 
 -- a command of a client in a session, whose outstation is up or not, at a moment
-abbrev pub asked : ℕ → ℕ → Command → Bool → ℕ → Asked
+abbrev pub asked : ℕ → ℕ → Command → Bool → ℕ → AskedCommand
 asked client session command up moment =
     record { client = client; session = session; command = command; up = up; moment = moment }
 
@@ -54,17 +54,17 @@ standing_in limit moment sessions _ = None
 -- ---- whose it is
 
 -- another client has the control selected
-abbrev pub is_taken : Asked → Option Selection → Bool
+abbrev pub is_taken : AskedCommand → Option Selection → Bool
 is_taken a None = false
 is_taken a (Some s) = not (s.client == a.client)
 
 -- the client has it selected, in its session
-abbrev pub is_own : Asked → Option Selection → Bool
+abbrev pub is_own : AskedCommand → Option Selection → Bool
 is_own a None = false
 is_own a (Some s) = (s.client == a.client) && (s.session == a.session)
 
 -- and for what the command asks
-abbrev pub is_selected : Asked → Option Selection → Bool
+abbrev pub is_selected : AskedCommand → Option Selection → Bool
 is_selected a None = false
 is_selected a (Some s) = is_own a (Some s) && asks_same s.action a.command.action
 
@@ -76,6 +76,6 @@ unselected_by client None = None
 unselected_by client (Some s) = if s.client == client then None else Some s
 
 -- the client's selection by a command
-abbrev pub selection_by : Asked → Selection
+abbrev pub selection_by : AskedCommand → Selection
 selection_by a =
     record { client = a.client; session = a.session; action = a.command.action; since = a.moment }

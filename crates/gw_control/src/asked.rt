@@ -6,7 +6,7 @@ use iec_command::{Action, Command};
 
 /// A command of a client.
 #[derive(Clone, Copy)]
-pub struct Asked {
+pub struct AskedCommand {
     /// Whose it is, in which session.
     pub client: u8,
     pub session: u64,

@@ -31,7 +31,7 @@ ghost use Rattle.gw_control.specs.Controls.{
 
 use crate::accepted::Accepted;
 use crate::answer::{Answer, Outcome};
-use crate::asked::{Asked, is_select};
+use crate::asked::{AskedCommand, is_select};
 use crate::intent::{act_of, control_for};
 use crate::outgoing::Outgoing;
 use crate::selection::{Selection, is_own, is_selected, is_taken};
@@ -144,7 +144,7 @@ impl Controls {
         let Some((position, control)) = control_for(command, settings) else {
             return false;
         };
-        let asked = Asked {
+        let asked = AskedCommand {
             client,
             session,
             command: *command,
@@ -179,7 +179,7 @@ impl Controls {
         let Some((position, control)) = control_for(command, settings) else {
             return Answer::Unknown;
         };
-        let asked = Asked {
+        let asked = AskedCommand {
             client,
             session,
             command: *command,
@@ -193,7 +193,7 @@ impl Controls {
     /// Takes a command for a control, of which this selection stands.
     fn answer(
         &mut self,
-        asked: &Asked,
+        asked: &AskedCommand,
         position: usize,
         control: &Control,
         standing: &Option<Selection>,
@@ -240,7 +240,7 @@ impl Controls {
     /// What an execute does to its control, where it is accepted.
     fn act_accepted(
         &self,
-        asked: &Asked,
+        asked: &AskedCommand,
         control: &Control,
         standing: &Option<Selection>,
     ) -> Option<Act>
@@ -258,14 +258,14 @@ impl Controls {
     }
 
     /// The client has a control selected no more.
-    fn unselect(&mut self, asked: &Asked, position: usize)
+    fn unselect(&mut self, asked: &AskedCommand, position: usize)
         ensures { self.new ≡ controls_unselecting asked.now position self.old }
     {
         unselect_at(&mut self.selections, position, asked.client);
     }
 
     /// The client selects a control.
-    fn select(&mut self, asked: &Asked, position: usize)
+    fn select(&mut self, asked: &AskedCommand, position: usize)
         ensures { self.new ≡ controls_selecting asked.now position self.old }
     {
         set_session(&mut self.sessions, asked.client, Some(asked.session));
@@ -282,7 +282,7 @@ impl Controls {
     }
 
     /// An execute that was accepted is an order, with this number.
-    fn order(&mut self, asked: &Asked, control: &Control, act: Act) -> u64
+    fn order(&mut self, asked: &AskedCommand, control: &Control, act: Act) -> u64
         requires count { self.old.ordered + 1 < 2 ^ 64 }
         requires place { is_full_at (slice_get self.old.outgoing control.now.outstation) ≡ false }
         ensures number { result ≡ self.old.ordered + 1 }
@@ -389,14 +389,14 @@ fn confirmed_if(told: bool) -> Answer
 }
 
 /// Whether a select is confirmed.
-fn is_selectable(asked: &Asked, control: &Control, standing: &Option<Selection>) -> bool
+fn is_selectable(asked: &AskedCommand, control: &Control, standing: &Option<Selection>) -> bool
     ensures { result ≡ is_selectable asked.now control.now standing.now }
 {
     act_of(&asked.command.action, &control.operates).is_some() && !is_taken(asked, standing)
 }
 
 /// An execute that is accepted, with its number.
-fn accepted_by(asked: &Asked, control: &Control, act: Act, number: u64) -> Accepted
+fn accepted_by(asked: &AskedCommand, control: &Control, act: Act, number: u64) -> Accepted
     ensures { result ≡ accepted_by asked.now control.now act number }
 {
     let intent = Intent {

@@ -4,7 +4,7 @@ ghost use Rattle.gw_model.specs.declared.control.Act.{Act};
 ghost use Rattle.gw_model.specs.declared.control.Ended.{Ended};
 ghost use Rattle.gw_entries.specs.declared.control.Control.{Control};
 ghost use Rattle.gw_map.specs.Settings.{Setup};
-ghost use Rattle.gw_control.specs.declared.asked.Asked.{Asked};
+ghost use Rattle.gw_control.specs.declared.asked.AskedCommand.{AskedCommand};
 ghost use Rattle.gw_control.specs.declared.selection.Selection.{Selection};
 ghost use Rattle.gw_control.specs.Orders.{places};
 ghost use Rattle.gw_control.specs.Controls.{act_accepted, answer_of, controls_after_command, controls_after_end, controls_after_ended, controls_after_lost, controls_after_taking, is_order, no_controls, outcome_ended_at, outcome_lost_at, standing_at, Controls, IsAccepted};
@@ -22,7 +22,7 @@ pub fn selections_stand()
 /// An execute that is accepted asks what its command asks, of an outstation that is up and has a place for it; no other
 /// client has the control selected, and this one has where the control wants it.
 pub fn accepted_executes()
-    ensures { (a : Asked) (control : Control) (standing : Option Selection) (v : Controls) (act : Act)
+    ensures { (a : AskedCommand) (control : Control) (standing : Option Selection) (v : Controls) (act : Act)
         → act_accepted a control standing v ≡ Some act → IsAccepted a control standing v act }
 {}
 
@@ -56,7 +56,7 @@ pub fn commands_stay_whole()
 pub fn places_are_held()
     ensures first { (setup : Setup) (c : ℕ) → orders_of c (no_controls setup) ≡ 0 }
     // One more where a command of the client is an order.
-    ensures command { (setup : Setup) (c : ℕ) (a : Asked) (v : Controls)
+    ensures command { (setup : Setup) (c : ℕ) (a : AskedCommand) (v : Controls)
         → orders_of c (controls_after_command setup a v)
         ≡ orders_of c v + one_if ((a.client == c) && is_order (answer_of setup a v)) }
     ensures taking { (c outstation : ℕ) (v : Controls)

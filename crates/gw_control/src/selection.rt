@@ -2,7 +2,7 @@
 ghost use Rattle.std.specs.Prelude.{◌≡◌};
 ghost use Rattle.gw_control.specs.Selections.{asks_same, is_fresh, is_own, is_selected, is_taken};
 
-use crate::asked::Asked;
+use crate::asked::AskedCommand;
 use iec_command::Action;
 
 /// A client's selection of a control.
@@ -42,7 +42,7 @@ fn asks_same(one: &Action, other: &Action) -> bool
 }
 
 /// Whether a control is selected by another client.
-pub(crate) fn is_taken(asked: &Asked, standing: &Option<Selection>) -> bool
+pub(crate) fn is_taken(asked: &AskedCommand, standing: &Option<Selection>) -> bool
     ensures { result ≡ is_taken asked.now standing.now }
 {
     match standing {
@@ -52,7 +52,7 @@ pub(crate) fn is_taken(asked: &Asked, standing: &Option<Selection>) -> bool
 }
 
 /// Whether a control is selected by the client, in its session.
-pub(crate) fn is_own(asked: &Asked, standing: &Option<Selection>) -> bool
+pub(crate) fn is_own(asked: &AskedCommand, standing: &Option<Selection>) -> bool
     ensures { result ≡ is_own asked.now standing.now }
 {
     match standing {
@@ -64,7 +64,7 @@ pub(crate) fn is_own(asked: &Asked, standing: &Option<Selection>) -> bool
 }
 
 /// Whether a control is selected by the client, in its session, for what a command asks.
-pub(crate) fn is_selected(asked: &Asked, standing: &Option<Selection>) -> bool
+pub(crate) fn is_selected(asked: &AskedCommand, standing: &Option<Selection>) -> bool
     ensures { result ≡ is_selected asked.now standing.now }
 {
     match standing {

@@ -10,13 +10,13 @@ use Rattle.gw_entries.specs.declared.control.ControlShow.TheVariants as control
 use Rattle.gw_entries.specs.declared.fault.Fault.{Fault}
 use Rattle.gw_entries.specs.declared.fault.Fault.TheVariants.{Missing, WrongType, OutOfRange, UnknownKey, KindMismatch}
 use Rattle.gw_entries.specs.declared.fault.Section.{Section}
-use Rattle.gw_entries.specs.Tables.{KeyRule, Content, whole, whole_to, whole_below, outstation_position, one_of, any_text, yes_or_no, Absence, required}
+use Rattle.gw_entries.specs.Tables.{KeyRule, KeyContent, whole, whole_to, whole_below, outstation_position, one_of, any_text, yes_or_no, Absence, required}
 use Rattle.gw_entries.specs.Values.{value_at, value_or, integer_in, text_in, flag_in, as_signed, as_text, kind_in, show_in, control_show_in}
 
 -- ---- one key
 
 -- a value is of the type that may stand there
-abbrev pub has_type : Content → Option Data → Bool
+abbrev pub has_type : KeyContent → Option Data → Bool
 has_type (one_of words) value = is_some (text_in value)
 has_type any_text value = is_some (text_in value)
 has_type yes_or_no value = is_some (flag_in value)
@@ -26,7 +26,7 @@ abbrev pub is_between : ℤ → ℤ → ℤ → Bool
 is_between first last z = int_le first z && int_le z last
 
 -- a value of that type may stand there, in a table with these rules, where there are so many outstations
-abbrev pub is_allowed : ℕ → List KeyRule → Members → Content → Option Data → Bool
+abbrev pub is_allowed : ℕ → List KeyRule → Members → KeyContent → Option Data → Bool
 is_allowed outstations rules ms (whole first last) value = is_between first last (as_signed value)
 is_allowed outstations rules ms (whole_to first key) value =
     is_between first (as_signed (value_at rules key ms)) (as_signed value)

@@ -7,14 +7,14 @@ use Rattle.gw_entries.specs.declared.fault.KeyName.{KeyName}
 use Rattle.gw_entries.specs.declared.fault.KeyName.TheVariants.{Known, Unknown}
 use Rattle.gw_entries.specs.declared.fault.SettingsFault.{SettingsFault}
 use Rattle.gw_entries.specs.declared.fault.SettingsFault.TheVariants.{Toml, Refused, Memory}
-use Rattle.gw_entries.specs.declared.fault.Place.{Place}
+use Rattle.gw_entries.specs.declared.fault.KeyPlace.{KeyPlace}
 use Rattle.gw_entries.specs.Complaints.{Complaint}
 
 abbrev pub key_text : KeyName → List ℕ
 key_text (Known name) = name.now
 key_text (Unknown name) = string_bytes name
 
-abbrev pub complaint_at : Fault → Place → Complaint
+abbrev pub complaint_at : Fault → KeyPlace → Complaint
 complaint_at fault place =
     record { fault = fault; section = place.section; position = place.position; key = key_text place.key }
 

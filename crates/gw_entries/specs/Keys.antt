@@ -6,12 +6,12 @@ use Rattle.gw_entries.specs.declared.entry.Datum.{Datum}
 use Rattle.gw_entries.specs.declared.entry.Datum.TheVariants as datum
 use Rattle.gw_entries.specs.declared.key.Absence.{Absence as CodedAbsence}
 use Rattle.gw_entries.specs.declared.key.Absence.TheVariants.{Required, Number as NumberMeant, Text as TextMeant, No, UsualType}
-use Rattle.gw_entries.specs.declared.key.Content.{Content as CodedContent}
-use Rattle.gw_entries.specs.declared.key.Content.TheVariants.{Number, NumberTo, NumberBelow, Outstation, Word, Text, Flag}
+use Rattle.gw_entries.specs.declared.key.KeyContent.{KeyContent as CodedContent}
+use Rattle.gw_entries.specs.declared.key.KeyContent.TheVariants.{Number, NumberTo, NumberBelow, Outstation, Word, Text, Flag}
 use Rattle.gw_entries.specs.declared.key.Key.{Key}
-use Rattle.gw_entries.specs.Tables.{Content, whole, whole_to, whole_below, outstation_position, one_of, any_text, yes_or_no, Absence, required, default, usual_type, or_no, KeyRule}
+use Rattle.gw_entries.specs.Tables.{KeyContent, whole, whole_to, whole_below, outstation_position, one_of, any_text, yes_or_no, Absence, required, default, usual_type, or_no, KeyRule}
 
-abbrev pub content_seen : CodedContent → Content
+abbrev pub content_seen : CodedContent → KeyContent
 content_seen (Number first last) = whole first last
 content_seen (NumberTo first key) = whole_to first key.now
 content_seen (NumberBelow first key) = whole_below first key.now
@@ -31,7 +31,7 @@ abbrev pub rule_seen : Key → KeyRule
 rule_seen key = record { key = key.name.now; content = content_seen key.content; absence = absence_seen key.absence }
 
 -- the words that may stand at a key
-abbrev pub words_of : Content → List (List ℕ)
+abbrev pub words_of : KeyContent → List (List ℕ)
 words_of (one_of words) = words
 words_of _ = []
 

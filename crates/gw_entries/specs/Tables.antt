@@ -17,19 +17,19 @@ use Rattle.gw_entries.specs.declared.control.Rest.{Rest}
 use Rattle.gw_entries.specs.declared.control.Rest.TheVariants.{Latch, Short}
 
 -- what may stand at a key
-pub data Content : Type 0 where
+pub data KeyContent : Type 0 where
   -- a whole number, from the first to the second
-  whole : ℤ → ℤ → Content
+  whole : ℤ → ℤ → KeyContent
   -- a whole number from the first on, to the value of another key of the table, or below it
-  whole_to : ℤ → List ℕ → Content
-  whole_below : ℤ → List ℕ → Content
+  whole_to : ℤ → List ℕ → KeyContent
+  whole_below : ℤ → List ℕ → KeyContent
   -- the position of an outstation, from 0
-  outstation_position : Content
+  outstation_position : KeyContent
   -- one of these texts, or any text
-  one_of : List (List ℕ) → Content
-  any_text : Content
+  one_of : List (List ℕ) → KeyContent
+  any_text : KeyContent
   -- true or false
-  yes_or_no : Content
+  yes_or_no : KeyContent
 
 -- what a key means that is left out
 pub data Absence : Type 0 where
@@ -40,13 +40,13 @@ pub data Absence : Type 0 where
 
 pub record KeyRule : Type 0 where
   pub key : List ℕ
-  pub content : Content
+  pub content : KeyContent
   pub absence : Absence
 
-abbrev pub rule : Name → Content → Absence → KeyRule
+abbrev pub rule : Name → KeyContent → Absence → KeyRule
 rule name content absence = record { key = codes name; content = content; absence = absence }
 
-abbrev pub number : ℕ → ℕ → Content
+abbrev pub number : ℕ → ℕ → KeyContent
 number first last = whole (pos first) (pos last)
 
 abbrev pub or_number : ℕ → Absence

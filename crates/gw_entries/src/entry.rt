@@ -13,7 +13,7 @@ ghost use Rattle.gw_entries.specs.Values.{value_or, value_at as value_in, intege
 ghost use Rattle.gw_entries.specs.declared.fault.Fault.TheVariants.{KindMismatch};
 
 use crate::fault::{Fault, KeyFault, Section, SettingsFault};
-use crate::key::{Absence, Content, Key};
+use crate::key::{Absence, KeyContent, Key};
 use crate::keys::{check_keys, key_named, keys_of};
 use std::alloc::Global;
 use toml::{Table, Value};
@@ -87,12 +87,12 @@ fn value_meant<'a>(table: &'a Table, key: &Key) -> Datum<'a>
 }
 
 /// Whether a value is of the type that may stand there.
-fn has_type(content: Content, datum: Datum) -> bool
+fn has_type(content: KeyContent, datum: Datum) -> bool
     ensures { result ≡ has_type (content_seen content) (datum_seen datum.entry) }
 {
     match content {
-        Content::Word(_) | Content::Text => datum.text().is_some(),
-        Content::Flag => datum.flag().is_some(),
+        KeyContent::Word(_) | KeyContent::Text => datum.text().is_some(),
+        KeyContent::Flag => datum.flag().is_some(),
         _ => datum.integer().is_some(),
     }
 }
@@ -197,18 +197,18 @@ impl<'a> Entry<'a> {
     }
 
     /// Whether a value of the right type may stand there, where there are so many outstations.
-    fn allows(self, content: Content, datum: Datum, outstations: u8) -> bool
+    fn allows(self, content: KeyContent, datum: Datum, outstations: u8) -> bool
         ensures { result ≡ is_allowed outstations (rules_of self.entry.section) (table_view self.entry.table.now)
             (content_seen content) (datum_seen datum.entry) }
     {
         let number = datum.integer().unwrap_or(0);
         match content {
-            Content::Number(first, last) => first <= number && number <= last,
-            Content::NumberTo(first, key) => first <= number && number <= self.signed(key),
-            Content::NumberBelow(first, key) => first <= number && number < self.signed(key),
-            Content::Outstation => 0 <= number && number < i64::from(outstations),
-            Content::Word(words) => words.contains(&datum.text().unwrap_or("")),
-            Content::Text | Content::Flag => true,
+            KeyContent::Number(first, last) => first <= number && number <= last,
+            KeyContent::NumberTo(first, key) => first <= number && number <= self.signed(key),
+            KeyContent::NumberBelow(first, key) => first <= number && number < self.signed(key),
+            KeyContent::Outstation => 0 <= number && number < i64::from(outstations),
+            KeyContent::Word(words) => words.contains(&datum.text().unwrap_or("")),
+            KeyContent::Text | KeyContent::Flag => true,
         }
     }
 

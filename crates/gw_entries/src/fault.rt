@@ -91,13 +91,13 @@ impl KeyName {
 
 /// A key of an entry. Entries are counted from 0; the station and the top have one entry.
 #[derive(Debug, Drop)]
-pub struct Place {
+pub struct KeyPlace {
     pub section: Section,
     pub position: usize,
     pub key: KeyName,
 }
 
-impl fmt::Display for Place {
+impl fmt::Display for KeyPlace {
     fn fmt<W: fmt::Write>(&self, f: &mut fmt::Formatter<W>) -> fmt::Result {
         let section = self.section.name();
         let position = self.position;
@@ -114,7 +114,7 @@ pub enum SettingsFault {
     Toml(toml::de::Error),
     /// The first that is wrong with what the document says.
     #[error("{0} {1}")]
-    Refused(Fault, Place),
+    Refused(Fault, KeyPlace),
     /// Memory ran out.
     #[error("9 Memory")]
     Memory,
@@ -162,7 +162,7 @@ impl KeyFault {
     {
         SettingsFault::Refused(
             self.fault,
-            Place {
+            KeyPlace {
                 section,
                 position,
                 key: KeyName::Known(self.key),

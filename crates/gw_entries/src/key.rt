@@ -2,7 +2,7 @@
 
 /// What may stand at a key.
 #[derive(Clone, Copy)]
-pub enum Content {
+pub enum KeyContent {
     /// A whole number, from the first to the second.
     Number(i64, i64),
     /// A whole number from the first on, to the value of another key of the table.
@@ -21,7 +21,7 @@ pub enum Content {
 
 const NO_WORDS: [&str; 0] = [];
 
-impl Content {
+impl KeyContent {
     ghost use Rattle.std.specs.Prelude.{◌≡◌, map};
     ghost use Rattle.gw_entries.specs.Keys.{content_seen, words_of};
 
@@ -30,7 +30,7 @@ impl Content {
         ensures { map (λ word. word.now) result.now ≡ words_of (content_seen self) }
     {
         match self {
-            Content::Word(words) => words,
+            KeyContent::Word(words) => words,
             _ => &NO_WORDS,
         }
     }
@@ -52,6 +52,6 @@ pub enum Absence {
 #[derive(Clone, Copy)]
 pub struct Key {
     pub name: &'static str,
-    pub content: Content,
+    pub content: KeyContent,
     pub absence: Absence,
 }

@@ -10,8 +10,8 @@ ghost use Rattle.gw_entries.specs.Tables.{top_keys, known_keys, rules_of};
 ghost use Rattle.gw_entries.specs.Values.{rule_named};
 ghost use Rattle.gw_entries.specs.declared.fault.Fault.TheVariants.{UnknownKey};
 
-use crate::fault::{Fault, KeyName, Place, Section, SettingsFault};
-use crate::key::{Absence, Content, Key};
+use crate::fault::{Fault, KeyName, KeyPlace, Section, SettingsFault};
+use crate::key::{Absence, KeyContent, Key};
 use std::alloc::Global;
 use toml::Table;
 
@@ -20,7 +20,7 @@ macro_rules! keys {
     ($($name:literal: $content:ident $(($($given:expr),*))?, $absence:ident $(($default:expr))?;)*) => {
         [$(Key {
             name: $name,
-            content: Content::$content $(($($given),*))?,
+            content: KeyContent::$content $(($($given),*))?,
             absence: Absence::$absence $(($default))?,
         }),*]
     };
@@ -145,7 +145,7 @@ pub fn check_keys(
             let key = KeyName::Unknown(String::from_str(alloc, key.as_str())?);
             Err(SettingsFault::Refused(
                 Fault::UnknownKey,
-                Place {
+                KeyPlace {
                     section,
                     position,
                     key,

@@ -13,7 +13,7 @@ use Rattle.gw_picture.specs.Picture.{news_of}
 use Rattle.dnp_app.specs.Response.{Fragment}
 use Rattle.dnp_master.specs.Master.{Master}
 use Rattle.iec_apci.specs.declared.apdu.Apdu.{Apdu}
-use Rattle.iec_apci.specs.Apdu.{Content}
+use Rattle.iec_apci.specs.Apdu.{ApduContent}
 use Rattle.iec_command.specs.declared.command.Command.{Command}
 use Rattle.gw_control.specs.declared.answer.Outcome.{Outcome}
 use Rattle.gw_control.specs.Controls.{Controls}
@@ -263,12 +263,12 @@ pump_own : (setup : Setup) (past : List Entry) (c m moment : ℕ) (k : Client) (
     Goes setup (turn_of setup c past e) k (client_by_offer moment x k)
 pump_own setup past c m moment k None few first can = rw (eq-eqb c c refl) (still k few)
 pump_own setup past c m moment k (Some sending) few first can =
-    let content : Content = content_of setup.station.offset_minutes setup.station.common_address k.window sending in
+    let content : ApduContent = content_of setup.station.offset_minutes setup.station.common_address k.window sending in
     let fits = content_fits setup.station.offset_minutes setup.station.common_address k.window sending in
     rw (eq-eqb c c refl, said-content setup.station.offset_minutes content fits)
     (record { moment = moment; sending = sending; first = first; can = can; says = refl; becomes = refl })
 
-pump_apart : (setup : Setup) (past : List Entry) (c d m : ℕ) (given : Option Content) → (c ≡ d → ⊥)
+pump_apart : (setup : Setup) (past : List Entry) (c d m : ℕ) (given : Option ApduContent) → (c ≡ d → ⊥)
     → turn_of setup d past (entry (steps.Pump c m) (Ok (reply_giving given))) ≡ Some nothing_new
 pump_apart setup past c d m None ne = rw (ne_eqb c d ne) refl
 pump_apart setup past c d m (Some content) ne = rw (ne_eqb c d ne) refl
@@ -281,7 +281,7 @@ pump setup past c m r s sound e =
     let moment : ℕ = latest s m in
     let told = answered (fault_of s step) (can_be_counted s (needs setup s step)) (reply_to setup s step) r e in
     let up = who_is_up (λ (k : Client). is_up k.stage) NoClient (slice_get s.clients c) told.0 in
-    let content : Option Content = given setup.station.offset_minutes setup.station.common_address moment up.0 in
+    let content : Option ApduContent = given setup.station.offset_minutes setup.station.common_address moment up.0 in
     let reply : reply_giving content ≡ r = sym (ap (client_reply (λ (k : Client). reply_giving
     (given setup.station.offset_minutes setup.station.common_address moment k))) up.1) ∙ told.2 in
     let mine = sound_at setup.station s.counts.steps s.counts.news s.clients c up.0 up.1 sound.clients in

@@ -8,7 +8,7 @@ use Rattle.dnp_app.specs.Control.{confirm_of}
 use Rattle.dnp_app.specs.declared.request.Request.{Request}
 use Rattle.dnp_master.specs.Master.{Master}
 use Rattle.dnp_master.specs.Fragments.{is_last, verdict_of}
-use Rattle.iec_apci.specs.Apdu.{Content}
+use Rattle.iec_apci.specs.Apdu.{ApduContent}
 use Rattle.gw_station.specs.declared.event.Event.{Event}
 use Rattle.gw_station.specs.declared.event.Event.TheVariants as events
 use Rattle.gw_station.specs.Client.{Client, is_up}
@@ -24,13 +24,13 @@ use Rattle.gw_steps.specs.State.{State}
 use Rattle.gw_steps.specs.Steps.{Allowed, outcome, needs, can_be_counted, reply_to, fault_of, reply_of_event, reply_asking, reply_giving, request_polled, latest}
 use Rattle.gw_steps.specs.Runs.{Entry, state_after}
 use Rattle.gw_steps.proofs.Inversion.{answered, who_is_up}
-use Rattle.gw_history.specs.Accepted.{last_text, Asked, is_in_sequence, is_in_place, is_answer, asked_of}
+use Rattle.gw_history.specs.Accepted.{last_text, AskedRequest, is_in_sequence, is_in_place, is_answer, asked_of}
 use Rattle.gw_history.specs.Confirmations.{verdict_in, verdict_due_to_answer, verdict_due, confirmation_in, confirmation_due, without_order, Confirms, ConfirmsBy, Confirmations}
 use Rattle.gw_history.proofs.Masters.{MasterIs, MasterTied, verdict_is}
 use Rattle.gw_history.proofs.Tied.{Tied}
 use Rattle.gw_history.proofs.Places.{Place}
 
-answer_confirms : (asked : Option Asked) (f : Fragment)
+answer_confirms : (asked : Option AskedRequest) (f : Fragment)
     → confirmation_in (Some (verdict_due_to_answer asked f)) ≡ cond (is_answer asked f) (confirm_of f.octets) None
 answer_confirms None f = refl
 answer_confirms (Some a) f = go (is_in_sequence a f) (is_in_place a f) refl refl
@@ -74,7 +74,7 @@ confirms setup past step r s e tied =
     of_asking None = refl
     of_asking (Some request) = refl
 
-    of_given : (content : Option Content) → verdict_in (reply_giving content) ≡ None
+    of_given : (content : Option ApduContent) → verdict_in (reply_giving content) ≡ None
     of_given None = refl
     of_given (Some content) = refl
 

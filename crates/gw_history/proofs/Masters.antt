@@ -28,18 +28,18 @@ use Rattle.gw_steps.specs.State.{later}
 use Rattle.gw_steps.specs.Steps.{reply_asking}
 use Rattle.gw_steps.specs.Runs.{Entry}
 use Rattle.gw_steps.proofs.Running.{entry}
-use Rattle.gw_history.specs.Accepted.{moment_after, last_text, Asked, is_in_sequence, is_in_place, is_answer, asked_with, asked_at, poll_at, asked_of, is_accepted}
+use Rattle.gw_history.specs.Accepted.{moment_after, last_text, AskedRequest, is_in_sequence, is_in_place, is_answer, asked_with, asked_at, poll_at, asked_of, is_accepted}
 use Rattle.gw_history.specs.Confirmations.{verdict_due_to_answer, verdict_due, without_order}
 
 -- ---- the tie
 
 -- the answer that a master awaits is the one that the history tells
-pub record AwaitsAlike (w : Awaited) (a : Asked) : Type 0 where
+pub record AwaitsAlike (w : Awaited) (a : AskedRequest) : Type 0 where
   pub expected : w.expected ≡ (a.sequence + a.fragments) % 16
   pub begun : w.begun ≡ not (eqb a.fragments 0)
   pub since : w.since ≡ a.since
 
-abbrev pub AwaitsAs : Exchange → Option Asked → Type 0
+abbrev pub AwaitsAs : Exchange → Option AskedRequest → Type 0
 AwaitsAs Idle None = Unit {0}
 AwaitsAs Idle (Some a) = ⊥
 AwaitsAs (Waiting w) None = ⊥
@@ -66,7 +66,7 @@ same_is setup o past e m last asked tied = record {
   poll = tied.poll;
   last = tied.last ∙ sym last;
   number = tied.number;
-  awaits = subst (λ (x : Option Asked). AwaitsAs m.exchange x) (sym asked) tied.awaits;
+  awaits = subst (λ (x : Option AskedRequest). AwaitsAs m.exchange x) (sym asked) tied.awaits;
 }
 
 pub same_master : (setup : Setup) (o : ℕ) (past : List Entry) (e : Entry) (x : Option Master)
@@ -87,7 +87,7 @@ fresh_is setup o past e m new last asked poll none zero idle tied = record {
   last = none ∙ sym last;
   number = omega (arith, zero);
   awaits = subst (λ (x : Exchange). AwaitsAs x (asked_of setup o (e ∷ past))) (sym idle)
-      (subst (λ (x : Option Asked). AwaitsAs Idle x) (sym asked) tt);
+      (subst (λ (x : Option AskedRequest). AwaitsAs Idle x) (sym asked) tt);
 }
 
 pub master_up : (setup : Setup) (o m moment : ℕ) (r : Reply) (past : List Entry) (x : Option Master)
@@ -120,7 +120,7 @@ first_octet Enable n = refl
 first_octet EventPoll n = refl
 first_octet (Command operation order) n = refl
 
-abbrev asked_by : Request → ℕ → Asked
+abbrev asked_by : Request → ℕ → AskedRequest
 asked_by r moment = record { sequence = slice_index r.octets 0 % 16; fragments = 0; since = moment }
 
 poll_asks : (setup : Setup) (o m wall : ℕ) (r : Request) (past : List Entry)
@@ -144,7 +144,7 @@ master_asked setup o m wall moment past x task at tied =
       poll = tied.poll;
       last = tied.last;
       number = omega arith;
-      awaits = subst (λ (y : Option Asked). AwaitsAs (Waiting
+      awaits = subst (λ (y : Option AskedRequest). AwaitsAs (Waiting
           (record { task = task; expected = x.sequence; begun = false; since = moment })) y)
           (sym (poll_asks setup o m wall r past)) alike;
     }
@@ -169,7 +169,7 @@ master_ordered setup o m wall moment past x order at tied =
 
 -- ---- ticks
 
-ticked : (setup : Setup) (o moment : ℕ) (poll : Poll) (w : Awaited) (a : Asked) → AwaitsAlike w a
+ticked : (setup : Setup) (o moment : ℕ) (poll : Poll) (w : Awaited) (a : AskedRequest) → AwaitsAlike w a
     → is_late moment poll w.since ≡ is_late moment poll a.since
 ticked setup o moment poll w a alike = ap (is_late moment poll) alike.since
 
@@ -186,7 +186,7 @@ master_ticked setup o m moment r past (Some x) at tied = go x.exchange (asked_of
     told = ap (λ (n : ℕ). asked_at n (poll_at setup o) (asked_of setup o past)) (sym at)
         ∙ ap (λ (p : Option Poll). asked_at moment p (asked_of setup o past)) tied.poll
 
-    go : (exchange : Exchange) (asked : Option Asked) → asked_of setup o past ≡ asked → AwaitsAs exchange asked
+    go : (exchange : Exchange) (asked : Option AskedRequest) → asked_of setup o past ≡ asked → AwaitsAs exchange asked
         → MasterIs setup o (e ∷ past) (master_with_exchange_after moment exchange x)
     go Idle None ea alike =
         let none : asked_of setup o (e ∷ past) ≡ asked_of setup o past =
@@ -210,7 +210,7 @@ master_ticked setup o m moment r past (Some x) at tied = go x.exchange (asked_of
                 poll = tied.poll;
                 last = tied.last;
                 number = tied.number;
-                awaits = subst (λ (y : Option Asked). AwaitsAs Idle y) (sym none) tt;
+                awaits = subst (λ (y : Option AskedRequest). AwaitsAs Idle y) (sym none) tt;
               }))
           | inr early ↦
               (let same : asked_of setup o (e ∷ past) ≡ asked_of setup o past = there
@@ -235,7 +235,7 @@ once_answered (Command Select order) false = tt
 once_answered (Command Operate order) done = tt
 once_answered (Command DirectOperate order) done = tt
 
-pub verdict_to_answer : (exchange : Exchange) (asked : Option Asked) (f : Fragment) → AwaitsAs exchange asked
+pub verdict_to_answer : (exchange : Exchange) (asked : Option AskedRequest) (f : Fragment) → AwaitsAs exchange asked
     → without_order (verdict_of_answer exchange f) ≡ verdict_due_to_answer asked f
 verdict_to_answer Idle None f alike = refl
 verdict_to_answer Idle (Some a) f alike = absurd alike
@@ -283,7 +283,7 @@ same_acceptance (Accepted confirm end control) = refl
 same_acceptance (Repeated confirm) = refl
 same_acceptance (Ignored why) = refl
 
-answer_accepted : (asked : Option Asked) (f : Fragment)
+answer_accepted : (asked : Option AskedRequest) (f : Fragment)
     → is_acceptance (verdict_due_to_answer asked f) ≡ is_answer asked f
 answer_accepted None f = refl
 answer_accepted (Some a) f = go (is_in_sequence a f) (is_in_place a f) refl refl
@@ -343,7 +343,7 @@ pub other_asked : (setup : Setup) (past : List Entry) (f : Fragment) (p m : ℕ)
 other_asked setup past f p m r ne = rw (ne_eqb f.outstation p ne) refl
 
 -- one fragment more of an answer
-awaits_more : (moment : ℕ) (f : Fragment) (exchange : Exchange) (asked : Option Asked) (m : Master) → m.sequence < 16
+awaits_more : (moment : ℕ) (f : Fragment) (exchange : Exchange) (asked : Option AskedRequest) (m : Master) → m.sequence < 16
     → is_answer asked f ≡ true → AwaitsAs exchange asked
     → AwaitsAs (master_after_answer moment f exchange m).exchange (asked_with moment f asked)
     × ((master_after_answer moment f exchange m).sequence < 16)
@@ -394,7 +394,7 @@ master_accepted setup past f m moment r x at takes tied = rw takes (go (is_unsol
       poll = tied.poll;
       last = sym (own_last past f m r eb);
       number = tied.number;
-      awaits = subst (λ (y : Option Asked). AwaitsAs x.exchange y) (sym (kept_asked setup past f m r eb)) tied.awaits;
+      awaits = subst (λ (y : Option AskedRequest). AwaitsAs x.exchange y) (sym (kept_asked setup past f m r eb)) tied.awaits;
     })
     go false eb =
         let answers : is_answer (asked_of setup f.outstation past) f ≡ true =
@@ -408,7 +408,7 @@ master_accepted setup past f m moment r x at takes tied = rw takes (go (is_unsol
           poll = tied.poll ∙ ap (λ (y : Poll). Some y) (sym (after_answer_poll moment f x.exchange x));
           last = after_answer_last moment f x.exchange x ∙ (tied.last ∙ sym (kept_last past f m r eb));
           number = more.1;
-          awaits = subst (λ (y : Option Asked). AwaitsAs (master_after_answer moment f x.exchange x).exchange y)
+          awaits = subst (λ (y : Option AskedRequest). AwaitsAs (master_after_answer moment f x.exchange x).exchange y)
               (sym asked) more.0;
         })
 
@@ -437,7 +437,7 @@ master_left setup past f m r x left tied = go (is_unsolicited f) refl
           poll = tied.poll;
           last = known ∙ sym (own_last past f m r eb);
           number = tied.number;
-          awaits = subst (λ (y : Option Asked). AwaitsAs x.exchange y)
+          awaits = subst (λ (y : Option AskedRequest). AwaitsAs x.exchange y)
               (sym (kept_asked setup past f m r eb)) tied.awaits;
         }
     go false eb =

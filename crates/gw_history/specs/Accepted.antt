@@ -45,30 +45,30 @@ is_repeated past f = is_unsolicited f && is_last (last_text f.outstation past) f
 
 -- a request that awaits its answer: its sequence number, how many fragments of the answer were accepted, and when it
 -- was given or the last of these came
-pub record Asked : Type 0 where
+pub record AskedRequest : Type 0 where
   pub sequence : ℕ
   pub fragments : ℕ
   pub since : ℕ
 
 -- the sequence number is the next one, and FIR is set in the first fragment alone
-abbrev pub is_in_sequence : Asked → Fragment → Bool
+abbrev pub is_in_sequence : AskedRequest → Fragment → Bool
 is_in_sequence a f = (control_in f).sequence == (a.sequence + a.fragments) % 16
 
-abbrev pub is_in_place : Asked → Fragment → Bool
+abbrev pub is_in_place : AskedRequest → Fragment → Bool
 is_in_place a f = is_begun_rightly (not (a.fragments == 0)) (control_in f).fir
 
-abbrev pub is_answer : Option Asked → Fragment → Bool
+abbrev pub is_answer : Option AskedRequest → Fragment → Bool
 is_answer None f = false
 is_answer (Some a) f = is_in_sequence a f && is_in_place a f
 
 -- one fragment more came at a moment; FIN ends the answer
-abbrev pub asked_with : ℕ → Fragment → Option Asked → Option Asked
+abbrev pub asked_with : ℕ → Fragment → Option AskedRequest → Option AskedRequest
 asked_with moment f None = None
 asked_with moment f (Some a) =
     if (control_in f).fin then None else Some (record a { fragments = a.fragments + 1; since = moment })
 
 -- what awaits its answer at a moment, of an outstation that is polled so: no request that is late
-abbrev pub asked_at : ℕ → Option Poll → Option Asked → Option Asked
+abbrev pub asked_at : ℕ → Option Poll → Option AskedRequest → Option AskedRequest
 asked_at moment (Some poll) (Some a) = if is_late moment poll a.since then None else Some a
 asked_at moment poll asked = asked
 
@@ -77,7 +77,7 @@ abbrev pub poll_at : Setup → ℕ → Option Poll
 poll_at setup o = option_map (λ outstation. outstation.poll) (slice_get setup.outstations o)
 
 -- what awaits after a step without a fault, made at a moment: a connection begins and ends with nothing that awaits
-abbrev pub asked_after : Setup → ℕ → ℕ → Step → Reply → Option Asked → Option Asked
+abbrev pub asked_after : Setup → ℕ → ℕ → Step → Reply → Option AskedRequest → Option AskedRequest
 asked_after setup o moment (steps.OutstationUp p _) reply asked = if p == o then None else asked
 asked_after setup o moment (steps.OutstationDown p _) reply asked = if p == o then None else asked
 asked_after setup o moment (steps.Poll p _ wall) (replies.Request request) asked =
@@ -89,7 +89,7 @@ asked_after setup o moment (steps.Tick _) reply asked = asked_at moment (poll_at
 asked_after setup o moment _ reply asked = asked
 
 -- the request of an outstation that awaits its answer
-abbrev pub asked_of : Setup → ℕ → List Entry → Option Asked
+abbrev pub asked_of : Setup → ℕ → List Entry → Option AskedRequest
 asked_of setup o [] = None
 asked_of setup o (e ∷ past) =
     let asked = asked_of setup o past in

@@ -14,7 +14,7 @@ use Rattle.gw_steps.specs.declared.step.Reply.{Reply}
 use Rattle.gw_steps.specs.declared.step.Reply.TheVariants as replies
 use Rattle.gw_steps.specs.declared.step.StepFault.{StepFault}
 use Rattle.gw_steps.specs.Runs.{Entry}
-use Rattle.gw_history.specs.Accepted.{Asked, is_in_sequence, is_in_place, asked_of, is_accepted, is_repeated}
+use Rattle.gw_history.specs.Accepted.{AskedRequest, is_in_sequence, is_in_place, asked_of, is_accepted, is_repeated}
 
 -- a verdict, but for the order that ends with the fragment
 abbrev pub without_order : Verdict → Verdict
@@ -41,7 +41,7 @@ confirmation_in (Some (verdicts.Repeated confirmation)) = confirmation
 confirmation_in (Some (verdicts.Ignored why)) = None
 
 -- what is to be said of an answer to the request that awaits one
-abbrev pub verdict_due_to_answer : Option Asked → Fragment → Verdict
+abbrev pub verdict_due_to_answer : Option AskedRequest → Fragment → Verdict
 verdict_due_to_answer None f = verdicts.Ignored NoRequest
 verdict_due_to_answer (Some a) f =
     if is_in_sequence a f then

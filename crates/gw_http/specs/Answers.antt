@@ -1,10 +1,10 @@
 -- The octets of an answer (RFC 9112, 2.1).
 use Rattle.std.specs.Prelude.{ℕ, Bool, List, [], ◌∷◌, ◌++◌, codes, if◌then◌else◌, length}
 use Rattle.std.specs.Fmt.{decimal}
-use Rattle.gw_http.specs.declared.request.Asked.{Asked}
-use Rattle.gw_http.specs.declared.request.Asked.TheVariants.{Metrics, Page}
-use Rattle.gw_http.specs.declared.request.Refusal.{Refusal}
-use Rattle.gw_http.specs.declared.request.Refusal.TheVariants.{Malformed, NotAllowed, NotFound, TooLong}
+use Rattle.gw_http.specs.declared.request.Resource.{Resource}
+use Rattle.gw_http.specs.declared.request.Resource.TheVariants.{Metrics, Page}
+use Rattle.gw_http.specs.declared.request.RequestFault.{RequestFault}
+use Rattle.gw_http.specs.declared.request.RequestFault.TheVariants.{Malformed, NotAllowed, NotFound, TooLong}
 
 -- the end of a line
 abbrev pub line_end : List ℕ
@@ -27,24 +27,24 @@ message status content fields body is_head =
     ++ sent_of body is_head))))))))))))))
 
 -- the content type of what is asked for
-abbrev pub content_of : Asked → List ℕ
+abbrev pub content_of : Resource → List ℕ
 content_of Page = codes "text/html; charset=utf-8"
 content_of Metrics = codes "text/plain; version=0.0.4; charset=utf-8"
 
 -- the status code of a refusal, with its words
-abbrev pub line_of : Refusal → List ℕ
+abbrev pub line_of : RequestFault → List ℕ
 line_of Malformed = codes "400 Bad Request"
 line_of NotFound = codes "404 Not Found"
 line_of NotAllowed = codes "405 Method Not Allowed"
 line_of TooLong = codes "431 Request Header Fields Too Large"
 
 -- the fields that a refusal has alone
-abbrev pub fields_of : Refusal → List ℕ
+abbrev pub fields_of : RequestFault → List ℕ
 fields_of NotAllowed = codes "Allow: GET, HEAD" ++ line_end
 fields_of _ = []
 
 -- the octets of a refusal
-abbrev pub refused_by : Refusal → Bool → List ℕ
+abbrev pub refused_by : RequestFault → Bool → List ℕ
 refused_by refusal is_head =
     message (line_of refusal) (codes "text/plain; charset=utf-8") (fields_of refusal)
     (line_of refusal ++ 10 ∷ []) is_head

@@ -5,11 +5,11 @@ use Rattle.std.specs.List.{starts_with}
 use Rattle.std.specs.Str.{bytes_eq}
 use Rattle.httparse.specs.Grammar.{HasNoRequest, MayBecomeRequest, NeverHasRequest, ReadsRequest, RequestHead}
 use Rattle.httparse.specs.Spans.{RequestOverflows}
-use Rattle.gw_http.specs.declared.request.Asked.{Asked}
-use Rattle.gw_http.specs.declared.request.Asked.TheVariants.{Metrics, Page}
-use Rattle.gw_http.specs.declared.request.Refusal.{Refusal}
-use Rattle.gw_http.specs.declared.request.Refusal.TheVariants.{Malformed, NotAllowed, NotFound, TooLong}
-use Rattle.gw_http.specs.declared.request.Request.{Request}
+use Rattle.gw_http.specs.declared.request.Resource.{Resource}
+use Rattle.gw_http.specs.declared.request.Resource.TheVariants.{Metrics, Page}
+use Rattle.gw_http.specs.declared.request.RequestFault.{RequestFault}
+use Rattle.gw_http.specs.declared.request.RequestFault.TheVariants.{Malformed, NotAllowed, NotFound, TooLong}
+use Rattle.gw_http.specs.declared.request.HttpRequest.{HttpRequest}
 
 -- the front before a place, or all
 abbrev pub before : List ℕ → Option ℕ → List ℕ
@@ -46,7 +46,7 @@ abbrev pub path_of : List ℕ → List ℕ
 path_of target = path_in (before_query target)
 
 -- what lies at a path
-abbrev pub found_at : List ℕ → Result Asked Refusal
+abbrev pub found_at : List ℕ → Result Resource RequestFault
 found_at path =
     if bytes_eq path (codes "/") then Ok Page
     else if bytes_eq path (codes "/metrics") then Ok Metrics
@@ -56,23 +56,23 @@ abbrev pub is_head : List ℕ → Bool
 is_head method = bytes_eq method (codes "HEAD")
 
 -- what is asked for where the method may be either of two
-abbrev pub allowed : Result Asked Refusal → Bool → Result Asked Refusal
+abbrev pub allowed : Result Resource RequestFault → Bool → Result Resource RequestFault
 allowed (Ok asked) may_be = if may_be then Ok asked else Err NotAllowed
 allowed (Err refusal) may_be = Err refusal
 
 -- what a request is answered, by its method and its target
-abbrev pub request_of : List ℕ → List ℕ → Request
+abbrev pub request_of : List ℕ → List ℕ → HttpRequest
 request_of method target = record {
   asked = allowed (found_at (path_of target)) (bytes_eq method (codes "GET") || is_head method);
   is_head = is_head method;
 }
 
 -- one that is refused before it is known
-abbrev pub refused : Refusal → Request
+abbrev pub refused : RequestFault → HttpRequest
 refused refusal = record { asked = Err refusal; is_head = false }
 
 -- what the octets that came so far are answered: nothing while more of them may make a head
-pub record IsAnswered (octets : List ℕ) (answered : Option Request) : Type 0 where
+pub record IsAnswered (octets : List ℕ) (answered : Option HttpRequest) : Type 0 where
   -- a whole head with at most 64 fields, by its method and its target
   pub whole : (head : RequestHead) (rest : List ℕ) → ReadsRequest octets head rest → length head.fields ≤ 64
       → answered ≡ Some (request_of head.method head.target)
@@ -88,7 +88,7 @@ pub record ReadsOn (old new : Option (List ℕ)) (before after : List ℕ) : Typ
   pub after_is : after ≡ before ++ piece
 
 -- the octets that a reader gave are at most 4,096, and are answered by this request
-pub record IsReceived (old new : Option (List ℕ)) (request : Request) : Type 0 where
+pub record IsReceived (old new : Option (List ℕ)) (request : HttpRequest) : Type 0 where
   pub octets : List ℕ
   pub consumed : Consumes old new octets
   pub few : length octets ≤ 4096

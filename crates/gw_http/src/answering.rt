@@ -2,12 +2,12 @@
 ghost use Rattle.std.specs.Prelude.{◌≡◌, IfOk, [], codes, string_bytes};
 ghost use Rattle.gw_http.specs.Answers.{content_of, fields_of, line_of, message, refused_by, sent_of};
 
-use crate::request::{Asked, Refusal};
+use crate::request::{Resource, RequestFault};
 use gw_model::Memory;
 use std::alloc::Global;
 
 /// The octets that answer a request with the body that it asks for.
-pub fn answer(alloc: Global, asked: Asked, is_head: bool, body: &str) -> Result<String, Memory>
+pub fn answer(alloc: Global, asked: Resource, is_head: bool, body: &str) -> Result<String, Memory>
     ensures { IfOk result (λ text. string_bytes text
         ≡ message (codes "200 OK") (content_of asked) [] body.now is_head) }
 {
@@ -15,17 +15,17 @@ pub fn answer(alloc: Global, asked: Asked, is_head: bool, body: &str) -> Result<
 }
 
 /// The content type of what is asked for.
-fn content_of(asked: Asked) -> &'static str
+fn content_of(asked: Resource) -> &'static str
     ensures { result.now ≡ content_of asked }
 {
     match asked {
-        Asked::Page => "text/html; charset=utf-8",
-        Asked::Metrics => "text/plain; version=0.0.4; charset=utf-8",
+        Resource::Page => "text/html; charset=utf-8",
+        Resource::Metrics => "text/plain; version=0.0.4; charset=utf-8",
     }
 }
 
 /// The octets that refuse a request.
-pub fn refuse(alloc: Global, refusal: Refusal, is_head: bool) -> Result<String, Memory>
+pub fn refuse(alloc: Global, refusal: RequestFault, is_head: bool) -> Result<String, Memory>
     ensures { IfOk result (λ text. string_bytes text ≡ refused_by refusal is_head) }
 {
     let (line, fields) = (line_of(refusal), fields_of(refusal));
@@ -41,23 +41,23 @@ pub fn refuse(alloc: Global, refusal: Refusal, is_head: bool) -> Result<String, 
 }
 
 /// The status code of a refusal, with its words (RFC 9110, 15.5; RFC 6585, 5).
-fn line_of(refusal: Refusal) -> &'static str
+fn line_of(refusal: RequestFault) -> &'static str
     ensures { result.now ≡ line_of refusal }
 {
     match refusal {
-        Refusal::Malformed => "400 Bad Request",
-        Refusal::NotFound => "404 Not Found",
-        Refusal::NotAllowed => "405 Method Not Allowed",
-        Refusal::TooLong => "431 Request Header Fields Too Large",
+        RequestFault::Malformed => "400 Bad Request",
+        RequestFault::NotFound => "404 Not Found",
+        RequestFault::NotAllowed => "405 Method Not Allowed",
+        RequestFault::TooLong => "431 Request Header Fields Too Large",
     }
 }
 
 /// The fields that a refusal has alone.
-fn fields_of(refusal: Refusal) -> &'static str
+fn fields_of(refusal: RequestFault) -> &'static str
     ensures { result.now ≡ fields_of refusal }
 {
     match refusal {
-        Refusal::NotAllowed => "Allow: GET, HEAD\r\n",
+        RequestFault::NotAllowed => "Allow: GET, HEAD\r\n",
         _ => "",
     }
 }

@@ -2,7 +2,7 @@
 ghost use Rattle.std.specs.Prelude.{◌≤◌, IfSome, length, take};
 ghost use Rattle.gw_http.specs.Requests.{IsAnswered, IsReceived, ReadsOn};
 
-use crate::request::{Refusal, Request};
+use crate::request::{RequestFault, HttpRequest};
 use httparse::spans::{EMPTY_HEADER_SPAN, parse_request};
 use httparse::{Error, Status};
 use std::io::{ErrorKind, Read};
@@ -16,7 +16,7 @@ pub const MOST_FIELDS: usize = 64;
 /// Reads a request; nothing where the end of the input, or a fault, comes before its head is whole.
 ///
 /// An interrupted read is tried again. What follows the head is not read, or read and dropped.
-pub fn receive<R: Read>(reader: &mut R) -> Option<Request>
+pub fn receive<R: Read>(reader: &mut R) -> Option<HttpRequest>
     ensures { IfSome result (λ request. IsReceived (R.remaining reader.old) (R.remaining reader.new) request) }
 {
     let mut octets = [0u8; MOST_OCTETS];
@@ -48,17 +48,17 @@ fn read_more<R: Read>(reader: &mut R, octets: &mut [u8], filled: usize) -> Optio
 }
 
 /// What the octets that came so far are answered; nothing where more of them may make a request.
-fn request_in(octets: &[u8]) -> Option<Request>
+fn request_in(octets: &[u8]) -> Option<HttpRequest>
     ensures { IsAnswered octets.now result }
 {
     let mut fields = [EMPTY_HEADER_SPAN; MOST_FIELDS];
     match parse_request(octets, &mut fields) {
         Ok(Status::Complete(head)) => {
-            Some(Request::of(head.method.of(octets), head.path.of(octets)))
+            Some(HttpRequest::of(head.method.of(octets), head.path.of(octets)))
         }
         Ok(Status::Partial) if octets.len() < MOST_OCTETS => None,
-        Ok(Status::Partial) => Some(Request::refused(Refusal::TooLong)),
-        Err(Error::TooManyHeaders) => Some(Request::refused(Refusal::TooLong)),
-        Err(_) => Some(Request::refused(Refusal::Malformed)),
+        Ok(Status::Partial) => Some(HttpRequest::refused(RequestFault::TooLong)),
+        Err(Error::TooManyHeaders) => Some(HttpRequest::refused(RequestFault::TooLong)),
+        Err(_) => Some(HttpRequest::refused(RequestFault::Malformed)),
     }
 }

@@ -4,7 +4,7 @@ ghost use Rattle.gw_http.specs.Requests.{before_query, behind_host, found_at, ho
 
 /// What is told of the gateway.
 #[derive(Clone, Copy)]
-pub enum Asked {
+pub enum Resource {
     /// `/`: a page for people.
     Page,
     /// `/metrics`: the figures as Prometheus reads them.
@@ -13,7 +13,7 @@ pub enum Asked {
 
 /// Why nothing is told.
 #[derive(Clone, Copy)]
-pub enum Refusal {
+pub enum RequestFault {
     /// What came is no request of HTTP/1.0 or HTTP/1.1.
     Malformed,
     /// There is nothing at this path.
@@ -26,29 +26,29 @@ pub enum Refusal {
 
 /// A request: what is asked for, or why that is refused, and whether it is one for a head alone.
 #[derive(Clone, Copy)]
-pub struct Request {
-    pub asked: Result<Asked, Refusal>,
+pub struct HttpRequest {
+    pub asked: Result<Resource, RequestFault>,
     pub is_head: bool,
 }
 
-impl Request {
+impl HttpRequest {
     /// That of a method and a target.
-    pub fn of(method: &[u8], target: &[u8]) -> Request
+    pub fn of(method: &[u8], target: &[u8]) -> HttpRequest
         ensures { result ≡ request_of method.now target.now }
     {
         let is_head = method == b"HEAD".as_slice();
         let asked = match found_at(path_of(target)) {
-            Ok(_) if method != b"GET".as_slice() && !is_head => Err(Refusal::NotAllowed),
+            Ok(_) if method != b"GET".as_slice() && !is_head => Err(RequestFault::NotAllowed),
             found => found,
         };
-        Request { asked, is_head }
+        HttpRequest { asked, is_head }
     }
 
     /// One that is refused before it is known.
-    pub fn refused(refusal: Refusal) -> Request
+    pub fn refused(refusal: RequestFault) -> HttpRequest
         ensures { result ≡ refused refusal }
     {
-        Request {
+        HttpRequest {
             asked: Err(refusal),
             is_head: false,
         }
@@ -102,14 +102,14 @@ fn query_in(target: &[u8]) -> Option<usize>
 }
 
 /// What lies at a path.
-fn found_at(path: &[u8]) -> Result<Asked, Refusal>
+fn found_at(path: &[u8]) -> Result<Resource, RequestFault>
     ensures { result ≡ found_at path.now }
 {
     if path == b"/".as_slice() {
-        Ok(Asked::Page)
+        Ok(Resource::Page)
     } else if path == b"/metrics".as_slice() {
-        Ok(Asked::Metrics)
+        Ok(Resource::Metrics)
     } else {
-        Err(Refusal::NotFound)
+        Err(RequestFault::NotFound)
     }
 }

@@ -21,7 +21,7 @@ use Rattle.gw_entries.specs.Setup.{StationSetup}
 use Rattle.gw_entries.specs.declared.control.Control.{Control}
 use Rattle.gw_picture.proofs.Lists.{change-still}
 use Rattle.dnp_master.specs.Master.{Master}
-use Rattle.gw_control.specs.declared.asked.Asked.{Asked}
+use Rattle.gw_control.specs.declared.asked.AskedCommand.{AskedCommand}
 use Rattle.gw_control.specs.Intents.{control_for}
 use Rattle.gw_control.specs.Held.{orders_of}
 use Rattle.gw_control.specs.Moves.{Comes, Leaves, one_if, HasWholeCommands, IsSoundControls}
@@ -162,7 +162,7 @@ confirmed_none true n e = absurd cc
 confirmed_none false n e = absurd cc
 
 -- only what executes is an order
-ordered_executes : (setup : Setup) (a : Asked) (v : Controls) (n : ℕ) → answer_of setup a v ≡ answers.Ordered n
+ordered_executes : (setup : Setup) (a : AskedCommand) (v : Controls) (n : ℕ) → answer_of setup a v ≡ answers.Ordered n
     → (is_deactivation a ≡ false) × (is_select a.command.action ≡ false)
 ordered_executes setup a v n e = by (control_for setup a.command) e
   where
@@ -202,7 +202,7 @@ said_fits command said k short same place =
       length-append k.answers (map Made (told command said)),
     )
 
-pub answer_fits : (setup : Setup) (a : Asked) (v : Controls) (answer : Answer) (k : Client)
+pub answer_fits : (setup : Setup) (a : AskedCommand) (v : Controls) (answer : Answer) (k : Client)
     → answer ≡ answer_of setup a v → HasPlace (events.Command a.command) k → IsActEvent (events.Command a.command)
     → CanBeTold a.command (said_by answer) k
 answer_fits setup a v answers.Confirm k e place act = said_fits a.command saids.Confirm k (omega arith) refl place
@@ -213,7 +213,7 @@ answer_fits setup a v (answers.Ordered n) k e place act =
     let two : needed (is_execute a.command) ≡ 2 = ap needed (act kind.0 kind.1) in
     omega (arith, place.1, two, length-append k.answers (map Made (told a.command saids.Ordered)))
 
-pub all_fit : (setup : Setup) (a : Asked) (v : Controls) (answer : Answer) (found : Option Client)
+pub all_fit : (setup : Setup) (a : AskedCommand) (v : Controls) (answer : Answer) (found : Option Client)
     → answer ≡ answer_of setup a v → IfSome found (HasPlace (events.Command a.command))
     → IsActEvent (events.Command a.command) → IfSome found (CanBeTold a.command (said_by answer))
 all_fit setup a v answer None e place act = tt
@@ -267,7 +267,7 @@ own_held setup picture outstations x apdu v k held stopped = by (close_of setup 
         → held_with (said_to_sender setup outstations x v command) k.held
         ≡ 2 * orders_of c (controls_after_command setup (asked_by_sender setup outstations x command) v)
     commands command =
-        let a : Asked = asked_by_sender setup outstations x command in
+        let a : AskedCommand = asked_by_sender setup outstations x command in
         held_ordered (answer_of setup a v) k.held (orders_of c v) _ held
         (command_holds setup c a v ∙ ap (λ (b : Bool). orders_of c v + one_if (b && is_order (answer_of setup a v)))
         (eq-eqb c c refl))
@@ -302,7 +302,7 @@ others_held : (setup : Setup) (outstations : List Master) (x : Sender) (apdu : A
 others_held setup outstations x (U StopAct) events.Taken v d ne = end_keeps_others x.client d ne v
 others_held setup outstations x _ events.Taken v d ne = refl
 others_held setup outstations x apdu (events.Command command) v d ne =
-    let a : Asked = asked_by_sender setup outstations x command in
+    let a : AskedCommand = asked_by_sender setup outstations x command in
     command_holds setup d a v ∙ omega (
       arith,
       ap (λ (b : Bool). one_if (b && is_order (answer_of setup a v)))
@@ -332,7 +332,7 @@ one_answered : (setup : Setup) (station : StationSetup) (n i : ℕ) (outstations
 one_answered setup station n i outstations x v events.Taken k whole act place sound = sound
 one_answered setup station n i outstations x v (events.Closed why) k whole act place sound = sound
 one_answered setup station n i outstations x v (events.Command command) k whole act place sound =
-    let a : Asked = asked_by_sender setup outstations x command in
+    let a : AskedCommand = asked_by_sender setup outstations x command in
     sound_told station n i (said_by (answer_of setup a v)) command k whole
     (answer_fits setup a v (answer_of setup a v) k refl place act) (λ _. place.0) sound
 

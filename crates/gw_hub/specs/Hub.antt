@@ -11,7 +11,7 @@ use Rattle.gw_control.specs.declared.answer.Outcome.{Outcome}
 use Rattle.iec_command.specs.declared.command.Command.{Command as AnyCommand}
 use Rattle.iec_apci.specs.declared.apdu.Apdu.{Apdu}
 use Rattle.gw_judge.specs.Judging.{is_execute}
-use Rattle.gw_control.specs.declared.asked.Asked.{Asked}
+use Rattle.gw_control.specs.declared.asked.AskedCommand.{AskedCommand}
 use Rattle.gw_control.specs.Intents.{control_for}
 use Rattle.gw_control.specs.Selections.{asked, is_select}
 use Rattle.gw_control.specs.Controls.{Controls, answer_of, controls_after_command, controls_after_end, controls_after_taking, CanAnswer}
@@ -27,8 +27,8 @@ use Rattle.gw_steps.specs.declared.step.Reply.{Reply}
 use Rattle.gw_steps.specs.declared.step.StepFault.{StepFault}
 use Rattle.gw_steps.specs.Controls.{controls_after_taken, is_control_up, order_due, said_by, said_of_outcome}
 use Rattle.gw_steps.specs.Sound.{IsSoundState}
-use Rattle.gw_parts.specs.Outstations.{is_due}
 use Rattle.gw_hub.specs.declared.orders.Sender.{Sender}
+use Rattle.gw_hub.specs.Queries.{is_due}
 use Rattle.gw_steps.specs.State.{State, Counts}
 use Rattle.gw_steps.specs.Steps.{Allowed, can_rise, raised, latest, parts_after_fragment}
 
@@ -112,7 +112,7 @@ abbrev pub controls_polled : State → ℕ → Controls
 controls_polled s o = if is_some (order_due s o) then controls_after_taking o s.controls else s.controls
 
 -- the command of a sender, as the controls see it
-abbrev pub asked_by_sender : Setup → List Master → Sender → AnyCommand → Asked
+abbrev pub asked_by_sender : Setup → List Master → Sender → AnyCommand → AskedCommand
 asked_by_sender setup outstations x command =
     asked x.client x.session command (is_control_up outstations (control_for setup command)) x.moment
 

@@ -1,2 +1,3 @@
+pub mod Queries
 pub mod Hub
 pub mod View

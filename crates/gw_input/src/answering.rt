@@ -3,7 +3,7 @@ ghost use Rattle.std.specs.Prelude.{◌≡◌, ℕ, Bool, List, true, IfOk, IfSo
 ghost use Rattle.std.specs.Io.KnownBytes.{Appends, IsAtEnd};
 ghost use Rattle.gw_input.specs.Lines.{FrontDecides, IsAnswered};
 
-use crate::line::Line;
+use crate::line::InputLine;
 use crate::reading::{Piece, Stop, read_piece};
 use std::alloc::Global;
 use std::io::{BufRead, Write};
@@ -47,7 +47,7 @@ pub fn answer_lines<A: AnswersLines, R: BufRead, W: Write>(
         IsAnswered A.Answers answerer.old input goes_on
         (W.contents writer.old) (W.contents writer.new) answerer.new)) }
 {
-    let mut line = Line::new(alloc, A::KEPT)?;
+    let mut line = InputLine::new(alloc, A::KEPT)?;
     for _read in 0..u32::MAX {
         match read_piece(reader, &mut line)? {
             Piece::Nothing | Piece::Part => {}

@@ -8,13 +8,13 @@ use std::marker::Model;
 
 /// The line that is being read: its number, from 1 on, and its front, of which at most so many octets are kept.
 #[derive(Drop)]
-pub struct Line {
+pub struct InputLine {
     kept: Vec<u8>,
     most: usize,
     number: u64,
 }
 
-impl Model for Line {
+impl Model for InputLine {
     ghost use Rattle.std.specs.Prelude.{length, ◌≤◌, vec_capacity};
     ghost use Rattle.gw_input.specs.Front.{Front};
 
@@ -25,13 +25,13 @@ impl Model for Line {
     ghost invariant = { λ l. (length l.kept.items ≤ l.most) × (l.most ≤ vec_capacity l.kept) };
 }
 
-impl Line {
+impl InputLine {
     /// The first line, with room for all that is kept of one.
-    pub fn new(alloc: Global, most: usize) -> Result<Line, Memory>
+    pub fn new(alloc: Global, most: usize) -> Result<InputLine, Memory>
         ensures { IfOk result (λ line. line ≡ first_front most) }
     {
         let kept = Vec::with_capacity(alloc, most)?;
-        Ok(Line {
+        Ok(InputLine {
             kept,
             most,
             number: 1,

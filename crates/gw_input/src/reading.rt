@@ -3,7 +3,7 @@ ghost use Rattle.std.specs.Prelude.{◌≡◌, ◌≤◌, ◌≢◌, ◌==◌, t
 ghost use Rattle.gw_input.specs.Reading.{Brings, IsPart};
 ghost use Rattle.gw_input.specs.declared.reading.Stop.TheVariants.{Fault, Memory};
 
-use crate::line::Line;
+use crate::line::InputLine;
 use gw_model::Memory;
 use std::alloc::AllocError;
 use std::io::{self, BufRead, ErrorKind};
@@ -64,7 +64,7 @@ fn line_end(octets: &[u8]) -> Option<usize>
 }
 
 /// Goes on with the line up to its end: how many octets that takes, and whether they end it.
-fn take_part(octets: &[u8], line: &mut Line) -> (usize, bool)
+fn take_part(octets: &[u8], line: &mut InputLine) -> (usize, bool)
     ensures within { result.0 ≤ length octets.now }
     ensures part { IsPart result.1 (take result.0 octets.now) line.old line.new }
     ensures all { result.1 ≢ true → result.0 ≡ length octets.now }
@@ -82,7 +82,7 @@ fn take_part(octets: &[u8], line: &mut Line) -> (usize, bool)
 }
 
 /// Reads once, and adds what came to the line, up to the line's end.
-pub fn read_piece<R: BufRead>(reader: &mut R, line: &mut Line) -> Result<Piece, Stop>
+pub fn read_piece<R: BufRead>(reader: &mut R, line: &mut InputLine) -> Result<Piece, Stop>
     ensures { IfOk result (λ piece.
         Brings piece (R.remaining reader.old) (R.remaining reader.new) line.old line.new) }
 {

@@ -22,7 +22,7 @@ pub enum Priority {
 
 /// What happened. Outstations and clients go by their positions.
 #[derive(Drop)]
-pub enum Event {
+pub enum JournalEvent {
     /// The gateway starts.
     Started {
         /// Its version.
@@ -192,91 +192,91 @@ pub(crate) enum Subject {
     Client(u8, SocketAddr),
 }
 
-impl Event {
+impl JournalEvent {
     /// How much it matters.
     pub fn priority(&self) -> Priority {
         match self {
-            Event::OutstationLost { cause, .. } if cause.is_own() => Priority::Information,
-            Event::ClientLost { cause, .. } if cause.is_own() => Priority::Information,
-            Event::OutstationLost { .. }
-            | Event::OutstationUnreachable { .. }
-            | Event::NotAccepted(_)
-            | Event::ControlsLeftOut(_) => Priority::Error,
-            Event::Command { command, what, .. } => what.priority(command),
-            Event::Order { what, .. } => what.priority(),
-            Event::Started { .. }
-            | Event::Listening(_)
-            | Event::OutstationConnected { .. }
-            | Event::ClientConnected { .. }
-            | Event::TransferStarted { .. }
-            | Event::TransferStopped { .. }
-            | Event::PlaceFree
-            | Event::Stopped => Priority::Information,
-            Event::Doubtful(_)
-            | Event::OutstationRestarted { .. }
-            | Event::EventsOverflowed { .. }
-            | Event::ClockNotSet { .. }
-            | Event::Unanswered { .. }
-            | Event::FragmentRefused { .. }
-            | Event::OctetsSkipped { .. }
-            | Event::ClientLost { .. }
-            | Event::NewsDropped { .. }
-            | Event::AllPlacesTaken
-            | Event::NotAllowed { .. }
-            | Event::RecordingEnded(_)
-            | Event::LeftOut(_) => Priority::Warning,
+            JournalEvent::OutstationLost { cause, .. } if cause.is_own() => Priority::Information,
+            JournalEvent::ClientLost { cause, .. } if cause.is_own() => Priority::Information,
+            JournalEvent::OutstationLost { .. }
+            | JournalEvent::OutstationUnreachable { .. }
+            | JournalEvent::NotAccepted(_)
+            | JournalEvent::ControlsLeftOut(_) => Priority::Error,
+            JournalEvent::Command { command, what, .. } => what.priority(command),
+            JournalEvent::Order { what, .. } => what.priority(),
+            JournalEvent::Started { .. }
+            | JournalEvent::Listening(_)
+            | JournalEvent::OutstationConnected { .. }
+            | JournalEvent::ClientConnected { .. }
+            | JournalEvent::TransferStarted { .. }
+            | JournalEvent::TransferStopped { .. }
+            | JournalEvent::PlaceFree
+            | JournalEvent::Stopped => Priority::Information,
+            JournalEvent::Doubtful(_)
+            | JournalEvent::OutstationRestarted { .. }
+            | JournalEvent::EventsOverflowed { .. }
+            | JournalEvent::ClockNotSet { .. }
+            | JournalEvent::Unanswered { .. }
+            | JournalEvent::FragmentRefused { .. }
+            | JournalEvent::OctetsSkipped { .. }
+            | JournalEvent::ClientLost { .. }
+            | JournalEvent::NewsDropped { .. }
+            | JournalEvent::AllPlacesTaken
+            | JournalEvent::NotAllowed { .. }
+            | JournalEvent::RecordingEnded(_)
+            | JournalEvent::LeftOut(_) => Priority::Warning,
         }
     }
 
     /// Whom it is of.
     pub(crate) fn subject(&self) -> Subject {
         match self {
-            Event::OutstationConnected { outstation }
-            | Event::OutstationUnreachable { outstation, .. }
-            | Event::OutstationLost { outstation, .. }
-            | Event::OutstationRestarted { outstation }
-            | Event::EventsOverflowed { outstation }
-            | Event::ClockNotSet { outstation }
-            | Event::Unanswered { outstation, .. }
-            | Event::FragmentRefused { outstation, .. }
-            | Event::OctetsSkipped { outstation, .. }
-            | Event::Order { outstation, .. } => Subject::Outstation(*outstation),
-            Event::ClientConnected { client, address }
-            | Event::TransferStarted { client, address }
-            | Event::TransferStopped { client, address }
-            | Event::ClientLost {
+            JournalEvent::OutstationConnected { outstation }
+            | JournalEvent::OutstationUnreachable { outstation, .. }
+            | JournalEvent::OutstationLost { outstation, .. }
+            | JournalEvent::OutstationRestarted { outstation }
+            | JournalEvent::EventsOverflowed { outstation }
+            | JournalEvent::ClockNotSet { outstation }
+            | JournalEvent::Unanswered { outstation, .. }
+            | JournalEvent::FragmentRefused { outstation, .. }
+            | JournalEvent::OctetsSkipped { outstation, .. }
+            | JournalEvent::Order { outstation, .. } => Subject::Outstation(*outstation),
+            JournalEvent::ClientConnected { client, address }
+            | JournalEvent::TransferStarted { client, address }
+            | JournalEvent::TransferStopped { client, address }
+            | JournalEvent::ClientLost {
                 client,
                 address,
                 ..
             }
-            | Event::NewsDropped {
+            | JournalEvent::NewsDropped {
                 client,
                 address,
                 ..
             }
-            | Event::Command {
+            | JournalEvent::Command {
                 client,
                 address,
                 ..
             } => Subject::Client(*client, *address),
-            Event::Started { .. }
-            | Event::Doubtful(_)
-            | Event::Listening(_)
-            | Event::AllPlacesTaken
-            | Event::PlaceFree
-            | Event::NotAllowed { .. }
-            | Event::NotAccepted(_)
-            | Event::RecordingEnded(_)
-            | Event::LeftOut(_)
-            | Event::ControlsLeftOut(_)
-            | Event::Stopped => Subject::Gateway,
+            JournalEvent::Started { .. }
+            | JournalEvent::Doubtful(_)
+            | JournalEvent::Listening(_)
+            | JournalEvent::AllPlacesTaken
+            | JournalEvent::PlaceFree
+            | JournalEvent::NotAllowed { .. }
+            | JournalEvent::NotAccepted(_)
+            | JournalEvent::RecordingEnded(_)
+            | JournalEvent::LeftOut(_)
+            | JournalEvent::ControlsLeftOut(_)
+            | JournalEvent::Stopped => Subject::Gateway,
         }
     }
 
     /// Whether it tells of a control.
     pub(crate) fn is_of_control(&self) -> bool {
         match self {
-            Event::Command { .. } | Event::Order { .. } => true,
+            JournalEvent::Command { .. } | JournalEvent::Order { .. } => true,
             _ => false,
         }
     }

@@ -1,8 +1,8 @@
 //! What an operator is told, written by a thread of its own.
 
-use crate::event::Event;
+use crate::event::JournalEvent;
 use crate::note_line::{Note, NoteLine};
-use crate::waiting::{Next, Waiting};
+use crate::waiting::{Next, WaitingNotes};
 use gw_model::Memory;
 use gw_shared::Bell;
 use std::alloc::Global;
@@ -12,7 +12,7 @@ use std::sync::{Mutex, Wait};
 /// wait, and of more the newest are left out and counted. How many is told before the next note that finds room.
 #[derive(Drop)]
 pub struct Journal {
-    waiting: Mutex<Waiting>,
+    waiting: Mutex<WaitingNotes>,
     bell: Bell,
     /// Where the outstations are reached.
     places: Vec<String>,
@@ -25,7 +25,7 @@ impl Journal {
     /// priority in front, as journald reads it.
     pub fn new(alloc: Global, places: Vec<String>, with_priority: bool) -> Result<Journal, Memory> {
         Ok(Journal {
-            waiting: Mutex::new(Waiting::new(alloc)?),
+            waiting: Mutex::new(WaitingNotes::new(alloc)?),
             bell: Bell::new(),
             places,
             with_priority,
@@ -33,7 +33,7 @@ impl Journal {
     }
 
     /// Tells what happened, and when, in milliseconds since 1970 in UTC.
-    pub fn tell<R: Wait>(&self, rt: &R, wall: u64, event: Event) {
+    pub fn tell<R: Wait>(&self, rt: &R, wall: u64, event: JournalEvent) {
         self.waiting.lock(rt).add(Note { wall, event });
         self.bell.ring();
     }

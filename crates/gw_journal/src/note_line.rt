@@ -4,7 +4,7 @@ use crate::command_words::{AskedWords, ToldWords};
 use crate::control_event::CommandEvent;
 use crate::counted::{AndMore, Counted};
 use crate::doubt::Doubt;
-use crate::event::{Event, Subject};
+use crate::event::{JournalEvent, Subject};
 use gw_text::Plain;
 use jiff::Timestamp;
 use std::fmt;
@@ -15,7 +15,7 @@ pub struct Note {
     /// When, in milliseconds since 1970 in UTC.
     pub wall: u64,
     /// What happened.
-    pub event: Event,
+    pub event: JournalEvent,
 }
 
 /// A note as a line: when, whom it is of, and what happened, in words.
@@ -88,33 +88,33 @@ impl<'a> NoteLine<'a> {
     /// Writes what happened to the gateway as a whole.
     fn write_of_gateway<W: fmt::Write>(&self, f: &mut fmt::Formatter<W>) -> fmt::Result {
         match &self.note.event {
-            Event::Started { .. } => self.write_start(f),
-            Event::Doubtful(doubt) => self.write_doubt(f, *doubt),
-            Event::Listening(address) => write!(f, "listening on {address}"),
-            Event::AllPlacesTaken => f.write_str("all eight places are taken"),
-            Event::PlaceFree => f.write_str("a place is free"),
-            Event::NotAllowed { address, left_out } => {
+            JournalEvent::Started { .. } => self.write_start(f),
+            JournalEvent::Doubtful(doubt) => self.write_doubt(f, *doubt),
+            JournalEvent::Listening(address) => write!(f, "listening on {address}"),
+            JournalEvent::AllPlacesTaken => f.write_str("all eight places are taken"),
+            JournalEvent::PlaceFree => f.write_str("a place is free"),
+            JournalEvent::NotAllowed { address, left_out } => {
                 let more = AndMore(*left_out);
                 write!(f, "{address} isn't allowed to connect{more}")
             }
-            Event::NotAccepted(cause) => write!(f, "no connection accepted: {cause}"),
-            Event::RecordingEnded(ended) => write!(f, "the {ended}"),
-            Event::LeftOut(count) => {
+            JournalEvent::NotAccepted(cause) => write!(f, "no connection accepted: {cause}"),
+            JournalEvent::RecordingEnded(ended) => write!(f, "the {ended}"),
+            JournalEvent::LeftOut(count) => {
                 let events = Counted(*count, "event");
                 write!(f, "{events} left out")
             }
-            Event::ControlsLeftOut(count) => {
+            JournalEvent::ControlsLeftOut(count) => {
                 let events = Counted(*count, "event");
                 write!(f, "{events} of controls left out")
             }
-            Event::Stopped => f.write_str("stopped"),
+            JournalEvent::Stopped => f.write_str("stopped"),
             _ => Ok(()),
         }
     }
 
     /// Writes that the gateway starts, and with which settings.
     fn write_start<W: fmt::Write>(&self, f: &mut fmt::Formatter<W>) -> fmt::Result {
-        let Event::Started {
+        let JournalEvent::Started {
             version,
             file,
             digest,
@@ -156,17 +156,17 @@ impl<'a> NoteLine<'a> {
     /// Writes what happened to an outstation.
     fn write_of_outstation<W: fmt::Write>(&self, f: &mut fmt::Formatter<W>) -> fmt::Result {
         match &self.note.event {
-            Event::OutstationConnected { .. } => f.write_str("connected"),
-            Event::OutstationUnreachable { cause, .. } => write!(f, "not connected: {cause}"),
-            Event::OutstationLost { cause, .. } => write!(f, "{cause}"),
-            Event::OutstationRestarted { .. } => f.write_str("restarted (IIN1.7)"),
-            Event::EventsOverflowed { .. } => f.write_str("its event buffer overflowed (IIN2.3)"),
-            Event::ClockNotSet { .. } => f.write_str("its clock can't be set (IIN1.4 stays)"),
-            Event::Unanswered { count, .. } => {
+            JournalEvent::OutstationConnected { .. } => f.write_str("connected"),
+            JournalEvent::OutstationUnreachable { cause, .. } => write!(f, "not connected: {cause}"),
+            JournalEvent::OutstationLost { cause, .. } => write!(f, "{cause}"),
+            JournalEvent::OutstationRestarted { .. } => f.write_str("restarted (IIN1.7)"),
+            JournalEvent::EventsOverflowed { .. } => f.write_str("its event buffer overflowed (IIN2.3)"),
+            JournalEvent::ClockNotSet { .. } => f.write_str("its clock can't be set (IIN1.4 stays)"),
+            JournalEvent::Unanswered { count, .. } => {
                 let requests = Counted(*count, "request");
                 write!(f, "{requests} unanswered")
             }
-            Event::FragmentRefused {
+            JournalEvent::FragmentRefused {
                 fault,
                 left_out,
                 ..
@@ -174,11 +174,11 @@ impl<'a> NoteLine<'a> {
                 let more = AndMore(*left_out);
                 write!(f, "unreadable: {fault}{more}")
             }
-            Event::OctetsSkipped { count, .. } => {
+            JournalEvent::OctetsSkipped { count, .. } => {
                 let octets = Counted(*count, "octet");
                 write!(f, "{octets} skipped by the link")
             }
-            Event::Order { order, what, .. } => write!(f, "order {order} {what}"),
+            JournalEvent::Order { order, what, .. } => write!(f, "order {order} {what}"),
             _ => Ok(()),
         }
     }
@@ -186,15 +186,15 @@ impl<'a> NoteLine<'a> {
     /// Writes what happened to a client.
     fn write_of_client<W: fmt::Write>(&self, f: &mut fmt::Formatter<W>) -> fmt::Result {
         match &self.note.event {
-            Event::ClientConnected { .. } => f.write_str("connected"),
-            Event::TransferStarted { .. } => f.write_str("data transfer started"),
-            Event::TransferStopped { .. } => f.write_str("data transfer stopped"),
-            Event::ClientLost { cause, .. } => write!(f, "{cause}"),
-            Event::NewsDropped { count, .. } => {
+            JournalEvent::ClientConnected { .. } => f.write_str("connected"),
+            JournalEvent::TransferStarted { .. } => f.write_str("data transfer started"),
+            JournalEvent::TransferStopped { .. } => f.write_str("data transfer stopped"),
+            JournalEvent::ClientLost { cause, .. } => write!(f, "{cause}"),
+            JournalEvent::NewsDropped { count, .. } => {
                 let observations = Counted(*count, "observation");
                 write!(f, "{observations} dropped, since too many waited")
             }
-            Event::Command { command, what, .. } => match *what {
+            JournalEvent::Command { command, what, .. } => match *what {
                 CommandEvent::Came { order: Some(order) } => {
                     write!(f, "asks: {}: order {order}", AskedWords(command))
                 }

@@ -80,7 +80,7 @@ pub struct Noticed {
 
 /// What is due to be told of an outstation.
 #[derive(Clone, Copy, Debug, PartialEq, Eq)]
-pub struct Due {
+pub struct DueNotes {
     /// So many requests weren't answered.
     pub unanswered: Option<u64>,
     /// So many octets were skipped.
@@ -227,8 +227,8 @@ impl OutstationFigures {
     }
 
     /// What is due to be told, which counts as told then.
-    pub fn due(&mut self, wall: u64) -> Due {
-        Due {
+    pub fn due(&mut self, wall: u64) -> DueNotes {
+        DueNotes {
             unanswered: self.unanswered_told.pending(wall),
             skipped: self.skipped_told.pending(wall),
             refused: self.refused_due(wall),

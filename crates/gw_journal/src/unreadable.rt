@@ -1,7 +1,7 @@
 //! Why a fragment of an outstation couldn't be read.
 
 use dnp_app::AppFault;
-use dnp_objects::{ObjectFault, Why};
+use dnp_objects::{ObjectFault, HeaderFault};
 use std::fmt;
 
 /// How many octets stand before the object part of a response.
@@ -34,7 +34,7 @@ pub enum Unreadable {
         /// Where the header begins.
         place: usize,
         /// What is wrong.
-        why: Why,
+        why: HeaderFault,
     },
     /// Memory ran out.
     Memory,
@@ -98,14 +98,14 @@ impl fmt::Display for Unreadable {
 }
 
 /// Writes what is wrong with an object header, or its objects.
-fn write_why<W: fmt::Write>(f: &mut fmt::Formatter<W>, why: Why, qualifier: u8) -> fmt::Result {
+fn write_why<W: fmt::Write>(f: &mut fmt::Formatter<W>, why: HeaderFault, qualifier: u8) -> fmt::Result {
     match why {
-        Why::UnknownObject => f.write_str(" is unknown"),
-        Why::UnknownQualifier => write!(f, " has qualifier 0x{qualifier:02X}"),
-        Why::ShortRange => f.write_str(" is cut off in its range"),
-        Why::StopBeforeStart => f.write_str(" stops before it starts"),
-        Why::ShortData => f.write_str(" is cut off in its objects"),
-        Why::TooMany => f.write_str(" comes after 512 other headers"),
-        Why::Memory => f.write_str(" finds no memory"),
+        HeaderFault::UnknownObject => f.write_str(" is unknown"),
+        HeaderFault::UnknownQualifier => write!(f, " has qualifier 0x{qualifier:02X}"),
+        HeaderFault::ShortRange => f.write_str(" is cut off in its range"),
+        HeaderFault::StopBeforeStart => f.write_str(" stops before it starts"),
+        HeaderFault::ShortData => f.write_str(" is cut off in its objects"),
+        HeaderFault::TooMany => f.write_str(" comes after 512 other headers"),
+        HeaderFault::Memory => f.write_str(" finds no memory"),
     }
 }

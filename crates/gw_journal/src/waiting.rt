@@ -1,6 +1,6 @@
 //! Notes on their way to standard error.
 
-use crate::event::Event;
+use crate::event::JournalEvent;
 use crate::note_line::Note;
 use gw_model::Memory;
 use std::alloc::Global;
@@ -14,7 +14,7 @@ pub const MOST_OF_CONTROLS: usize = 4096;
 
 /// Notes that wait to be written. Where too many do the newest are left out and counted.
 #[derive(Drop)]
-pub struct Waiting {
+pub struct WaitingNotes {
     /// Room for `MOST` from the beginning, and for one that tells how many were left out; for more only where notes of
     /// controls come to wait behind these.
     notes: VecDeque<Note>,
@@ -61,11 +61,11 @@ pub enum Next {
     End,
 }
 
-impl Waiting {
+impl WaitingNotes {
     /// No note waits.
-    pub fn new(alloc: Global) -> Result<Waiting, Memory> {
+    pub fn new(alloc: Global) -> Result<WaitingNotes, Memory> {
         let notes = VecDeque::with_capacity(alloc, MOST + 1)?;
-        Ok(Waiting {
+        Ok(WaitingNotes {
             notes,
             others: LeftOut::nothing(),
             of_controls: LeftOut::nothing(),
@@ -124,14 +124,14 @@ impl Waiting {
     /// Takes the note that tells how many found no room, if some didn't.
     fn take_left_out(&mut self) -> Option<Note> {
         let (count, wall) = self.others.take()?;
-        let event = Event::LeftOut(count);
+        let event = JournalEvent::LeftOut(count);
         Some(Note { wall, event })
     }
 
     /// Takes the note that tells how many notes of controls found no room, if some didn't.
     fn take_controls_left_out(&mut self) -> Option<Note> {
         let (count, wall) = self.of_controls.take()?;
-        let event = Event::ControlsLeftOut(count);
+        let event = JournalEvent::ControlsLeftOut(count);
         Some(Note { wall, event })
     }
 }

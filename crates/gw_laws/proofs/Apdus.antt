@@ -2,7 +2,7 @@
 use Rattle.std.proofs.Common.{◌≡◌, ℕ, List, [], ◌∷◌, Option, Some, None, Result, Ok, Err, refl, sym, ap, subst, ◌∙◌}
 use Rattle.std.specs.Prelude.{slice_get, option_map}
 use Rattle.gw_map.specs.Settings.{Setup}
-use Rattle.iec_apci.specs.Apdu.{Content}
+use Rattle.iec_apci.specs.Apdu.{ApduContent}
 use Rattle.gw_station.specs.declared.sending.Sending.{Sending}
 use Rattle.gw_station.specs.Client.{Client, is_up}
 use Rattle.gw_station.specs.Pump.{offered, content_of, given}
@@ -26,7 +26,7 @@ given_reads : (setup : Setup) (c m : ℕ) (k : Client) (x : Option Sending)
     (Ok (reply_giving (option_map (content_of setup.station.offset_minutes setup.station.common_address k.window) x)))
 given_reads setup c m k None = tt
 given_reads setup c m k (Some sending) =
-    let content : Content = content_of setup.station.offset_minutes setup.station.common_address k.window sending in
+    let content : ApduContent = content_of setup.station.offset_minutes setup.station.common_address k.window sending in
     rw (said-content setup.station.offset_minutes content
     (content_fits setup.station.offset_minutes setup.station.common_address k.window sending)) refl
 

@@ -9,7 +9,7 @@ mod settings;
 
 pub use defaults::DEFAULT_SETTINGS;
 pub use gw_entries::{
-    Absence, Content, Control, Fault, Key, KeyFault, KeyName, Mode, Operates, Outstation, Place,
+    Absence, KeyContent, Control, Fault, Key, KeyFault, KeyName, Mode, Operates, Outstation, KeyPlace,
     Pulses, Rest, Row, Scale, Section, SettingsFault, Show, Station, keys_of,
 };
 pub use lists::{OUTSTATIONS, ROWS};

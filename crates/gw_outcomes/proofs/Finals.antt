@@ -29,7 +29,7 @@ use Rattle.gw_control.specs.declared.accepted.UnderWay.{UnderWay}
 use Rattle.gw_steps.specs.declared.step.Reply.TheVariants as replies
 use Rattle.gw_steps.specs.Controls.{ended_in}
 use Rattle.gw_steps.specs.Runs.{Entry}
-use Rattle.gw_history.specs.Accepted.{Asked as AskedRequest, asked_of, poll_at}
+use Rattle.gw_history.specs.Accepted.{AskedRequest, asked_of, poll_at}
 use Rattle.gw_history.proofs.Masters.{AwaitsAs}
 use Rattle.gw_bonds.specs.Marks.{Mark, Asked, Answered, is_end, last_request, mark_answered, marks, took}
 use Rattle.gw_bonds.specs.Executes.{Execute}

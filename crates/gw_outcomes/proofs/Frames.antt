@@ -10,7 +10,7 @@ use Rattle.gw_map.specs.Settings.{Setup}
 use Rattle.gw_picture.proofs.Lists.{change-here, change-there}
 use Rattle.gw_control.specs.declared.accepted.Accepted.{Accepted}
 use Rattle.gw_control.specs.declared.answer.Answer.{Answer}
-use Rattle.gw_control.specs.declared.asked.Asked.{Asked}
+use Rattle.gw_control.specs.declared.asked.AskedCommand.{AskedCommand}
 use Rattle.gw_control.specs.declared.selection.Selection.{Selection}
 use Rattle.gw_control.specs.Controls.{Controls, accepted_by, act_accepted, answer_at, answer_to_act, confirmed_if, controls_after_at, controls_ordering, controls_selecting, controls_unselecting, is_deactivation, is_full_at, is_selectable, standing_at}
 use Rattle.gw_control.specs.Orders.{Outgoing, outgoing_with}
@@ -35,7 +35,7 @@ same_orders o v after same =
 
 -- ---- an order more
 
-abbrev execute_for : Asked → Control → Execute
+abbrev execute_for : AskedCommand → Control → Execute
 execute_for a control = record { client = a.client; control = control; command = a.command }
 
 has_place : (q : Option Outgoing) (x : Accepted) → is_full_at q ≡ false
@@ -43,7 +43,7 @@ has_place : (q : Option Outgoing) (x : Accepted) → is_full_at q ≡ false
 has_place None x place = absurd (let no : ⊥ = cc in no)
 has_place (Some q) x place = rows_with x q
 
-ordered : (o : ℕ) (a : Asked) (control : Control) (act : Act) (v : Controls)
+ordered : (o : ℕ) (a : AskedCommand) (control : Control) (act : Act) (v : Controls)
     → is_full_at (slice_get v.outgoing control.outstation) ≡ false
     → Makes o (Some (execute_for a control)) v (controls_ordering a control (Some act) v)
 ordered o a control act v place =
@@ -61,13 +61,13 @@ ordered o a control act v place =
 
 -- ---- a command
 
-confirmed : (o c : ℕ) (a : Asked) (found : ℕ × Control) (told : Bool) (v after : Controls)
+confirmed : (o c : ℕ) (a : AskedCommand) (found : ℕ × Control) (told : Bool) (v after : Controls)
     → after.outgoing ≡ v.outgoing
     → Makes o (execute_answered c a.command (Some found) (confirmed_if told)) v after
 confirmed o c a found true v after same = same_orders o v after same
 confirmed o c a found false v after same = same_orders o v after same
 
-acted : (o : ℕ) (a : Asked) (found : ℕ × Control) (standing : Option Selection) (v : Controls) (act : Option Act)
+acted : (o : ℕ) (a : AskedCommand) (found : ℕ × Control) (standing : Option Selection) (v : Controls) (act : Option Act)
     → act_accepted a found.1 standing v ≡ act
     → Makes o (execute_answered a.client a.command (Some found) (answer_to_act v.ordered act)) v
     (controls_ordering a found.1 act (controls_unselecting a found.0 v))
@@ -75,24 +75,24 @@ acted o a found standing v None e = same_orders o v (controls_unselecting a foun
 acted o a found standing v (Some act) e =
     ordered o a found.1 act (controls_unselecting a found.0 v) (accepted a found.1 standing v act e).place
 
-abbrev said_for : Asked → ℕ × Control → Option Selection → Controls → Bool → Bool → Answer
+abbrev said_for : AskedCommand → ℕ × Control → Option Selection → Controls → Bool → Bool → Answer
 said_for a found standing v deactivation select =
     cond deactivation (confirmed_if (is_own a standing))
     (cond select (confirmed_if (is_selectable a found.1 standing))
     (answer_to_act v.ordered (act_accepted a found.1 standing v)))
 
-abbrev after_for : Asked → ℕ × Control → Option Selection → Controls → Bool → Bool → Controls
+abbrev after_for : AskedCommand → ℕ × Control → Option Selection → Controls → Bool → Bool → Controls
 after_for a found standing v deactivation select =
     cond deactivation (controls_unselecting a found.0 v)
     (cond select (cond (is_selectable a found.1 standing) (controls_selecting a found.0 v) v)
     (controls_ordering a found.1 (act_accepted a found.1 standing v) (controls_unselecting a found.0 v)))
 
-still_there : (a : Asked) (position : ℕ) (v : Controls) (selectable : Bool)
+still_there : (a : AskedCommand) (position : ℕ) (v : Controls) (selectable : Bool)
     → (cond selectable (controls_selecting a position v) v).outgoing ≡ v.outgoing
 still_there a position v true = refl
 still_there a position v false = refl
 
-by_kind : (o : ℕ) (a : Asked) (found : ℕ × Control) (standing : Option Selection) (v : Controls)
+by_kind : (o : ℕ) (a : AskedCommand) (found : ℕ × Control) (standing : Option Selection) (v : Controls)
     (deactivation select : Bool)
     → Makes o (execute_answered a.client a.command (Some found) (said_for a found standing v deactivation select)) v
     (after_for a found standing v deactivation select)
@@ -104,7 +104,7 @@ by_kind o a found standing v false true =
     (still_there a found.0 v (is_selectable a found.1 standing))
 by_kind o a found standing v false false = acted o a found standing v (act_accepted a found.1 standing v) refl
 
-pub rows_commanded : (setup : Setup) (o : ℕ) (a : Asked) (found : Option (ℕ × Control)) (v : Controls)
+pub rows_commanded : (setup : Setup) (o : ℕ) (a : AskedCommand) (found : Option (ℕ × Control)) (v : Controls)
     → Makes o (execute_answered a.client a.command found (answer_at setup a found v)) v
     (controls_after_at setup a found v)
 rows_commanded setup o a None v = same_orders o v v refl

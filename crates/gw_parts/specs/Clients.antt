@@ -1,13 +1,13 @@
 -- What is asked of the clients.
-use Rattle.std.specs.Prelude.{ℕ, ◌+◌, ◌^◌, ◌<◌, Bool, false, ◌&&◌, is_some, length, Option, Some, None}
+use Rattle.std.specs.Prelude.{ℕ, ◌+◌, ◌^◌, ◌<◌, Option, Some, None}
 use Rattle.gw_map.specs.Settings.{Setup}
 use Rattle.iec_apci.specs.declared.apdu.Apdu.{Apdu}
 use Rattle.iec_window.specs.Counts.{sent_in_all}
 use Rattle.gw_station.specs.declared.event.Event.{Event}
 use Rattle.gw_station.specs.declared.event.Event.TheVariants.{Taken}
-use Rattle.gw_station.specs.Client.{Client, is_up}
+use Rattle.gw_station.specs.Client.{Client}
 use Rattle.gw_station.specs.Frames.{event_of}
-use Rattle.gw_station.specs.Pump.{given, offered}
+use Rattle.gw_station.specs.Pump.{given}
 use Rattle.gw_steps.specs.declared.step.Reply.{Reply}
 use Rattle.gw_steps.specs.Steps.{client_reply, reply_giving}
 
@@ -21,11 +21,6 @@ abbrev pub reply_to_pump : Setup → ℕ → Option Client → Reply
 reply_to_pump setup moment =
     client_reply (λ k. reply_giving (given setup.station.offset_minutes setup.station.common_address moment k))
 
--- a pump at a moment would be answered with an APDU
-abbrev pub has_offer : ℕ → Option Client → Bool
-has_offer moment None = false
-has_offer moment (Some k) = is_up k.stage && is_some (offered moment k)
-
 -- one more I format that is received can be counted in 64 bits
 pub record CanCount (k : Client) : Type 0 where
   pub received : k.window.received + 1 < 2 ^ 64
@@ -33,17 +28,3 @@ pub record CanCount (k : Client) : Type 0 where
 -- one more I format that is sent can be counted in 64 bits
 pub record CanPump (k : Client) : Type 0 where
   pub sent : sent_in_all k.window + 1 < 2 ^ 64
-
--- how many news wait at a place, and how many were dropped
-abbrev pub queued_at : Option Client → ℕ
-queued_at None = 0
-queued_at (Some k) = length k.queue
-
-abbrev pub dropped_at : Option Client → ℕ
-dropped_at None = 0
-dropped_at (Some k) = k.dropped
-
--- how many I formats sent to a client are not acknowledged
-abbrev pub unacknowledged_at : Option Client → ℕ
-unacknowledged_at None = 0
-unacknowledged_at (Some k) = length k.window.waiting

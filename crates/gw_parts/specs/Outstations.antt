@@ -1,7 +1,7 @@
 -- The masters of all outstations.
-use Rattle.std.specs.Prelude.{ℕ, Bool, false, is_some, Option, Some, None}
+use Rattle.std.specs.Prelude.{ℕ, Option, Some, None}
 use Rattle.gw_model.specs.declared.control.Order.{Order}
-use Rattle.dnp_master.specs.Master.{Master, master_after_next, master_after_order, task_given}
+use Rattle.dnp_master.specs.Master.{Master, master_after_next, master_after_order}
 use Rattle.gw_steps.specs.declared.step.Reply.{Reply}
 use Rattle.gw_steps.specs.Steps.{outstation_reply, reply_asking, request_polled}
 
@@ -13,8 +13,3 @@ reply_to_poll order moment wall = outstation_reply (λ m. reply_asking (request_
 abbrev pub master_polled : Option Order → ℕ → ℕ → Master → Master
 master_polled None moment wall m = master_after_next moment wall m
 master_polled (Some order) moment wall m = master_after_order moment order m
-
--- a poll at a moment would be answered with a request
-abbrev pub is_due : ℕ → Option Master → Bool
-is_due moment None = false
-is_due moment (Some m) = is_some (task_given moment 0 m)

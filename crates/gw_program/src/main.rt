@@ -6,7 +6,7 @@ mod running;
 
 use crate::running::run;
 use clap::error::ErrorKind;
-use gw_checker::{Report, Unusable, explain, read_file, read_settings, write_warnings};
+use gw_checker::{CheckReport, Unusable, explain, read_file, read_settings, write_warnings};
 use gw_command_line::{Asked, LineFault, command_line as read_words};
 use gw_map::{DEFAULT_SETTINGS, Settings};
 use gw_replay::replay;
@@ -52,9 +52,9 @@ fn answer<H: Host>(rt: &HostRuntime, host: &H, asked: Asked) -> io::Result<u8> {
     match asked {
         Asked::Check { file, profile } => {
             let report = if profile {
-                Report::Profile
+                CheckReport::Profile
             } else {
-                Report::Listing
+                CheckReport::Listing
             };
             check(rt, file, report)
         }
@@ -138,7 +138,7 @@ fn refuse(rt: &HostRuntime, why: &Unusable) -> io::Result<u8> {
 }
 
 /// `gateway check`: what a settings file means, or what is wrong with it; gives the status.
-fn check(rt: &HostRuntime, path: &str, report: Report) -> io::Result<u8> {
+fn check(rt: &HostRuntime, path: &str, report: CheckReport) -> io::Result<u8> {
     match read_file(rt.alloc(), rt, path) {
         Ok(octets) => check_octets(rt, octets.as_slice(), report),
         Err(why) => refuse(rt, &why),
@@ -146,7 +146,7 @@ fn check(rt: &HostRuntime, path: &str, report: Report) -> io::Result<u8> {
 }
 
 /// What the octets of a settings file mean, or what is wrong with them; gives the status.
-fn check_octets(rt: &HostRuntime, octets: &[u8], report: Report) -> io::Result<u8> {
+fn check_octets(rt: &HostRuntime, octets: &[u8], report: CheckReport) -> io::Result<u8> {
     match read_settings(rt.alloc(), octets) {
         Ok(settings) => write_report(rt, &settings, report),
         Err(why) => refuse_octets(rt, octets, &why),
@@ -154,7 +154,7 @@ fn check_octets(rt: &HostRuntime, octets: &[u8], report: Report) -> io::Result<u
 }
 
 /// Writes what settings mean, and on standard error what reads like a slip in them; gives the status.
-fn write_report(rt: &HostRuntime, settings: &Settings, report: Report) -> io::Result<u8> {
+fn write_report(rt: &HostRuntime, settings: &Settings, report: CheckReport) -> io::Result<u8> {
     let mut writer = BufWriter::new(rt.alloc(), io::writer(rt))?;
     if report.write(settings, &mut writer).is_err() || writer.flush().is_err() {
         return Ok(REFUSED);

@@ -1,7 +1,7 @@
 //! `gateway run --record`: a run that is taken down as lines of a replay.
 
 use gw_capture::{Capture, Kept, Pumps};
-use gw_journal::{Event, Journal};
+use gw_journal::{JournalEvent, Journal};
 use gw_server::{Gate, Place};
 use gw_text::{RecordEnd, RecordEndCause};
 use gw_threads::{Call, Pumped, Run, Step, StepFault};
@@ -62,6 +62,6 @@ impl<'a, R: Wait> Gate for Recording<'a, R> {
 /// Tells the journal that a recording ended before the gateway did.
 pub fn tell_end<R: Wait>(rt: &R, journal: &Journal, wall: u64, ended: RecordEnd) {
     if ended.cause != RecordEndCause::Closed {
-        journal.tell(rt, wall, Event::RecordingEnded(ended));
+        journal.tell(rt, wall, JournalEvent::RecordingEnded(ended));
     }
 }

@@ -5,7 +5,7 @@ use crate::{USAGE, refuse, refuse_for};
 use gw_capture::Capture;
 use gw_checker::{Unusable, Warning, read_file, read_settings, warnings_of};
 use gw_command_line::{RunOptions, VERSION};
-use gw_journal::{Doubt, Event, Journal};
+use gw_journal::{Doubt, JournalEvent, Journal};
 use gw_map::Settings;
 use gw_model::Memory;
 use gw_server::{
@@ -106,7 +106,7 @@ fn serve_settings<H: Host>(
     rt: &HostRuntime,
     host: &H,
     settings: Settings,
-    started: Event,
+    started: JournalEvent,
     sessions: Option<u32>,
     asked: &RunOptions,
 ) -> Result<Closed, Unserved> {
@@ -130,7 +130,7 @@ fn serve_on<H: Host>(
     rt: &HostRuntime,
     host: &H,
     settings: Settings,
-    started: Event,
+    started: JournalEvent,
     listener: &TcpListener,
     options: Options<'_>,
     asked: &RunOptions,
@@ -268,8 +268,8 @@ fn started(
     file: &str,
     octets: &[u8],
     settings: &Settings,
-) -> Result<Event, AllocError> {
-    Ok(Event::Started {
+) -> Result<JournalEvent, AllocError> {
+    Ok(JournalEvent::Started {
         version: VERSION,
         file: String::from_str(alloc, file)?,
         digest: Sha256::digest(octets),
@@ -289,7 +289,7 @@ fn tell_doubts<W: Wait>(
 ) -> Result<(), AllocError> {
     for warning in &warnings_of(alloc, settings)? {
         if let Some(doubt) = doubt_of(*warning) {
-            journal.tell(rt, wall, Event::Doubtful(doubt));
+            journal.tell(rt, wall, JournalEvent::Doubtful(doubt));
         }
     }
     Ok(())

@@ -11,8 +11,8 @@ use Rattle.gw_text.specs.Decimal.{number}
 use Rattle.gw_text.specs.Hex.{line_octets}
 use Rattle.gw_replay.specs.declared.instruction.Instruction.{Instruction}
 use Rattle.gw_replay.specs.declared.instruction.Instruction.TheVariants.{Make, Queue, Refused}
-use Rattle.gw_replay.specs.declared.refusal.Refusal.{Refusal}
-use Rattle.gw_replay.specs.declared.refusal.Refusal.TheVariants as refusals
+use Rattle.gw_replay.specs.declared.refusal.StepRefusal.{StepRefusal}
+use Rattle.gw_replay.specs.declared.refusal.StepRefusal.TheVariants as refusals
 use Rattle.gw_replay.specs.Frames.{IsApduRead}
 
 -- ---- words
@@ -88,14 +88,14 @@ IsFragmentRead text found = (found ≡ fragment_in text)
     ⊎ (NeedsMemory text × (found ≡ Some (Refused (refusals.Fragment Memory))))
 
 -- the step of an APDU, or the refusal of octets that are none
-abbrev pub frame_or_refusal : ℕ → ℕ → Result Apdu Refusal → Instruction
+abbrev pub frame_or_refusal : ℕ → ℕ → Result Apdu StepRefusal → Instruction
 frame_or_refusal c m (Ok apdu) = Make (steps.Frame c apdu m)
 frame_or_refusal c m (Err refusal) = Refused refusal
 
 abbrev pub IsFrame : Option (ℕ × ℕ × List ℕ) → Option Instruction → Type 0
 IsFrame None found = found ≡ None
 IsFrame (Some p) found =
-    (read : Result Apdu Refusal) × IsApduRead p.2 read × (found ≡ Some (frame_or_refusal p.0 p.1 read))
+    (read : Result Apdu StepRefusal) × IsApduRead p.2 read × (found ≡ Some (frame_or_refusal p.0 p.1 read))
 
 -- `C M HEX` of a frame was read
 abbrev pub IsFrameRead : List ℕ → Option Instruction → Type 0

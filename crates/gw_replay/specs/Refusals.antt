@@ -3,8 +3,8 @@ use Rattle.std.specs.Prelude.{ℕ, List, [], ◌∷◌, ◌++◌, codes}
 use Rattle.iec_apci.specs.declared.fault.ApciFault.{ApciFault}
 use Rattle.iec_apci.specs.declared.fault.ApciFault.TheVariants.{Start, Length, Control}
 use Rattle.gw_text.specs.Text.{refusal_text}
-use Rattle.gw_replay.specs.declared.refusal.Refusal.{Refusal}
-use Rattle.gw_replay.specs.declared.refusal.Refusal.TheVariants.{Fragment, Frame, Partial}
+use Rattle.gw_replay.specs.declared.refusal.StepRefusal.{StepRefusal}
+use Rattle.gw_replay.specs.declared.refusal.StepRefusal.TheVariants.{Fragment, Frame, Partial}
 
 -- octets that don't begin with an APDU
 abbrev pub apci_line : ApciFault → List ℕ
@@ -13,7 +13,7 @@ apci_line Length = codes "refused apci 2 Length" ++ 10 ∷ []
 apci_line Control = codes "refused apci 3 Control" ++ 10 ∷ []
 
 -- octets that make no step: those of a fragment, or of a frame
-abbrev pub refused_line : Refusal → List ℕ
+abbrev pub refused_line : StepRefusal → List ℕ
 refused_line (Fragment fault) = refusal_text fault
 refused_line (Frame fault) = apci_line fault
 refused_line Partial = codes "refused apci 0 Partial" ++ 10 ∷ []

@@ -3,7 +3,7 @@ ghost use Rattle.std.specs.Prelude.{◌≡◌, ◌≤◌, IfOk, IfSome, length, 
 ghost use Rattle.gw_replay.specs.Instructions.{IsFragmentRead, IsFrameRead, IsRead, IsReadWith, first_word, numbers_and_octets, rest_of, short_with, space_in, paired_with, step_at, step_with, three_numbers, two_numbers};
 
 use crate::frame::read_apdu;
-use crate::refusal::Refusal;
+use crate::refusal::StepRefusal;
 use dnp_app::read_response;
 use gw_hub::Step;
 use gw_model::Memory;
@@ -20,7 +20,7 @@ pub enum Instruction {
     /// outstation. `frame C M HEX`, with the octets of one APDU: a client sends it.
     Make(Step),
     /// `frag O M HEX` or `frame C M HEX`, with other octets: they are refused.
-    Refused(Refusal),
+    Refused(StepRefusal),
     /// `queue C`: how many news wait for a client, and how many were dropped.
     Queue(u8),
 }
@@ -115,7 +115,7 @@ fn fragment(alloc: Global, text: &[u8]) -> Result<Option<Instruction>, Memory>
     };
     match read_response(alloc, outstation, octets) {
         Ok(response) => Ok(Some(Instruction::Make(Step::Fragment { response, moment }))),
-        Err(fault) => Ok(Some(Instruction::Refused(Refusal::Fragment(fault)))),
+        Err(fault) => Ok(Some(Instruction::Refused(StepRefusal::Fragment(fault)))),
     }
 }
 

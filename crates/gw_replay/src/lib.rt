@@ -10,5 +10,5 @@ mod reply_text;
 pub use iec_apci::ApciFault;
 pub use instruction::{Instruction, read_instruction};
 pub use player::{Played, Player, play, replay};
-pub use refusal::{Refusal, write_refused};
+pub use refusal::{StepRefusal, write_refused};
 pub use reply_text::push_reply;

@@ -4,7 +4,7 @@ ghost use Rattle.std.specs.Io.KnownBytes.{Appends};
 ghost use Rattle.gw_replay.specs.Replay.{AnswersInput, IsFine, IsFound, Plays, beginning, played_text, refused_after};
 
 use crate::instruction::{Instruction, read_instruction};
-use crate::refusal::{Refusal, write_refused};
+use crate::refusal::{StepRefusal, write_refused};
 use crate::reply_text::push_reply;
 use gw_hub::{Hub, Reply, StepFault};
 use gw_input::{AnswersLines, Stop, answer_lines, finish};
@@ -24,7 +24,7 @@ pub enum Played {
     /// A step was made, or not for a fault.
     Replied(Result<Reply, StepFault>),
     /// The octets are no response or no APDU, and no step was made.
-    Refused(Refusal),
+    Refused(StepRefusal),
     /// How many news wait, and how many were dropped.
     Waiting { queued: usize, dropped: u64 },
 }

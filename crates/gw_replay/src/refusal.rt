@@ -10,7 +10,7 @@ use std::io::{self, Write};
 
 /// Why octets make no step.
 #[derive(Clone, Copy, Debug, PartialEq, Eq)]
-pub enum Refusal {
+pub enum StepRefusal {
     /// Those of a fragment are no response.
     Fragment(AppFault),
     /// Those of a frame don't begin with an APDU.
@@ -20,14 +20,14 @@ pub enum Refusal {
 }
 
 /// Writes the line of octets that make no step.
-pub fn write_refused<W: Write>(writer: &mut W, refusal: Refusal) -> io::Result<()>
+pub fn write_refused<W: Write>(writer: &mut W, refusal: StepRefusal) -> io::Result<()>
     ensures { OnOk result
         (Appends (W.contents writer.old) (W.contents writer.new) (refused_line refusal)) }
 {
     match refusal {
-        Refusal::Fragment(fault) => write_refusal(writer, fault),
-        Refusal::Frame(fault) => writer.write_all(apci_line(fault)),
-        Refusal::Partial => writer.write_all(b"refused apci 0 Partial\n"),
+        StepRefusal::Fragment(fault) => write_refusal(writer, fault),
+        StepRefusal::Frame(fault) => writer.write_all(apci_line(fault)),
+        StepRefusal::Partial => writer.write_all(b"refused apci 0 Partial\n"),
     }
 }
 

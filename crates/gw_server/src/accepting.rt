@@ -4,7 +4,7 @@ use crate::hold::Hold;
 use crate::host::Host;
 use crate::house::{House, Site};
 use crate::lobby::{Lobby, Visit};
-use gw_journal::{Event, Failure, Throttle};
+use gw_journal::{JournalEvent, Failure, Throttle};
 use gw_threads::{Clock, Gate};
 use std::io::ErrorKind;
 use std::net::{IpAddr, SocketAddr, TcpListener, TcpStream};
@@ -42,7 +42,7 @@ pub fn accept<L: Ledger, R: Host, C: Clock, G: Gate>(
         look_up_from_accept(site.listener);
     }
     if let Ok(address) = site.listener.local_addr() {
-        house.tell(Event::Listening(address));
+        house.tell(JournalEvent::Listening(address));
     }
     let mut refused = Vec::new(house.alloc);
     let mut left = site.options.sessions;
@@ -60,7 +60,7 @@ pub fn accept<L: Ledger, R: Host, C: Clock, G: Gate>(
             Ok((_, address)) => refuse(house, &mut refused, address.ip()),
             Err(error) if error.kind() == ErrorKind::WouldBlock => {}
             Err(error) => {
-                house.tell(Event::NotAccepted(Failure::from(error.kind())));
+                house.tell(JournalEvent::NotAccepted(Failure::from(error.kind())));
                 thread::sleep(house.rt, Duration::from_millis(PAUSE_MS));
             }
         }
@@ -84,7 +84,7 @@ fn seat<L: Ledger, R: Host, C: Clock, G: Gate>(
         card.seat(house.rt, Hold::by(&stream, address, order, moment));
     }
     if lobby.seat(house.rt, place, Visit { stream, address }) {
-        house.tell(Event::AllPlacesTaken);
+        house.tell(JournalEvent::AllPlacesTaken);
         house.board.make_room(house.rt, address.ip(), place, moment);
     }
 }
@@ -110,7 +110,7 @@ fn refuse<L: Ledger, R: Host, C: Clock, G: Gate>(
     };
     if let Some(other) = refused.get_mut(position) {
         if let Some(left_out) = other.throttle.ask(house.clock.wall()) {
-            house.tell(Event::NotAllowed { address, left_out });
+            house.tell(JournalEvent::NotAllowed { address, left_out });
         }
     }
 }

@@ -8,7 +8,7 @@ use crate::house::House;
 use crate::lobby::{Lobby, Visit};
 use crate::lookout::{ANY_TIME, tell_dropped};
 use crate::sockets::{ClientSocket, shut};
-use gw_journal::{Cause, Event};
+use gw_journal::{Cause, JournalEvent};
 use gw_threads::{
     Clock, Gate, Pass, Step, Why, WorkerEnd, client_reader, client_writer, make_call,
 };
@@ -40,7 +40,7 @@ pub fn serve_place<L: Ledger + Send + Sync, R: Host, C: Clock + Sync, G: Gate + 
         };
         passes = serve_visit(house, card, place, passes, visit);
         if lobby.free(house.rt, place) {
-            house.tell(Event::PlaceFree);
+            house.tell(JournalEvent::PlaceFree);
         }
     }
     passes
@@ -67,13 +67,13 @@ fn serve_visit<L: Ledger + Send + Sync, R: Host, C: Clock + Sync, G: Gate + Sync
     card.figures
         .lock(house.rt)
         .connected(address, house.clock.wall());
-    house.tell(Event::ClientConnected { client, address });
+    house.tell(JournalEvent::ClientConnected { client, address });
     let (passes, cause) = exchange(house, client, passes, &stream);
     let cause = told_as(house, card, cause);
     tell_last_dropped(house, card, client);
     card.figures.lock(house.rt).ended(&cause);
     card.free(house.rt);
-    house.tell(Event::ClientLost {
+    house.tell(JournalEvent::ClientLost {
         client,
         address,
         cause,

@@ -2,7 +2,7 @@
 //! given for it, and what becomes of it.
 
 use crate::watched::Watched;
-use gw_journal::{CommandEvent, Event, OrderEvent};
+use gw_journal::{CommandEvent, JournalEvent, OrderEvent};
 use gw_model::Ended;
 use gw_shared::{Apdus, Fate};
 use gw_threads::{About, Call, Clock, Gate, Reply, Run, Verdict, control_command};
@@ -64,7 +64,7 @@ impl<'a, R: Wait, C: Clock, G: Gate> Watched<'a, R, C, G> {
         };
         let address = card.figures.lock(self.rt).address;
         if let Some(address) = address {
-            self.tell(Event::Command {
+            self.tell(JournalEvent::Command {
                 client,
                 address,
                 command,
@@ -75,7 +75,7 @@ impl<'a, R: Wait, C: Clock, G: Gate> Watched<'a, R, C, G> {
 
     /// Tells what happened with an order to an outstation.
     fn tell_order(&self, outstation: u8, order: u64, what: OrderEvent) {
-        self.tell(Event::Order {
+        self.tell(JournalEvent::Order {
             outstation,
             order,
             what,
@@ -104,7 +104,7 @@ impl<'a, R: Wait, C: Clock, G: Gate> Watched<'a, R, C, G> {
         }
         let left_out = call.orders.left_out();
         if left_out > 0 {
-            self.tell(Event::ControlsLeftOut(left_out));
+            self.tell(JournalEvent::ControlsLeftOut(left_out));
         }
     }
 }

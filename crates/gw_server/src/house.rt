@@ -5,7 +5,7 @@ use crate::host::Host;
 use crate::options::Options;
 use crate::plan::Plan;
 use crate::watched::Watched;
-use gw_journal::{Event, Journal};
+use gw_journal::{JournalEvent, Journal};
 use gw_threads::{Clock, Gate, Shared};
 use std::alloc::Global;
 use std::net::TcpListener;
@@ -43,7 +43,7 @@ pub struct Site<'a> {
 
 impl<'a, L: Ledger, R: Host, C: Clock, G: Gate> House<'a, L, R, C, G> {
     /// Tells an operator what happened just now.
-    pub fn tell(&self, event: Event) {
+    pub fn tell(&self, event: JournalEvent) {
         self.journal.tell(self.rt, self.clock.wall(), event);
     }
 

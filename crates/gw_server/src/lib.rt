@@ -24,7 +24,7 @@ mod status;
 mod system_clock;
 mod watched;
 
-pub use gw_journal::{Event, Journal};
+pub use gw_journal::{JournalEvent, Journal};
 pub use gw_threads::{Clock, Closed, Gate, OpenGate, Place};
 pub use host::Host;
 pub use network::Network;

@@ -3,7 +3,7 @@
 use crate::board::ClientCard;
 use crate::host::Host;
 use crate::house::House;
-use gw_journal::{Due, Event, Refused};
+use gw_journal::{DueNotes, JournalEvent, Refused};
 use gw_threads::{Clock, Gate};
 use std::sync::ledger::Ledger;
 use std::thread;
@@ -56,16 +56,16 @@ pub fn look_at_outstations<L: Ledger, R: Host, C: Clock, G: Gate>(
 fn tell_of_outstation<L: Ledger, R: Host, C: Clock, G: Gate>(
     house: &House<'_, L, R, C, G>,
     outstation: u8,
-    due: Due,
+    due: DueNotes,
 ) {
     if let Some(count) = due.unanswered {
-        house.tell(Event::Unanswered { outstation, count });
+        house.tell(JournalEvent::Unanswered { outstation, count });
     }
     if let Some(count) = due.skipped {
-        house.tell(Event::OctetsSkipped { outstation, count });
+        house.tell(JournalEvent::OctetsSkipped { outstation, count });
     }
     if let Some(Refused { fault, left_out }) = due.refused {
-        house.tell(Event::FragmentRefused {
+        house.tell(JournalEvent::FragmentRefused {
             outstation,
             fault,
             left_out,
@@ -93,7 +93,7 @@ pub fn tell_dropped<L: Ledger, R: Host, C: Clock, G: Gate>(
     total: u64,
 ) {
     if let Some((address, count)) = card.dropped(house.rt, wall, total) {
-        house.tell(Event::NewsDropped {
+        house.tell(JournalEvent::NewsDropped {
             client,
             address,
             count,

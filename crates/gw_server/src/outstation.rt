@@ -9,7 +9,7 @@ use crate::lookout::pause;
 use crate::plan::Plan;
 use crate::sockets::{OutstationSocket, shut};
 use dnp_receive::Receiver;
-use gw_journal::{Cause, Event, Failure};
+use gw_journal::{Cause, JournalEvent, Failure};
 use gw_threads::{
     Clock, Gate, Line, Pass, Step, WorkerEnd, make_call, outstation_reader, outstation_writer,
 };
@@ -42,7 +42,7 @@ pub fn serve_outstation<L: Ledger + Send + Sync, R: Host, C: Clock + Sync, G: Ga
                 let wall = house.clock.wall();
                 if is_news(told, cause, wall) {
                     told = Some((cause, wall));
-                    house.tell(Event::OutstationUnreachable { outstation, cause });
+                    house.tell(JournalEvent::OutstationUnreachable { outstation, cause });
                 }
             }
         }
@@ -98,12 +98,12 @@ fn serve_connection<L: Ledger + Send + Sync, R: Host, C: Clock + Sync, G: Gate +
     if let Some(card) = house.board.outstation(outstation) {
         card.figures.lock(house.rt).connected(house.clock.wall());
     }
-    house.tell(Event::OutstationConnected { outstation });
+    house.tell(JournalEvent::OutstationConnected { outstation });
     let (passes, cause) = exchange(house, outstation, plan, passes, &stream);
     if let Some(card) = house.board.outstation(outstation) {
         card.figures.lock(house.rt).lost();
     }
-    house.tell(Event::OutstationLost { outstation, cause });
+    house.tell(JournalEvent::OutstationLost { outstation, cause });
     passes
 }
 

@@ -11,7 +11,7 @@ use crate::lobby::Lobby;
 use crate::lookout::{ANY_TIME, look_at_outstations};
 use crate::options::Options;
 use crate::plan::{Plan, plans_of};
-use gw_journal::{Event, Journal};
+use gw_journal::{JournalEvent, Journal};
 use gw_map::Settings;
 use gw_model::Memory;
 use gw_shared::Routes;
@@ -216,7 +216,7 @@ fn end_all<L: Ledger, R: Host, C: Clock, G: Gate>(
     let others = threads.len().saturating_sub(1);
     join_last(house.rt, threads, others, passes);
     look_at_outstations(house, ANY_TIME);
-    house.tell(Event::Stopped);
+    house.tell(JournalEvent::Stopped);
     house.journal.close(house.rt);
     join_last(house.rt, threads, 1, passes);
 }

@@ -6,7 +6,7 @@ use crate::host::Host;
 use crate::house::{House, Site};
 use crate::lookout::pause;
 use crate::sockets::shut;
-use gw_http::{Asked, Request, answer, receive, refuse};
+use gw_http::{Resource, HttpRequest, answer, receive, refuse};
 use gw_model::Memory;
 use gw_shared::OrderCounts;
 use gw_status::{ClientStatus, Metrics, OrderStatus, OutstationStatus, Page, Status};
@@ -138,7 +138,7 @@ fn serve_request<L: Ledger, R: Host, C: Clock, G: Gate>(
 fn answer_to<L: Ledger, R: Host, C: Clock, G: Gate>(
     house: &House<'_, L, R, C, G>,
     site: Site<'_>,
-    request: Request,
+    request: HttpRequest,
 ) -> Result<String, Memory> {
     match request.asked {
         Ok(asked) => {
@@ -150,10 +150,10 @@ fn answer_to<L: Ledger, R: Host, C: Clock, G: Gate>(
 }
 
 /// What is asked for.
-fn body_of(alloc: Global, asked: Asked, status: &Status) -> Result<String, Memory> {
+fn body_of(alloc: Global, asked: Resource, status: &Status) -> Result<String, Memory> {
     let body = match asked {
-        Asked::Page => format!(in alloc; "{}", Page(status))?,
-        Asked::Metrics => format!(in alloc; "{}", Metrics(status))?,
+        Resource::Page => format!(in alloc; "{}", Page(status))?,
+        Resource::Metrics => format!(in alloc; "{}", Metrics(status))?,
     };
     Ok(body)
 }

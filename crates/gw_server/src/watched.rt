@@ -3,7 +3,7 @@
 
 use crate::board::Board;
 use dnp_app::AppFault;
-use gw_journal::{Event, Journal, Noticed, Unreadable};
+use gw_journal::{JournalEvent, Journal, Noticed, Unreadable};
 use gw_threads::{About, Call, Clock, Gate, Place, Reply, Run, Step, Verdict};
 use iec_apci::{Apdu, Signal};
 use std::sync::Wait;
@@ -26,7 +26,7 @@ pub struct Watched<'a, R, C, G> {
 
 impl<'a, R: Wait, C: Clock, G: Gate> Watched<'a, R, C, G> {
     /// Tells an operator what happened just now.
-    pub(crate) fn tell(&self, event: Event) {
+    pub(crate) fn tell(&self, event: JournalEvent) {
         self.journal.tell(self.rt, self.clock.wall(), event);
     }
 
@@ -46,13 +46,13 @@ impl<'a, R: Wait, C: Clock, G: Gate> Watched<'a, R, C, G> {
     /// Tells what was noticed of an outstation.
     fn tell_noticed(&self, outstation: u8, noticed: Noticed) {
         if noticed.restarted {
-            self.tell(Event::OutstationRestarted { outstation });
+            self.tell(JournalEvent::OutstationRestarted { outstation });
         }
         if noticed.overflowed {
-            self.tell(Event::EventsOverflowed { outstation });
+            self.tell(JournalEvent::EventsOverflowed { outstation });
         }
         if noticed.clock_not_set {
-            self.tell(Event::ClockNotSet { outstation });
+            self.tell(JournalEvent::ClockNotSet { outstation });
         }
     }
 
@@ -64,12 +64,12 @@ impl<'a, R: Wait, C: Clock, G: Gate> Watched<'a, R, C, G> {
         match signal {
             Signal::StartAct => {
                 if let Some(address) = card.transfers(self.rt, true) {
-                    self.tell(Event::TransferStarted { client, address });
+                    self.tell(JournalEvent::TransferStarted { client, address });
                 }
             }
             Signal::StopAct => {
                 if let Some(address) = card.transfers(self.rt, false) {
-                    self.tell(Event::TransferStopped { client, address });
+                    self.tell(JournalEvent::TransferStopped { client, address });
                 }
             }
             Signal::TestAct | Signal::StartCon | Signal::StopCon | Signal::TestCon => {}
@@ -90,7 +90,7 @@ impl<'a, R: Wait, C: Clock, G: Gate> Gate for Watched<'a, R, C, G> {
         let (wall, fault) = (self.clock.wall(), Unreadable::of(fault, octets));
         let told = card.figures.lock(self.rt).refused(wall, fault);
         if let Some(left_out) = told {
-            self.tell(Event::FragmentRefused {
+            self.tell(JournalEvent::FragmentRefused {
                 outstation,
                 fault,
                 left_out,

@@ -4,7 +4,7 @@ use Rattle.std.specs.Prelude.{◌&&◌, option_map, slice_get}
 use Rattle.gw_model.specs.First.{when, first_of}
 use Rattle.gw_model.specs.declared.observation.Observation.{Observation}
 use Rattle.iec_apci.specs.declared.apdu.Signal.{Signal}
-use Rattle.iec_apci.specs.Apdu.{Content}
+use Rattle.iec_apci.specs.Apdu.{ApduContent}
 use Rattle.iec_window.specs.Timers.{owes_ack, owes_test}
 use Rattle.gw_answers.specs.declared.outgoing.AsduAnswer.{AsduAnswer}
 use Rattle.gw_answers.specs.declared.outgoing.OwnAsdu.{OwnAsdu}
@@ -16,7 +16,7 @@ use Rattle.gw_station.specs.Quiet.{IsQuiet}
 
 -- ---- nothing is put out
 
-none_offered : (f : Sending → Content) (x : Option Sending) → option_map f x ≡ None → x ≡ None
+none_offered : (f : Sending → ApduContent) (x : Option Sending) → option_map f x ≡ None → x ≡ None
 none_offered f None e = refl
 none_offered f (Some x) e = absurd cc
 

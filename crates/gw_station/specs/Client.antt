@@ -36,6 +36,10 @@ pub record Client : Type 0 where
   pub older : ℕ
   pub rest : List OwnAsdu
 
+-- so many confirmations of U formats may wait
+abbrev pub most_confirmations : ℕ
+most_confirmations = 32
+
 abbrev pub is_up : Stage → Bool
 is_up Down = false
 is_up Stopped = true

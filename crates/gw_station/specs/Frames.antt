@@ -21,15 +21,15 @@ use Rattle.gw_station.specs.declared.event.Event.{Event}
 use Rattle.gw_station.specs.declared.event.Event.TheVariants as events
 use Rattle.gw_station.specs.declared.event.Why.{Why}
 use Rattle.gw_station.specs.declared.event.Why.TheVariants.{Sequence, NotStarted, Malformed, Flooded}
-use Rattle.gw_station.specs.Client.{Client, is_started, client_anew, client_after_close}
+use Rattle.gw_station.specs.Client.{Client, is_started, client_anew, client_after_close, most_confirmations}
 use Rattle.gw_answers.specs.Answers.{places_for, command_by}
 use Rattle.gw_station.specs.Answers.{is_pending, client_judging, is_asking, places, places_taken}
 
 -- ---- closes
 
--- a confirmation is wanted, and 32 wait already
+-- a confirmation is wanted, and no more may wait
 abbrev pub floods : Signal → Client → Bool
-floods signal c = is_some (confirmation_of signal) && nat_le 32 (length c.confirmations)
+floods signal c = is_some (confirmation_of signal) && nat_le most_confirmations (length c.confirmations)
 
 -- what is to be said of an ASDU
 abbrev pub judged_asdu : Setup → Asdu → Judged

@@ -2,7 +2,7 @@
 use Rattle.std.specs.Prelude.{ℕ, ℤ, ◌-◌, Bool, ◌&&◌, nat_lt, ◌<◌, List, [], ◌∷◌, ◌++◌, length, take, drop, map, Option, Some, None, option_map, slice_get, if◌then◌else◌}
 use Rattle.gw_model.specs.First.{when, first_of}
 use Rattle.iec_apci.specs.declared.apdu.Signal.TheVariants.{TestAct}
-use Rattle.iec_apci.specs.Apdu.{Content, Information, Supervisory, Unnumbered}
+use Rattle.iec_apci.specs.Apdu.{ApduContent, Information, Supervisory, Unnumbered}
 use Rattle.iec_window.specs.Counts.{WindowCounts}
 use Rattle.iec_window.specs.Sequence.{send_number, receive_number}
 use Rattle.iec_window.specs.Timers.{owes_ack, owes_test}
@@ -53,11 +53,11 @@ IsRoomy w (sendings.Part part) = length w.waiting < w.limits.k
 IsRoomy w sendings.SFormat = Unit {0}
 
 -- an I format with this ASDU
-abbrev pub information : ℤ → ℕ → WindowCounts → AsduAnswer → Content
+abbrev pub information : ℤ → ℕ → WindowCounts → AsduAnswer → ApduContent
 information offset common w answer = Information (send_number w) (receive_number w) (answer_octets offset common answer)
 
 -- what it carries
-abbrev pub content_of : ℤ → ℕ → WindowCounts → Sending → Content
+abbrev pub content_of : ℤ → ℕ → WindowCounts → Sending → ApduContent
 content_of offset common w (sendings.Confirm signal) = Unnumbered signal
 content_of offset common w sendings.Test = Unnumbered TestAct
 content_of offset common w (sendings.Answer answer) = information offset common w answer
@@ -66,7 +66,7 @@ content_of offset common w (sendings.Part part) = information offset common w (M
 content_of offset common w sendings.SFormat = Supervisory (receive_number w)
 
 -- what is put out next at a moment, if anything
-abbrev pub given : ℤ → ℕ → ℕ → Client → Option Content
+abbrev pub given : ℤ → ℕ → ℕ → Client → Option ApduContent
 given offset common moment c = option_map (content_of offset common c.window) (offered moment c)
 
 -- it was put out

@@ -11,7 +11,7 @@ use Rattle.gw_station.specs.declared.event.Event.{Event}
 use Rattle.gw_station.specs.declared.event.Event.TheVariants as events
 use Rattle.gw_station.specs.declared.sending.Sending.{Sending}
 use Rattle.gw_station.specs.declared.sending.Sending.TheVariants as sendings
-use Rattle.gw_station.specs.Client.{Client, is_started, limits_of}
+use Rattle.gw_station.specs.Client.{Client, is_started, limits_of, most_confirmations}
 use Rattle.gw_station.specs.Answers.{places, places_taken}
 
 -- what is put out can be spelled
@@ -45,8 +45,8 @@ pub record IsSoundWindow (station : StationSetup) (steps : ℕ) (w : WindowCount
 -- after so many steps and news
 pub record IsSoundClient (station : StationSetup) (steps news : ℕ) (c : Client) : Type 0 where
   pub window : IsSoundWindow station steps c.window
-  -- 32 confirmations of U formats may wait, and there are 32 places for answers and orders
-  pub confirmations : length c.confirmations ≤ 32
+  -- so many confirmations of U formats may wait, and so many answers with the places that orders hold
+  pub confirmations : length c.confirmations ≤ most_confirmations
   pub places : places_taken c ≤ places
   -- there are orders in a session alone
   pub stopped : is_started c.stage ≡ false → c.held ≡ 0

@@ -9,7 +9,7 @@ ghost use Rattle.iec_window.specs.Sequence.{receive_number, send_number};
 ghost use Rattle.iec_window.specs.Steps.{counts_after_sending_i};
 ghost use Rattle.gw_answers.specs.declared.outgoing.AsduAnswer.TheVariants.{Made};
 ghost use Rattle.gw_station.specs.Answers.{client_judging, client_told, is_asking, is_pending, places, places_taken, CanBeTold};
-ghost use Rattle.gw_station.specs.Client.{client_after_close, client_after_tick, client_after_up, client_anew, client_down, client_with_news, close_by_tick, is_started, is_up};
+ghost use Rattle.gw_station.specs.Client.{client_after_close, client_after_tick, client_after_up, client_anew, client_down, client_with_news, close_by_tick, is_started, is_up, most_confirmations};
 ghost use Rattle.gw_station.specs.Frames.{asks, begins, client_after_apdu, client_with_session, client_with_signal, closes_judged, event_of, floods, given_command, judged_asdu, overfills, wants_memory, HasPlace};
 ghost use Rattle.circular_buffer.specs.Buffer.{buffer};
 ghost use Rattle.gw_station.specs.Kept.{items_in, IsQueue};
@@ -384,7 +384,7 @@ impl Station {
 
     /// Whether no further confirmation finds a place.
     fn is_full(&self) -> bool
-        ensures { result ≡ nat_le 32 (length self.now.confirmations) }
+        ensures { result ≡ nat_le most_confirmations (length self.now.confirmations) }
     {
         self.confirmations.len() >= MOST_CONFIRMATIONS
     }

@@ -15,7 +15,7 @@ use Rattle.iec_apci.specs.declared.apdu.Apdu.{Apdu}
 use Rattle.iec_apci.specs.declared.apdu.Apdu.TheVariants.{U}
 use Rattle.iec_apci.specs.declared.apdu.Signal.TheVariants.{StopAct}
 use Rattle.iec_command.specs.declared.command.Command.{Command}
-use Rattle.gw_control.specs.declared.asked.Asked.{Asked}
+use Rattle.gw_control.specs.declared.asked.AskedCommand.{AskedCommand}
 use Rattle.gw_control.specs.declared.answer.Answer.{Answer}
 use Rattle.gw_control.specs.declared.answer.Answer.TheVariants as answers
 use Rattle.gw_control.specs.declared.answer.Outcome.{Outcome}
@@ -43,7 +43,7 @@ is_control_up outstations None = false
 is_control_up outstations (Some found) = is_up_at (slice_get outstations found.1.outstation)
 
 -- a client's command, which came in its session at a moment
-abbrev pub asked_by : Setup → State → ℕ → ℕ → Command → Asked
+abbrev pub asked_by : Setup → State → ℕ → ℕ → Command → AskedCommand
 asked_by setup s moment c command =
     asked c (slice_index s.sessions c) command (is_control_up s.outstations (control_for setup command)) moment
 

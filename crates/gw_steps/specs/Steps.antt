@@ -9,7 +9,7 @@ use Rattle.dnp_app.specs.declared.request.Request.{Request}
 use Rattle.dnp_master.specs.Master.{Master, ended_by_tick, master_down, master_after_up, master_after_next, master_after_order, master_after_tick, request_given, request_ordered}
 use Rattle.dnp_master.specs.Fragments.{accepts, verdict_of, master_after_fragment}
 use Rattle.iec_apci.specs.declared.apdu.Apdu.{Apdu}
-use Rattle.iec_apci.specs.Apdu.{Content}
+use Rattle.iec_apci.specs.Apdu.{ApduContent}
 use Rattle.iec_apci.specs.Buffer.{buffer_of}
 use Rattle.iec_command.specs.declared.command.Command.{Command}
 use Rattle.gw_control.specs.declared.answer.Outcome.{Outcome}
@@ -194,7 +194,7 @@ reply_of_event (events.Command command) = replies.Taken
 reply_of_event (events.Closed why) = replies.Closed why
 
 -- the reply to a pump that gives this
-abbrev pub reply_giving : Option Content → Reply
+abbrev pub reply_giving : Option ApduContent → Reply
 reply_giving None = replies.Nothing
 reply_giving (Some content) = replies.Apdu (buffer_of content)
 

@@ -3,8 +3,8 @@ use Rattle.std.specs.Prelude.{ℕ, List, [], ◌∷◌, ◌++◌, Option, Some, 
 use Rattle.std.specs.Fmt.{decimal}
 use Rattle.gw_model.specs.declared.observation.Observation.{Observation}
 use Rattle.gw_map.specs.Settings.{Setup}
-use Rattle.dnp_objects.specs.declared.fault.Why.{Why}
-use Rattle.dnp_objects.specs.declared.fault.Why.TheVariants.{UnknownObject, UnknownQualifier, ShortRange, StopBeforeStart, ShortData, TooMany, Memory as NoRoom}
+use Rattle.dnp_objects.specs.declared.fault.HeaderFault.{HeaderFault}
+use Rattle.dnp_objects.specs.declared.fault.HeaderFault.TheVariants.{UnknownObject, UnknownQualifier, ShortRange, StopBeforeStart, ShortData, TooMany, Memory as NoRoom}
 use Rattle.dnp_app.specs.declared.fault.AppFault.{AppFault}
 use Rattle.dnp_app.specs.declared.fault.AppFault.TheVariants.{Short, NotResponse, Object, Memory}
 use Rattle.iec_asdu.specs.Spelling.{spelling}
@@ -33,7 +33,7 @@ abbrev pub accepted_text : Setup → Option (List ℕ) → List Observation → 
 accepted_text setup confirm news = confirm_lines confirm ++ asdu_lines setup news
 
 -- what is wrong with a header or its objects
-abbrev pub why_text : Why → List ℕ
+abbrev pub why_text : HeaderFault → List ℕ
 why_text UnknownObject = codes "1 UnknownObject"
 why_text UnknownQualifier = codes "2 UnknownQualifier"
 why_text ShortRange = codes "3 ShortRange"

@@ -5,7 +5,7 @@ ghost use Rattle.gw_text.specs.Text.{accepted_text, asdu_line, asdu_lines, line_
 
 use crate::hex::push_spaced;
 use dnp_app::AppFault;
-use dnp_objects::Why;
+use dnp_objects::HeaderFault;
 use gw_map::Settings;
 use gw_model::{Memory, Observation};
 use iec_asdu::{SPONTANEOUS, write_monitor};
@@ -68,17 +68,17 @@ fn push_asdus(
 }
 
 /// What is wrong with a header or its objects, in words.
-fn words_of(why: Why) -> &'static str
+fn words_of(why: HeaderFault) -> &'static str
     ensures { result.now ≡ why_text why }
 {
     match why {
-        Why::UnknownObject => "1 UnknownObject",
-        Why::UnknownQualifier => "2 UnknownQualifier",
-        Why::ShortRange => "3 ShortRange",
-        Why::StopBeforeStart => "4 StopBeforeStart",
-        Why::ShortData => "5 ShortData",
-        Why::TooMany => "6 TooMany",
-        Why::Memory => "7 Memory",
+        HeaderFault::UnknownObject => "1 UnknownObject",
+        HeaderFault::UnknownQualifier => "2 UnknownQualifier",
+        HeaderFault::ShortRange => "3 ShortRange",
+        HeaderFault::StopBeforeStart => "4 StopBeforeStart",
+        HeaderFault::ShortData => "5 ShortData",
+        HeaderFault::TooMany => "6 TooMany",
+        HeaderFault::Memory => "7 Memory",
     }
 }
 

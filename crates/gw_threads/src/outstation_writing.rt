@@ -7,7 +7,7 @@ use crate::ends::Outgoing;
 use crate::gate::{Gate, Place};
 use crate::line::Line;
 use crate::lost::lose_outstation;
-use crate::row::{REST_MS, Row};
+use crate::row::{REST_MS, RequestStreak};
 use crate::times::Clock;
 use crate::worker_end::WorkerEnd;
 use gw_shared::{Pass, Reply, Shared, Step, StepFault};
@@ -32,7 +32,7 @@ pub fn outstation_writer<L: Ledger, R: Wait + Sleeps, W: Outgoing, C: Clock, G: 
     ensures end { MayEndWriting W.can_fail result.1 }
 {
     let mut pass = pass;
-    let mut row = Row::new();
+    let mut row = RequestStreak::new();
     'requests: for _ in rt.forever() {
         // Read before all that a ring may tell of.
         let rung = rung(shared, outstation);

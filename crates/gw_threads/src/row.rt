@@ -9,15 +9,15 @@ pub const REST_MS: u64 = 20;
 /// How many requests went to an outstation, each soon behind the one before. Indications of events that never clear would
 /// have them follow each other as fast as the outstation answers.
 #[derive(Clone, Copy, Debug)]
-pub struct Row {
+pub struct RequestStreak {
     count: u32,
     last: u64,
 }
 
-impl Row {
+impl RequestStreak {
     /// No request yet.
-    pub fn new() -> Row {
-        Row { count: 0, last: 0 }
+    pub fn new() -> RequestStreak {
+        RequestStreak { count: 0, last: 0 }
     }
 
     /// One more request goes at a moment; whether a rest is due behind it.

@@ -6,8 +6,8 @@ use Rattle.std.proofs.lemmas.List.{append-nil, map_push, take_more, take_all}
 use Rattle.std.proofs.lemmas.Grind.{flat_map-append}
 use Rattle.iec_apci.specs.declared.apdu.Apdu.{Apdu}
 use Rattle.iec_apci.specs.declared.fault.ApciFault.{ApciFault}
-use Rattle.iec_apci.specs.Apdu.{Content, apdu}
-use Rattle.iec_apci.specs.Content.{content, content_if_ok}
+use Rattle.iec_apci.specs.Apdu.{ApduContent, apdu}
+use Rattle.iec_apci.specs.ApduContent.{content, content_if_ok}
 use Rattle.iec_apci.specs.Stream.{answer_at_front, Ending, Open, Faulty, Reading, reading_with_first, reading}
 use Rattle.iec_apci.specs.Calls.{ending_after_piece, answer, ending_behind, ending_after_answer, reading_of_ending}
 use Rattle.iec_apci.specs.Laws.{joined_readings, fault_of}
@@ -15,11 +15,11 @@ use Rattle.iec_apci.proofs.Front.{Shown, front_taken}
 use Rattle.iec_apci.proofs.Streams.{reading_apdu, reading_fault, reading_none, reading-append, size_held}
 
 -- an APDU that is given is the first of what is said, and fewer octets are held back then
-record Gave (held : Ending) (c : Content) : Type 0 where
+record Gave (held : Ending) (c : ApduContent) : Type 0 where
   pub said : reading_of_ending held ≡ reading_with_first c (reading_of_ending (ending_after_answer held))
   pub fewer : size_held (ending_after_answer held) < size_held held
 
-open_gave : (octets : List ℕ) (o : Option Shown) (c : Content) → answer_at_front octets ≡ o → o ≡ Some (Ok c)
+open_gave : (octets : List ℕ) (o : Option Shown) (c : ApduContent) → answer_at_front octets ≡ o → o ≡ Some (Ok c)
     → (reading octets ≡ reading_with_first c (reading_of_ending (ending_behind octets o)))
     × (size_held (ending_behind octets o) < length octets)
 open_gave octets o c front is =
@@ -29,10 +29,10 @@ open_gave octets o c front is =
     subst (λ (x : Option Shown). (reading octets ≡ reading_with_first c (reading_of_ending (ending_behind octets x)))
     × (size_held (ending_behind octets x) < length octets)) (sym is) (reading_apdu octets c shown, fewer)
 
-err_ok : (f : ApciFault) (c : Content) → ◌≡◌ {A = Option Shown} (Some (Err f)) (Some (Ok c)) → ⊥
+err_ok : (f : ApciFault) (c : ApduContent) → ◌≡◌ {A = Option Shown} (Some (Err f)) (Some (Ok c)) → ⊥
 err_ok f c h = cc
 
-gave : (held : Ending) (c : Content) → answer held ≡ Some (Ok c) → Gave held c
+gave : (held : Ending) (c : ApduContent) → answer held ≡ Some (Ok c) → Gave held c
 gave (Open octets) c h =
     let g = open_gave octets (answer_at_front octets) c refl h in
     record { said = g.0; fewer = g.1 }
@@ -76,13 +76,13 @@ gave_fault (Open octets) f h =
 gave_fault (Faulty g) f h = record { said = refl; fault = ap (λ (x : ApciFault). Some x) (err_is g f h) }
 
 -- what the loop keeps after one more APDU, and that it ends
-pub record Goes (xs all : List Content) (held last before : Ending) : Type 0 where
+pub record Goes (xs all : List ApduContent) (held last before : Ending) : Type 0 where
   pub apdus : xs ++ (reading_of_ending held).apdus ≡ all
   pub rest : (reading_of_ending held).ending ≡ last
   pub fewer : size_held held < size_held before
 
 pub goes_on : (old new : List Apdu) (r : Result Apdu ApciFault) (a : Apdu) (held next last : Ending)
-    (all : List Content) → r ≡ Ok a → Some (content_if_ok r) ≡ answer held → next ≡ ending_after_answer held
+    (all : List ApduContent) → r ≡ Ok a → Some (content_if_ok r) ≡ answer held → next ≡ ending_after_answer held
     → new ≡ old ++ a ∷ []
     → map content old ++ (reading_of_ending held).apdus ≡ all → (reading_of_ending held).ending ≡ last
     → Goes (map content new) all next last held
@@ -99,12 +99,12 @@ goes_on old new r a held next last all is answered after pushed apdus rest =
     })
 
 -- what holds once it gave none
-pub record Done (xs all : List Content) (next last : Ending) (o : Option ApciFault) : Type 0 where
+pub record Done (xs all : List ApduContent) (next last : Ending) (o : Option ApciFault) : Type 0 where
   pub apdus : xs ≡ all
   pub rest : next ≡ last
   pub fault : o ≡ fault_of last
 
-is_done : (xs all : List Content) (held next last : Ending) (o : Option ApciFault) → Ended held o
+is_done : (xs all : List ApduContent) (held next last : Ending) (o : Option ApciFault) → Ended held o
     → next ≡ ending_after_answer held → xs ++ (reading_of_ending held).apdus ≡ all
     → (reading_of_ending held).ending ≡ last → Done xs all next last o
 is_done xs all held next last o e after apdus rest =
@@ -115,12 +115,12 @@ is_done xs all held next last o e after apdus rest =
       fault = e.fault ∙ ap fault_of ends;
     }
 
-pub done_none : (xs all : List Content) (held next last : Ending) → None ≡ answer held → next ≡ ending_after_answer held
+pub done_none : (xs all : List ApduContent) (held next last : Ending) → None ≡ answer held → next ≡ ending_after_answer held
     → xs ++ (reading_of_ending held).apdus ≡ all → (reading_of_ending held).ending ≡ last → Done xs all next last None
 done_none xs all held next last answered after apdus rest =
     is_done xs all held next last None (gave_none held (sym answered)) after apdus rest
 
-pub done_fault : (xs all : List Content) (r : Result Apdu ApciFault) (f : ApciFault) (held next last : Ending)
+pub done_fault : (xs all : List ApduContent) (r : Result Apdu ApciFault) (f : ApciFault) (held next last : Ending)
     → r ≡ Err f → Some (content_if_ok r) ≡ answer held → next ≡ ending_after_answer held
     → xs ++ (reading_of_ending held).apdus ≡ all → (reading_of_ending held).ending ≡ last
     → Done xs all next last (Some f)
@@ -133,7 +133,7 @@ unfolding reading
 reading_nil = refl
 
 -- what was said so far, of octets
-pub record Said (octets : List ℕ) (xs : List Content) (held : Ending) (fault : Option ApciFault) : Type 0 where
+pub record Said (octets : List ℕ) (xs : List ApduContent) (held : Ending) (fault : Option ApciFault) : Type 0 where
   pub apdus : xs ≡ (reading octets).apdus
   pub held_back : held ≡ (reading octets).ending
   pub met : fault ≡ fault_of held
@@ -145,7 +145,7 @@ said_nil = record {
   met = refl;
 }
 
-said_more : (octets piece : List ℕ) (xs ys : List Content) (held given next : Ending) (f g : Option ApciFault)
+said_more : (octets piece : List ℕ) (xs ys : List ApduContent) (held given next : Ending) (f g : Option ApciFault)
     → Said octets xs held f → given ≡ ending_after_piece held piece → ys ≡ xs ++ (reading_of_ending given).apdus
     → next ≡ (reading_of_ending given).ending → g ≡ fault_of (reading_of_ending given).ending
     → Said (octets ++ piece) ys next g
@@ -163,7 +163,7 @@ said_more octets piece xs ys held given next f g s given_is apdus rest fault =
     }
 
 -- what was said of the first i pieces, and of one more
-pub said_next : {X : Type 0} (now : X → List ℕ) (pieces : List X) (i : ℕ) (d : X) (xs ys : List Content)
+pub said_next : {X : Type 0} (now : X → List ℕ) (pieces : List X) (i : ℕ) (d : X) (xs ys : List ApduContent)
     (held given next : Ending) (f g : Option ApciFault) → i < length pieces
     → Said (flat_map now (take i pieces)) xs held f → given ≡ ending_after_piece held (now (get_or pieces i d))
     → ys ≡ xs ++ (reading_of_ending given).apdus → next ≡ (reading_of_ending given).ending
@@ -178,7 +178,7 @@ said_next now pieces i d xs ys held given next f g lt s given_is apdus rest faul
     (now (get_or pieces i d)) xs ys held given next f g s given_is apdus rest fault)
 
 -- and of all
-pub said_all : {X : Type 0} (now : X → List ℕ) (pieces : List X) (i : ℕ) (xs : List Content) (held : Ending)
+pub said_all : {X : Type 0} (now : X → List ℕ) (pieces : List X) (i : ℕ) (xs : List ApduContent) (held : Ending)
     (f : Option ApciFault) → length pieces ≤ i → Said (flat_map now (take i pieces)) xs held f
     → Said (flat_map now pieces) xs held f
 said_all now pieces i xs held f le s = subst (λ t. Said (flat_map now t) xs held f) (take_all i pieces le) s

@@ -3,7 +3,7 @@ use Rattle.std.proofs.Common.{arith, length-take}
 use Rattle.iec_apci.specs.declared.apdu.Apdu.{Apdu}
 use Rattle.iec_apci.specs.declared.apdu.Apdu.TheVariants as formats
 use Rattle.iec_apci.specs.Apdu.{Fits}
-use Rattle.iec_apci.specs.Content.{content, IsNumbered}
+use Rattle.iec_apci.specs.ApduContent.{content, IsNumbered}
 
 -- an APDU with numbers of 15 bits
 pub content_fits : (a : Apdu) → IsNumbered a → Fits (content a)

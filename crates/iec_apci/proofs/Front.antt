@@ -6,12 +6,12 @@ use Rattle.std.proofs.lemmas.Bool.{eqb-true}
 use Rattle.iec_apci.specs.declared.apdu.Signal.{Signal}
 use Rattle.iec_apci.specs.declared.fault.ApciFault.{ApciFault}
 use Rattle.iec_apci.specs.declared.fault.ApciFault.TheVariants as faults
-use Rattle.iec_apci.specs.Apdu.{Content, Information, Supervisory, Unnumbered, body, apdu}
+use Rattle.iec_apci.specs.Apdu.{ApduContent, Information, Supervisory, Unnumbered, body, apdu}
 use Rattle.iec_apci.specs.Stream.{signal_of, word_at, content_of, content_or_fault, answer_at_front}
 
 -- what an APDU or a fault is called
 abbrev pub Shown : Type 0
-Shown = Result Content ApciFault
+Shown = Result ApduContent ApciFault
 
 pub none_some : {A : Type 0} (x : A) → ◌≡◌ {A = Option A} None (Some x) → ⊥
 none_some x h = cc
@@ -20,7 +20,7 @@ pub some_same : {A : Type 0} (x y : A) → Some x ≡ Some y → x ≡ y
 some_same x y h = cc
 
 -- the order of the tests of a control field
-abbrev pub fields : (odd information other supervisory busy : Bool) (i s : Content) (u : Option Signal) → Option Content
+abbrev pub fields : (odd information other supervisory busy : Bool) (i s : ApduContent) (u : Option Signal) → Option ApduContent
 fields odd information other supervisory busy i s u =
     if odd then None
     else if information then Some i
@@ -29,19 +29,19 @@ fields odd information other supervisory busy i s u =
     else if busy then None
     else option_map Unnumbered u
 
-function_sized : (u : Option Signal) (c : Content) → option_map Unnumbered u ≡ Some c → length (body c) ≡ 4
+function_sized : (u : Option Signal) (c : ApduContent) → option_map Unnumbered u ≡ Some c → length (body c) ≡ 4
 function_sized None c h = absurd (none_some c h)
-function_sized (Some x) c h = subst (λ (y : Content). length (body y) ≡ 4) (some_same (Unnumbered x) c h) refl
+function_sized (Some x) c h = subst (λ (y : ApduContent). length (body y) ≡ 4) (some_same (Unnumbered x) c h) refl
 
-fields_sized : (odd information other supervisory busy : Bool) (i s : Content) (u : Option Signal) (n : ℕ) (c : Content)
+fields_sized : (odd information other supervisory busy : Bool) (i s : ApduContent) (u : Option Signal) (n : ℕ) (c : ApduContent)
     → length (body i) ≡ n → (other ≡ false → n ≡ 4) → length (body s) ≡ 4
     → fields odd information other supervisory busy i s u ≡ Some c → length (body c) ≡ n
 fields_sized true information other supervisory busy i s u n c hi h4 hs h = absurd (none_some c h)
 fields_sized false true other supervisory busy i s u n c hi h4 hs h =
-    subst (λ (y : Content). length (body y) ≡ n) (some_same i c h) hi
+    subst (λ (y : ApduContent). length (body y) ≡ n) (some_same i c h) hi
 fields_sized false false true supervisory busy i s u n c hi h4 hs h = absurd (none_some c h)
 fields_sized false false false true busy i s u n c hi h4 hs h =
-    subst (λ (y : Content). length (body y) ≡ n) (some_same s c h) (hs ∙ sym (h4 refl))
+    subst (λ (y : ApduContent). length (body y) ≡ n) (some_same s c h) (hs ∙ sym (h4 refl))
 fields_sized false false false false true i s u n c hi h4 hs h = absurd (none_some c h)
 fields_sized false false false false false i s u n c hi h4 hs h = function_sized u c h ∙ sym (h4 refl)
 
@@ -50,7 +50,7 @@ not_false true h = refl
 not_false false h = absurd (let no : true ≡ false → ⊥ = λ e. cc in no h)
 
 -- as many octets are written again
-pub content_sized : (octets : List ℕ) (c : Content) → 4 ≤ length octets → content_of octets ≡ Some c
+pub content_sized : (octets : List ℕ) (c : ApduContent) → 4 ≤ length octets → content_of octets ≡ Some c
     → length (body c) ≡ length octets
 unfolding content_of
 content_sized octets c l h =
@@ -73,7 +73,7 @@ chain wrong bad short r =
     else Some r
 
 -- what was found where an APDU is shown
-pub record Passed (wrong bad short : Bool) (o : Option Content) (c : Content) : Type 0 where
+pub record Passed (wrong bad short : Bool) (o : Option ApduContent) (c : ApduContent) : Type 0 where
   pub start : wrong ≡ false
   pub size : bad ≡ false
   pub whole : short ≡ false
@@ -82,20 +82,20 @@ pub record Passed (wrong bad short : Bool) (o : Option Content) (c : Content) : 
 abbrev fault : ApciFault → Option Shown
 fault f = Some (Err f)
 
-abbrev given : Content → Option Shown
+abbrev given : ApduContent → Option Shown
 given c = Some (Ok c)
 
-fault_given : (f : ApciFault) (c : Content) → fault f ≡ given c → ⊥
+fault_given : (f : ApciFault) (c : ApduContent) → fault f ≡ given c → ⊥
 fault_given f c h = cc
 
-controlled_given : (o : Option Content) (c : Content) → Some (content_or_fault o) ≡ given c → o ≡ Some c
+controlled_given : (o : Option ApduContent) (c : ApduContent) → Some (content_or_fault o) ≡ given c → o ≡ Some c
 controlled_given None c h = absurd (fault_given faults.Control c h)
 controlled_given (Some x) c h =
     let e : given x ≡ given c = h in
     let same : x ≡ c = cc in
-    ap (λ (y : Content). Some y) same
+    ap (λ (y : ApduContent). Some y) same
 
-pub chain_passed : (wrong bad short : Bool) (o : Option Content) (c : Content)
+pub chain_passed : (wrong bad short : Bool) (o : Option ApduContent) (c : ApduContent)
     → chain wrong bad short (content_or_fault o) ≡ given c → Passed wrong bad short o c
 chain_passed true bad short o c h = absurd (fault_given faults.Start c h)
 chain_passed false true short o c h = absurd (fault_given faults.Length c h)
@@ -108,7 +108,7 @@ or_false false q h = (refl, h)
 or_false true q h = absurd (let no : true ≡ false → ⊥ = λ e. cc in no h)
 
 -- an APDU at the front, in the octets' terms
-pub record IsShown (start size : ℕ) (octets : List ℕ) (c : Content) : Type 0 where
+pub record IsShown (start size : ℕ) (octets : List ℕ) (c : ApduContent) : Type 0 where
   pub start_is : start ≡ 0x68
   pub at_least : 4 ≤ size
   pub at_most : size ≤ 253
@@ -116,19 +116,19 @@ pub record IsShown (start size : ℕ) (octets : List ℕ) (c : Content) : Type 0
   pub carried : content_of (take size octets) ≡ Some c
   pub sized : length (body c) ≡ size
 
-front_start : (start : ℕ) (c : Content) (b : Bool) → (if b then None else fault faults.Start) ≡ given c → ⊥
+front_start : (start : ℕ) (c : ApduContent) (b : Bool) → (if b then None else fault faults.Start) ≡ given c → ⊥
 front_start start c true h = none_some (let r : Shown = Ok c in r) h
 front_start start c false h = fault_given faults.Start c h
 
-pub shown_one : (start : ℕ) (c : Content) → answer_at_front (start ∷ []) ≡ given c → ⊥
+pub shown_one : (start : ℕ) (c : ApduContent) → answer_at_front (start ∷ []) ≡ given c → ⊥
 unfolding answer_at_front
 shown_one start c h = front_start start c (eqb start 0x68) h
 
-pub shown_nil : (c : Content) → answer_at_front [] ≡ given c → ⊥
+pub shown_nil : (c : ApduContent) → answer_at_front [] ≡ given c → ⊥
 unfolding answer_at_front
 shown_nil c h = none_some (let r : Shown = Ok c in r) h
 
-pub shown : (start size : ℕ) (octets : List ℕ) (c : Content) → answer_at_front (start ∷ size ∷ octets) ≡ given c
+pub shown : (start size : ℕ) (octets : List ℕ) (c : ApduContent) → answer_at_front (start ∷ size ∷ octets) ≡ given c
     → IsShown start size octets c
 unfolding answer_at_front
 shown start size octets c h =
@@ -149,7 +149,7 @@ shown start size octets c h =
     }
 
 -- what an APDU uses up is there
-pub front_taken : (octets : List ℕ) (c : Content) → answer_at_front octets ≡ given c → length (apdu c) ≤ length octets
+pub front_taken : (octets : List ℕ) (c : ApduContent) → answer_at_front octets ≡ given c → length (apdu c) ≤ length octets
 front_taken [] c h = absurd (shown_nil c h)
 front_taken (start ∷ []) c h = absurd (shown_one start c h)
 front_taken (start ∷ size ∷ octets) c h =

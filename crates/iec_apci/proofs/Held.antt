@@ -3,7 +3,7 @@ use Rattle.std.proofs.Common.{◌≡◌, ℕ, ◌≤◌, List, length, drop, Opt
 use Rattle.iec_apci.specs.declared.apdu.Apdu.{Apdu}
 use Rattle.iec_apci.specs.declared.fault.ApciFault.{ApciFault}
 use Rattle.iec_apci.specs.Apdu.{apdu}
-use Rattle.iec_apci.specs.Content.{content, content_if_ok}
+use Rattle.iec_apci.specs.ApduContent.{content, content_if_ok}
 use Rattle.iec_apci.specs.Stream.{answer_at_front, Ending, Open}
 use Rattle.iec_apci.specs.Calls.{ending_of, ending_behind, ending_after_answer}
 use Rattle.iec_apci.proofs.Front.{front_taken}

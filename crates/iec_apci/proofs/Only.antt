@@ -5,7 +5,7 @@ use Rattle.std.proofs.lemmas.List.{take-append-drop, length-take, length-take-le
 use Rattle.std.proofs.lemmas.Bool.{cases_lt, eqb-true}
 use Rattle.iec_apci.specs.declared.apdu.Signal.{Signal}
 use Rattle.iec_apci.specs.declared.apdu.Signal.TheVariants.{StartAct, StartCon, StopAct, StopCon, TestAct, TestCon}
-use Rattle.iec_apci.specs.Apdu.{Content, Information, Supervisory, Unnumbered, code_of, word, body, Fits}
+use Rattle.iec_apci.specs.Apdu.{ApduContent, Information, Supervisory, Unnumbered, code_of, word, body, Fits}
 use Rattle.iec_apci.specs.Stream.{signal_of, content_of, answer_at_front}
 use Rattle.gw_model.specs.Octets.{AreOctets}
 use Rattle.iec_apci.specs.Laws.{BeginsWith}
@@ -35,17 +35,17 @@ code_is n x =
     (picked (eqb n (code_of TestCon)) n TestCon x _ (eqb-true n (code_of TestCon)) (λ e. absurd (none_some x e)))))))
 
 -- these octets are behind the length of what is carried
-record IsBody (octets : List ℕ) (c : Content) : Type 0 where
+record IsBody (octets : List ℕ) (c : ApduContent) : Type 0 where
   pub same : octets ≡ body c
   pub fits : Fits c
 
-function_is : (octets : List ℕ) (u : Option Signal) (c : Content)
+function_is : (octets : List ℕ) (u : Option Signal) (c : ApduContent)
     → ((x : Signal) → u ≡ Some x → IsBody octets (Unnumbered x)) → option_map Unnumbered u ≡ Some c → IsBody octets c
 function_is octets None c f h = absurd (none_some c h)
 function_is octets (Some x) c f h = subst (IsBody octets) (some_same (Unnumbered x) c h) (f x refl)
 
-fields_are : (odd information other supervisory busy : Bool) (i s : Content) (u : Option Signal)
-    (octets : List ℕ) (c : Content)
+fields_are : (odd information other supervisory busy : Bool) (i s : ApduContent) (u : Option Signal)
+    (octets : List ℕ) (c : ApduContent)
     → (odd ≡ false → information ≡ true → IsBody octets i)
     → (odd ≡ false → other ≡ false → supervisory ≡ true → IsBody octets s)
     → (other ≡ false → busy ≡ false → (x : Signal) → u ≡ Some x → IsBody octets (Unnumbered x))
@@ -76,7 +76,7 @@ nil_of [] h = refl
 nil_of (x ∷ rest) h = absurd (omega arith)
 
 -- octets that are right are those of what they carry
-content_is : (octets : List ℕ) (c : Content) → 4 ≤ length octets → length octets ≤ 253 → AreOctets octets
+content_is : (octets : List ℕ) (c : ApduContent) → 4 ≤ length octets → length octets ≤ 253 → AreOctets octets
     → content_of octets ≡ Some c → IsBody octets c
 unfolding content_of
 content_is [] c l m o h = absurd (omega arith)
@@ -120,7 +120,7 @@ content_is (a ∷ b ∷ d ∷ e ∷ rest) c l m o h =
     h
 
 -- octets that show an APDU begin with it
-pub begins : (octets : List ℕ) (c : Content) → AreOctets octets → answer_at_front octets ≡ Some (Ok c)
+pub begins : (octets : List ℕ) (c : ApduContent) → AreOctets octets → answer_at_front octets ≡ Some (Ok c)
     → BeginsWith octets c
 begins [] c o h = absurd (shown_nil c h)
 begins (start ∷ []) c o h = absurd (shown_one start c h)
@@ -140,5 +140,5 @@ begins (start ∷ size ∷ octets) c o h =
       ),
     )
 
-pub begins_shows : (octets : List ℕ) (c : Content) → BeginsWith octets c → answer_at_front octets ≡ Some (Ok c)
+pub begins_shows : (octets : List ℕ) (c : ApduContent) → BeginsWith octets c → answer_at_front octets ≡ Some (Ok c)
 begins_shows octets c h = ap answer_at_front h.1.1 ∙ front_apdu-append c h.1.0 h.0

@@ -3,7 +3,7 @@ use Rattle.std.proofs.Common.{◌≡◌, ℕ, ◌+◌, ◌*◌, ◌/◌, ◌%◌
 use Rattle.std.proofs.lemmas.List.{take_all, drop_at}
 use Rattle.iec_apci.specs.declared.apdu.Signal.{Signal}
 use Rattle.iec_apci.specs.declared.apdu.Signal.TheVariants.{StartAct, StartCon, StopAct, StopCon, TestAct, TestCon}
-use Rattle.iec_apci.specs.Apdu.{Content, Information, Supervisory, Unnumbered, body, apdu, Fits}
+use Rattle.iec_apci.specs.Apdu.{ApduContent, Information, Supervisory, Unnumbered, body, apdu, Fits}
 use Rattle.iec_apci.specs.Stream.{signal_of, word_at, content_of, content_or_fault, answer_at_front, reading_with_first, reading}
 use Rattle.iec_apci.proofs.Front.{Shown, fields, chain, front-append}
 use Rattle.iec_apci.proofs.Streams.{reading_apdu}
@@ -11,11 +11,11 @@ use Rattle.iec_apci.proofs.Streams.{reading_apdu}
 halved : (n : ℕ) → (2 * n) % 256 + 256 * (2 * n / 256) ≡ 2 * n
 halved n = omega arith
 
-fields_information : (odd information other supervisory busy : Bool) (i s : Content) (u : Option Signal) (c : Content)
+fields_information : (odd information other supervisory busy : Bool) (i s : ApduContent) (u : Option Signal) (c : ApduContent)
     → odd ≡ false → information ≡ true → i ≡ c → fields odd information other supervisory busy i s u ≡ Some c
 fields_information odd information other supervisory busy i s u c h1 h2 h3 = rw (h1, h2, h3) refl
 
-fields_supervisory : (odd information other supervisory busy : Bool) (i s : Content) (u : Option Signal) (c : Content)
+fields_supervisory : (odd information other supervisory busy : Bool) (i s : ApduContent) (u : Option Signal) (c : ApduContent)
     → odd ≡ false → information ≡ false → other ≡ false → supervisory ≡ true → s ≡ c
     → fields odd information other supervisory busy i s u ≡ Some c
 fields_supervisory odd information other supervisory busy i s u c h1 h2 h3 h4 h5 = rw (h1, h2, h3, h4, h5) refl
@@ -24,7 +24,7 @@ eqb_apart : (a b : ℕ) → a < b → eqb a b ≡ false
 eqb_apart a b h = grind arith
 
 -- what is behind the length is read back
-pub content_of-body : (c : Content) → content_of (body c) ≡ Some c
+pub content_of-body : (c : ApduContent) → content_of (body c) ≡ Some c
 unfolding content_of
 content_of-body (Information ns nr asdu) =
     let first : (2 * ns) % 256 + 256 * (2 * ns / 256) ≡ 2 * ns = halved ns in
@@ -54,7 +54,7 @@ content_of-body (Unnumbered StopCon) = refl
 content_of-body (Unnumbered TestAct) = refl
 content_of-body (Unnumbered TestCon) = refl
 
-pub body_sized : (c : Content) → Fits c → (4 ≤ length (body c)) × (length (body c) ≤ 253)
+pub body_sized : (c : ApduContent) → Fits c → (4 ≤ length (body c)) × (length (body c) ≤ 253)
 body_sized (Information ns nr asdu) h = (omega arith, let l : length asdu ≤ 249 = h.2 in omega arith)
 body_sized (Supervisory nr) h = (omega arith, omega arith)
 body_sized (Unnumbered signal) h = (omega arith, omega arith)
@@ -66,7 +66,7 @@ or_both : (p q : Bool) → p ≡ false → q ≡ false → (p || q) ≡ false
 or_both p q h g = rw (h, g) refl
 
 -- the front of an APDU shows it
-pub front_apdu : (c : Content) → Fits c → answer_at_front (apdu c) ≡ Some (Ok c)
+pub front_apdu : (c : ApduContent) → Fits c → answer_at_front (apdu c) ≡ Some (Ok c)
 unfolding answer_at_front
 front_apdu c h =
     let n = length (body c) in
@@ -78,11 +78,11 @@ front_apdu c h =
     ∙ ap content_or_fault (content_of-body c))
 
 -- whatever follows it
-pub front_apdu-append : (c : Content) (behind : List ℕ) → Fits c → answer_at_front (apdu c ++ behind) ≡ Some (Ok c)
+pub front_apdu-append : (c : ApduContent) (behind : List ℕ) → Fits c → answer_at_front (apdu c ++ behind) ≡ Some (Ok c)
 front_apdu-append c behind h = front-append (apdu c) behind (Ok c) (front_apdu c h)
 
 -- an APDU is read first, and then what follows it
-pub reading-apdu : (c : Content) (behind : List ℕ) → Fits c
+pub reading-apdu : (c : ApduContent) (behind : List ℕ) → Fits c
     → reading (apdu c ++ behind) ≡ reading_with_first c (reading behind)
 reading-apdu c behind h =
     reading_apdu (apdu c ++ behind) c (front_apdu-append c behind h)

@@ -1,6 +1,6 @@
 -- Calls of a feed, in any order.
 use Rattle.std.proofs.Common.{◌≡◌, ℕ, List, [], ◌∷◌, ◌++◌, length, drop, Option, Some, None, Ok, Err, refl, sym, ◌∙◌, ap, subst, arith, append_assoc, length-append}
-use Rattle.iec_apci.specs.Apdu.{Content, apdu}
+use Rattle.iec_apci.specs.Apdu.{ApduContent, apdu}
 use Rattle.iec_apci.specs.Stream.{answer_at_front, Ending, Open, Faulty, Reading, reading_with_first, reading}
 use Rattle.iec_apci.specs.Calls.{ending_after_piece, answer, ending_behind, ending_after_answer, reading_of_ending, Call, Feed, Next, answers, nth_answer, count_after_answer, stream_answers}
 use Rattle.iec_apci.specs.Laws.{joined_readings}
@@ -8,17 +8,17 @@ use Rattle.iec_apci.proofs.Front.{Shown}
 use Rattle.iec_apci.proofs.Streams.{reading_apdu, reading_fault, reading_none, reading-append}
 
 -- these APDUs, and then what is said by what is held back
-abbrev after : List Content → Ending → Reading
+abbrev after : List ApduContent → Ending → Reading
 after before held =
     record { apdus = before ++ (reading_of_ending held).apdus; ending = (reading_of_ending held).ending }
 
 -- of these octets n APDUs were given, and this is held back
 record Holds (octets : List ℕ) (n : ℕ) (held : Ending) : Type 0 where
-  pub before : List Content
+  pub before : List ApduContent
   pub count : length before ≡ n
   pub said : reading octets ≡ after before held
 
-fed_after : (before : List Content) (held : Ending) (piece : List ℕ)
+fed_after : (before : List ApduContent) (held : Ending) (piece : List ℕ)
     → joined_readings (after before held) (reading_of_ending (ending_after_piece (reading_of_ending held).ending piece))
     ≡ after before (ending_after_piece held piece)
 fed_after before (Open octets) piece =
@@ -37,7 +37,7 @@ fed_holds octets n held piece h = record {
       ∙ fed_after h.before held piece);
 }
 
-nth_at : (before behind : List Content) (ending : Ending)
+nth_at : (before behind : List ApduContent) (ending : Ending)
     → nth_answer (length before) (before ++ behind) ending ≡ nth_answer 0 behind ending
 nth_at [] behind ending = refl
 nth_at (c ∷ before) behind ending = nth_at before behind ending
@@ -67,7 +67,7 @@ first_of octets (Some (Ok c)) = refl
 nth_same : (n : ℕ) (r s : Reading) → r ≡ s → nth_answer n r.apdus r.ending ≡ nth_answer n s.apdus s.ending
 nth_same n r s h = ap (λ (x : Reading). nth_answer n x.apdus x.ending) h
 
-open_told : (octets : List ℕ) (before : List Content) (o : List ℕ) (a : Option Shown)
+open_told : (octets : List ℕ) (before : List ApduContent) (o : List ℕ) (a : Option Shown)
     → reading octets ≡ after before (Open o) → answer_at_front o ≡ a
     → a ≡ nth_answer (length before) (reading octets).apdus (reading octets).ending
 open_told octets before o a said front =
@@ -75,12 +75,12 @@ open_told octets before o a said front =
     ∙ (nth_at before (reading o).apdus (reading o).ending
     ∙ (nth_same 0 (reading o) (said_after o a) (said_front o a front) ∙ first_of o a)))
 
-push_after : (before : List Content) (c : Content) (r : Reading)
+push_after : (before : List ApduContent) (c : ApduContent) (r : Reading)
     → joined_readings (record { apdus = before; ending = r.ending }) (reading_with_first c r)
     ≡ record { apdus = (before ++ c ∷ []) ++ r.apdus; ending = r.ending }
 push_after before c r = rw (append_assoc before (c ∷ []) r.apdus) refl
 
-open_holds : (octets : List ℕ) (before : List Content) (o : List ℕ) (a : Option Shown)
+open_holds : (octets : List ℕ) (before : List ApduContent) (o : List ℕ) (a : Option Shown)
     → reading octets ≡ after before (Open o) → answer_at_front o ≡ a
     → Holds octets (count_after_answer (length before) a) (ending_behind o a)
 open_holds octets before o None said front = record { before = before; count = refl; said = said }
@@ -96,7 +96,7 @@ open_holds octets before o (Some (Ok c)) said front = record {
       ∙ push_after before c (reading (drop (length (apdu c)) o)));
 }
 
-answered_at : (octets : List ℕ) (before : List Content) (held : Ending) → reading octets ≡ after before held
+answered_at : (octets : List ℕ) (before : List ApduContent) (held : Ending) → reading octets ≡ after before held
     → Answered octets (length before) (answer held) (ending_after_answer held)
 answered_at octets before (Open o) said = record {
   told_so = open_told octets before o (answer_at_front o) said refl;

@@ -2,7 +2,7 @@
 use Rattle.std.proofs.Common.{◌≡◌, ℕ, zero, suc, ◌+◌, ◌≤◌, ◌<◌, List, [], ◌∷◌, ◌++◌, length, drop, Option, Some, None, Ok, Err, refl, sym, ◌∙◌, ap, subst, arith, append_assoc}
 use Rattle.std.specs.List.{AllByRecursion, flat_map}
 use Rattle.std.proofs.lemmas.List.{drop_at, get_or-drop, length-drop}
-use Rattle.iec_apci.specs.Apdu.{Content, apdu, Fits}
+use Rattle.iec_apci.specs.Apdu.{ApduContent, apdu, Fits}
 use Rattle.iec_apci.specs.Stream.{answer_at_front, Reading, reading_with_first, reading}
 use Rattle.gw_model.specs.Octets.{AreOctets}
 use Rattle.iec_apci.specs.Laws.{Splits, reading_with_all_first}
@@ -15,7 +15,7 @@ octets-drop : (n : ℕ) (octets : List ℕ) → AreOctets octets → AreOctets (
 octets-drop n octets h i = subst (λ (x : ℕ). x < 256) (sym (get_or-drop n octets i 0)) (h (n + i))
 
 split_at : (octets : List ℕ) (o : Option Shown) → answer_at_front octets ≡ o → AreOctets octets
-    → ((c : Content) → o ≡ Some (Ok c)
+    → ((c : ApduContent) → o ≡ Some (Ok c)
     → Splits (drop (length (apdu c)) octets) (reading (drop (length (apdu c)) octets)))
     → Splits octets (reading octets)
 split_at octets None e a h = subst (λ (r : Reading). Splits octets r) (sym (reading_none octets e))
@@ -48,7 +48,7 @@ pub splits : (octets : List ℕ) → AreOctets octets → Splits octets (reading
 splits octets a = split_within (length octets) octets (omega arith) a
 
 -- APDUs that were written one after another are read first, and then what follows them
-pub reading-apdus : (cs : List Content) (behind : List ℕ) → AllByRecursion Fits cs
+pub reading-apdus : (cs : List ApduContent) (behind : List ℕ) → AllByRecursion Fits cs
     → reading (flat_map apdu cs ++ behind) ≡ reading_with_all_first cs (reading behind)
 reading-apdus [] behind h = refl
 reading-apdus (c ∷ cs) behind h =

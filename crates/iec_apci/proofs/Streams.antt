@@ -2,7 +2,7 @@
 use Rattle.std.proofs.Common.{◌≡◌, ℕ, zero, suc, ◌≤◌, List, [], ◌∷◌, ◌++◌, length, drop, Option, Some, None, Ok, Err, refl, sym, ◌∙◌, ap, arith, length-drop}
 use Rattle.std.proofs.lemmas.List.{drop-append-le}
 use Rattle.iec_apci.specs.declared.fault.ApciFault.{ApciFault}
-use Rattle.iec_apci.specs.Apdu.{Content, apdu}
+use Rattle.iec_apci.specs.Apdu.{ApduContent, apdu}
 use Rattle.iec_apci.specs.Stream.{answer_at_front, Ending, Open, Faulty, Reading, reading_with_first, reading_within, reading}
 use Rattle.iec_apci.specs.Calls.{ending_after_piece, reading_of_ending}
 use Rattle.iec_apci.specs.Laws.{joined_readings}
@@ -27,7 +27,7 @@ front_nil (x ∷ octets) h = absurd (omega arith)
 
 -- more steps than octets change nothing
 enough_at : (n m : ℕ) (octets : List ℕ) (o : Option Shown) → answer_at_front octets ≡ o
-    → ((c : Content) → o ≡ Some (Ok c)
+    → ((c : ApduContent) → o ≡ Some (Ok c)
     → reading_within n (drop (length (apdu c)) octets) ≡ reading_within m (drop (length (apdu c)) octets))
     → reading_within (suc n) octets ≡ reading_within (suc m) octets
 enough_at n m octets None e h = step n octets None e ∙ sym (step m octets None e)
@@ -47,7 +47,7 @@ enough (suc n) (suc m) octets h g =
     (omega (arith, length-drop (length (apdu c)) octets)))
 
 -- octets that show an APDU say it, and then what the octets behind it say
-pub reading_apdu : (octets : List ℕ) (c : Content) → answer_at_front octets ≡ Some (Ok c)
+pub reading_apdu : (octets : List ℕ) (c : ApduContent) → answer_at_front octets ≡ Some (Ok c)
     → reading octets ≡ reading_with_first c (reading (drop (length (apdu c)) octets))
 unfolding reading
 reading_apdu octets c h =
@@ -77,7 +77,7 @@ abbrev pub then : Reading → List ℕ → Reading
 then r more = joined_readings r (reading_of_ending (ending_after_piece r.ending more))
 
 cut_at : (n : ℕ) (a b : List ℕ) (o : Option Shown) → answer_at_front a ≡ o
-    → ((c : Content) → o ≡ Some (Ok c)
+    → ((c : ApduContent) → o ≡ Some (Ok c)
     → reading (drop (length (apdu c)) a ++ b) ≡ then (reading (drop (length (apdu c)) a)) b)
     → reading (a ++ b) ≡ then (reading a) b
 cut_at n a b None e h = sym (ap (λ (r : Reading). then r b) (reading_none a e))

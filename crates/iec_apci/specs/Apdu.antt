@@ -4,10 +4,10 @@ use Rattle.iec_apci.specs.declared.apdu.Signal.{Signal}
 use Rattle.iec_apci.specs.declared.apdu.Signal.TheVariants.{StartAct, StartCon, StopAct, StopCon, TestAct, TestCon}
 
 -- what an APDU carries: N(S), N(R) and an ASDU; N(R); or a control function
-pub data Content : Type 0 where
-  Information : ℕ → ℕ → List ℕ → Content
-  Supervisory : ℕ → Content
-  Unnumbered : Signal → Content
+pub data ApduContent : Type 0 where
+  Information : ℕ → ℕ → List ℕ → ApduContent
+  Supervisory : ℕ → ApduContent
+  Unnumbered : Signal → ApduContent
 
 -- a control function's first control octet
 abbrev pub code_of : Signal → ℕ
@@ -32,7 +32,7 @@ abbrev pub word : ℕ → List ℕ
 word n = n % 256 ∷ n / 256 ∷ []
 
 -- four control octets, a number shifted left by one, and in I format the ASDU behind them
-abbrev pub body : Content → List ℕ
+abbrev pub body : ApduContent → List ℕ
 body (Information ns nr asdu) = word (2 * ns) ++ word (2 * nr) ++ asdu
 body (Supervisory nr) = word 1 ++ word (2 * nr)
 body (Unnumbered signal) = word (code_of signal) ++ word 0
@@ -42,7 +42,7 @@ abbrev pub start_octet : ℕ
 start_octet = 0x68
 
 -- the start octet, how many octets follow, and these
-abbrev pub apdu : Content → List ℕ
+abbrev pub apdu : ApduContent → List ℕ
 apdu c = start_octet ∷ length (body c) ∷ body c
 
 -- a sequence number has 15 bits
@@ -50,7 +50,7 @@ abbrev pub IsNumber : ℕ → Type 0
 IsNumber n = n < 32768
 
 -- an ASDU has at most 249 octets
-abbrev pub Fits : Content → Type 0
+abbrev pub Fits : ApduContent → Type 0
 Fits (Information ns nr asdu) = IsNumber ns × IsNumber nr × (length asdu ≤ 249)
 Fits (Supervisory nr) = IsNumber nr
 Fits (Unnumbered signal) = Unit {0}

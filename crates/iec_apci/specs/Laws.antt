@@ -2,11 +2,11 @@
 use Rattle.std.specs.Prelude.{◌≡◌, ℕ, List, ◌++◌, Option, Some, None, Err}
 use Rattle.std.specs.List.{AllByRecursion, flat_map}
 use Rattle.iec_apci.specs.declared.fault.ApciFault.{ApciFault}
-use Rattle.iec_apci.specs.Apdu.{Content, apdu, Fits}
+use Rattle.iec_apci.specs.Apdu.{ApduContent, apdu, Fits}
 use Rattle.iec_apci.specs.Stream.{Ending, Open, Faulty, answer_at_front, Reading}
 
 -- the octets begin with the APDU that carries this
-abbrev pub BeginsWith : List ℕ → Content → Type 0
+abbrev pub BeginsWith : List ℕ → ApduContent → Type 0
 BeginsWith octets c = Fits c × ((behind : List ℕ) × (octets ≡ apdu c ++ behind))
 
 -- one reading, and then another
@@ -19,7 +19,7 @@ fault_of (Open octets) = None
 fault_of (Faulty f) = Some f
 
 -- APDUs, and what comes behind them
-abbrev pub reading_with_all_first : List Content → Reading → Reading
+abbrev pub reading_with_all_first : List ApduContent → Reading → Reading
 reading_with_all_first cs r = record { apdus = cs ++ r.apdus; ending = r.ending }
 
 -- a rest that shows no APDU: nothing yet, or a fault

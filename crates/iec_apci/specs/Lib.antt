@@ -1,6 +1,6 @@
 pub mod Apdu
 pub mod Stream
-pub mod Content
+pub mod ApduContent
 pub mod Calls
 pub mod Laws
 pub mod Shown

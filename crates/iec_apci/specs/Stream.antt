@@ -4,7 +4,7 @@ use Rattle.iec_apci.specs.declared.apdu.Signal.{Signal}
 use Rattle.iec_apci.specs.declared.apdu.Signal.TheVariants.{StartAct, StartCon, StopAct, StopCon, TestAct, TestCon}
 use Rattle.iec_apci.specs.declared.fault.ApciFault.{ApciFault}
 use Rattle.iec_apci.specs.declared.fault.ApciFault.TheVariants as faults
-use Rattle.iec_apci.specs.Apdu.{Content, Information, Supervisory, Unnumbered, code_of, start_octet, apdu}
+use Rattle.iec_apci.specs.Apdu.{ApduContent, Information, Supervisory, Unnumbered, code_of, start_octet, apdu}
 
 -- the control function with this first control octet
 abbrev pub signal_of : ℕ → Option Signal
@@ -23,7 +23,7 @@ word_at i octets = slice_index octets i + 256 * slice_index octets (i + 1)
 
 -- what the octets behind the length carry, if they are right: the low bit of the third control octet is 0; the
 -- low bit of the first is 0 in I format alone, and the other formats have four octets
-unfoldable pub content_of : List ℕ → Option Content
+unfoldable pub content_of : List ℕ → Option ApduContent
 content_of octets =
     let first = word_at 0 octets in
     let second = word_at 2 octets in
@@ -35,12 +35,12 @@ content_of octets =
     else option_map Unnumbered (signal_of first)
 
 -- a right control field, or the fault
-abbrev pub content_or_fault : Option Content → Result Content ApciFault
+abbrev pub content_or_fault : Option ApduContent → Result ApduContent ApciFault
 content_or_fault None = Err faults.Control
 content_or_fault (Some c) = Ok c
 
 -- what the front of the octets shows, if it shows anything yet: an APDU, or the first fault
-unfoldable pub answer_at_front : List ℕ → Option (Result Content ApciFault)
+unfoldable pub answer_at_front : List ℕ → Option (Result ApduContent ApciFault)
 answer_at_front [] = None
 answer_at_front (start ∷ []) = if start == start_octet then None else Some (Err faults.Start)
 answer_at_front (start ∷ size ∷ octets) =
@@ -56,11 +56,11 @@ pub data Ending : Type 0 where
 
 -- APDUs one after another, and what is behind them
 pub record Reading : Type 0 where
-  pub apdus : List Content
+  pub apdus : List ApduContent
   pub ending : Ending
 
 -- an APDU, and what comes behind it
-abbrev pub reading_with_first : Content → Reading → Reading
+abbrev pub reading_with_first : ApduContent → Reading → Reading
 reading_with_first c r = record { apdus = c ∷ r.apdus; ending = r.ending }
 
 -- in at most n steps

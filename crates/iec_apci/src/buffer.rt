@@ -2,7 +2,7 @@
 ghost use Rattle.std.specs.Prelude.{◌≡◌, ◌++◌, List, ℕ, take};
 ghost use Rattle.iec_apci.specs.Apdu.{apdu as apdu_octets};
 ghost use Rattle.iec_apci.specs.Stream.{reading, reading_with_first};
-ghost use Rattle.iec_apci.specs.Content.{content, IsNumbered};
+ghost use Rattle.iec_apci.specs.ApduContent.{content, IsNumbered};
 
 use crate::apdu::Apdu;
 use crate::writing::write_apdu;

@@ -2,7 +2,7 @@
 ghost use Rattle.std.specs.Prelude.{◌≡◌, ◌<◌, [], IsOk, OnOk, OnErr, IfNone, IfSome, IfOk};
 ghost use Rattle.iec_apci.specs.Stream.{Open};
 ghost use Rattle.iec_apci.specs.Calls.{ending_after_piece, answer, ending_after_answer, IsFaulty, IsShort};
-ghost use Rattle.iec_apci.specs.Content.{content_if, IsNumbered, IsPadded};
+ghost use Rattle.iec_apci.specs.ApduContent.{content_if, IsNumbered, IsPadded};
 
 use crate::apdu::Apdu;
 use crate::fault::ApciFault;

@@ -3,9 +3,9 @@ ghost use Rattle.std.specs.Prelude.{◌≡◌, List, ℕ, [], ◌++◌, length, 
 ghost use Rattle.std.specs.List.{AllByRecursion, flat_map};
 ghost use Rattle.gw_model.specs.Octets.{AreOctets};
 ghost use Rattle.iec_apci.specs.declared.fault.ApciFault.{ApciFault as ApciFault_lem};
-ghost use Rattle.iec_apci.specs.Apdu.{Content, apdu, Fits};
+ghost use Rattle.iec_apci.specs.Apdu.{ApduContent, apdu, Fits};
 ghost use Rattle.iec_apci.specs.Stream.{answer_at_front, Open, Faulty, reading, reading_with_first};
-ghost use Rattle.iec_apci.specs.Content.{content};
+ghost use Rattle.iec_apci.specs.ApduContent.{content};
 ghost use Rattle.iec_apci.specs.Calls.{Call, ending_after_piece, reading_of_ending, answers, stream_answers};
 ghost use Rattle.iec_apci.specs.Laws.{BeginsWith, Splits, joined_readings, reading_with_all_first, fault_of};
 
@@ -17,7 +17,7 @@ use std::alloc::Global;
 
 /// A stream says first what its front shows, and then what the octets behind that say; a fault ends it.
 pub fn apdu_by_apdu()
-    ensures shown { (octets : List ℕ) (c : Content) → answer_at_front octets ≡ Some (Ok c)
+    ensures shown { (octets : List ℕ) (c : ApduContent) → answer_at_front octets ≡ Some (Ok c)
         → reading octets ≡ reading_with_first c (reading (drop (length (apdu c)) octets)) }
     ensures ends { (octets : List ℕ) (f : ApciFault_lem) → answer_at_front octets ≡ Some (Err f)
         → reading octets ≡ record { apdus = []; ending = Faulty f } }
@@ -34,13 +34,13 @@ pub fn cut_anywhere()
 
 /// An APDU is read back as what it carries, whatever follows it.
 pub fn written_is_read()
-    ensures { (c : Content) (behind : List ℕ) → Fits c
+    ensures { (c : ApduContent) (behind : List ℕ) → Fits c
         → reading (apdu c ++ behind) ≡ reading_with_first c (reading behind) }
 {}
 
 /// Octets show an APDU exactly where they begin with the one that carries this.
 pub fn read_was_written()
-    ensures { (octets : List ℕ) (c : Content) → AreOctets octets → (answer_at_front octets ≡ Some (Ok c))
+    ensures { (octets : List ℕ) (c : ApduContent) → AreOctets octets → (answer_at_front octets ≡ Some (Ok c))
         ↔ BeginsWith octets c }
 {}
 
@@ -52,7 +52,7 @@ pub fn written_again()
 
 /// APDUs that are written one after another are read back one after another, whatever follows them.
 pub fn all_written_are_read()
-    ensures { (cs : List Content) (behind : List ℕ) → AllByRecursion Fits cs
+    ensures { (cs : List ApduContent) (behind : List ℕ) → AllByRecursion Fits cs
         → reading (flat_map apdu cs ++ behind) ≡ reading_with_all_first cs (reading behind) }
 {}
 

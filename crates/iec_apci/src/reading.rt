@@ -2,7 +2,7 @@
 ghost use Rattle.std.specs.Prelude.{◌≡◌, ◌+◌, ◌≤◌, ◌<◌, length, IfNone, IfSome, IfOk, option_map};
 ghost use Rattle.iec_apci.specs.Apdu.{apdu as apdu_octets};
 ghost use Rattle.iec_apci.specs.Stream.{answer_at_front, content_of, signal_of as signal_of_lem};
-ghost use Rattle.iec_apci.specs.Content.{octets_of, content, content_if, IsNumbered, IsPadded};
+ghost use Rattle.iec_apci.specs.ApduContent.{octets_of, content, content_if, IsNumbered, IsPadded};
 
 use crate::apdu::{Apdu, Asdu, START, Signal};
 use crate::fault::ApciFault;

@@ -1,7 +1,7 @@
 //! Calls that take memory, at their largest sizes: no contract tells memory that ran out from a limit of the code.
 use dnp_app::Response;
 use dnp_link::laws::events_of;
-use dnp_link::{LinkEvent, LinkFeed, Why, write_frame};
+use dnp_link::{LinkEvent, LinkFeed, SkipReason, write_frame};
 use dnp_objects::{Header, headers};
 use dnp_points::reports;
 use dnp_receive::{fragments_of, responses_of};
@@ -162,7 +162,7 @@ fn check_events(rt: &impl Abort, feed: &mut LinkFeed) {
         assert!(rt; matches!(feed.next(), Some(LinkEvent::Frame(_))));
     }
     for _ in 0..439u16 {
-        assert_eq!(rt; feed.next(), Some(LinkEvent::Skipped(Why::BadStart)));
+        assert_eq!(rt; feed.next(), Some(LinkEvent::Skipped(SkipReason::BadStart)));
     }
     assert_eq!(rt; feed.next(), None);
 }

@@ -1,7 +1,7 @@
 //! The numbers and words of faults.
 use dnp_app::AppFault;
-use dnp_link::Why as Skipping;
-use dnp_objects::{ObjectFault, Why};
+use dnp_link::SkipReason;
+use dnp_objects::{ObjectFault, HeaderFault};
 use iec_apci::ApciFault;
 use iec_asdu::AsduFault;
 use iec_window::WindowFault;
@@ -20,14 +20,14 @@ fn check_words<F: Display>(
     Ok(())
 }
 
-const OBJECT_FAULTS: &[(Why, &str)] = &[
-    (Why::UnknownObject, "3 Object 1 UnknownObject at 2044"),
-    (Why::UnknownQualifier, "3 Object 2 UnknownQualifier at 2044"),
-    (Why::ShortRange, "3 Object 3 ShortRange at 2044"),
-    (Why::StopBeforeStart, "3 Object 4 StopBeforeStart at 2044"),
-    (Why::ShortData, "3 Object 5 ShortData at 2044"),
-    (Why::TooMany, "3 Object 6 TooMany at 2044"),
-    (Why::Memory, "3 Object 7 Memory at 2044"),
+const OBJECT_FAULTS: &[(HeaderFault, &str)] = &[
+    (HeaderFault::UnknownObject, "3 Object 1 UnknownObject at 2044"),
+    (HeaderFault::UnknownQualifier, "3 Object 2 UnknownQualifier at 2044"),
+    (HeaderFault::ShortRange, "3 Object 3 ShortRange at 2044"),
+    (HeaderFault::StopBeforeStart, "3 Object 4 StopBeforeStart at 2044"),
+    (HeaderFault::ShortData, "3 Object 5 ShortData at 2044"),
+    (HeaderFault::TooMany, "3 Object 6 TooMany at 2044"),
+    (HeaderFault::Memory, "3 Object 7 Memory at 2044"),
 ];
 
 const APP_FAULTS: &[(AppFault, &str)] = &[
@@ -58,11 +58,11 @@ const WINDOW_FAULTS: &[(WindowFault, &str)] = &[
 ];
 
 /// Each reason to skip an octet of a link has its number.
-const REASONS: &[(Skipping, u8)] = &[
-    (Skipping::BadStart, 1),
-    (Skipping::BadLength, 2),
-    (Skipping::BadHeaderCrc, 3),
-    (Skipping::BadBlockCrc, 4),
+const REASONS: &[(SkipReason, u8)] = &[
+    (SkipReason::BadStart, 1),
+    (SkipReason::BadLength, 2),
+    (SkipReason::BadHeaderCrc, 3),
+    (SkipReason::BadBlockCrc, 4),
 ];
 
 #[test]

@@ -2,7 +2,7 @@
 
 use crate::journal::{address, check_line};
 use dnp_app::Request;
-use gw_journal::{CommandEvent, Event, MOST, MOST_OF_CONTROLS, Next, Note, OrderEvent, Waiting};
+use gw_journal::{CommandEvent, JournalEvent, MOST, MOST_OF_CONTROLS, Next, Note, OrderEvent, WaitingNotes};
 use iec_command::read_command;
 use std::alloc::{AllocError, Global};
 use std::process::Abort;
@@ -43,7 +43,7 @@ fn orders(rt: HostRuntime) -> Result<(), Fail> {
             "let go: its session ended before it was given",
         ),
     ] {
-        let event = Event::Order {
+        let event = JournalEvent::Order {
             outstation: 0,
             order: 7,
             what,
@@ -132,7 +132,7 @@ fn check_command(
     words: &str,
 ) -> Result<(), Fail> {
     let command = read_command(asdu).map_err(|_| "it is no command")?;
-    let event = Event::Command {
+    let event = JournalEvent::Command {
         client: 2,
         address: address(),
         command,
@@ -144,10 +144,10 @@ fn check_command(
 }
 
 /// When the next note was, and how many notes it tells of that were left out, if it does.
-fn next_of(waiting: &mut Waiting) -> Option<(u64, Option<u64>)> {
+fn next_of(waiting: &mut WaitingNotes) -> Option<(u64, Option<u64>)> {
     match waiting.next() {
         Next::Note(note) => match note.event {
-            Event::LeftOut(count) => Some((note.wall, Some(count))),
+            JournalEvent::LeftOut(count) => Some((note.wall, Some(count))),
             _ => Some((note.wall, None)),
         },
         Next::Nothing | Next::End => None,
@@ -155,16 +155,16 @@ fn next_of(waiting: &mut Waiting) -> Option<(u64, Option<u64>)> {
 }
 
 /// A note of this moment waits too, if there is room.
-fn add(waiting: &mut Waiting, wall: u64) {
+fn add(waiting: &mut WaitingNotes, wall: u64) {
     waiting.add(Note {
         wall,
-        event: Event::PlaceFree,
+        event: JournalEvent::PlaceFree,
     });
 }
 
 #[test]
 fn left_out(rt: HostRuntime) -> Result<(), Fail> {
-    let mut waiting = Waiting::new(rt.alloc()).map_err(|_| AllocError)?;
+    let mut waiting = WaitingNotes::new(rt.alloc()).map_err(|_| AllocError)?;
     let most = MOST as u64;
     for wall in 0..most + 3 {
         add(&mut waiting, wall);
@@ -183,11 +183,11 @@ fn left_out(rt: HostRuntime) -> Result<(), Fail> {
 }
 
 /// A note of an order of this number waits too, if there is room.
-fn add_order(waiting: &mut Waiting, order: u64) {
+fn add_order(waiting: &mut WaitingNotes, order: u64) {
     let (outstation, what) = (0, OrderEvent::Done);
     waiting.add(Note {
         wall: order,
-        event: Event::Order {
+        event: JournalEvent::Order {
             outstation,
             order,
             what,
@@ -196,11 +196,11 @@ fn add_order(waiting: &mut Waiting, order: u64) {
 }
 
 /// The order that the next note tells of, if it tells of one; or how many notes of controls were left out.
-fn order_of(waiting: &mut Waiting) -> Option<Result<u64, u64>> {
+fn order_of(waiting: &mut WaitingNotes) -> Option<Result<u64, u64>> {
     match waiting.next() {
         Next::Note(note) => match note.event {
-            Event::Order { order, .. } => Some(Ok(order)),
-            Event::ControlsLeftOut(count) => Some(Err(count)),
+            JournalEvent::Order { order, .. } => Some(Ok(order)),
+            JournalEvent::ControlsLeftOut(count) => Some(Err(count)),
             _ => None,
         },
         Next::Nothing | Next::End => None,
@@ -209,7 +209,7 @@ fn order_of(waiting: &mut Waiting) -> Option<Result<u64, u64>> {
 
 #[test]
 fn orders_left_out(rt: HostRuntime) -> Result<(), Fail> {
-    let mut waiting = Waiting::new(rt.alloc()).map_err(|_| AllocError)?;
+    let mut waiting = WaitingNotes::new(rt.alloc()).map_err(|_| AllocError)?;
     let (most, orders) = (MOST as u64, (MOST_OF_CONTROLS - MOST) as u64);
     for wall in 0..most + 5 {
         add(&mut waiting, wall);

@@ -2,7 +2,7 @@
 
 use dnp_app::read_response;
 use gw_journal::{
-    Cause, ClientFigures, Doubt, Due, Event, Failure, Journal, Note, NoteLine, Noticed,
+    Cause, ClientFigures, Doubt, DueNotes, JournalEvent, Failure, Journal, Note, NoteLine, Noticed,
     OutstationFigures, Refused, Throttle, Unreadable,
 };
 use gw_shared::Why;
@@ -41,7 +41,7 @@ fn places(alloc: Global) -> Result<Vec<String>, AllocError> {
 pub fn check_line(
     rt: &impl Abort,
     alloc: Global,
-    event: Event,
+    event: JournalEvent,
     priority: &str,
     words: &str,
 ) -> Result<(), AllocError> {
@@ -62,7 +62,7 @@ pub fn check_line(
 
 #[test]
 fn start(rt: HostRuntime) -> Result<(), Fail> {
-    let event = Event::Started {
+    let event = JournalEvent::Started {
         version: "1.2.3",
         file: String::from_str(rt.alloc(), "a\tb.toml")?,
         digest: [0xA5; 32],
@@ -107,15 +107,15 @@ const LEFT_OUT: &[(u64, &str)] = &[(1, "1 event left out"), (12, "12 events left
 #[test]
 fn warnings(rt: HostRuntime) -> Result<(), Fail> {
     for (doubt, words) in DOUBTS {
-        check_line(&rt, rt.alloc(), Event::Doubtful(*doubt), "<4>", words)?;
+        check_line(&rt, rt.alloc(), JournalEvent::Doubtful(*doubt), "<4>", words)?;
     }
     let words = "the recording ended at step 9: it has 64 MB";
-    check_line(&rt, rt.alloc(), Event::RecordingEnded(FULL), "<4>", words)?;
+    check_line(&rt, rt.alloc(), JournalEvent::RecordingEnded(FULL), "<4>", words)?;
     for (count, words) in LEFT_OUT {
-        check_line(&rt, rt.alloc(), Event::LeftOut(*count), "<4>", words)?;
+        check_line(&rt, rt.alloc(), JournalEvent::LeftOut(*count), "<4>", words)?;
     }
     let words = "2 events of controls left out";
-    check_line(&rt, rt.alloc(), Event::ControlsLeftOut(2), "<3>", words)?;
+    check_line(&rt, rt.alloc(), JournalEvent::ControlsLeftOut(2), "<3>", words)?;
     Ok(())
 }
 
@@ -123,14 +123,14 @@ fn warnings(rt: HostRuntime) -> Result<(), Fail> {
 fn places_for_clients(rt: HostRuntime) -> Result<(), Fail> {
     for (event, priority, words) in [
         (
-            Event::Listening(address()),
+            JournalEvent::Listening(address()),
             "<6>",
             "listening on 10.0.0.7:51234",
         ),
-        (Event::AllPlacesTaken, "<4>", "all eight places are taken"),
-        (Event::PlaceFree, "<6>", "a place is free"),
+        (JournalEvent::AllPlacesTaken, "<4>", "all eight places are taken"),
+        (JournalEvent::PlaceFree, "<6>", "a place is free"),
         (
-            Event::NotAllowed {
+            JournalEvent::NotAllowed {
                 address: host(),
                 left_out: 12,
             },
@@ -138,11 +138,11 @@ fn places_for_clients(rt: HostRuntime) -> Result<(), Fail> {
             "10.0.0.7 isn't allowed to connect, and 12 more",
         ),
         (
-            Event::NotAccepted(Failure::Other),
+            JournalEvent::NotAccepted(Failure::Other),
             "<3>",
             "no connection accepted: the system refuses",
         ),
-        (Event::Stopped, "<6>", "stopped"),
+        (JournalEvent::Stopped, "<6>", "stopped"),
     ] {
         check_line(&rt, rt.alloc(), event, priority, words)?;
     }
@@ -154,17 +154,17 @@ fn outstation_connections(rt: HostRuntime) -> Result<(), Fail> {
     let (outstation, cause) = (0, Failure::ConnectionRefused);
     for (event, priority, words) in [
         (
-            Event::OutstationConnected { outstation: 1 },
+            JournalEvent::OutstationConnected { outstation: 1 },
             "<6>",
             "outstation 1 rtu\\n<3>:20000 connected",
         ),
         (
-            Event::OutstationUnreachable { outstation, cause },
+            JournalEvent::OutstationUnreachable { outstation, cause },
             "<3>",
             "outstation 0 10.0.0.5:20000 not connected: connection refused",
         ),
         (
-            Event::OutstationLost {
+            JournalEvent::OutstationLost {
                 outstation,
                 cause: Cause::Silent { seconds: 17 },
             },
@@ -172,7 +172,7 @@ fn outstation_connections(rt: HostRuntime) -> Result<(), Fail> {
             "outstation 0 10.0.0.5:20000 lost: silent for 17 s",
         ),
         (
-            Event::OutstationLost {
+            JournalEvent::OutstationLost {
                 outstation,
                 cause: Cause::GatewayEnds,
             },
@@ -190,26 +190,26 @@ fn outstation_troubles(rt: HostRuntime) -> Result<(), Fail> {
     let (outstation, fault) = (0, Unreadable::Short);
     for (event, words) in [
         (
-            Event::OutstationRestarted { outstation },
+            JournalEvent::OutstationRestarted { outstation },
             "outstation 0 10.0.0.5:20000 restarted (IIN1.7)",
         ),
         (
-            Event::EventsOverflowed { outstation },
+            JournalEvent::EventsOverflowed { outstation },
             "outstation 0 10.0.0.5:20000 its event buffer overflowed (IIN2.3)",
         ),
         (
-            Event::ClockNotSet { outstation: 2 },
+            JournalEvent::ClockNotSet { outstation: 2 },
             "outstation 2 - its clock can't be set (IIN1.4 stays)",
         ),
         (
-            Event::Unanswered {
+            JournalEvent::Unanswered {
                 outstation,
                 count: 3,
             },
             "outstation 0 10.0.0.5:20000 3 requests unanswered",
         ),
         (
-            Event::FragmentRefused {
+            JournalEvent::FragmentRefused {
                 outstation,
                 fault,
                 left_out: 0,
@@ -217,7 +217,7 @@ fn outstation_troubles(rt: HostRuntime) -> Result<(), Fail> {
             "outstation 0 10.0.0.5:20000 unreadable: fewer than four octets",
         ),
         (
-            Event::OctetsSkipped {
+            JournalEvent::OctetsSkipped {
                 outstation,
                 count: 120,
             },
@@ -234,22 +234,22 @@ fn clients(rt: HostRuntime) -> Result<(), Fail> {
     let (client, address) = (2, address());
     for (event, priority, words) in [
         (
-            Event::ClientConnected { client, address },
+            JournalEvent::ClientConnected { client, address },
             "<6>",
             "client 2 10.0.0.7:51234 connected",
         ),
         (
-            Event::TransferStarted { client, address },
+            JournalEvent::TransferStarted { client, address },
             "<6>",
             "client 2 10.0.0.7:51234 data transfer started",
         ),
         (
-            Event::TransferStopped { client, address },
+            JournalEvent::TransferStopped { client, address },
             "<6>",
             "client 2 10.0.0.7:51234 data transfer stopped",
         ),
         (
-            Event::NewsDropped {
+            JournalEvent::NewsDropped {
                 client,
                 address,
                 count: 1,
@@ -258,7 +258,7 @@ fn clients(rt: HostRuntime) -> Result<(), Fail> {
             "client 2 10.0.0.7:51234 1 observation dropped, since too many waited",
         ),
         (
-            Event::ClientLost {
+            JournalEvent::ClientLost {
                 client,
                 address,
                 cause: Cause::EndOfInput,
@@ -267,7 +267,7 @@ fn clients(rt: HostRuntime) -> Result<(), Fail> {
             "client 2 10.0.0.7:51234 lost: end of input",
         ),
         (
-            Event::ClientLost {
+            JournalEvent::ClientLost {
                 client,
                 address,
                 cause: Cause::GaveWay,
@@ -653,7 +653,7 @@ fn overtaken_setting_of_the_clock(rt: HostRuntime) {
 }
 
 /// Nothing is due.
-const NOTHING_DUE: Due = Due {
+const NOTHING_DUE: DueNotes = DueNotes {
     unanswered: None,
     skipped: None,
     refused: None,
@@ -669,7 +669,7 @@ const REFUSED: &[(u64, Unreadable, Option<u64>)] = &[
 ];
 
 /// What is due once those were refused, and octets skipped.
-const DUE: Due = Due {
+const DUE: DueNotes = DueNotes {
     unanswered: None,
     skipped: Some(12),
     refused: Some(Refused {
@@ -794,8 +794,8 @@ fn journal(rt: HostRuntime) -> Result<(), Fail> {
         rt: &rt,
         text: &text,
     };
-    journal.tell(&host, WALL, Event::OutstationConnected { outstation: 0 });
-    journal.tell(&host, WALL + 1, Event::Stopped);
+    journal.tell(&host, WALL, JournalEvent::OutstationConnected { outstation: 0 });
+    journal.tell(&host, WALL + 1, JournalEvent::Stopped);
     journal.close(&host);
     journal.write_on(&host);
     assert_eq!(rt;

@@ -1,6 +1,6 @@
 //! Tests of printed texts and worked requests.
 
-use gw_http::{Asked, MOST_FIELDS, MOST_OCTETS, Refusal, Request, answer, receive, refuse};
+use gw_http::{Resource, MOST_FIELDS, MOST_OCTETS, RequestFault, HttpRequest, answer, receive, refuse};
 use gw_status::{ClientStatus, Closes, Metrics, OrderStatus, OutstationStatus, Page, Status};
 use std::alloc::{AllocError, Global};
 use std::io::{self, ErrorKind, Read};
@@ -97,27 +97,27 @@ fn status(alloc: Global) -> Result<Status, AllocError> {
 }
 
 /// What was received, in a word.
-fn word_of(received: Option<Request>) -> &'static str {
+fn word_of(received: Option<HttpRequest>) -> &'static str {
     let Some(request) = received else {
         return "nothing";
     };
     match (request.asked, request.is_head) {
-        (Ok(Asked::Page), false) => "page",
-        (Ok(Asked::Page), true) => "page, head",
-        (Ok(Asked::Metrics), false) => "metrics",
-        (Ok(Asked::Metrics), true) => "metrics, head",
+        (Ok(Resource::Page), false) => "page",
+        (Ok(Resource::Page), true) => "page, head",
+        (Ok(Resource::Metrics), false) => "metrics",
+        (Ok(Resource::Metrics), true) => "metrics, head",
         (Err(refusal), is_head) => word_of_refusal(refusal, is_head),
     }
 }
 
 /// A refusal in a word.
-fn word_of_refusal(refusal: Refusal, is_head: bool) -> &'static str {
+fn word_of_refusal(refusal: RequestFault, is_head: bool) -> &'static str {
     match refusal {
-        Refusal::Malformed => "malformed",
-        Refusal::NotFound if is_head => "not found, head",
-        Refusal::NotFound => "not found",
-        Refusal::NotAllowed => "not allowed",
-        Refusal::TooLong => "too long",
+        RequestFault::Malformed => "malformed",
+        RequestFault::NotFound if is_head => "not found, head",
+        RequestFault::NotFound => "not found",
+        RequestFault::NotAllowed => "not allowed",
+        RequestFault::TooLong => "too long",
     }
 }
 
@@ -256,18 +256,18 @@ fn limits(rt: HostRuntime) -> Result<(), Fail> {
 }
 
 /// Each refusal, and the first line of its octets.
-const REFUSALS: &[(Refusal, &str)] = &[
-    (Refusal::Malformed, "400 Bad Request"),
-    (Refusal::NotFound, "404 Not Found"),
-    (Refusal::NotAllowed, "405 Method Not Allowed"),
-    (Refusal::TooLong, "431 Request Header Fields Too Large"),
+const REFUSALS: &[(RequestFault, &str)] = &[
+    (RequestFault::Malformed, "400 Bad Request"),
+    (RequestFault::NotFound, "404 Not Found"),
+    (RequestFault::NotAllowed, "405 Method Not Allowed"),
+    (RequestFault::TooLong, "431 Request Header Fields Too Large"),
 ];
 
 #[test]
 fn refusals(rt: HostRuntime) -> Result<(), Fail> {
     for (refusal, line) in REFUSALS {
         let text = refuse(rt.alloc(), *refusal, false)?;
-        let allow = if matches!(refusal, Refusal::NotAllowed) {
+        let allow = if matches!(refusal, RequestFault::NotAllowed) {
             "Allow: GET, HEAD\r\n"
         } else {
             ""
@@ -279,7 +279,7 @@ fn refusals(rt: HostRuntime) -> Result<(), Fail> {
         )?;
         assert_eq!(rt; text.as_str(), wanted.as_str());
     }
-    let text = refuse(rt.alloc(), Refusal::NotFound, true)?;
+    let text = refuse(rt.alloc(), RequestFault::NotFound, true)?;
     assert_eq!(rt;
         text.as_str(),
         "HTTP/1.1 404 Not Found\r\nContent-Type: text/plain; charset=utf-8\r\n\
@@ -438,10 +438,10 @@ Content-Length: 2\r\nCache-Control: no-store\r\nConnection: close\r\n\r\n";
 
 #[test]
 fn answered(rt: HostRuntime) -> Result<(), Fail> {
-    let text = answer(rt.alloc(), Asked::Metrics, false, "a\n")?;
+    let text = answer(rt.alloc(), Resource::Metrics, false, "a\n")?;
     let wanted = format!(in rt.alloc(); "{HEAD}a\n")?;
     assert_eq!(rt; text.as_str(), wanted.as_str());
-    let head = answer(rt.alloc(), Asked::Metrics, true, "a\n")?;
+    let head = answer(rt.alloc(), Resource::Metrics, true, "a\n")?;
     assert_eq!(rt; head.as_str(), HEAD);
     Ok(())
 }

@@ -1,6 +1,6 @@
 //! Tests of gw_text.
 use dnp_app::AppFault;
-use dnp_objects::{ObjectFault, Why};
+use dnp_objects::{ObjectFault, HeaderFault};
 use gw_model::Memory;
 use gw_text::write_refusal;
 use std::process::Abort;
@@ -8,14 +8,14 @@ use std::test::Fail;
 
 const FAULTS: &[AppFault] = &[AppFault::Short, AppFault::NotResponse, AppFault::Memory];
 
-const WHYS: &[Why] = &[
-    Why::UnknownObject,
-    Why::UnknownQualifier,
-    Why::ShortRange,
-    Why::StopBeforeStart,
-    Why::ShortData,
-    Why::TooMany,
-    Why::Memory,
+const WHYS: &[HeaderFault] = &[
+    HeaderFault::UnknownObject,
+    HeaderFault::UnknownQualifier,
+    HeaderFault::ShortRange,
+    HeaderFault::StopBeforeStart,
+    HeaderFault::ShortData,
+    HeaderFault::TooMany,
+    HeaderFault::Memory,
 ];
 
 /// The words of a refusal are those that the fault itself is shown with.

@@ -2,7 +2,7 @@
 ghost use Rattle.std.specs.Prelude.{◌≡◌, ◌↔◌, true, false, IsTrue, Some, slice_get, slice_index};
 ghost use Rattle.gw_steps.specs.declared.step.StepFault.TheVariants.{NoClient, NoOutstation};
 ghost use Rattle.gw_steps.specs.Steps.{can_order, client_up, command_of, fault_unless_up, is_ordering, latest, outstation_up};
-ghost use Rattle.gw_parts.specs.Clients.{dropped_at, has_offer, queued_at, unacknowledged_at};
+ghost use Rattle.gw_hub.specs.Queries.{dropped_at, has_offer, queued_at, unacknowledged_at};
 ghost use Rattle.gw_hub.specs.Hub.{can_take, is_poll_due, is_ready_at, started_at, unless};
 
 use crate::hub::Hub;

@@ -1,5 +1,5 @@
 use Rattle.std.proofs.Common.{rules, refl, ◌≡◌, length, drop, take, ◌-◌, true, Ok, sym, ap, ◌∙◌}
-use Rattle.dnp_objects.specs.declared.fault.Why.TheVariants.{Memory}
+use Rattle.dnp_objects.specs.declared.fault.HeaderFault.TheVariants.{Memory}
 use Rattle.dnp_app.specs.Response.{fragment_of, is_response}
 use Rattle.dnp_app.proofs.Responses.{response-again, part_is, is_read, stores_header, told_stored, echo_kept, count_kept}
 use Rattle.dnp_app.proofs.response.read.Goals as goal

@@ -1,7 +1,7 @@
 use Rattle.std.proofs.Common.{◌≡◌, ◌++◌, length}
 use Rattle.std.specs.Prelude.{map}
 use Rattle.dnp_link.specs.Stream.{reading}
-use Rattle.dnp_link.specs.Content.{event_content}
+use Rattle.dnp_link.specs.FrameContent.{event_content}
 use Rattle.dnp_link.proofs.laws.drain.Given as goal
 
 -- the events so far, and those that are held back, are all

@@ -1,6 +1,6 @@
 use Rattle.std.proofs.Common.{ℕ, List, [], ap, subst, Bor}
 use Rattle.std.specs.Prelude.{map}
-use Rattle.dnp_link.specs.Content.{event_content}
+use Rattle.dnp_link.specs.FrameContent.{event_content}
 use Rattle.dnp_link.proofs.Streams.{IsSoFar, nothing_yet, one_more, pieces_more}
 use Rattle.dnp_link.proofs.laws.events_of.Goals as goal
 

@@ -1,7 +1,7 @@
 use Rattle.std.proofs.Common.{take}
 use Rattle.std.specs.Prelude.{map}
 use Rattle.std.specs.List.{flat_map}
-use Rattle.dnp_link.specs.Content.{event_content}
+use Rattle.dnp_link.specs.FrameContent.{event_content}
 use Rattle.dnp_link.proofs.Streams.{IsSoFar}
 use Rattle.dnp_link.proofs.laws.events_of.Given as goal
 

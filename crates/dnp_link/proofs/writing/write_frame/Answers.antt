@@ -1,5 +1,5 @@
 use Rattle.std.proofs.Common.{◌+◌, length, take, drop, ◌++◌, ◌∙◌, ap, arith}
-use Rattle.dnp_link.specs.Frame.{Content, frame, blocks, block_count}
+use Rattle.dnp_link.specs.Frame.{FrameContent, frame, blocks, block_count}
 use Rattle.dnp_link.specs.Stream.{reading}
 use Rattle.std.proofs.lemmas.List.{take_at}
 use Rattle.dnp_link.proofs.Round.{length-frame, reading-frame}
@@ -18,7 +18,7 @@ returns-clause-written c =
 
 pub returns-clause-read_back : goal.returns-clause-read_back
 returns-clause-read_back c behind =
-    let carried : Content = record {
+    let carried : FrameContent = record {
       control = c.args.control;
       destination = c.args.destination;
       source = c.args.source;

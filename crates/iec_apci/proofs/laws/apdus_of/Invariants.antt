@@ -1,7 +1,7 @@
 use Rattle.std.proofs.Common.{take}
 use Rattle.std.specs.Prelude.{map}
 use Rattle.std.specs.List.{flat_map}
-use Rattle.iec_apci.specs.Content.{content}
+use Rattle.iec_apci.specs.ApduContent.{content}
 use Rattle.iec_apci.proofs.Drained.{Said}
 use Rattle.iec_apci.proofs.laws.apdus_of.Given as goal
 

@@ -1,6 +1,6 @@
 use Rattle.std.proofs.Common.{◌≡◌, ◌++◌}
 use Rattle.std.specs.Prelude.{map}
-use Rattle.iec_apci.specs.Content.{content}
+use Rattle.iec_apci.specs.ApduContent.{content}
 use Rattle.iec_apci.specs.Calls.{reading_of_ending}
 use Rattle.iec_apci.proofs.Streams.{size_held}
 use Rattle.iec_apci.proofs.laws.drain.Given as goal

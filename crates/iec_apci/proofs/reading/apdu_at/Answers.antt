@@ -1,6 +1,6 @@
 use Rattle.std.proofs.Common.{Option, Some, None}
 use Rattle.std.specs.Prelude.{ok_or, IfSome, IfOk}
-use Rattle.iec_apci.specs.Content.{IsNumbered, IsPadded}
+use Rattle.iec_apci.specs.ApduContent.{IsNumbered, IsPadded}
 use Rattle.iec_apci.specs.declared.fault.ApciFault.TheVariants.{Control}
 use Rattle.iec_apci.proofs.reading.apdu_at.Goals as goal
 

@@ -1,7 +1,7 @@
 use Rattle.std.proofs.Common.{◌∙◌, ◌++◌, take, drop, sym, ap}
 use Rattle.std.proofs.lemmas.List.{take_at}
 use Rattle.iec_apci.specs.Apdu.{apdu}
-use Rattle.iec_apci.specs.Content.{content}
+use Rattle.iec_apci.specs.ApduContent.{content}
 use Rattle.iec_apci.specs.Stream.{reading}
 use Rattle.iec_apci.proofs.Round.{reading-apdu}
 use Rattle.iec_apci.proofs.Fitting.{content_fits}

@@ -1,6 +1,6 @@
 use Rattle.std.proofs.Common.{◌≡◌, ◌∙◌, ℕ, List, Option, ap, sym, subst}
 use Rattle.dnp_link.specs.declared.event.LinkEvent.{LinkEvent}
-use Rattle.dnp_link.specs.Content.{event_content_if}
+use Rattle.dnp_link.specs.FrameContent.{event_content_if}
 use Rattle.dnp_link.specs.Stream.{Reading, reading, reading_with_front}
 use Rattle.bench_link.proofs.Metering.{event_taken, all_taken}
 use Rattle.bench_link.proofs.meter.Meter.drain.Goals as goal

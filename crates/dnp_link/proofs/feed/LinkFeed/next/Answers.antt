@@ -1,6 +1,6 @@
 use Rattle.std.proofs.Common.{refl, ◌∙◌, ap, drop}
 use Rattle.gw_octets.specs.Queue.{Queue}
-use Rattle.dnp_link.specs.Content.{content}
+use Rattle.dnp_link.specs.FrameContent.{content}
 use Rattle.dnp_link.specs.Frame.{frame_length}
 use Rattle.dnp_link.specs.Stream.{Dropped, event_at_front}
 use Rattle.dnp_link.proofs.Answering.{goes_on, waits, block_dropped, frame_given}

@@ -1,5 +1,5 @@
 use Rattle.std.proofs.lemmas.Result.{on_ok_weaker}
-use Rattle.dnp_link.specs.Content.{content}
+use Rattle.dnp_link.specs.FrameContent.{content}
 use Rattle.dnp_receive.specs.declared.gathering.Gathering.{Gathering}
 use Rattle.dnp_receive.proofs.Gathered.{gathered_more}
 use Rattle.dnp_receive.proofs.gathering.Gathering.take.Goals as goal

@@ -1,4 +1,4 @@
-use Rattle.dnp_link.specs.Content.{content}
+use Rattle.dnp_link.specs.FrameContent.{content}
 use Rattle.dnp_receive.proofs.Receiving.{answered}
 use Rattle.dnp_receive.proofs.receiver.Receiver.take.Goals as goal
 

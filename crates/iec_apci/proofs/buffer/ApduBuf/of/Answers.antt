@@ -1,6 +1,6 @@
 use Rattle.std.proofs.Common.{refl}
 use Rattle.iec_apci.specs.Apdu.{apdu}
-use Rattle.iec_apci.specs.Content.{content}
+use Rattle.iec_apci.specs.ApduContent.{content}
 use Rattle.iec_apci.proofs.Buffered.{buffer_is}
 use Rattle.iec_apci.proofs.buffer.ApduBuf.of.Goals as goal
 

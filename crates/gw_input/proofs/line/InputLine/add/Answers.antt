@@ -1,6 +1,6 @@
 use Rattle.std.proofs.Common.{ℕ, arith, ap, length}
 use Rattle.std.proofs.lemmas.List.{length-take}
-use Rattle.gw_input.proofs.line.Line.add.Goals as goal
+use Rattle.gw_input.proofs.line.InputLine.add.Goals as goal
 
 pub invariant_of-self : goal.invariant_of-self
 invariant_of-self c =

@@ -1,13 +1,13 @@
 -- What values of the program say.
 use Rattle.std.specs.Prelude.{◌≡◌, ◌-◌, take, drop, replicate, Option, Some, None}
-use Rattle.dnp_link.specs.Frame.{Content}
+use Rattle.dnp_link.specs.Frame.{FrameContent}
 use Rattle.dnp_link.specs.Stream.{Event, Framed, Dropped}
 use Rattle.dnp_link.specs.declared.frame.Frame.{Frame}
 use Rattle.dnp_link.specs.declared.event.LinkEvent.{LinkEvent}
 use Rattle.dnp_link.specs.declared.event.LinkEvent.TheVariants as events
 
 -- what a frame carries: of its array the first octets alone
-abbrev pub content : Frame → Content
+abbrev pub content : Frame → FrameContent
 content f = record { control = f.control; destination = f.destination; source = f.source; user = take f.len f.user }
 
 -- the octets behind the user data are 0
