@@ -62,7 +62,8 @@ pub struct Hub {
 }
 
 impl Model for Hub {
-    ghost use Rattle.gw_hub.specs.Hub.{Hub as Seen, IsKept};
+    ghost use Rattle.gw_hub.specs.Hub.{IsKept};
+    ghost use Rattle.gw_steps.specs.State.{Hub as Seen};
 
     ghost Value = { Seen };
 

@@ -5,7 +5,7 @@ use crate::{USAGE, refuse, refuse_for};
 use gw_capture::Capture;
 use gw_checker::{Unusable, Warning, read_file, read_settings, warnings_of};
 use gw_command_line::{RunOptions, VERSION};
-use gw_journal::{Doubt, JournalEvent, Journal};
+use gw_journal::{Doubt, Journal, JournalEvent};
 use gw_map::Settings;
 use gw_model::Memory;
 use gw_server::{

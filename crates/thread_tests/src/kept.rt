@@ -5,8 +5,7 @@ use crate::memory::has_termination;
 use crate::peers::{MASTER, SOURCES, Source};
 use dnp_app::Response;
 use dnp_receive::responses_of;
-use gw_record::Entry;
-use gw_threads::{Reply, Step};
+use gw_threads::{Entry, Reply, Step};
 use std::process::Abort;
 use std::sync::{Mutex, Wait};
 

@@ -1,4 +1,4 @@
-//! What wakes a worker that found nothing to do.
+//! Bells: counts of rings that a thread can wait on.
 
 use std::sync::{Condvar, Wait};
 use std::time::Duration;
