@@ -1,7 +1,7 @@
 //! `gateway run --record`: a run that is taken down as lines of a replay.
 
 use gw_capture::{Capture, Kept, Pumps};
-use gw_journal::{JournalEvent, Journal};
+use gw_journal::{Journal, JournalEvent};
 use gw_server::{Gate, Place};
 use gw_text::{RecordEnd, RecordEndCause};
 use gw_threads::{Call, Pumped, Run, Step, StepFault};
