@@ -14,8 +14,8 @@ use std::io::Write;
 use std::sync::atomic::{AtomicBool, Ordering};
 use std::sync::{Mutex, Wait};
 
-/// The steps of all workers on their way into two files. A worker doesn't wait for them to be written: where too much waits
-/// the capture ends.
+/// The steps of all workers on their way into two files. A worker doesn't wait for them to be written: where too much
+/// waits the capture ends.
 #[derive(Drop)]
 pub struct Capture {
     alloc: Global,

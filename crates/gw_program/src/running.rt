@@ -59,8 +59,8 @@ impl<T: Drop> From<AllocFailed<T>> for Unserved {
     }
 }
 
-/// Serves control centres and outstations as a settings file says, until so many connections of control centres have ended,
-/// or standard input has, or for ever; gives the status.
+/// Serves control centres and outstations as a settings file says, until so many connections of control centres have
+/// ended, or standard input has, or for ever; gives the status.
 pub fn run<H: Host>(
     rt: &HostRuntime,
     host: &H,

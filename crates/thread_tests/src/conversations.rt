@@ -1,4 +1,5 @@
-//! Tests of gw_shared and gw_record: steps that two actors make in turn are answered as those of a hub alone, and recorded.
+//! Tests of gw_shared and gw_record: steps that two actors make in turn are answered as those of a hub alone, and
+//! recorded.
 ghost use Rattle.std.specs.Prelude.{◌≡◌};
 
 use crate::asking::{Answer, Turn, answers_of, check_answers, steps_of};

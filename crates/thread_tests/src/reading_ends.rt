@@ -17,8 +17,8 @@ const I_FORMAT: &[u8] = &[
     0x68, 0x0E, 0x00, 0x00, 0x00, 0x00, 0x64, 0x01, 0x06, 0x00, 0x01, 0x00, 0x00, 0x00, 0x00, 0x14,
 ];
 
-/// What a client sends that has sent no STARTDT act, and why its reader ends. Behind the client's coming up each makes one
-/// step: the I format, which closes the connection; or the loss, behind octets that are no APDU.
+/// What a client sends that has sent no STARTDT act, and why its reader ends. Behind the client's coming up each makes
+/// one step: the I format, which closes the connection; or the loss, behind octets that are no APDU.
 const ENDS: &[(&[u8], WorkerEnd)] = &[
     (I_FORMAT, WorkerEnd::Closed(Why::NotStarted)),
     (&[0x68, 0x03], WorkerEnd::Malformed(ApciFault::Length)),
