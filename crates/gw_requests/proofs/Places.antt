@@ -1,0 +1,53 @@
+-- At each place of every run a poll gave what was due.
+use Rattle.std.proofs.Common.{List, [], ◌∷◌}
+use Rattle.std.specs.List.{AllByRecursion}
+use Rattle.gw_map.specs.Settings.{Setup}
+use Rattle.gw_steps.specs.Runs.{AtEach, Entry, IsRun, state_after}
+use Rattle.gw_history.specs.Premises.{IsSoundRun}
+use Rattle.gw_orders.specs.Bonds.{HasShortIndex}
+use Rattle.gw_orders.proofs.Follows.{Place as OrderPlace, places as order_places}
+use Rattle.gw_requests.specs.Requests.{Requests}
+use Rattle.gw_requests.proofs.Given.{Known, entry_gives}
+use Rattle.gw_requests.proofs.Steps.{Told, first_told, told_more}
+
+record Place (setup : Setup) (past : List Entry) : Type 0 where
+  told : Told setup past (state_after setup past)
+  gives : Requests setup past
+
+known : (setup : Setup) (past : List Entry) → OrderPlace setup past → Told setup past (state_after setup past)
+    → Known setup past
+known setup past here told = record {
+  history = here.history.known.tied;
+  orders = here.bonds.tied.places;
+  pending = here.follows;
+  told = told;
+}
+
+last_place : (P : List Entry → Type 0) (past : List Entry) → AtEach P past → P past
+last_place P [] at = at
+last_place P (e ∷ past) at = at.0
+
+joined : (setup : Setup) (past : List Entry) → IsRun setup past → AtEach (OrderPlace setup) past
+    → AtEach (Place setup) past
+joined setup [] run at = record { told = first_told setup; gives = tt }
+joined setup (e ∷ past) run at =
+    let so_far = joined setup past run.1 at.1 in
+    let here : OrderPlace setup past = last_place (OrderPlace setup) past at.1 in
+    let before : Place setup past = last_place (Place setup) past so_far in (
+      record {
+        told = told_more setup past e.step e.reply run.0 here.history.known.tied before.told;
+        gives = entry_gives setup past e.step e.reply run.0 (known setup past here before.told);
+      },
+      so_far,
+    )
+
+at_each : (P Q : List Entry → Type 0) → ((past : List Entry) → P past → Q past) → (past : List Entry) → AtEach P past
+    → AtEach Q past
+at_each P Q law [] at = law [] at
+at_each P Q law (e ∷ past) at = (law (e ∷ past) at.0, at_each P Q law past at.1)
+
+pub requests_due : (setup : Setup) (past : List Entry) → IsSoundRun setup past
+    → AllByRecursion HasShortIndex setup.controls → AtEach (Requests setup) past
+requests_due setup past given short =
+    at_each (Place setup) (Requests setup) (λ before k. k.gives) past
+    (joined setup past given.run (order_places setup past given short))

@@ -1,0 +1,4 @@
+pub mod Talk
+pub mod Due
+pub mod Requests
+pub mod Example
