@@ -18,6 +18,7 @@ ghost use Rattle.gw_orders.specs.Bonds.{Bonds, HasShortIndex};
 ghost use Rattle.gw_orders.specs.ToldOnce.{TellsOnce};
 ghost use Rattle.gw_orders.specs.Outcomes.{TellsDue};
 ghost use Rattle.gw_orders.specs.Commands.{AnswersCommands};
+ghost use Rattle.gw_requests.specs.Requests.{Requests};
 ghost use Rattle.gw_hub.specs.Hub.{can_count, can_take, controls_polled, state_counting, state_with_response, step_with, Answers, IsCounted};
 
 use crate::common::Common;
@@ -174,6 +175,11 @@ impl Hub {
     ///   its request was answered to the end, where no answer came in time, or where its outstation is lost.
     /// - `commands`: a command for a control is confirmed, and an execute accepted, exactly where the history permits
     ///   it: by its value, who selected the control, and whether the outstation is up and how many orders wait there.
+    ///
+    /// And of outstations:
+    /// - `requests`: a request is given by a poll alone, and is the first that is due by the history: an order's, or
+    ///   what internal indications, periods and missing answers ask for, in the order of rank, with the next sequence
+    ///   number. A poll gives nothing exactly where a request awaits its answer or nothing is due.
     pub fn run(
         alloc: Global,
         settings: Settings,
@@ -190,6 +196,7 @@ impl Hub {
         ensures due { IfOk result (λ run. AtEach (TellsDue settings) (history [] steps.items run.1.items)) }
         ensures commands { IfOk result (λ run.
             AtEach (AnswersCommands settings) (history [] steps.items run.1.items)) }
+        ensures requests { IfOk result (λ run. AtEach (Requests settings) (history [] steps.items run.1.items)) }
     {
         let mut hub = Hub::new(alloc, settings)?;
         let replies = hub.make(&steps)?;

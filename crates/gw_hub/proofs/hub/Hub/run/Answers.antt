@@ -10,6 +10,7 @@ use Rattle.gw_orders.specs.Bonds.{HasShortIndex, IsControlRun}
 use Rattle.gw_orders.proofs.Bonded.{bound, told_once}
 use Rattle.gw_orders.proofs.Follows.{told_when_due}
 use Rattle.gw_orders.proofs.CommandsTold.{commands_answered}
+use Rattle.gw_requests.proofs.Places.{requests_due}
 use Rattle.gw_laws.proofs.Promised.{keeps_promises}
 use Rattle.gw_hub.proofs.hub.Hub.run.Goals as goal
 
@@ -56,5 +57,11 @@ returns-clause-due c =
 pub returns-clause-commands : goal.returns-clause-commands
 returns-clause-commands c =
     commands_answered c.args.settings _
+    (run_of _ _ _ c.args.steps.items c.in_ok-replies.replies.items c.in_ok-hub.ensures.setup c.deref.ensures.value
+    c.in_ok-replies.ensures.run) c.in_ok-hub.ensures.indices
+
+pub returns-clause-requests : goal.returns-clause-requests
+returns-clause-requests c =
+    requests_due c.args.settings _
     (run_of _ _ _ c.args.steps.items c.in_ok-replies.replies.items c.in_ok-hub.ensures.setup c.deref.ensures.value
     c.in_ok-replies.ensures.run) c.in_ok-hub.ensures.indices
