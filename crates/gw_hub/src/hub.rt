@@ -18,7 +18,7 @@ ghost use Rattle.gw_orders.specs.Bonds.{Bonds, HasShortIndex};
 ghost use Rattle.gw_orders.specs.ToldOnce.{TellsOnce};
 ghost use Rattle.gw_orders.specs.Outcomes.{TellsDue};
 ghost use Rattle.gw_orders.specs.Commands.{AnswersCommands};
-ghost use Rattle.gw_requests.specs.Requests.{Requests};
+ghost use Rattle.gw_orders.specs.Requests.{Requests};
 ghost use Rattle.gw_hub.specs.Hub.{can_count, can_take, controls_polled, state_counting, state_with_response, step_with, Answers, IsCounted};
 
 use crate::common::Common;

@@ -36,3 +36,8 @@ pub mod Up
 pub mod Answered
 pub mod Waits
 pub mod CommandsTold
+pub mod RequestTurns
+pub mod RequestRanked
+pub mod RequestSteps
+pub mod RequestGiven
+pub mod RequestPlaces

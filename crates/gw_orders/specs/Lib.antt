@@ -10,3 +10,7 @@ pub mod OutcomeExample
 pub mod Selections
 pub mod Commands
 pub mod CommandExample
+pub mod Talk
+pub mod Due
+pub mod Requests
+pub mod RequestExample

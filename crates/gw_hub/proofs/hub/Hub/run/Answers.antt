@@ -10,7 +10,7 @@ use Rattle.gw_orders.specs.Bonds.{HasShortIndex, IsControlRun}
 use Rattle.gw_orders.proofs.Bonded.{bound, told_once}
 use Rattle.gw_orders.proofs.Follows.{told_when_due}
 use Rattle.gw_orders.proofs.CommandsTold.{commands_answered}
-use Rattle.gw_requests.proofs.Places.{requests_due}
+use Rattle.gw_orders.proofs.RequestPlaces.{requests_due}
 use Rattle.gw_laws.proofs.Promised.{keeps_promises}
 use Rattle.gw_hub.proofs.hub.Hub.run.Goals as goal
 

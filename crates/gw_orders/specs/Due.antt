@@ -5,7 +5,7 @@ use Rattle.gw_model.specs.declared.poll.Poll.{Poll}
 use Rattle.dnp_app.specs.Asking.{Asks, Read, EnableUnsolicited, DisableUnsolicited, WriteIndication, RecordTime, WriteTime}
 use Rattle.dnp_app.specs.Response.{Fragment, is_unsolicited}
 use Rattle.dnp_master.specs.Fragments.{control_in}
-use Rattle.gw_requests.specs.Talk.{Turn, Up, Sends, Accepts, GivesUp, asked_by, last_asked, last_sent}
+use Rattle.gw_orders.specs.Talk.{Turn, Up, Sends, Accepts, GivesUp, asked_by, last_asked, last_sent}
 
 -- ---- what may be asked
 

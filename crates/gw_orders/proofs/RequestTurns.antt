@@ -16,8 +16,8 @@ use Rattle.dnp_master.specs.declared.task.Task.{Task}
 use Rattle.dnp_master.specs.declared.task.Task.TheVariants.{ClearRestart, WriteTime, RecordTime, Disable, Integrity, Enable, EventPoll, Command}
 use Rattle.dnp_master.specs.Master.{Master, due_unanswered, due_without, following, master_after_up, master_asking, master_down, nothing_due, task_request}
 use Rattle.dnp_master.specs.Fragments.{clears_restart, control_in, due_once_answered, due_with, exchange_once_answered, indications_in, is_done, master_after_answer, master_after_unsolicited, records_time}
-use Rattle.gw_requests.specs.Talk.{Turn, Up, Sends, Accepts, GivesUp, asked_by, last_asked, last_sent, next_number, number_behind}
-use Rattle.gw_requests.specs.Due.{clear_restart, disabling_due, enabling_due, event_poll, events_wanted, had, iin, integrity_poll, integrity_wanted, is_for, recording_due, restart_due, since, tells_of_events, time_due}
+use Rattle.gw_orders.specs.Talk.{Turn, Up, Sends, Accepts, GivesUp, asked_by, last_asked, last_sent, next_number, number_behind}
+use Rattle.gw_orders.specs.Due.{clear_restart, disabling_due, enabling_due, event_poll, events_wanted, had, iin, integrity_poll, integrity_wanted, is_for, recording_due, restart_due, since, tells_of_events, time_due}
 
 -- ---- the tie
 

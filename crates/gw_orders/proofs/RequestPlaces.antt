@@ -6,9 +6,9 @@ use Rattle.gw_steps.specs.Runs.{AtEach, Entry, IsRun, state_after}
 use Rattle.gw_history.specs.Premises.{IsSoundRun}
 use Rattle.gw_orders.specs.Bonds.{HasShortIndex}
 use Rattle.gw_orders.proofs.Follows.{Place as OrderPlace, places as order_places}
-use Rattle.gw_requests.specs.Requests.{Requests}
-use Rattle.gw_requests.proofs.Given.{Known, entry_gives}
-use Rattle.gw_requests.proofs.Steps.{Told, first_told, told_more}
+use Rattle.gw_orders.specs.Requests.{Requests}
+use Rattle.gw_orders.proofs.RequestGiven.{Known, entry_gives}
+use Rattle.gw_orders.proofs.RequestSteps.{Told, first_told, told_more}
 
 record Place (setup : Setup) (past : List Entry) : Type 0 where
   told : Told setup past (state_after setup past)

@@ -6,7 +6,7 @@ ghost use Rattle.gw_map.specs.Settings.{Setup};
 ghost use Rattle.gw_steps.specs.Runs.{AtEach, Entry};
 ghost use Rattle.gw_history.specs.Premises.{IsSoundRun};
 ghost use Rattle.gw_orders.specs.Bonds.{HasShortIndex};
-ghost use Rattle.gw_requests.specs.Requests.{Requests};
+ghost use Rattle.gw_orders.specs.Requests.{Requests};
 
 /// At each point of a run: a request is given by a poll alone, and is the first that is due in the order of rank, with
 /// the next sequence number; a poll gives nothing exactly where a request awaits its answer or nothing is due.

@@ -48,11 +48,11 @@ use Rattle.gw_orders.proofs.Story.{GoesOn, Holds, Sends, WasSelected, story}
 use Rattle.gw_orders.specs.Pending.{Pending, is_marked, is_select, pending}
 use Rattle.gw_orders.proofs.Rows.{row_under_way, row_waiting, rows, rows_in}
 use Rattle.gw_orders.proofs.Shapes.{all_unmarked}
-use Rattle.gw_requests.specs.Talk.{Turn, next_number, talk}
-use Rattle.gw_requests.specs.Requests.{Due, EntryGives, GivesDue, IsDue, OfOrder, StepGives, due_at, first_due, in_rank, is_selected, of_oldest}
-use Rattle.gw_requests.proofs.Turns.{IsTold, first_octet}
-use Rattle.gw_requests.proofs.Ranked.{Fits, first_fits}
-use Rattle.gw_requests.proofs.Steps.{Told, ToldAt}
+use Rattle.gw_orders.specs.Talk.{Turn, next_number, talk}
+use Rattle.gw_orders.specs.Requests.{Due, EntryGives, GivesDue, IsDue, OfOrder, StepGives, due_at, first_due, in_rank, is_selected, of_oldest}
+use Rattle.gw_orders.proofs.RequestTurns.{IsTold, first_octet}
+use Rattle.gw_orders.proofs.RequestRanked.{Fits, first_fits}
+use Rattle.gw_orders.proofs.RequestSteps.{Told, ToldAt}
 
 -- ---- orders that wait
 

@@ -20,8 +20,8 @@ use Rattle.gw_orders.specs.Marks.{Mark, Asked, Answered, marks, request_of}
 use Rattle.gw_orders.specs.Pending.{Pending, is_select, pending}
 use Rattle.gw_orders.specs.Commands.{waiting}
 use Rattle.gw_orders.specs.Selections.{moment_at}
-use Rattle.gw_requests.specs.Talk.{Turn, next_number, talk}
-use Rattle.gw_requests.specs.Due.{clear_restart, disable, disabling_due, enable, enabling_due, event_poll, events_due, integrity_due, integrity_poll, recording_due, restart_due, time_due}
+use Rattle.gw_orders.specs.Talk.{Turn, next_number, talk}
+use Rattle.gw_orders.specs.Due.{clear_restart, disable, disabling_due, enable, enabling_due, event_poll, events_due, integrity_due, integrity_poll, recording_due, restart_due, time_due}
 
 -- what is due
 pub data Due : Type 0 where

@@ -3,9 +3,9 @@ ghost use Rattle.std.specs.Prelude.{◌≡◌, [], ◌∷◌, Some, None};
 ghost use Rattle.dnp_app.specs.Asking.{RecordTime};
 ghost use Rattle.gw_control.specs.Example.{setup};
 ghost use Rattle.gw_orders.specs.BondExample.{made as made_of_orders, selected, sends, set};
-ghost use Rattle.gw_requests.specs.Due.{clear_restart, disable, enable, event_poll, integrity_poll};
-ghost use Rattle.gw_requests.specs.Requests.{due_at, to_write, OfOrder, ToAsk};
-ghost use Rattle.gw_requests.specs.Example.{
+ghost use Rattle.gw_orders.specs.Due.{clear_restart, disable, enable, event_poll, integrity_poll};
+ghost use Rattle.gw_orders.specs.Requests.{due_at, to_write, OfOrder, ToAsk};
+ghost use Rattle.gw_orders.specs.RequestExample.{
   answer,
   answered,
   comes,

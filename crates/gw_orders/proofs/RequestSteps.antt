@@ -40,10 +40,10 @@ use Rattle.gw_history.proofs.Tied.{Tied, told_moment}
 use Rattle.gw_orders.specs.Marks.{request_of}
 use Rattle.gw_orders.specs.Pending.{is_late_at}
 use Rattle.gw_orders.specs.Selections.{moment_at}
-use Rattle.gw_requests.specs.Talk.{Turn, Up, Accepts, GivesUp, talk, talk_giving}
-use Rattle.gw_requests.specs.Requests.{Due, in_rank}
-use Rattle.gw_requests.proofs.Turns.{IsRecordedAt, IsTold, SentAs, told_answer, told_asking, told_down, told_given_up, told_unsolicited, told_up}
-use Rattle.gw_requests.proofs.Ranked.{Fits, first_fits}
+use Rattle.gw_orders.specs.Talk.{Turn, Up, Accepts, GivesUp, talk, talk_giving}
+use Rattle.gw_orders.specs.Requests.{Due, in_rank}
+use Rattle.gw_orders.proofs.RequestTurns.{IsRecordedAt, IsTold, SentAs, told_answer, told_asking, told_down, told_given_up, told_unsolicited, told_up}
+use Rattle.gw_orders.proofs.RequestRanked.{Fits, first_fits}
 
 -- ---- the tie
 

@@ -9,8 +9,8 @@ use Rattle.gw_steps.specs.Example.{response, setup}
 use Rattle.gw_steps.specs.State.{State, at_first}
 use Rattle.gw_steps.specs.Steps.{outcome, after}
 use Rattle.gw_steps.specs.Runs.{Entry}
-use Rattle.gw_requests.specs.Talk.{next_number, talk}
-use Rattle.gw_requests.specs.Requests.{Due, due_at}
+use Rattle.gw_orders.specs.Talk.{next_number, talk}
+use Rattle.gw_orders.specs.Requests.{Due, due_at}
 
 -- events every 3 seconds, all every 40, and an answer in 0.7
 abbrev pub polled : Poll

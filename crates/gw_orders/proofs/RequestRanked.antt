@@ -10,10 +10,10 @@ use Rattle.dnp_master.specs.declared.due.DueTasks.{DueTasks}
 use Rattle.dnp_master.specs.declared.task.Task.{Task}
 use Rattle.dnp_master.specs.declared.task.Task.TheVariants.{ClearRestart, RecordTime, Disable, Integrity, Enable, EventPoll}
 use Rattle.dnp_master.specs.Master.{Master, if_due, task_request, tasks_due, time_due as write_due}
-use Rattle.gw_requests.specs.Talk.{Turn}
-use Rattle.gw_requests.specs.Due.{clear_restart, disable, enable, event_poll, events_due, integrity_due, integrity_poll}
-use Rattle.gw_requests.specs.Requests.{Due, IsDue, ToAsk, in_rank, to_write}
-use Rattle.gw_requests.proofs.Turns.{IsRecordedAt, IsTold, due_told}
+use Rattle.gw_orders.specs.Talk.{Turn}
+use Rattle.gw_orders.specs.Due.{clear_restart, disable, enable, event_poll, events_due, integrity_due, integrity_poll}
+use Rattle.gw_orders.specs.Requests.{Due, IsDue, ToAsk, in_rank, to_write}
+use Rattle.gw_orders.proofs.RequestTurns.{IsRecordedAt, IsTold, due_told}
 
 -- a task is what is due: a recording is that of this wall time
 pub record Does (wall : ℕ) (task : Task) (due : Due) : Type 0 where

@@ -1,5 +1,0 @@
-pub mod Turns
-pub mod Ranked
-pub mod Steps
-pub mod Given
-pub mod Places

@@ -1,4 +1,0 @@
-pub mod Talk
-pub mod Due
-pub mod Requests
-pub mod Example
