@@ -86,7 +86,8 @@ operating_of _ = None
 -- a request of one fragment that asks for no confirmation
 abbrev pub operates_for : ℕ → Operation → ℕ → Act → Option Operating
 operates_for sequence operation index act =
-    let control : ApplicationControl = record { fir = true; fin = true; con = false; uns = false; sequence = sequence } in
+    let control : ApplicationControl =
+    record { fir = true; fin = true; con = false; uns = false; sequence = sequence } in
     Some (operating control operation index act)
 
 -- what a request, given for an outstation, operates there

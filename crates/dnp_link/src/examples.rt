@@ -42,8 +42,8 @@ pub fn streams()
 /// What a secondary station that was not reset decides on these CONTROL octets, one after another: whether
 /// user data is delivered, and the CONTROL octet of the reply.
 pub fn decisions()
-    ensures in_turn { replies_to None (0x72 ∷ 0x40 ∷ 0x72 ∷ 0x73 ∷ 0x53 ∷ 0x53 ∷ 0x44 ∷ 0x49 ∷ 0x41 ∷ 0xC4 ∷ 0x00 ∷ []) ≡
-        (false, Some 0x81) ∷ (false, Some 0x80) ∷ (false, Some 0x80) ∷ (false, Some 0x80) ∷ (true, Some 0x80)
+    ensures in_turn { replies_to None (0x72 ∷ 0x40 ∷ 0x72 ∷ 0x73 ∷ 0x53 ∷ 0x53 ∷ 0x44 ∷ 0x49 ∷ 0x41 ∷ 0xC4 ∷ 0x00 ∷ [])
+        ≡ (false, Some 0x81) ∷ (false, Some 0x80) ∷ (false, Some 0x80) ∷ (false, Some 0x80) ∷ (true, Some 0x80)
         ∷ (false, Some 0x80)
         ∷ (true, None) ∷ (false, Some 0x8B) ∷ (false, Some 0x8F) ∷ (false, None) ∷ (false, None) ∷ [] }
     // REQUEST_LINK_STATUS needs no reset.

@@ -21,7 +21,8 @@ pub otherwise_ok : {A : Type 0} (b : Bool) (d : ObjectFault) (r : Result A Objec
 otherwise_ok true d r y e = absurd cc
 otherwise_ok false d r y e = (refl, e)
 
-pub some_ok : {A : Type 0} (place : _) (why : HeaderFault) (o : Option A) (x : A) → some_or place why o ≡ Ok x → o ≡ Some x
+pub some_ok : {A : Type 0} (place : _) (why : HeaderFault) (o : Option A) (x : A) → some_or place why o ≡ Ok x
+    → o ≡ Some x
 some_ok place why None x e = absurd cc
 some_ok place why (Some y) x e = cc
 

@@ -3,7 +3,7 @@ ghost use Rattle.std.specs.Prelude.{◌≡◌, ◌≢◌, ◌+◌, ◌^◌, ◌<
 ghost use Rattle.gw_model.specs.Outcome.{Gives};
 ghost use Rattle.dnp_objects.specs.Headers.{is_memory, body_length, header_at, headers_of, IsPart, IsStoredAt};
 
-use crate::fault::{ObjectFault, HeaderFault};
+use crate::fault::{HeaderFault, ObjectFault};
 use crate::object::{Size, form_of};
 use crate::range::{range_at, range_for};
 use std::alloc::Global;

@@ -13,7 +13,7 @@ mod range;
 pub use examples::{
     faults_by_example, headers_by_example, most_headers_by_example, sizes_by_example,
 };
-pub use fault::{ObjectFault, HeaderFault};
+pub use fault::{HeaderFault, ObjectFault};
 pub use header::{Header, headers};
 pub use law::one_reading;
 pub use numbers::number;

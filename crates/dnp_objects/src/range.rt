@@ -2,7 +2,7 @@
 ghost use Rattle.std.specs.Prelude.{◌≡◌, ◌≢◌, ◌≤◌, length, take, IfOk, IfErr};
 ghost use Rattle.dnp_objects.specs.Headers.{number, octets_of, is_among, codes_of, qualifiers, range_of, range_for, range_at};
 
-use crate::fault::{ObjectFault, HeaderFault};
+use crate::fault::{HeaderFault, ObjectFault};
 use crate::numbers::number;
 use crate::object::Access;
 

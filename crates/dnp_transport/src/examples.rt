@@ -48,7 +48,8 @@ pub fn longest_fragment()
     ensures answers { answers_from None ((0x40 ∷ replicate 2000 7) ∷ (0x81 ∷ replicate 49 7) ∷ [])
         ≡ More ∷ Dropped TooLong ∷ [] }
     // A gap is told before a fragment that would be too long.
-    ensures gap { answers_from None ((0x40 ∷ replicate 2000 7) ∷ (0x83 ∷ replicate 49 7) ∷ []) ≡ More ∷ Dropped Gap ∷ [] }
+    ensures gap { answers_from None ((0x40 ∷ replicate 2000 7) ∷ (0x83 ∷ replicate 49 7) ∷ [])
+        ≡ More ∷ Dropped Gap ∷ [] }
 {}
 
 /// 250 octets from number 63 on: FIR and 249 octets, then FIN with number 0 and one octet.

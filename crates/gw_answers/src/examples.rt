@@ -1,5 +1,5 @@
-//! Worked examples, computed by the definitions: station 1, single-point 4101, scaled value 4201, integrated total 4301,
-//! of which nothing was reported yet.
+//! Worked examples, computed by the definitions: station 1, single-point 4101, scaled value 4201, integrated total
+//! 4301, of which nothing was reported yet.
 ghost use Rattle.std.specs.Prelude.{◌≡◌, [], ◌∷◌, true, false, Some, None};
 ghost use Rattle.std.proofs.Common.{lit≤};
 ghost use Rattle.iec_command.specs.declared.command.Action.TheVariants.{CounterInterrogation, Interrogation};

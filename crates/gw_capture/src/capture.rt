@@ -5,16 +5,17 @@ use crate::kept::Kept;
 use crate::lines::Lines;
 use crate::pumps::Pumps;
 use crate::waiting::{Turn, WaitingLines};
+use gw_bell::Bell;
 use gw_model::Memory;
-use gw_shared::{Bell, Reply, Step, StepFault};
+use gw_steps::{Reply, Step, StepFault};
 use gw_text::{RecordEnd, RecordEndCause};
 use std::alloc::Global;
 use std::io::Write;
 use std::sync::atomic::{AtomicBool, Ordering};
 use std::sync::{Mutex, Wait};
 
-/// The steps of all workers on their way into two files. A worker doesn't wait for them to be written: where too much waits
-/// the capture ends.
+/// The steps of all workers on their way into two files. A worker doesn't wait for them to be written: where too much
+/// waits the capture ends.
 #[derive(Drop)]
 pub struct Capture {
     alloc: Global,

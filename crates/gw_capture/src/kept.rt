@@ -1,7 +1,7 @@
 //! What is kept of a step before it is made.
 
 use crate::step_line::{has_line, push_step};
-use gw_shared::Step;
+use gw_steps::Step;
 use gw_text::RecordEndCause;
 use std::alloc::Global;
 

@@ -1,7 +1,7 @@
 //! What a running gateway steps, captured as lines of a replay in one file, and the lines of the replies in another.
 //!
-//! A worker keeps the line of a step before it is made, and hands it over with the number and the reply that the core gave.
-//! One thread puts what all workers handed over in the order of the numbers, and writes it.
+//! A worker keeps the line of a step before it is made, and hands it over with the number and the reply that the core
+//! gave. One thread puts what all workers handed over in the order of the numbers, and writes it.
 #![tactic(auto)]
 
 mod capture;

@@ -7,8 +7,9 @@ use crate::pumps::Pumps;
 use crate::step_line::push_step;
 use gw_model::Memory;
 use gw_replay::push_reply;
-use gw_shared::{Apdus, Reply, Step, StepFault};
+use gw_steps::{Reply, Step, StepFault};
 use gw_text::push_spaced;
+use iec_apci::Apdus;
 use std::alloc::Global;
 
 /// The lines of steps whose numbers follow one another, and those of the replies to them.

@@ -1,8 +1,9 @@
 //! Runs of pumps.
 
-use gw_shared::{Reply, StepFault};
+use gw_steps::{Reply, StepFault};
 
-/// Pumps for a client under one hold of the core's lock: their numbers follow one another, and their moment is the same.
+/// Pumps for a client under one hold of the core's lock: their numbers follow one another, and their moment is the
+/// same.
 #[derive(Clone, Copy, Debug)]
 pub struct Pumps<'a> {
     /// The number of the first.

@@ -4,8 +4,9 @@ ghost use Rattle.iec_apci.specs.ApduContent.{IsNumbered};
 ghost use Rattle.gw_capture.specs.StepLines.{step_line, words_at, words_of_tick, words_of_wall, HasLine};
 
 use gw_model::Memory;
-use gw_shared::{Apdu, ApduBuf, Step};
+use gw_steps::Step;
 use gw_text::push_spaced;
+use iec_apci::{Apdu, ApduBuf};
 use std::io::Write;
 
 /// Whether a line makes this step: the numbers of an APDU have 15 bits.

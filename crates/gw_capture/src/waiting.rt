@@ -116,8 +116,8 @@ impl WaitingLines {
         self.lines.clear();
     }
 
-    /// What is to be done by the thread that has written so much since it asked last. What is to be written is put into an
-    /// empty batch.
+    /// What is to be done by the thread that has written so much since it asked last. What is to be written is put into
+    /// an empty batch.
     pub fn turn(&mut self, written: Amount, batch: &mut Vec<Lines>) -> Turn {
         self.amount = self.amount.without(written);
         if !self.lines.is_empty() {

@@ -1,6 +1,6 @@
 //! What may stand at each key of a settings file, in words.
 
-use gw_map::{Absence, KeyContent, Key, OUTSTATIONS, ROWS, Section, keys_of};
+use gw_map::{Absence, Key, KeyContent, OUTSTATIONS, ROWS, Section, keys_of};
 use std::io::{self, Write};
 
 /// Writes what may stand at a key of a section.
@@ -47,7 +47,9 @@ fn allowed_at_top(name: &str) -> &'static str {
 fn write_content<W: Write>(key: &Key, writer: &mut W) -> io::Result<()> {
     match key.content {
         KeyContent::Number(first, last) => write!(writer, "a whole number from {first} to {last}"),
-        KeyContent::NumberTo(first, other) => write!(writer, "a whole number from {first} to {other}"),
+        KeyContent::NumberTo(first, other) => {
+            write!(writer, "a whole number from {first} to {other}")
+        }
         KeyContent::NumberBelow(first, other) => {
             write!(writer, "a whole number from {first} on, below {other}")
         }

@@ -8,7 +8,8 @@ use std::io::{self, ErrorKind, Read};
 use std::rt::Files;
 use std::{fmt, str};
 
-/// How many octets a settings file may have. One with 20,000 controls, each with all of its keys, has some four million.
+/// How many octets a settings file may have. One with 20,000 controls, each with all of its keys, has some four
+/// million.
 pub const LONGEST_FILE: u64 = 16_777_216;
 
 /// Why a settings file can't be used.

@@ -97,7 +97,11 @@ fn value_at<'a>(table: Option<&'a Table>, key: &str) -> Option<&'a Value> {
 }
 
 /// Writes which entry it is: its section, its position, and its address and outstation where it has them.
-fn write_entry<W: Write>(place: &KeyPlace, entry: Option<&Table>, writer: &mut W) -> io::Result<()> {
+fn write_entry<W: Write>(
+    place: &KeyPlace,
+    entry: Option<&Table>,
+    writer: &mut W,
+) -> io::Result<()> {
     let section = place.section.name();
     match place.section {
         Section::Top | Section::Station => write!(writer, "{section}: "),

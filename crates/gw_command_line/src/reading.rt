@@ -305,7 +305,8 @@ fn texts_named<'a>(
     matches: &ArgMatches<'a>,
     name: &str,
 ) -> Result<Vec<&'a str>, AllocError>
-    ensures { IfOk result (λ named. map (λ text. text.now) named.items ≡ texts_in name.now (rows_of (found_of matches.now))) }
+    ensures { IfOk result (λ named. map (λ text. text.now) named.items
+        ≡ texts_in name.now (rows_of (found_of matches.now))) }
 {
     match matches.get_strs(name) {
         Some(named) => Vec::from_slice(alloc, named),

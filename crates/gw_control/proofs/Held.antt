@@ -161,7 +161,8 @@ no_order true told e = ap one_if e
 no_order false told e = refl
 
 -- what v accepts, in controls w with the same orders and as many of them before
-ordering : (c : ℕ) (a : AskedCommand) (control : Control) (standing : Option Selection) (v w : Controls) (act : Option Act)
+ordering : (c : ℕ) (a : AskedCommand) (control : Control) (standing : Option Selection) (v w : Controls)
+    (act : Option Act)
     → act_accepted a control standing v ≡ act → w.outgoing ≡ v.outgoing
     → orders_of c (controls_ordering a control act w)
     ≡ orders_of c w + one_if ((a.client == c) && is_order (answer_to_act w.ordered act))

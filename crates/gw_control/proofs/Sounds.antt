@@ -69,8 +69,8 @@ ordering_sound setup a control standing v w (Some act) is same k =
           (rw same (accepted a control standing v act is).place) k.orders;
     }
 
-command_sound : (setup : Setup) (a : AskedCommand) (found : Option (ℕ × Control)) (v : Controls) → IsSoundControls setup v
-    → IsSoundControls setup (controls_after_at setup a found v)
+command_sound : (setup : Setup) (a : AskedCommand) (found : Option (ℕ × Control)) (v : Controls)
+    → IsSoundControls setup v → IsSoundControls setup (controls_after_at setup a found v)
 command_sound setup a None v k = k
 command_sound setup a (Some found) v k =
     by_kind (is_deactivation a) (is_select a.command.action)

@@ -129,7 +129,8 @@ selectable_alone a control s e = alone (is_none (act_by a control)) (s.client ==
     alone false false e = absurd (let none : ⊥ = cc in none)
 
 -- at its control, by a command that comes no later
-selecting_elsewhere : (setup : Setup) (a : AskedCommand) (control : Control) (q p moment : ℕ) (v : Controls) (s : Selection)
+selecting_elsewhere : (setup : Setup) (a : AskedCommand) (control : Control) (q p moment : ℕ) (v : Controls)
+    (s : Selection)
     → a.moment ≤ moment
     → ((s.client == a.client) ≡ false) ⊎ ((q == p) ≡ false)
     → slice_get v.selections p ≡ Some (Some s) → stands setup.station.select_ms moment v.sessions s ≡ true
@@ -149,7 +150,8 @@ selecting_elsewhere setup a control q p moment v s le (inl differs) here valid f
         (sym (ap (is_selectable a control) standing) ∙ free) in
         absurd (let none : ⊥ = cc in none)
 
-ordering_spares : (setup : Setup) (a : AskedCommand) (control : Control) (act : Option Act) (v : Controls) (moment p : ℕ)
+ordering_spares : (setup : Setup) (a : AskedCommand) (control : Control) (act : Option Act) (v : Controls)
+    (moment p : ℕ)
     → standing_at setup moment p (controls_ordering a control act v) ≡ standing_at setup moment p v
 ordering_spares setup a control None v moment p = refl
 ordering_spares setup a control (Some act) v moment p = refl

@@ -23,8 +23,8 @@ use Rattle.gw_control.proofs.Places.{all_alike, all_changed, all_mapped}
 
 -- ---- one outstation
 
-more_whole : (x : Accepted) (ws : List Accepted) → IsWholeOrder x.command → AllByRecursion (λ y. IsWholeOrder y.command) ws
-    → AllByRecursion (λ y. IsWholeOrder y.command) (ws ++ x ∷ [])
+more_whole : (x : Accepted) (ws : List Accepted) → IsWholeOrder x.command
+    → AllByRecursion (λ y. IsWholeOrder y.command) ws → AllByRecursion (λ y. IsWholeOrder y.command) (ws ++ x ∷ [])
 more_whole x [] whole all = (whole, tt)
 more_whole x (w ∷ ws) whole all = (all.0, more_whole x ws whole all.1)
 
@@ -92,9 +92,10 @@ ordering_whole : (a : AskedCommand) (control : Control) (act : Option Act) (v : 
 ordering_whole a control None v whole operating k = k
 ordering_whole a control (Some act) v whole operating k =
     let x = accepted_by a control act (v.ordered + 1) in
-    all_changed IsWholeOutgoing (outgoing_with x) (λ o all. record
-    { waiting = more_whole x o.waiting (record { whole = whole; operating = operating }) all.waiting; under_way = all.under_way })
-    control.outstation v.outgoing k
+    all_changed IsWholeOutgoing (outgoing_with x) (λ o all. record {
+      waiting = more_whole x o.waiting (record { whole = whole; operating = operating }) all.waiting;
+      under_way = all.under_way;
+    }) control.outstation v.outgoing k
 
 command_whole : (setup : Setup) (a : AskedCommand) (found : Option (ℕ × Control)) (v : Controls) → IsWhole a.command
     → HasWholeCommands v

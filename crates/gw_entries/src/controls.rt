@@ -58,7 +58,8 @@ impl Control {
         outstations: u8,
     ) -> Result<Control, SettingsFault>
         ensures { Tells control_fields result
-            (placed of.Control position (table_wrongs outstations control_keys control_mismatches (table_view table.now)))
+            (placed of.Control position
+            (table_wrongs outstations control_keys control_mismatches (table_view table.now)))
             (control_of (table_view table.now)) }
     {
         let entry = Entry {

@@ -13,7 +13,7 @@ ghost use Rattle.gw_entries.specs.Values.{value_or, value_at as value_in, intege
 ghost use Rattle.gw_entries.specs.declared.fault.Fault.TheVariants.{KindMismatch};
 
 use crate::fault::{Fault, KeyFault, Section, SettingsFault};
-use crate::key::{Absence, KeyContent, Key};
+use crate::key::{Absence, Key, KeyContent};
 use crate::keys::{check_keys, key_named, keys_of};
 use std::alloc::Global;
 use toml::{Table, Value};
@@ -119,7 +119,8 @@ pub(crate) struct Entry<'a> {
 impl<'a> Entry<'a> {
     /// What stands at a key, or is meant there.
     fn value(self, name: &str) -> Datum<'a>
-        ensures { datum_seen result ≡ value_in (rules_of self.entry.section) name.now (table_view self.entry.table.now) }
+        ensures { datum_seen result
+            ≡ value_in (rules_of self.entry.section) name.now (table_view self.entry.table.now) }
     {
         match key_named(self.section, name) {
             Some(key) => value_meant(self.table, key),
@@ -129,35 +130,40 @@ impl<'a> Entry<'a> {
 
     /// A whole number.
     pub(crate) fn signed(self, name: &str) -> i64
-        ensures { result ≡ as_signed (value_in (rules_of self.entry.section) name.now (table_view self.entry.table.now)) }
+        ensures { result
+            ≡ as_signed (value_in (rules_of self.entry.section) name.now (table_view self.entry.table.now)) }
     {
         self.value(name).integer().unwrap_or(0)
     }
 
     /// A whole number that isn't negative.
     pub(crate) fn number(self, name: &str) -> u64
-        ensures { result ≡ as_number (value_in (rules_of self.entry.section) name.now (table_view self.entry.table.now)) }
+        ensures { result
+            ≡ as_number (value_in (rules_of self.entry.section) name.now (table_view self.entry.table.now)) }
     {
         self.signed(name).unsigned_abs()
     }
 
     /// A whole number that isn't negative; the largest of 16 bits, where it has more.
     pub(crate) fn number_u16(self, name: &str) -> u16
-        ensures { result ≡ min (as_number (value_in (rules_of self.entry.section) name.now (table_view self.entry.table.now))) 65535 }
+        ensures { result ≡ min
+            (as_number (value_in (rules_of self.entry.section) name.now (table_view self.entry.table.now))) 65535 }
     {
         self.number(name).min(65_535) as u16
     }
 
     /// A whole number that isn't negative; the largest of 32 bits, where it has more.
     pub(crate) fn number_u32(self, name: &str) -> u32
-        ensures { result ≡ min (as_number (value_in (rules_of self.entry.section) name.now (table_view self.entry.table.now))) 4294967295 }
+        ensures { result ≡ min
+            (as_number (value_in (rules_of self.entry.section) name.now (table_view self.entry.table.now))) 4294967295 }
     {
         self.number(name).min(4_294_967_295) as u32
     }
 
     /// A text.
     pub(crate) fn text(self, name: &str) -> &'a str
-        ensures { result.now ≡ as_text (value_in (rules_of self.entry.section) name.now (table_view self.entry.table.now)) }
+        ensures { result.now
+            ≡ as_text (value_in (rules_of self.entry.section) name.now (table_view self.entry.table.now)) }
     {
         self.value(name).text().unwrap_or("")
     }
@@ -171,7 +177,8 @@ impl<'a> Entry<'a> {
 
     /// What a word stands for: the meaning at its place among the words of its key, or else another one.
     pub(crate) fn word<T: Copy>(self, name: &str, meanings: &[T], other: T) -> T
-        ensures { result ≡ unwrap_or (among (zip (words_by (rule_named (rules_of self.entry.section) name.now)) meanings.now)
+        ensures { result
+            ≡ unwrap_or (among (zip (words_by (rule_named (rules_of self.entry.section) name.now)) meanings.now)
             (as_text (value_in (rules_of self.entry.section) name.now (table_view self.entry.table.now)))) other }
     {
         let Some(key) = key_named(self.section, name) else {
@@ -252,7 +259,8 @@ impl<'a> Entry<'a> {
         outstations: u8,
     ) -> Result<(), SettingsFault>
         ensures { Passes result (placed self.entry.section position
-            (key_wrongs outstations (known_keys self.entry.section) (rules_of self.entry.section) (table_view self.entry.table.now))) }
+            (key_wrongs outstations (known_keys self.entry.section) (rules_of self.entry.section)
+            (table_view self.entry.table.now))) }
     {
         check_keys(alloc, self.table, self.section, position)?;
         match self.first_fault(outstations) {

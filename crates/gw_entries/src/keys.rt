@@ -11,7 +11,7 @@ ghost use Rattle.gw_entries.specs.Values.{rule_named};
 ghost use Rattle.gw_entries.specs.declared.fault.Fault.TheVariants.{UnknownKey};
 
 use crate::fault::{Fault, KeyName, KeyPlace, Section, SettingsFault};
-use crate::key::{Absence, KeyContent, Key};
+use crate::key::{Absence, Key, KeyContent};
 use std::alloc::Global;
 use toml::Table;
 

@@ -16,7 +16,7 @@ mod station;
 pub use control::{Control, Mode, Operates, Pulses, Rest};
 pub use entry::value_at;
 pub use fault::{Fault, KeyFault, KeyName, KeyPlace, Section, SettingsFault};
-pub use key::{Absence, KeyContent, Key};
+pub use key::{Absence, Key, KeyContent};
 pub use keys::{check_keys, keys_of};
 pub use outstation::Outstation;
 pub use row::{Row, Scale, Show};

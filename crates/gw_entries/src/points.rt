@@ -61,7 +61,8 @@ fn fits(kind: Kind, show: Show) -> bool
 /// The first key that doesn't fit a point of a kind with a type.
 #[tactic(auto, unfolding(crate::specs::Answers::first))]
 fn mismatch(entry: Entry, kind: Kind, show: Show) -> Option<&'static str>
-    ensures { option_map (λ key. key.now) result ≡ first (mismatches_with kind show (table_view entry.entry.table.now)) }
+    ensures { option_map (λ key. key.now) result
+        ≡ first (mismatches_with kind show (table_view entry.entry.table.now)) }
 {
     if !fits(kind, show) {
         Some("show")

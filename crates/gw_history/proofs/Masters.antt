@@ -343,8 +343,8 @@ pub other_asked : (setup : Setup) (past : List Entry) (f : Fragment) (p m : ℕ)
 other_asked setup past f p m r ne = rw (ne_eqb f.outstation p ne) refl
 
 -- one fragment more of an answer
-awaits_more : (moment : ℕ) (f : Fragment) (exchange : Exchange) (asked : Option AskedRequest) (m : Master) → m.sequence < 16
-    → is_answer asked f ≡ true → AwaitsAs exchange asked
+awaits_more : (moment : ℕ) (f : Fragment) (exchange : Exchange) (asked : Option AskedRequest) (m : Master)
+    → m.sequence < 16 → is_answer asked f ≡ true → AwaitsAs exchange asked
     → AwaitsAs (master_after_answer moment f exchange m).exchange (asked_with moment f asked)
     × ((master_after_answer moment f exchange m).sequence < 16)
 awaits_more moment f Idle None m small answers alike = absurd cc
@@ -394,7 +394,8 @@ master_accepted setup past f m moment r x at takes tied = rw takes (go (is_unsol
       poll = tied.poll;
       last = sym (own_last past f m r eb);
       number = tied.number;
-      awaits = subst (λ (y : Option AskedRequest). AwaitsAs x.exchange y) (sym (kept_asked setup past f m r eb)) tied.awaits;
+      awaits = subst (λ (y : Option AskedRequest). AwaitsAs x.exchange y) (sym (kept_asked setup past f m r eb))
+          tied.awaits;
     })
     go false eb =
         let answers : is_answer (asked_of setup f.outstation past) f ≡ true =

@@ -2,7 +2,7 @@
 ghost use Rattle.std.specs.Prelude.{◌≡◌, IfOk, [], codes, string_bytes};
 ghost use Rattle.gw_http.specs.Answers.{content_of, fields_of, line_of, message, refused_by, sent_of};
 
-use crate::request::{Resource, RequestFault};
+use crate::request::{RequestFault, Resource};
 use gw_model::Memory;
 use std::alloc::Global;
 

@@ -7,4 +7,4 @@ mod request;
 
 pub use answering::{answer, refuse};
 pub use receiving::{MOST_FIELDS, MOST_OCTETS, receive};
-pub use request::{Resource, RequestFault, HttpRequest};
+pub use request::{HttpRequest, RequestFault, Resource};

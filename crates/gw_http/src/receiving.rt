@@ -2,7 +2,7 @@
 ghost use Rattle.std.specs.Prelude.{◌≤◌, IfSome, length, take};
 ghost use Rattle.gw_http.specs.Requests.{IsAnswered, IsReceived, ReadsOn};
 
-use crate::request::{RequestFault, HttpRequest};
+use crate::request::{HttpRequest, RequestFault};
 use httparse::spans::{EMPTY_HEADER_SPAN, parse_request};
 use httparse::{Error, Status};
 use std::io::{ErrorKind, Read};

@@ -1,4 +1,4 @@
--- The hub, as its contracts see it: the settings that it runs with, and its state.
+-- What a hub keeps, and what its calls do.
 use Rattle.std.specs.Prelude.{◌≡◌, ℕ, ◌+◌, ◌*◌, ◌^◌, ◌<◌, ◌≤◌, Bool, true, false, ◌==◌, ◌||◌, is_some, List, [], length, slice_get, Option, Some, None, Result, Ok, Err, IfSome, if◌then◌else◌}
 use Rattle.std.specs.List.{AllByRecursion}
 use Rattle.gw_model.specs.declared.point.Report.{Report}
@@ -29,12 +29,8 @@ use Rattle.gw_steps.specs.Controls.{controls_after_taken, is_control_up, order_d
 use Rattle.gw_steps.specs.Sound.{IsSoundState}
 use Rattle.gw_hub.specs.declared.orders.Sender.{Sender}
 use Rattle.gw_hub.specs.Queries.{is_due}
-use Rattle.gw_steps.specs.State.{State, Counts}
+use Rattle.gw_steps.specs.State.{Hub, State, Counts}
 use Rattle.gw_steps.specs.Steps.{Allowed, can_rise, raised, latest, parts_after_fragment}
-
-pub record Hub : Type 0 where
-  pub setup : Setup
-  pub state : State
 
 -- outside of a session no news wait, and none were dropped
 pub record KeepsToSession (k : Client) : Type 0 where

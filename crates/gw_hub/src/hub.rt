@@ -14,10 +14,10 @@ ghost use Rattle.gw_steps.specs.Runs.{history, state_after, AtEach, IsRun};
 ghost use Rattle.gw_steps.specs.Sound.{IsSoundState};
 ghost use Rattle.gw_history.specs.Premises.{IsSoundRun};
 ghost use Rattle.gw_laws.specs.Promises.{Promises};
-ghost use Rattle.gw_bonds.specs.Bonds.{Bonds, HasShortIndex};
-ghost use Rattle.gw_bonds.specs.Outcomes.{TellsOnce};
-ghost use Rattle.gw_outcomes.specs.Outcomes.{TellsDue};
-ghost use Rattle.gw_commands.specs.Commands.{AnswersCommands};
+ghost use Rattle.gw_orders.specs.Bonds.{Bonds, HasShortIndex};
+ghost use Rattle.gw_orders.specs.ToldOnce.{TellsOnce};
+ghost use Rattle.gw_orders.specs.Outcomes.{TellsDue};
+ghost use Rattle.gw_orders.specs.Commands.{AnswersCommands};
 ghost use Rattle.gw_hub.specs.Hub.{can_count, can_take, controls_polled, state_counting, state_with_response, step_with, Answers, IsCounted};
 
 use crate::common::Common;
@@ -62,7 +62,8 @@ pub struct Hub {
 }
 
 impl Model for Hub {
-    ghost use Rattle.gw_hub.specs.Hub.{Hub as Seen, IsKept};
+    ghost use Rattle.gw_hub.specs.Hub.{IsKept};
+    ghost use Rattle.gw_steps.specs.State.{Hub as Seen};
 
     ghost Value = { Seen };
 

@@ -1,7 +1,7 @@
 //! Why a connection ended.
 
 use crate::failure::Failure;
-use gw_shared::Why;
+use gw_station::Why;
 use iec_apci::ApciFault;
 use std::fmt;
 

@@ -2,7 +2,7 @@
 
 use crate::cause::Cause;
 use crate::throttle::Throttle;
-use gw_shared::Why;
+use gw_station::Why;
 use gw_status::Closes;
 use std::net::SocketAddr;
 

@@ -3,8 +3,8 @@
 use crate::event::JournalEvent;
 use crate::note_line::{Note, NoteLine};
 use crate::waiting::{Next, WaitingNotes};
+use gw_bell::Bell;
 use gw_model::Memory;
-use gw_shared::Bell;
 use std::alloc::Global;
 use std::sync::{Mutex, Wait};
 

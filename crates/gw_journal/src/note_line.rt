@@ -157,11 +157,17 @@ impl<'a> NoteLine<'a> {
     fn write_of_outstation<W: fmt::Write>(&self, f: &mut fmt::Formatter<W>) -> fmt::Result {
         match &self.note.event {
             JournalEvent::OutstationConnected { .. } => f.write_str("connected"),
-            JournalEvent::OutstationUnreachable { cause, .. } => write!(f, "not connected: {cause}"),
+            JournalEvent::OutstationUnreachable { cause, .. } => {
+                write!(f, "not connected: {cause}")
+            }
             JournalEvent::OutstationLost { cause, .. } => write!(f, "{cause}"),
             JournalEvent::OutstationRestarted { .. } => f.write_str("restarted (IIN1.7)"),
-            JournalEvent::EventsOverflowed { .. } => f.write_str("its event buffer overflowed (IIN2.3)"),
-            JournalEvent::ClockNotSet { .. } => f.write_str("its clock can't be set (IIN1.4 stays)"),
+            JournalEvent::EventsOverflowed { .. } => {
+                f.write_str("its event buffer overflowed (IIN2.3)")
+            }
+            JournalEvent::ClockNotSet { .. } => {
+                f.write_str("its clock can't be set (IIN1.4 stays)")
+            }
             JournalEvent::Unanswered { count, .. } => {
                 let requests = Counted(*count, "request");
                 write!(f, "{requests} unanswered")

@@ -1,7 +1,7 @@
 //! Why a fragment of an outstation couldn't be read.
 
 use dnp_app::AppFault;
-use dnp_objects::{ObjectFault, HeaderFault};
+use dnp_objects::{HeaderFault, ObjectFault};
 use std::fmt;
 
 /// How many octets stand before the object part of a response.
@@ -98,7 +98,11 @@ impl fmt::Display for Unreadable {
 }
 
 /// Writes what is wrong with an object header, or its objects.
-fn write_why<W: fmt::Write>(f: &mut fmt::Formatter<W>, why: HeaderFault, qualifier: u8) -> fmt::Result {
+fn write_why<W: fmt::Write>(
+    f: &mut fmt::Formatter<W>,
+    why: HeaderFault,
+    qualifier: u8,
+) -> fmt::Result {
     match why {
         HeaderFault::UnknownObject => f.write_str(" is unknown"),
         HeaderFault::UnknownQualifier => write!(f, " has qualifier 0x{qualifier:02X}"),

@@ -1,7 +1,8 @@
 //! The settings that are used where none are given.
 
-/// Station 1; outstation 0 with address 1; its binary input 5 as single-point 4101, analog input 0 as scaled value 4201,
-/// counter 0 as integrated total 4301; and two controls, a single command at 5001 and a set-point command at 5002.
+/// Station 1; outstation 0 with address 1; its binary input 5 as single-point 4101, analog input 0 as scaled value
+/// 4201, counter 0 as integrated total 4301; and two controls, a single command at 5001 and a set-point command at
+/// 5002.
 pub const DEFAULT_SETTINGS: &str = "[station]
 common_address = 1
 

@@ -24,12 +24,37 @@ pub fn settings_by_example()
     ensures station { (setup_of usual).station ≡ usual_station }
     ensures outstations { (setup_of usual).outstations ≡ usual_outstation ∷ [] }
     ensures rows { (setup_of usual).rows
-        ≡ record { key = record { outstation = 0; kind = kind.Binary; index = 5 }; address = 4101; show = show.Single; num = 1; den = 1 }
-        ∷ record { key = record { outstation = 0; kind = kind.Analog; index = 0 }; address = 4201; show = show.Scaled; num = 1; den = 1 }
-        ∷ record { key = record { outstation = 0; kind = kind.Counter; index = 0 }; address = 4301; show = show.Total; num = 1; den = 1 }
+        ≡ record {
+          key = record { outstation = 0; kind = kind.Binary; index = 5 };
+          address = 4101;
+          show = show.Single;
+          num = 1;
+          den = 1;
+        }
+        ∷ record {
+          key = record { outstation = 0; kind = kind.Analog; index = 0 };
+          address = 4201;
+          show = show.Scaled;
+          num = 1;
+          den = 1;
+        }
+        ∷ record {
+          key = record { outstation = 0; kind = kind.Counter; index = 0 };
+          address = 4301;
+          show = show.Total;
+          num = 1;
+          den = 1;
+        }
         ∷ [] }
     ensures controls { (setup_of usual).controls
-        ≡ record { outstation = 0; index = 3; address = 5001; select = true; mode = Direct; operates = single Latch 500 2000 }
+        ≡ record {
+          outstation = 0;
+          index = 3;
+          address = 5001;
+          select = true;
+          mode = Direct;
+          operates = single Latch 500 2000;
+        }
         ∷ record { outstation = 0; index = 4; address = 5002; select = false; mode = Sbo; operates = by_setpoint 1 1 }
         ∷ [] }
 {}
@@ -46,18 +71,22 @@ pub fn usual_types_by_example()
 /// Complaints of stations. No number may be above or below what another one or its default allows.
 pub fn stations_by_example()
     ensures none { complaints_of no_members ≡ complaint Top 0 (Missing, codes "station") ∷ [] }
-    ensures no_table { complaints_of (is "station" (whole 1) no_members) ≡ complaint Top 0 (WrongType, codes "station") ∷ [] }
+    ensures no_table { complaints_of (is "station" (whole 1) no_members)
+        ≡ complaint Top 0 (WrongType, codes "station") ∷ [] }
     ensures zero { complaints_of (settings (is "common_address" (whole 0) no_members) (binary ∷ analog ∷ counter ∷ []))
         ≡ complaint Station 0 (OutOfRange, codes "common_address") ∷ [] }
-    ensures a_text { complaints_of (settings (is "common_address" (text "1") no_members) (binary ∷ analog ∷ counter ∷ []))
+    ensures a_text { complaints_of
+        (settings (is "common_address" (text "1") no_members) (binary ∷ analog ∷ counter ∷ []))
         ≡ complaint Station 0 (WrongType, codes "common_address") ∷ [] }
     ensures w_above_k { complaints_of (settings (is "common_address" (whole 1) (is "w" (whole 13) no_members)) [])
         ≡ complaint Station 0 (OutOfRange, codes "w") ∷ [] }
     ensures k_below_w { complaints_of (settings (is "common_address" (whole 1) (is "k" (whole 5) no_members)) [])
         ≡ complaint Station 0 (OutOfRange, codes "w") ∷ [] }
-    ensures t1_below_t2 { complaints_of (settings (is "common_address" (whole 1) (is "t1_ms" (whole 9000) no_members)) [])
+    ensures t1_below_t2 { complaints_of
+        (settings (is "common_address" (whole 1) (is "t1_ms" (whole 9000) no_members)) [])
         ≡ complaint Station 0 (OutOfRange, codes "t2_ms") ∷ [] }
-    ensures unknown { complaints_of (settings (is "common_address" (whole 1) (is "floats" (boolean true) no_members)) [])
+    ensures unknown { complaints_of
+        (settings (is "common_address" (whole 1) (is "floats" (boolean true) no_members)) [])
         ≡ complaint Station 0 (UnknownKey, codes "floats") ∷ [] }
 {}
 
@@ -71,8 +100,8 @@ pub fn points_by_example()
         ≡ complaint Point 2 (KindMismatch, codes "den") ∷ [] }
     ensures scaled_by_one { complaints_of (settings station (binary ∷ analog ∷ is "num" (whole 1) counter ∷ []))
         ≡ complaint Point 2 (KindMismatch, codes "num") ∷ [] }
-    ensures no_outstation { complaints_of (settings station (is "address" (whole 4101) (is "index" (whole 5) (is "kind" (text "binary")
-        (is "outstation" (whole 1) no_members))) ∷ []))
+    ensures no_outstation { complaints_of (settings station (is "address" (whole 4101) (is "index" (whole 5)
+        (is "kind" (text "binary") (is "outstation" (whole 1) no_members))) ∷ []))
         ≡ complaint Point 0 (OutOfRange, codes "outstation") ∷ [] }
     ensures no_kind { complaints_of (settings station (point 4101 5 "bit" ∷ []))
         ≡ complaint Point 0 (OutOfRange, codes "kind") ∷ [] }

@@ -63,7 +63,8 @@ fn add_control_addresses(
     addresses: &mut IndexSet<u32>,
     controls: &[Control],
 ) -> Result<(), SettingsFault>
-    ensures { Adds result addresses.old.keys addresses.new.keys (map (λ control. control.address) controls.now) of.Control }
+    ensures { Adds result addresses.old.keys addresses.new.keys (map (λ control. control.address) controls.now)
+        of.Control }
 {
     for (position, control) in controls.iter().enumerate() {
         if !addresses.insert(control.address)? {

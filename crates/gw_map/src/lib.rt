@@ -9,8 +9,8 @@ mod settings;
 
 pub use defaults::DEFAULT_SETTINGS;
 pub use gw_entries::{
-    Absence, KeyContent, Control, Fault, Key, KeyFault, KeyName, Mode, Operates, Outstation, KeyPlace,
-    Pulses, Rest, Row, Scale, Section, SettingsFault, Show, Station, keys_of,
+    Absence, Control, Fault, Key, KeyContent, KeyFault, KeyName, KeyPlace, Mode, Operates,
+    Outstation, Pulses, Rest, Row, Scale, Section, SettingsFault, Show, Station, keys_of,
 };
 pub use lists::{OUTSTATIONS, ROWS};
 pub use settings::Settings;

@@ -56,7 +56,8 @@ fn tables_in<'a>(
     room: usize,
 ) -> Result<Vec<&'a Table>, SettingsFault>
     ensures read { Tells (λ tables. seen tables.items) result
-        (list_complaints section (section_name section) room (listed (get_member (section_name section) (table_view top.now))))
+        (list_complaints section (section_name section) room
+        (listed (get_member (section_name section) (table_view top.now))))
         (entries (section_name section) (table_view top.now)) }
     ensures few { IfOk result (λ tables. vec_len tables ≤ room) }
 {
@@ -119,7 +120,8 @@ pub(crate) trait Listed: Sized + Drop {
         position: usize,
         outstations: u8,
     ) -> Result<Self, SettingsFault>
-        ensures { Tells fields result (complaints outstations position (table_view table.now)) (meaning (table_view table.now)) };
+        ensures { Tells fields result (complaints outstations position (table_view table.now))
+            (meaning (table_view table.now)) };
 }
 
 impl Listed for Outstation {
@@ -129,7 +131,8 @@ impl Listed for Outstation {
 
     ghost fields = { λ outstation. outstation };
 
-    ghost complaints = { λ _ position ms. placed of.Outstation position (table_wrongs 0 outstation_keys no_mismatches ms) };
+    ghost complaints = { λ _ position ms.
+        placed of.Outstation position (table_wrongs 0 outstation_keys no_mismatches ms) };
 
     ghost meaning = { outstation_of };
 
@@ -150,7 +153,8 @@ impl Listed for Row {
 
     ghost fields = { row_fields };
 
-    ghost complaints = { λ outstations position ms. placed of.Point position (table_wrongs outstations point_keys point_mismatches ms) };
+    ghost complaints = { λ outstations position ms.
+        placed of.Point position (table_wrongs outstations point_keys point_mismatches ms) };
 
     ghost meaning = { row_of };
 
@@ -171,7 +175,8 @@ impl Listed for Control {
 
     ghost fields = { control_fields };
 
-    ghost complaints = { λ outstations position ms. placed of.Control position (table_wrongs outstations control_keys control_mismatches ms) };
+    ghost complaints = { λ outstations position ms.
+        placed of.Control position (table_wrongs outstations control_keys control_mismatches ms) };
 
     ghost meaning = { control_of };
 
@@ -211,7 +216,8 @@ pub(crate) fn entries_in<T: Listed>(
     outstations: u8,
 ) -> Result<Vec<T>, SettingsFault>
     ensures read { Tells (λ found. map T.fields found.items) result
-        (list_complaints section (section_name section) room (listed (get_member (section_name section) (table_view top.now)))
+        (list_complaints section (section_name section) room
+        (listed (get_member (section_name section) (table_view top.now)))
         ++ each_from 0 (T.complaints outstations) (entries (section_name section) (table_view top.now)))
         (map T.meaning (entries (section_name section) (table_view top.now))) }
     ensures few { IfOk result (λ found. vec_len found ≤ room) }

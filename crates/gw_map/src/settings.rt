@@ -57,7 +57,8 @@ impl fmt::Debug for Settings {
 impl Settings {
     /// The settings of a TOML text.
     pub fn read(alloc: Global, text: &str) -> Result<Settings, SettingsFault>
-        ensures { Gives is_no_memory (λ setup. setup) (result_map_both setup_fields refusal_of result) (reading_of text.now) }
+        ensures { Gives is_no_memory (λ setup. setup) (result_map_both setup_fields refusal_of result)
+            (reading_of text.now) }
     {
         match toml::table_from_str(alloc, text) {
             Ok(table) => Settings::from_table(alloc, &table),

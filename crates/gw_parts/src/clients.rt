@@ -137,8 +137,8 @@ impl Clients {
     }
 
     /// Takes an APDU that came from a client at a moment: what became of it. `picture` is what is shown of each row of
-    /// `settings`. Memory is wanted for the queue of a session that begins, and for the copy of the picture that answers
-    /// an interrogation.
+    /// `settings`. Memory is wanted for the queue of a session that begins, and for the copy of the picture that
+    /// answers an interrogation.
     pub fn frame(
         &mut self,
         client: u8,

@@ -116,8 +116,8 @@ impl Outstations {
         }
     }
 
-    /// The next request of an outstation, at a moment and a wall time: that of an order, where one is given to it, which
-    /// is ready then, or else of what is due first.
+    /// The next request of an outstation, at a moment and a wall time: that of an order, where one is given to it,
+    /// which is ready then, or else of what is due first.
     pub fn poll(&mut self, outstation: u8, order: Option<Order>, moment: u64, wall: u64) -> Reply
         requires { IfSome order (λ _. IfSome (slice_get self.old outstation) (λ m. is_ready m ≡ true)) }
         ensures reply { result ≡ reply_to_poll order moment wall (slice_get self.old outstation) }

@@ -31,8 +31,8 @@ fn main(rt: HostRuntime) -> io::Result<ExitCode> {
     Ok(ExitCode::from(status))
 }
 
-/// Does what the words of the command line ask for; gives the status. `host` is the same system, as what serves on it sees
-/// it: `main` alone has its threads and sockets. (Its bounds are those of `Host`, spelled out for `main`'s proof.)
+/// Does what the words of the command line ask for; gives the status. `host` is the same system, as what serves on it
+/// sees it: `main` alone has its threads and sockets. (Its bounds are those of `Host`, spelled out for `main`'s proof.)
 fn program<
     H: Net<Listener = TcpListener, Stream = TcpStream> + Threads + Wait + Clock + Eprint + Sync,
 >(rt: &HostRuntime, host: &H) -> io::Result<u8> {

@@ -1,10 +1,9 @@
 //! `gateway run --record`: a run that is taken down as lines of a replay.
 
 use gw_capture::{Capture, Kept, Pumps};
-use gw_journal::{JournalEvent, Journal};
-use gw_server::{Gate, Place};
+use gw_journal::{Journal, JournalEvent};
+use gw_server::{Call, Gate, Place, Pumped, Run, Step, StepFault};
 use gw_text::{RecordEnd, RecordEndCause};
-use gw_threads::{Call, Pumped, Run, Step, StepFault};
 use std::sync::Wait;
 
 /// A gate that holds nobody, and takes down each step.

@@ -5,7 +5,7 @@ use crate::{USAGE, refuse, refuse_for};
 use gw_capture::Capture;
 use gw_checker::{Unusable, Warning, read_file, read_settings, warnings_of};
 use gw_command_line::{RunOptions, VERSION};
-use gw_journal::{Doubt, JournalEvent, Journal};
+use gw_journal::{Doubt, Journal, JournalEvent};
 use gw_map::Settings;
 use gw_model::Memory;
 use gw_server::{
@@ -59,8 +59,8 @@ impl<T: Drop> From<AllocFailed<T>> for Unserved {
     }
 }
 
-/// Serves control centres and outstations as a settings file says, until so many connections of control centres have ended,
-/// or standard input has, or for ever; gives the status.
+/// Serves control centres and outstations as a settings file says, until so many connections of control centres have
+/// ended, or standard input has, or for ever; gives the status.
 pub fn run<H: Host>(
     rt: &HostRuntime,
     host: &H,

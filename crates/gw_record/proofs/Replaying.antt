@@ -5,9 +5,8 @@ use Rattle.gw_map.specs.Settings.{Setup}
 use Rattle.gw_steps.specs.declared.step.Step.{Step}
 use Rattle.gw_steps.specs.declared.step.Reply.{Reply}
 use Rattle.gw_steps.specs.declared.step.StepFault.{StepFault}
-use Rattle.gw_steps.specs.State.{State}
+use Rattle.gw_steps.specs.State.{Hub, State}
 use Rattle.gw_steps.specs.Steps.{Allowed}
-use Rattle.gw_hub.specs.Hub.{Hub}
 use Rattle.gw_record.specs.declared.entry.Entry.{Entry}
 use Rattle.gw_record.specs.Recorded.{replayed, state_following, IsReplay}
 use Rattle.gw_record.specs.Recording.{Recording, Replays, Tape, rolled, call_of, tape_on, tape_with}

@@ -3,7 +3,7 @@ use Rattle.std.specs.Prelude.{◌≡◌, ℕ, ◌+◌, ◌<◌, ◌≤◌, Bool,
 use Rattle.gw_steps.specs.declared.step.Step.{Step}
 use Rattle.gw_steps.specs.declared.step.Reply.{Reply}
 use Rattle.gw_steps.specs.declared.step.StepFault.{StepFault}
-use Rattle.gw_hub.specs.Hub.{Hub}
+use Rattle.gw_steps.specs.State.{Hub}
 use Rattle.gw_record.specs.declared.entry.Entry.{Entry}
 use Rattle.gw_record.specs.Recorded.{counts_after, replayed, AreMeant, IsNumbered, IsReplay}
 

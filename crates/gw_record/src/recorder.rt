@@ -34,7 +34,8 @@ pub struct NoRoom {
     cause: Memory,
 }
 
-/// What a recorder keeps: a hub as it was, how many calls each actor had made then, and the calls since, the oldest first.
+/// What a recorder keeps: a hub as it was, how many calls each actor had made then, and the calls since, the oldest
+/// first.
 #[derive(Clone, Copy)]
 pub struct Dump<'a> {
     pub base: &'a Hub,

@@ -1,6 +1,6 @@
 -- What stands between two lines of a replay.
 use Rattle.std.specs.Prelude.{Bool}
-use Rattle.gw_hub.specs.Hub.{Hub}
+use Rattle.gw_steps.specs.State.{Hub}
 
 -- the hub, and whether a line was refused
 pub record Place : Type 0 where

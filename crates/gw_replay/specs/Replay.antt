@@ -2,8 +2,7 @@
 use Rattle.std.specs.Prelude.{◌≡◌, ℕ, Bool, true, false, not, nat_lt, List, [], ◌∷◌, ◌++◌, length, codes, Option, Some, None, slice_get, MatchBool}
 use Rattle.std.specs.Fmt.{decimal}
 use Rattle.gw_map.specs.Settings.{Setup}
-use Rattle.gw_hub.specs.Hub.{Hub}
-use Rattle.gw_steps.specs.State.{at_first}
+use Rattle.gw_steps.specs.State.{Hub, at_first}
 use Rattle.gw_steps.specs.Steps.{Allowed}
 use Rattle.gw_hub.specs.Queries.{queued_at, dropped_at}
 use Rattle.gw_input.specs.Lines.{AreAnswered, IsAnswered, lines_of}

@@ -7,6 +7,7 @@ mod player;
 mod refusal;
 mod reply_text;
 
+pub use gw_hub::{Hub, Reply, Step, StepFault, Why};
 pub use iec_apci::ApciFault;
 pub use instruction::{Instruction, read_instruction};
 pub use player::{Played, Player, play, replay};

@@ -4,7 +4,7 @@ use crate::hold::Hold;
 use crate::host::Host;
 use crate::house::{House, Site};
 use crate::lobby::{Lobby, Visit};
-use gw_journal::{JournalEvent, Failure, Throttle};
+use gw_journal::{Failure, JournalEvent, Throttle};
 use gw_threads::{Clock, Gate};
 use std::io::ErrorKind;
 use std::net::{IpAddr, SocketAddr, TcpListener, TcpStream};

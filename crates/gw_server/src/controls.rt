@@ -4,8 +4,8 @@
 use crate::watched::Watched;
 use gw_journal::{CommandEvent, JournalEvent, OrderEvent};
 use gw_model::Ended;
-use gw_shared::{Apdus, Fate};
-use gw_threads::{About, Call, Clock, Gate, Reply, Run, Verdict, control_command};
+use gw_threads::{About, Call, Clock, Fate, Gate, Reply, Run, Verdict, control_command};
+use iec_apci::Apdus;
 use iec_command::Command;
 use std::sync::Wait;
 

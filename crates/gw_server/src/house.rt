@@ -5,7 +5,7 @@ use crate::host::Host;
 use crate::options::Options;
 use crate::plan::Plan;
 use crate::watched::Watched;
-use gw_journal::{JournalEvent, Journal};
+use gw_journal::{Journal, JournalEvent};
 use gw_threads::{Clock, Gate, Shared};
 use std::alloc::Global;
 use std::net::TcpListener;

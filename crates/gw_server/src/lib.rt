@@ -24,8 +24,8 @@ mod status;
 mod system_clock;
 mod watched;
 
-pub use gw_journal::{JournalEvent, Journal};
-pub use gw_threads::{Clock, Closed, Gate, OpenGate, Place};
+pub use gw_journal::{Journal, JournalEvent};
+pub use gw_threads::{Call, Clock, Closed, Gate, OpenGate, Place, Pumped, Run, Step, StepFault};
 pub use host::Host;
 pub use network::Network;
 pub use options::Options;

@@ -9,7 +9,7 @@ use crate::lookout::pause;
 use crate::plan::Plan;
 use crate::sockets::{OutstationSocket, shut};
 use dnp_receive::Receiver;
-use gw_journal::{Cause, JournalEvent, Failure};
+use gw_journal::{Cause, Failure, JournalEvent};
 use gw_threads::{
     Clock, Gate, Line, Pass, Step, WorkerEnd, make_call, outstation_reader, outstation_writer,
 };

@@ -3,7 +3,7 @@
 
 use crate::board::Board;
 use dnp_app::AppFault;
-use gw_journal::{JournalEvent, Journal, Noticed, Unreadable};
+use gw_journal::{Journal, JournalEvent, Noticed, Unreadable};
 use gw_threads::{About, Call, Clock, Gate, Place, Reply, Run, Step, Verdict};
 use iec_apci::{Apdu, Signal};
 use std::sync::Wait;

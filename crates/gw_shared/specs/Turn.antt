@@ -4,11 +4,10 @@ use Rattle.gw_steps.specs.declared.step.Step.{Step}
 use Rattle.gw_steps.specs.declared.step.Reply.{Reply}
 use Rattle.gw_steps.specs.declared.step.StepFault.{StepFault}
 use Rattle.gw_steps.specs.declared.step.StepFault.TheVariants.{Spent}
-use Rattle.gw_steps.specs.State.{State}
+use Rattle.gw_steps.specs.State.{Hub, State}
 use Rattle.gw_steps.specs.Steps.{Allowed}
 use Rattle.gw_steps.specs.Sound.{IsSoundState}
 use Rattle.gw_map.specs.Settings.{Setup}
-use Rattle.gw_hub.specs.Hub.{Hub}
 use Rattle.gw_record.specs.Recording.{Recording, is_tape_full, noted, recording_off, rolled}
 
 -- the hub under the lock, what is recorded of it, and how many calls were made

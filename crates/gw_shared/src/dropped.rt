@@ -1,7 +1,7 @@
 //! What was dropped for clients, over all their data transfers.
 
 use crate::roused::{CLIENTS, Topic};
-use gw_hub::Hub;
+use gw_record::Hub;
 
 /// What was dropped for the clients whose data transfer a step may end, before it is made.
 #[derive(Clone, Copy)]

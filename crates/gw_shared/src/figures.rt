@@ -4,7 +4,7 @@ use crate::dropped::Dropped;
 use crate::pending::Pending;
 use crate::roused::{CLIENTS, OUTSTATIONS};
 use crate::settled::OrderCounts;
-use gw_hub::Hub;
+use gw_record::Hub;
 
 /// How many calls were made, how many observations were news, what waits for clients, and what became of orders.
 #[derive(Clone, Copy, Debug, PartialEq, Eq)]

@@ -4,7 +4,6 @@
 
 mod awake;
 mod batch;
-mod bell;
 mod close;
 mod dropped;
 mod figures;
@@ -18,11 +17,11 @@ mod routes;
 mod settled;
 mod shared;
 
-pub use batch::{Apdus, Batch, LONGEST_APDU};
-pub use bell::Bell;
+pub use batch::{Batch, LONGEST_APDU};
 pub use close::{CloseFault, Closed};
 pub use figures::Figures;
-pub use gw_hub::{Apdu, ApduBuf, Hub, Reply, Step, StepFault, Verdict, Why};
+pub use gw_bell::Bell;
+pub use gw_record::{Apdu, ApduBuf, Entry, Hub, Recorder, Reply, Step, StepFault, Verdict, Why};
 pub use locked::Core;
 pub use orders::Orders;
 pub use pass::Pass;

@@ -2,7 +2,7 @@
 ghost use Rattle.std.specs.Prelude.{◌≡◌, false, MatchOption};
 ghost use Rattle.gw_shared.specs.Pumping.{is_apdu};
 
-use gw_hub::{ApduBuf, Reply, StepFault};
+use gw_record::{ApduBuf, Reply, StepFault};
 
 /// How a run of pumps for a client ended.
 #[derive(Clone, Copy, Debug, PartialEq, Eq)]

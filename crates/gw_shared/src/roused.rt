@@ -1,6 +1,6 @@
 //! Whom a step may serve.
 
-use gw_hub::{Hub, Reply, Step, StepFault, Verdict};
+use gw_record::{Hub, Reply, Step, StepFault, Verdict};
 
 /// How many outstations there can be.
 pub const OUTSTATIONS: u8 = 32;

@@ -401,8 +401,8 @@ sound_after_pump station n i moment c sound = go (offered moment c) (offered_roo
         })
     go (Some (sendings.Part part)) room =
         numbered (record c { rest = drop 1 c.rest }) room
-        (with_answers station (n + 1) i c.held c.older c.answers (drop 1 c.rest) c sound.places sound.stopped sound.answers
-        (all-drop (CanSendOutgoing station.offset_minutes) 1 c.rest sound.rest) later)
+        (with_answers station (n + 1) i c.held c.older c.answers (drop 1 c.rest) c sound.places sound.stopped
+        sound.answers (all-drop (CanSendOutgoing station.offset_minutes) 1 c.rest sound.rest) later)
     go (Some sendings.SFormat) room =
         let w = later.window in
         with_window station (n + 1) (n + 1) i (counts_after_sending_s c.window) c

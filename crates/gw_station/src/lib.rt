@@ -1,5 +1,5 @@
-//! The controlled station's part for one client of IEC 60870-5-104, with the answers to its ASDUs: interrogations, reads,
-//! what is unknown, and what is said of commands.
+//! The controlled station's part for one client of IEC 60870-5-104, with the answers to its ASDUs: interrogations,
+//! reads, what is unknown, and what is said of commands.
 #![tactic(auto)]
 
 mod client;

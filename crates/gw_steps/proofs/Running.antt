@@ -53,7 +53,8 @@ all_down station (suc n) = (
 )
 
 -- no order holds a place
-none_held_by : (setup : Setup) (c : ℕ) (v : Controls) (held : ℕ) → orders_of c v ≡ 0 → held ≡ 0 → held ≡ 2 * orders_of c v
+none_held_by : (setup : Setup) (c : ℕ) (v : Controls) (held : ℕ) → orders_of c v ≡ 0 → held ≡ 0
+    → held ≡ 2 * orders_of c v
 none_held_by setup c v held none nothing = omega (arith, none, nothing)
 
 down_held : (one : Client) (n c : ℕ) → one.held ≡ 0

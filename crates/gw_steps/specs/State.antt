@@ -26,6 +26,11 @@ pub record State : Type 0 where
   -- the largest moment that a step without a fault brought
   pub moment : ℕ
 
+-- a hub: the settings that it runs with, and its state
+pub record Hub : Type 0 where
+  pub setup : Setup
+  pub state : State
+
 -- how many clients there can be
 abbrev pub client_limit : ℕ
 client_limit = 8

@@ -25,8 +25,8 @@ pub enum Step {
         response: Response,
         moment: u64,
     },
-    /// An outstation's writer asks for the next request, at a wall time in milliseconds since 1970 in UTC: that of an order
-    /// that waits, where the outstation is ready for it, or of what is due first.
+    /// An outstation's writer asks for the next request, at a wall time in milliseconds since 1970 in UTC: that of an
+    /// order that waits, where the outstation is ready for it, or of what is due first.
     Poll {
         outstation: u8,
         moment: u64,

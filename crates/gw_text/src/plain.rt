@@ -2,8 +2,8 @@
 
 use std::fmt;
 
-/// A text that came from outside: its control characters are written as Rust escapes them, so that it makes no line of its
-/// own and moves no cursor.
+/// A text that came from outside: its control characters are written as Rust escapes them, so that it makes no line of
+/// its own and moves no cursor.
 #[derive(Clone, Copy, Debug)]
 pub struct Plain<'a>(pub &'a str);
 

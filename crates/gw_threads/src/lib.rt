@@ -26,8 +26,8 @@ pub use client_writing::client_writer;
 pub use ends::{Arrival, Incoming, Outgoing, Unwritten};
 pub use gate::{Gate, OpenGate, Place};
 pub use gw_shared::{
-    Batch, Bell, CloseFault, Closed, Core, Figures, Hub, Orders, Pass, Pumped, Reply, Shared, Step,
-    StepFault, Verdict, Why,
+    Batch, Bell, CloseFault, Closed, Core, Entry, Fate, Figures, Hub, OrderCounts, Orders, Pass,
+    Pumped, Recorder, Reply, Routes, Shared, Step, StepFault, Verdict, Why, apdu_in,
 };
 pub use line::Line;
 pub use outstation_reading::outstation_reader;

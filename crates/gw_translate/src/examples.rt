@@ -70,10 +70,12 @@ pub fn images_by_example()
     ensures halved { image_of (pos 0) halved_row (analog 0x01 (pos 7)) ≡ observation (Scaled (pos 3)) good }
     ensures halved_below { image_of (pos 0) halved_row (analog 0x01 (negsuc 6)) ≡ observation (Scaled (negsuc 2)) good }
     ensures halved_to_zero { image_of (pos 0) halved_row (analog 0x01 (negsuc 0)) ≡ observation (Scaled (pos 0)) good }
-    ensures halved_first { image_of (pos 0) halved_row (analog 0x01 (pos 65535)) ≡ observation (Scaled (pos 32767)) good }
+    ensures halved_first { image_of (pos 0) halved_row (analog 0x01 (pos 65535))
+        ≡ observation (Scaled (pos 32767)) good }
     ensures halved_above { image_of (pos 0) halved_row (analog 0x01 (pos 65536))
         ≡ observation (Scaled (pos 32767)) overflow }
-    ensures enlarged { image_of (pos 0) enlarged_row (analog 0x01 (negsuc 0)) ≡ observation (Scaled (negsuc 32766)) good }
+    ensures enlarged { image_of (pos 0) enlarged_row (analog 0x01 (negsuc 0))
+        ≡ observation (Scaled (negsuc 32766)) good }
     ensures enlarged_lowest { image_of (pos 0) enlarged_row (analog 0x01 (negsuc 2147483647))
         ≡ observation (Scaled (negsuc 32767)) overflow }
     // Over range by the outstation's own word.
@@ -122,7 +124,8 @@ pub fn shows_by_example()
 /// An event is news always, a static value where value or quality differs.
 pub fn news_by_example()
     ensures event { let on = observation (Single true) good in is_news_of (binary 0x81 true) on on ≡ true }
-    ensures invalid_event { let off = observation (Single false) invalid in is_news_of (binary 0x00 false) off off ≡ true }
+    ensures invalid_event { let off = observation (Single false) invalid in
+        is_news_of (binary 0x00 false) off off ≡ true }
     ensures same { let on = observation (Single true) good in is_news_of (static_value 0x81 true) on on ≡ false }
     ensures value { let off = observation (Single false) good in
         is_news_of (static_value 0x81 true) off (observation (Single true) good) ≡ true }

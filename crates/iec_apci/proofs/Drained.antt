@@ -115,8 +115,9 @@ is_done xs all held next last o e after apdus rest =
       fault = e.fault ∙ ap fault_of ends;
     }
 
-pub done_none : (xs all : List ApduContent) (held next last : Ending) → None ≡ answer held → next ≡ ending_after_answer held
-    → xs ++ (reading_of_ending held).apdus ≡ all → (reading_of_ending held).ending ≡ last → Done xs all next last None
+pub done_none : (xs all : List ApduContent) (held next last : Ending) → None ≡ answer held
+    → next ≡ ending_after_answer held → xs ++ (reading_of_ending held).apdus ≡ all
+    → (reading_of_ending held).ending ≡ last → Done xs all next last None
 done_none xs all held next last answered after apdus rest =
     is_done xs all held next last None (gave_none held (sym answered)) after apdus rest
 

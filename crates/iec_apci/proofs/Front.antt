@@ -20,7 +20,8 @@ pub some_same : {A : Type 0} (x y : A) → Some x ≡ Some y → x ≡ y
 some_same x y h = cc
 
 -- the order of the tests of a control field
-abbrev pub fields : (odd information other supervisory busy : Bool) (i s : ApduContent) (u : Option Signal) → Option ApduContent
+abbrev pub fields : (odd information other supervisory busy : Bool) (i s : ApduContent) (u : Option Signal)
+    → Option ApduContent
 fields odd information other supervisory busy i s u =
     if odd then None
     else if information then Some i
@@ -33,7 +34,8 @@ function_sized : (u : Option Signal) (c : ApduContent) → option_map Unnumbered
 function_sized None c h = absurd (none_some c h)
 function_sized (Some x) c h = subst (λ (y : ApduContent). length (body y) ≡ 4) (some_same (Unnumbered x) c h) refl
 
-fields_sized : (odd information other supervisory busy : Bool) (i s : ApduContent) (u : Option Signal) (n : ℕ) (c : ApduContent)
+fields_sized : (odd information other supervisory busy : Bool) (i s : ApduContent) (u : Option Signal) (n : ℕ)
+    (c : ApduContent)
     → length (body i) ≡ n → (other ≡ false → n ≡ 4) → length (body s) ≡ 4
     → fields odd information other supervisory busy i s u ≡ Some c → length (body c) ≡ n
 fields_sized true information other supervisory busy i s u n c hi h4 hs h = absurd (none_some c h)
@@ -149,7 +151,8 @@ shown start size octets c h =
     }
 
 -- what an APDU uses up is there
-pub front_taken : (octets : List ℕ) (c : ApduContent) → answer_at_front octets ≡ given c → length (apdu c) ≤ length octets
+pub front_taken : (octets : List ℕ) (c : ApduContent) → answer_at_front octets ≡ given c
+    → length (apdu c) ≤ length octets
 front_taken [] c h = absurd (shown_nil c h)
 front_taken (start ∷ []) c h = absurd (shown_one start c h)
 front_taken (start ∷ size ∷ octets) c h =

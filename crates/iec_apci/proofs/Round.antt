@@ -11,11 +11,13 @@ use Rattle.iec_apci.proofs.Streams.{reading_apdu}
 halved : (n : ℕ) → (2 * n) % 256 + 256 * (2 * n / 256) ≡ 2 * n
 halved n = omega arith
 
-fields_information : (odd information other supervisory busy : Bool) (i s : ApduContent) (u : Option Signal) (c : ApduContent)
+fields_information : (odd information other supervisory busy : Bool) (i s : ApduContent) (u : Option Signal)
+    (c : ApduContent)
     → odd ≡ false → information ≡ true → i ≡ c → fields odd information other supervisory busy i s u ≡ Some c
 fields_information odd information other supervisory busy i s u c h1 h2 h3 = rw (h1, h2, h3) refl
 
-fields_supervisory : (odd information other supervisory busy : Bool) (i s : ApduContent) (u : Option Signal) (c : ApduContent)
+fields_supervisory : (odd information other supervisory busy : Bool) (i s : ApduContent) (u : Option Signal)
+    (c : ApduContent)
     → odd ≡ false → information ≡ false → other ≡ false → supervisory ≡ true → s ≡ c
     → fields odd information other supervisory busy i s u ≡ Some c
 fields_supervisory odd information other supervisory busy i s u c h1 h2 h3 h4 h5 = rw (h1, h2, h3, h4, h5) refl

@@ -2,6 +2,7 @@
 #![tactic(auto)]
 
 mod apdu;
+mod apdus;
 mod buffer;
 pub mod examples;
 mod fault;
@@ -11,6 +12,7 @@ mod reading;
 mod writing;
 
 pub use apdu::{Apdu, Asdu, Signal};
+pub use apdus::Apdus;
 pub use buffer::ApduBuf;
 pub use fault::ApciFault;
 pub use feed::ApduFeed;

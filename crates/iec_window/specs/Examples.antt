@@ -1,4 +1,4 @@
--- WindowCounts to compute worked examples with.
+-- Counts to compute worked examples with.
 use Rattle.std.specs.Prelude.{ℕ, List, Some}
 use Rattle.iec_window.specs.declared.limits.Limits.{Limits}
 use Rattle.iec_window.specs.Counts.{WindowCounts}

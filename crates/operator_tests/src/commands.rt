@@ -2,7 +2,9 @@
 
 use crate::journal::{address, check_line};
 use dnp_app::Request;
-use gw_journal::{CommandEvent, JournalEvent, MOST, MOST_OF_CONTROLS, Next, Note, OrderEvent, WaitingNotes};
+use gw_journal::{
+    CommandEvent, JournalEvent, MOST, MOST_OF_CONTROLS, Next, Note, OrderEvent, WaitingNotes,
+};
 use iec_command::read_command;
 use std::alloc::{AllocError, Global};
 use std::process::Abort;

@@ -2,7 +2,7 @@
 
 use dnp_app::read_response;
 use gw_journal::{
-    Cause, ClientFigures, Doubt, DueNotes, JournalEvent, Failure, Journal, Note, NoteLine, Noticed,
+    Cause, ClientFigures, Doubt, DueNotes, Failure, Journal, JournalEvent, Note, NoteLine, Noticed,
     OutstationFigures, Refused, Throttle, Unreadable,
 };
 use gw_shared::Why;
@@ -107,15 +107,33 @@ const LEFT_OUT: &[(u64, &str)] = &[(1, "1 event left out"), (12, "12 events left
 #[test]
 fn warnings(rt: HostRuntime) -> Result<(), Fail> {
     for (doubt, words) in DOUBTS {
-        check_line(&rt, rt.alloc(), JournalEvent::Doubtful(*doubt), "<4>", words)?;
+        check_line(
+            &rt,
+            rt.alloc(),
+            JournalEvent::Doubtful(*doubt),
+            "<4>",
+            words,
+        )?;
     }
     let words = "the recording ended at step 9: it has 64 MB";
-    check_line(&rt, rt.alloc(), JournalEvent::RecordingEnded(FULL), "<4>", words)?;
+    check_line(
+        &rt,
+        rt.alloc(),
+        JournalEvent::RecordingEnded(FULL),
+        "<4>",
+        words,
+    )?;
     for (count, words) in LEFT_OUT {
         check_line(&rt, rt.alloc(), JournalEvent::LeftOut(*count), "<4>", words)?;
     }
     let words = "2 events of controls left out";
-    check_line(&rt, rt.alloc(), JournalEvent::ControlsLeftOut(2), "<3>", words)?;
+    check_line(
+        &rt,
+        rt.alloc(),
+        JournalEvent::ControlsLeftOut(2),
+        "<3>",
+        words,
+    )?;
     Ok(())
 }
 
@@ -127,7 +145,11 @@ fn places_for_clients(rt: HostRuntime) -> Result<(), Fail> {
             "<6>",
             "listening on 10.0.0.7:51234",
         ),
-        (JournalEvent::AllPlacesTaken, "<4>", "all eight places are taken"),
+        (
+            JournalEvent::AllPlacesTaken,
+            "<4>",
+            "all eight places are taken",
+        ),
         (JournalEvent::PlaceFree, "<6>", "a place is free"),
         (
             JournalEvent::NotAllowed {
@@ -794,7 +816,11 @@ fn journal(rt: HostRuntime) -> Result<(), Fail> {
         rt: &rt,
         text: &text,
     };
-    journal.tell(&host, WALL, JournalEvent::OutstationConnected { outstation: 0 });
+    journal.tell(
+        &host,
+        WALL,
+        JournalEvent::OutstationConnected { outstation: 0 },
+    );
     journal.tell(&host, WALL + 1, JournalEvent::Stopped);
     journal.close(&host);
     journal.write_on(&host);

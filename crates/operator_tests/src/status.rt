@@ -1,6 +1,8 @@
 //! Tests of printed texts and worked requests.
 
-use gw_http::{Resource, MOST_FIELDS, MOST_OCTETS, RequestFault, HttpRequest, answer, receive, refuse};
+use gw_http::{
+    HttpRequest, MOST_FIELDS, MOST_OCTETS, RequestFault, Resource, answer, receive, refuse,
+};
 use gw_status::{ClientStatus, Closes, Metrics, OrderStatus, OutstationStatus, Page, Status};
 use std::alloc::{AllocError, Global};
 use std::io::{self, ErrorKind, Read};
@@ -448,15 +450,29 @@ fn answered(rt: HostRuntime) -> Result<(), Fail> {
 
 /// The page down to its first table.
 const PAGE_TOP: &str = "\
-<h1><span class=wrong>Not all is well:</span> <strong>1 of 2 outstations connected</strong>, <strong>1 with trouble</strong>, 1 of 2 clients, 1 in data transfer</h1>\n\
+<h1><span class=wrong>Not all is well:</span> <strong>1 of 2 outstations connected</strong>, \
+<strong>1 with trouble</strong>, 1 of 2 clients, 1 in data transfer</h1>\n\
 <p>At 2023-11-14T22:13:20Z. The gateway runs for 1 d 1 h, since 2023-11-13T21:12:18Z.</p>\n\
 <p>Version 1.2.3, 123456 steps of the core, 789 spontaneous observations.</p>\n\
 <h2>Outstations</h2>\n\
 <table>\n\
-<thead><tr><th>Outstation</th><th>State</th><th>Last answer</th><th>Indications</th><th class=number>Events</th><th class=number>Requests</th><th class=number>Unanswered</th><th class=number>Refused fragments</th><th class=number>Skipped octets</th><th>Orders</th></tr></thead>\n\
+<thead><tr><th>Outstation</th><th>State</th><th>Last answer</th><th>Indications</th><th class=number>Events</th>\
+<th class=number>Requests</th><th class=number>Unanswered</th><th class=number>Refused fragments</th>\
+<th class=number>Skipped octets</th><th>Orders</th></tr></thead>\n\
 <tbody>\n\
-<tr><th scope=row><i>0</i> rtu-1:20000</th><td data-column=State>connected <small>for 3 h 20 min</small> <small>since 2023-11-14T18:53:20Z</small></td><td data-column=\"Last answer\">12 s ago <small>2023-11-14T22:13:07Z</small></td><td data-column=Indications><strong>TROUBLE:</strong> CLASS_1, NEED_TIME, RESTART, OVERFLOW <small>0x0892</small></td><td class=number data-column=\"Events\">45</td><td class=number data-column=\"Requests\">1200</td><td class=number data-column=\"Unanswered\">1</td><td class=number data-column=\"Refused fragments\">2</td><td class=number data-column=\"Skipped octets\">3</td><td data-column=Orders>5 done, 2 failed, 2 waiting</td></tr>\n\
-<tr><th scope=row><i>1</i> a&quot;b\\c\\n&lt;&amp;&#39;&gt;\\t:1</th><td data-column=State><strong>NOT CONNECTED</strong></td><td data-column=\"Last answer\">never</td><td data-column=Indications>none</td><td class=number data-column=\"Events\">0</td><td class=number data-column=\"Requests\">0</td><td class=number data-column=\"Unanswered\">0</td><td class=number data-column=\"Refused fragments\">0</td><td class=number data-column=\"Skipped octets\">0</td><td data-column=Orders>none</td></tr>\n\
+<tr><th scope=row><i>0</i> rtu-1:20000</th>\
+<td data-column=State>connected <small>for 3 h 20 min</small> <small>since 2023-11-14T18:53:20Z</small></td>\
+<td data-column=\"Last answer\">12 s ago <small>2023-11-14T22:13:07Z</small></td>\
+<td data-column=Indications><strong>TROUBLE:</strong> CLASS_1, NEED_TIME, RESTART, OVERFLOW <small>0x0892</small></td>\
+<td class=number data-column=\"Events\">45</td><td class=number data-column=\"Requests\">1200</td>\
+<td class=number data-column=\"Unanswered\">1</td><td class=number data-column=\"Refused fragments\">2</td>\
+<td class=number data-column=\"Skipped octets\">3</td><td data-column=Orders>5 done, 2 failed, 2 waiting</td></tr>\n\
+<tr><th scope=row><i>1</i> a&quot;b\\c\\n&lt;&amp;&#39;&gt;\\t:1</th>\
+<td data-column=State><strong>NOT CONNECTED</strong></td><td data-column=\"Last answer\">never</td>\
+<td data-column=Indications>none</td><td class=number data-column=\"Events\">0</td>\
+<td class=number data-column=\"Requests\">0</td><td class=number data-column=\"Unanswered\">0</td>\
+<td class=number data-column=\"Refused fragments\">0</td><td class=number data-column=\"Skipped octets\">0</td>\
+<td data-column=Orders>none</td></tr>\n\
 </tbody>\n\
 </table>\n";
 
@@ -464,10 +480,16 @@ const PAGE_TOP: &str = "\
 const PAGE_REST: &str = "\
 <h2>Clients</h2>\n\
 <table>\n\
-<thead><tr><th>Client</th><th>State</th><th>Connected</th><th class=number>Not acknowledged</th><th class=number>Queued</th><th class=number>Dropped</th><th>Ended</th></tr></thead>\n\
+<thead><tr><th>Client</th><th>State</th><th>Connected</th><th class=number>Not acknowledged</th>\
+<th class=number>Queued</th><th class=number>Dropped</th><th>Ended</th></tr></thead>\n\
 <tbody>\n\
-<tr><th scope=row><i>0</i> 192.0.2.7:50000</th><td data-column=State>data transfer</td><td data-column=Connected>for 1 h 2 min <small>since 2023-11-14T21:11:15Z</small></td><td class=number data-column=\"Not acknowledged\">2</td><td class=number data-column=\"Queued\">17</td><td class=number data-column=\"Dropped\">0</td><td data-column=Ended>2 t1, 1 lost</td></tr>\n\
-<tr class=free><th scope=row><i>1</i></th><td data-column=State>free</td><td data-column=Connected>no</td><td class=number data-column=\"Not acknowledged\">2</td><td class=number data-column=\"Queued\">17</td><td class=number data-column=\"Dropped\">0</td><td data-column=Ended>2 t1, 1 lost</td></tr>\n\
+<tr><th scope=row><i>0</i> 192.0.2.7:50000</th><td data-column=State>data transfer</td>\
+<td data-column=Connected>for 1 h 2 min <small>since 2023-11-14T21:11:15Z</small></td>\
+<td class=number data-column=\"Not acknowledged\">2</td><td class=number data-column=\"Queued\">17</td>\
+<td class=number data-column=\"Dropped\">0</td><td data-column=Ended>2 t1, 1 lost</td></tr>\n\
+<tr class=free><th scope=row><i>1</i></th><td data-column=State>free</td><td data-column=Connected>no</td>\
+<td class=number data-column=\"Not acknowledged\">2</td><td class=number data-column=\"Queued\">17</td>\
+<td class=number data-column=\"Dropped\">0</td><td data-column=Ended>2 t1, 1 lost</td></tr>\n\
 </tbody>\n\
 </table>\n\
 </body>\n\

@@ -1,8 +1,7 @@
 //! The core's part for controls, where there is memory: copies of hubs with orders go on as these do.
 use gw_control::Controls;
-use gw_hub::{Hub, Step};
 use gw_map::{DEFAULT_SETTINGS, Settings};
-use gw_replay::{Instruction, push_reply, read_instruction};
+use gw_replay::{Hub, Instruction, push_reply, read_instruction};
 use std::alloc::Global;
 use std::test::Fail;
 

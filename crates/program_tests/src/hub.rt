@@ -1,7 +1,6 @@
 //! The hub and what it stands on: a long run of steps, and numbers and words.
-use gw_hub::{Hub, Reply, Step, StepFault};
 use gw_map::{DEFAULT_SETTINGS, Settings};
-use gw_station::Why;
+use gw_replay::{Hub, Reply, Step, StepFault, Why};
 use gw_time::TagFault;
 use std::alloc::Global;
 use std::process::Abort;

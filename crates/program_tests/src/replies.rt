@@ -1,6 +1,5 @@
 //! Tests of gw_replay: words and numbers that no transcript shows.
-use gw_hub::{Reply, StepFault, Why};
-use gw_replay::push_reply;
+use gw_replay::{Reply, StepFault, Why, push_reply};
 use std::test::Fail;
 
 #[test]

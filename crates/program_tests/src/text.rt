@@ -1,6 +1,6 @@
 //! Tests of gw_text.
 use dnp_app::AppFault;
-use dnp_objects::{ObjectFault, HeaderFault};
+use dnp_objects::{HeaderFault, ObjectFault};
 use gw_model::Memory;
 use gw_text::write_refusal;
 use std::process::Abort;

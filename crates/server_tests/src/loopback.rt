@@ -1,5 +1,5 @@
-//! A test of gw_server over the loopback: one session, with an outstation and a client that read only what the server was
-//! seen to be about to write, so that none of its workers may wait for another to end.
+//! A test of gw_server over the loopback: one session, with an outstation and a client that read only what the server
+//! was seen to be about to write, so that none of its workers may wait for another to end.
 
 use crate::seen::{Seen, is_seen};
 use gw_map::Settings;
@@ -58,8 +58,8 @@ fn loopback(rt: HostRuntime) {
     meet(&rt, &outstation, &server);
 }
 
-/// The server and its two peers, each in a thread of its own, that listen here. (Its bounds are those of `Host`, spelled
-/// out for the test's proof.)
+/// The server and its two peers, each in a thread of its own, that listen here. (Its bounds are those of `Host`,
+/// spelled out for the test's proof.)
 fn meet<
     R: Net<Listener = TcpListener, Stream = TcpStream>
         + Threads
@@ -144,7 +144,8 @@ fn answer<R: Host + Abort>(rt: &R, listener: &TcpListener, seen: &Seen) -> bool 
     is_right
 }
 
-/// The client, once the outstation's answer is known: starts, interrogates, and leaves. Whether it was answered as wanted.
+/// The client, once the outstation's answer is known: starts, interrogates, and leaves. Whether it was answered as
+/// wanted.
 fn interrogate<R: Host + Abort>(rt: &R, server: &TcpListener, seen: &Seen) -> bool {
     let is_known = is_seen(rt, &seen.responses, 1);
     let patience = Duration::from_secs(PATIENCE);

@@ -1,8 +1,7 @@
 //! Steps as the lines of a replay, and calls of them on a shared core.
 
 use gw_replay::{Instruction, push_reply, read_instruction};
-use gw_shared::{Pass, Shared};
-use gw_threads::{Reply, Step, StepFault};
+use gw_threads::{Pass, Reply, Shared, Step, StepFault};
 use std::process::Abort;
 use std::sync::Wait;
 use std::sync::ledger::Ledger;

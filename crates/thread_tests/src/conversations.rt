@@ -1,12 +1,12 @@
-//! Tests of gw_shared and gw_record: steps that two actors make in turn are answered as those of a hub alone, and recorded.
+//! Tests of gw_shared and gw_record: steps that two actors make in turn are answered as those of a hub alone, and
+//! recorded.
 ghost use Rattle.std.specs.Prelude.{◌≡◌};
 
 use crate::asking::{Answer, Turn, answers_of, check_answers, steps_of};
 use crate::opening::{end, hub_on, open, settings_of};
 use crate::telling::{entries_since, push_call};
 use gw_map::DEFAULT_SETTINGS;
-use gw_record::Recorder;
-use gw_threads::Hub;
+use gw_threads::{Hub, Recorder};
 use std::marker::Brand;
 use std::process::Abort;
 use std::sync::Wait;

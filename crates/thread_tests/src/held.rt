@@ -25,9 +25,9 @@ pub const CLIENT_1_WRITER: usize = 7;
 /// The position among a client's APDUs of the last one.
 const LAST: u64 = 1;
 
-/// Holds the reader of outstation 0 before its first step, the writer of client 0 before its first write, and the reader
-/// of client 1 behind the step of its last APDU, until client 1 has taken an interrogation's termination; and the reader of
-/// client 0 behind the step of its last APDU, until client 0 has taken one.
+/// Holds the reader of outstation 0 before its first step, the writer of client 0 before its first write, and the
+/// reader of client 1 behind the step of its last APDU, until client 1 has taken an interrogation's termination; and
+/// the reader of client 0 behind the step of its last APDU, until client 0 has taken one.
 #[derive(Drop)]
 pub struct Held<'a, R> {
     pub rt: &'a R,

@@ -5,8 +5,7 @@ use crate::memory::has_termination;
 use crate::peers::{MASTER, SOURCES, Source};
 use dnp_app::Response;
 use dnp_receive::responses_of;
-use gw_record::Entry;
-use gw_threads::{Reply, Step};
+use gw_threads::{Entry, Reply, Step};
 use std::process::Abort;
 use std::sync::{Mutex, Wait};
 
@@ -74,7 +73,8 @@ fn octets_given<R: Abort + AllocGlobal>(rt: &R, entries: &[Entry], actor: usize)
     octets
 }
 
-/// Whether the interrogation of client 1 was answered while the first response of outstation 0 was held before its step.
+/// Whether the interrogation of client 1 was answered while the first response of outstation 0 was held before its
+/// step.
 pub fn is_answered_first(entries: &[Entry]) -> bool {
     for entry in entries {
         match (entry.actor, &entry.step, &entry.reply) {

@@ -1,6 +1,6 @@
-//! Tests of the shared core, its recorder and the workers round it, through their public calls: that these end, what they
-//! hand over, and that they go on beside one another, of which no contract tells. `server_tests` has the server, and
-//! `.ci/serve` what the built program does.
+//! Tests of the shared core, its recorder and the workers round it, through their public calls: that these end, what
+//! they hand over, and that they go on beside one another, of which no contract tells. `server_tests` has the server,
+//! and `.ci/serve` what the built program does.
 #![tactic(auto)]
 
 #[cfg(test)]

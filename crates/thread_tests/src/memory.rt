@@ -2,8 +2,9 @@
 ghost use Rattle.std.specs.Prelude.{None};
 
 use crate::peers::Still;
-use gw_shared::{Pass, Shared};
-use gw_threads::{Arrival, Gate, Incoming, Outgoing, Unwritten, WorkerEnd, client_reader};
+use gw_threads::{
+    Arrival, Gate, Incoming, Outgoing, Pass, Shared, Unwritten, WorkerEnd, client_reader,
+};
 use std::sync::Wait;
 use std::sync::atomic::{AtomicBool, Ordering};
 use std::sync::ledger::Ledger;

@@ -2,9 +2,7 @@
 ghost use Rattle.std.specs.Prelude.{◌≡◌, ◌<◌};
 
 use gw_map::Settings;
-use gw_record::Recorder;
-use gw_shared::{Pass, Shared};
-use gw_threads::Hub;
+use gw_threads::{Hub, Pass, Recorder, Shared};
 use std::alloc::Global;
 use std::process::Abort;
 use std::sync::Wait;

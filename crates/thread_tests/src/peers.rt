@@ -40,7 +40,8 @@ index = 5
 address = 4102
 ";
 
-/// Frames of outstation 0 with an unsolicited response each, which ask for confirmations: binary input 5 is on, and off.
+/// Frames of outstation 0 with an unsolicited response each, which ask for confirmations: binary input 5 is on, and
+/// off.
 const FROM_OUTSTATION_0: &[u8] = &[
     0x05, 0x64, 0x10, 0x44, 0x00, 0x04, 0x01, 0x00, 0xF3, 0x9A, //
     0xC0, 0xF0, 0x82, 0x00, 0x00, 0x02, 0x01, 0x17, 0x01, 0x05, 0x81, 0x38, 0xB2, //

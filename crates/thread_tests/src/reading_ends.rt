@@ -5,8 +5,7 @@ use crate::asking::bring_up;
 use crate::memory::read_client;
 use crate::opening::{hub_on, open, total_of};
 use gw_map::DEFAULT_SETTINGS;
-use gw_shared::{Pass, Shared};
-use gw_threads::{Hub, OpenGate, Why, WorkerEnd};
+use gw_threads::{Hub, OpenGate, Pass, Shared, Why, WorkerEnd};
 use iec_apci::ApciFault;
 use std::marker::Brand;
 use std::process::Abort;
@@ -18,8 +17,8 @@ const I_FORMAT: &[u8] = &[
     0x68, 0x0E, 0x00, 0x00, 0x00, 0x00, 0x64, 0x01, 0x06, 0x00, 0x01, 0x00, 0x00, 0x00, 0x00, 0x14,
 ];
 
-/// What a client sends that has sent no STARTDT act, and why its reader ends. Behind the client's coming up each makes one
-/// step: the I format, which closes the connection; or the loss, behind octets that are no APDU.
+/// What a client sends that has sent no STARTDT act, and why its reader ends. Behind the client's coming up each makes
+/// one step: the I format, which closes the connection; or the loss, behind octets that are no APDU.
 const ENDS: &[(&[u8], WorkerEnd)] = &[
     (I_FORMAT, WorkerEnd::Closed(Why::NotStarted)),
     (&[0x68, 0x03], WorkerEnd::Malformed(ApciFault::Length)),

@@ -2,8 +2,7 @@
 
 use crate::asking::{Answer, Turn};
 use crate::opening::copy_of;
-use gw_record::{Entry, Recorder};
-use gw_threads::{Hub, Step};
+use gw_threads::{Entry, Hub, Recorder, Step};
 use std::fmt::Write;
 use std::process::Abort;
 

@@ -13,10 +13,9 @@ use crate::opening::{end, hub_on, open};
 use crate::peers::{FROM_CLIENT, MASTER, SOURCES, Still, TWO_OUTSTATIONS};
 use crate::telling::entries_since;
 use dnp_receive::Receiver;
-use gw_record::Recorder;
-use gw_shared::{CloseFault, Pass, Shared};
 use gw_threads::{
-    Hub, Line, WorkerEnd, client_writer, clock, outstation_reader, outstation_writer,
+    CloseFault, Hub, Line, Pass, Recorder, Shared, WorkerEnd, client_writer, clock,
+    outstation_reader, outstation_writer,
 };
 use std::marker::Brand;
 use std::process::Abort;

@@ -12,15 +12,18 @@ ghost use Rattle.gw_command_line.specs.CommandLine.{gateway, no_options, spelled
 pub fn lines()
     ensures taken { fault_of gateway (codes "gateway" ∷ codes "translate" ∷ []) ≡ [] }
     ensures spelled { spelled (codes "gateway" ∷ codes "translate" ∷ []) ≡ Some (to_translate None) }
-    ensures settings_taken { fault_of gateway (codes "gateway" ∷ codes "translate" ∷ codes "--settings" ∷ codes "a" ∷ [])
-        ≡ [] }
+    ensures settings_taken { fault_of gateway
+        (codes "gateway" ∷ codes "translate" ∷ codes "--settings" ∷ codes "a" ∷ []) ≡ [] }
     ensures settings_spelled { spelled (codes "gateway" ∷ codes "translate" ∷ codes "--settings" ∷ codes "a" ∷ [])
         ≡ Some (to_translate (Some (codes "a"))) }
     ensures replay_taken { fault_of gateway (codes "gateway" ∷ codes "replay" ∷ codes "a" ∷ []) ≡ [] }
-    ensures replay_spelled { spelled (codes "gateway" ∷ codes "replay" ∷ codes "a" ∷ []) ≡ Some (to_replay (codes "a")) }
+    ensures replay_spelled { spelled (codes "gateway" ∷ codes "replay" ∷ codes "a" ∷ [])
+        ≡ Some (to_replay (codes "a")) }
     ensures check_taken { fault_of gateway (codes "gateway" ∷ codes "check" ∷ codes "a" ∷ []) ≡ [] }
-    ensures check_spelled { spelled (codes "gateway" ∷ codes "check" ∷ codes "a" ∷ []) ≡ Some (to_check (codes "a") false) }
-    ensures profile_taken { fault_of gateway (codes "gateway" ∷ codes "check" ∷ codes "a" ∷ codes "--profile" ∷ []) ≡ [] }
+    ensures check_spelled { spelled (codes "gateway" ∷ codes "check" ∷ codes "a" ∷ [])
+        ≡ Some (to_check (codes "a") false) }
+    ensures profile_taken { fault_of gateway (codes "gateway" ∷ codes "check" ∷ codes "a" ∷ codes "--profile" ∷ [])
+        ≡ [] }
     ensures profile_spelled { spelled (codes "gateway" ∷ codes "check" ∷ codes "a" ∷ codes "--profile" ∷ [])
         ≡ Some (to_check (codes "a") true) }
     ensures no_file { fault_of gateway (codes "gateway" ∷ codes "check" ∷ []) ≡ MissingRequiredArgument ∷ [] }
@@ -36,32 +39,38 @@ pub fn lines()
 #[tactic(auto, unfolding(clap::proofs::OnLiterals::clap_on_literals))]
 pub fn run_lines()
     ensures taken { fault_of gateway (codes "gateway" ∷ codes "run" ∷ codes "a" ∷ []) ≡ [] }
-    ensures spelled { spelled (codes "gateway" ∷ codes "run" ∷ codes "a" ∷ []) ≡ Some (to_run (codes "a") None no_options) }
-    ensures sessions_taken { fault_of gateway (codes "gateway" ∷ codes "run" ∷ codes "a" ∷ codes "--sessions" ∷ codes "1000000" ∷ [])
-        ≡ [] }
-    ensures sessions_spelled { spelled (codes "gateway" ∷ codes "run" ∷ codes "a" ∷ codes "--sessions" ∷ codes "1000000" ∷ [])
+    ensures spelled { spelled (codes "gateway" ∷ codes "run" ∷ codes "a" ∷ [])
+        ≡ Some (to_run (codes "a") None no_options) }
+    ensures sessions_taken { fault_of gateway
+        (codes "gateway" ∷ codes "run" ∷ codes "a" ∷ codes "--sessions" ∷ codes "1000000" ∷ []) ≡ [] }
+    ensures sessions_spelled { spelled
+        (codes "gateway" ∷ codes "run" ∷ codes "a" ∷ codes "--sessions" ∷ codes "1000000" ∷ [])
         ≡ Some (to_run (codes "a") (Some 1000000) no_options) }
-    ensures no_sessions { fault_of gateway (codes "gateway" ∷ codes "run" ∷ codes "a" ∷ codes "--sessions" ∷ codes "0" ∷ [])
-        ≡ ValueValidation ∷ [] }
-    ensures many_sessions { fault_of gateway (codes "gateway" ∷ codes "run" ∷ codes "a" ∷ codes "--sessions" ∷ codes "1000001" ∷ [])
-        ≡ ValueValidation ∷ [] }
+    ensures no_sessions { fault_of gateway
+        (codes "gateway" ∷ codes "run" ∷ codes "a" ∷ codes "--sessions" ∷ codes "0" ∷ []) ≡ ValueValidation ∷ [] }
+    ensures many_sessions { fault_of gateway
+        (codes "gateway" ∷ codes "run" ∷ codes "a" ∷ codes "--sessions" ∷ codes "1000001" ∷ []) ≡ ValueValidation ∷ [] }
 {}
 
 /// Lines of `gateway run` with its options: two addresses in their order, the end by standard input alone, and where a
 /// status page and a record go, with the record's size; and a size that is refused.
 #[tactic(auto, unfolding(clap::proofs::OnLiterals::clap_on_literals))]
 pub fn option_lines()
-    ensures allow_taken { fault_of gateway (codes "gateway" ∷ codes "run" ∷ codes "--allow" ∷ codes "::1" ∷ codes "a" ∷ codes "--allow" ∷ codes "10.0.0.0/8" ∷ [])
-        ≡ [] }
-    ensures allow_spelled { spelled (codes "gateway" ∷ codes "run" ∷ codes "--allow" ∷ codes "::1" ∷ codes "a" ∷ codes "--allow" ∷ codes "10.0.0.0/8" ∷ [])
+    ensures allow_taken { fault_of gateway (codes "gateway" ∷ codes "run" ∷ codes "--allow" ∷ codes "::1" ∷ codes "a"
+        ∷ codes "--allow" ∷ codes "10.0.0.0/8" ∷ []) ≡ [] }
+    ensures allow_spelled { spelled (codes "gateway" ∷ codes "run" ∷ codes "--allow" ∷ codes "::1" ∷ codes "a"
+        ∷ codes "--allow" ∷ codes "10.0.0.0/8" ∷ [])
         ≡ Some (to_run (codes "a") None (record no_options { allow = codes "::1" ∷ codes "10.0.0.0/8" ∷ [] })) }
-    ensures until_eof_taken { fault_of gateway (codes "gateway" ∷ codes "run" ∷ codes "a" ∷ codes "--until-eof" ∷ []) ≡ [] }
+    ensures until_eof_taken { fault_of gateway (codes "gateway" ∷ codes "run" ∷ codes "a" ∷ codes "--until-eof" ∷ [])
+        ≡ [] }
     ensures until_eof_spelled { spelled (codes "gateway" ∷ codes "run" ∷ codes "a" ∷ codes "--until-eof" ∷ [])
         ≡ Some (to_run (codes "a") None (record no_options { until_eof = true })) }
-    ensures record_taken { fault_of gateway (codes "gateway" ∷ codes "run" ∷ codes "a" ∷ codes "--status" ∷ codes "b" ∷ codes "--record" ∷ codes "c" ∷ codes "--record-size" ∷ codes "1" ∷ [])
-        ≡ [] }
-    ensures record_spelled { spelled (codes "gateway" ∷ codes "run" ∷ codes "a" ∷ codes "--status" ∷ codes "b" ∷ codes "--record" ∷ codes "c" ∷ codes "--record-size" ∷ codes "1" ∷ [])
-        ≡ Some (to_run (codes "a") None (record no_options { status = Some (codes "b"); «record» = Some (codes "c"); record_size = 1 })) }
-    ensures no_size { fault_of gateway (codes "gateway" ∷ codes "run" ∷ codes "a" ∷ codes "--record-size" ∷ codes "0" ∷ [])
-        ≡ ValueValidation ∷ [] }
+    ensures record_taken { fault_of gateway (codes "gateway" ∷ codes "run" ∷ codes "a" ∷ codes "--status" ∷ codes "b"
+        ∷ codes "--record" ∷ codes "c" ∷ codes "--record-size" ∷ codes "1" ∷ []) ≡ [] }
+    ensures record_spelled { spelled (codes "gateway" ∷ codes "run" ∷ codes "a" ∷ codes "--status" ∷ codes "b"
+        ∷ codes "--record" ∷ codes "c" ∷ codes "--record-size" ∷ codes "1" ∷ [])
+        ≡ Some (to_run (codes "a") None
+        (record no_options { status = Some (codes "b"); «record» = Some (codes "c"); record_size = 1 })) }
+    ensures no_size { fault_of gateway
+        (codes "gateway" ∷ codes "run" ∷ codes "a" ∷ codes "--record-size" ∷ codes "0" ∷ []) ≡ ValueValidation ∷ [] }
 {}

@@ -1,8 +1,7 @@
 use Rattle.std.proofs.Common.{◌≡◌, None, length, ap, ◌∙◌, rules}
 use Rattle.gw_steps.specs.declared.step.Step.TheVariants as steps
-use Rattle.gw_steps.specs.State.{State}
+use Rattle.gw_steps.specs.State.{Hub, State}
 use Rattle.gw_steps.specs.Steps.{fault_of}
-use Rattle.gw_hub.specs.Hub.{Hub}
 use Rattle.gw_hub.proofs.Holding.{due_ready, orderly, poll_answer, poll_state, sound_of}
 use Rattle.gw_picture.proofs.Lists.{change-length}
 use Rattle.gw_hub.proofs.hub.Hub.poll.Goals as goal

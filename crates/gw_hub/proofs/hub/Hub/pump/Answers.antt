@@ -5,10 +5,10 @@ use Rattle.gw_station.specs.Client.{Client}
 use Rattle.gw_station.proofs.Sounds.{sound_after_pump}
 use Rattle.gw_steps.specs.declared.step.Reply.{Reply}
 use Rattle.gw_steps.specs.declared.step.Step.TheVariants as steps
-use Rattle.gw_steps.specs.State.{State}
+use Rattle.gw_steps.specs.State.{Hub, State}
 use Rattle.gw_steps.specs.Steps.{fault_of, can_rise, latest, outcome}
 use Rattle.gw_parts.specs.Clients.{reply_to_pump}
-use Rattle.gw_hub.specs.Hub.{Hub, IsCounted, KeepsToSession, step_with}
+use Rattle.gw_hub.specs.Hub.{IsCounted, KeepsToSession, step_with}
 use Rattle.gw_hub.proofs.Each.{all_kept}
 use Rattle.gw_hub.proofs.Holding.{held_kept, pumped_held}
 use Rattle.gw_hub.proofs.Taking.{sound_change, pumps_can}

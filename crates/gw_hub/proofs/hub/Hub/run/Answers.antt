@@ -6,10 +6,10 @@ use Rattle.gw_steps.specs.declared.step.StepFault.{StepFault}
 use Rattle.gw_steps.specs.Runs.{history}
 use Rattle.std.specs.List.{AllByRecursion}
 use Rattle.gw_history.specs.Premises.{IsSoundRun}
-use Rattle.gw_bonds.specs.Bonds.{HasShortIndex, IsControlRun}
-use Rattle.gw_bonds.proofs.Bonded.{bound, told_once}
-use Rattle.gw_outcomes.proofs.Follows.{told_when_due}
-use Rattle.gw_commands.proofs.Told.{commands_answered}
+use Rattle.gw_orders.specs.Bonds.{HasShortIndex, IsControlRun}
+use Rattle.gw_orders.proofs.Bonded.{bound, told_once}
+use Rattle.gw_orders.proofs.Follows.{told_when_due}
+use Rattle.gw_orders.proofs.CommandsTold.{commands_answered}
 use Rattle.gw_laws.proofs.Promised.{keeps_promises}
 use Rattle.gw_hub.proofs.hub.Hub.run.Goals as goal
 

@@ -1,7 +1,7 @@
 use Rattle.std.proofs.Common.{◌≡◌, ◌+◌, ◌≤◌, true, List, Ok, Some, sym, ap, subst, ◌∙◌, arith, rules}
 use Rattle.std.specs.List.{AllByRecursion}
 use Rattle.gw_answers.specs.Meaning.{IsSendable}
-use Rattle.gw_steps.specs.State.{Counts, State}
+use Rattle.gw_steps.specs.State.{Counts, Hub, State}
 use Rattle.gw_station.proofs.Sounds.{all_later}
 use Rattle.std.specs.Prelude.{slice_get, slice_index, IsTrue, if◌then◌else◌}
 use Rattle.gw_model.specs.Places.{change}
@@ -12,7 +12,7 @@ use Rattle.gw_map.specs.Settings.{Setup}
 use Rattle.gw_steps.specs.Steps.{after, can_order, can_rise, client_answered, client_up, command_of, is_beginning, is_ordering, latest, one_if, outcome, raised}
 use Rattle.gw_parts.specs.Clients.{event_at}
 use Rattle.gw_hub.specs.declared.orders.Sender.{Sender}
-use Rattle.gw_hub.specs.Hub.{Hub, KeepsToSession, controls_settled, said_to_sender, step_with}
+use Rattle.gw_hub.specs.Hub.{KeepsToSession, controls_settled, said_to_sender, step_with}
 use Rattle.gw_hub.specs.View.{state_in}
 use Rattle.gw_hub.proofs.Answered.{frame_answer, frame_state, given_acts, left_by_apdu, number_left}
 use Rattle.gw_hub.proofs.Each.{all_kept}

@@ -1,5 +1,5 @@
 use Rattle.std.proofs.Common.{ap, rules}
-use Rattle.gw_hub.specs.Hub.{Hub}
+use Rattle.gw_steps.specs.State.{Hub}
 use Rattle.gw_hub.proofs.Holding.{orderly, polled_state, sound_of, taking_orderly}
 use Rattle.gw_hub.proofs.hub.Hub.take_order.Goals as goal
 

@@ -2,9 +2,9 @@ use Rattle.std.proofs.Common.{◌≡◌, ℕ, List, Ok, length, refl, sym, ap, �
 use Rattle.std.proofs.lemmas.List.{length-map}
 use Rattle.gw_station.specs.Client.{Client, is_timed_out}
 use Rattle.gw_steps.specs.declared.step.Reply.TheVariants.{Ticked}
-use Rattle.gw_steps.specs.State.{State}
+use Rattle.gw_steps.specs.State.{Hub, State}
 use Rattle.gw_steps.specs.Steps.{bits_of, latest}
-use Rattle.gw_hub.specs.Hub.{Hub, KeepsToSession}
+use Rattle.gw_hub.specs.Hub.{KeepsToSession}
 use Rattle.gw_hub.proofs.Each.{all_mapped}
 use Rattle.dnp_master.specs.Master.{ended_by_tick}
 use Rattle.gw_steps.specs.Controls.{outcomes_ended}

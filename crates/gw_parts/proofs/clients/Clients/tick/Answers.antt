@@ -42,7 +42,8 @@ loop-position-preserved c =
     let late : c.is_some-is_closed.result ≡ is_timed_out c.args.moment (get_or old n x) =
     c.is_some-is_closed.ensures ∙ (ap is_some c.tick.ensures.closed
     ∙ (closed_late c.args.moment x ∙ ap (is_timed_out c.args.moment) (there ∙ client))) in
-    let shift = shifted c.is_some-is_closed.result n (omega (arith, within, ap length c.self.view_is, c.self.invariant)) in (
+    let shift =
+    shifted c.is_some-is_closed.result n (omega (arith, within, ap length c.self.view_is, c.self.invariant)) in (
       next_changed n (client_after_tick c.args.moment) old before x c.tick.new.self within c.loop-position.invariant.0
           there c.tick.ensures.client,
       search (

@@ -1,3 +1,0 @@
-pub mod Selections
-pub mod Commands
-pub mod Example

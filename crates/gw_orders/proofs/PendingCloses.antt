@@ -1,0 +1,109 @@
+-- Sessions that end, one or several in a tick.
+use Rattle.std.proofs.Common.{◌≡◌, ℕ, zero, suc, ◌+◌, ◌*◌, ◌/◌, ◌%◌, ◌<◌, Bool, true, false, ◌&&◌, ◌||◌, List, [], ◌∷◌, refl, sym, ap, ◌∙◌, arith}
+use Rattle.std.specs.Prelude.{◌==◌, slice_get}
+use Rattle.std.proofs.lemmas.Bool.{eq-eqb, ne_eqb}
+use Rattle.gw_map.specs.Settings.{Setup}
+use Rattle.gw_picture.proofs.Lists.{map-get}
+use Rattle.dnp_master.specs.Master.{Master}
+use Rattle.gw_control.specs.Controls.{Controls, controls_after_end}
+use Rattle.gw_control.specs.Orders.{outgoing_after_end}
+use Rattle.gw_steps.specs.Controls.{controls_after_closes}
+use Rattle.gw_steps.specs.Runs.{Entry}
+use Rattle.gw_steps.specs.Steps.{bits_of, one_if}
+use Rattle.gw_history.specs.Life.{has_bit}
+use Rattle.gw_orders.proofs.Ends.{tied_end}
+use Rattle.gw_orders.proofs.Story.{Tied, story}
+use Rattle.gw_orders.specs.Pending.{Pending, after_sessions}
+use Rattle.gw_orders.proofs.Rows.{leave_alike, leave_both, none_leaves, rows, rows_leave}
+use Rattle.gw_orders.proofs.Shapes.{marked_of}
+
+-- ---- one session
+
+pub rows_end : (setup : Setup) (past : List Entry) (masters : List Master) (v : Controls) (c o : ℕ)
+    → Tied (story setup past) masters v
+    → rows (slice_get (controls_after_end c v).outgoing o)
+    ≡ after_sessions (λ d. d == c) past (rows (slice_get v.outgoing o))
+rows_end setup past masters v c o tied =
+    ap rows (map-get (outgoing_after_end c) v.outgoing o)
+    ∙ rows_leave (λ d. d == c) past (slice_get v.outgoing o)
+    (marked_of setup past o (slice_get masters o) (slice_get v.outgoing o) (tied.places o))
+
+-- ---- several
+
+-- client c is closed, where these are, the first one has this number
+abbrev pub closing : ℕ → List Bool → ℕ → Bool
+closing i [] c = false
+closing i (b ∷ bs) c = (b && (c == i)) || closing (suc i) bs c
+
+pub rows_close : (setup : Setup) (past : List Entry) (masters : List Master) (i : ℕ) (bs : List Bool) (v : Controls)
+    (o : ℕ) → Tied (story setup past) masters v
+    → rows (slice_get (controls_after_closes i bs v).outgoing o)
+    ≡ after_sessions (closing i bs) past (rows (slice_get v.outgoing o))
+rows_close setup past masters i [] v o tied = sym (none_leaves past (rows (slice_get v.outgoing o)))
+rows_close setup past masters i (true ∷ bs) v o tied =
+    let ps : List Pending = rows (slice_get v.outgoing o) in
+    rows_close setup past masters (suc i) bs (controls_after_end i v) o (tied_end (story setup past) masters v i tied)
+    ∙ (ap (after_sessions (closing (suc i) bs) past) (rows_end setup past masters v i o tied)
+    ∙ leave_both (λ d. d == i) (closing (suc i) bs) past ps)
+rows_close setup past masters i (false ∷ bs) v o tied = rows_close setup past masters (suc i) bs v o tied
+
+-- ---- their bits
+
+abbrev bit_at : ℕ → List Bool → Bool
+bit_at c [] = false
+bit_at zero (b ∷ bs) = b
+bit_at (suc c) (b ∷ bs) = bit_at c bs
+
+closing_before : (bs : List Bool) (i c : ℕ) → c < i → closing i bs c ≡ false
+closing_before [] i c lt = refl
+closing_before (b ∷ bs) i c lt =
+    rw (ne_eqb c i (λ is. omega (arith, lt, is)), closing_before bs (suc i) c (omega (arith, lt))) (by b)
+  where
+    by : (b : Bool) → (b && false) || false ≡ false
+    by true = refl
+    by false = refl
+
+closing_at : (bs : List Bool) (i j c : ℕ) → c ≡ j + i → closing i bs c ≡ bit_at j bs
+closing_at [] i j c at = refl
+closing_at (b ∷ bs) i zero c at =
+    rw (eq-eqb c i (omega (arith, at)), closing_before bs (suc i) c (omega (arith, at))) (by b)
+  where
+    by : (b : Bool) → (b && true) || false ≡ b
+    by true = refl
+    by false = refl
+closing_at (b ∷ bs) i (suc j) c at =
+    rw (ne_eqb c i (λ is. omega (arith, at, is))) (by b (closing_at bs (suc i) j c (omega (arith, at))))
+  where
+    by : (b : Bool) → closing (suc i) bs c ≡ bit_at j bs → (b && false) || closing (suc i) bs c ≡ bit_at j bs
+    by true rest = rest
+    by false rest = rest
+
+no_bit : (c : ℕ) → has_bit c 0 ≡ false
+no_bit zero = refl
+no_bit (suc c) = no_bit c
+
+lowest : (b : Bool) (n : ℕ) → has_bit 0 (one_if b + 2 * n) ≡ b
+lowest true n = eq-eqb ((1 + 2 * n) % 2) 1 (omega arith)
+lowest false n = ne_eqb ((0 + 2 * n) % 2) 1 (λ (e : (0 + 2 * n) % 2 ≡ 1). omega (arith, e))
+
+others : (b : Bool) (n : ℕ) → (one_if b + 2 * n) / 2 ≡ n
+others true n = omega arith
+others false n = omega arith
+
+bit_told : (bs : List Bool) (c : ℕ) → has_bit c (bits_of bs) ≡ bit_at c bs
+bit_told [] c = no_bit c
+bit_told (b ∷ bs) zero = lowest b (bits_of bs)
+bit_told (b ∷ bs) (suc c) = ap (has_bit c) (others b (bits_of bs)) ∙ bit_told bs c
+
+-- a client is closed where its bit is set
+pub closing_bit : (bs : List Bool) (c : ℕ) → closing 0 bs c ≡ has_bit c (bits_of bs)
+closing_bit bs c = closing_at bs 0 c c (omega arith) ∙ sym (bit_told bs c)
+
+-- what goes with the sessions that a tick ends
+pub rows_tick : (setup : Setup) (past : List Entry) (masters : List Master) (bs : List Bool) (v : Controls) (o : ℕ)
+    → Tied (story setup past) masters v
+    → rows (slice_get (controls_after_closes 0 bs v).outgoing o)
+    ≡ after_sessions (λ c. has_bit c (bits_of bs)) past (rows (slice_get v.outgoing o))
+rows_tick setup past masters bs v o tied =
+    rows_close setup past masters 0 bs v o tied
+    ∙ leave_alike (closing 0 bs) (λ c. has_bit c (bits_of bs)) past (rows (slice_get v.outgoing o)) (closing_bit bs)

@@ -1,0 +1,158 @@
+-- At each place of a run an outstation is up where the history tells so.
+use Rattle.std.proofs.Common.{◌≡◌, ℕ, zero, suc, Bool, true, false, cond, List, [], ◌∷◌, map, Option, Some, None, option_map, Result, Ok, Err, refl, sym, ap, subst, ◌∙◌, inl, inr}
+use Rattle.std.specs.Prelude.{◌==◌, slice_get}
+use Rattle.std.proofs.lemmas.Bool.{cases_Bool, cases_eq, eq-eqb, ne_eqb}
+use Rattle.gw_model.specs.Places.{change}
+use Rattle.gw_model.specs.declared.control.Order.{Order}
+use Rattle.gw_entries.specs.Setup.{OutstationSetup}
+use Rattle.gw_map.specs.Settings.{Setup}
+use Rattle.gw_picture.proofs.Lists.{change-here, change-there}
+use Rattle.dnp_app.specs.Response.{Fragment, is_unsolicited}
+use Rattle.dnp_master.specs.declared.exchange.Exchange.{Exchange}
+use Rattle.dnp_master.specs.declared.exchange.Exchange.TheVariants.{Idle, Selected, Waiting}
+use Rattle.dnp_master.specs.declared.task.Task.{Task}
+use Rattle.dnp_master.specs.Fragments.{accepts, master_after_answer, master_after_fragment, master_after_unsolicited}
+use Rattle.dnp_master.specs.Master.{Master, due_unanswered, is_late, master_after_given, master_after_next, master_after_order, master_after_tick, master_after_up, master_down, master_with_exchange_after, task_given}
+use Rattle.gw_steps.specs.declared.step.Step.{Step}
+use Rattle.gw_steps.specs.declared.step.Step.TheVariants as steps
+use Rattle.gw_steps.specs.declared.step.Reply.{Reply}
+use Rattle.gw_steps.specs.declared.step.StepFault.{StepFault}
+use Rattle.gw_steps.specs.declared.step.StepFault.TheVariants.{NoOutstation}
+use Rattle.gw_steps.specs.Controls.{is_up_at, order_due}
+use Rattle.gw_steps.specs.State.{State, at_first}
+use Rattle.gw_steps.specs.Steps.{Allowed, after, can_be_counted, fault_of, is_accepting, latest, needs, outcome, parts_after_poll, reply_to}
+use Rattle.gw_steps.specs.Runs.{Entry, state_after}
+use Rattle.gw_steps.proofs.Inversion.{answered, who_is_down, who_is_up}
+use Rattle.gw_steps.proofs.Running.{entry}
+use Rattle.gw_orders.specs.Commands.{is_up, up_after}
+
+-- ---- one master
+
+given_up : (moment : ℕ) (task : Option Task) (m : Master) → (master_after_given moment task m).up ≡ m.up
+given_up moment None m = refl
+given_up moment (Some task) m = refl
+
+late_up : (moment : ℕ) (ex : Exchange) (m : Master) → (master_with_exchange_after moment ex m).up ≡ m.up
+late_up moment Idle m = refl
+late_up moment (Selected order) m = refl
+late_up moment (Waiting w) m = by (is_late moment m.poll w.since)
+  where
+    by : (b : Bool)
+        → (cond b (record m { exchange = Idle; due = due_unanswered w.task m.due }) m).up ≡ m.up
+    by true = refl
+    by false = refl
+
+answered_up : (moment : ℕ) (f : Fragment) (ex : Exchange) (m : Master) → (master_after_answer moment f ex m).up ≡ m.up
+answered_up moment f Idle m = refl
+answered_up moment f (Waiting w) m = refl
+answered_up moment f (Selected order) m = refl
+
+fragment_up : (moment : ℕ) (f : Fragment) (m : Master) → (master_after_fragment moment f m).up ≡ m.up
+fragment_up moment f m = by (accepts m f) (is_unsolicited f)
+  where
+    by : (a b : Bool)
+        → (cond a (cond b (master_after_unsolicited f m) (master_after_answer moment f m.exchange m)) m).up ≡ m.up
+    by true true = refl
+    by true false = answered_up moment f m.exchange m
+    by false b = refl
+
+-- ---- all masters
+
+up_kept : (o : ℕ) (f : Master → Master) (ms : List Master) (p : ℕ) → ((m : Master) → (f m).up ≡ m.up)
+    → is_up_at (slice_get (change o f ms) p) ≡ is_up_at (slice_get ms p)
+up_kept o f [] p same = refl
+up_kept zero f (m ∷ ms) zero same = same m
+up_kept zero f (m ∷ ms) (suc p) same = refl
+up_kept (suc o) f (m ∷ ms) zero same = refl
+up_kept (suc o) f (m ∷ ms) (suc p) same = up_kept o f ms p same
+
+up_all : (f : Master → Master) (ms : List Master) (p : ℕ) → ((m : Master) → (f m).up ≡ m.up)
+    → is_up_at (slice_get (map f ms) p) ≡ is_up_at (slice_get ms p)
+up_all f [] p same = refl
+up_all f (m ∷ ms) zero same = same m
+up_all f (m ∷ ms) (suc p) same = up_all f ms p same
+
+-- one that is there comes up, or goes down
+up_changed : (o : ℕ) (f : Master → Master) (ms : List Master) (p : ℕ) (m : Master) (b : Bool)
+    → slice_get ms o ≡ Some m → (f m).up ≡ b
+    → is_up_at (slice_get (change o f ms) p) ≡ cond (o == p) b (is_up_at (slice_get ms p))
+up_changed o f ms p m b at is = elim (cases_eq o p) [
+  | inl e ↦ subst (λ (x : ℕ). is_up_at (slice_get (change o f ms) x) ≡ cond (o == x) b (is_up_at (slice_get ms x))) e
+      (ap is_up_at (change-here o f ms ∙ ap (option_map f) at)
+      ∙ (is ∙ sym (ap (λ (y : Bool). cond y b (is_up_at (slice_get ms o))) (eq-eqb o o refl))))
+  | inr ne ↦ ap is_up_at (change-there o p f ms ne)
+      ∙ sym (ap (λ (y : Bool). cond y b (is_up_at (slice_get ms p))) (ne_eqb o p ne))
+]
+
+-- ---- each step
+
+polled_up : (s : State) (moment o wall : ℕ) (order : Option Order) (p : ℕ)
+    → is_up_at (slice_get (parts_after_poll s moment o wall order).outstations p) ≡ is_up_at (slice_get s.outstations p)
+polled_up s moment o wall None p =
+    up_kept o (master_after_next moment wall) s.outstations p
+    (λ m. given_up moment (task_given moment wall m) m)
+polled_up s moment o wall (Some order) p =
+    up_kept o (master_after_order moment order) s.outstations p (λ m. refl)
+
+module _ (setup : Setup) (s : State) (p : ℕ) where
+  abbrev Ups : Step → Type 0
+  Ups step = is_up_at (slice_get (after setup s step).outstations p)
+      ≡ up_after p step (is_up_at (slice_get s.outstations p))
+
+  outstation_up : (o m : ℕ) (r : Reply) → outcome setup s (steps.OutstationUp o m) ≡ Ok r → Ups (steps.OutstationUp o m)
+  outstation_up o m r e =
+      let step : Step = steps.OutstationUp o m in
+      let told = answered (fault_of s step) (can_be_counted s (needs setup s step)) (reply_to setup s step) r e in
+      let down = who_is_down (λ (x : Master). x.up) NoOutstation (slice_get s.outstations o) told.0 in
+      up_changed o (master_after_up (latest s m)) s.outstations p down.0 true down.1 refl
+
+  outstation_down : (o m : ℕ) (r : Reply) → outcome setup s (steps.OutstationDown o m) ≡ Ok r
+      → Ups (steps.OutstationDown o m)
+  outstation_down o m r e =
+      let step : Step = steps.OutstationDown o m in
+      let told = answered (fault_of s step) (can_be_counted s (needs setup s step)) (reply_to setup s step) r e in
+      let up = who_is_up (λ (x : Master). x.up) NoOutstation (slice_get s.outstations o) told.0 in
+      up_changed o (λ (x : Master). master_down x.poll) s.outstations p up.0 false up.1 refl
+
+  fragment : (f : Fragment) (m : ℕ) → Ups (steps.Fragment f m)
+  fragment f m = elim (cases_Bool (is_accepting s f)) [
+    | inl taken ↦ rw taken
+        (up_kept f.outstation (master_after_fragment (latest s m) f) s.outstations p
+        (λ x. fragment_up (latest s m) f x))
+    | inr left ↦ rw left refl
+  ]
+
+  step_up : (step : Step) (r : Reply) → outcome setup s step ≡ Ok r → Ups step
+  step_up (steps.OutstationUp o m) r e = outstation_up o m r e
+  step_up (steps.OutstationDown o m) r e = outstation_down o m r e
+  step_up (steps.Fragment f m) r e = fragment f m
+  step_up (steps.Poll o m wall) r e = polled_up s (latest s m) o wall (order_due s o) p
+  step_up (steps.ClientUp c m) r e = refl
+  step_up (steps.ClientDown c m) r e = refl
+  step_up (steps.Frame c apdu m) r e = refl
+  step_up (steps.Pump c m) r e = refl
+  step_up (steps.Tick m) r e = up_all (master_after_tick (latest s m)) s.outstations p
+      (λ x. late_up (latest s m) x.exchange x)
+
+-- ---- each place
+
+-- the outstations of the state are up as the history tells
+abbrev pub AreUp : List Entry → State → Type 0
+AreUp past s = (o : ℕ) → is_up_at (slice_get s.outstations o) ≡ is_up o past
+
+first_down : (xs : List OutstationSetup) (o : ℕ)
+    → is_up_at (slice_get (map (λ (x : OutstationSetup). master_down x.poll) xs) o) ≡ false
+first_down [] o = refl
+first_down (x ∷ xs) zero = refl
+first_down (x ∷ xs) (suc o) = first_down xs o
+
+pub first_up : (setup : Setup) → AreUp [] (at_first setup)
+first_up setup o = first_down setup.outstations o
+
+pub up_more : (setup : Setup) (past : List Entry) (step : Step) (reply : Result Reply StepFault)
+    → Allowed setup (state_after setup past) step reply (state_after setup (entry step reply ∷ past))
+    → AreUp past (state_after setup past)
+    → AreUp (entry step reply ∷ past) (state_after setup (entry step reply ∷ past))
+up_more setup past step (Ok r) allowed before o =
+    step_up setup (state_after setup past) o step r allowed.0 ∙ ap (up_after o step) (before o)
+up_more setup past step (Err f) allowed before o = before o

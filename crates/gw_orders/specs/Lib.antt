@@ -1,0 +1,12 @@
+pub mod Executes
+pub mod Marks
+pub mod Bonds
+pub mod ToldOnce
+pub mod BondExample
+pub mod Sessions
+pub mod Pending
+pub mod Outcomes
+pub mod OutcomeExample
+pub mod Selections
+pub mod Commands
+pub mod CommandExample

@@ -1,4 +1,0 @@
-pub mod Sessions
-pub mod Pending
-pub mod Outcomes
-pub mod Example
