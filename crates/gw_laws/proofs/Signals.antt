@@ -25,10 +25,10 @@ use Rattle.gw_history.specs.Premises.{client_at}
 use Rattle.gw_history.proofs.Places.{Place, SlotLives}
 use Rattle.gw_history.proofs.Told.{sound_at}
 use Rattle.gw_laws.proofs.Numbers.{WindowTied}
-use Rattle.gw_connections.specs.Connection.{At, Connection, TimedTurn, connection, turn_in, turns}
-use Rattle.gw_connections.specs.Signals.{ConfirmsInOrder, Signals, given, waiting, wanted}
-use Rattle.gw_connections.proofs.Links.{AllLinked, BecomesAt, ClientLinked, Linked, SlotLinked, TakesAt, linked_all}
-use Rattle.gw_connections.proofs.Offers.{IsOffer, offer_told}
+use Rattle.gw_laws.specs.Connection.{At, Connection, TimedTurn, connection, turn_in, turns}
+use Rattle.gw_laws.specs.Signals.{ConfirmsInOrder, Signals, given, waiting, wanted}
+use Rattle.gw_laws.proofs.Links.{AllLinked, BecomesAt, ClientLinked, Linked, SlotLinked, TakesAt, linked_all}
+use Rattle.gw_laws.proofs.Offers.{IsOffer, offer_told}
 
 -- ---- the tie
 

@@ -31,14 +31,14 @@ use Rattle.gw_history.specs.Premises.{client_at, IsSoundSetup}
 use Rattle.gw_history.proofs.Places.{Known, Place, SlotLives}
 use Rattle.gw_history.proofs.Tied.{told_moment}
 use Rattle.gw_history.proofs.Told.{sound_at}
-use Rattle.gw_connections.specs.Connection.{Connection, OfStanding, connection, turns}
-use Rattle.gw_connections.specs.Signals.{waiting}
-use Rattle.gw_connections.specs.Times.{SaysDue, Times, TimesBy, has_passed, is_late, is_late_if, is_receipt_due, is_test_due, says, signal_due, tested_at, unacknowledged, unreceipted}
-use Rattle.gw_connections.proofs.Closes.{LinkedBefore}
-use Rattle.gw_connections.proofs.Links.{AllLinked, ClientLinked, SlotLinked}
-use Rattle.gw_connections.proofs.Offers.{IsOffer, NoSignal, offer_told}
-use Rattle.gw_connections.proofs.Signals.{says as saying, signals_tied, waiting_is}
-use Rattle.gw_connections.proofs.Timers.{TimersTied, timers_tied}
+use Rattle.gw_laws.specs.Connection.{Connection, OfStanding, connection, turns}
+use Rattle.gw_laws.specs.Signals.{waiting}
+use Rattle.gw_laws.specs.Times.{SaysDue, Times, TimesBy, has_passed, is_late, is_late_if, is_receipt_due, is_test_due, says, signal_due, tested_at, unacknowledged, unreceipted}
+use Rattle.gw_laws.proofs.Closes.{LinkedBefore}
+use Rattle.gw_laws.proofs.Links.{AllLinked, ClientLinked, SlotLinked}
+use Rattle.gw_laws.proofs.Offers.{IsOffer, NoSignal, offer_told}
+use Rattle.gw_laws.proofs.Signals.{says as saying, signals_tied, waiting_is}
+use Rattle.gw_laws.proofs.Timers.{TimersTied, timers_tied}
 
 -- ---- what is due
 

@@ -4,12 +4,12 @@ use Rattle.gw_map.specs.Settings.{Setup}
 use Rattle.gw_steps.specs.Runs.{Entry, AtEach}
 use Rattle.gw_history.specs.Premises.{IsSoundRun}
 use Rattle.gw_history.proofs.Places.{Place, places}
-use Rattle.gw_connections.specs.Connections.{Connections}
-use Rattle.gw_connections.proofs.Closes.{LinkedBefore, tells_closes}
-use Rattle.gw_connections.proofs.Links.{AllLinked}
-use Rattle.gw_connections.proofs.Signals.{tells_signals}
-use Rattle.gw_connections.proofs.Steps.{links}
-use Rattle.gw_connections.proofs.Times.{tells_times}
+use Rattle.gw_laws.specs.Connections.{Connections}
+use Rattle.gw_laws.proofs.Closes.{LinkedBefore, tells_closes}
+use Rattle.gw_laws.proofs.Links.{AllLinked}
+use Rattle.gw_laws.proofs.Signals.{tells_signals}
+use Rattle.gw_laws.proofs.Steps.{links}
+use Rattle.gw_laws.proofs.Times.{tells_times}
 
 kept : (setup : Setup) (past : List Entry) → Place setup past → LinkedBefore setup past → AllLinked setup past
     → Connections setup past

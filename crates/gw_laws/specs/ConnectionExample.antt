@@ -12,8 +12,8 @@ use Rattle.gw_steps.specs.State.{State, at_first}
 use Rattle.gw_steps.specs.Steps.{outcome, after}
 use Rattle.gw_steps.specs.Runs.{Entry}
 use Rattle.gw_steps.specs.Example.{event, outstation_up, setup as usual}
-use Rattle.gw_connections.specs.Closes.{close_due}
-use Rattle.gw_connections.specs.Connection.{Connection, connection, turns}
+use Rattle.gw_laws.specs.Closes.{close_due}
+use Rattle.gw_laws.specs.Connection.{Connection, connection, turns}
 
 abbrev pub setup : Setup
 setup = record usual {

@@ -24,8 +24,8 @@ use Rattle.gw_laws.specs.Numbers.{sent, taken}
 use Rattle.gw_laws.specs.Interrogations.{interrogation, is_pending}
 use Rattle.gw_laws.specs.Line.{owed}
 use Rattle.gw_laws.specs.Frames.{held}
-use Rattle.gw_connections.specs.Connection.{OfStanding, connection, turns}
-use Rattle.gw_connections.specs.Signals.{most_waiting, waiting}
+use Rattle.gw_laws.specs.Connection.{OfStanding, connection, turns}
+use Rattle.gw_laws.specs.Signals.{most_waiting, waiting}
 
 -- ---- N(R)
 

@@ -18,9 +18,9 @@ use Rattle.gw_station.proofs.Opens.{open_s, open_i}
 use Rattle.gw_history.specs.Life.{Taking, Turn, Idle, Takes, PutsOut, Ends}
 use Rattle.gw_laws.specs.Numbers.{sent}
 use Rattle.gw_laws.proofs.Numbers.{WindowTied}
-use Rattle.gw_connections.specs.Closes.{acknowledged, beyond, is_right_receive as is_right}
-use Rattle.gw_connections.specs.Connection.{At, TimedTurn, turn_in}
-use Rattle.gw_connections.proofs.Links.{BecomesAt, Linked, TakesAt, linked_all}
+use Rattle.gw_laws.specs.Closes.{acknowledged, beyond, is_right_receive as is_right}
+use Rattle.gw_laws.specs.Connection.{At, TimedTurn, turn_in}
+use Rattle.gw_laws.proofs.Links.{BecomesAt, Linked, TakesAt, linked_all}
 
 -- ---- N(R)
 

@@ -47,8 +47,8 @@ use Rattle.gw_history.proofs.Tied.{told_moment}
 use Rattle.gw_history.proofs.Places.{Known, Place, SlotLives}
 use Rattle.gw_history.proofs.Told.{sound_at}
 use Rattle.gw_laws.proofs.Numbers.{WindowTied, counts_tied}
-use Rattle.gw_connections.specs.Connection.{At, Connection, TimedTurn, connection, connection_with, going_on, turn_in, turns}
-use Rattle.gw_connections.proofs.Links.{AllLinked, ClientLinked, Linked, SlotLinked, Stays, came_stays, confirmations_taking, window_taking}
+use Rattle.gw_laws.specs.Connection.{At, Connection, TimedTurn, connection, connection_with, going_on, turn_in, turns}
+use Rattle.gw_laws.proofs.Links.{AllLinked, ClientLinked, Linked, SlotLinked, Stays, came_stays, confirmations_taking, window_taking}
 
 -- ---- a turn at which nothing happens to the connection, or it ends
 

@@ -2,9 +2,9 @@
 use Rattle.std.specs.Prelude.{List}
 use Rattle.gw_map.specs.Settings.{Setup}
 use Rattle.gw_steps.specs.Runs.{Entry}
-use Rattle.gw_connections.specs.Closes.{Closes}
-use Rattle.gw_connections.specs.Signals.{Signals}
-use Rattle.gw_connections.specs.Times.{Times}
+use Rattle.gw_laws.specs.Closes.{Closes}
+use Rattle.gw_laws.specs.Signals.{Signals}
+use Rattle.gw_laws.specs.Times.{Times}
 
 pub record Connections (setup : Setup) (past : List Entry) : Type 0 where
   -- an APDU closes the connection for the first cause that holds, and is taken where none does

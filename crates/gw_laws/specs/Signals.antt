@@ -10,7 +10,7 @@ use Rattle.iec_apci.specs.declared.apdu.Signal.TheVariants.{TestAct}
 use Rattle.gw_steps.specs.Runs.{Entry}
 use Rattle.gw_steps.specs.Said.{UFormat}
 use Rattle.gw_history.specs.Life.{Turn, Takes, PutsOut}
-use Rattle.gw_connections.specs.Connection.{Connection, OfEachConnection, turns}
+use Rattle.gw_laws.specs.Connection.{Connection, OfEachConnection, turns}
 
 -- so many confirmations may wait
 abbrev pub most_waiting : ℕ

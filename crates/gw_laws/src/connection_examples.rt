@@ -4,11 +4,11 @@ ghost use Rattle.iec_apci.specs.declared.apdu.Apdu.TheVariants.{I, S, U};
 ghost use Rattle.iec_apci.specs.declared.apdu.Signal.TheVariants.{StartAct, StartCon, StopAct, StopCon, TestAct, TestCon};
 ghost use Rattle.gw_station.specs.declared.event.Why.TheVariants.{Sequence, NotStarted, Malformed, Flooded};
 ghost use Rattle.gw_station.specs.Example.{cut, reading};
-ghost use Rattle.gw_connections.specs.Connection.{turns};
-ghost use Rattle.gw_connections.specs.Closes.{acknowledged};
-ghost use Rattle.gw_connections.specs.Signals.{given, waiting, wanted};
-ghost use Rattle.gw_connections.specs.Times.{heard_at, is_late, is_receipt_due, signal_due, tested_at, unacknowledged, unreceipted};
-ghost use Rattle.gw_connections.specs.Example.{closes_then, comes, connected, flooded, pump, reached, read_twice, setup, started, tested, told_twice};
+ghost use Rattle.gw_laws.specs.Connection.{turns};
+ghost use Rattle.gw_laws.specs.Closes.{acknowledged};
+ghost use Rattle.gw_laws.specs.Signals.{given, waiting, wanted};
+ghost use Rattle.gw_laws.specs.Times.{heard_at, is_late, is_receipt_due, signal_due, tested_at, unacknowledged, unreceipted};
+ghost use Rattle.gw_laws.specs.ConnectionExample.{closes_then, comes, connected, flooded, pump, reached, read_twice, setup, started, tested, told_twice};
 
 /// Nothing comes from a client, before STARTDT.
 #[tactic(auto, unfolding(iec_apci::specs::Stream::reading, iec_apci::specs::Stream::answer_at_front, iec_apci::specs::Stream::content_of))]

@@ -40,13 +40,13 @@ use Rattle.gw_laws.proofs.Held.{HeldTied, held_tied}
 use Rattle.gw_laws.proofs.Line.{LineTied, pending_told, line_tied}
 use Rattle.gw_laws.proofs.News.{NewsTied, news_tied, stands}
 use Rattle.gw_laws.proofs.Numbers.{WindowTied, counts_tied}
-use Rattle.gw_connections.specs.Closes.{Closes, ClosesBy, acknowledged, causes, close_due, is_malformed, is_right_receive as is_right, places_with, reply_for}
-use Rattle.gw_connections.specs.Connection.{Connection, OfStanding, connection, turns}
-use Rattle.gw_connections.specs.Signals.{waiting}
-use Rattle.gw_connections.proofs.Links.{AllLinked, ClientLinked, SlotLinked}
-use Rattle.gw_connections.proofs.Numbers.{acknowledged_tied, same_right}
-use Rattle.gw_connections.proofs.Signals.{signals_tied, waiting_is}
-use Rattle.gw_connections.proofs.Steps.{same_turns}
+use Rattle.gw_laws.specs.Closes.{Closes, ClosesBy, acknowledged, causes, close_due, is_malformed, is_right_receive as is_right, places_with, reply_for}
+use Rattle.gw_laws.specs.Connection.{Connection, OfStanding, connection, turns}
+use Rattle.gw_laws.specs.Signals.{waiting}
+use Rattle.gw_laws.proofs.Links.{AllLinked, ClientLinked, SlotLinked}
+use Rattle.gw_laws.proofs.Acknowledged.{acknowledged_tied, same_right}
+use Rattle.gw_laws.proofs.Signals.{signals_tied, waiting_is}
+use Rattle.gw_laws.proofs.Steps.{same_turns}
 
 -- what ties a client to the turns of its connection
 record Ties (setup : Setup) (ts : List Turn) (k : Client) : Type 0 where

@@ -20,7 +20,7 @@ use Rattle.gw_history.specs.Premises.{client_at}
 use Rattle.gw_history.proofs.Lives.{Came}
 use Rattle.gw_laws.proofs.Numbers.{WindowTied}
 use Rattle.gw_laws.proofs.Told.{same_beside}
-use Rattle.gw_connections.specs.Connection.{At, Connection, TimedTurn, connection, turn_in}
+use Rattle.gw_laws.specs.Connection.{At, Connection, TimedTurn, connection, turn_in}
 
 -- ---- what becomes of it in a turn
 

@@ -20,9 +20,9 @@ use Rattle.gw_steps.specs.Said.{ApduMeaning, IFormat, SFormat, UFormat, said}
 use Rattle.gw_steps.specs.State.{client_limit, later}
 use Rattle.gw_history.specs.Accepted.{moment_after}
 use Rattle.gw_history.specs.Life.{Takes, PutsOut, is_closed_in}
-use Rattle.gw_connections.specs.Closes.{acknowledged}
-use Rattle.gw_connections.specs.Connection.{At, Connection, OfStanding, TimedTurn, connection, turn_in, turns}
-use Rattle.gw_connections.specs.Signals.{waiting}
+use Rattle.gw_laws.specs.Closes.{acknowledged}
+use Rattle.gw_laws.specs.Connection.{At, Connection, OfStanding, TimedTurn, connection, turn_in, turns}
+use Rattle.gw_laws.specs.Signals.{waiting}
 
 -- ---- since when
 

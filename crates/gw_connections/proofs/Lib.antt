@@ -1,9 +1,0 @@
-pub mod Links
-pub mod Steps
-pub mod Offers
-pub mod Numbers
-pub mod Signals
-pub mod Closes
-pub mod Timers
-pub mod Times
-pub mod Kept
