@@ -13,6 +13,7 @@ ghost use Rattle.gw_steps.specs.Steps.{can_order, can_rise, client_up, command_o
 ghost use Rattle.gw_steps.specs.Runs.{history, state_after, AtEach, IsRun};
 ghost use Rattle.gw_steps.specs.Sound.{IsSoundState};
 ghost use Rattle.gw_history.specs.Premises.{IsSoundRun};
+ghost use Rattle.gw_laws.specs.Connections.{Connections};
 ghost use Rattle.gw_laws.specs.Promises.{Promises};
 ghost use Rattle.gw_orders.specs.Bonds.{Bonds, HasShortIndex};
 ghost use Rattle.gw_orders.specs.ToldOnce.{TellsOnce};
@@ -180,6 +181,12 @@ impl Hub {
     /// - `requests`: a request is given by a poll alone, and is the first that is due by the history: an order's, or
     ///   what internal indications, periods and missing answers ask for, in the order of rank, with the next sequence
     ///   number. A poll gives nothing exactly where a request awaits its answer or nothing is due.
+    ///
+    /// And of each client's connection:
+    /// - `connections`: an APDU closes it for the first cause that holds, and is taken where none does; each STARTDT,
+    ///   STOPDT and TESTFR act that was taken is confirmed once, in order; a tick closes it exactly where t1 has
+    ///   passed, TESTFR act is put out exactly where t3 has, unless a confirmation comes first, and an S format where
+    ///   w or t2 wants one and nothing else is to be said.
     pub fn run(
         alloc: Global,
         settings: Settings,
@@ -197,6 +204,8 @@ impl Hub {
         ensures commands { IfOk result (λ run.
             AtEach (AnswersCommands settings) (history [] steps.items run.1.items)) }
         ensures requests { IfOk result (λ run. AtEach (Requests settings) (history [] steps.items run.1.items)) }
+        ensures connections { IfOk result (λ run.
+            AtEach (Connections settings) (history [] steps.items run.1.items)) }
     {
         let mut hub = Hub::new(alloc, settings)?;
         let replies = hub.make(&steps)?;

@@ -14,3 +14,12 @@ pub mod Frames
 pub mod Mirror
 pub mod Apdus
 pub mod Promised
+pub mod Links
+pub mod Steps
+pub mod Offers
+pub mod Acknowledged
+pub mod Signals
+pub mod Closes
+pub mod Timers
+pub mod Times
+pub mod Kept

@@ -7,4 +7,10 @@ pub mod Numbers
 pub mod Frames
 pub mod Apdus
 pub mod Promises
+pub mod Connection
+pub mod Signals
+pub mod Closes
+pub mod Times
+pub mod Connections
 pub mod Example
+pub mod ConnectionExample

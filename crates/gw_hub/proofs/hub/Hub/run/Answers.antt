@@ -12,6 +12,7 @@ use Rattle.gw_orders.proofs.Follows.{told_when_due}
 use Rattle.gw_orders.proofs.CommandsTold.{commands_answered}
 use Rattle.gw_orders.proofs.RequestPlaces.{requests_due}
 use Rattle.gw_laws.proofs.Promised.{keeps_promises}
+use Rattle.gw_laws.proofs.Kept.{keeps_connections}
 use Rattle.gw_hub.proofs.hub.Hub.run.Goals as goal
 
 -- the run of a hub that was made of settings
@@ -65,3 +66,9 @@ returns-clause-requests c =
     requests_due c.args.settings _
     (run_of _ _ _ c.args.steps.items c.in_ok-replies.replies.items c.in_ok-hub.ensures.setup c.deref.ensures.value
     c.in_ok-replies.ensures.run) c.in_ok-hub.ensures.indices
+
+pub returns-clause-connections : goal.returns-clause-connections
+returns-clause-connections c =
+    keeps_connections c.args.settings _
+    (run_of _ _ _ c.args.steps.items c.in_ok-replies.replies.items c.in_ok-hub.ensures.setup c.deref.ensures.value
+    c.in_ok-replies.ensures.run)

@@ -1,0 +1,65 @@
+-- Worked runs of a client, at a station with k = 3, w = 2, t1 = 7 s, t2 = 3 s and t3 = 9 s.
+use Rattle.std.specs.Prelude.{ℕ, List, [], ◌∷◌, ◌++◌, replicate, unwrap_or, Option}
+use Rattle.gw_map.specs.Settings.{Setup}
+use Rattle.iec_apci.specs.declared.apdu.Apdu.{Apdu}
+use Rattle.iec_apci.specs.declared.apdu.Apdu.TheVariants.{I, U}
+use Rattle.iec_apci.specs.declared.apdu.Signal.TheVariants.{StartAct, TestAct}
+use Rattle.gw_station.specs.declared.event.Why.{Why}
+use Rattle.gw_station.specs.Example.{reading}
+use Rattle.gw_steps.specs.declared.step.Step.{Step}
+use Rattle.gw_steps.specs.declared.step.Step.TheVariants as steps
+use Rattle.gw_steps.specs.State.{State, at_first}
+use Rattle.gw_steps.specs.Steps.{outcome, after}
+use Rattle.gw_steps.specs.Runs.{Entry}
+use Rattle.gw_steps.specs.Example.{event, outstation_up, setup as usual}
+use Rattle.gw_laws.specs.Closes.{close_due}
+use Rattle.gw_laws.specs.Connection.{Connection, connection, turns}
+
+abbrev pub setup : Setup
+setup = record usual {
+  station = record usual.station { k = 3; w = 2; t1_ms = 7000; t2_ms = 3000; t3_ms = 9000 };
+}
+
+-- steps behind a past, where none has a fault
+abbrev pub made_after : State → List Entry → List Step → List Entry
+made_after s past [] = past
+made_after s past (step ∷ more) =
+    made_after (after setup s step) (record { step = step; reply = outcome setup s step } ∷ past) more
+
+-- the connection after steps
+abbrev pub reached : List Step → Connection
+reached ss = unwrap_or (connection setup 0 (made_after (at_first setup) [] ss)) (record { began = 0; timed = [] })
+
+abbrev pub pump : ℕ → Step
+pump moment = steps.Pump 0 moment
+
+abbrev pub comes : Apdu → ℕ → Step
+comes apdu moment = steps.Frame 0 apdu moment
+
+-- the client connected at moment 500, and nothing came since
+abbrev pub connected : List Step
+connected = steps.ClientUp 0 500 ∷ []
+
+-- TESTFR act was put out as soon as it was due
+abbrev pub tested : List Step
+tested = connected ++ pump 9500 ∷ []
+
+-- STARTDT was confirmed
+abbrev pub started : List Step
+started = connected ++ comes (U StartAct) 600 ∷ pump 600 ∷ outstation_up ∷ []
+
+-- two reads came
+abbrev pub read_twice : List Step
+read_twice = started ++ comes (I 0 0 reading) 1000 ∷ comes (I 1 0 reading) 1500 ∷ []
+
+-- the event was put out twice
+abbrev pub told_twice : List Step
+told_twice = started ++ steps.Fragment event 2000 ∷ pump 2000 ∷ steps.OutstationDown 0 2100 ∷ pump 2500 ∷ []
+
+-- so many TESTFR acts came
+abbrev pub flooded : ℕ → List Step
+flooded n = started ++ replicate n (comes (U TestAct) 700)
+
+-- why an APDU that comes then closes the connection
+abbrev pub closes_then : List Step → Apdu → Option Why
+closes_then ss apdu = close_due setup (turns (reached ss)) apdu
