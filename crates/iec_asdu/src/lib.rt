@@ -5,6 +5,7 @@ mod elements;
 mod examples;
 mod fault;
 pub mod laws;
+mod packing;
 mod reading;
 mod types;
 mod writing;

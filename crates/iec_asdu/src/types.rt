@@ -70,7 +70,21 @@ pub enum ElementKind {
 }
 
 impl ElementKind {
+    ghost use Rattle.iec_asdu.specs.Spelling.{element_kind};
     ghost use Rattle.iec_asdu.specs.Types.{element_length, element_value};
+
+    /// The element that carries a value.
+    pub fn of(value: Value) -> ElementKind
+        ensures { result ≡ element_kind value }
+    {
+        match value {
+            Value::Single(_) => ElementKind::SinglePoint,
+            Value::Double(_) => ElementKind::DoublePoint,
+            Value::Word(_) => ElementKind::BitString,
+            Value::Scaled(_) => ElementKind::ScaledValue,
+            Value::Total(_) => ElementKind::CounterReading,
+        }
+    }
 
     /// How many octets the element has.
     pub fn octets(self) -> usize
