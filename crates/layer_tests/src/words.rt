@@ -1,7 +1,7 @@
 //! The numbers and words of faults.
 use dnp_app::AppFault;
 use dnp_link::SkipReason;
-use dnp_objects::{ObjectFault, HeaderFault};
+use dnp_objects::{HeaderFault, ObjectFault};
 use iec_apci::ApciFault;
 use iec_asdu::AsduFault;
 use iec_window::WindowFault;
@@ -21,10 +21,19 @@ fn check_words<F: Display>(
 }
 
 const OBJECT_FAULTS: &[(HeaderFault, &str)] = &[
-    (HeaderFault::UnknownObject, "3 Object 1 UnknownObject at 2044"),
-    (HeaderFault::UnknownQualifier, "3 Object 2 UnknownQualifier at 2044"),
+    (
+        HeaderFault::UnknownObject,
+        "3 Object 1 UnknownObject at 2044",
+    ),
+    (
+        HeaderFault::UnknownQualifier,
+        "3 Object 2 UnknownQualifier at 2044",
+    ),
     (HeaderFault::ShortRange, "3 Object 3 ShortRange at 2044"),
-    (HeaderFault::StopBeforeStart, "3 Object 4 StopBeforeStart at 2044"),
+    (
+        HeaderFault::StopBeforeStart,
+        "3 Object 4 StopBeforeStart at 2044",
+    ),
     (HeaderFault::ShortData, "3 Object 5 ShortData at 2044"),
     (HeaderFault::TooMany, "3 Object 6 TooMany at 2044"),
     (HeaderFault::Memory, "3 Object 7 Memory at 2044"),
