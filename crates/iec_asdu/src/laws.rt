@@ -1,11 +1,27 @@
 //! What holds of every ASDU.
-ghost use Rattle.std.specs.Prelude.{◌≡◌, ◌↔◌, ℕ, List, Some};
+ghost use Rattle.std.specs.Prelude.{◌≡◌, ◌↔◌, ℕ, ℤ, ◌<◌, ◌≤◌, List, [], ◌∷◌, length, Some};
+ghost use Rattle.gw_model.specs.declared.observation.Observation.{Observation};
 ghost use Rattle.iec_asdu.specs.Types.{Layout};
 ghost use Rattle.iec_asdu.specs.Asdu.{Asdu, asdu_meaning};
 ghost use Rattle.iec_asdu.specs.Grammar.{IsAsdu};
+ghost use Rattle.iec_asdu.specs.Spelling.{spelling};
+ghost use Rattle.iec_asdu.specs.Packing.{taken_of, packed_spelling};
 
 /// Octets mean an ASDU where they spell it, one text after another.
 pub fn meanings_are_spelled()
     ensures { (types : List Layout) (octets : List ℕ) (asdu : Asdu) →
         asdu_meaning types octets ≡ Some asdu ↔ IsAsdu types octets asdu }
+{}
+
+/// What one ASDU carries of a list: one observation at least, where there is one, and no more than there are; it has
+/// no more octets than an ASDU may have, and where it carries one alone, it is spelled as that one.
+pub fn lists_are_carried()
+    ensures some { (offset : ℤ) (xs : List Observation) → 0 < length xs → 0 < taken_of offset xs }
+    ensures within { (offset : ℤ) (xs : List Observation) → taken_of offset xs ≤ length xs }
+    ensures most { (offset : ℤ) (xs : List Observation) → taken_of offset xs ≤ 127 }
+    ensures room { (offset : ℤ) (common cause : ℕ) (xs : List Observation) →
+        length (packed_spelling offset common cause xs) ≤ 249 }
+    ensures first { (offset : ℤ) (common cause : ℕ) (x : Observation) (xs : List Observation) →
+        taken_of offset (x ∷ xs) ≡ 1 → packed_spelling offset common cause (x ∷ xs) ≡ spelling offset common cause x }
+    ensures one { (offset : ℤ) (x : Observation) → taken_of offset (x ∷ []) ≡ 1 }
 {}
