@@ -1,5 +1,5 @@
 -- What one ASDU carries of a list: observations of one type, at consecutive addresses under SQ 1, and never too many.
-use Rattle.std.proofs.Common.{◌≡◌, ℕ, ℤ, zero, suc, ◌+◌, ◌*◌, ◌/◌, ◌<◌, ◌≤◌, ◌==◌, ◌&&◌, min, nat_le, Bool, true, false, cond, List, [], ◌∷◌, ◌++◌, length, get_or, take, refl, sym, ap, subst, ◌∙◌, arith, is_some, length-append}
+use Rattle.std.proofs.Common.{◌≡◌, ℕ, ℤ, zero, suc, ◌+◌, ◌*◌, ◌/◌, ◌<◌, ◌≤◌, ◌&&◌, min, nat_le, Bool, true, false, cond, List, [], ◌∷◌, ◌++◌, length, get_or, take, refl, ap, subst, ◌∙◌, arith, is_some, length-append}
 use Rattle.std.specs.List.{flat_map}
 use Rattle.std.proofs.Math.Nat.{le-div_iff_mul-le}
 use Rattle.std.proofs.lemmas.Bool.{eq-eqb}
@@ -11,7 +11,7 @@ use Rattle.gw_time.specs.Spelling.{tag_of}
 use Rattle.iec_asdu.specs.declared.types.MonitorType.{MonitorType}
 use Rattle.iec_asdu.specs.Types.{type_length}
 use Rattle.iec_asdu.specs.Spelling.{element_kind, identification_at, address_octets, information_octets, object_octets, objects_octets, header_octets, list_spelling, spelling}
-use Rattle.iec_asdu.specs.Packing.{type_at, room_apart, room_in_sequence, alike_count, consecutive_count, apart_count, in_sequence_count, is_in_sequence, taken_of, packed_spelling}
+use Rattle.iec_asdu.specs.Packing.{type_at, alike_count, consecutive_count, apart_count, in_sequence_count, is_in_sequence, taken_of, packed_spelling}
 use Rattle.iec_asdu.proofs.Lengths.{information_long}
 use Rattle.iec_asdu.proofs.Known.{same_type, type_short}
 use Rattle.iec_asdu.proofs.Counts.{AreAlike, AreConsecutive, alike_are, alike_within, consecutive_are, consecutive_within}

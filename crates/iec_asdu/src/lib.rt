@@ -7,6 +7,7 @@ mod fault;
 pub mod laws;
 mod packing;
 mod reading;
+mod sizes;
 mod types;
 mod writing;
 

@@ -4,18 +4,16 @@ ghost use Rattle.iec_asdu.specs.Types.{type_length};
 ghost use Rattle.iec_asdu.specs.Spelling.{identification_at};
 ghost use Rattle.iec_asdu.specs.Packing.{type_at, room_apart, room_in_sequence, alike_count, consecutive_count, apart_count, in_sequence_count, is_in_sequence, taken_of};
 
+use crate::sizes::{ADDRESS_OCTETS, ASDU_OCTETS, HEADER_OCTETS};
 use crate::types::{ElementKind, MonitorType, identification_of};
 use gw_model::Observation;
 use gw_time::{Zone, has_tag};
 
-/// How many octets are left behind the header, of the 249 of an ASDU.
-const OBJECTS_OCTETS: usize = 243;
+/// How many octets are left behind the header.
+const OBJECTS_OCTETS: usize = ASDU_OCTETS - HEADER_OCTETS;
 
 /// How many are left behind the header and one address.
-const ELEMENTS_OCTETS: usize = 240;
-
-/// How many octets an information object address has.
-const ADDRESS_OCTETS: usize = 3;
+const ELEMENTS_OCTETS: usize = OBJECTS_OCTETS - ADDRESS_OCTETS;
 
 /// The most objects that a variable structure qualifier tells.
 const MOST_OBJECTS: usize = 127;

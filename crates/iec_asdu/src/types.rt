@@ -5,11 +5,9 @@ ghost use Rattle.iec_asdu.specs.Spelling.{type_of};
 
 use crate::elements::{BitString, CounterReading, DoublePoint, ScaledValue, SinglePoint};
 use crate::fault::AsduFault;
+use crate::sizes::TAG_OCTETS;
 use gw_model::{Element, Quality, Stamp, Value};
 use gw_time::{Zone, from_tag};
-
-/// How many octets a time tag, CP56Time2a, has.
-pub const TAG_OCTETS: usize = 7;
 
 /// Single-point information.
 const M_SP_NA_1: u8 = 1;

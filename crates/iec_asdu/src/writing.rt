@@ -9,18 +9,12 @@ ghost use Rattle.iec_asdu.specs.Buffer.{Writes};
 
 use crate::elements::{BitString, CounterReading, DoublePoint, ScaledValue, SinglePoint};
 use crate::packing::{identification_at, packing_of};
-use crate::types::TAG_OCTETS;
+use crate::sizes::{ADDRESS_OCTETS, HEADER_OCTETS, TAG_OCTETS};
 use gw_model::{Element, Observation, Quality, Value};
 use gw_time::{Zone, to_tag};
 
 /// The cause of transmission spontaneous (IEC 60870-5-101, 7.2.3).
 pub const SPONTANEOUS: u8 = 3;
-
-/// How many octets the header of an ASDU has.
-const HEADER_OCTETS: usize = 6;
-
-/// How many octets an information object address has.
-const ADDRESS_OCTETS: usize = 3;
 
 /// SQ, bit 7 of the variable structure qualifier.
 const SEQUENCE: u8 = 128;

@@ -1,4 +1,4 @@
-use Rattle.std.proofs.Common.{◌≡◌, ◌≤◌, ◌∙◌, ◌++◌, length, take, sym, arith}
+use Rattle.std.proofs.Common.{◌≡◌, ◌∙◌, ◌++◌, take, sym, arith}
 use Rattle.std.proofs.lemmas.List.{length-take, length-take-le}
 use Rattle.iec_asdu.specs.Buffer.{Writes}
 use Rattle.iec_asdu.specs.Spelling.{header_octets, objects_octets}
