@@ -1,5 +1,5 @@
--- The prefixes of a list that an ASDU carries: what is counted at each place, and what holds of the observations counted.
-use Rattle.std.proofs.Common.{◌≡◌, ◌≢◌, ℕ, ℤ, suc, ◌+◌, ◌/◌, ◌<◌, ◌≤◌, ◌==◌, ◌&&◌, min, Bool, true, false, cond, List, [], ◌∷◌, length, get_or, take, drop, refl, sym, ap, ◌∙◌, arith, is_some}
+-- The prefixes of a list that an ASDU carries: what is counted at each place, and what holds of what is counted.
+use Rattle.std.proofs.Common.{◌≡◌, ◌≢◌, ℕ, ℤ, zero, suc, ◌+◌, ◌/◌, ◌<◌, ◌≤◌, ◌==◌, ◌&&◌, min, Bool, true, false, cond, List, [], ◌∷◌, length, get_or, take, drop, refl, sym, ap, ◌∙◌, arith, is_some}
 use Rattle.std.proofs.lemmas.Bool.{eqb-true, eq-eqb, ne_eqb}
 use Rattle.std.proofs.lemmas.List.{at_drop_more, drop_all}
 use Rattle.gw_model.specs.declared.point.Stamp.TheVariants.{Untimed}
@@ -9,6 +9,7 @@ use Rattle.gw_time.specs.Spelling.{tag_of}
 use Rattle.iec_asdu.specs.declared.types.MonitorType.{MonitorType}
 use Rattle.iec_asdu.specs.Types.{type_length}
 use Rattle.iec_asdu.specs.Spelling.{identification_at}
+use Rattle.iec_asdu.specs.Fitting.{AreAlike, AreConsecutive}
 use Rattle.iec_asdu.specs.Packing.{type_at, room_in_sequence, alike_count, consecutive_count, apart_count, in_sequence_count}
 
 -- ---- place by place
@@ -140,17 +141,6 @@ sequence_counted offset (x ∷ xs) within d kind octets room identification coun
 
 -- ---- what holds of them
 
--- each has this type identification
-abbrev pub AreAlike : ℤ → ℕ → List Observation → Type 0
-AreAlike offset identification [] = Unit {0}
-AreAlike offset identification (x ∷ xs) =
-    (identification_at offset x ≡ identification) × AreAlike offset identification xs
-
--- they stand at consecutive addresses, from this one on
-abbrev pub AreConsecutive : ℕ → List Observation → Type 0
-AreConsecutive address [] = Unit {0}
-AreConsecutive address (x ∷ xs) = (x.address ≡ address) × AreConsecutive (address + 1) xs
-
 alike_step : (offset : ℤ) (identification : ℕ) (b : Bool) (n : ℕ) (x : Observation) (xs : List Observation)
     → (b ≡ true → identification_at offset x ≡ identification) → AreAlike offset identification (take n xs)
     → AreAlike offset identification (take (cond b (suc n) 0) (x ∷ xs))
@@ -207,3 +197,29 @@ consecutive_within offset identification address [] = omega arith
 consecutive_within offset identification address (x ∷ xs) =
     count_within (identification_at offset x == identification && x.address == address) _ _
     (consecutive_within offset identification (address + 1) xs)
+
+-- ---- no longer prefix is so
+
+counts_on : (b : Bool) (k n : ℕ) → b ≡ true → k ≤ n → suc k ≤ cond b (suc n) 0
+counts_on true k n is le = omega arith
+counts_on false k n is le = absurd cc
+
+pub alike_longest : (offset : ℤ) (identification : ℕ) (xs : List Observation) (k : ℕ) → k ≤ length xs
+    → AreAlike offset identification (take k xs) → k ≤ alike_count offset identification xs
+unfolding alike_count
+alike_longest offset identification xs zero within alike = omega arith
+alike_longest offset identification [] (suc k) within alike = absurd (omega arith)
+alike_longest offset identification (x ∷ xs) (suc k) within alike =
+    counts_on (identification_at offset x == identification) k _ (eq-eqb _ _ alike.0)
+    (alike_longest offset identification xs k (omega arith) alike.1)
+
+pub consecutive_longest : (offset : ℤ) (identification address : ℕ) (xs : List Observation) (k : ℕ) → k ≤ length xs
+    → AreAlike offset identification (take k xs) → AreConsecutive address (take k xs)
+    → k ≤ consecutive_count offset identification address xs
+unfolding consecutive_count
+consecutive_longest offset identification address xs zero within alike row = omega arith
+consecutive_longest offset identification address [] (suc k) within alike row = absurd (omega arith)
+consecutive_longest offset identification address (x ∷ xs) (suc k) within alike row =
+    counts_on (identification_at offset x == identification && x.address == address) k _
+    (rw (eq-eqb (identification_at offset x) identification alike.0, eq-eqb x.address address row.0) refl)
+    (consecutive_longest offset identification (address + 1) xs k (omega arith) alike.1 row.1)

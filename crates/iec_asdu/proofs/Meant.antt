@@ -23,10 +23,10 @@ use Rattle.iec_asdu.specs.Types.{element_value, tag_stamp, layout_at}
 use Rattle.iec_asdu.specs.Asdu.{Asdu, monitor_types, asdu_meaning}
 use Rattle.iec_asdu.specs.Grammar.{IsAddress, IsInformation, AreApart, AreInSequence, AreObjects}
 use Rattle.iec_asdu.specs.Spelling.{element_kind, type_of, element_spelling, tag_octets, spelling, address_octets, information_octets, object_octets, objects_octets, identification_at, qualifier_of, list_spelling}
+use Rattle.iec_asdu.specs.Fitting.{AreAlike, AreConsecutive}
 use Rattle.iec_asdu.specs.Packing.{type_at, is_in_sequence, taken_of, packed_spelling}
 use Rattle.iec_asdu.proofs.Lengths.{element_long, tag_long}
 use Rattle.iec_asdu.proofs.Known.{same_type, type_known}
-use Rattle.iec_asdu.proofs.Counts.{AreAlike, AreConsecutive}
 use Rattle.iec_asdu.proofs.Carried.{Carries, carried, spelled_alone}
 use Rattle.iec_asdu.proofs.Spelled.{meaning_is_spelled}
 

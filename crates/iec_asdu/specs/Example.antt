@@ -90,4 +90,5 @@ abbrev pub rooms_apart : Bool → List ℕ
 rooms_apart timed = map (λ kind. room_apart (type_length (record { element = kind; timed = timed }))) element_kinds
 
 abbrev pub rooms_in_sequence : List ℕ
-rooms_in_sequence = map (λ kind. room_in_sequence (type_length (record { element = kind; timed = false }))) element_kinds
+rooms_in_sequence =
+    map (λ kind. room_in_sequence (type_length (record { element = kind; timed = false }))) element_kinds

@@ -8,5 +8,6 @@ pub mod Types
 pub mod Contents
 pub mod Spelling
 pub mod Packing
+pub mod Fitting
 pub mod Buffer
 pub mod Example

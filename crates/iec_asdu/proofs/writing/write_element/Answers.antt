@@ -6,15 +6,18 @@ use Rattle.iec_asdu.proofs.writing.write_element.Goals as goal
 
 pub returns-in-Single-clause-written : goal.returns-in-Single-clause-written
 returns-in-Single-clause-written c =
-    rw c.in-Single.is (writes_part c.args.start 1 c.args.out.now _ c.write.new.out (omega arith) refl c.write.ensures)
+    rw c.in-Single.is (writes_part c.args.start 1 c.args.out.now _
+    c.write.new.out (omega arith) refl c.write.ensures)
 
 pub returns-in-Double-clause-written : goal.returns-in-Double-clause-written
 returns-in-Double-clause-written c =
-    rw c.in-Double.is (writes_part c.args.start 1 c.args.out.now _ c.write-in-Double.new.out (omega arith) refl c.write-in-Double.ensures)
+    rw c.in-Double.is (writes_part c.args.start 1 c.args.out.now _
+    c.write-in-Double.new.out (omega arith) refl c.write-in-Double.ensures)
 
 pub returns-in-Word-clause-written : goal.returns-in-Word-clause-written
 returns-in-Word-clause-written c =
-    rw c.in-Word.is (writes_part c.args.start 5 c.args.out.now _ c.write-in-Word.new.out (omega arith) refl c.write-in-Word.ensures)
+    rw c.in-Word.is (writes_part c.args.start 5 c.args.out.now _
+    c.write-in-Word.new.out (omega arith) refl c.write-in-Word.ensures)
 
 pub returns-in-Scaled-clause-written : goal.returns-in-Scaled-clause-written
 returns-in-Scaled-clause-written c =
@@ -24,4 +27,5 @@ returns-in-Scaled-clause-written c =
 
 pub returns-in-Total-clause-written : goal.returns-in-Total-clause-written
 returns-in-Total-clause-written c =
-    rw c.in-Total.is (writes_part c.args.start 5 c.args.out.now _ c.write-in-Total.new.out (omega arith) refl c.write-in-Total.ensures)
+    rw c.in-Total.is (writes_part c.args.start 5 c.args.out.now _
+    c.write-in-Total.new.out (omega arith) refl c.write-in-Total.ensures)
