@@ -1,5 +1,5 @@
--- How long the ASDU of one observation is.
-use Rattle.std.proofs.Common.{ℕ, ℤ, pos, negsuc, ◌≤◌, Bool, true, false, ◌&&◌, nat_lt, nat_le, List, length, Option, Some, None, arith}
+-- How long an element with its time tag is, and the ASDU of one observation.
+use Rattle.std.proofs.Common.{ℕ, ℤ, pos, negsuc, ◌≤◌, Bool, true, false, ◌&&◌, nat_lt, nat_le, List, length, Option, Some, None, is_some, refl, arith, length-append, ◌≡◌}
 use Rattle.gw_model.specs.declared.point.Stamp.{Stamp}
 use Rattle.gw_model.specs.declared.point.Stamp.TheVariants.{Untimed, At, Doubtful}
 use Rattle.gw_model.specs.declared.observation.Value.{Value}
@@ -8,34 +8,53 @@ use Rattle.gw_model.specs.declared.observation.Quality.{Quality}
 use Rattle.gw_model.specs.declared.observation.Observation.{Observation}
 use Rattle.gw_time.specs.Window.{shown_at}
 use Rattle.gw_time.specs.Spelling.{numbers_at, octets_of, tag_of, tag_showing}
-use Rattle.iec_asdu.specs.Spelling.{spelling, spelling_with, tag_octets}
+use Rattle.iec_asdu.specs.Types.{element_length, tag_length, type_length}
+use Rattle.iec_asdu.specs.Spelling.{element_kind, element_spelling, tag_octets, information_octets, spelling}
+use Rattle.iec_asdu.specs.Packing.{type_at}
+use Rattle.iec_asdu.proofs.Known.{type_short}
 
 -- a tag has seven octets
-shown_short : (invalid : Bool) (z : ℤ) → length (tag_octets (tag_showing invalid z)) ≤ 7
+shown_long : (invalid : Bool) (z : ℤ)
+    → length (tag_octets (tag_showing invalid z)) ≡ tag_length (is_some (tag_showing invalid z))
 unfolding tag_showing
-shown_short invalid (negsuc n) = omega arith
-shown_short invalid (pos n) = go (nat_le 946684800000 n && nat_lt n 4102444800000)
+shown_long invalid (negsuc n) = refl
+shown_long invalid (pos n) = go (nat_le 946684800000 n && nat_lt n 4102444800000)
   where
-    go : (b : Bool) → length (tag_octets (elim b [ true ↦ Some (octets_of (numbers_at invalid n)) | false ↦ None ])) ≤ 7
-    go true = omega arith
-    go false = omega arith
+    go : (b : Bool)
+        → let tag : Option (List ℕ) = elim b [ true ↦ Some (octets_of (numbers_at invalid n)) | false ↦ None ] in
+        length (tag_octets tag) ≡ tag_length (is_some tag)
+    go true = refl
+    go false = refl
 
-tag_short : (offset : ℤ) (stamp : Stamp) → length (tag_octets (tag_of offset stamp)) ≤ 7
-tag_short offset Untimed = omega arith
-tag_short offset (At t) = shown_short false (shown_at offset t)
-tag_short offset (Doubtful t) = shown_short true (shown_at offset t)
+pub tag_long : (offset : ℤ) (stamp : Stamp)
+    → length (tag_octets (tag_of offset stamp)) ≡ tag_length (is_some (tag_of offset stamp))
+tag_long offset Untimed = refl
+tag_long offset (At t) = shown_long false (shown_at offset t)
+tag_long offset (Doubtful t) = shown_long true (shown_at offset t)
 
--- an element has at most five octets
-with_tag : (tag : Option (List ℕ)) (common cause address : ℕ) (stamp : Stamp) (v : Value) (q : Quality)
-    → length (tag_octets tag) ≤ 7
-    → length (spelling_with tag common cause (record { address = address; value = v; quality = q; stamp = stamp })) ≤ 21
-with_tag tag common cause address stamp (Single on) q short = omega (arith, short)
-with_tag tag common cause address stamp (Double state) q short = omega (arith, short)
-with_tag tag common cause address stamp (Word n) q short = omega (arith, short)
-with_tag tag common cause address stamp (Scaled z) q short = omega (arith, short)
-with_tag tag common cause address stamp (Total n) q short = omega (arith, short)
+pub element_long : (v : Value) (q : Quality) → length (element_spelling v q) ≡ element_length (element_kind v)
+element_long (Single on) q = refl
+element_long (Double state) q = refl
+element_long (Word n) q = refl
+element_long (Scaled z) q = refl
+element_long (Total n) q = refl
+
+-- both have what their type says
+pub information_long : (offset : ℤ) (x : Observation)
+    → length (information_octets offset x) ≡ type_length (type_at offset x)
+information_long offset x =
+    omega (
+      arith,
+      length-append (element_spelling x.value x.quality) (tag_octets (tag_of offset x.stamp)),
+      element_long x.value x.quality,
+      tag_long offset x.stamp,
+    )
 
 -- the ASDU of an observation has at most 21 octets
 pub spelling_short : (offset : ℤ) (common cause : ℕ) (x : Observation) → length (spelling offset common cause x) ≤ 21
 spelling_short offset common cause x =
-    with_tag (tag_of offset x.stamp) common cause x.address x.stamp x.value x.quality (tag_short offset x.stamp)
+    omega (
+      arith,
+      information_long offset x,
+      (type_short (element_kind x.value) (is_some (tag_of offset x.stamp))).1,
+    )

@@ -1,6 +1,9 @@
 pub mod Meant
-pub mod Behind
 pub mod ObjectLoop
 pub mod Joined
 pub mod Spelled
 pub mod Lengths
+pub mod Behind
+pub mod Counts
+pub mod Known
+pub mod Carried

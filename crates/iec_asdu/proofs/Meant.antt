@@ -1,191 +1,247 @@
--- What is spelled for a fit observation means that observation.
-use Rattle.std.proofs.Common.{◌≡◌, ℕ, ℤ, true, false, ◌+◌, ◌*◌, ◌/◌, ◌%◌, ◌<◌, ◌∙◌, List, [], ◌∷◌, length, take, Option, Some, None, Ok, refl, ap, arith}
-use Rattle.std.specs.Prelude.{option_map, IsTrue, IfSome, IsSomeAnd, All, slice_get}
-use Rattle.std.specs.Option.{is_some}
+-- What is spelled for fit observations means these observations.
+use Rattle.std.proofs.Common.{◌≡◌, ℕ, zero, suc, ℤ, true, false, Bool, ◌^◌, ◌+◌, ◌/◌, ◌%◌, ◌<◌, ◌≤◌, ◌∙◌, List, [], ◌∷◌, length, take, Option, Some, None, refl, sym, ap, subst, arith, is_some}
+use Rattle.std.specs.Prelude.{option_map, IsTrue, IsSomeAnd, All}
+use Rattle.std.specs.List.{flat_map}
 use Rattle.std.specs.Result.{result_ok}
-use Rattle.std.proofs.lemmas.List.Elements.{All-head}
+use Rattle.std.proofs.lemmas.Bool.{eq-eqb, ne_eqb}
+use Rattle.std.proofs.lemmas.List.{length-take}
+use Rattle.std.proofs.lemmas.List.Elements.{All-head, All-tail, All-nil, All-cons}
 use Rattle.gw_model.specs.declared.point.Stamp.{Stamp}
 use Rattle.gw_model.specs.declared.point.Stamp.TheVariants.{Untimed, At, Doubtful}
 use Rattle.gw_model.specs.declared.observation.Value.{Value}
 use Rattle.gw_model.specs.declared.observation.Value.TheVariants.{Single, Double, Scaled, Word, Total}
 use Rattle.gw_model.specs.declared.observation.Quality.{Quality}
 use Rattle.gw_model.specs.declared.observation.Observation.{Observation}
+use Rattle.gw_model.specs.Bits.{is_set}
 use Rattle.gw_model.specs.Fit.{is_of_element, HasWidth, IsFit, IsInWindow}
-use Rattle.gw_time.specs.Tag.{tag_meaning}
 use Rattle.gw_time.specs.Spelling.{tag_of}
 use Rattle.gw_time.proofs.Century.{window_is_century}
 use Rattle.gw_time.proofs.Spelled.{IsTagOf, tag_in_window}
+use Rattle.iec_asdu.specs.declared.types.MonitorType.{MonitorType}
 use Rattle.iec_asdu.specs.Laws.{single_again, double_again, word_again, scaled_again, counter_again}
-use Rattle.gw_model.specs.Optional.{◌>>=◌}
-use Rattle.iec_asdu.specs.Asdu.{Asdu, monitor_types, observation_of, objects_apart, objects_of, asdu_meaning}
-use Rattle.iec_asdu.specs.Spelling.{type_of, spelling, spelling_with}
+use Rattle.iec_asdu.specs.Types.{element_value, tag_stamp, layout_at}
+use Rattle.iec_asdu.specs.Asdu.{Asdu, monitor_types, asdu_meaning}
+use Rattle.iec_asdu.specs.Grammar.{IsAddress, IsInformation, AreApart, AreInSequence, AreObjects}
+use Rattle.iec_asdu.specs.Spelling.{element_kind, type_of, element_spelling, tag_octets, spelling, address_octets, information_octets, object_octets, objects_octets, identification_at, qualifier_of, list_spelling}
+use Rattle.iec_asdu.specs.Fitting.{AreAlike, AreConsecutive}
+use Rattle.iec_asdu.specs.Packing.{type_at, is_in_sequence, taken_of, packed_spelling}
+use Rattle.iec_asdu.proofs.Lengths.{element_long, tag_long}
+use Rattle.iec_asdu.proofs.Known.{same_type, type_known}
+use Rattle.iec_asdu.proofs.Carried.{Carries, carried, spelled_alone}
+use Rattle.iec_asdu.proofs.Spelled.{meaning_is_spelled}
 
--- an ASDU of one object, originator 0
-abbrev one_of : ℕ → ℕ → ℕ → Observation → Asdu
-one_of identification common cause x =
+-- ---- an object
+
+-- its element is read again
+value_again : (value : Value) (quality : Quality) → HasWidth value → IsTrue (is_of_element value quality)
+    → element_value (element_kind value) (element_spelling value quality) ≡ Some (value, quality)
+value_again (Single on) quality width fit =
+    ap (option_map (λ x. (Single x.on, x.quality))) (single_again (record { on = on; quality = quality }) fit)
+value_again (Double state) quality width fit =
+    ap (option_map (λ x. (Double x.state, x.quality))) (double_again (record { state = state; quality = quality }) fit)
+value_again (Word n) quality width fit =
+    ap (option_map (λ x. (Word x.word, x.quality))) (word_again (record { word = n; quality = quality }) (fit, width))
+value_again (Scaled z) quality width fit =
+    ap (option_map (λ x. (Scaled x.value, x.quality))) (scaled_again (record { value = z; quality = quality })
+    (fit, width))
+value_again (Total n) quality width fit =
+    ap (option_map (λ x. (Total x.count, x.quality))) (counter_again (record { count = n; quality = quality })
+    (fit, width))
+
+tag_again : (offset : ℤ) (stamp : Stamp) (tag : Option (List ℕ)) → IsSomeAnd tag (IsTagOf offset stamp)
+    → tag_stamp offset (is_some tag) (tag_octets tag) ≡ Some stamp
+tag_again offset stamp None h = absurd h
+tag_again offset stamp (Some tag) h = ap (λ r. result_ok r) h.meant
+
+-- its time tag is read again, and no tag means no time
+stamp_again : (offset : ℤ) (stamp : Stamp) → IsInWindow offset stamp
+    → tag_stamp offset (is_some (tag_of offset stamp)) (tag_octets (tag_of offset stamp)) ≡ Some stamp
+stamp_again offset Untimed h = refl
+stamp_again offset (At t) h =
+    tag_again offset (At t) (tag_of offset (At t)) (tag_in_window offset false t ((window_is_century offset t).1 h))
+stamp_again offset (Doubtful t) h =
+    tag_again offset (Doubtful t) (tag_of offset (Doubtful t))
+    (tag_in_window offset true t ((window_is_century offset t).1 h))
+
+informs : (offset : ℤ) (x : Observation) → HasWidth x.value → IsFit offset x
+    → IsInformation (layout_at offset (type_at offset x)) (information_octets offset x) x
+informs offset x width fit = record {
+  element = element_spelling x.value x.quality;
+  tag = tag_octets (tag_of offset x.stamp);
+  text = refl;
+  element_length = element_long x.value x.quality;
+  tag_length = tag_long offset x.stamp;
+  valued = value_again x.value x.quality width fit.element;
+  stamped = stamp_again offset x.stamp fit.stamp;
+}
+
+-- by the type of the first
+informs_as : (offset : ℤ) (x y : Observation) → identification_at offset y ≡ identification_at offset x
+    → HasWidth y.value → IsFit offset y
+    → IsInformation (layout_at offset (type_at offset x)) (information_octets offset y) y
+informs_as offset x y same width fit =
+    subst (λ (t : MonitorType). IsInformation (layout_at offset t) (information_octets offset y) y)
+    (same_type (element_kind y.value) (element_kind x.value) (is_some (tag_of offset y.stamp))
+    (is_some (tag_of offset x.stamp)) same) (informs offset y width fit)
+
+addressed : (address : ℕ) → address ≤ 16777215 → IsAddress (address_octets address) address
+addressed address low = record {
+  low = address % 256;
+  middle = address / 256 % 256;
+  high = address / 65536 % 256;
+  text = refl;
+  number = omega arith;
+}
+
+-- ---- the objects
+
+are_apart : (offset : ℤ) (x : Observation) (ys : List Observation)
+    → AreAlike offset (identification_at offset x) ys
+    → All (λ y. HasWidth y.value) ys → All (IsFit offset) ys
+    → AreApart (layout_at offset (type_at offset x)) (flat_map (object_octets offset) ys) ys
+are_apart offset x [] alike widths fits = refl
+are_apart offset x (y ∷ ys) alike widths fits =
+    let width : HasWidth y.value = All-head (λ y. HasWidth y.value) y ys widths in
+    let fit : IsFit offset y = All-head (IsFit offset) y ys fits in (
+      address_octets y.address,
+      information_octets offset y,
+      flat_map (object_octets offset) ys,
+      refl,
+      addressed y.address fit.address.1,
+      informs_as offset x y alike.0 width fit,
+      are_apart offset x ys alike.1 (All-tail (λ y. HasWidth y.value) y ys widths) (All-tail (IsFit offset) y ys fits),
+    )
+
+are_in_sequence : (offset : ℤ) (x : Observation) (address : ℕ) (ys : List Observation)
+    → AreAlike offset (identification_at offset x) ys → AreConsecutive address ys
+    → All (λ y. HasWidth y.value) ys → All (IsFit offset) ys
+    → AreInSequence (layout_at offset (type_at offset x)) address (flat_map (information_octets offset) ys) ys
+are_in_sequence offset x address [] alike row widths fits = refl
+are_in_sequence offset x address (y ∷ ys) alike row widths fits =
+    let width : HasWidth y.value = All-head (λ y. HasWidth y.value) y ys widths in
+    let fit : IsFit offset y = All-head (IsFit offset) y ys fits in (
+      information_octets offset y,
+      flat_map (information_octets offset) ys,
+      refl,
+      row.0,
+      informs_as offset x y alike.0 width fit,
+      are_in_sequence offset x (address + 1) ys alike.1 row.1 (All-tail (λ y. HasWidth y.value) y ys widths)
+          (All-tail (IsFit offset) y ys fits),
+    )
+
+are_objects : (offset : ℤ) (x : Observation) (sequence : Bool) (xs : List Observation)
+    → AreAlike offset (identification_at offset x) (x ∷ xs)
+    → (sequence ≡ true → AreConsecutive x.address (x ∷ xs))
+    → All (λ y. HasWidth y.value) (x ∷ xs) → All (IsFit offset) (x ∷ xs)
+    → AreObjects (layout_at offset (type_at offset x)) sequence (objects_octets offset sequence (x ∷ xs)) (x ∷ xs)
+are_objects offset x false xs alike row widths fits = are_apart offset x (x ∷ xs) alike widths fits
+are_objects offset x true xs alike row widths fits =
+    let fit : IsFit offset x = All-head (IsFit offset) x xs fits in (
+      address_octets x.address,
+      x.address,
+      flat_map (information_octets offset) (x ∷ xs),
+      refl,
+      addressed x.address fit.address.1,
+      are_in_sequence offset x x.address (x ∷ xs) alike (row refl) widths fits,
+    )
+
+-- ---- the whole
+
+sequence_told : (sequence : Bool) (n : ℕ) → n ≤ 127 → is_set 7 (qualifier_of sequence n) ≡ sequence
+sequence_told true n few = eq-eqb ((128 + n) / 2 ^ 7 % 2) 1 (omega arith)
+sequence_told false n few = ne_eqb (n / 2 ^ 7 % 2) 1 (λ e. omega arith)
+
+number_told : (sequence : Bool) (n : ℕ) → n ≤ 127 → qualifier_of sequence n % 128 ≡ n
+number_told true n few = omega arith
+number_told false n few = omega arith
+
+-- an ASDU of these observations, originator 0
+abbrev pub asdu_of : ℤ → ℕ → ℕ → Observation → List Observation → Asdu
+asdu_of offset common cause x xs =
     record {
-      identification = identification;
+      identification = type_of x.value (is_some (tag_of offset x.stamp));
       cause = cause;
       originator = 0;
       common_address = common;
-      observations = x ∷ [];
+      observations = x ∷ xs;
     }
 
--- what is meant, once element and tag are shown
-abbrev after : ℕ → ℕ → ℕ → ℕ → Option (Value × Quality) → Option Stamp → Option Asdu
-after identification common cause address shown stamp =
-    (((shown >>= λ s. (stamp >>= λ t. Some (observation_of address s t))) >>= λ first. Some (first ∷ []))
-    >>= λ xs. Some (record {
-      identification = identification;
-      cause = cause;
-      originator = 0;
-      common_address = common;
-      observations = xs;
-    }))
-
--- the address and the common address that are read
-abbrev common_read : ℕ → ℕ
-common_read n = n % 256 + 256 * (n / 256 % 256)
-
-abbrev address_read : ℕ → ℕ
-address_read n = n % 256 + 256 * (n / 256 % 256) + 65536 * (n / 65536 % 256)
-
--- ---- without time
-
-untimed_means : (offset : ℤ) (common cause address : ℕ) (value : Value) (quality : Quality) → HasWidth value
-    → IsTrue (is_of_element value quality)
-    → asdu_meaning (monitor_types offset)
-    (spelling_with None common cause (observation_of address (value, quality) Untimed))
-    ≡ Some (one_of (type_of value false) (common_read common) cause
-    (observation_of (address_read address) (value, quality) Untimed))
-unfolding asdu_meaning objects_of objects_apart
-untimed_means offset common cause address (Single on) quality width fit =
-    ap (λ m. after 1 (common_read common) cause (address_read address) (option_map (λ x. (Single x.on, x.quality)) m)
-    (Some Untimed)) (single_again (record { on = on; quality = quality }) fit)
-untimed_means offset common cause address (Double state) quality width fit =
-    ap (λ m. after 3 (common_read common) cause (address_read address) (option_map (λ x. (Double x.state, x.quality)) m)
-    (Some Untimed)) (double_again (record { state = state; quality = quality }) fit)
-untimed_means offset common cause address (Word n) quality width fit =
-    ap (λ m. after 7 (common_read common) cause (address_read address) (option_map (λ x. (Word x.word, x.quality)) m)
-    (Some Untimed)) (word_again (record { word = n; quality = quality }) (fit, width))
-untimed_means offset common cause address (Scaled z) quality width fit =
-    ap (λ m. after 11 (common_read common) cause (address_read address)
-    (option_map (λ x. (Scaled x.value, x.quality)) m) (Some Untimed))
-    (scaled_again (record { value = z; quality = quality }) (fit, width))
-untimed_means offset common cause address (Total n) quality width fit =
-    ap (λ m. after 15 (common_read common) cause (address_read address) (option_map (λ x. (Total x.count, x.quality)) m)
-    (Some Untimed)) (counter_again (record { count = n; quality = quality }) (fit, width))
-
--- ---- with time
-
--- a tag as its seven octets
-abbrev seven : ℕ → ℕ → ℕ → ℕ → ℕ → ℕ → ℕ → List ℕ
-seven a b c d e f g = a ∷ b ∷ c ∷ d ∷ e ∷ f ∷ g ∷ []
-
-shown_means : (offset : ℤ) (common cause address : ℕ) (value : Value) (quality : Quality) (a b c d e f g : ℕ)
-    (stamp : Stamp) → HasWidth value → IsTrue (is_of_element value quality)
-    → asdu_meaning (monitor_types offset)
-    (spelling_with (Some (seven a b c d e f g)) common cause (observation_of address (value, quality) stamp))
-    ≡ after (type_of value true) (common_read common) cause (address_read address) (Some (value, quality))
-    (result_ok (tag_meaning offset (seven a b c d e f g)))
-unfolding asdu_meaning objects_of objects_apart
-shown_means offset common cause address (Single on) quality a b c d e f g stamp width fit =
-    ap (λ m. after 30 (common_read common) cause (address_read address) (option_map (λ x. (Single x.on, x.quality)) m)
-    (result_ok (tag_meaning offset (seven a b c d e f g)))) (single_again (record { on = on; quality = quality }) fit)
-shown_means offset common cause address (Double state) quality a b c d e f g stamp width fit =
-    ap (λ m. after 31 (common_read common) cause (address_read address)
-    (option_map (λ x. (Double x.state, x.quality)) m) (result_ok (tag_meaning offset (seven a b c d e f g))))
-    (double_again (record { state = state; quality = quality }) fit)
-shown_means offset common cause address (Word n) quality a b c d e f g stamp width fit =
-    ap (λ m. after 33 (common_read common) cause (address_read address) (option_map (λ x. (Word x.word, x.quality)) m)
-    (result_ok (tag_meaning offset (seven a b c d e f g))))
-    (word_again (record { word = n; quality = quality }) (fit, width))
-shown_means offset common cause address (Scaled z) quality a b c d e f g stamp width fit =
-    ap (λ m. after 35 (common_read common) cause (address_read address)
-    (option_map (λ x. (Scaled x.value, x.quality)) m) (result_ok (tag_meaning offset (seven a b c d e f g))))
-    (scaled_again (record { value = z; quality = quality }) (fit, width))
-shown_means offset common cause address (Total n) quality a b c d e f g stamp width fit =
-    ap (λ m. after 37 (common_read common) cause (address_read address) (option_map (λ x. (Total x.count, x.quality)) m)
-    (result_ok (tag_meaning offset (seven a b c d e f g))))
-    (counter_again (record { count = n; quality = quality }) (fit, width))
-
--- the same for any tag of seven octets that means the stamp
-timed_means : (offset : ℤ) (common cause address : ℕ) (value : Value) (quality : Quality) (tag : List ℕ) (stamp : Stamp)
-    → HasWidth value → IsTrue (is_of_element value quality)
-    → length tag ≡ 7 → tag_meaning offset tag ≡ Ok stamp
-    → asdu_meaning (monitor_types offset)
-    (spelling_with (Some tag) common cause (observation_of address (value, quality) stamp))
-    ≡ Some (one_of (type_of value true) (common_read common) cause
-    (observation_of (address_read address) (value, quality) stamp))
-timed_means offset common cause address value quality (a ∷ b ∷ c ∷ d ∷ e ∷ f ∷ g ∷ []) stamp width fit long meant =
-    shown_means offset common cause address value quality a b c d e f g stamp width fit
-    ∙ ap (λ r. after (type_of value true) (common_read common) cause (address_read address) (Some (value, quality))
-    (result_ok r)) meant
-timed_means offset common cause address value quality _ stamp width fit long meant = absurd (omega arith)
-
--- ---- numbers again
-
-common_again : (n : ℕ) → n < 65536 → common_read n ≡ n
-common_again n small = omega arith
-
-address_again : (n : ℕ) → n < 16777216 → address_read n ≡ n
-address_again n small = omega arith
-
-one_same : (identification common cause address m a : ℕ) (value : Value) (quality : Quality) (stamp : Stamp)
-    → m ≡ common → a ≡ address
-    → one_of identification m cause (observation_of a (value, quality) stamp)
-    ≡ one_of identification common cause (observation_of address (value, quality) stamp)
-one_same identification common cause address m a value quality stamp em ea = cc
-
--- ---- whole
-
--- an observation with its parts: of a stamp that has this tag, or of none where it is untimed
-with_tag : (offset : ℤ) (common cause address : ℕ) (value : Value) (quality : Quality) (stamp : Stamp)
-    (tag : Option (List ℕ)) → common < 65536 → address < 16777216 → HasWidth value
-    → IsTrue (is_of_element value quality) → IsSomeAnd tag (IsTagOf offset stamp)
-    → asdu_meaning (monitor_types offset)
-    (spelling_with tag common cause (observation_of address (value, quality) stamp))
-    ≡ Some (one_of (type_of value (is_some tag)) common cause (observation_of address (value, quality) stamp))
-with_tag offset common cause address value quality stamp None small low width fit h = absurd h
-with_tag offset common cause address value quality stamp (Some tag) small low width fit h =
-    timed_means offset common cause address value quality tag stamp width fit h.seven.seven h.meant
-    ∙ ap Some (one_same (type_of value true) common cause address _ _ value quality stamp (common_again common small)
-    (address_again address low))
-
-by_stamp : (offset : ℤ) (common cause address : ℕ) (value : Value) (quality : Quality) (stamp : Stamp) → common < 65536
-    → address < 16777216 → HasWidth value
-    → IsTrue (is_of_element value quality) → IsInWindow offset stamp
-    → asdu_meaning (monitor_types offset) (spelling offset common cause (observation_of address (value, quality) stamp))
-    ≡ Some (one_of (type_of value (is_some (tag_of offset stamp))) common cause
-    (observation_of address (value, quality) stamp))
-by_stamp offset common cause address value quality Untimed small low width fit h =
-    untimed_means offset common cause address value quality width fit
-    ∙ ap Some (one_same (type_of value false) common cause address _ _ value quality Untimed (common_again common small)
-    (address_again address low))
-by_stamp offset common cause address value quality (At t) small low width fit h =
-    with_tag offset common cause address value quality (At t) _ small low width fit
-    (tag_in_window offset false t ((window_is_century offset t).1 h))
-by_stamp offset common cause address value quality (Doubtful t) small low width fit h =
-    with_tag offset common cause address value quality (Doubtful t) _ small low width fit
-    (tag_in_window offset true t ((window_is_century offset t).1 h))
+list_means : (offset : ℤ) (sequence : Bool) (common cause : ℕ) (x : Observation) (xs : List Observation)
+    → common < 65536 → length (x ∷ xs) ≤ 127 → AreAlike offset (identification_at offset x) (x ∷ xs)
+    → (sequence ≡ true → AreConsecutive x.address (x ∷ xs))
+    → All (λ y. HasWidth y.value) (x ∷ xs) → All (IsFit offset) (x ∷ xs)
+    → asdu_meaning (monitor_types offset) (list_spelling offset sequence common cause (x ∷ xs))
+    ≡ Some (asdu_of offset common cause x xs)
+unfolding list_spelling
+list_means offset sequence common cause x xs small few alike row widths fits =
+    let types = monitor_types offset in
+    let layout = layout_at offset (type_at offset x) in
+    let qualifier = qualifier_of sequence (length (x ∷ xs)) in
+    let objects = objects_octets offset sequence (x ∷ xs) in
+    let are : AreObjects layout (is_set 7 qualifier) objects (x ∷ xs) =
+    subst (λ (s : Bool). AreObjects layout s objects (x ∷ xs)) (sym (sequence_told sequence (length (x ∷ xs)) few))
+    (are_objects offset x sequence xs alike row widths fits) in
+    (meaning_is_spelled types (list_spelling offset sequence common cause (x ∷ xs))
+    (asdu_of offset common cause x xs)).1 (record {
+      qualifier = qualifier;
+      low = common % 256;
+      high = common / 256 % 256;
+      objects = objects;
+      text = refl;
+      common = omega arith;
+      layout = layout;
+      known = type_known offset (element_kind x.value) (is_some (tag_of offset x.stamp));
+      number = sym (number_told sequence (length (x ∷ xs)) few);
+      some = omega arith;
+      are = are;
+    })
 
 -- what is spelled for a fit observation means it, with the cause and the common address
 pub meant : (offset : ℤ) (common cause : ℕ) (x : Observation) → common < 65536 → HasWidth x.value → IsFit offset x
     → asdu_meaning (monitor_types offset) (spelling offset common cause x)
-    ≡ Some (one_of (type_of x.value (is_some (tag_of offset x.stamp))) common cause x)
+    ≡ Some (asdu_of offset common cause x [])
 meant offset common cause x small width fit =
-    by_stamp offset common cause x.address x.value x.quality x.stamp small
-    (omega (arith, fit.address)) width fit.element fit.stamp
+    ap (λ (o : List ℕ). asdu_meaning (monitor_types offset) o) (sym (spelled_alone offset common cause x))
+    ∙ list_means offset false common cause x [] small (omega arith) (refl, tt) (λ e. absurd cc)
+    (All-cons (λ y. HasWidth y.value) x [] width (All-nil (λ y. HasWidth y.value)))
+    (All-cons (IsFit offset) x [] fit (All-nil (IsFit offset)))
 
--- the same of the first of a list
-pub meant_of_first : (offset : ℤ) (common cause : ℕ) (xs : List Observation) (octets : List ℕ) → 0 < length xs
-    → IfSome (slice_get xs 0) (λ x. octets ≡ spelling offset common cause x)
-    → IfSome (slice_get xs 0) (λ x. HasWidth x.value) → common < 65536 → All (IsFit offset) (take 1 xs)
-    → IsSomeAnd (asdu_meaning (monitor_types offset) octets) (λ asdu. (asdu.cause ≡ cause) × (asdu.originator ≡ 0)
-    × (asdu.common_address ≡ common) × (asdu.observations ≡ take 1 xs))
-meant_of_first offset common cause [] octets some spelled width small fits = absurd (omega arith)
-meant_of_first offset common cause (x ∷ xs) octets some spelled width small fits =
-    let fit : IsFit offset x = All-head (IsFit offset) x [] fits in
-    let e = ap (λ (o : List ℕ). asdu_meaning (monitor_types offset) o) spelled
-    ∙ meant offset common cause x small width fit in
-    rw e (refl, refl, refl, refl)
+-- what is spelled for a list means the observations that are taken
+pub packed_meant : (offset : ℤ) (common cause : ℕ) (xs : List Observation) → 0 < length xs → common < 65536
+    → All (λ y. HasWidth y.value) (take (taken_of offset xs) xs) → All (IsFit offset) (take (taken_of offset xs) xs)
+    → IsSomeAnd (asdu_meaning (monitor_types offset) (packed_spelling offset common cause xs)) (λ asdu.
+    (asdu.cause ≡ cause) × (asdu.originator ≡ 0) × (asdu.common_address ≡ common)
+    × (asdu.observations ≡ take (taken_of offset xs) xs))
+unfolding packed_spelling
+packed_meant offset common cause [] some small widths fits = absurd (omega arith)
+packed_meant offset common cause (x ∷ xs) some small widths fits =
+    go (taken_of offset (x ∷ xs)) c.some c.few c.alike c.consecutive widths fits
+  where
+    sequence : Bool
+    sequence = is_in_sequence offset (x ∷ xs)
+
+    c : Carries offset x xs sequence (taken_of offset (x ∷ xs))
+    c = carried offset x xs
+
+    go : (n : ℕ) → 0 < n → n ≤ 127 → AreAlike offset (identification_at offset x) (take n (x ∷ xs))
+        → (sequence ≡ true → AreConsecutive x.address (take n (x ∷ xs)))
+        → All (λ y. HasWidth y.value) (take n (x ∷ xs)) → All (IsFit offset) (take n (x ∷ xs))
+        → IsSomeAnd (asdu_meaning (monitor_types offset)
+        (list_spelling offset sequence common cause (take n (x ∷ xs)))) (λ asdu.
+        (asdu.cause ≡ cause) × (asdu.originator ≡ 0) × (asdu.common_address ≡ common)
+        × (asdu.observations ≡ take n (x ∷ xs)))
+    go zero some few alike row widths fits = absurd (omega arith)
+    go (suc n) some few alike row widths fits =
+        rw (list_means offset sequence common cause x (take n xs) small (omega (arith, length-take n xs)) alike row
+        widths fits) (refl, refl, refl, refl)
+
+-- the same of what was written
+pub written_meant : (offset : ℤ) (common cause : ℕ) (xs : List Observation) (octets : List ℕ) (taken : ℕ)
+    → 0 < length xs → common < 65536 → taken ≡ taken_of offset xs
+    → octets ≡ packed_spelling offset common cause xs
+    → All (λ y. HasWidth y.value) (take taken xs) → All (IsFit offset) (take taken xs)
+    → IsSomeAnd (asdu_meaning (monitor_types offset) octets) (λ asdu.
+    (asdu.cause ≡ cause) × (asdu.originator ≡ 0) × (asdu.common_address ≡ common)
+    × (asdu.observations ≡ take taken xs))
+written_meant offset common cause xs octets taken some small is spelled =
+    rw (is, spelled) (packed_meant offset common cause xs some small)

@@ -1,11 +1,14 @@
 -- Short words for the worked examples: qualities, observations, ASDUs of originator 0, and what octets mean.
-use Rattle.std.specs.Prelude.{ℕ, pos, true, false, List, Option, Result}
+use Rattle.std.specs.Prelude.{ℕ, pos, Bool, true, false, List, map, Option, Result}
 use Rattle.gw_model.specs.declared.point.Stamp.TheVariants.{Untimed, At, Doubtful}
 use Rattle.gw_model.specs.declared.observation.Value.{Value}
+use Rattle.gw_model.specs.declared.observation.Value.TheVariants.{Single, Double}
 use Rattle.gw_model.specs.declared.observation.Quality.{Quality}
 use Rattle.gw_model.specs.declared.observation.Observation.{Observation}
 use Rattle.iec_asdu.specs.declared.fault.AsduFault.{AsduFault}
-use Rattle.iec_asdu.specs.Asdu.{Asdu, monitor_types, asdu_meaning}
+use Rattle.iec_asdu.specs.Types.{type_length}
+use Rattle.iec_asdu.specs.Asdu.{Asdu, element_kinds, monitor_types, asdu_meaning}
+use Rattle.iec_asdu.specs.Packing.{room_apart, room_in_sequence, is_in_sequence, taken_of}
 use Rattle.iec_asdu.specs.Reading.{asdu_read}
 
 -- no bit set
@@ -41,6 +44,13 @@ abbrev pub untimed_observation : ℕ → Value → Quality → Observation
 untimed_observation address value quality =
     record { address = address; value = value; quality = quality; stamp = Untimed }
 
+-- a single-point and a double-point that are on
+abbrev pub single_on : ℕ → Observation
+single_on address = untimed_observation address (Single true) good
+
+abbrev pub double_on : ℕ → Observation
+double_on address = untimed_observation address (Double 2) good
+
 -- an observation at an instant, and one in doubt
 abbrev pub timed_observation : ℕ → Value → Quality → ℕ → Observation
 timed_observation address value quality t =
@@ -49,6 +59,10 @@ timed_observation address value quality t =
 abbrev pub doubtful_observation : ℕ → Value → Quality → ℕ → Observation
 doubtful_observation address value quality t =
     record { address = address; value = value; quality = quality; stamp = Doubtful t }
+
+-- a single-point with time
+abbrev pub single_event : ℕ → Observation
+single_event address = timed_observation address (Single true) good 1700000000000
 
 -- type identification, cause, common address and observations
 abbrev pub asdu : ℕ → ℕ → ℕ → List Observation → Asdu
@@ -66,3 +80,15 @@ meaning octets = asdu_meaning (monitor_types (pos 0)) octets
 
 abbrev pub reading : List ℕ → Result Asdu AsduFault
 reading octets = asdu_read (monitor_types (pos 0)) octets
+
+-- how many observations one ASDU carries, and whether under SQ 1, at a station whose clocks show UTC
+abbrev pub packing : List Observation → Bool × ℕ
+packing xs = (is_in_sequence (pos 0) xs, taken_of (pos 0) xs)
+
+-- how many objects of each element fit, under SQ 0 without time and with time, and under SQ 1
+abbrev pub rooms_apart : Bool → List ℕ
+rooms_apart timed = map (λ kind. room_apart (type_length (record { element = kind; timed = timed }))) element_kinds
+
+abbrev pub rooms_in_sequence : List ℕ
+rooms_in_sequence =
+    map (λ kind. room_in_sequence (type_length (record { element = kind; timed = false }))) element_kinds

@@ -7,4 +7,7 @@ pub mod Reading
 pub mod Types
 pub mod Contents
 pub mod Spelling
+pub mod Packing
+pub mod Fitting
+pub mod Buffer
 pub mod Example

@@ -1,5 +1,7 @@
--- How one observation is spelled as an ASDU: with time, where its stamp has a tag, and without one elsewhere.
-use Rattle.std.specs.Prelude.{ℕ, ℤ, Bool, List, [], ◌∷◌, ◌++◌, take, Option, Some, None}
+-- How observations are spelled as an ASDU, one or more of one type: with time, where the stamp has a tag, and without
+-- one elsewhere.
+use Rattle.std.specs.Prelude.{ℕ, ℤ, ◌+◌, Bool, true, false, List, [], ◌∷◌, ◌++◌, length, take, Option, Some, None, if◌then◌else◌}
+use Rattle.std.specs.List.{flat_map}
 use Rattle.std.specs.Option.{is_some}
 use Rattle.std.specs.Int.{w16, w32, to_le_bytes}
 use Rattle.gw_model.specs.declared.observation.Value.{Value}
@@ -47,3 +49,42 @@ spelling_with tag common cause x =
 -- the ASDU of an observation, at a station whose clocks are offset minutes ahead of UTC
 abbrev pub spelling : ℤ → ℕ → ℕ → Observation → List ℕ
 spelling offset common cause x = spelling_with (tag_of offset x.stamp) common cause x
+
+-- ---- several of one type
+
+-- an address, low octet first
+abbrev pub address_octets : ℕ → List ℕ
+address_octets address = take 3 (to_le_bytes w32 address)
+
+-- element and time tag of an observation
+abbrev pub information_octets : ℤ → Observation → List ℕ
+information_octets offset x = element_spelling x.value x.quality ++ tag_octets (tag_of offset x.stamp)
+
+-- the same behind its address
+abbrev pub object_octets : ℤ → Observation → List ℕ
+object_octets offset x = address_octets x.address ++ information_octets offset x
+
+-- SQ 0: each object with its address; SQ 1: the first one's address, then element behind element
+abbrev pub objects_octets : ℤ → Bool → List Observation → List ℕ
+objects_octets offset false xs = flat_map (object_octets offset) xs
+objects_octets offset true [] = []
+objects_octets offset true (x ∷ xs) = address_octets x.address ++ flat_map (information_octets offset) (x ∷ xs)
+
+-- the variable structure qualifier: SQ, and the number of objects
+abbrev pub qualifier_of : Bool → ℕ → ℕ
+qualifier_of sequence n = if sequence then 128 + n else n
+
+-- the type identification of an observation
+abbrev pub identification_at : ℤ → Observation → ℕ
+identification_at offset x = type_of x.value (is_some (tag_of offset x.stamp))
+
+-- the header before these objects, originator 0
+abbrev pub header_octets : ℤ → Bool → ℕ → ℕ → List Observation → List ℕ
+header_octets offset sequence common cause [] = []
+header_octets offset sequence common cause (x ∷ xs) =
+    identification_at offset x ∷ qualifier_of sequence (length (x ∷ xs)) ∷ cause ∷ 0 ∷ to_le_bytes w16 common
+
+-- the ASDU of observations that are of the first one's type, under this SQ
+unfoldable pub list_spelling : ℤ → Bool → ℕ → ℕ → List Observation → List ℕ
+list_spelling offset sequence common cause xs =
+    header_octets offset sequence common cause xs ++ objects_octets offset sequence xs

@@ -3,8 +3,9 @@ ghost use Rattle.std.specs.Prelude.{◌≡◌, pos, negsuc, true, false, [], ◌
 ghost use Rattle.gw_model.specs.declared.observation.Value.TheVariants.{Single, Double, Scaled, Word, Total};
 ghost use Rattle.iec_asdu.specs.declared.fault.AsduFault.TheVariants.{Short, Long, UnknownType, ZeroObjects, Reserved, Tag};
 ghost use Rattle.iec_asdu.specs.Asdu.{monitor_types, asdu_meaning};
+ghost use Rattle.iec_asdu.specs.Packing.{packed_spelling};
 ghost use Rattle.iec_asdu.specs.Spelling.{spelling};
-ghost use Rattle.iec_asdu.specs.Example.{meaning, reading, good, invalid, all_flags, invalid_not_topical, overflow, carry, not_topical, asdu, untimed_observation, timed_observation, doubtful_observation};
+ghost use Rattle.iec_asdu.specs.Example.{meaning, reading, good, invalid, all_flags, invalid_not_topical, overflow, carry, not_topical, asdu, untimed_observation, timed_observation, doubtful_observation, single_on, double_on, single_event, packing, rooms_apart, rooms_in_sequence};
 
 /// What the octets of some ASDUs mean.
 #[tactic(auto, unfolding(crate::specs::Asdu::asdu_meaning, crate::specs::Asdu::objects_of, crate::specs::Asdu::objects_apart, crate::specs::Asdu::objects_in_sequence))]
@@ -101,6 +102,35 @@ pub fn timed_examples()
         (0x1E ∷ 0x01 ∷ 0x03 ∷ 0x00 ∷ 0x01 ∷ 0x00 ∷ 0x05 ∷ 0x10 ∷ 0x00 ∷ 0x01 ∷ 0x00 ∷ 0x00 ∷ 0x00 ∷ 0x00 ∷ 0x1E
         ∷ 0x02 ∷ 0x17 ∷ [])
         ≡ None }
+{}
+
+/// What one ASDU carries of a list, and how it is spelled.
+#[tactic(auto, unfolding(crate::specs::Packing::is_in_sequence, crate::specs::Packing::taken_of, crate::specs::Packing::apart_count, crate::specs::Packing::in_sequence_count, crate::specs::Packing::alike_count, crate::specs::Packing::consecutive_count, crate::specs::Packing::packed_spelling, crate::specs::Spelling::list_spelling, gw_time::specs::Spelling::tag_showing))]
+pub fn packing_examples()
+    // How many fit: single-points, double-points, bit strings, scaled values and totals.
+    ensures most_apart { rooms_apart false ≡ 60 ∷ 60 ∷ 30 ∷ 40 ∷ 30 ∷ [] }
+    ensures most_timed { rooms_apart true ≡ 22 ∷ 22 ∷ 16 ∷ 18 ∷ 16 ∷ [] }
+    ensures most_in_sequence { rooms_in_sequence ≡ 127 ∷ 127 ∷ 48 ∷ 80 ∷ 48 ∷ [] }
+    // One observation; two at consecutive addresses, up to the last; an address twice; descending addresses; a gap.
+    ensures one { packing (single_on 4101 ∷ []) ≡ (false, 1) }
+    ensures two { packing (single_on 4101 ∷ single_on 4102 ∷ []) ≡ (true, 2) }
+    ensures last { packing (single_on 16777214 ∷ single_on 16777215 ∷ []) ≡ (true, 2) }
+    ensures twice { packing (single_on 4101 ∷ single_on 4101 ∷ []) ≡ (false, 2) }
+    ensures descending { packing (single_on 4102 ∷ single_on 4101 ∷ []) ≡ (false, 2) }
+    ensures gap { packing (single_on 4101 ∷ single_on 4102 ∷ single_on 4104 ∷ []) ≡ (false, 3) }
+    // Another type ends the prefix, and so does an observation with time behind one without, and without behind one
+    // with.
+    ensures mixed { packing (single_on 4101 ∷ single_on 4102 ∷ double_on 4103 ∷ []) ≡ (true, 2) }
+    ensures ahead { packing (single_on 4101 ∷ double_on 4102 ∷ single_on 4103 ∷ []) ≡ (false, 1) }
+    ensures then_timed { packing (single_on 4101 ∷ single_event 4102 ∷ []) ≡ (false, 1) }
+    ensures then_untimed { packing (single_event 4101 ∷ single_event 4102 ∷ single_on 4103 ∷ []) ≡ (false, 2) }
+    // Three single-points at consecutive addresses, interrogated, under SQ 1; an address twice, under SQ 0.
+    ensures in_sequence { packed_spelling (pos 0) 1 20
+        (untimed_observation 4101 (Single true) good ∷ untimed_observation 4102 (Single false) good
+        ∷ untimed_observation 4103 (Single false) invalid_not_topical ∷ [])
+        ≡ 0x01 ∷ 0x83 ∷ 0x14 ∷ 0x00 ∷ 0x01 ∷ 0x00 ∷ 0x05 ∷ 0x10 ∷ 0x00 ∷ 0x01 ∷ 0x00 ∷ 0xC0 ∷ [] }
+    ensures apart { packed_spelling (pos 0) 1 3 (single_on 4101 ∷ untimed_observation 4101 (Single false) good ∷ [])
+        ≡ 0x01 ∷ 0x02 ∷ 0x03 ∷ 0x00 ∷ 0x01 ∷ 0x00 ∷ 0x05 ∷ 0x10 ∷ 0x00 ∷ 0x01 ∷ 0x05 ∷ 0x10 ∷ 0x00 ∷ 0x00 ∷ [] }
 {}
 
 /// The first fault of octets that mean nothing.

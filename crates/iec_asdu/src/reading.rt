@@ -9,17 +9,11 @@ ghost use Rattle.iec_asdu.specs.Types.{layout_at, type_length};
 ghost use Rattle.iec_asdu.specs.Contents.{contents_of, Spells, monitor_contents, contents_read};
 
 use crate::fault::AsduFault;
+use crate::sizes::{ADDRESS_OCTETS, HEADER_OCTETS};
 use crate::types::MonitorType;
 use gw_model::Observation;
 use gw_time::Zone;
 use std::alloc::Global;
-
-/// How many octets the header of an ASDU has: type, variable structure qualifier, cause, originator and
-/// common address.
-const HEADER_OCTETS: usize = 6;
-
-/// How many octets an information object address has.
-const ADDRESS_OCTETS: usize = 3;
 
 /// What an ASDU in monitor direction tells.
 #[derive(Drop)]

@@ -5,11 +5,9 @@ ghost use Rattle.iec_asdu.specs.Spelling.{type_of};
 
 use crate::elements::{BitString, CounterReading, DoublePoint, ScaledValue, SinglePoint};
 use crate::fault::AsduFault;
+use crate::sizes::TAG_OCTETS;
 use gw_model::{Element, Quality, Stamp, Value};
 use gw_time::{Zone, from_tag};
-
-/// How many octets a time tag, CP56Time2a, has.
-pub const TAG_OCTETS: usize = 7;
 
 /// Single-point information.
 const M_SP_NA_1: u8 = 1;
@@ -70,7 +68,21 @@ pub enum ElementKind {
 }
 
 impl ElementKind {
+    ghost use Rattle.iec_asdu.specs.Spelling.{element_kind};
     ghost use Rattle.iec_asdu.specs.Types.{element_length, element_value};
+
+    /// The element that carries a value.
+    pub fn of(value: Value) -> ElementKind
+        ensures { result ≡ element_kind value }
+    {
+        match value {
+            Value::Single(_) => ElementKind::SinglePoint,
+            Value::Double(_) => ElementKind::DoublePoint,
+            Value::Word(_) => ElementKind::BitString,
+            Value::Scaled(_) => ElementKind::ScaledValue,
+            Value::Total(_) => ElementKind::CounterReading,
+        }
+    }
 
     /// How many octets the element has.
     pub fn octets(self) -> usize

@@ -1,17 +1,23 @@
 //! Writing ASDUs with process information.
-ghost use Rattle.std.specs.Prelude.{◌≡◌, ◌+◌, ◌<◌, ◌≤◌, ◌++◌, length, take, drop, slice_get, All, IfSome, IsSomeAnd};
-ghost use Rattle.std.specs.Option.{is_some};
+ghost use Rattle.std.specs.Prelude.{◌≡◌, ◌+◌, ◌<◌, ◌≤◌, length, take, drop, All, IsSomeAnd};
+ghost use Rattle.std.specs.List.{flat_map};
 ghost use Rattle.gw_model.specs.Fit.{HasWidth, IsFit};
 ghost use Rattle.iec_asdu.specs.Asdu.{monitor_types, asdu_meaning};
-ghost use Rattle.iec_asdu.specs.Spelling.{element_spelling, tag_octets, spelling};
+ghost use Rattle.iec_asdu.specs.Packing.{taken_of, packed_spelling};
+ghost use Rattle.iec_asdu.specs.Spelling.{element_spelling, address_octets, information_octets, object_octets, objects_octets, header_octets};
+ghost use Rattle.iec_asdu.specs.Buffer.{Writes};
 
 use crate::elements::{BitString, CounterReading, DoublePoint, ScaledValue, SinglePoint};
-use crate::types::identification_of;
+use crate::packing::{identification_at, packing_of};
+use crate::sizes::{ADDRESS_OCTETS, HEADER_OCTETS, TAG_OCTETS};
 use gw_model::{Element, Observation, Quality, Value};
 use gw_time::{Zone, to_tag};
 
 /// The cause of transmission spontaneous (IEC 60870-5-101, 7.2.3).
 pub const SPONTANEOUS: u8 = 3;
+
+/// SQ, bit 7 of the variable structure qualifier.
+const SEQUENCE: u8 = 128;
 
 /// What became of a list of observations.
 #[derive(Clone, Copy)]
@@ -22,89 +28,152 @@ pub struct Written {
     pub taken: usize,
 }
 
-/// Writes the element of a value behind the nine octets of the header and of an address. Answers
-/// where it ends.
-fn write_element(value: Value, quality: Quality, out: &mut [u8; 249]) -> usize
-    ensures end { result ≡ 9 + length (element_spelling value quality) }
-    ensures room { result ≤ 14 }
-    ensures element { take (length (element_spelling value quality)) (drop 9 out.new) ≡ element_spelling value quality }
+/// Writes the element of a value. Answers where it ends.
+fn write_element(value: Value, quality: Quality, start: usize, out: &mut [u8; 249]) -> usize
+    requires { start + length (element_spelling value quality) ≤ 249 }
+    ensures written { Writes start result out.old out.new (element_spelling value quality) }
     ensures width { HasWidth value }
-    ensures rest { drop result out.new ≡ drop result out.old }
 {
     match value {
         Value::Single(on) => {
-            SinglePoint { on, quality }.write(&mut out[9..10]);
-            10
+            SinglePoint { on, quality }.write(&mut out[start..start + 1]);
+            start + 1
         }
         Value::Double(state) => {
-            DoublePoint { state, quality }.write(&mut out[9..10]);
-            10
+            DoublePoint { state, quality }.write(&mut out[start..start + 1]);
+            start + 1
         }
         Value::Word(word) => {
-            BitString { word, quality }.write(&mut out[9..14]);
-            14
+            BitString { word, quality }.write(&mut out[start..start + 5]);
+            start + 5
         }
         Value::Scaled(value) => {
-            ScaledValue { value, quality }.write(&mut out[9..12]);
-            12
+            ScaledValue { value, quality }.write(&mut out[start..start + 3]);
+            start + 3
         }
         Value::Total(count) => {
-            CounterReading { count, quality }.write(&mut out[9..14]);
-            14
+            CounterReading { count, quality }.write(&mut out[start..start + 5]);
+            start + 5
         }
     }
 }
 
-/// Writes the element of a value and behind it its time tag, if there is one. Answers where they end.
+/// Writes the element of an observation and behind it its time tag, if it has one. Answers where they end.
 fn write_information(
-    value: Value,
-    quality: Quality,
-    tag: Option<[u8; 7]>,
+    observation: &Observation,
+    zone: &Zone,
+    start: usize,
     out: &mut [u8; 249],
 ) -> usize
-    ensures end { result ≡ 9 + length (element_spelling value quality ++ tag_octets tag) }
-    ensures room { result ≤ 21 }
-    ensures information { let information = element_spelling value quality ++ tag_octets tag in
-        take (length information) (drop 9 out.new) ≡ information }
-    ensures width { HasWidth value }
-    ensures rest { drop result out.new ≡ drop result out.old }
+    requires { start + length (information_octets zone.now.offset_minutes observation.now) ≤ 249 }
+    ensures written { Writes start result out.old out.new
+        (information_octets zone.now.offset_minutes observation.now) }
+    ensures width { HasWidth observation.now.value }
 {
-    let end = write_element(value, quality, out);
+    let tag = to_tag(observation.stamp, zone);
+    let end = write_element(observation.value, observation.quality, start, out);
     let Some(tag) = tag else {
         return end;
     };
-    out[end..end + 7].copy_from_slice(&tag);
-    end + 7
+    out[end..end + TAG_OCTETS].copy_from_slice(&tag);
+    end + TAG_OCTETS
 }
 
-/// Writes the ASDU of the first observation at the front, and answers how many octets it has.
-fn write_first(
+/// Writes an address. Answers where it ends.
+fn write_address(address: u32, start: usize, out: &mut [u8; 249]) -> usize
+    requires { start + 3 ≤ 249 }
+    ensures { Writes start result out.old out.new (address_octets address) }
+{
+    let [a, b, c, _] = address.to_le_bytes();
+    out[start..start + ADDRESS_OCTETS].copy_from_slice(&[a, b, c]);
+    start + ADDRESS_OCTETS
+}
+
+/// Writes each object with its address. Answers where they end.
+fn write_apart(
+    observations: &[Observation],
+    zone: &Zone,
+    start: usize,
+    out: &mut [u8; 249],
+) -> usize
+    requires { start + length (flat_map (object_octets zone.now.offset_minutes) observations.now) ≤ 249 }
+    ensures written { Writes start result out.old out.new
+        (flat_map (object_octets zone.now.offset_minutes) observations.now) }
+    ensures width { All (λ x. HasWidth x.value) observations.now }
+{
+    let mut end = start;
+    for observation in observations {
+        let behind = write_address(observation.address, end, out);
+        end = write_information(observation, zone, behind, out);
+    }
+    end
+}
+
+/// Writes element behind element. Answers where they end.
+fn write_elements(
+    observations: &[Observation],
+    zone: &Zone,
+    start: usize,
+    out: &mut [u8; 249],
+) -> usize
+    requires { start + length (flat_map (information_octets zone.now.offset_minutes) observations.now) ≤ 249 }
+    ensures written { Writes start result out.old out.new
+        (flat_map (information_octets zone.now.offset_minutes) observations.now) }
+    ensures width { All (λ x. HasWidth x.value) observations.now }
+{
+    let mut end = start;
+    for observation in observations {
+        end = write_information(observation, zone, end, out);
+    }
+    end
+}
+
+/// Writes the objects behind the header. Answers where they end.
+fn write_objects(
+    sequence: bool,
+    observations: &[Observation],
+    zone: &Zone,
+    out: &mut [u8; 249],
+) -> usize
+    requires some { 0 < length observations.now }
+    requires room { 6 + length (objects_octets zone.now.offset_minutes sequence observations.now) ≤ 249 }
+    ensures written { Writes 6 result out.old out.new
+        (objects_octets zone.now.offset_minutes sequence observations.now) }
+    ensures width { All (λ x. HasWidth x.value) observations.now }
+{
+    if sequence {
+        let start = write_address(observations[0].address, HEADER_OCTETS, out);
+        write_elements(observations, zone, start, out)
+    } else {
+        write_apart(observations, zone, HEADER_OCTETS, out)
+    }
+}
+
+/// Writes the header before so many objects.
+fn write_header(
+    sequence: bool,
     observations: &[Observation],
     common: u16,
     cause: u8,
     zone: &Zone,
     out: &mut [u8; 249],
-) -> usize
-    requires { 0 < length observations.now }
-    ensures room { result ≤ 249 }
-    ensures spelled { IfSome (slice_get observations.now 0) (λ x.
-        take result out.new ≡ spelling zone.now.offset_minutes common cause x) }
-    ensures width { IfSome (slice_get observations.now 0) (λ x. HasWidth x.value) }
-    ensures rest { drop result out.new ≡ drop result out.old }
+)
+    requires some { 0 < length observations.now }
+    requires few { length observations.now ≤ 127 }
+    ensures { Writes 0 6 out.old out.new
+        (header_octets zone.now.offset_minutes sequence common cause observations.now) }
 {
-    let first = observations[0];
-    let tag = to_tag(first.stamp, zone);
-    let octets = write_information(first.value, first.quality, tag, out);
-    let identification = identification_of(first.value, tag.is_some());
+    let identification = identification_at(&observations[0], zone);
+    let number = observations.len() as u8;
+    let qualifier = if sequence { SEQUENCE + number } else { number };
     let [low, high] = common.to_le_bytes();
-    let [a, b, c, _] = first.address.to_le_bytes();
-    out[..9].copy_from_slice(&[identification, 1, cause, 0, low, high, a, b, c]);
-    octets
+    out[..HEADER_OCTETS].copy_from_slice(&[identification, qualifier, cause, 0, low, high]);
 }
 
-/// Writes the ASDU of the first observation: one object under SQ 0, originator 0, with time where its
-/// stamp has a time tag, and without elsewhere. `cause` is the whole octet of the cause of transmission,
-/// `zone` the offset of the station's clocks.
+/// Writes the ASDU of as many observations from the front as it carries: of one type, with time where their
+/// stamps have a time tag, and without elsewhere; under SQ 1 where they stand at consecutive addresses and
+/// no fewer of them fit than under SQ 0, else under SQ 0; originator 0. `cause` is the whole octet of the
+/// cause of transmission, `zone` the offset of the station's clocks.
 pub fn write_monitor(
     observations: &[Observation],
     common: u16,
@@ -113,12 +182,15 @@ pub fn write_monitor(
     out: &mut [u8; 249],
 ) -> Written
     requires { 0 < length observations.now }
-    ensures taken { result.taken ≡ 1 }
+    ensures taken { result.taken ≡ taken_of zone.now.offset_minutes observations.now }
+    ensures some { 1 ≤ result.taken }
+    ensures within { result.taken ≤ length observations.now }
+    ensures most { result.taken ≤ 127 }
     ensures room { result.octets ≤ 249 }
     ensures rest { drop result.octets out.new ≡ drop result.octets out.old }
-    // Which octets are written, for an observation that isn't fit too.
-    ensures spelled { IfSome (slice_get observations.now 0) (λ x.
-        take result.octets out.new ≡ spelling zone.now.offset_minutes common cause x) }
+    // Which octets are written, for observations that aren't fit too.
+    ensures spelled { take result.octets out.new
+        ≡ packed_spelling zone.now.offset_minutes common cause observations.now }
     // What is written means the observations that were taken.
     ensures meant { let offset = zone.now.offset_minutes in
         let written = take result.taken observations.now in
@@ -127,6 +199,12 @@ pub fn write_monitor(
         (asdu.cause ≡ cause) × (asdu.originator ≡ 0) × (asdu.common_address ≡ common)
         × (asdu.observations ≡ written)) }
 {
-    let octets = write_first(observations, common, cause, zone, out);
-    Written { octets, taken: 1 }
+    let packing = packing_of(observations, zone);
+    let taken = &observations[..packing.taken];
+    write_header(packing.sequence, taken, common, cause, zone, out);
+    let octets = write_objects(packing.sequence, taken, zone, out);
+    Written {
+        octets,
+        taken: packing.taken,
+    }
 }

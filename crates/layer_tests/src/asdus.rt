@@ -1,4 +1,5 @@
-//! iec_asdu: each bit of the information elements alone, as IEC 60870-5-101, 7.2.6, numbers them, and the most objects.
+//! iec_asdu: each bit of the information elements alone, as IEC 60870-5-101, 7.2.6, numbers them, the most objects, and
+//! what one ASDU carries of a list.
 use gw_model::{Observation, Quality, Stamp, Value};
 use gw_time::Zone;
 use iec_asdu::{AsduFault, read_monitor, write_monitor};
@@ -126,7 +127,28 @@ const RESERVED: &[(u8, &[u8], &[u8])] = &[
     (11, b"\x00\x00", &[0x02, 0x04, 0x08]),
 ];
 
-/// An ASDU of so many of these objects, spontaneous, from address 200,704 on: under SQ 0 with its own address each.
+/// An ASDU of so many of these objects, spontaneous, from address 200,704 on: under SQ 0 with its own address each, at
+/// so many addresses from one another.
+fn asdu_at(
+    alloc: Global,
+    identification: u8,
+    qualifier: u8,
+    front: &[u8],
+    last: u8,
+    step: u8,
+) -> Result<Vec<u8>, Fail> {
+    let mut octets = Vec::from_slice(alloc, &[identification, qualifier, 3, 0, 1, 0])?;
+    for place in 0..qualifier % 128 {
+        if place == 0 || qualifier < 128 {
+            octets.extend_from_slice(&[place.wrapping_mul(step), 0x10, 0x03])?;
+        }
+        octets.extend_from_slice(front)?;
+        octets.push(last)?;
+    }
+    Ok(octets)
+}
+
+/// The same at consecutive addresses.
 fn asdu_of(
     alloc: Global,
     identification: u8,
@@ -134,15 +156,7 @@ fn asdu_of(
     front: &[u8],
     last: u8,
 ) -> Result<Vec<u8>, Fail> {
-    let mut octets = Vec::from_slice(alloc, &[identification, qualifier, 3, 0, 1, 0])?;
-    for place in 0..qualifier % 128 {
-        if place == 0 || qualifier < 128 {
-            octets.extend_from_slice(&[place, 0x10, 0x03])?;
-        }
-        octets.extend_from_slice(front)?;
-        octets.push(last)?;
-    }
-    Ok(octets)
+    asdu_at(alloc, identification, qualifier, front, last, 1)
 }
 
 /// The ASDU is read as so many such observations, from address 200,704 on.
@@ -226,23 +240,28 @@ const WORD: Value = Value::Word(0x8765_4321);
 
 const TOTAL: Value = Value::Total(0x8765_4321);
 
-/// A type identification, the octets of an object but for the last, the last, and what it tells: value and stamp.
-const OBJECTS: &[(u8, &[u8], u8, Value, Stamp)] = &[
-    (1, b"", 0x01, Value::Single(true), UNTIMED),
-    (3, b"", 0x02, Value::Double(2), UNTIMED),
-    (7, b"\x21\x43\x65\x87", 0x00, WORD, UNTIMED),
-    (11, b"\xFE\xFF", 0x00, Value::Scaled(-2), UNTIMED),
-    (15, b"\x21\x43\x65\x87", 0x00, TOTAL, UNTIMED),
+/// A type identification, the octets of an object but for the last, the last, what it tells, value and stamp, and the
+/// variable structure qualifier of as many as fit: of 128 at consecutive addresses, and at every second address.
+type ObjectRow = (u8, &'static [u8], u8, Value, Stamp, u8, u8);
+
+const OBJECTS: &[ObjectRow] = &[
+    (1, b"", 0x01, Value::Single(true), UNTIMED, 0xFF, 60),
+    (3, b"", 0x02, Value::Double(2), UNTIMED, 0xFF, 60),
+    (7, b"\x21\x43\x65\x87", 0x00, WORD, UNTIMED, 0xB0, 30),
+    (11, b"\xFE\xFF", 0x00, Value::Scaled(-2), UNTIMED, 0xD0, 40),
+    (15, b"\x21\x43\x65\x87", 0x00, TOTAL, UNTIMED, 0xB0, 30),
 ];
 
 /// The same with their time tags: this is the last octet.
-const TIMED_OBJECTS: &[(u8, &[u8], u8, Value, Stamp)] = &[
+const TIMED_OBJECTS: &[ObjectRow] = &[
     (
         30,
         b"\x01\x20\x4E\x0D\x16\x0E\x0B",
         0x17,
         Value::Single(true),
         AT,
+        22,
+        22,
     ),
     (
         31,
@@ -250,6 +269,8 @@ const TIMED_OBJECTS: &[(u8, &[u8], u8, Value, Stamp)] = &[
         0x17,
         Value::Double(2),
         AT,
+        22,
+        22,
     ),
     (
         33,
@@ -257,6 +278,8 @@ const TIMED_OBJECTS: &[(u8, &[u8], u8, Value, Stamp)] = &[
         0x17,
         WORD,
         AT,
+        16,
+        16,
     ),
     (
         35,
@@ -264,6 +287,8 @@ const TIMED_OBJECTS: &[(u8, &[u8], u8, Value, Stamp)] = &[
         0x17,
         Value::Scaled(-2),
         AT,
+        18,
+        18,
     ),
     (
         37,
@@ -271,6 +296,8 @@ const TIMED_OBJECTS: &[(u8, &[u8], u8, Value, Stamp)] = &[
         0x17,
         TOTAL,
         AT,
+        16,
+        16,
     ),
 ];
 
@@ -278,7 +305,7 @@ const TIMED_OBJECTS: &[(u8, &[u8], u8, Value, Stamp)] = &[
 #[test]
 fn most_objects(rt: HostRuntime) -> Result<(), Fail> {
     for rows in [OBJECTS, TIMED_OBJECTS] {
-        for (identification, front, last, value, stamp) in rows {
+        for (identification, front, last, value, stamp, _, _) in rows {
             let first = Observation {
                 address: 200_704,
                 value: *value,
@@ -290,6 +317,86 @@ fn most_objects(rt: HostRuntime) -> Result<(), Fail> {
                 check_read(&rt, &asdu, first, 127)?;
             }
         }
+    }
+    Ok(())
+}
+
+/// What one ASDU carries of a list has this variable structure qualifier, and is read back. Answers its octets.
+fn check_carried(
+    rt: &(impl Abort + AllocGlobal),
+    list: &[Observation],
+    qualifier: u8,
+) -> Result<Vec<u8>, Fail> {
+    let mut out = [0xAA; 249];
+    if list.is_empty() {
+        return Ok(Vec::new(rt.alloc()));
+    }
+    let written = write_monitor(list, 1, 3, &Zone::UTC, &mut out);
+    let asdu = &out[..written.octets];
+    let found = read(rt.alloc(), asdu)?;
+    assert_eq!(rt; out[1], qualifier);
+    assert_eq!(rt; written.taken, usize::from(qualifier % 128));
+    assert_eq!(rt; found.as_slice(), &list[..written.taken]);
+    Ok(Vec::from_slice(rt.alloc(), asdu)?)
+}
+
+/// 128 such observations from address 200,704 on, the first of them at consecutive addresses, and the others at every
+/// second address.
+fn list_of(first: Observation, consecutive: u8) -> [Observation; 128] {
+    let mut list = [first; 128];
+    for place in 0..128u8 {
+        let apart = place.saturating_sub(consecutive.saturating_sub(1));
+        list[usize::from(place)].address = 200_704 + u32::from(place) + u32::from(apart);
+    }
+    list
+}
+
+/// As many objects of each type as fit, at consecutive addresses and at every second address.
+#[test]
+fn fullest(rt: HostRuntime) -> Result<(), Fail> {
+    for rows in [OBJECTS, TIMED_OBJECTS] {
+        for (identification, front, last, value, stamp, in_sequence, apart) in rows {
+            let first = Observation {
+                address: 200_704,
+                value: *value,
+                quality: GOOD,
+                stamp: *stamp,
+            };
+            for (qualifier, consecutive, step) in [(*in_sequence, 128, 1), (*apart, 1, 2)] {
+                let asdu = asdu_at(rt.alloc(), *identification, qualifier, front, *last, step)?;
+                let written = check_carried(&rt, &list_of(first, consecutive), qualifier)?;
+                assert_eq!(&rt; written, asdu);
+            }
+        }
+    }
+    Ok(())
+}
+
+/// How many of a list of single-points stand at consecutive addresses, how many there are, and the variable structure
+/// qualifier.
+const PREFIXES: &[(u8, usize, u8)] = &[
+    (1, 1, 0x01),
+    (2, 2, 0x82),
+    (100, 100, 0xE4),
+    (127, 127, 0xFF),
+    (10, 60, 0x3C),
+    (59, 100, 0x3C),
+    (60, 100, 0xBC),
+];
+
+#[test]
+fn prefixes(rt: HostRuntime) -> Result<(), Fail> {
+    let first = Observation {
+        address: 200_704,
+        value: Value::Single(true),
+        quality: GOOD,
+        stamp: UNTIMED,
+    };
+    for (consecutive, count, qualifier) in PREFIXES {
+        let list = list_of(first, *consecutive);
+        let part = list.get(..*count).unwrap_or(&[]);
+        let written = check_carried(&rt, part, *qualifier)?;
+        assert_eq!(&rt; written.get(1).copied(), Some(*qualifier));
     }
     Ok(())
 }

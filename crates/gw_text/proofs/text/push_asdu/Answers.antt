@@ -2,6 +2,7 @@
 use Rattle.std.proofs.Common.{◌≡◌, ◌++◌, ◌∙◌, OnOk, List, ℕ, ℤ, take, subst, codes, ap}
 use Rattle.gw_entries.specs.Setup.{StationSetup}
 use Rattle.iec_asdu.specs.Spelling.{spelling}
+use Rattle.iec_asdu.proofs.Carried.{packed_spelling_one}
 use Rattle.gw_text.specs.Text.{asdu_line, line_of}
 use Rattle.gw_text.proofs.text.push_asdu.Goals as goal
 
@@ -14,6 +15,7 @@ returns c =
     let octets : take written.result.octets written.new.out
     ≡ spelling settings.station.offset_minutes settings.station.common_address 3 image =
     written.ensures.spelled
+    ∙ packed_spelling_one _ _ 3 image
     ∙ ap (λ (offset : ℤ). spelling offset c.behind-settings.inside.common_address 3 image) c.zone.ensures
     ∙ ap (λ (station : StationSetup). spelling settings.station.offset_minutes station.common_address 3 image)
     (c.behind-settings.view_is ∙ c.station.ensures.station) in

@@ -1,0 +1,353 @@
+-- What one ASDU carries of a list: observations of one type, at consecutive addresses under SQ 1, and never too many.
+use Rattle.std.proofs.Common.{◌≡◌, ℕ, ℤ, zero, suc, ◌+◌, ◌*◌, ◌/◌, ◌<◌, ◌≤◌, ◌&&◌, min, nat_le, Bool, true, false, cond, List, [], ◌∷◌, ◌++◌, length, get_or, take, refl, sym, ap, subst, ◌∙◌, arith, is_some, length-append}
+use Rattle.std.specs.List.{flat_map}
+use Rattle.std.proofs.Math.Nat.{le-div_iff_mul-le}
+use Rattle.std.proofs.lemmas.Bool.{eq-eqb}
+use Rattle.std.proofs.lemmas.Bool.Decides.{nat_tests}
+use Rattle.std.proofs.lemmas.List.{append-nil, length-take, length-take-le, take-take}
+use Rattle.std.proofs.lemmas.Nat.{div_below}
+use Rattle.gw_model.specs.declared.observation.Observation.{Observation}
+use Rattle.gw_time.specs.Spelling.{tag_of}
+use Rattle.iec_asdu.specs.declared.types.MonitorType.{MonitorType}
+use Rattle.iec_asdu.specs.Types.{type_length}
+use Rattle.iec_asdu.specs.Spelling.{element_kind, identification_at, address_octets, information_octets, object_octets, objects_octets, header_octets, list_spelling, spelling}
+use Rattle.iec_asdu.specs.Fitting.{AreAlike, AreConsecutive, FitsAsdu}
+use Rattle.iec_asdu.specs.Packing.{type_at, alike_count, consecutive_count, apart_count, in_sequence_count, is_in_sequence, taken_of, packed_spelling}
+use Rattle.iec_asdu.proofs.Lengths.{information_long}
+use Rattle.iec_asdu.proofs.Known.{same_type, type_short}
+use Rattle.iec_asdu.proofs.Counts.{alike_are, alike_within, alike_longest, consecutive_are, consecutive_within, consecutive_longest}
+
+-- ---- how many octets they have
+
+-- element and time tag of any that is of the first one's type
+abbrev size_at : ℤ → Observation → ℕ
+size_at offset x = type_length (type_at offset x)
+
+same_size : (offset : ℤ) (x y : Observation) → identification_at offset y ≡ identification_at offset x
+    → length (information_octets offset y) ≡ size_at offset x
+same_size offset x y same =
+    information_long offset y
+    ∙ ap (λ (t : MonitorType). type_length t)
+    (same_type (element_kind y.value) (element_kind x.value) (is_some (tag_of offset y.stamp))
+    (is_some (tag_of offset x.stamp)) same)
+
+elements_long : (offset : ℤ) (x : Observation) (ys : List Observation)
+    → AreAlike offset (identification_at offset x) ys
+    → length (flat_map (information_octets offset) ys) ≡ length ys * size_at offset x
+elements_long offset x [] alike = omega arith
+elements_long offset x (y ∷ ys) alike =
+    omega (
+      arith,
+      length-append (information_octets offset y) (flat_map (information_octets offset) ys),
+      same_size offset x y alike.0,
+      elements_long offset x ys alike.1,
+    )
+
+objects_long : (offset : ℤ) (x : Observation) (ys : List Observation)
+    → AreAlike offset (identification_at offset x) ys
+    → length (flat_map (object_octets offset) ys) ≡ length ys * (3 + size_at offset x)
+objects_long offset x [] alike = omega arith
+objects_long offset x (y ∷ ys) alike =
+    omega (
+      arith,
+      length-append (information_octets offset y) (flat_map (object_octets offset) ys),
+      length-append (object_octets offset y) (flat_map (object_octets offset) ys),
+      same_size offset x y alike.0,
+      objects_long offset x ys alike.1,
+    )
+
+sequence_long : (offset : ℤ) (ys : List Observation)
+    → length (objects_octets offset true ys) ≤ 3 + length (flat_map (information_octets offset) ys)
+sequence_long offset [] = omega arith
+sequence_long offset (y ∷ ys) = omega arith
+
+sequence_whole : (offset : ℤ) (ys : List Observation) → 0 < length ys
+    → length (objects_octets offset true ys) ≡ 3 + length (flat_map (information_octets offset) ys)
+sequence_whole offset [] some = absurd (omega arith)
+sequence_whole offset (y ∷ ys) some = omega arith
+
+-- under SQ 1 the first one's address comes first
+pub sequence_octets : (offset : ℤ) (xs : List Observation) (d : Observation) → 0 < length xs
+    → objects_octets offset true xs
+    ≡ address_octets (get_or xs 0 d).address ++ flat_map (information_octets offset) xs
+sequence_octets offset [] d some = absurd (omega arith)
+sequence_octets offset (x ∷ xs) d some = refl
+
+-- ---- what is carried
+
+-- so many from the front of a list with this first one, under this SQ
+pub record Carries (offset : ℤ) (x : Observation) (xs : List Observation) (sequence : Bool) (n : ℕ) : Type 0 where
+  pub some : 0 < n
+  pub within : n ≤ length (x ∷ xs)
+  pub few : n ≤ 127
+  pub two : sequence ≡ true → 2 ≤ n
+  pub alike : AreAlike offset (identification_at offset x) (take n (x ∷ xs))
+  pub untimed : sequence ≡ true → is_some (tag_of offset x.stamp) ≡ false
+  pub consecutive : sequence ≡ true → AreConsecutive x.address (take n (x ∷ xs))
+  pub room : 6 + length (objects_octets offset sequence (take n (x ∷ xs))) ≤ 249
+
+first_counted : (offset : ℤ) (x : Observation) (xs : List Observation) (room : ℕ) → 0 < room
+    → 0 < alike_count offset (identification_at offset x) (take room (x ∷ xs))
+unfolding alike_count
+first_counted offset x xs zero some = absurd (omega arith)
+first_counted offset x xs (suc room) some =
+    rw (eq-eqb (identification_at offset x) (identification_at offset x) refl) (omega arith)
+
+apart_carries : (offset : ℤ) (x : Observation) (xs : List Observation)
+    → Carries offset x xs false (apart_count offset (x ∷ xs))
+unfolding apart_count
+apart_carries offset x xs =
+    let t = identification_at offset x in
+    let size = size_at offset x in
+    let short = type_short (element_kind x.value) (is_some (tag_of offset x.stamp)) in
+    let room = 243 / (3 + size) in
+    let front = take room (x ∷ xs) in
+    let n = alike_count offset t front in
+    let most : room ≤ 127 = omega (arith, div_below 243 (3 + size) 127 (omega arith) (omega (arith, short.0))) in
+    let some : 0 < room = (le-div_iff_mul-le {k = 3 + size} (omega arith)).1 (omega (arith, short.1)) in
+    let inside : n ≤ min room (length (x ∷ xs)) =
+    omega (arith, alike_within offset t front, length-take room (x ∷ xs)) in
+    let alike : AreAlike offset t (take n (x ∷ xs)) =
+    subst (AreAlike offset t) (take-take n room (x ∷ xs) (omega (arith, inside))) (alike_are offset t front) in
+    let fits : n * (3 + size) ≤ 243 = (le-div_iff_mul-le {k = 3 + size} (omega arith)).0 (omega (arith, inside)) in
+    let long : length (flat_map (object_octets offset) (take n (x ∷ xs))) ≡ n * (3 + size) =
+    objects_long offset x (take n (x ∷ xs)) alike
+    ∙ ap (λ (k : ℕ). k * (3 + size)) (length-take-le n (x ∷ xs) (omega (arith, inside))) in
+    let whole : 6 + length (objects_octets offset false (take n (x ∷ xs))) ≤ 249 = omega (arith, long, fits) in
+    record {
+      some = first_counted offset x xs room some;
+      within = omega (arith, inside);
+      few = omega (arith, inside, most);
+      two = λ e. absurd cc;
+      alike = alike;
+      untimed = λ e. absurd cc;
+      consecutive = λ e. absurd cc;
+      room = whole;
+    }
+
+sequence_carries : (offset : ℤ) (x : Observation) (xs : List Observation)
+    → 2 ≤ in_sequence_count offset (x ∷ xs) → Carries offset x xs true (in_sequence_count offset (x ∷ xs))
+unfolding in_sequence_count
+sequence_carries offset x xs two = by_time (is_some (tag_of offset x.stamp)) refl two
+  where
+    size : ℕ
+    size = size_at offset x
+
+    room : ℕ
+    room = min 127 (240 / size)
+
+    n : ℕ
+    n = consecutive_count offset (identification_at offset x) x.address (take room (x ∷ xs))
+
+    by_time : (timed : Bool) → is_some (tag_of offset x.stamp) ≡ timed → 2 ≤ cond timed 0 n
+        → Carries offset x xs true (cond timed 0 n)
+    by_time true is two = absurd (omega arith)
+    by_time false is two =
+        let t = identification_at offset x in
+        let short = type_short (element_kind x.value) (is_some (tag_of offset x.stamp)) in
+        let front = take room (x ∷ xs) in
+        let inside : n ≤ min room (length (x ∷ xs)) =
+        omega (arith, consecutive_within offset t x.address front, length-take room (x ∷ xs)) in
+        let same : take n front ≡ take n (x ∷ xs) = take-take n room (x ∷ xs) (omega (arith, inside)) in
+        let row = consecutive_are offset t x.address front in
+        let alike : AreAlike offset t (take n (x ∷ xs)) = subst (AreAlike offset t) same row.0 in
+        let fits : n * size ≤ 240 = (le-div_iff_mul-le short.0).0 (omega (arith, inside)) in
+        let long : length (flat_map (information_octets offset) (take n (x ∷ xs))) ≡ n * size =
+        elements_long offset x (take n (x ∷ xs)) alike
+        ∙ ap (λ (k : ℕ). k * size) (length-take-le n (x ∷ xs) (omega (arith, inside))) in
+        let whole : 6 + length (objects_octets offset true (take n (x ∷ xs))) ≤ 249 =
+        omega (arith, sequence_long offset (take n (x ∷ xs)), long, fits) in
+        record {
+          some = omega (arith, two);
+          within = omega (arith, inside);
+          few = omega (arith, inside);
+          two = λ e. two;
+          alike = alike;
+          untimed = λ e. is;
+          consecutive = λ e. subst (AreConsecutive x.address) same row.1;
+          room = whole;
+        }
+
+pub carried : (offset : ℤ) (x : Observation) (xs : List Observation)
+    → Carries offset x xs (is_in_sequence offset (x ∷ xs)) (taken_of offset (x ∷ xs))
+unfolding is_in_sequence taken_of
+carried offset x xs = choose (nat_le 2 m && nat_le n m) (λ e. grind (arith, nat_tests))
+  where
+    n : ℕ
+    n = apart_count offset (x ∷ xs)
+
+    m : ℕ
+    m = in_sequence_count offset (x ∷ xs)
+
+    choose : (sequence : Bool) → (sequence ≡ true → 2 ≤ m) → Carries offset x xs sequence (cond sequence m n)
+    choose true two = sequence_carries offset x xs (two refl)
+    choose false two = apart_carries offset x xs
+
+-- ---- how many are taken
+
+-- of a list that is not empty one at least
+pub taken_of_some : (offset : ℤ) (xs : List Observation) → 0 < length xs → 0 < taken_of offset xs
+taken_of_some offset [] some = absurd (omega arith)
+taken_of_some offset (x ∷ xs) some = (carried offset x xs).some
+
+-- no more than there are
+pub taken_of_within : (offset : ℤ) (xs : List Observation) → taken_of offset xs ≤ length xs
+unfolding taken_of is_in_sequence apart_count in_sequence_count
+taken_of_within offset [] = omega arith
+taken_of_within offset (x ∷ xs) = (carried offset x xs).within
+
+-- no more than 127
+pub taken_of_few : (offset : ℤ) (xs : List Observation) → taken_of offset xs ≤ 127
+unfolding taken_of is_in_sequence apart_count in_sequence_count
+taken_of_few offset [] = omega arith
+taken_of_few offset (x ∷ xs) = (carried offset x xs).few
+
+-- of one observation that one
+pub taken_of_one : (offset : ℤ) (x : Observation) → taken_of offset (x ∷ []) ≡ 1
+taken_of_one offset x = omega (arith, (carried offset x []).some, (carried offset x []).within)
+
+-- with no more octets than fit behind the header
+pub packed_room : (offset : ℤ) (xs : List Observation) (sequence : Bool) (taken : ℕ) → 0 < length xs
+    → sequence ≡ is_in_sequence offset xs → taken ≡ taken_of offset xs
+    → 6 + length (objects_octets offset sequence (take taken xs)) ≤ 249
+packed_room offset [] sequence taken some chosen is = absurd (omega arith)
+packed_room offset (x ∷ xs) sequence taken some chosen is = rw (chosen, is) (carried offset x xs).room
+
+-- ---- how they are spelled
+
+-- header and objects, one behind the other
+pub packed_parts : (offset : ℤ) (common cause : ℕ) (xs : List Observation) (sequence : Bool) (taken : ℕ)
+    → sequence ≡ is_in_sequence offset xs → taken ≡ taken_of offset xs
+    → header_octets offset sequence common cause (take taken xs) ++ objects_octets offset sequence (take taken xs)
+    ≡ packed_spelling offset common cause xs
+unfolding packed_spelling list_spelling
+packed_parts offset common cause xs sequence taken chosen is = rw (chosen, is) refl
+
+-- one object under SQ 0
+pub spelled_alone : (offset : ℤ) (common cause : ℕ) (x : Observation)
+    → list_spelling offset false common cause (x ∷ []) ≡ spelling offset common cause x
+unfolding list_spelling
+spelled_alone offset common cause x = rw (append-nil (information_octets offset x)) refl
+
+-- where one is taken, as that one
+pub packed_spelling_first : (offset : ℤ) (common cause : ℕ) (x : Observation) (xs : List Observation)
+    → taken_of offset (x ∷ xs) ≡ 1 → packed_spelling offset common cause (x ∷ xs) ≡ spelling offset common cause x
+unfolding packed_spelling
+packed_spelling_first offset common cause x xs one =
+    rw one (alone (is_in_sequence offset (x ∷ xs)) (carried offset x xs).two)
+  where
+    alone : (sequence : Bool) → (sequence ≡ true → 2 ≤ taken_of offset (x ∷ xs))
+        → list_spelling offset sequence common cause (x ∷ []) ≡ spelling offset common cause x
+    alone true two = absurd (omega (arith, two refl, one))
+    alone false two = spelled_alone offset common cause x
+
+-- one observation as that one
+pub packed_spelling_one : (offset : ℤ) (common cause : ℕ) (x : Observation)
+    → packed_spelling offset common cause (x ∷ []) ≡ spelling offset common cause x
+packed_spelling_one offset common cause x = packed_spelling_first offset common cause x [] (taken_of_one offset x)
+
+header_short : (offset : ℤ) (sequence : Bool) (common cause : ℕ) (xs : List Observation)
+    → length (header_octets offset sequence common cause xs) ≤ 6
+header_short offset sequence common cause [] = omega arith
+header_short offset sequence common cause (x ∷ xs) = omega arith
+
+-- never more octets than an ASDU may have
+pub packed_short : (offset : ℤ) (common cause : ℕ) (xs : List Observation)
+    → length (packed_spelling offset common cause xs) ≤ 249
+unfolding packed_spelling list_spelling taken_of is_in_sequence apart_count in_sequence_count
+packed_short offset common cause [] = omega arith
+packed_short offset common cause (x ∷ xs) =
+    let sequence = is_in_sequence offset (x ∷ xs) in
+    let taken = take (taken_of offset (x ∷ xs)) (x ∷ xs) in
+    omega (
+      arith,
+      length-append (header_octets offset sequence common cause taken) (objects_octets offset sequence taken),
+      header_short offset sequence common cause taken,
+      (carried offset x xs).room,
+    )
+
+-- ---- it is the longest prefix that fits
+
+-- what is taken fits
+pub taken_fits : (offset : ℤ) (x : Observation) (xs : List Observation)
+    → FitsAsdu offset (is_in_sequence offset (x ∷ xs)) x (take (taken_of offset (x ∷ xs)) (x ∷ xs))
+taken_fits offset x xs =
+    let c = carried offset x xs in
+    record {
+      alike = c.alike;
+      untimed = c.untimed;
+      consecutive = c.consecutive;
+      few = omega (arith, c.few, length-take (taken_of offset (x ∷ xs)) (x ∷ xs));
+      room = c.room;
+    }
+
+apart_longest : (offset : ℤ) (x : Observation) (xs : List Observation) (k : ℕ) → k ≤ length (x ∷ xs)
+    → FitsAsdu offset false x (take k (x ∷ xs)) → k ≤ apart_count offset (x ∷ xs)
+unfolding apart_count
+apart_longest offset x xs k within fits =
+    let t = identification_at offset x in
+    let size = size_at offset x in
+    let room = 243 / (3 + size) in
+    let long : length (flat_map (object_octets offset) (take k (x ∷ xs))) ≡ k * (3 + size) =
+    objects_long offset x (take k (x ∷ xs)) fits.alike
+    ∙ ap (λ (n : ℕ). n * (3 + size)) (length-take-le k (x ∷ xs) within) in
+    let enough : 6 + length (flat_map (object_octets offset) (take k (x ∷ xs))) ≤ 249 = fits.room in
+    let inside : k ≤ room = (le-div_iff_mul-le {k = 3 + size} (omega arith)).1 (omega (arith, long, enough)) in
+    alike_longest offset t (take room (x ∷ xs)) k (omega (arith, within, inside, length-take room (x ∷ xs)))
+    (subst (AreAlike offset t) (sym (take-take k room (x ∷ xs) inside)) fits.alike)
+
+untimed_count : (timed : Bool) (k n : ℕ) → timed ≡ false → k ≤ n → k ≤ cond timed 0 n
+untimed_count false k n e le = le
+untimed_count true k n e le = absurd cc
+
+sequence_longest : (offset : ℤ) (x : Observation) (xs : List Observation) (k : ℕ) → k ≤ length (x ∷ xs)
+    → FitsAsdu offset true x (take k (x ∷ xs)) → k ≤ in_sequence_count offset (x ∷ xs)
+unfolding in_sequence_count
+sequence_longest offset x xs zero within fits = omega arith
+sequence_longest offset x xs (suc j) within fits =
+    let k = suc j in
+    let t = identification_at offset x in
+    let size = size_at offset x in
+    let room = min 127 (240 / size) in
+    let short = type_short (element_kind x.value) (is_some (tag_of offset x.stamp)) in
+    let taken : length (take k (x ∷ xs)) ≡ k = length-take-le k (x ∷ xs) within in
+    let long : length (flat_map (information_octets offset) (take k (x ∷ xs))) ≡ k * size =
+    elements_long offset x (take k (x ∷ xs)) fits.alike ∙ ap (λ (n : ℕ). n * size) taken in
+    let enough : k * size ≤ 240 =
+    omega (arith, fits.room, sequence_whole offset (take k (x ∷ xs)) (omega (arith, taken)), long) in
+    let fit : k ≤ 240 / size = (le-div_iff_mul-le {k = size} short.0).1 enough in
+    let inside : k ≤ room = omega (arith, fit, fits.few, taken) in
+    let same = sym (take-take k room (x ∷ xs) inside) in
+    untimed_count (is_some (tag_of offset x.stamp)) k _ (fits.untimed refl)
+    (consecutive_longest offset t x.address (take room (x ∷ xs)) k
+    (omega (arith, within, inside, length-take room (x ∷ xs)))
+    (subst (AreAlike offset t) same fits.alike) (subst (AreConsecutive x.address) same (fits.consecutive refl)))
+
+taken_most : (offset : ℤ) (x : Observation) (xs : List Observation)
+    → (apart_count offset (x ∷ xs) ≤ taken_of offset (x ∷ xs))
+    × (in_sequence_count offset (x ∷ xs) ≤ taken_of offset (x ∷ xs))
+unfolding is_in_sequence taken_of
+taken_most offset x xs =
+    choose (nat_le 2 m && nat_le n m) (λ e. grind (arith, nat_tests)) (λ e. grind (arith, nat_tests, some))
+  where
+    n : ℕ
+    n = apart_count offset (x ∷ xs)
+
+    m : ℕ
+    m = in_sequence_count offset (x ∷ xs)
+
+    some : 0 < n
+    some = (apart_carries offset x xs).some
+
+    choose : (sequence : Bool) → (sequence ≡ true → n ≤ m) → (sequence ≡ false → m ≤ n)
+        → (n ≤ cond sequence m n) × (m ≤ cond sequence m n)
+    choose true more less = (more refl, omega arith)
+    choose false more less = (omega arith, less refl)
+
+-- what fits, under SQ 0 or SQ 1, is no longer
+pub taken_longest : (offset : ℤ) (x : Observation) (xs : List Observation) (sequence : Bool) (k : ℕ)
+    → k ≤ length (x ∷ xs) → FitsAsdu offset sequence x (take k (x ∷ xs)) → k ≤ taken_of offset (x ∷ xs)
+taken_longest offset x xs false k within fits =
+    omega (arith, apart_longest offset x xs k within fits, (taken_most offset x xs).0)
+taken_longest offset x xs true k within fits =
+    omega (arith, sequence_longest offset x xs k within fits, (taken_most offset x xs).1)

@@ -1,0 +1,65 @@
+-- What a type identification tells: the element, and whether a time tag stands behind it.
+use Rattle.std.proofs.Common.{◌≡◌, ℕ, ℤ, ◌<◌, ◌≤◌, ◌==◌, Bool, true, false, Some, if◌then◌else◌, refl, sym, ap, ◌∙◌, arith}
+use Rattle.iec_asdu.specs.declared.types.ElementKind.{ElementKind}
+use Rattle.iec_asdu.specs.declared.types.ElementKind.TheVariants.{SinglePoint, DoublePoint, BitString, ScaledValue, CounterReading}
+use Rattle.iec_asdu.specs.declared.types.MonitorType.{MonitorType}
+use Rattle.iec_asdu.specs.Types.{identification_by, type_length, layout_at}
+use Rattle.iec_asdu.specs.Asdu.{monitor_types, layout_of}
+
+abbrev pub typed : ElementKind → Bool → MonitorType
+typed kind timed = record { element = kind; timed = timed }
+
+-- the type with an identification
+abbrev named : ℕ → MonitorType
+named n =
+    if n == 1 then typed SinglePoint false else (if n == 30 then typed SinglePoint true
+    else (if n == 3 then typed DoublePoint false else (if n == 31 then typed DoublePoint true
+    else (if n == 7 then typed BitString false else (if n == 33 then typed BitString true
+    else (if n == 11 then typed ScaledValue false else (if n == 35 then typed ScaledValue true
+    else (if n == 15 then typed CounterReading false else typed CounterReading true))))))))
+
+named_again : (kind : ElementKind) (timed : Bool) → named (identification_by kind timed) ≡ typed kind timed
+named_again SinglePoint false = refl
+named_again SinglePoint true = refl
+named_again DoublePoint false = refl
+named_again DoublePoint true = refl
+named_again BitString false = refl
+named_again BitString true = refl
+named_again ScaledValue false = refl
+named_again ScaledValue true = refl
+named_again CounterReading false = refl
+named_again CounterReading true = refl
+
+-- no two types have one identification
+pub same_type : (kind other : ElementKind) (timed tagged : Bool)
+    → identification_by kind timed ≡ identification_by other tagged → typed kind timed ≡ typed other tagged
+same_type kind other timed tagged same =
+    sym (named_again kind timed) ∙ (ap (λ (n : ℕ). named n) same ∙ named_again other tagged)
+
+-- each is known
+pub type_known : (offset : ℤ) (kind : ElementKind) (timed : Bool)
+    → layout_of (identification_by kind timed) (monitor_types offset) ≡ Some (layout_at offset (typed kind timed))
+type_known offset SinglePoint false = refl
+type_known offset SinglePoint true = refl
+type_known offset DoublePoint false = refl
+type_known offset DoublePoint true = refl
+type_known offset BitString false = refl
+type_known offset BitString true = refl
+type_known offset ScaledValue false = refl
+type_known offset ScaledValue true = refl
+type_known offset CounterReading false = refl
+type_known offset CounterReading true = refl
+
+-- element and time tag have 1 to 12 octets
+pub type_short : (kind : ElementKind) (timed : Bool)
+    → (0 < type_length (typed kind timed)) × (type_length (typed kind timed) ≤ 12)
+type_short SinglePoint false = (omega arith, omega arith)
+type_short SinglePoint true = (omega arith, omega arith)
+type_short DoublePoint false = (omega arith, omega arith)
+type_short DoublePoint true = (omega arith, omega arith)
+type_short BitString false = (omega arith, omega arith)
+type_short BitString true = (omega arith, omega arith)
+type_short ScaledValue false = (omega arith, omega arith)
+type_short ScaledValue true = (omega arith, omega arith)
+type_short CounterReading false = (omega arith, omega arith)
+type_short CounterReading true = (omega arith, omega arith)

@@ -1,0 +1,67 @@
+-- How many observations from the front of a list one ASDU carries, and under which SQ (IEC 60870-5-101, 7.2.2). An ASDU
+-- has at most 249 octets: its header has six of them, and an address three.
+use Rattle.std.specs.Prelude.{ℕ, ℤ, suc, ◌+◌, ◌/◌, min, Bool, ◌&&◌, ◌==◌, nat_le, if◌then◌else◌, List, [], ◌∷◌, take}
+use Rattle.std.specs.Option.{is_some}
+use Rattle.gw_model.specs.declared.observation.Observation.{Observation}
+use Rattle.gw_time.specs.Spelling.{tag_of}
+use Rattle.iec_asdu.specs.declared.types.MonitorType.{MonitorType}
+use Rattle.iec_asdu.specs.Types.{type_length}
+use Rattle.iec_asdu.specs.Spelling.{element_kind, identification_at, list_spelling}
+
+-- ---- the two prefixes
+
+-- how many from the front have this type identification
+unfoldable pub alike_count : ℤ → ℕ → List Observation → ℕ
+alike_count offset identification [] = 0
+alike_count offset identification (x ∷ xs) =
+    if identification_at offset x == identification then suc (alike_count offset identification xs) else 0
+
+-- how many of these stand at consecutive addresses, from this one on
+unfoldable pub consecutive_count : ℤ → ℕ → ℕ → List Observation → ℕ
+consecutive_count offset identification address [] = 0
+consecutive_count offset identification address (x ∷ xs) =
+    if identification_at offset x == identification && x.address == address
+    then suc (consecutive_count offset identification (address + 1) xs)
+    else 0
+
+-- element and time tag of an observation
+abbrev pub type_at : ℤ → Observation → MonitorType
+type_at offset x = record { element = element_kind x.value; timed = is_some (tag_of offset x.stamp) }
+
+-- how many objects fit, of which element and time tag have so many octets: under SQ 0 each with its address, and under
+-- SQ 1 behind one address
+abbrev pub room_apart : ℕ → ℕ
+room_apart size = 243 / (3 + size)
+
+abbrev pub room_in_sequence : ℕ → ℕ
+room_in_sequence size = min 127 (240 / size)
+
+-- under SQ 0: as many as are of the first one's type, and fit
+unfoldable pub apart_count : ℤ → List Observation → ℕ
+apart_count offset [] = 0
+apart_count offset (x ∷ xs) =
+    alike_count offset (identification_at offset x) (take (room_apart (type_length (type_at offset x))) (x ∷ xs))
+
+-- under SQ 1: none with time; else as many as are of the first one's type, at consecutive addresses, and fit
+unfoldable pub in_sequence_count : ℤ → List Observation → ℕ
+in_sequence_count offset [] = 0
+in_sequence_count offset (x ∷ xs) =
+    if is_some (tag_of offset x.stamp) then 0
+    else consecutive_count offset (identification_at offset x) x.address
+    (take (room_in_sequence (type_length (type_at offset x))) (x ∷ xs))
+
+-- ---- the choice
+
+-- SQ 1 where it carries two or more, and no fewer than SQ 0
+unfoldable pub is_in_sequence : ℤ → List Observation → Bool
+is_in_sequence offset xs =
+    nat_le 2 (in_sequence_count offset xs) && nat_le (apart_count offset xs) (in_sequence_count offset xs)
+
+-- how many observations the ASDU carries
+unfoldable pub taken_of : ℤ → List Observation → ℕ
+taken_of offset xs = if is_in_sequence offset xs then in_sequence_count offset xs else apart_count offset xs
+
+-- the ASDU of so many of them
+unfoldable pub packed_spelling : ℤ → ℕ → ℕ → List Observation → List ℕ
+packed_spelling offset common cause xs =
+    list_spelling offset (is_in_sequence offset xs) common cause (take (taken_of offset xs) xs)
