@@ -1,7 +1,8 @@
 -- What becomes of orders keeps them in order: at most 16 wait for an outstation, and their numbers rise.
-use Rattle.std.specs.Prelude.{is_none, replicate, slice_get}
+use Rattle.std.specs.Prelude.{◌==◌, is_none, replicate, slice_get, IfSome}
 use Rattle.std.specs.List.{filter}
 use Rattle.std.proofs.Common.{◌≡◌, ℕ, zero, suc, ◌+◌, ◌<◌, ◌≤◌, Bool, true, false, cond, not, ◌&&◌, List, [], ◌∷◌, ◌++◌, map, length, Option, Some, None, option_map, refl, ap, arith, length-append}
+use Rattle.std.proofs.lemmas.Bool.{and_parts, eqb-true}
 use Rattle.std.proofs.lemmas.Bool.Decides.{nat_tests}
 use Rattle.gw_model.specs.First.{when, first_of}
 use Rattle.gw_model.specs.Places.{change}
@@ -13,9 +14,9 @@ use Rattle.gw_control.specs.declared.accepted.Accepted.{Accepted}
 use Rattle.gw_control.specs.declared.accepted.UnderWay.{UnderWay}
 use Rattle.gw_control.specs.declared.selection.Selection.{Selection}
 use Rattle.gw_control.specs.Intents.{intent_of}
-use Rattle.gw_control.specs.Selections.{is_selected, is_taken}
+use Rattle.gw_control.specs.Selections.{asks_same, is_own, is_selected, is_taken}
 use Rattle.gw_control.specs.Orders.{Outgoing, is_full, is_named, is_of_others, nothing_outgoing, numbers_of, outgoing_after_end, outgoing_after_ended, outgoing_after_lost, outgoing_after_taking, outgoing_with, IsInOrder, Rise}
-use Rattle.gw_control.specs.Controls.{Controls, NotPermitted, OutstationDown, SelectedByAnother, NotSelected, NoPlace, act_accepted, act_by, act_unless, confirmed_if, is_full_at, is_order, AreInOrder, IsAccepted}
+use Rattle.gw_control.specs.Controls.{Controls, NotPermitted, OutstationDown, SelectedByAnother, NotSelected, NoPlace, act_accepted, act_by, act_unless, confirmed_if, is_full_at, is_order, AreInOrder, IsAccepted, IsSelectedFor}
 use Rattle.gw_control.proofs.Places.{all_alike, all_changed, all_mapped}
 
 -- ---- numbers that rise
@@ -188,6 +189,25 @@ then : (b d : Bool) → (b && not d) ≡ false → b ≡ true → d ≡ true
 then true d e f = so d e
 then false d e f = absurd (let none : ⊥ = cc in none)
 
+free_of : (a : AskedCommand) (standing : Option Selection) → is_taken a standing ≡ false
+    → IfSome standing (λ selection. selection.client ≡ a.client)
+free_of a None e = tt
+free_of a (Some s) e = eqb-true s.client a.client (so (s.client == a.client) e)
+
+selected_for : (a : AskedCommand) (standing : Option Selection) → is_selected a standing ≡ true
+    → IsSelectedFor a.client a.session a.command.action standing
+selected_for a None e = absurd (let none : ⊥ = cc in none)
+selected_for a (Some s) e =
+    let parts = and_parts (is_own a (Some s)) (asks_same s.action a.command.action) e in
+    let own = and_parts (s.client == a.client) (s.session == a.session) parts.0 in
+    record {
+      selection = s;
+      stands = refl;
+      is_its = eqb-true s.client a.client own.0;
+      is_of_session = eqb-true s.session a.session own.1;
+      is_same = parts.1;
+    }
+
 pub accepted : (a : AskedCommand) (control : Control) (standing : Option Selection) (v : Controls) (act : Act)
     → act_accepted a control standing v ≡ Some act → IsAccepted a control standing v act
 accepted a control standing v act is =
@@ -197,8 +217,8 @@ accepted a control standing v act is =
     record {
       intent = ap (option_map (intent_of control)) k.0;
       up = so a.up k.1;
-      free = k.2;
-      selected = then control.select (is_selected a standing) k.3;
+      free = free_of a standing k.2;
+      selected = λ wants. selected_for a standing (then control.select (is_selected a standing) k.3 wants);
       place = k.4;
     }
 

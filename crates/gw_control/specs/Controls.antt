@@ -1,6 +1,6 @@
 -- The core's part for controls, as its contracts see it: the selections and orders of all clients, and what becomes of
 -- them.
-use Rattle.std.specs.Prelude.{◌≡◌, ℕ, ◌+◌, ◌^◌, ◌<◌, Bool, true, false, not, ◌&&◌, ◌==◌, is_none, List, [], ◌∷◌, length, map, replicate, slice_get, Option, Some, None, option_and_then, if◌then◌else◌}
+use Rattle.std.specs.Prelude.{◌≡◌, ℕ, ◌+◌, ◌^◌, ◌<◌, Bool, true, false, not, ◌&&◌, ◌==◌, is_none, List, [], ◌∷◌, length, map, replicate, slice_get, Option, Some, None, option_and_then, if◌then◌else◌, IfSome}
 use Rattle.std.specs.List.{AllByRecursion}
 use Rattle.gw_model.specs.First.{when, first_of}
 use Rattle.gw_model.specs.Places.{change}
@@ -11,6 +11,7 @@ use Rattle.gw_entries.specs.declared.control.Control.{Control}
 use Rattle.gw_entries.specs.declared.control.Mode.{Mode}
 use Rattle.gw_entries.specs.declared.control.Mode.TheVariants.{Direct, Sbo}
 use Rattle.gw_map.specs.Settings.{Setup}
+use Rattle.iec_command.specs.declared.command.Action.{Action}
 use Rattle.gw_control.specs.declared.asked.AskedCommand.{AskedCommand}
 use Rattle.gw_control.specs.declared.accepted.Accepted.{Accepted}
 use Rattle.gw_control.specs.declared.answer.Answer.{Answer}
@@ -18,7 +19,7 @@ use Rattle.gw_control.specs.declared.answer.Answer.TheVariants.{Confirm, Negativ
 use Rattle.gw_control.specs.declared.answer.Outcome.{Outcome}
 use Rattle.gw_control.specs.declared.selection.Selection.{Selection}
 use Rattle.gw_control.specs.Intents.{act_of, command_intent, control_for, intent_of}
-use Rattle.gw_control.specs.Selections.{is_own, is_select, is_selected, is_taken, selection_by, standing_in, unselected_by}
+use Rattle.gw_control.specs.Selections.{asks_same, is_own, is_select, is_selected, is_taken, selection_by, standing_in, unselected_by}
 use Rattle.gw_control.specs.Orders.{Outgoing, is_full, nothing_outgoing, order_given, outcome_at, outcome_lost, outgoing_after_end, outgoing_after_ended, outgoing_after_lost, outgoing_after_taking, outgoing_with, IsInOrder}
 
 pub record Controls : Type 0 where
@@ -222,14 +223,23 @@ controls_after_end client v = record v {
 
 -- ---- what is known of an execute that is accepted
 
+-- a client has a control selected in a session, for the same as an action asks
+pub record IsSelectedFor (client session : ℕ) (action : Action) (standing : Option Selection) : Type 0 where
+  pub selection : Selection
+  pub stands : standing ≡ Some selection
+  pub is_its : selection.client ≡ client
+  pub is_of_session : selection.session ≡ session
+  pub is_same : asks_same selection.action action ≡ true
+
 pub record IsAccepted (a : AskedCommand) (control : Control) (standing : Option Selection) (v : Controls) (act : Act)
     : Type 0 where
   -- what its order asks is what the command asks
   pub intent : command_intent control a.command ≡ Some (intent_of control act)
   pub up : a.up ≡ true
-  pub free : is_taken a standing ≡ false
-  -- where the control wants it, the client had it selected, in its session and for the same
-  pub selected : control.select ≡ true → is_selected a standing ≡ true
+  -- no other client has the control selected
+  pub free : IfSome standing (λ selection. selection.client ≡ a.client)
+  -- where the control wants it, the command's client has, in the session that stands for it, and for the same
+  pub selected : control.select ≡ true → IsSelectedFor a.client a.session a.command.action standing
   pub place : is_full_at (slice_get v.outgoing control.outstation) ≡ false
 
 -- ---- what they keep

@@ -20,7 +20,7 @@ pub fn selections_stand()
 {}
 
 /// An execute that is accepted asks what its command asks, of an outstation that is up and has a place for it; no other
-/// client has the control selected, and this one has where the control wants it.
+/// client has the control selected, and where the control wants it this one has, in its session and for the same.
 pub fn accepted_executes()
     ensures { (a : AskedCommand) (control : Control) (standing : Option Selection) (v : Controls) (act : Act)
         → act_accepted a control standing v ≡ Some act → IsAccepted a control standing v act }

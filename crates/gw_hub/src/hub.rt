@@ -174,8 +174,9 @@ impl Hub {
     ///   the command of which it is: done where the outstation took what the newest request asked, and that operates.
     /// - `due`: each order's outcome is told in the step that ends it, while the session of its execute stands: where
     ///   its request was answered to the end, where no answer came in time, or where its outstation is lost.
-    /// - `commands`: a command for a control is confirmed, and an execute accepted, exactly where the history permits
-    ///   it: by its value, who selected the control, and whether the outstation is up and how many orders wait there.
+    /// - `commands`: an ASDU that is taken is a command for a control exactly where it spells one for this station, and
+    ///   for a control of its type. It is confirmed, and an execute accepted, exactly where the history permits it: by
+    ///   its value, who selected the control, and whether the outstation is up and how many orders wait there.
     ///
     /// And of outstations:
     /// - `requests`: a request is given by a poll alone, and is the first that is due by the history: an order's, or

@@ -4,7 +4,7 @@ use Rattle.std.specs.Prelude.{slice_get, slice_index}
 use Rattle.gw_model.specs.First.{first_of, when}
 use Rattle.gw_model.specs.declared.control.Act.{Act}
 use Rattle.gw_entries.specs.declared.control.Control.{Control}
-use Rattle.gw_map.specs.Settings.{Setup}
+use Rattle.gw_map.specs.Settings.{Setup, HasSingleAddresses}
 use Rattle.dnp_master.specs.Master.{Master}
 use Rattle.iec_apci.specs.declared.apdu.Apdu.{Apdu}
 use Rattle.iec_command.specs.declared.command.Command.{Command}
@@ -13,7 +13,7 @@ use Rattle.gw_control.specs.declared.answer.Answer.TheVariants as answers
 use Rattle.gw_control.specs.declared.asked.AskedCommand.{AskedCommand}
 use Rattle.gw_control.specs.declared.selection.Selection.{Selection}
 use Rattle.gw_control.specs.Controls.{NoPlace, NotPermitted, NotSelected, OutstationDown, SelectedByAnother, act_accepted, act_by, act_unless, answer_at, answer_for, answer_to_act, confirmed_if, is_full_at, is_selectable, standing_at}
-use Rattle.gw_control.specs.Intents.{control_for, intent_of}
+use Rattle.gw_control.specs.Intents.{control_for}
 use Rattle.gw_control.specs.Orders.{Outgoing}
 use Rattle.gw_control.specs.Selections.{is_own, is_select, is_selected, is_taken}
 use Rattle.gw_station.specs.declared.event.Said.TheVariants as saids
@@ -23,6 +23,7 @@ use Rattle.gw_station.specs.Frames.{close_of, command_given, command_in, event_b
 use Rattle.gw_steps.specs.declared.step.Step.{Step}
 use Rattle.gw_steps.specs.declared.step.Step.TheVariants as steps
 use Rattle.gw_steps.specs.declared.step.Reply.{Reply}
+use Rattle.gw_steps.specs.declared.step.Reply.TheVariants as replies
 use Rattle.gw_steps.specs.declared.step.StepFault.{StepFault}
 use Rattle.gw_steps.specs.declared.step.StepFault.TheVariants.{NoClient}
 use Rattle.gw_steps.specs.Controls.{asked_by, is_control_up, is_up_at, said_by}
@@ -35,8 +36,10 @@ use Rattle.gw_steps.proofs.Running.{entry}
 use Rattle.gw_history.specs.Accepted.{moment_after}
 use Rattle.gw_orders.specs.Executes.{execute_answered, execute_by as execute_made}
 use Rattle.gw_orders.proofs.Held.{waiting_at}
-use Rattle.gw_orders.specs.Commands.{AnswersBy, AnswersDue, SaysDue, confirmed_if as said_if, execute_by, execute_for, is_accepted, is_up, said_due, waiting}
+use Rattle.gw_orders.specs.Commands.{AnswersBy, AnswersDue, Orders, SaysDue, confirmed_if as said_if, execute_by, execute_for, is_accepted, is_up, orders, said_due, waiting}
 use Rattle.gw_orders.specs.Selections.{Selected, if_fresh, is_deactivation, is_free_for, is_selected_by, is_selected_for, may_select, moment_at, selected, standing}
+use Rattle.gw_orders.proofs.Carried.{is_for_control, takes_carried}
+use Rattle.gw_orders.proofs.Words.{permitted_is}
 use Rattle.gw_orders.proofs.Opened.{told_of}
 use Rattle.gw_orders.proofs.Commanded.{own_is, selectable_is, selected_is, standing_open, standing_told, taken_is}
 use Rattle.gw_orders.proofs.CommandFrames.{taken_reply}
@@ -60,30 +63,28 @@ acting count select act up taken selected full = answer_to_act count (act_unless
 abbrev ordered_if : ℕ → Bool → Answer
 ordered_if count accepted = cond accepted (answers.Ordered (count + 1)) answers.Negative
 
-acted_with : (control : Control) (count : ℕ) (select : Bool) (act : Option Act) (up free selected room : Bool)
+acted_with : (count : ℕ) (select : Bool) (act : Option Act) (up free selected room : Bool)
     → acting count select act up (not free) selected (not room)
-    ≡ ordered_if count
-    (is_some (option_map (intent_of control) act) && up && free && (not select || selected) && room)
-acted_with control count select None up free selected room = refl
-acted_with control count select (Some act) false free selected room = refl
-acted_with control count select (Some act) true false selected room = refl
-acted_with control count true (Some act) true true false room = refl
-acted_with control count true (Some act) true true true true = refl
-acted_with control count true (Some act) true true true false = refl
-acted_with control count false (Some act) true true selected true = refl
-acted_with control count false (Some act) true true selected false = refl
+    ≡ ordered_if count (is_some act && up && free && (not select || selected) && room)
+acted_with count select None up free selected room = refl
+acted_with count select (Some act) false free selected room = refl
+acted_with count select (Some act) true false selected room = refl
+acted_with count true (Some act) true true false room = refl
+acted_with count true (Some act) true true true true = refl
+acted_with count true (Some act) true true true false = refl
+acted_with count false (Some act) true true selected true = refl
+acted_with count false (Some act) true true selected false = refl
 
 -- the place counts only where the outstation is up
-acted : (control : Control) (count : ℕ) (select : Bool) (act : Option Act) (up free selected full room : Bool)
+acted : (count : ℕ) (select : Bool) (act : Option Act) (up free selected full room : Bool)
     → (up ≡ true → full ≡ not room)
     → acting count select act up (not free) selected full
-    ≡ ordered_if count
-    (is_some (option_map (intent_of control) act) && up && free && (not select || selected) && room)
-acted control count select None false free selected full room k = refl
-acted control count select (Some act) false free selected full room k = refl
-acted control count select act true free selected full room k =
+    ≡ ordered_if count (is_some act && up && free && (not select || selected) && room)
+acted count select None false free selected full room k = refl
+acted count select (Some act) false free selected full room k = refl
+acted count select act true free selected full room k =
     ap (acting count select act true (not free) selected) (k refl)
-    ∙ acted_with control count select act true free selected room
+    ∙ acted_with count select act true free selected room
 
 acting_same : (count : ℕ) (select : Bool) (act : Option Act) (full up is_so taken so_taken own so_own : Bool)
     → up ≡ is_so → taken ≡ so_taken → own ≡ so_own
@@ -107,7 +108,7 @@ no_place (suc o) (q ∷ qs) (m ∷ ms) same none = no_place o qs ms (omega (arit
 -- as many orders wait as the history tells
 abbrev pub HasWaiting : Setup → List Entry → Type 0
 HasWaiting setup past = (o : ℕ) → length (waiting_at (slice_get (state_after setup past).controls.outgoing o))
-    ≡ length (waiting setup o past)
+    ≡ length (waiting (orders setup past) past o)
 
 full_is : (o n : ℕ) (qs : List Outgoing) (ms : List Master) (q : Option Outgoing) → slice_get qs o ≡ q
     → length ms ≡ length qs → length (waiting_at q) ≡ n → is_up_at (slice_get ms o) ≡ true
@@ -150,6 +151,7 @@ execute_is count c command found false false own may false = refl
 
 -- what is known of the state
 pub record Known (setup : Setup) (past : List Entry) : Type 0 where
+  pub single : HasSingleAddresses setup.rows setup.controls
   pub sound : IsSoundState setup (state_after setup past)
   pub moment : (state_after setup past).moment ≡ moment_after past
   pub selects : Selects setup past (state_after setup past)
@@ -163,13 +165,16 @@ module _ (setup : Setup) (past : List Entry) (moment c : ℕ) (command : Command
   abbrev a : AskedCommand
   a = asked_by setup s moment c command
 
+  abbrev told : Orders
+  told = orders setup past
+
   -- what is to be answered of a control at a position
   abbrev answer_due : ℕ → Control → Answer
   answer_due q control =
       cond (is_deactivation command) (confirmed_if (is_selected_by c (standing setup q moment past)))
       (cond (is_select command.action)
       (confirmed_if (may_select setup c moment control command (selected setup q past)))
-      (ordered_if s.controls.ordered (is_accepted setup past c moment q control command)))
+      (ordered_if s.controls.ordered (is_accepted setup told past c moment q control command)))
 
   stands_so : (q : ℕ) → Known setup past
       → option_map told_of (standing_at setup moment q s.controls) ≡ standing setup q moment past
@@ -207,16 +212,16 @@ module _ (setup : Setup) (past : List Entry) (moment c : ℕ) (command : Command
       selectable_is setup a control q s.controls ∙ ap (may_select setup c moment control command) (k.selects.tells q)
 
   full_so : (o : ℕ) → Known setup past → is_up o past ≡ true
-      → is_full_at (slice_get s.controls.outgoing o) ≡ not (nat_lt (length (waiting setup o past)) 16)
+      → is_full_at (slice_get s.controls.outgoing o) ≡ not (nat_lt (length (waiting told past o)) 16)
   full_so o k on =
-      full_is o (length (waiting setup o past)) s.controls.outgoing s.outstations (slice_get s.controls.outgoing o) refl
+      full_is o (length (waiting told past o)) s.controls.outgoing s.outstations (slice_get s.controls.outgoing o) refl
       (k.sound.masters ∙ sym k.sound.controls.outgoing) (k.waits o) (k.up o ∙ on)
 
   -- an execute is accepted where it is due
   accepted_so : (found : ℕ × Control) → control_for setup command ≡ Some found → Known setup past
       → answer_to_act s.controls.ordered
       (act_accepted a found.1 (standing_at setup moment found.0 s.controls) s.controls)
-      ≡ ordered_if s.controls.ordered (is_accepted setup past c moment found.0 found.1 command)
+      ≡ ordered_if s.controls.ordered (is_accepted setup told past c moment found.0 found.1 command)
   accepted_so found is k =
       let q : ℕ = found.0 in
       let control : Control = found.1 in
@@ -224,11 +229,16 @@ module _ (setup : Setup) (past : List Entry) (moment c : ℕ) (command : Command
       let x : Option Selection = standing_at setup moment q s.controls in
       let so : Option Selected = standing setup q moment past in
       let full : Bool = is_full_at (slice_get s.controls.outgoing o) in
+      let free : Bool = is_free_for c so in
+      let same : Bool = is_selected_for c command.action so in
+      let room : Bool = nat_lt (length (waiting told past o)) 16 in
       acting_same s.controls.ordered control.select (act_by a control) full a.up (is_up o past) (is_taken a x)
-      (not (is_free_for c so)) (is_selected a x) (is_selected_for c command.action so)
+      (not free) (is_selected a x) same
       (ap (is_control_up s.outstations) is ∙ k.up o) (taken_so q k) (same_so q k)
-      ∙ acted control s.controls.ordered control.select (act_by a control) (is_up o past) (is_free_for c so)
-      (is_selected_for c command.action so) full (nat_lt (length (waiting setup o past)) 16) (full_so o k)
+      ∙ (acted s.controls.ordered control.select (act_by a control) (is_up o past) free same full room (full_so o k)
+      ∙ ap (λ (b : Bool). ordered_if s.controls.ordered
+      (b && is_up o past && free && (not control.select || same) && room))
+      (permitted_is control.operates command.action))
 
   answer_is : (found : ℕ × Control) → control_for setup command ≡ Some found → Known setup past
       → answer_for a found.1 (standing_at setup moment found.0 s.controls) s.controls
@@ -239,29 +249,29 @@ module _ (setup : Setup) (past : List Entry) (moment c : ℕ) (command : Command
       (is_selected_by c (standing setup found.0 moment past)) (is_selectable a found.1 x)
       (may_select setup c moment found.1 command (selected setup found.0 past))
       (answer_to_act s.controls.ordered (act_accepted a found.1 x s.controls))
-      (ordered_if s.controls.ordered (is_accepted setup past c moment found.0 found.1 command))
+      (ordered_if s.controls.ordered (is_accepted setup told past c moment found.0 found.1 command))
       (own_so found.0 k) (may_so found.0 found.1 k) (accepted_so found is k)
 
   said_of : (found : Option (ℕ × Control)) → control_for setup command ≡ found → Known setup past
-      → said_by (answer_at setup a found s.controls) ≡ said_due setup past c moment command found
+      → said_by (answer_at setup a found s.controls) ≡ said_due setup told past c moment command found
   said_of None is k = refl
   said_of (Some found) is k =
       ap said_by (answer_is found is k)
       ∙ said_is s.controls.ordered (is_deactivation command) (is_select command.action)
       (is_selected_by c (standing setup found.0 moment past))
       (may_select setup c moment found.1 command (selected setup found.0 past))
-      (is_accepted setup past c moment found.0 found.1 command)
+      (is_accepted setup told past c moment found.0 found.1 command)
 
   execute_of_found : (found : Option (ℕ × Control)) → control_for setup command ≡ found → Known setup past
       → execute_answered c command found (answer_at setup a found s.controls)
-      ≡ execute_for setup past c moment command found
+      ≡ execute_for setup told past c moment command found
   execute_of_found None is k = refl
   execute_of_found (Some found) is k =
       ap (execute_answered c command (Some found)) (answer_is found is k)
       ∙ execute_is s.controls.ordered c command found (is_deactivation command) (is_select command.action)
       (is_selected_by c (standing setup found.0 moment past))
       (may_select setup c moment found.1 command (selected setup found.0 past))
-      (is_accepted setup past c moment found.0 found.1 command)
+      (is_accepted setup told past c moment found.0 found.1 command)
 
 -- ---- an APDU
 
@@ -278,15 +288,15 @@ module _ (setup : Setup) (past : List Entry) (c m : ℕ) (apdu : Apdu) where
   due_of : (command : Option Command) → Known setup past
       → SaysDue setup past arrival (with_client command)
       × (execute_made setup state (latest state m) c command
-      ≡ execute_by setup past (moment_at past arrival) (with_client command))
+      ≡ execute_by setup (orders setup past) past (moment_at past arrival) (with_client command))
   due_of None k = (tt, refl)
   due_of (Some command) k =
       let told : latest state m ≡ moment_at past arrival = ap (λ (n : ℕ). later n m) k.moment in
       let found : Option (ℕ × Control) = control_for setup command in (
         said_of setup past (latest state m) c command found refl k
-            ∙ ap (λ (n : ℕ). said_due setup past c n command found) told,
+            ∙ ap (λ (n : ℕ). said_due setup (orders setup past) past c n command found) told,
         execute_of_found setup past (latest state m) c command found refl k
-            ∙ ap (λ (n : ℕ). execute_for setup past c n command found) told,
+            ∙ ap (λ (n : ℕ). execute_for setup (orders setup past) past c n command found) told,
       )
 
   -- of a client that is there, by why it closes
@@ -298,6 +308,8 @@ module _ (setup : Setup) (past : List Entry) (c m : ℕ) (apdu : Apdu) where
       ap (command_of setup apdu) at
       ∙ ap (λ (y : Option Why). command_given y (command_in setup apdu)) closes in
       subst (λ (x : Reply). AnswersDue setup past (entry arrival (Ok x)) x) is (record {
+        taken = takes_carried setup k.single arrival (replies.Closed why);
+        control = tt;
         said = tt;
         execute = ap (execute_made setup state (latest state m) c) given;
       })
@@ -307,6 +319,8 @@ module _ (setup : Setup) (past : List Entry) (c m : ℕ) (apdu : Apdu) where
       ap (command_of setup apdu) at ∙ ap (λ (y : Option Why). command_given y command) taken in
       let due = due_of command k in
       subst (λ (x : Reply). AnswersDue setup past (entry arrival (Ok x)) x) (sym (taken_reply command) ∙ is) (record {
+        taken = takes_carried setup k.single arrival replies.Taken;
+        control = is_for_control setup c k.single apdu;
         said = due.0;
         execute = ap (execute_made setup state (latest state m) c) given ∙ due.1;
       })
@@ -328,11 +342,4 @@ pub answers_by : (setup : Setup) (past : List Entry) (step : Step) (reply : Resu
     → Known setup past → AnswersBy setup past (entry step reply) reply
 answers_by setup past step (Err f) allowed k = refl
 answers_by setup past (steps.Frame c apdu m) (Ok r) allowed k = frame setup past c m apdu r allowed.0 k
-answers_by setup past (steps.OutstationUp o m) (Ok r) allowed k = record { said = tt; execute = refl }
-answers_by setup past (steps.OutstationDown o m) (Ok r) allowed k = record { said = tt; execute = refl }
-answers_by setup past (steps.Fragment f m) (Ok r) allowed k = record { said = tt; execute = refl }
-answers_by setup past (steps.Poll o m wall) (Ok r) allowed k = record { said = tt; execute = refl }
-answers_by setup past (steps.ClientUp c m) (Ok r) allowed k = record { said = tt; execute = refl }
-answers_by setup past (steps.ClientDown c m) (Ok r) allowed k = record { said = tt; execute = refl }
-answers_by setup past (steps.Pump c m) (Ok r) allowed k = record { said = tt; execute = refl }
-answers_by setup past (steps.Tick m) (Ok r) allowed k = record { said = tt; execute = refl }
+answers_by setup past _ (Ok r) allowed k = record { taken = refl; control = tt; said = tt; execute = refl }

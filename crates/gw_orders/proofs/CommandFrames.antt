@@ -123,7 +123,7 @@ abbrev pub FreshState : State → Type 0
 FreshState s = IsFresh s.clients s.sessions s.counts.sessions s.controls
 
 -- the session of its client ends
-ending : (c : ℕ) (s : State) (f : Client → Client) (k : Client) → slice_get s.clients c ≡ Some k
+pub ending : (c : ℕ) (s : State) (f : Client → Client) (k : Client) → slice_get s.clients c ≡ Some k
     → is_started (f k).stage ≡ false → FreshState s
     → IsFresh (change c f s.clients) s.sessions (s.counts.sessions + 0) (controls_after_end c s.controls)
 ending c s f k at stopped fresh =
@@ -132,7 +132,7 @@ ending c s f k at stopped fresh =
     (λ d. stage_changed c f s.clients d k false at stopped) (omega arith) (end_leaves c s.controls) fresh
 
 -- no session begins or ends
-staying : (c : ℕ) (s : State) (f : Client → Client) (k : Client) (w : Controls) → slice_get s.clients c ≡ Some k
+pub staying : (c : ℕ) (s : State) (f : Client → Client) (k : Client) (w : Controls) → slice_get s.clients c ≡ Some k
     → is_started (f k).stage ≡ is_started k.stage → IsFresh s.clients s.sessions s.counts.sessions w
     → IsFresh (change c f s.clients) s.sessions (s.counts.sessions + 0) w
 staying c s f k w at same fresh =

@@ -34,11 +34,13 @@ use Rattle.gw_steps.proofs.Inversion.{answered, who_is_down, who_is_up}
 use Rattle.gw_steps.proofs.Running.{entry}
 use Rattle.gw_history.specs.Accepted.{moment_after}
 use Rattle.gw_history.specs.Life.{has_bit}
+use Rattle.gw_orders.proofs.PendingCloses.{bit_told}
 use Rattle.gw_orders.specs.Selections.{Selected, moment_at, selected, selected_with}
+use Rattle.gw_orders.proofs.Changed.{all_told, told_kept}
 use Rattle.gw_orders.proofs.Opened.{Leaves, end_leaves, none_current, none_kept, none_open, open_at, open_left, still_leaves, unless_none}
-use Rattle.gw_orders.proofs.SelectionCloses.{bit_told, ended_selections, ended_sessions, lost_selections, lost_sessions, tick_leaves}
-use Rattle.gw_orders.proofs.Stages.{pumped_stage, stage_changed, stage_kept, stage_stays, stages_kept, started_at, ticked_stage, told_length, told_stage}
-use Rattle.gw_orders.proofs.CommandFrames.{FreshState, IsFresh, Framed, framed, framing, leaving}
+use Rattle.gw_orders.proofs.SelectionCloses.{ended_selections, ended_sessions, lost_selections, lost_sessions, tick_leaves}
+use Rattle.gw_orders.proofs.Stages.{pumped_stage, started_at, ticked_stage, told_length, told_stage}
+use Rattle.gw_orders.proofs.CommandFrames.{FreshState, IsFresh, Framed, ending, framed, framing, leaving, staying}
 
 -- after a step with a reply
 pub record Goes (setup : Setup) (past : List Entry) (step : Step) (r : Reply) (s new : State) : Type 0 where
@@ -67,7 +69,7 @@ news_come s xs outcomes w sessions selections fresh =
     let ks : List Client = map (client_with_news xs) s.clients in
     leaving (λ c. false) s.clients (clients_told outcomes ks) s.sessions s.counts.sessions (s.counts.sessions + 0)
     s.controls w (told_length outcomes ks ∙ length-map s.clients (client_with_news xs))
-    (λ c. told_stage outcomes ks c ∙ stages_kept (client_with_news xs) s.clients c (λ k. refl))
+    (λ c. told_stage outcomes ks c ∙ all_told started_at (client_with_news xs) s.clients c (λ k. refl))
     (omega arith) (still_leaves s.controls w sessions selections) fresh
 
 -- ---- outstations
@@ -146,12 +148,8 @@ client_up setup past c m r s e fresh =
     let told = answered (fault_of s step) (can_be_counted s (needs setup s step)) (reply_to setup s step) r e in
     let down = who_is_down (λ (k : Client). is_up k.stage) NoClient (slice_get s.clients c) told.0 in
     record {
-      fresh = leaving (λ d. false) s.clients (change c (client_after_up (latest s m)) s.clients) s.sessions
-          s.counts.sessions (s.counts.sessions + 0) s.controls s.controls
-          (change-length c (client_after_up (latest s m)) s.clients)
-          (λ d. stage_stays c (client_after_up (latest s m)) s.clients d down.0 down.1
-          (sym (not_started down.0.stage down.2)))
-          (omega arith) (still_leaves s.controls s.controls refl refl) fresh;
+      fresh = staying c s (client_after_up (latest s m)) down.0 s.controls down.1
+          (sym (not_started down.0.stage down.2)) fresh;
       opened = λ p. sym (unless_none (open_at p s.controls));
     }
 
@@ -163,11 +161,7 @@ client_down setup past c m r s e fresh =
     let told = answered (fault_of s step) (can_be_counted s (needs setup s step)) (reply_to setup s step) r e in
     let up = who_is_up (λ (k : Client). is_up k.stage) NoClient (slice_get s.clients c) told.0 in
     record {
-      fresh = leaving (λ d. d == c) s.clients (change c client_after_close s.clients) s.sessions s.counts.sessions
-          (s.counts.sessions + 0) s.controls (controls_after_end c s.controls)
-          (change-length c client_after_close s.clients)
-          (λ d. stage_changed c client_after_close s.clients d up.0 false up.1 refl) (omega arith)
-          (end_leaves c s.controls) fresh;
+      fresh = ending c s client_after_close up.0 up.1 refl fresh;
       opened = λ p. open_left (λ d. d == c) s.controls (controls_after_end c s.controls) p (end_leaves c s.controls);
     }
 
@@ -177,7 +171,7 @@ pump setup past c m r s fresh = record {
   fresh = leaving (λ d. false) s.clients (change c (client_after_pump (latest s m)) s.clients) s.sessions
       s.counts.sessions (s.counts.sessions + 0) s.controls s.controls
       (change-length c (client_after_pump (latest s m)) s.clients)
-      (λ d. stage_kept c (client_after_pump (latest s m)) s.clients d (λ k. pumped_stage (latest s m) k))
+      (λ d. told_kept started_at c (client_after_pump (latest s m)) s.clients d (λ k. pumped_stage (latest s m) k))
       (omega arith) (still_leaves s.controls s.controls refl refl) fresh;
   opened = λ p. sym (unless_none (open_at p s.controls));
 }

@@ -11,9 +11,9 @@ use Rattle.gw_picture.proofs.Lists.{change-here, change-there}
 use Rattle.gw_control.specs.declared.asked.AskedCommand.{AskedCommand}
 use Rattle.gw_control.specs.declared.selection.Selection.{Selection}
 use Rattle.gw_control.specs.Controls.{Controls, NotPermitted, SelectedByAnother, act_accepted, act_by, controls_after_for, controls_ordering, controls_selecting, controls_unselecting, is_deactivation, is_selectable, standing_at}
-use Rattle.gw_control.specs.Intents.{intent_of}
 use Rattle.gw_control.specs.Selections.{asks_same, is_fresh, is_open, is_own, is_select, is_selected, is_session, is_taken, selection_by, standing_in, stands, unselected_by}
 use Rattle.gw_orders.specs.Selections.{Selected, if_fresh, is_free_for, is_selected_by, is_selected_for, may_select, selected_after, unless_by}
+use Rattle.gw_orders.proofs.Words.{permitted_is, same_is}
 use Rattle.gw_orders.proofs.Opened.{Fresh, IsCurrent, IsKept, KeptAt, open_at, open_selection, told_of}
 
 -- ---- a selection ends
@@ -179,8 +179,9 @@ open_ordering : (a : AskedCommand) (control : Control) (act : Option Act) (p : �
 open_ordering a control None p v = refl
 open_ordering a control (Some act) p v = refl
 
-fresh_ordering : (started : ℕ → Bool) (number : ℕ → ℕ) (count : ℕ) (a : AskedCommand) (control : Control) (act : Option Act)
-    (v : Controls) → Fresh started number count v → Fresh started number count (controls_ordering a control act v)
+fresh_ordering : (started : ℕ → Bool) (number : ℕ → ℕ) (count : ℕ) (a : AskedCommand) (control : Control)
+    (act : Option Act) (v : Controls) → Fresh started number count v
+    → Fresh started number count (controls_ordering a control act v)
 fresh_ordering started number count a control None v fresh = fresh
 fresh_ordering started number count a control (Some act) v fresh =
     record { counted = fresh.counted; current = fresh.current; kept = fresh.kept }
@@ -245,26 +246,29 @@ module _ (started : ℕ → Bool) (number : ℕ → ℕ) (count : ℕ) (a : Aske
   selected_is None fresh is stands = refl
   selected_is (Some x) fresh is stands =
       ap (λ (b : Bool). b && asks_same x.action a.command.action) (own_is (Some x) fresh is stands)
+      ∙ ap (λ (b : Bool). (x.client == a.client) && b) (same_is x.action a.command.action)
 
 -- ---- a select
 
-selectable_by : (control : Control) (act : Option Act) (free : Bool)
+selectable_by : (act : Option Act) (free : Bool)
     → is_none (first_of (when (is_none act) NotPermitted ∷ when (not free) SelectedByAnother ∷ []))
-    ≡ (is_some (option_map (intent_of control) act) && free)
-selectable_by control None free = refl
-selectable_by control (Some act) true = refl
-selectable_by control (Some act) false = refl
+    ≡ (is_some act && free)
+selectable_by None free = refl
+selectable_by (Some act) true = refl
+selectable_by (Some act) false = refl
 
 pub selectable_is : (setup : Setup) (a : AskedCommand) (control : Control) (q : ℕ) (v : Controls)
     → is_selectable a control (standing_at setup a.moment q v)
     ≡ may_select setup a.client a.moment control a.command (open_at q v)
 selectable_is setup a control q v =
+    let free : Bool = is_free_for a.client (if_fresh setup a.moment (open_at q v)) in
     ap (λ (t : Bool).
     is_none (first_of (when (is_none (act_by a control)) NotPermitted ∷ when t SelectedByAnother ∷ [])))
     (taken_is a (standing_at setup a.moment q v)
     ∙ ap (λ (x : Option Selected). not (is_free_for a.client x))
     (standing_told setup a.moment v.sessions (slice_get v.selections q)))
-    ∙ selectable_by control (act_by a control) (is_free_for a.client (if_fresh setup a.moment (open_at q v)))
+    ∙ (selectable_by (act_by a control) free
+    ∙ ap (λ (b : Bool). b && free) (permitted_is control.operates a.command.action))
 
 -- ---- a command
 
@@ -299,8 +303,8 @@ module _ (setup : Setup) (a : AskedCommand) (q : ℕ) (control : Control) (v : C
   selected_there p true false e k new = new ∙ ap (λ (y : Bool). cond y new_selection (open_at p v)) e
   selected_there p false false e k new = refl
 
-module _ (setup : Setup) (started : ℕ → Bool) (number : ℕ → ℕ) (count : ℕ) (a : AskedCommand) (q : ℕ) (control : Control)
-    (v : Controls) where
+module _ (setup : Setup) (started : ℕ → Bool) (number : ℕ → ℕ) (count : ℕ) (a : AskedCommand) (q : ℕ)
+    (control : Control) (v : Controls) where
   selecting : (b : Bool) → is_selectable a control (standing_at setup a.moment q v) ≡ b
       → Fresh started number count v → started a.client ≡ true → a.session ≡ number a.client
       → a.client < length v.sessions → q < length v.selections

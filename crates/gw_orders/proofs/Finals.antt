@@ -70,7 +70,8 @@ command_final : (xs : List Execute) (o n : ℕ) (f : Fragment) (operation : Oper
     → is_final (Answered (took (operating_of (octets_of (asking operation order n))) f.octets) ∷ ms) ≡ true
 command_final xs o n f operation order e ms is small asked ends =
     let last = newest o n operation order ms asked in
-    let done : took (operating_of (octets_of (asking operation order n))) f.octets ≡ is_done (Command operation order) f =
+    let done : took (operating_of (octets_of (asking operation order n))) f.octets
+    ≡ is_done (Command operation order) f =
     ap (λ (x : Option Operating). took x f.octets) (reads_again xs o order operation n is small) in
     rw (last.1, done, reads_operation xs o order operation n is small)
     (ended_final operation order (is_done (Command operation order) f) e ends)
@@ -96,7 +97,8 @@ task_final : (setup : Setup) (past : List Entry) (o n : ℕ) (f : Fragment) (tas
 task_final setup past o n f (Command operation order) found e number small last k ends same =
     let there : order.number ≡ number =
     number_of operation order (is_done (Command operation order) f) e ends ∙ sym same in
-    subst (λ (i : ℕ). is_final (option_to_list (mark_answered i past (Some (o, f.octets))) ++ marks i past) ≡ true) there
+    subst (λ (i : ℕ). is_final (option_to_list (mark_answered i past (Some (o, f.octets))) ++ marks i past) ≡ true)
+    there
     (ap is_final (answered_marks past o n f.octets operation order last)
     ∙ command_final (story setup past).executes o n f operation order e (marks order.number past) k.0.order_is small k.1
     ends)

@@ -53,7 +53,8 @@ one_more setup past step (Ok r) allowed history bonds so_far =
     record {
       history = history;
       bonds = bonds;
-      follows = λ o. k.pending o ∙ ap (λ (ps : List Pending). pending_with setup o past (entry step (Ok r)) ps r) (so_far.follows o);
+      follows = λ o. k.pending o
+          ∙ ap (λ (ps : List Pending). pending_with setup o past (entry step (Ok r)) ps r) (so_far.follows o);
       told = k.told so_far.follows;
     }
 one_more setup past step (Err f) allowed history bonds so_far =

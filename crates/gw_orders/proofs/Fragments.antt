@@ -122,7 +122,8 @@ fragment_left setup past f m s x at left known =
     calm setup past step r s new none
     (λ p. let here : slice_get new.controls.outgoing p ≡ slice_get s.controls.outgoing p =
     ap (λ (v : Controls). slice_get v.outgoing p) same in
-    subst (λ (y : Option Outgoing). At setup past (entry step (Ok r)) r p (slice_get s.controls.outgoing p) y []) (sym here)
+    subst (λ (y : Option Outgoing). At setup past (entry step (Ok r)) r p (slice_get s.controls.outgoing p) y [])
+    (sym here)
     (fragment_at setup past f m r p (slice_get new.outstations p) None (slice_get s.controls.outgoing p)
     (subst (λ (y : Option Outgoing).
     Holds (story setup (entry step (Ok r) ∷ past)) p (slice_get new.outstations p) y) here (known.places p))

@@ -87,8 +87,8 @@ has_place [] o x at = absurd (let no : ⊥ = cc in no)
 has_place (y ∷ ys) zero x at = omega arith
 has_place (y ∷ ys) (suc o) x at = omega (arith, has_place ys o x at)
 
-pub within : (setup : Setup) (s : State) (o : ℕ) (x : Master) → IsSoundState setup s → slice_get s.outstations o ≡ Some x
-    → o < length setup.outstations
+pub within : (setup : Setup) (s : State) (o : ℕ) (x : Master) → IsSoundState setup s
+    → slice_get s.outstations o ≡ Some x → o < length setup.outstations
 within setup s o x sound at = omega (arith, has_place s.outstations o x at, sound.masters)
 
 pub few_wait : (count : ℕ) (q : Option Outgoing) → InOrderAt count q → HasFew places q

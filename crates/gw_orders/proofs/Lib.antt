@@ -26,6 +26,8 @@ pub mod Ticks
 pub mod PendingApdus
 pub mod PendingSteps
 pub mod Follows
+pub mod Changed
+pub mod Words
 pub mod Opened
 pub mod Commanded
 pub mod Stages
@@ -33,8 +35,8 @@ pub mod SelectionCloses
 pub mod CommandFrames
 pub mod CommandSteps
 pub mod Up
+pub mod Carried
 pub mod Answered
-pub mod Waits
 pub mod CommandsTold
 pub mod RequestTurns
 pub mod RequestRanked

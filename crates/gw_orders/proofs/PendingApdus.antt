@@ -24,9 +24,9 @@ use Rattle.gw_steps.proofs.Inversion.{answered, who_is_up}
 use Rattle.gw_steps.proofs.Running.{entry}
 use Rattle.gw_orders.specs.Executes.{execute_by, executes}
 use Rattle.gw_orders.specs.Sessions.{ends_by}
-use Rattle.gw_orders.specs.Pending.{Pending, after_sessions}
+use Rattle.gw_orders.specs.Pending.{Pending, after_sessions, order_made}
 use Rattle.gw_orders.proofs.PendingCloses.{rows_end}
-use Rattle.gw_orders.proofs.PendingFrames.{order_made, rows_commanded}
+use Rattle.gw_orders.proofs.PendingFrames.{rows_commanded}
 use Rattle.gw_orders.proofs.PendingPlaces.{at_calm, same_rows}
 use Rattle.gw_orders.proofs.Rows.{none_leaves, quiet, rows}
 use Rattle.gw_orders.proofs.Kept.{StepFollows, Before, calm}
@@ -107,8 +107,8 @@ frame setup past c apdu m r e k =
     let count : s.controls.ordered + 1 ≡ suc (length (executes setup past)) = omega (arith, k.orders.count) in
     let each : (o : ℕ) → FoundAt setup past s moment c apdu o became (suc (length (executes setup past)))
     (slice_get s.clients c) =
-    λ o. subst (λ (x : Option Client). FoundAt setup past s moment c apdu o became (suc (length (executes setup past))) x)
-    (sym up.1)
+    λ o. subst (λ (x : Option Client). FoundAt setup past s moment c apdu o became (suc (length (executes setup past)))
+    x) (sym up.1)
     (subst (λ (n : ℕ). FoundAt setup past s moment c apdu o became n (Some up.0)) count
     (frame_at setup past s moment c o apdu k (close_of setup apdu up.0) (command_in setup apdu) refl)) in
     subst (λ (x : Reply). StepFollows setup past step x s (after setup s step)) reply

@@ -49,7 +49,7 @@ rows_close setup past masters i (false ∷ bs) v o tied = rows_close setup past 
 
 -- ---- their bits
 
-abbrev bit_at : ℕ → List Bool → Bool
+abbrev pub bit_at : ℕ → List Bool → Bool
 bit_at c [] = false
 bit_at zero (b ∷ bs) = b
 bit_at (suc c) (b ∷ bs) = bit_at c bs
@@ -90,7 +90,7 @@ others : (b : Bool) (n : ℕ) → (one_if b + 2 * n) / 2 ≡ n
 others true n = omega arith
 others false n = omega arith
 
-bit_told : (bs : List Bool) (c : ℕ) → has_bit c (bits_of bs) ≡ bit_at c bs
+pub bit_told : (bs : List Bool) (c : ℕ) → has_bit c (bits_of bs) ≡ bit_at c bs
 bit_told [] c = no_bit c
 bit_told (b ∷ bs) zero = lowest b (bits_of bs)
 bit_told (b ∷ bs) (suc c) = ap (has_bit c) (others b (bits_of bs)) ∙ bit_told bs c

@@ -1,6 +1,6 @@
 -- An APDU comes: an execute that is accepted is pending, and a session ends.
 use Rattle.std.proofs.Common.{◌≡◌, ℕ, ◌+◌, Bool, true, false, cond, List, [], ◌∷◌, ◌++◌, Option, Some, None, option_map, refl, sym, ap, subst, ◌∙◌, inl, inr}
-use Rattle.std.specs.Prelude.{option_and_then, slice_get}
+use Rattle.std.specs.Prelude.{slice_get}
 use Rattle.std.specs.Option.{option_to_list}
 use Rattle.std.proofs.lemmas.Bool.{cases_eq, eq-eqb, ne_eqb}
 use Rattle.std.proofs.lemmas.List.{append-nil}
@@ -17,12 +17,8 @@ use Rattle.gw_control.specs.Orders.{Outgoing, outgoing_with}
 use Rattle.gw_control.specs.Selections.{is_own, is_select}
 use Rattle.gw_control.proofs.Keeps.{accepted}
 use Rattle.gw_orders.specs.Executes.{Execute, execute_answered}
-use Rattle.gw_orders.specs.Pending.{Pending, for_outstation, pending_by}
+use Rattle.gw_orders.specs.Pending.{order_made}
 use Rattle.gw_orders.proofs.Rows.{row_waiting, rows, rows_with}
-
--- the order that an execute makes, if it is for this outstation
-abbrev pub order_made : ℕ → ℕ → Option Execute → Option Pending
-order_made o number x = option_map (pending_by number) (option_and_then (for_outstation o) x)
 
 -- an execute that is accepted, or none, leaves orders so
 abbrev pub Makes : ℕ → Option Execute → Controls → Controls → Type 0

@@ -132,4 +132,5 @@ ended_due setup past e es v each =
     ended_from setup past e 0 es v
     (λ i p at. let same : p ≡ i = omega (arith, at) in
     each p
-    ∙ ap (λ (j : ℕ). map telling_of (option_to_list (outcome_in (flat (slice_get es j)) (slice_get v.outgoing p)))) same)
+    ∙ ap (λ (j : ℕ). map telling_of (option_to_list (outcome_in (flat (slice_get es j)) (slice_get v.outgoing p))))
+    same)

@@ -69,7 +69,8 @@ waiting_leave ends past (x ∷ xs) all = by (waiting_leave ends past xs all.1) (
   where
     by : map row_waiting (filter (λ y. not (ends y.client)) xs) ≡ after_sessions ends past (map row_waiting xs)
         → (b : Bool) → ends x.client ≡ b
-        → map row_waiting (filter (λ y. not (ends y.client)) (x ∷ xs)) ≡ after_sessions ends past (map row_waiting (x ∷ xs))
+        → map row_waiting (filter (λ y. not (ends y.client)) (x ∷ xs))
+        ≡ after_sessions ends past (map row_waiting (x ∷ xs))
     by rest true is = rw (all.0, is) rest
     by rest false is = rw (all.0, is, is) (ap (λ (ps : List Pending). row_waiting x ∷ ps) rest)
 

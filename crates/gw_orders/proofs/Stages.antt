@@ -26,6 +26,8 @@ use Rattle.gw_station.specs.Frames.{begins, client_by, client_taking, close_of, 
 use Rattle.gw_station.specs.Pump.{client_after_pump, client_by_offer, offered}
 use Rattle.gw_steps.specs.Controls.{client_told_of, clients_told}
 use Rattle.gw_steps.specs.Steps.{client_after_frame, client_answered}
+use Rattle.gw_orders.proofs.PendingCloses.{bit_at}
+use Rattle.gw_orders.proofs.Changed.{told_changed, told_kept}
 
 abbrev pub started_at : Option Client → Bool
 started_at None = false
@@ -39,28 +41,12 @@ place_of (suc n) (y ∷ xs) x at = omega (arith, place_of n xs x at)
 
 -- ---- one client
 
--- a change that keeps stages
-pub stage_kept : (n : ℕ) (f : Client → Client) (ks : List Client) (c : ℕ)
-    → ((k : Client) → is_started (f k).stage ≡ is_started k.stage)
-    → started_at (slice_get (change n f ks) c) ≡ started_at (slice_get ks c)
-stage_kept n f [] c same = refl
-stage_kept zero f (k ∷ ks) zero same = same k
-stage_kept zero f (k ∷ ks) (suc c) same = refl
-stage_kept (suc n) f (k ∷ ks) zero same = refl
-stage_kept (suc n) f (k ∷ ks) (suc c) same = stage_kept n f ks c same
-
 -- client n is started now, or it isn't
 pub stage_changed : (n : ℕ) (f : Client → Client) (ks : List Client) (c : ℕ) (k : Client) (b : Bool)
     → slice_get ks n ≡ Some k → is_started (f k).stage ≡ b
     → started_at (slice_get (change n f ks) c) ≡ cond (c == n) b (started_at (slice_get ks c))
-stage_changed n f ks c k b at is = elim (cases_eq n c) [
-  | inl e ↦ subst (λ (x : ℕ). started_at (slice_get (change n f ks) x)
-      ≡ cond (x == n) b (started_at (slice_get ks x))) e
-      (ap started_at (change-here n f ks ∙ ap (option_map f) at)
-      ∙ (is ∙ sym (ap (λ (y : Bool). cond y b (started_at (slice_get ks n))) (eq-eqb n n refl))))
-  | inr ne ↦ ap started_at (change-there n c f ks ne)
-      ∙ sym (ap (λ (y : Bool). cond y b (started_at (slice_get ks c))) (ne_eqb c n (λ e. ne (sym e))))
-]
+stage_changed n f ks c k b at is =
+    told_changed started_at n f ks c k b (c == n) at is (λ e. eq-eqb c n (sym e)) (λ ne. ne_eqb c n (λ e. ne (sym e)))
 
 pub stage_there : (n : ℕ) (f : Client → Client) (ks : List Client) (c : ℕ) → (n ≡ c → ⊥)
     → started_at (slice_get (change n f ks) c) ≡ started_at (slice_get ks c)
@@ -78,19 +64,12 @@ stage_stays n f ks c k at same = elim (cases_eq n c) [
 
 -- ---- all clients
 
-pub stages_kept : (f : Client → Client) (ks : List Client) (c : ℕ)
-    → ((k : Client) → is_started (f k).stage ≡ is_started k.stage)
-    → started_at (slice_get (map f ks) c) ≡ started_at (slice_get ks c)
-stages_kept f [] c same = refl
-stages_kept f (k ∷ ks) zero same = same k
-stages_kept f (k ∷ ks) (suc c) same = stages_kept f ks c same
-
 pub told_stage : (xs : List Outcome) (ks : List Client) (c : ℕ)
     → started_at (slice_get (clients_told xs ks) c) ≡ started_at (slice_get ks c)
 told_stage [] ks c = refl
 told_stage (x ∷ xs) ks c =
     told_stage xs (change x.client (client_told_of x) ks) c
-    ∙ stage_kept x.client (client_told_of x) ks c (λ k. refl)
+    ∙ told_kept started_at x.client (client_told_of x) ks c (λ k. refl)
 
 pub told_length : (xs : List Outcome) (ks : List Client) → length (clients_told xs ks) ≡ length ks
 told_length [] ks = refl
@@ -99,14 +78,10 @@ told_length (x ∷ xs) ks =
 
 -- ---- a tick
 
-abbrev pub true_at : Option Bool → Bool
-true_at None = false
-true_at (Some b) = b
-
 -- it closes clients whose t1 has passed
 pub ticked_stage : (moment : ℕ) (ks : List Client) (c : ℕ)
     → started_at (slice_get (map (client_after_tick moment) ks) c)
-    ≡ cond (true_at (slice_get (map (is_timed_out moment) ks) c)) false (started_at (slice_get ks c))
+    ≡ cond (bit_at c (map (is_timed_out moment) ks)) false (started_at (slice_get ks c))
 ticked_stage moment [] c = refl
 ticked_stage moment (k ∷ ks) zero = by (is_timed_out moment k)
   where

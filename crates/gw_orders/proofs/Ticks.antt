@@ -157,7 +157,8 @@ tick setup past m r s e k =
       told = λ follows.
           ended_due setup past en es v
           (λ p. due_here setup past step ticked s p (slice_get (after setup s step).controls.outgoing p)
-          (TellingAt (option_and_then (ended_by_tick moment) (slice_get s.outstations p)) (slice_get v.outgoing p)) follows
+          (TellingAt (option_and_then (ended_by_tick moment) (slice_get s.outstations p)) (slice_get v.outgoing p))
+          follows
           (tick_at setup past m s p k)
           ∙ ap (λ (x : Option Ended). TellingAt x (slice_get v.outgoing p)) (sym (flat_at s.outstations moment p)))
           ∙ ap (due_from setup past en 0) many;

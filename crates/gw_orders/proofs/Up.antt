@@ -1,12 +1,10 @@
 -- At each place of a run an outstation is up where the history tells so.
-use Rattle.std.proofs.Common.{◌≡◌, ℕ, zero, suc, Bool, true, false, cond, List, [], ◌∷◌, map, Option, Some, None, option_map, Result, Ok, Err, refl, sym, ap, subst, ◌∙◌, inl, inr}
+use Rattle.std.proofs.Common.{◌≡◌, ℕ, zero, suc, Bool, true, false, cond, List, [], ◌∷◌, map, Option, Some, None, Result, Ok, Err, refl, ap, ◌∙◌, inl, inr}
 use Rattle.std.specs.Prelude.{◌==◌, slice_get}
-use Rattle.std.proofs.lemmas.Bool.{cases_Bool, cases_eq, eq-eqb, ne_eqb}
-use Rattle.gw_model.specs.Places.{change}
+use Rattle.std.proofs.lemmas.Bool.{cases_Bool, eq-eqb, ne_eqb}
 use Rattle.gw_model.specs.declared.control.Order.{Order}
 use Rattle.gw_entries.specs.Setup.{OutstationSetup}
 use Rattle.gw_map.specs.Settings.{Setup}
-use Rattle.gw_picture.proofs.Lists.{change-here, change-there}
 use Rattle.dnp_app.specs.Response.{Fragment, is_unsolicited}
 use Rattle.dnp_master.specs.declared.exchange.Exchange.{Exchange}
 use Rattle.dnp_master.specs.declared.exchange.Exchange.TheVariants.{Idle, Selected, Waiting}
@@ -25,6 +23,7 @@ use Rattle.gw_steps.specs.Runs.{Entry, state_after}
 use Rattle.gw_steps.proofs.Inversion.{answered, who_is_down, who_is_up}
 use Rattle.gw_steps.proofs.Running.{entry}
 use Rattle.gw_orders.specs.Commands.{is_up, up_after}
+use Rattle.gw_orders.proofs.Changed.{all_told, told_changed, told_kept}
 
 -- ---- one master
 
@@ -56,43 +55,15 @@ fragment_up moment f m = by (accepts m f) (is_unsolicited f)
     by true false = answered_up moment f m.exchange m
     by false b = refl
 
--- ---- all masters
-
-up_kept : (o : ℕ) (f : Master → Master) (ms : List Master) (p : ℕ) → ((m : Master) → (f m).up ≡ m.up)
-    → is_up_at (slice_get (change o f ms) p) ≡ is_up_at (slice_get ms p)
-up_kept o f [] p same = refl
-up_kept zero f (m ∷ ms) zero same = same m
-up_kept zero f (m ∷ ms) (suc p) same = refl
-up_kept (suc o) f (m ∷ ms) zero same = refl
-up_kept (suc o) f (m ∷ ms) (suc p) same = up_kept o f ms p same
-
-up_all : (f : Master → Master) (ms : List Master) (p : ℕ) → ((m : Master) → (f m).up ≡ m.up)
-    → is_up_at (slice_get (map f ms) p) ≡ is_up_at (slice_get ms p)
-up_all f [] p same = refl
-up_all f (m ∷ ms) zero same = same m
-up_all f (m ∷ ms) (suc p) same = up_all f ms p same
-
--- one that is there comes up, or goes down
-up_changed : (o : ℕ) (f : Master → Master) (ms : List Master) (p : ℕ) (m : Master) (b : Bool)
-    → slice_get ms o ≡ Some m → (f m).up ≡ b
-    → is_up_at (slice_get (change o f ms) p) ≡ cond (o == p) b (is_up_at (slice_get ms p))
-up_changed o f ms p m b at is = elim (cases_eq o p) [
-  | inl e ↦ subst (λ (x : ℕ). is_up_at (slice_get (change o f ms) x) ≡ cond (o == x) b (is_up_at (slice_get ms x))) e
-      (ap is_up_at (change-here o f ms ∙ ap (option_map f) at)
-      ∙ (is ∙ sym (ap (λ (y : Bool). cond y b (is_up_at (slice_get ms o))) (eq-eqb o o refl))))
-  | inr ne ↦ ap is_up_at (change-there o p f ms ne)
-      ∙ sym (ap (λ (y : Bool). cond y b (is_up_at (slice_get ms p))) (ne_eqb o p ne))
-]
-
 -- ---- each step
 
 polled_up : (s : State) (moment o wall : ℕ) (order : Option Order) (p : ℕ)
     → is_up_at (slice_get (parts_after_poll s moment o wall order).outstations p) ≡ is_up_at (slice_get s.outstations p)
 polled_up s moment o wall None p =
-    up_kept o (master_after_next moment wall) s.outstations p
+    told_kept is_up_at o (master_after_next moment wall) s.outstations p
     (λ m. given_up moment (task_given moment wall m) m)
 polled_up s moment o wall (Some order) p =
-    up_kept o (master_after_order moment order) s.outstations p (λ m. refl)
+    told_kept is_up_at o (master_after_order moment order) s.outstations p (λ m. refl)
 
 module _ (setup : Setup) (s : State) (p : ℕ) where
   abbrev Ups : Step → Type 0
@@ -104,7 +75,8 @@ module _ (setup : Setup) (s : State) (p : ℕ) where
       let step : Step = steps.OutstationUp o m in
       let told = answered (fault_of s step) (can_be_counted s (needs setup s step)) (reply_to setup s step) r e in
       let down = who_is_down (λ (x : Master). x.up) NoOutstation (slice_get s.outstations o) told.0 in
-      up_changed o (master_after_up (latest s m)) s.outstations p down.0 true down.1 refl
+      told_changed is_up_at o (master_after_up (latest s m)) s.outstations p down.0 true (o == p) down.1 refl
+      (eq-eqb o p) (ne_eqb o p)
 
   outstation_down : (o m : ℕ) (r : Reply) → outcome setup s (steps.OutstationDown o m) ≡ Ok r
       → Ups (steps.OutstationDown o m)
@@ -112,12 +84,13 @@ module _ (setup : Setup) (s : State) (p : ℕ) where
       let step : Step = steps.OutstationDown o m in
       let told = answered (fault_of s step) (can_be_counted s (needs setup s step)) (reply_to setup s step) r e in
       let up = who_is_up (λ (x : Master). x.up) NoOutstation (slice_get s.outstations o) told.0 in
-      up_changed o (λ (x : Master). master_down x.poll) s.outstations p up.0 false up.1 refl
+      told_changed is_up_at o (λ (x : Master). master_down x.poll) s.outstations p up.0 false (o == p) up.1 refl
+      (eq-eqb o p) (ne_eqb o p)
 
   fragment : (f : Fragment) (m : ℕ) → Ups (steps.Fragment f m)
   fragment f m = elim (cases_Bool (is_accepting s f)) [
     | inl taken ↦ rw taken
-        (up_kept f.outstation (master_after_fragment (latest s m) f) s.outstations p
+        (told_kept is_up_at f.outstation (master_after_fragment (latest s m) f) s.outstations p
         (λ x. fragment_up (latest s m) f x))
     | inr left ↦ rw left refl
   ]
@@ -131,7 +104,7 @@ module _ (setup : Setup) (s : State) (p : ℕ) where
   step_up (steps.ClientDown c m) r e = refl
   step_up (steps.Frame c apdu m) r e = refl
   step_up (steps.Pump c m) r e = refl
-  step_up (steps.Tick m) r e = up_all (master_after_tick (latest s m)) s.outstations p
+  step_up (steps.Tick m) r e = all_told is_up_at (master_after_tick (latest s m)) s.outstations p
       (λ x. late_up (latest s m) x.exchange x)
 
 -- ---- each place

@@ -13,7 +13,7 @@ use Rattle.gw_steps.specs.Runs.{Entry, unless_fault}
 use Rattle.gw_orders.specs.Executes.{Execute}
 use Rattle.gw_orders.specs.BondExample.{made, sends, set}
 use Rattle.gw_orders.specs.OutcomeExample.{joining, sends_by}
-use Rattle.gw_orders.specs.Commands.{execute_due, said_due}
+use Rattle.gw_orders.specs.Commands.{execute_due, orders, said_due}
 use Rattle.gw_orders.specs.Selections.{command_taken, moment_at}
 
 -- ---- what the newest entry gets
@@ -21,11 +21,12 @@ use Rattle.gw_orders.specs.Selections.{command_taken, moment_at}
 -- the execute that it makes an order
 abbrev pub newly_accepted : List Entry → Option Execute
 newly_accepted [] = None
-newly_accepted (e ∷ past) = unless_fault None (execute_due setup past e.step) e.reply
+newly_accepted (e ∷ past) = unless_fault None (execute_due setup (orders setup past) past e.step) e.reply
 
 abbrev pub said_of : List Entry → ℕ → Option (ℕ × Command) → Option Said
 said_of past moment None = None
-said_of past moment (Some came) = Some (said_due setup past came.0 moment came.1 (control_for setup came.1))
+said_of past moment (Some came) =
+    Some (said_due setup (orders setup past) past came.0 moment came.1 (control_for setup came.1))
 
 -- what is said of the command in it
 abbrev pub newly_said : List Entry → Option Said

@@ -1,5 +1,5 @@
--- Worked runs of one outstation and two clients: 5002 is set by SELECT and OPERATE. Sessions end in between, answers are
--- late, and the outstation is lost.
+-- Worked runs of one outstation and two clients: 5002 is set by SELECT and OPERATE. Sessions end in between, answers
+-- are late, and the outstation is lost.
 use Rattle.std.specs.Prelude.{ℕ, List, [], ◌∷◌, ◌++◌}
 use Rattle.iec_apci.specs.declared.apdu.Apdu.TheVariants.{I, U}
 use Rattle.iec_apci.specs.declared.apdu.Asdu.{Asdu}

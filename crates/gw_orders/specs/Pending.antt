@@ -1,6 +1,6 @@
--- The orders that are pending: accepted executes that aren't over, and didn't go with their session. An order waits until
--- a request asks for it. It is over when its request was answered to the end, but for a SELECT that was taken; when no
--- answer came in time; or when its outstation is lost.
+-- The orders that are pending: accepted executes that aren't over, and didn't go with their session. An order waits
+-- until a request asks for it. It is over when its request was answered to the end, but for a SELECT that was taken;
+-- when no answer came in time; or when its outstation is lost.
 use Rattle.std.specs.Prelude.{ℕ, suc, Bool, true, false, not, ◌&&◌, ◌||◌, ◌==◌, is_none, is_some, List, [], ◌∷◌, ◌++◌, length, map, Option, Some, option_and_then, option_map}
 use Rattle.std.specs.List.{filter}
 use Rattle.std.specs.Option.{option_to_list}
@@ -38,10 +38,13 @@ pending_by number x = record { number = number; client = x.client; command = x.c
 abbrev pub for_outstation : ℕ → Execute → Option Execute
 for_outstation o x = when (x.control.outstation == o) x
 
+-- the order with a number, by the execute that is accepted, if one is
+abbrev pub order_made : ℕ → ℕ → Option Execute → Option Pending
+order_made o number x = option_map (pending_by number) (option_and_then (for_outstation o) x)
+
 -- the order that an entry makes, behind a past
 abbrev pub made_in : Setup → ℕ → List Entry → Entry → Option Pending
-made_in setup o past e =
-    option_map (pending_by (suc (length (executes setup past)))) (option_and_then (for_outstation o) (execute_in setup past e))
+made_in setup o past e = order_made o (suc (length (executes setup past))) (execute_in setup past e)
 
 -- ---- sessions end
 
@@ -95,10 +98,14 @@ is_over setup o past e _ x = false
 abbrev pub kept : Setup → List Entry → Entry → Reply → List Pending → List Pending
 kept setup past e reply ps = after_sessions (ends_session e.step reply) past ps
 
+-- of these, those that an entry leaves
+abbrev pub left_pending : Setup → ℕ → List Entry → Entry → List Pending → Reply → List Pending
+left_pending setup o past e ps reply =
+    filter (λ p. not (is_over setup o past e e.step p)) (kept setup past e reply ps)
+
 abbrev pub pending_with : Setup → ℕ → List Entry → Entry → List Pending → Reply → List Pending
 pending_with setup o past e ps reply =
-    filter (λ p. not (is_over setup o past e e.step p)) (kept setup past e reply ps)
-    ++ option_to_list (made_in setup o past e)
+    left_pending setup o past e ps reply ++ option_to_list (made_in setup o past e)
 
 -- the orders towards outstation o that are pending, oldest first
 abbrev pub pending : Setup → ℕ → List Entry → List Pending

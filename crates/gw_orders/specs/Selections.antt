@@ -1,14 +1,20 @@
--- Which controls are selected, and by whom, by steps and replies alone. A select that is confirmed begins a selection, in
--- place of any other. It ends by its client's deactivation or execute, and with its client's session. It stands for a
--- time; then another client may select the control.
-use Rattle.std.specs.Prelude.{ℕ, ◌-◌, Bool, true, false, ◌&&◌, ◌==◌, is_some, nat_lt, List, [], ◌∷◌, Option, Some, None, option_map, if◌then◌else◌}
+-- Which controls are selected, and by whom, by steps and replies alone. A select that is confirmed begins a selection,
+-- in place of any other. It ends by its client's deactivation or execute, and with its client's session. It stands for
+-- a time; then another client may select the control. What a command asks for, and whether that is permitted, is said
+-- here apart from the words that the code is proved by.
+use Rattle.std.specs.Prelude.{ℕ, ◌-◌, ℤ, pos, negsuc, ◌*ℤ◌, int_div, int_le, Bool, false, ◌&&◌, ◌||◌, ◌==◌, is_none, nat_le, nat_lt, List, [], ◌∷◌, Option, Some, None, option_map, if◌then◌else◌}
+use Rattle.std.specs.Ordering.{int_eq}
 use Rattle.gw_model.specs.First.{when}
 use Rattle.gw_entries.specs.declared.control.Control.{Control}
+use Rattle.gw_entries.specs.declared.control.Operates.{Operates}
+use Rattle.gw_entries.specs.declared.control.Operates.TheVariants as operated
 use Rattle.gw_map.specs.Settings.{Setup}
 use Rattle.iec_command.specs.declared.command.Action.{Action}
+use Rattle.iec_command.specs.declared.command.Action.TheVariants.{Single, Double, Setpoint}
 use Rattle.iec_command.specs.declared.command.Command.{Command}
-use Rattle.gw_control.specs.Intents.{command_intent, control_for}
-use Rattle.gw_control.specs.Selections.{asks_same, is_select}
+use Rattle.iec_command.specs.Commands.{type_of}
+use Rattle.gw_control.specs.Intents.{control_for}
+use Rattle.gw_control.specs.Selections.{is_select}
 use Rattle.gw_station.specs.Frames.{command_in}
 use Rattle.gw_steps.specs.declared.step.Step.{Step}
 use Rattle.gw_steps.specs.declared.step.Step.TheVariants as steps
@@ -32,9 +38,46 @@ command_taken setup _ reply = None
 abbrev pub moment_at : List Entry → Step → ℕ
 moment_at past step = later (moment_after past) (moment_of step)
 
--- the type permits the value and its qualifier, and a set point keeps within 16 bits
+-- types 45, 46 and 49 (IEC 60870-5-101, 7.3.2)
+abbrev pub commands_control : Action → Bool
+commands_control action = (type_of action == 45) || (type_of action == 46) || (type_of action == 49)
+
+-- SCS (7.2.6.15), DCS (7.2.6.16) or SVA (7.2.6.7)
+abbrev pub value_in : Action → ℤ
+value_in (Single command) = if command.on then pos 1 else pos 0
+value_in (Double command) = pos command.state
+value_in (Setpoint command) = command.value
+value_in _ = pos 0
+
+-- QU (7.2.6.26) or QL (7.2.6.39)
+abbrev pub qualifier_in : Action → ℕ
+qualifier_in (Single command) = command.qualifier
+qualifier_in (Double command) = command.qualifier
+qualifier_in (Setpoint command) = command.qualifier
+qualifier_in _ = 0
+
+-- two commands ask for the same: type, value and qualifier, whatever their S/E
+abbrev pub is_same : Action → Action → Bool
+is_same x y =
+    commands_control x && (type_of x == type_of y) && int_eq (value_in x) (value_in y)
+    && (qualifier_in x == qualifier_in y)
+
+-- from -32768 to 32767
+abbrev pub has_16_bits : ℤ → Bool
+has_16_bits z = int_le (negsuc 32767) z && int_le z (pos 32767)
+
+-- what may be asked of a control: QU from 0 to 3; DCS 1 or 2; QL 0, and SVA * num / den, truncated toward zero, has 16
+-- bits
+abbrev pub permits : Operates → Action → Bool
+permits (operated.Single pulses) (Single command) = nat_le command.qualifier 3
+permits (operated.Double pulses) (Double command) =
+    ((command.state == 1) || (command.state == 2)) && nat_le command.qualifier 3
+permits (operated.Setpoint scale) (Setpoint command) =
+    (command.qualifier == 0) && has_16_bits (int_div (command.value *ℤ pos scale.num) (pos scale.den))
+permits _ _ = false
+
 abbrev pub is_permitted : Control → Command → Bool
-is_permitted control command = is_some (command_intent control command)
+is_permitted control command = permits control.operates command.action
 
 -- a deactivation has cause 8
 abbrev pub is_deactivation : Command → Bool
@@ -53,20 +96,19 @@ abbrev pub if_fresh : Setup → ℕ → Option Selected → Option Selected
 if_fresh setup moment None = None
 if_fresh setup moment (Some x) = when (nat_lt (moment - x.since) setup.station.select_ms) x
 
--- no other client has it selected
-abbrev pub is_free_for : ℕ → Option Selected → Bool
-is_free_for c None = true
-is_free_for c (Some x) = x.client == c
-
--- this client has
+-- this client has the control selected
 abbrev pub is_selected_by : ℕ → Option Selected → Bool
 is_selected_by c None = false
 is_selected_by c (Some x) = x.client == c
 
+-- no other client has
+abbrev pub is_free_for : ℕ → Option Selected → Bool
+is_free_for c x = is_none x || is_selected_by c x
+
 -- this client has, for the same
 abbrev pub is_selected_for : ℕ → Action → Option Selected → Bool
 is_selected_for c action None = false
-is_selected_for c action (Some x) = (x.client == c) && asks_same x.action action
+is_selected_for c action (Some x) = (x.client == c) && is_same x.action action
 
 -- a select is confirmed
 abbrev pub may_select : Setup → ℕ → ℕ → Control → Command → Option Selected → Bool

@@ -8,8 +8,8 @@ ghost use Rattle.gw_history.specs.Premises.{IsSoundRun};
 ghost use Rattle.gw_orders.specs.Bonds.{HasShortIndex};
 ghost use Rattle.gw_orders.specs.Outcomes.{TellsDue};
 
-/// At each point of a run: what a step tells of orders is what it has to tell. Each order's outcome is told once, in the
-/// step that ends it, while the session of its execute stands.
+/// At each point of a run: what a step tells of orders is what it has to tell. Each order's outcome is told once, in
+/// the step that ends it, while the session of its execute stands.
 pub fn outcomes_are_told_when_due()
     ensures { (setup : Setup) (past : List Entry) → IsSoundRun setup past → AllByRecursion HasShortIndex setup.controls
         → AtEach (TellsDue setup) past }
