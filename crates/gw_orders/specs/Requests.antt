@@ -1,6 +1,6 @@
 -- Which requests are given: a poll gives the first that is due in the order of rank, with the next sequence number, and
 -- nothing only while a request awaits its answer or none is due.
-use Rattle.std.specs.Prelude.{◌≡◌, ℕ, ◌+◌, ◌%◌, ◌^◌, Bool, false, ◌&&◌, is_some, List, [], ◌∷◌, slice_get, slice_index, Option, Some, None, option_and_then, option_map, Result, Ok, Err, if◌then◌else◌}
+use Rattle.std.specs.Prelude.{◌≡◌, ℕ, ◌+◌, ◌%◌, ◌^◌, Bool, false, not, ◌&&◌, is_some, List, [], ◌∷◌, slice_get, slice_index, Option, Some, None, option_and_then, option_map, Result, Ok, Err, if◌then◌else◌}
 use Rattle.std.specs.List.{filter}
 use Rattle.gw_model.specs.First.{first_of, when}
 use Rattle.gw_model.specs.declared.poll.Poll.{Poll}
@@ -17,8 +17,7 @@ use Rattle.gw_steps.specs.Runs.{Entry}
 use Rattle.gw_history.specs.Accepted.{asked_of, poll_at}
 use Rattle.gw_orders.specs.Bonds.{operation_in}
 use Rattle.gw_orders.specs.Marks.{Mark, Asked, Answered, marks, request_of}
-use Rattle.gw_orders.specs.Pending.{Pending, is_select, pending}
-use Rattle.gw_orders.specs.Commands.{waiting}
+use Rattle.gw_orders.specs.Pending.{Pending, is_marked, is_select, pending}
 use Rattle.gw_orders.specs.Selections.{moment_at}
 use Rattle.gw_orders.specs.Talk.{Turn, next_number, talk}
 use Rattle.gw_orders.specs.Due.{clear_restart, disable, disabling_due, enable, enabling_due, event_poll, events_due, integrity_due, integrity_poll, recording_due, restart_due, time_due}
@@ -39,6 +38,10 @@ is_selected _ = false
 
 abbrev pub selected : Setup → ℕ → List Entry → List Pending
 selected setup o past = filter (λ p. is_selected (marks p.number past)) (pending setup o past)
+
+-- nothing asked for it yet
+abbrev pub unasked : Setup → ℕ → List Entry → List Pending
+unasked setup o past = filter (λ p. not (is_marked (marks p.number past))) (pending setup o past)
 
 -- that of the oldest order
 abbrev pub of_oldest : List Pending → Option Due
@@ -65,7 +68,7 @@ in_rank poll moment ts =
 -- OPERATE and orders that wait come before all of these
 abbrev pub first_due : Setup → ℕ → List Entry → ℕ → Poll → Option Due
 first_due setup o past moment poll =
-    first_of (of_oldest (selected setup o past) ∷ of_oldest (waiting setup o past)
+    first_of (of_oldest (selected setup o past) ∷ of_oldest (unasked setup o past)
     ∷ in_rank poll moment (talk setup o past))
 
 -- what is due of outstation o at a moment: nothing while a request awaits its answer
