@@ -10,9 +10,10 @@ ghost use Rattle.gw_orders.specs.Commands.{AnswersCommands};
 
 /// At each point of a run: an I format that is taken gives the command for a control that its ASDU carries, if it does,
 /// and nothing else gives one. What is said of it is what is due, and an execute is accepted exactly where all that it
-/// wants is there: its value is permitted, its outstation is up, no other client has the control selected, its own client
-/// has in this session and for the same where the control wants that, and fewer than 16 orders wait for the outstation.
-/// By these rules alone the history tells which executes were accepted, as which orders, and which of them are pending.
+/// wants is there: its value is permitted, its outstation is up, no other client has the control selected, its own
+/// client has in this session and for the same where the control wants that, and fewer than 16 orders wait for the
+/// outstation. By these rules alone the history tells which executes were accepted, as which orders, and which of them
+/// are pending.
 pub fn commands_are_answered_as_due()
     ensures { (setup : Setup) (past : List Entry) → IsSoundRun setup past → AllByRecursion HasShortIndex setup.controls
         → AtEach (AnswersCommands setup) past }

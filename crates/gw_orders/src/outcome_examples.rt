@@ -33,6 +33,6 @@ pub fn outcomes_by_example()
     ensures lost { map (λ x. x.done) (newly_due (made (sends 0 set ∷ outstation_down ∷ []))) ≡ false ∷ [] }
     ensures all_lost { map (λ x. x.client) (newly_due (made (three_orders ++ outstation_down ∷ []))) ≡ 0 ∷ 1 ∷ 1 ∷ [] }
     // One client leaves: only its orders go.
-    ensures one_leaves { map (λ x. x.client) (pending setup 0 (made (joining ++ sends 0 set ∷ sends_by 1 0 set 0 ∷ leaves
-        ∷ []))) ≡ 1 ∷ [] }
+    ensures one_leaves { map (λ x. x.client) (pending setup 0 (made (joining ++ sends 0 set ∷ sends_by 1 0 set 0
+        ∷ leaves ∷ []))) ≡ 1 ∷ [] }
 {}
