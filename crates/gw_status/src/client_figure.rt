@@ -3,6 +3,7 @@
 use crate::family::{Family, Figure};
 use crate::status::{ClientStatus, Closes};
 use std::fmt;
+use std::net::SocketAddr;
 
 /// What there is a figure of.
 #[derive(Clone, Copy)]
@@ -125,12 +126,22 @@ fn write_addresses<W: fmt::Write>(
 ) -> fmt::Result {
     INFO.write(f)?;
     for (number, client) in clients.iter().enumerate() {
-        if let Some(address) = client.address {
-            let name = INFO.name();
-            writeln!(f, "{name}{{client=\"{number}\",address=\"{address}\"}} 1")?;
-        }
+        write_address(f, number, client.address)?;
     }
     Ok(())
+}
+
+/// Writes who is connected at a place, if somebody is.
+fn write_address<W: fmt::Write>(
+    f: &mut fmt::Formatter<W>,
+    number: usize,
+    address: Option<SocketAddr>,
+) -> fmt::Result {
+    let Some(address) = address else {
+        return Ok(());
+    };
+    let name = INFO.name();
+    writeln!(f, "{name}{{client=\"{number}\",address=\"{address}\"}} 1")
 }
 
 /// Writes why connections of each place ended.
@@ -149,8 +160,18 @@ fn write_closes_of<W: fmt::Write>(
     closes: Closes,
 ) -> fmt::Result {
     for (cause, count) in closes.by_cause() {
-        let name = CLOSES.name();
-        writeln!(f, "{name}{{client=\"{number}\",cause=\"{cause}\"}} {count}")?;
+        write_close(f, number, cause, count)?;
     }
     Ok(())
+}
+
+/// Writes how many connections of a place ended for a cause.
+fn write_close<W: fmt::Write>(
+    f: &mut fmt::Formatter<W>,
+    number: usize,
+    cause: &str,
+    count: u64,
+) -> fmt::Result {
+    let name = CLOSES.name();
+    writeln!(f, "{name}{{client=\"{number}\",cause=\"{cause}\"}} {count}")
 }
