@@ -3,7 +3,6 @@
 use crate::family::{Family, Figure};
 use crate::status::{ClientStatus, Closes};
 use std::fmt;
-use std::net::SocketAddr;
 
 /// What there is a figure of.
 #[derive(Clone, Copy)]
@@ -126,22 +125,12 @@ fn write_addresses<W: fmt::Write>(
 ) -> fmt::Result {
     INFO.write(f)?;
     for (number, client) in clients.iter().enumerate() {
-        write_address(f, number, client.address)?;
+        if let Some(address) = client.address {
+            let name = INFO.name();
+            writeln!(f, "{name}{{client=\"{number}\",address=\"{address}\"}} 1")?;
+        }
     }
     Ok(())
-}
-
-/// Writes who is connected at a place, if somebody is.
-fn write_address<W: fmt::Write>(
-    f: &mut fmt::Formatter<W>,
-    number: usize,
-    address: Option<SocketAddr>,
-) -> fmt::Result {
-    let Some(address) = address else {
-        return Ok(());
-    };
-    let name = INFO.name();
-    writeln!(f, "{name}{{client=\"{number}\",address=\"{address}\"}} 1")
 }
 
 /// Writes why connections of each place ended.

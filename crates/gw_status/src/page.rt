@@ -88,33 +88,20 @@ fn write_top<W: fmt::Write>(
     status: &Status,
     summary: Summary,
 ) -> fmt::Result {
-    write_summary(f, summary)?;
-    write_times(f, status)?;
-    write_gateway(f, status)
-}
-
-/// Writes how it is with the outstations and the clients.
-fn write_summary<W: fmt::Write>(f: &mut fmt::Formatter<W>, summary: Summary) -> fmt::Result {
-    let class = if summary.is_well() { "right" } else { "wrong" };
-    let verdict = summary.verdict();
+    let (class, verdict) = (
+        if summary.is_well() { "right" } else { "wrong" },
+        summary.verdict(),
+    );
     writeln!(
         f,
         "<h1><span class={class}>{verdict}:</span> {summary}</h1>"
-    )
-}
-
-/// Writes when that is, and since when the gateway runs.
-fn write_times<W: fmt::Write>(f: &mut fmt::Formatter<W>, status: &Status) -> fmt::Result {
+    )?;
     let (now, started) = (Moment(status.now), Moment(status.started));
     let uptime = Span(status.uptime());
     writeln!(
         f,
         "<p>At {now}. The gateway runs for {uptime}, since {started}.</p>"
-    )
-}
-
-/// Writes what the gateway is, and what it did.
-fn write_gateway<W: fmt::Write>(f: &mut fmt::Formatter<W>, status: &Status) -> fmt::Result {
+    )?;
     let (version, steps, news) = (Html(status.version), status.steps, status.news);
     writeln!(
         f,

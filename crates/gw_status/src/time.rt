@@ -25,15 +25,17 @@ impl fmt::Display for Span {
     fn fmt<W: fmt::Write>(&self, f: &mut fmt::Formatter<W>) -> fmt::Result {
         let seconds = self.0 / 1000;
         let (minutes, hours, days) = (seconds / 60, seconds / 3600, seconds / 86_400);
-        let (whole, unit, rest, part) = if minutes == 0 {
-            return write!(f, "{seconds} s");
+        if minutes == 0 {
+            write!(f, "{seconds} s")
         } else if hours == 0 {
-            (minutes, "min", seconds % 60, "s")
+            let rest = seconds % 60;
+            write!(f, "{minutes} min {rest} s")
         } else if days == 0 {
-            (hours, "h", minutes % 60, "min")
+            let rest = minutes % 60;
+            write!(f, "{hours} h {rest} min")
         } else {
-            (days, "d", hours % 24, "h")
-        };
-        write!(f, "{whole} {unit} {rest} {part}")
+            let rest = hours % 24;
+            write!(f, "{days} d {rest} h")
+        }
     }
 }
