@@ -1,6 +1,6 @@
 //! Reading settings files.
 
-use gw_map::{Settings, SettingsFault};
+use gw_map::{Fault, KeyPlace, Settings, SettingsFault};
 use gw_text::Plain;
 use std::alloc::{AllocError, Global};
 use std::fs::File;
@@ -13,7 +13,7 @@ use std::{fmt, str};
 pub const LONGEST_FILE: u64 = 16_777_216;
 
 /// Why a settings file can't be used.
-#[derive(Debug, Drop)]
+#[derive(Drop)]
 pub enum Unusable {
     /// It can't be read, or is too long.
     File,
@@ -31,14 +31,28 @@ impl fmt::Display for Unusable {
             Unusable::File => f.write_str("file"),
             Unusable::Memory => f.write_str("memory"),
             Unusable::NotText => f.write_str("1 Toml"),
-            Unusable::Refused(SettingsFault::Refused(fault, place)) => {
-                let (section, position) = (place.section.name(), place.position);
-                let key = Plain(place.key.as_str());
-                write!(f, "{fault} {section} {position} {key}")
-            }
-            Unusable::Refused(fault) => write!(f, "{fault}"),
+            Unusable::Refused(fault) => write_fault(f, fault),
         }
     }
+}
+
+/// Writes what is wrong with a text, and where.
+fn write_fault<W: fmt::Write>(f: &mut fmt::Formatter<W>, fault: &SettingsFault) -> fmt::Result {
+    match fault {
+        SettingsFault::Refused(fault, place) => write_refusal(f, *fault, place),
+        _ => write!(f, "{fault}"),
+    }
+}
+
+/// Writes what is wrong at a key: the fault, the section, the position in it, and the key.
+fn write_refusal<W: fmt::Write>(
+    f: &mut fmt::Formatter<W>,
+    fault: Fault,
+    place: &KeyPlace,
+) -> fmt::Result {
+    let (section, position) = (place.section.name(), place.position);
+    let key = Plain(place.key.as_str());
+    write!(f, "{fault} {section} {position} {key}")
 }
 
 impl From<SettingsFault> for Unusable {

@@ -6,7 +6,7 @@ use gw_map::Settings;
 use std::io::{self, Write};
 
 /// What is written of settings that are accepted.
-#[derive(Clone, Copy, Debug)]
+#[derive(Clone, Copy)]
 pub enum CheckReport {
     /// A line for each point and each control, and how many there are.
     Listing,

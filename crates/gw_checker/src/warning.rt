@@ -4,7 +4,7 @@ use gw_text::Plain;
 use std::fmt;
 
 /// Something in accepted settings that reads like a slip. Outstations and controls go by their positions in the file.
-#[derive(Clone, Copy, Debug)]
+#[derive(Clone, Copy)]
 pub enum Warning<'a> {
     /// No client can connect: the station's address has no port.
     ListenWithoutPort {
@@ -84,21 +84,13 @@ impl<'a> Warning<'a> {
 
     /// Writes the key, and what is wrong there.
     fn write_slip<W: fmt::Write>(&self, f: &mut fmt::Formatter<W>) -> fmt::Result {
-        match self {
-            Warning::ListenWithoutPort { listen } => {
-                write!(f, "listen = \"{}\" has no port", Plain(*listen))
-            }
-            Warning::ListenEverywhere { listen } => {
-                let listen = Plain(*listen);
-                write!(
-                    f,
-                    "listen = \"{listen}\" listens on all interfaces while controls are configured"
-                )
-            }
+        match *self {
+            Warning::ListenWithoutPort { listen } => write_without_port(f, "listen", listen),
+            Warning::ListenEverywhere { listen } => write_everywhere(f, listen),
             Warning::WideWindow { w, k } => write!(f, "w = {w} is above two thirds of k = {k}"),
-            Warning::ConnectWithoutPort { connect, .. } => {
-                write!(f, "connect = \"{}\" has no port", Plain(*connect))
-            }
+            Warning::ConnectWithoutPort { connect, .. } => write_without_port(
+                f, "connect", connect,
+            ),
             Warning::SamePlace { first, .. } => {
                 write!(f, "address and connect are those of outstation {first}")
             }
@@ -113,12 +105,39 @@ impl<'a> Warning<'a> {
                 outstation,
                 index,
                 ..
-            } => {
-                write!(
-                    f,
-                    "index = {index} of outstation {outstation} is operated by control {first} too"
-                )
-            }
+            } => write_same_output(f, first, outstation, index),
         }
     }
+}
+
+/// Writes that the address at a key has no port.
+fn write_without_port<W: fmt::Write>(
+    f: &mut fmt::Formatter<W>,
+    key: &str,
+    address: &str,
+) -> fmt::Result {
+    let address = Plain(address);
+    write!(f, "{key} = \"{address}\" has no port")
+}
+
+/// Writes that the station is reached on every interface.
+fn write_everywhere<W: fmt::Write>(f: &mut fmt::Formatter<W>, listen: &str) -> fmt::Result {
+    let listen = Plain(listen);
+    write!(
+        f,
+        "listen = \"{listen}\" listens on all interfaces while controls are configured"
+    )
+}
+
+/// Writes which other control operates the same output.
+fn write_same_output<W: fmt::Write>(
+    f: &mut fmt::Formatter<W>,
+    first: usize,
+    outstation: u8,
+    index: u16,
+) -> fmt::Result {
+    write!(
+        f,
+        "index = {index} of outstation {outstation} is operated by control {first} too"
+    )
 }

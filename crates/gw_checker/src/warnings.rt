@@ -2,6 +2,7 @@
 
 use crate::warning::Warning;
 use gw_map::{Control, Operates, Outstation, Settings};
+use gw_model::Poll;
 use indexmap::IndexMap;
 use std::alloc::{AllocError, Global};
 use std::io::{self, Write};
@@ -11,7 +12,7 @@ use std::net::SocketAddr;
 const LONGEST_POLL_MS: u64 = 60_000;
 
 /// An output of an outstation. Its binary and its analog outputs are counted apart (IEEE Std 1815, groups 12 and 41).
-#[derive(Clone, Copy, Debug, PartialEq, Eq, Hash)]
+#[derive(Clone, Copy, PartialEq, Eq, Hash)]
 struct Output {
     outstation: u8,
     is_analog: bool,
@@ -47,9 +48,20 @@ pub fn write_warnings<W: Write>(
     settings: &Settings,
     writer: &mut W,
 ) -> io::Result<()> {
-    for warning in &warnings_of(alloc, settings)? {
+    let warnings = warnings_of(alloc, settings)?;
+    write_lines(&warnings, writer)
+}
+
+fn write_lines<W: Write>(warnings: &[Warning], writer: &mut W) -> io::Result<()> {
+    for warning in warnings {
         writeln!(writer, "warning: {warning}")?;
     }
+    Ok(())
+}
+
+/// Adds something that reads like a slip.
+fn add<'a>(found: &mut Vec<Warning<'a>>, warning: Warning<'a>) -> Result<(), AllocError> {
+    found.push(warning)?;
     Ok(())
 }
 
@@ -61,13 +73,13 @@ fn add_of_station<'a>(
     let listen = station.listen.as_str();
     let (w, k) = (station.w, station.k);
     if !has_port(listen) {
-        found.push(Warning::ListenWithoutPort { listen })?;
+        add(found, Warning::ListenWithoutPort { listen })?;
     }
     if !settings.controls().is_empty() && is_everywhere(listen) {
-        found.push(Warning::ListenEverywhere { listen })?;
+        add(found, Warning::ListenEverywhere { listen })?;
     }
     if u32::from(w) * 3 > u32::from(k) * 2 {
-        found.push(Warning::WideWindow { w, k })?;
+        add(found, Warning::WideWindow { w, k })?;
     }
     Ok(())
 }
@@ -77,52 +89,90 @@ fn add_of_outstations<'a>(
     outstations: &'a [Outstation],
 ) -> Result<(), AllocError> {
     for (position, outstation) in (0u8..).zip(outstations) {
-        let connect = outstation.connect.as_str();
-        let poll = outstation.poll;
-        if !has_port(connect) {
-            found.push(Warning::ConnectWithoutPort {
-                outstation: position,
-                connect,
-            })?;
-        }
-        if let Some(first) = first_like(outstations, outstation) {
-            if first < position {
-                found.push(Warning::SamePlace {
-                    first,
-                    second: position,
-                })?;
-            }
-        }
-        if poll.poll_ms > LONGEST_POLL_MS && !poll.unsolicited {
-            found.push(Warning::SlowPoll {
-                outstation: position,
-                poll_ms: poll.poll_ms,
-            })?;
-        }
+        add_of_connection(found, position, outstation)?;
+        add_of_place(found, outstations, position, outstation)?;
+        add_of_poll(found, position, outstation.poll)?;
     }
     Ok(())
 }
 
-fn add_of_controls<'a>(
-    alloc: Global,
+/// Adds that the address of an outstation has no port.
+fn add_of_connection<'a>(
     found: &mut Vec<Warning<'a>>,
+    outstation: u8,
+    settings: &'a Outstation,
+) -> Result<(), AllocError> {
+    let connect = settings.connect.as_str();
+    if has_port(connect) {
+        return Ok(());
+    }
+    add(
+        found,
+        Warning::ConnectWithoutPort {
+            outstation,
+            connect,
+        },
+    )
+}
+
+/// Adds that an outstation in front has the same address of connection and the same link address.
+fn add_of_place(
+    found: &mut Vec<Warning>,
+    outstations: &[Outstation],
+    second: u8,
+    settings: &Outstation,
+) -> Result<(), AllocError> {
+    match first_like(outstations, settings) {
+        Some(first) if first < second => add(found, Warning::SamePlace { first, second }),
+        _ => Ok(()),
+    }
+}
+
+/// Adds that an outstation is asked for events too seldom.
+fn add_of_poll(found: &mut Vec<Warning>, outstation: u8, poll: Poll) -> Result<(), AllocError> {
+    let poll_ms = poll.poll_ms;
+    if poll_ms > LONGEST_POLL_MS && !poll.unsolicited {
+        add(
+            found,
+            Warning::SlowPoll {
+                outstation,
+                poll_ms,
+            },
+        )
+    } else {
+        Ok(())
+    }
+}
+
+fn add_of_controls(
+    alloc: Global,
+    found: &mut Vec<Warning>,
     controls: &[Control],
 ) -> Result<(), AllocError> {
-    let mut operated: IndexMap<Output, usize> = IndexMap::new(alloc);
+    let mut operated = IndexMap::new(alloc);
     for (position, control) in controls.iter().enumerate() {
-        let output = Output::of(control);
-        match operated.get(&output) {
-            Some(first) => found.push(Warning::SameOutput {
-                first: *first,
-                second: position,
-                outstation: output.outstation,
-                index: output.index,
-            })?,
-            None => {
-                operated.insert(output, position)?;
-            }
-        }
+        add_of_control(found, &mut operated, position, Output::of(control))?;
     }
+    Ok(())
+}
+
+/// Adds that the output of a control is operated by one in front; else this control is now the first to do so.
+fn add_of_control(
+    found: &mut Vec<Warning>,
+    operated: &mut IndexMap<Output, usize>,
+    position: usize,
+    output: Output,
+) -> Result<(), AllocError> {
+    if let Some(first) = operated.get(&output) {
+        let warning = Warning::SameOutput {
+            first: *first,
+            second: position,
+            outstation: output.outstation,
+            index: output.index,
+        };
+        return add(found, warning);
+    }
+    operated.insert(output, position)?;
     Ok(())
 }
 

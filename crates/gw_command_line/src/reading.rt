@@ -27,7 +27,7 @@ const LARGEST_NUMBER: u32 = 1_000_000;
 const DEFAULT_RECORD_SIZE: u32 = 256;
 
 /// What a command line asks for.
-#[derive(Debug, Drop)]
+#[derive(Drop)]
 pub enum Asked<'a> {
     /// `gateway check FILE [--profile]`: tells what a settings file means, or what is wrong with it; with `--profile`
     /// as the interoperability list and the signals of the station.
@@ -54,7 +54,7 @@ pub enum Asked<'a> {
 }
 
 /// How `gateway run` serves.
-#[derive(Debug, Drop)]
+#[derive(Drop)]
 pub struct RunOptions<'a> {
     /// `--allow ADDRESS`, as often as it is used, in this order: only clients from these addresses are served. Where
     /// it isn't used, any client is.
@@ -70,7 +70,7 @@ pub struct RunOptions<'a> {
 }
 
 /// Why a command line asks for nothing.
-#[derive(Debug, Drop)]
+#[derive(Drop)]
 pub enum LineFault {
     /// `clap` refuses the words, or answers them with help. The error's `Display` is the text for the
     /// user.

@@ -39,32 +39,22 @@ pub enum Cause {
 impl Cause {
     /// Whether the gateway ended the connection, and not for anything that its peer did or failed to do.
     pub(crate) fn is_own(self) -> bool {
-        match self {
-            Cause::GaveWay | Cause::GatewayEnds => true,
-            Cause::Closed(_)
-            | Cause::EndOfInput
-            | Cause::Silent { .. }
-            | Cause::Slow { .. }
-            | Cause::NotRead(_)
-            | Cause::NotWritten(_)
-            | Cause::NotApdus(_)
-            | Cause::Memory => false,
-        }
+        matches!(self, Cause::GaveWay | Cause::GatewayEnds)
     }
 }
 
 impl fmt::Display for Cause {
     fn fmt<W: fmt::Write>(&self, f: &mut fmt::Formatter<W>) -> fmt::Result {
-        match *self {
-            Cause::Closed(why) => write!(f, "closed: {}", words_of(why)),
+        match self {
+            Cause::Closed(why) => write!(f, "closed: {}", words_of(*why)),
             Cause::EndOfInput => f.write_str("lost: end of input"),
             Cause::Silent { seconds } => write!(f, "lost: silent for {seconds} s"),
             Cause::Slow { milliseconds } => {
                 write!(f, "lost: a write took longer than {milliseconds} ms")
             }
-            Cause::NotRead(failure) => write_failure(f, "read", failure),
-            Cause::NotWritten(failure) => write_failure(f, "written", failure),
-            Cause::NotApdus(fault) => write!(f, "lost: no APDUs came: {}", words_of_fault(fault)),
+            Cause::NotRead(failure) => write_failure(f, "read", *failure),
+            Cause::NotWritten(failure) => write_failure(f, "written", *failure),
+            Cause::NotApdus(fault) => write!(f, "lost: no APDUs came: {}", words_of_fault(*fault)),
             Cause::Memory => f.write_str("lost: no memory"),
             Cause::GaveWay => f.write_str("closed: gave way to a newer connection of its address"),
             Cause::GatewayEnds => f.write_str("closed: the gateway ends"),

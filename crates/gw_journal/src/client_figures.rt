@@ -70,11 +70,7 @@ impl ClientFigures {
     /// Counts why a connection ended.
     fn count(&mut self, cause: &Cause) {
         match *cause {
-            Cause::Closed(Why::Timer) => add_one(&mut self.closes.timer),
-            Cause::Closed(Why::Sequence) => add_one(&mut self.closes.sequence),
-            Cause::Closed(Why::NotStarted) => add_one(&mut self.closes.not_started),
-            Cause::Closed(Why::Malformed) => add_one(&mut self.closes.malformed),
-            Cause::Closed(Why::Flooded) => add_one(&mut self.closes.flooded),
+            Cause::Closed(why) => self.count_closed(why),
             Cause::EndOfInput
             | Cause::Silent { .. }
             | Cause::Slow { .. }
@@ -84,6 +80,17 @@ impl ClientFigures {
             | Cause::Memory
             | Cause::GaveWay
             | Cause::GatewayEnds => add_one(&mut self.closes.lost),
+        }
+    }
+
+    /// Counts why the core closed a connection.
+    fn count_closed(&mut self, why: Why) {
+        match why {
+            Why::Timer => add_one(&mut self.closes.timer),
+            Why::Sequence => add_one(&mut self.closes.sequence),
+            Why::NotStarted => add_one(&mut self.closes.not_started),
+            Why::Malformed => add_one(&mut self.closes.malformed),
+            Why::Flooded => add_one(&mut self.closes.flooded),
         }
     }
 

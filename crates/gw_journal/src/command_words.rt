@@ -5,7 +5,7 @@ use iec_command::causes::{
     DEACTIVATION_CONFIRMATION, UNKNOWN_CAUSE, UNKNOWN_COMMON_ADDRESS, UNKNOWN_OBJECT_ADDRESS,
     UNKNOWN_TYPE,
 };
-use iec_command::{Action, Command};
+use iec_command::{Action, Command, DoubleCommand, SetpointCommand, SingleCommand};
 use std::fmt;
 
 /// A command for a control in words: what it asks, of which control, and who does.
@@ -23,38 +23,63 @@ pub(crate) struct ToldWords<'a>(pub &'a Command);
 impl<'a> fmt::Display for ControlWords<'a> {
     fn fmt<W: fmt::Write>(&self, f: &mut fmt::Formatter<W>) -> fmt::Result {
         let ControlWords(command) = *self;
-        let address = command.address;
-        match &command.action {
-            Action::Single(single) => {
-                let state = if single.on { "on" } else { "off" };
-                write!(f, "single command {address} {state}")?;
-                write_switch(f, single.qualifier, single.select)?;
-            }
-            Action::Double(double) => {
-                let state = double_state(double.state);
-                write!(f, "double command {address} {state}")?;
-                write_switch(f, double.qualifier, double.select)?;
-            }
-            Action::Setpoint(setpoint) => {
-                let (value, qualifier) = (setpoint.value, setpoint.qualifier);
-                let phase = phase_of(setpoint.select);
-                write!(f, "set point {address} {value}, QL {qualifier}, {phase}")?;
-            }
-            Action::Interrogation { .. } | Action::CounterInterrogation { .. } | Action::Read => {}
-        }
         let (originator, station) = (command.originator, command.common_address);
+        write_action(f, command.address, &command.action)?;
         write!(f, ", originator {originator}, station {station}")
     }
 }
 
-/// Writes the qualifier of a switch, QU, and S/E.
-fn write_switch<W: fmt::Write>(
+/// Writes what is asked of the control at an address.
+fn write_action<W: fmt::Write>(
     f: &mut fmt::Formatter<W>,
-    qualifier: u8,
-    select: bool,
+    address: u32,
+    action: &Action,
 ) -> fmt::Result {
-    let phase = phase_of(select);
-    write!(f, ", QU {qualifier}, {phase}")
+    match action {
+        Action::Single(single) => write_single(f, address, single),
+        Action::Double(double) => write_double(f, address, double),
+        Action::Setpoint(setpoint) => write_setpoint(f, address, setpoint),
+        Action::Interrogation { .. } | Action::CounterInterrogation { .. } | Action::Read => Ok(()),
+    }
+}
+
+/// Writes a single command: the state, the qualifier QU, and S/E.
+fn write_single<W: fmt::Write>(
+    f: &mut fmt::Formatter<W>,
+    address: u32,
+    single: &SingleCommand,
+) -> fmt::Result {
+    let (qualifier, phase) = (single.qualifier, phase_of(single.select));
+    let state = if single.on { "on" } else { "off" };
+    write!(
+        f,
+        "single command {address} {state}, QU {qualifier}, {phase}"
+    )
+}
+
+/// Writes a double command, likewise.
+fn write_double<W: fmt::Write>(
+    f: &mut fmt::Formatter<W>,
+    address: u32,
+    double: &DoubleCommand,
+) -> fmt::Result {
+    let (qualifier, phase) = (double.qualifier, phase_of(double.select));
+    let state = double_state(double.state);
+    write!(
+        f,
+        "double command {address} {state}, QU {qualifier}, {phase}"
+    )
+}
+
+/// Writes a set point: the value, the qualifier QL, and S/E.
+fn write_setpoint<W: fmt::Write>(
+    f: &mut fmt::Formatter<W>,
+    address: u32,
+    setpoint: &SetpointCommand,
+) -> fmt::Result {
+    let (qualifier, phase) = (setpoint.qualifier, phase_of(setpoint.select));
+    let value = setpoint.value;
+    write!(f, "set point {address} {value}, QL {qualifier}, {phase}")
 }
 
 /// S/E (IEC 60870-5-101, 7.2.6.26 and 7.2.6.39).
@@ -74,39 +99,45 @@ fn double_state(state: u8) -> &'static str {
 impl<'a> fmt::Display for AskedWords<'a> {
     fn fmt<W: fmt::Write>(&self, f: &mut fmt::Formatter<W>) -> fmt::Result {
         let AskedWords(command) = *self;
-        match command.cause {
-            ACTIVATION => {}
-            DEACTIVATION => f.write_str("deactivation of ")?,
-            cause => write!(f, "cause {cause} of ")?,
-        }
-        write!(f, "{}", ControlWords(command))?;
-        if command.negative {
-            f.write_str(", with P/N")?;
-        }
-        if command.test {
-            f.write_str(", a test")?;
-        }
-        Ok(())
+        let negative = if command.negative { ", with P/N" } else { "" };
+        let test = if command.test { ", a test" } else { "" };
+        let words = ControlWords(command);
+        write_cause(f, command.cause)?;
+        write!(f, "{words}{negative}{test}")
+    }
+}
+
+/// Writes the cause of transmission of a command that came, unless it is activation.
+fn write_cause<W: fmt::Write>(f: &mut fmt::Formatter<W>, cause: u8) -> fmt::Result {
+    match cause {
+        ACTIVATION => Ok(()),
+        DEACTIVATION => f.write_str("deactivation of "),
+        _ => write!(f, "cause {cause} of "),
     }
 }
 
 impl<'a> fmt::Display for ToldWords<'a> {
     fn fmt<W: fmt::Write>(&self, f: &mut fmt::Formatter<W>) -> fmt::Result {
         let ToldWords(command) = *self;
+        let negative = if command.negative { ", negative" } else { "" };
         let words = ControlWords(command);
-        match command.cause {
-            ACTIVATION_CONFIRMATION => write!(f, "{words}: confirmed")?,
-            DEACTIVATION_CONFIRMATION => write!(f, "{words}: deactivation confirmed")?,
-            ACTIVATION_TERMINATION => write!(f, "{words}: terminated")?,
-            UNKNOWN_TYPE => write!(f, "{words}: unknown type")?,
-            UNKNOWN_CAUSE => write!(f, "{words}: unknown cause")?,
-            UNKNOWN_COMMON_ADDRESS => write!(f, "{words}: unknown common address")?,
-            UNKNOWN_OBJECT_ADDRESS => write!(f, "{words}: unknown object address")?,
-            cause => write!(f, "{words}: cause {cause}")?,
-        }
-        if command.negative {
-            f.write_str(", negative")?;
-        }
-        Ok(())
+        write!(f, "{words}: ")?;
+        write_answer(f, command.cause)?;
+        f.write_str(negative)
     }
+}
+
+/// Writes what a command is answered by its cause of transmission.
+fn write_answer<W: fmt::Write>(f: &mut fmt::Formatter<W>, cause: u8) -> fmt::Result {
+    let words = match cause {
+        ACTIVATION_CONFIRMATION => "confirmed",
+        DEACTIVATION_CONFIRMATION => "deactivation confirmed",
+        ACTIVATION_TERMINATION => "terminated",
+        UNKNOWN_TYPE => "unknown type",
+        UNKNOWN_CAUSE => "unknown cause",
+        UNKNOWN_COMMON_ADDRESS => "unknown common address",
+        UNKNOWN_OBJECT_ADDRESS => "unknown object address",
+        _ => return write!(f, "cause {cause}"),
+    };
+    f.write_str(words)
 }

@@ -7,7 +7,7 @@ use iec_command::causes::UNKNOWN_TYPE;
 use std::fmt;
 
 /// What happens with a command of a client for a control.
-#[derive(Clone, Copy, Debug, PartialEq, Eq)]
+#[derive(Clone, Copy)]
 pub enum CommandEvent {
     /// It came, and was accepted as the order of this number, if it was.
     Came { order: Option<u64> },
@@ -16,7 +16,7 @@ pub enum CommandEvent {
 }
 
 /// What happens with an order to an outstation.
-#[derive(Clone, Copy, Debug, PartialEq, Eq)]
+#[derive(Clone, Copy)]
 pub enum OrderEvent {
     /// A request of it goes to the outstation.
     Given(Request),

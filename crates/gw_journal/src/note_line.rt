@@ -1,13 +1,16 @@
 //! The lines of the journal.
 
 use crate::command_words::{AskedWords, ToldWords};
-use crate::control_event::CommandEvent;
+use crate::control_event::{CommandEvent, OrderEvent};
 use crate::counted::{AndMore, Counted};
 use crate::doubt::Doubt;
 use crate::event::{JournalEvent, Subject};
+use crate::unreadable::Unreadable;
 use gw_text::Plain;
+use iec_command::Command;
 use jiff::Timestamp;
 use std::fmt;
+use std::net::SocketAddr;
 
 /// An event, and when it was.
 #[derive(Drop)]
@@ -58,25 +61,48 @@ impl<'a> fmt::Display for Hexadecimal<'a> {
 
 impl<'a> fmt::Display for NoteLine<'a> {
     fn fmt<W: fmt::Write>(&self, f: &mut fmt::Formatter<W>) -> fmt::Result {
-        if self.with_priority {
-            write!(f, "<{}>", self.note.event.priority() as u8)?;
-        }
+        self.write_priority(f)?;
         write!(f, "{} ", Instant(self.note.wall))?;
         match self.note.event.subject() {
             Subject::Gateway => self.write_of_gateway(f),
-            Subject::Outstation(outstation) => {
-                write!(f, "outstation {outstation} {} ", self.place(outstation))?;
-                self.write_of_outstation(f)
-            }
-            Subject::Client(client, address) => {
-                write!(f, "client {client} {address} ")?;
-                self.write_of_client(f)
-            }
+            Subject::Outstation(outstation) => self.write_of_outstation(f, outstation),
+            Subject::Client(client, address) => self.write_of_client(f, client, address),
         }
     }
 }
 
 impl<'a> NoteLine<'a> {
+    /// Writes the priority, if it stands in front.
+    fn write_priority<W: fmt::Write>(&self, f: &mut fmt::Formatter<W>) -> fmt::Result {
+        if self.with_priority {
+            write!(f, "<{}>", self.note.event.priority() as u8)
+        } else {
+            Ok(())
+        }
+    }
+
+    /// Writes which outstation it is, and what happened to it.
+    fn write_of_outstation<W: fmt::Write>(
+        &self,
+        f: &mut fmt::Formatter<W>,
+        outstation: u8,
+    ) -> fmt::Result {
+        let place = self.place(outstation);
+        write!(f, "outstation {outstation} {place} ")?;
+        self.write_event_of_outstation(f)
+    }
+
+    /// Writes which client it is, and what happened to it.
+    fn write_of_client<W: fmt::Write>(
+        &self,
+        f: &mut fmt::Formatter<W>,
+        client: u8,
+        address: SocketAddr,
+    ) -> fmt::Result {
+        write!(f, "client {client} {address} ")?;
+        self.write_event_of_client(f)
+    }
+
     /// Where an outstation is reached.
     fn place(&self, outstation: u8) -> Plain<'a> {
         match self.places.get(usize::from(outstation)) {
@@ -99,13 +125,9 @@ impl<'a> NoteLine<'a> {
             }
             JournalEvent::NotAccepted(cause) => write!(f, "no connection accepted: {cause}"),
             JournalEvent::RecordingEnded(ended) => write!(f, "the {ended}"),
-            JournalEvent::LeftOut(count) => {
-                let events = Counted(*count, "event");
-                write!(f, "{events} left out")
-            }
+            JournalEvent::LeftOut(count) => write_counted(f, *count, "event", "left out"),
             JournalEvent::ControlsLeftOut(count) => {
-                let events = Counted(*count, "event");
-                write!(f, "{events} of controls left out")
+                write_counted(f, *count, "event", "of controls left out")
             }
             JournalEvent::Stopped => f.write_str("stopped"),
             _ => Ok(()),
@@ -154,7 +176,7 @@ impl<'a> NoteLine<'a> {
     }
 
     /// Writes what happened to an outstation.
-    fn write_of_outstation<W: fmt::Write>(&self, f: &mut fmt::Formatter<W>) -> fmt::Result {
+    fn write_event_of_outstation<W: fmt::Write>(&self, f: &mut fmt::Formatter<W>) -> fmt::Result {
         match &self.note.event {
             JournalEvent::OutstationConnected { .. } => f.write_str("connected"),
             JournalEvent::OutstationUnreachable { cause, .. } => {
@@ -169,45 +191,78 @@ impl<'a> NoteLine<'a> {
                 f.write_str("its clock can't be set (IIN1.4 stays)")
             }
             JournalEvent::Unanswered { count, .. } => {
-                let requests = Counted(*count, "request");
-                write!(f, "{requests} unanswered")
+                write_counted(f, *count, "request", "unanswered")
             }
             JournalEvent::FragmentRefused {
                 fault,
                 left_out,
                 ..
-            } => {
-                let more = AndMore(*left_out);
-                write!(f, "unreadable: {fault}{more}")
-            }
+            } => write_refused(f, fault, *left_out),
             JournalEvent::OctetsSkipped { count, .. } => {
-                let octets = Counted(*count, "octet");
-                write!(f, "{octets} skipped by the link")
+                write_counted(f, *count, "octet", "skipped by the link")
             }
-            JournalEvent::Order { order, what, .. } => write!(f, "order {order} {what}"),
+            JournalEvent::Order { order, what, .. } => write_order(f, *order, what),
             _ => Ok(()),
         }
     }
 
     /// Writes what happened to a client.
-    fn write_of_client<W: fmt::Write>(&self, f: &mut fmt::Formatter<W>) -> fmt::Result {
+    fn write_event_of_client<W: fmt::Write>(&self, f: &mut fmt::Formatter<W>) -> fmt::Result {
         match &self.note.event {
             JournalEvent::ClientConnected { .. } => f.write_str("connected"),
             JournalEvent::TransferStarted { .. } => f.write_str("data transfer started"),
             JournalEvent::TransferStopped { .. } => f.write_str("data transfer stopped"),
             JournalEvent::ClientLost { cause, .. } => write!(f, "{cause}"),
             JournalEvent::NewsDropped { count, .. } => {
-                let observations = Counted(*count, "observation");
-                write!(f, "{observations} dropped, since too many waited")
+                write_counted(f, *count, "observation", "dropped, since too many waited")
             }
-            JournalEvent::Command { command, what, .. } => match *what {
-                CommandEvent::Came { order: Some(order) } => {
-                    write!(f, "asks: {}: order {order}", AskedWords(command))
-                }
-                CommandEvent::Came { order: None } => write!(f, "asks: {}", AskedWords(command)),
-                CommandEvent::Told => write!(f, "told: {}", ToldWords(command)),
-            },
+            JournalEvent::Command { command, what, .. } => write_command(f, command, *what),
             _ => Ok(()),
         }
+    }
+}
+
+/// Writes how many things there are, and what of them.
+fn write_counted<W: fmt::Write>(
+    f: &mut fmt::Formatter<W>,
+    count: u64,
+    name: &'static str,
+    what: &str,
+) -> fmt::Result {
+    let things = Counted(count, name);
+    write!(f, "{things} {what}")
+}
+
+/// Writes why a fragment was refused, and how many more were.
+fn write_refused<W: fmt::Write>(
+    f: &mut fmt::Formatter<W>,
+    fault: &Unreadable,
+    left_out: u64,
+) -> fmt::Result {
+    let more = AndMore(left_out);
+    write!(f, "unreadable: {fault}{more}")
+}
+
+/// Writes what happened with an order.
+fn write_order<W: fmt::Write>(
+    f: &mut fmt::Formatter<W>,
+    order: u64,
+    what: &OrderEvent,
+) -> fmt::Result {
+    write!(f, "order {order} {what}")
+}
+
+/// Writes what happened with a command.
+fn write_command<W: fmt::Write>(
+    f: &mut fmt::Formatter<W>,
+    command: &Command,
+    what: CommandEvent,
+) -> fmt::Result {
+    match what {
+        CommandEvent::Came { order: Some(order) } => {
+            write!(f, "asks: {}: order {order}", AskedWords(command))
+        }
+        CommandEvent::Came { order: None } => write!(f, "asks: {}", AskedWords(command)),
+        CommandEvent::Told => write!(f, "told: {}", ToldWords(command)),
     }
 }

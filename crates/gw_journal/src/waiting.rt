@@ -77,28 +77,44 @@ impl WaitingNotes {
     pub fn add(&mut self, note: Note) {
         if note.event.is_of_control() {
             self.add_of_control(note);
-        } else if self.notes.len() < MOST {
-            if let Some(left_out) = self.take_left_out() {
-                let _ = self.notes.push_back(left_out);
-            }
-            let _ = self.notes.push_back(note);
+        } else {
+            self.add_other(note);
+        }
+    }
+
+    /// One more note that isn't of a control.
+    fn add_other(&mut self, note: Note) {
+        if self.notes.len() < MOST {
+            let left_out = self.take_left_out();
+            self.push_behind(left_out, note);
         } else {
             self.others.add(note.wall);
         }
     }
 
-    /// One more note of a control, likewise.
+    /// One more note of a control.
     fn add_of_control(&mut self, note: Note) {
         let wall = note.wall;
         if self.notes.len() < MOST_OF_CONTROLS {
-            if let Some(left_out) = self.take_controls_left_out() {
-                let _ = self.notes.push_back(left_out);
-            }
-            if self.notes.push_back(note).is_ok() {
+            let left_out = self.take_controls_left_out();
+            if self.push_behind(left_out, note) {
                 return;
             }
         }
         self.of_controls.add(wall);
+    }
+
+    /// Puts a note behind all others, and one before it, if there is one. Whether there was memory for the note.
+    fn push_behind(&mut self, left_out: Option<Note>, note: Note) -> bool {
+        if let Some(left_out) = left_out {
+            self.push(left_out);
+        }
+        self.push(note)
+    }
+
+    /// Puts a note behind all others. Whether there was memory for it.
+    fn push(&mut self, note: Note) -> bool {
+        self.notes.push_back(note).is_ok()
     }
 
     /// No further note comes.

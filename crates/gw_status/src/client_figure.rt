@@ -149,8 +149,18 @@ fn write_closes_of<W: fmt::Write>(
     closes: Closes,
 ) -> fmt::Result {
     for (cause, count) in closes.by_cause() {
-        let name = CLOSES.name();
-        writeln!(f, "{name}{{client=\"{number}\",cause=\"{cause}\"}} {count}")?;
+        write_close(f, number, cause, count)?;
     }
     Ok(())
+}
+
+/// Writes how many connections of a place ended for a cause.
+fn write_close<W: fmt::Write>(
+    f: &mut fmt::Formatter<W>,
+    number: usize,
+    cause: &str,
+    count: u64,
+) -> fmt::Result {
+    let name = CLOSES.name();
+    writeln!(f, "{name}{{client=\"{number}\",cause=\"{cause}\"}} {count}")
 }

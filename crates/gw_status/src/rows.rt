@@ -5,6 +5,7 @@ use crate::indications::{Names, tell_of_trouble};
 use crate::status::{ClientStatus, Closes, OrderStatus, OutstationStatus};
 use crate::time::{Moment, Span};
 use std::fmt;
+use std::net::SocketAddr;
 
 /// Writes the row of an outstation.
 pub fn write_outstation<W: fmt::Write>(
@@ -46,17 +47,22 @@ fn write_last_answer<W: fmt::Write>(
 ) -> fmt::Result {
     match outstation.last_answer {
         Some(answer) => {
-            let (span, answer) = (Span(now.saturating_sub(answer)), Moment(answer));
-            write!(
-                f,
-                "<td data-column=\"Last answer\">{span} ago <small>{answer}</small></td>"
-            )?;
+            write_answered(f, answer, now)?;
             write_indications(f, outstation.indications)
         }
         None => f.write_str(
             "<td data-column=\"Last answer\">never</td><td data-column=Indications>none</td>",
         ),
     }
+}
+
+/// Writes when an outstation answered last.
+fn write_answered<W: fmt::Write>(f: &mut fmt::Formatter<W>, answer: u64, now: u64) -> fmt::Result {
+    let (span, answer) = (Span(now.saturating_sub(answer)), Moment(answer));
+    write!(
+        f,
+        "<td data-column=\"Last answer\">{span} ago <small>{answer}</small></td>"
+    )
 }
 
 /// Writes what an outstation indicated.
@@ -78,11 +84,15 @@ fn write_counts<W: fmt::Write>(
     f: &mut fmt::Formatter<W>,
     outstation: &OutstationStatus,
 ) -> fmt::Result {
-    write_count(f, "Events", outstation.events)?;
-    write_count(f, "Requests", outstation.requests)?;
-    write_count(f, "Unanswered", outstation.unanswered)?;
-    write_count(f, "Refused fragments", outstation.refused)?;
-    write_count(f, "Skipped octets", outstation.skipped)?;
+    for (column, count) in [
+        ("Events", outstation.events),
+        ("Requests", outstation.requests),
+        ("Unanswered", outstation.unanswered),
+        ("Refused fragments", outstation.refused),
+        ("Skipped octets", outstation.skipped),
+    ] {
+        write_count(f, column, count)?;
+    }
     write_orders(f, outstation.orders)
 }
 
@@ -101,7 +111,7 @@ fn write_parts<W: fmt::Write>(
     let mut separator = "";
     for (part, count) in parts {
         if *count != 0 {
-            write!(f, "{separator}{count} {part}")?;
+            write_part(f, separator, *count, part)?;
             separator = ", ";
         }
     }
@@ -110,6 +120,16 @@ fn write_parts<W: fmt::Write>(
     } else {
         Ok(())
     }
+}
+
+/// Writes how many there are of a part.
+fn write_part<W: fmt::Write>(
+    f: &mut fmt::Formatter<W>,
+    separator: &str,
+    count: u64,
+    part: &str,
+) -> fmt::Result {
+    write!(f, "{separator}{count} {part}")
 }
 
 /// Writes a cell with a number.
@@ -128,15 +148,28 @@ pub fn write_client<W: fmt::Write>(
     client: &ClientStatus,
     now: u64,
 ) -> fmt::Result {
-    match client.address {
-        Some(address) => write!(f, "<tr><th scope=row><i>{number}</i> {address}</th>")?,
-        None => write!(f, "<tr class=free><th scope=row><i>{number}</i></th>")?,
-    }
+    write_address(f, number, client.address)?;
     write_session(f, client, now)?;
-    write_count(f, "Not acknowledged", client.unacknowledged)?;
-    write_count(f, "Queued", client.queued)?;
-    write_count(f, "Dropped", client.dropped)?;
+    for (column, count) in [
+        ("Not acknowledged", client.unacknowledged),
+        ("Queued", client.queued),
+        ("Dropped", client.dropped),
+    ] {
+        write_count(f, column, count)?;
+    }
     write_closes(f, client.closes)
+}
+
+/// Writes the number of a place, and who is connected there.
+fn write_address<W: fmt::Write>(
+    f: &mut fmt::Formatter<W>,
+    number: usize,
+    address: Option<SocketAddr>,
+) -> fmt::Result {
+    match address {
+        Some(address) => write!(f, "<tr><th scope=row><i>{number}</i> {address}</th>"),
+        None => write!(f, "<tr class=free><th scope=row><i>{number}</i></th>"),
+    }
 }
 
 /// Writes whether a client gets what is reported, and since when it is connected.

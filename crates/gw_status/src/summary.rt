@@ -19,15 +19,33 @@ pub struct Summary {
 impl Summary {
     /// That of a status.
     pub fn of(status: &Status) -> Summary {
-        let (outstations, clients) = (status.outstations.as_slice(), status.clients.as_slice());
-        Summary {
-            outstations: outstations.len(),
-            connected: connected_in(outstations),
-            troubled: troubled_in(outstations),
-            places: clients.len(),
-            clients: clients_in(clients),
-            transferring: transferring_in(clients),
+        let mut summary = Summary {
+            outstations: status.outstations.len(),
+            connected: 0,
+            troubled: 0,
+            places: status.clients.len(),
+            clients: 0,
+            transferring: 0,
+        };
+        for outstation in &status.outstations {
+            summary.add_outstation(outstation);
         }
+        for client in &status.clients {
+            summary.add_client(client);
+        }
+        summary
+    }
+
+    /// Counts how it is with an outstation.
+    fn add_outstation(&mut self, outstation: &OutstationStatus) {
+        add_if(&mut self.connected, outstation.connected_since.is_some());
+        add_if(&mut self.troubled, tell_of_trouble(outstation.indications));
+    }
+
+    /// Counts how it is with a place for a client.
+    fn add_client(&mut self, client: &ClientStatus) {
+        add_if(&mut self.clients, client.address.is_some());
+        add_if(&mut self.transferring, client.session);
     }
 
     /// Whether each outstation is connected, none tells of trouble, and a client gets what they report.
@@ -51,12 +69,15 @@ impl Summary {
         write!(
             f,
             "{begin}{connected} of {outstations} outstations connected{end}, "
-        )?;
-        let troubled = self.troubled;
-        if troubled != 0 {
-            write!(f, "<strong>{troubled} with trouble</strong>, ")?;
+        )
+    }
+
+    /// Writes how many outstations tell of trouble, if some do.
+    fn write_troubled<W: fmt::Write>(self, f: &mut fmt::Formatter<W>) -> fmt::Result {
+        match self.troubled {
+            0 => Ok(()),
+            troubled => write!(f, "<strong>{troubled} with trouble</strong>, "),
         }
-        Ok(())
     }
 
     /// Writes how it is with the clients.
@@ -79,38 +100,15 @@ fn marks(is_wrong: bool) -> (&'static str, &'static str) {
     }
 }
 
-/// How many outstations are connected.
-fn connected_in(outstations: &[OutstationStatus]) -> usize {
-    outstations
-        .iter()
-        .filter(|outstation| outstation.connected_since.is_some())
-        .count()
-}
-
-/// The indications of how many tell of trouble.
-fn troubled_in(outstations: &[OutstationStatus]) -> usize {
-    outstations
-        .iter()
-        .filter(|outstation| tell_of_trouble(outstation.indications))
-        .count()
-}
-
-/// How many places are taken.
-fn clients_in(clients: &[ClientStatus]) -> usize {
-    clients
-        .iter()
-        .filter(|client| client.address.is_some())
-        .count()
-}
-
-/// At how many data transfer is started.
-fn transferring_in(clients: &[ClientStatus]) -> usize {
-    clients.iter().filter(|client| client.session).count()
+/// One more, where it is one.
+fn add_if(count: &mut usize, is_one: bool) {
+    *count = count.saturating_add(usize::from(is_one));
 }
 
 impl fmt::Display for Summary {
     fn fmt<W: fmt::Write>(&self, f: &mut fmt::Formatter<W>) -> fmt::Result {
         self.write_outstations(f)?;
+        self.write_troubled(f)?;
         self.write_clients(f)
     }
 }

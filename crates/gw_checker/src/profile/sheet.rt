@@ -2,7 +2,7 @@
 
 use crate::profile::commands::{write_command_transmission, write_command_types};
 use crate::profile::types::point_types;
-use gw_map::{Settings, Show, Station};
+use gw_map::{Row, Settings, Show, Station};
 use gw_text::Plain;
 use std::io::{self, Write};
 
@@ -125,65 +125,71 @@ const FUNCTIONS: &str = "
 [ ] clock synchronization
 ";
 
-const NETWORK: &str =
-    "[x] connections of clients at a time: 8, each with its own data transfer, windows, timers and queue
-[ ] redundancy groups; serial X.21 interface; other selections from RFC 2200
-[ ] TLS (IEC 62351-3), secure authentication
-";
-
 /// Writes the list with the values of settings.
 pub(crate) fn write_sheet<W: Write>(settings: &Settings, writer: &mut W) -> io::Result<()> {
-    let station = settings.station();
-    let common_address = station.common_address;
+    let (station, rows, controls) = (settings.station(), settings.rows(), settings.controls());
+    write_device(station.common_address, writer)?;
+    write_point_types(rows, writer)?;
+    write_command_types(controls, writer)?;
+    write_functions(station.offset_minutes, writer)?;
+    write_command_transmission(controls, station.select_ms, writer)?;
+    write_limits(station, writer)?;
+    write_network(station, writer)
+}
+
+/// Writes what the station is, and how it is addressed.
+fn write_device<W: Write>(common_address: u16, writer: &mut W) -> io::Result<()> {
     writer.write_all(DEVICE.as_bytes())?;
     writeln!(
         writer,
         "[x] common address of ASDU: two octets: {common_address}"
     )?;
-    writer.write_all(ADDRESSES.as_bytes())?;
-    write_point_types(settings, writer)?;
-    write_command_types(settings, writer)?;
-    for text in [SYSTEM, CAUSES, FUNCTIONS] {
-        writer.write_all(text.as_bytes())?;
-    }
-    write_offset(station, writer)?;
-    write_command_transmission(settings, writer)?;
-    write_limits(station, writer)?;
-    write_network(station, writer)
+    writer.write_all(ADDRESSES.as_bytes())
 }
 
 /// Writes the types of process information in monitor direction, of which those are used that a point has.
-fn write_point_types<W: Write>(settings: &Settings, writer: &mut W) -> io::Result<()> {
-    writeln!(writer, "\nProcess information in monitor direction")?;
+fn write_point_types<W: Write>(rows: &[Row], writer: &mut W) -> io::Result<()> {
+    writer.write_all(b"\nProcess information in monitor direction\n")?;
     for listed in WITHOUT_TIME {
-        let mark = mark_of(settings, listed.show);
-        let types = point_types(listed.show);
-        let (untimed, about) = (types.untimed, types.about);
-        writeln!(writer, "[{mark}] {untimed} {about}")?;
-        writer.write_all(listed.unused_behind.as_bytes())?;
+        write_untimed(listed, mark_of(rows, listed.show), writer)?;
     }
     for listed in WITH_TIME {
-        let mark = mark_of(settings, listed.show);
-        let types = point_types(listed.show);
-        let (timed, about) = (types.timed, types.about);
-        writeln!(writer, "[{mark}] {timed} {about}, with CP56Time2a")?;
-        writer.write_all(listed.unused_behind.as_bytes())?;
+        write_timed(listed, mark_of(rows, listed.show), writer)?;
     }
     Ok(())
 }
 
+/// Writes the type without time of a way to show a point, and those behind it.
+fn write_untimed<W: Write>(listed: Listed, mark: char, writer: &mut W) -> io::Result<()> {
+    let types = point_types(listed.show);
+    let (untimed, about, behind) = (types.untimed, types.about, listed.unused_behind);
+    write!(writer, "[{mark}] {untimed} {about}\n{behind}")
+}
+
+/// Writes the type with time of a way to show a point, and those behind it.
+fn write_timed<W: Write>(listed: Listed, mark: char, writer: &mut W) -> io::Result<()> {
+    let types = point_types(listed.show);
+    let (timed, about, behind) = (types.timed, types.about, listed.unused_behind);
+    write!(
+        writer,
+        "[{mark}] {timed} {about}, with CP56Time2a\n{behind}"
+    )
+}
+
 /// What stands in the brackets at the types of a way to show a point.
-fn mark_of(settings: &Settings, show: Show) -> char {
-    if settings.rows().iter().any(|row| row.show == show) {
+fn mark_of(rows: &[Row], show: Show) -> char {
+    if rows.iter().any(|row| row.show == show) {
         'x'
     } else {
         ' '
     }
 }
 
-/// Writes the offset of the clocks.
-fn write_offset<W: Write>(station: &Station, writer: &mut W) -> io::Result<()> {
-    let offset = station.offset_minutes;
+/// Writes what the station does, and by how many minutes its clock is ahead of UTC.
+fn write_functions<W: Write>(offset: i16, writer: &mut W) -> io::Result<()> {
+    for text in [SYSTEM, CAUSES, FUNCTIONS] {
+        writer.write_all(text.as_bytes())?;
+    }
     writeln!(
         writer,
         "[x] time tags CP56Time2a: {offset} minutes ahead of UTC, the whole year round"
@@ -194,27 +200,31 @@ fn write_offset<W: Write>(station: &Station, writer: &mut W) -> io::Result<()> {
 fn write_limits<W: Write>(station: &Station, writer: &mut W) -> io::Result<()> {
     let (t1, t2, t3) = (station.t1_ms, station.t2_ms, station.t3_ms);
     let (k, w) = (station.k, station.w);
-    writeln!(writer, "\nTime-outs and windows")?;
-    writeln!(writer, "[ ] t0: clients open the connections")?;
-    writeln!(writer, "[x] t1: {t1} ms (15 s in the standard)")?;
-    writeln!(writer, "[x] t2: {t2} ms (10 s in the standard)")?;
-    writeln!(writer, "[x] t3: {t3} ms (20 s in the standard)")?;
-    writeln!(writer, "[x] k: {k} (12 in the standard)")?;
-    writeln!(writer, "[x] w: {w} (8 in the standard)")
+    writeln!(
+        writer,
+        "
+Time-outs and windows
+[ ] t0: clients open the connections
+[x] t1: {t1} ms (15 s in the standard)
+[x] t2: {t2} ms (10 s in the standard)
+[x] t3: {t3} ms (20 s in the standard)
+[x] k: {k} (12 in the standard)
+[x] w: {w} (8 in the standard)"
+    )
 }
 
 /// Writes where the station listens, and what it keeps for each client.
 fn write_network<W: Write>(station: &Station, writer: &mut W) -> io::Result<()> {
     let listen = Plain(station.listen.as_str());
     let queue = station.queue;
-    writeln!(writer, "\nPorts, redundancy and networks")?;
     writeln!(
         writer,
-        "[x] listening over TCP: {listen} (port 2404 in the standard)"
-    )?;
-    writeln!(
-        writer,
-        "[x] spontaneous observations that may wait for each client: {queue}"
-    )?;
-    writer.write_all(NETWORK.as_bytes())
+        "
+Ports, redundancy and networks
+[x] listening over TCP: {listen} (port 2404 in the standard)
+[x] spontaneous observations that may wait for each client: {queue}
+[x] connections of clients at a time: 8, each with its own data transfer, windows, timers and queue
+[ ] redundancy groups; serial X.21 interface; other selections from RFC 2200
+[ ] TLS (IEC 62351-3), secure authentication"
+    )
 }

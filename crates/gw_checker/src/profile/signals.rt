@@ -1,9 +1,9 @@
 //! The signals of the station: its outstations, and a line for each point and each control.
 
 use crate::listing::mode_word;
-use crate::profile::types::{command_type, point_types};
+use crate::profile::types::{PointTypes, command_type, point_types};
 use gw_map::{Control, Operates, Outstation, Pulses, Rest, Row, Scale, Settings, Show};
-use gw_model::Kind;
+use gw_model::{Kind, PointKey};
 use gw_text::Plain;
 use std::fmt;
 use std::io::{self, Write};
@@ -16,21 +16,34 @@ pub(crate) fn write_signals<W: Write>(settings: &Settings, writer: &mut W) -> io
 }
 
 fn write_outstations<W: Write>(outstations: &[Outstation], writer: &mut W) -> io::Result<()> {
-    writeln!(writer, "\nOutstations (DNP3): {}", outstations.len())?;
-    writeln!(writer, "outstation  link address  connection")?;
+    let count = outstations.len();
+    writeln!(
+        writer,
+        "\nOutstations (DNP3): {count}\noutstation  link address  connection"
+    )?;
     for (position, outstation) in outstations.iter().enumerate() {
-        let address = outstation.address;
-        let connect = Plain(outstation.connect.as_str());
-        writeln!(writer, "{position:>10}  {address:>12}  {connect}")?;
+        write_outstation(position, outstation, writer)?;
     }
     Ok(())
 }
 
+fn write_outstation<W: Write>(
+    position: usize,
+    outstation: &Outstation,
+    writer: &mut W,
+) -> io::Result<()> {
+    let address = outstation.address;
+    let connect = Plain(outstation.connect.as_str());
+    writeln!(writer, "{position:>10}  {address:>12}  {connect}")
+}
+
 fn write_points<W: Write>(rows: &[Row], writer: &mut W) -> io::Result<()> {
-    writeln!(writer, "\nSignals in monitor direction: {}", rows.len())?;
+    let count = rows.len();
     writeln!(
         writer,
-        " address  without time  with time     outstation  DNP3 object            index  scaling"
+        "
+Signals in monitor direction: {count}
+ address  without time  with time     outstation  DNP3 object            index  scaling"
     )?;
     for row in rows {
         write_point(row, writer)?;
@@ -39,19 +52,37 @@ fn write_points<W: Write>(rows: &[Row], writer: &mut W) -> io::Result<()> {
 }
 
 fn write_point<W: Write>(row: &Row, writer: &mut W) -> io::Result<()> {
-    let address = row.address;
-    let types = point_types(row.show);
+    let PointKey {
+        outstation,
+        kind,
+        index,
+    } = row.key;
+    write_types(row.address, point_types(row.show), writer)?;
+    write_object(outstation, object_words(kind), index, writer)?;
+    write_scaling(row.show, row.scale, writer)
+}
+
+/// Writes where a point is shown, and by which types.
+fn write_types<W: Write>(address: u32, types: PointTypes, writer: &mut W) -> io::Result<()> {
     let (untimed, timed) = (types.untimed, types.timed);
-    let outstation = row.key.outstation;
-    let object = object_words(row.key.kind);
-    let index = row.key.index;
-    write!(
-        writer,
-        "{address:>8}  {untimed:<12}  {timed:<12}  {outstation:>10}  {object:<21}  {index:>5}  "
-    )?;
-    match row.show {
-        Show::Scaled => writeln!(writer, "{}", Factor(row.scale)),
-        Show::Single | Show::Double | Show::Word | Show::Total => writeln!(writer, "none"),
+    write!(writer, "{address:>8}  {untimed:<12}  {timed:<12}  ")
+}
+
+/// Writes what a signal is at its outstation: an object of DNP3, and its index.
+fn write_object<W: Write>(
+    outstation: u8,
+    object: &str,
+    index: u16,
+    writer: &mut W,
+) -> io::Result<()> {
+    write!(writer, "{outstation:>10}  {object:<21}  {index:>5}  ")
+}
+
+/// Writes what a point's value is multiplied by, and the end of its line.
+fn write_scaling<W: Write>(show: Show, scale: Scale, writer: &mut W) -> io::Result<()> {
+    match show {
+        Show::Scaled => writeln!(writer, "{}", Factor(scale)),
+        Show::Single | Show::Double | Show::Word | Show::Total => writer.write_all(b"none\n"),
     }
 }
 
@@ -67,10 +98,12 @@ fn object_words(kind: Kind) -> &'static str {
 }
 
 fn write_controls<W: Write>(controls: &[Control], writer: &mut W) -> io::Result<()> {
-    writeln!(writer, "\nSignals in control direction: {}", controls.len())?;
+    let count = controls.len();
     writeln!(
         writer,
-        " address  type          outstation  DNP3 object            index  select  operate  effect"
+        "
+Signals in control direction: {count}
+ address  type          outstation  DNP3 object            index  select  operate  effect"
     )?;
     for control in controls {
         write_control(control, writer)?;
@@ -79,23 +112,26 @@ fn write_controls<W: Write>(controls: &[Control], writer: &mut W) -> io::Result<
 }
 
 fn write_control<W: Write>(control: &Control, writer: &mut W) -> io::Result<()> {
-    let address = control.address;
-    let command = command_type(control.operates);
-    let outstation = control.outstation;
-    let index = control.index;
-    let (object, effect) = match control.operates {
-        Operates::Single(pulses) | Operates::Double(pulses) => (
-            "control relay output",
-            Effect::Switch(pulses),
-        ),
-        Operates::Setpoint(scale) => ("analog output", Effect::Value(scale)),
-    };
+    let (address, command) = (control.address, command_type(control.operates));
+    let object = output_words(control.operates);
+    write!(writer, "{address:>8}  {command:<12}  ")?;
+    write_object(control.outstation, object, control.index, writer)?;
+    write_operation(control, writer)
+}
+
+/// What an output is called in the object library of DNP3.
+fn output_words(operates: Operates) -> &'static str {
+    match operates {
+        Operates::Single(_) | Operates::Double(_) => "control relay output",
+        Operates::Setpoint(_) => "analog output",
+    }
+}
+
+/// Writes how an output is operated, and the end of its line.
+fn write_operation<W: Write>(control: &Control, writer: &mut W) -> io::Result<()> {
     let select = if control.select { "yes" } else { "no" };
-    let mode = mode_word(control.mode);
-    writeln!(
-        writer,
-        "{address:>8}  {command:<12}  {outstation:>10}  {object:<21}  {index:>5}  {select:<6}  {mode:<7}  {effect}"
-    )
+    let (mode, effect) = (mode_word(control.mode), Effect(control.operates));
+    writeln!(writer, "{select:<6}  {mode:<7}  {effect}")
 }
 
 /// What a value is multiplied by, as a fraction.
@@ -111,25 +147,23 @@ impl fmt::Display for Factor {
 
 /// What a command does.
 #[derive(Clone, Copy)]
-enum Effect {
-    /// It operates a switch.
-    Switch(Pulses),
-    /// It sets a value.
-    Value(Scale),
-}
+struct Effect(Operates);
 
 impl fmt::Display for Effect {
     fn fmt<W: fmt::Write>(&self, f: &mut fmt::Formatter<W>) -> fmt::Result {
-        match self {
-            Effect::Switch(pulses) => {
-                let rest = match pulses.rest {
-                    Rest::Latch => "latch",
-                    Rest::Short => "short pulse",
-                };
-                let (short, long) = (pulses.short_ms, pulses.long_ms);
-                write!(f, "QU 0 {rest}; QU 1 {short} ms; QU 2 {long} ms")
-            }
-            Effect::Value(scale) => write!(f, "value times {}", Factor(*scale)),
+        match self.0 {
+            Operates::Single(pulses) | Operates::Double(pulses) => write_pulses(f, pulses),
+            Operates::Setpoint(scale) => write!(f, "value times {}", Factor(scale)),
         }
     }
+}
+
+/// Writes how an output rests, and how long it is on, by the qualifier of the command, QU.
+fn write_pulses<W: fmt::Write>(f: &mut fmt::Formatter<W>, pulses: Pulses) -> fmt::Result {
+    let rest = match pulses.rest {
+        Rest::Latch => "latch",
+        Rest::Short => "short pulse",
+    };
+    let (short, long) = (pulses.short_ms, pulses.long_ms);
+    write!(f, "QU 0 {rest}; QU 1 {short} ms; QU 2 {long} ms")
 }
