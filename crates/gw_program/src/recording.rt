@@ -29,16 +29,10 @@ impl<'a, R: Wait> Gate for Recording<'a, R> {
         }
     }
 
-    fn made(&self, call: Call<'_>) {
-        let Call {
-            number,
-            line,
-            reply,
-            ..
-        } = call;
+    fn made(&self, call: &Call<'_>, line: Option<Vec<u8>>) {
         if let Some(line) = line {
             self.capture
-                .put_step(self.rt, Kept::Line(line), number, *reply);
+                .put_step(self.rt, Kept::Line(line), call.number, *call.reply);
         }
     }
 

@@ -119,7 +119,7 @@ impl<'a, R: Wait, C: Clock, G: Gate> Gate for Watched<'a, R, C, G> {
         self.gate.line_of(step)
     }
 
-    fn made(&self, call: Call<'_>) {
+    fn made(&self, call: &Call<'_>, line: Option<Vec<u8>>) {
         match (call.about, call.reply) {
             (
                 About::Fragment {
@@ -148,8 +148,8 @@ impl<'a, R: Wait, C: Clock, G: Gate> Gate for Watched<'a, R, C, G> {
             ) => self.signalled(client, signal),
             _ => {}
         }
-        self.tell_of_controls(&call);
-        self.gate.made(call);
+        self.tell_of_controls(call);
+        self.gate.made(call, line);
     }
 
     fn pumped(&self, run: &Run<'_>) {

@@ -5,7 +5,7 @@ use gw_record::{Reply, StepFault};
 
 /// The writers of clients that are awake: each that was rung for and hasn't been told since that nothing is due. It
 /// asks again before it sleeps, so whoever steps meanwhile needn't ring.
-#[derive(Clone, Copy, Debug)]
+#[derive(Clone, Copy)]
 pub(crate) struct Awake {
     writers: Roused,
 }

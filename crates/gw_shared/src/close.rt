@@ -8,13 +8,13 @@ use std::sync::Wait;
 use std::sync::ledger::{Ledger, Share};
 
 /// How many calls were made.
-#[derive(Clone, Copy, Debug, PartialEq, Eq)]
+#[derive(Clone, Copy)]
 pub struct Closed {
     pub total: u64,
 }
 
 /// Why a shared core isn't closed.
-#[derive(Clone, Copy, Debug, PartialEq, Eq)]
+#[derive(Clone, Copy, Debug)]
 pub enum CloseFault {
     /// Not all passes were handed over.
     Missing = 1,

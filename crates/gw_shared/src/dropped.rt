@@ -54,8 +54,8 @@ impl Dropped {
             Watch::Nobody => {}
             Watch::One(client, count) => self.compare(client, count, hub),
             Watch::All(counts) => {
-                for (client, count) in (0u8..).zip(&counts) {
-                    self.compare(client, *count, hub);
+                for client in 0..CLIENTS {
+                    self.compare(client, counts[usize::from(client)], hub);
                 }
             }
         }
@@ -73,8 +73,8 @@ impl Dropped {
     /// What was dropped for each client, with that of the data transfer that stands.
     pub fn in_all(&self, hub: &Hub) -> [u64; 8] {
         let mut counts = dropped_in(hub);
-        for (count, ended) in counts.iter_mut().zip(&self.counts) {
-            *count = count.saturating_add(*ended);
+        for client in 0..usize::from(CLIENTS) {
+            counts[client] = counts[client].saturating_add(self.counts[client]);
         }
         counts
     }

@@ -7,7 +7,7 @@ use crate::settled::OrderCounts;
 use gw_record::Hub;
 
 /// How many calls were made, how many observations were news, what waits for clients, and what became of orders.
-#[derive(Clone, Copy, Debug, PartialEq, Eq)]
+#[derive(Clone, Copy)]
 pub struct Figures {
     /// The calls.
     pub calls: u64,

@@ -4,6 +4,7 @@
 
 mod awake;
 mod batch;
+mod bells;
 mod close;
 mod dropped;
 mod figures;

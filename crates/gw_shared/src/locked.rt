@@ -66,6 +66,7 @@ impl<L: Ledger> Core<L> {
         ensures hub { IfOk result (λ core. core.hub ≡ hub) }
         ensures made { IfOk result (λ core. core.made ≡ 0) }
     {
+        let pending = Pending::new(alloc)?;
         let recorder = Recorder::new(alloc, &hub, actors, capacity)?;
         Ok(Core {
             hub,
@@ -74,7 +75,7 @@ impl<L: Ledger> Core<L> {
             book,
             dropped: Dropped::new(),
             awake: Awake::nobody(),
-            pending: Pending::new(alloc)?,
+            pending,
         })
     }
 

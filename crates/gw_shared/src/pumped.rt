@@ -5,7 +5,7 @@ ghost use Rattle.gw_shared.specs.Pumping.{is_apdu};
 use gw_record::{ApduBuf, Reply, StepFault};
 
 /// How a run of pumps for a client ended.
-#[derive(Clone, Copy, Debug, PartialEq, Eq)]
+#[derive(Clone, Copy)]
 pub enum Pumped {
     /// With this answer, which is no APDU.
     Ended(Result<Reply, StepFault>),

@@ -9,7 +9,7 @@ pub const OUTSTATIONS: u8 = 32;
 pub const CLIENTS: u8 = 8;
 
 /// What a step is about.
-#[derive(Clone, Copy, Debug, PartialEq, Eq)]
+#[derive(Clone, Copy)]
 pub enum Topic {
     /// A poll of an outstation, which changes nothing that another waits for.
     Poll(u8),
@@ -45,7 +45,7 @@ impl Topic {
 }
 
 /// The workers that a step serves: the writers towards outstations, and those of clients, a bit for each.
-#[derive(Clone, Copy, Debug, PartialEq, Eq)]
+#[derive(Clone, Copy)]
 pub struct Roused {
     outstations: u32,
     clients: u8,

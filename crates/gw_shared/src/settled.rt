@@ -24,7 +24,7 @@ pub struct Settled {
 }
 
 /// How many orders for an outstation were accepted, and what became of them.
-#[derive(Clone, Copy, Debug, PartialEq, Eq)]
+#[derive(Clone, Copy)]
 pub struct OrderCounts {
     /// Those that were accepted.
     pub accepted: u64,

@@ -5,12 +5,13 @@ ghost use Rattle.gw_shared.specs.Pumping.{IsPumpedRun};
 ghost use Rattle.gw_shared.specs.Turn.{unused, Answers};
 
 use crate::batch::Batch;
+use crate::bells::Bells;
 use crate::figures::Figures;
 use crate::locked::Core;
 use crate::orders::Orders;
 use crate::pass::Pass;
 use crate::pumped::Pumped;
-use crate::roused::{CLIENTS, OUTSTATIONS, Roused};
+use crate::roused::Roused;
 use crate::routes::Routes;
 use gw_bell::Bell;
 use gw_model::Memory;
@@ -26,8 +27,7 @@ use std::sync::{Mutex, Wait};
 pub struct Shared<L: Ledger> {
     actors: usize,
     core: Mutex<Core<L>>,
-    outstations: Vec<Bell>,
-    clients: Vec<Bell>,
+    bells: Bells,
     stopping: AtomicBool,
 }
 
@@ -40,15 +40,6 @@ impl<L: Ledger> Model for Shared<L> {
     ghost view = { λ s. s.actors };
 
     ghost invariant = { λ s. (s.actors ≡ L.parts) × (0 < s.actors) };
-}
-
-/// So many bells, none of them rung.
-fn bells(alloc: Global, count: u8) -> Result<Vec<Bell>, Memory> {
-    let mut bells = Vec::with_capacity(alloc, usize::from(count))?;
-    for _ in 0..count {
-        bells.push(Bell::new())?;
-    }
-    Ok(bells)
 }
 
 /// A pass for each actor, cut off a share of all parts.
@@ -94,13 +85,13 @@ impl<L: Ledger> Shared<L> {
             ≡ map unused (range_with_len 0 actors)) }
     {
         let (book, share) = blank.open::<L>();
-        let core = Core::new(alloc, hub, book, actors, capacity)?;
         let passes = passes(alloc, share, actors)?;
+        let bells = Bells::new(alloc)?;
+        let core = Core::new(alloc, hub, book, actors, capacity)?;
         let shared = Shared {
             actors,
             core: Mutex::new(core),
-            outstations: bells(alloc, OUTSTATIONS)?,
-            clients: bells(alloc, CLIENTS)?,
+            bells,
             stopping: AtomicBool::new(false),
         };
         Ok((shared, passes))
@@ -124,7 +115,7 @@ impl<L: Ledger> Shared<L> {
         ensures { Answers pass.old pass.new step result }
     {
         let (answer, roused) = self.core.lock(rt).answer(pass, step);
-        self.rouse(roused);
+        self.bells.ring(roused);
         answer
     }
 
@@ -143,31 +134,14 @@ impl<L: Ledger> Shared<L> {
         self.core.lock(rt).pump(pass, client, moment, batch)
     }
 
-    /// Wakes workers.
-    fn rouse(&self, roused: Roused) {
-        if roused.is_nobody() {
-            return;
-        }
-        for (outstation, bell) in (0..OUTSTATIONS).zip(&self.outstations) {
-            if roused.has_outstation(outstation) {
-                bell.ring();
-            }
-        }
-        for (client, bell) in (0..CLIENTS).zip(&self.clients) {
-            if roused.has_client(client) {
-                bell.ring();
-            }
-        }
-    }
-
     /// The bell that rings where something may be due towards an outstation; none beyond the 32nd.
     pub fn outstation_bell(&self, outstation: u8) -> Option<&Bell> {
-        self.outstations.get(usize::from(outstation))
+        self.bells.of_outstation(outstation)
     }
 
     /// The bell that rings where something may wait for a client; none beyond the eighth.
     pub fn client_bell(&self, client: u8) -> Option<&Bell> {
-        self.clients.get(usize::from(client))
+        self.bells.of_client(client)
     }
 
     /// Whether a client is up.
@@ -183,7 +157,7 @@ impl<L: Ledger> Shared<L> {
     /// Asks all workers to end.
     pub fn stop(&self) {
         self.stopping.store(true, Ordering::SeqCst);
-        self.rouse(Roused::everybody());
+        self.bells.ring(Roused::everybody());
     }
 
     /// Whether the workers were asked to end.
@@ -213,8 +187,7 @@ impl<L: Ledger> Shared<L> {
         let Shared {
             actors: _,
             core,
-            outstations: _,
-            clients: _,
+            bells: _,
             stopping: _,
         } = self;
         core.into_inner().into_parts()

@@ -10,7 +10,7 @@ use std::sync::Wait;
 use std::sync::ledger::Ledger;
 
 /// What a step is about.
-#[derive(Clone, Copy, Debug, PartialEq, Eq)]
+#[derive(Clone, Copy)]
 pub enum About {
     /// An outstation comes up.
     OutstationUp(u8),
@@ -122,14 +122,12 @@ fn is_for_control(action: &Action) -> bool {
 }
 
 /// A step that was made.
-#[derive(Drop)]
+#[derive(Clone, Copy)]
 pub struct Call<'a> {
     /// Its number, counted over all steps from 1.
     pub number: u64,
     /// What it was about.
     pub about: About,
-    /// The line that the gate kept of it.
-    pub line: Option<Vec<u8>>,
     /// What it was answered with.
     pub reply: &'a Result<Reply, StepFault>,
     /// What it did to orders besides.
@@ -175,11 +173,11 @@ fn tell<'a, G: Gate>(
     reply: &'a Result<Reply, StepFault>,
     orders: &'a Orders,
 ) {
-    gate.made(Call {
+    let call = Call {
         number,
         about,
-        line,
         reply,
         orders,
-    });
+    };
+    gate.made(&call, line);
 }

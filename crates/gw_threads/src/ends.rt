@@ -5,7 +5,7 @@ ghost use Rattle.gw_threads.specs.declared.ends.Arrival.TheVariants as arrivals;
 ghost use Rattle.gw_threads.specs.Ends.{IsWithin};
 
 /// What came from a peer.
-#[derive(Clone, Copy, Debug, PartialEq, Eq)]
+#[derive(Clone, Copy)]
 pub enum Arrival {
     /// So many octets, at the front of the buffer.
     Octets(usize),
@@ -29,7 +29,7 @@ pub trait Incoming {
 }
 
 /// The octets weren't all taken, or none was and none will be.
-#[derive(Clone, Copy, Debug, PartialEq, Eq)]
+#[derive(Clone, Copy)]
 pub struct Unwritten;
 
 /// Where octets go to.

@@ -5,7 +5,7 @@ use dnp_app::AppFault;
 use gw_shared::Step;
 
 /// A place on the way of a worker.
-#[derive(Clone, Copy, Debug, PartialEq, Eq)]
+#[derive(Clone, Copy)]
 pub enum Place {
     /// A reader has decoded a response or an APDU, and hasn't made its step.
     Decoded,
@@ -32,15 +32,15 @@ pub trait Gate {
         None
     }
 
-    /// A step was made, other than those of a run of pumps.
-    fn made(&self, _call: Call<'_>) {}
+    /// A step was made, other than those of a run of pumps: the line that was kept of it is given back.
+    fn made(&self, _call: &Call<'_>, _line: Option<Vec<u8>>) {}
 
     /// A run of pumps was made.
     fn pumped(&self, _run: &Run<'_>) {}
 }
 
 /// A gate that holds nobody.
-#[derive(Clone, Copy, Debug)]
+#[derive(Clone, Copy)]
 pub struct OpenGate;
 
 impl Gate for OpenGate {

@@ -1,5 +1,5 @@
 //! The writer towards an outstation.
-ghost use Rattle.std.specs.Prelude.{◌≡◌};
+ghost use Rattle.std.specs.Prelude.{◌≡◌, IfSome};
 ghost use Rattle.gw_threads.specs.Ends.{MayEndWriting};
 
 use crate::call::make_call;
@@ -34,34 +34,66 @@ pub fn outstation_writer<L: Ledger, R: Wait + Sleeps, W: Outgoing, C: Clock, G: 
     let mut pass = pass;
     let mut row = RequestStreak::new();
     'requests: for _ in rt.forever() {
-        // Read before all that a ring may tell of.
-        let rung = rung(shared, outstation);
-        if shared.stopping() {
-            break;
-        }
-        match poll(rt, shared, &mut pass, outstation, clock, gate) {
-            Ok(Reply::Request(request)) => {
-                gate.at(pass.actor(), Place::BeforeWrite);
-                if line.request(rt, &request).is_err() {
-                    lose_outstation(rt, shared, &mut pass, outstation, clock, gate);
-                    return (pass, WorkerEnd::WriteFault);
-                }
-                if row.add(clock.moment()) {
-                    thread::sleep(rt, Duration::from_millis(REST_MS));
-                }
-            }
-            Ok(_) => {
-                if let Some(bell) = shared.outstation_bell(outstation) {
-                    bell.wait(rt, rung);
-                }
-            }
-            Err(_) => {
-                lose_outstation(rt, shared, &mut pass, outstation, clock, gate);
-                break;
-            }
+        let next = write_next(
+            rt, shared, &mut pass, outstation, line, &mut row, clock, gate,
+        );
+        if let Some(end) = next {
+            return (pass, end);
         }
     }
-    (pass, WorkerEnd::Stopping)
+    unreachable!()
+}
+
+/// Sends the next request, or sleeps where none is due; how the worker ends, if it does.
+fn write_next<L: Ledger, R: Wait + Sleeps, W: Outgoing, C: Clock, G: Gate>(
+    rt: &R,
+    shared: &Shared<L>,
+    pass: &mut Pass<L>,
+    outstation: u8,
+    line: &Line<W>,
+    row: &mut RequestStreak,
+    clock: &C,
+    gate: &G,
+) -> Option<WorkerEnd>
+    ensures own { pass.new.actor ≡ pass.old.actor }
+    ensures end { IfSome result (MayEndWriting W.can_fail) }
+{
+    // Read before all that a ring may tell of.
+    let rung = rung(shared, outstation);
+    if shared.stopping() {
+        return Some(WorkerEnd::Stopping);
+    }
+    let end = match poll(rt, shared, pass, outstation, clock, gate) {
+        Ok(Reply::Request(request)) => {
+            gate.at(pass.actor(), Place::BeforeWrite);
+            if line.request(rt, &request).is_ok() {
+                rest(rt, row, clock.moment());
+                return None;
+            }
+            WorkerEnd::WriteFault
+        }
+        Ok(_) => {
+            wait(rt, shared, outstation, rung);
+            return None;
+        }
+        Err(_) => WorkerEnd::Stopping,
+    };
+    lose_outstation(rt, shared, pass, outstation, clock, gate);
+    Some(end)
+}
+
+/// Rests behind a request that went at a moment, where it ends a row.
+fn rest<R: Sleeps>(rt: &R, row: &mut RequestStreak, moment: u64) {
+    if row.add(moment) {
+        thread::sleep(rt, Duration::from_millis(REST_MS));
+    }
+}
+
+/// Waits until the outstation's bell was rung more often.
+fn wait<L: Ledger, R: Wait>(rt: &R, shared: &Shared<L>, outstation: u8, rung: u64) {
+    if let Some(bell) = shared.outstation_bell(outstation) {
+        bell.wait(rt, rung);
+    }
 }
 
 /// How often the outstation's bell was rung.

@@ -10,7 +10,7 @@ use crate::ends::{Outgoing, Unwritten};
 use gw_shared::{Batch, Reply, StepFault};
 
 /// How it ended that a source was asked for replies.
-#[derive(Clone, Copy, Debug, PartialEq, Eq)]
+#[derive(Clone, Copy)]
 pub enum Gathered {
     /// With this, which is no APDU: a reply, or nothing where the source isn't to go on.
     Ended(Option<Result<Reply, StepFault>>),

@@ -8,7 +8,7 @@ pub const REST_MS: u64 = 20;
 
 /// How many requests went to an outstation, each soon behind the one before. Indications of events that never clear would
 /// have them follow each other as fast as the outstation answers.
-#[derive(Clone, Copy, Debug)]
+#[derive(Clone, Copy)]
 pub struct RequestStreak {
     count: u32,
     last: u64,
