@@ -1,7 +1,7 @@
 //! What is known of each peer, outside the core's lock.
 
 use crate::hold::Hold;
-use gw_journal::{ClientFigures, OutstationFigures};
+use gw_journal::{ClientFigures, DueNotes, OutstationFigures};
 use gw_model::Memory;
 use std::alloc::Global;
 use std::net::{IpAddr, SocketAddr};
@@ -11,6 +11,13 @@ use std::sync::{Mutex, Wait};
 #[derive(Drop)]
 pub struct OutstationCard {
     pub figures: Mutex<OutstationFigures>,
+}
+
+impl OutstationCard {
+    /// What is due to be told of it.
+    pub fn due<R: Wait>(&self, rt: &R, wall: u64) -> DueNotes {
+        self.figures.lock(rt).due(wall)
+    }
 }
 
 /// What is known of a place for clients.
@@ -39,6 +46,25 @@ impl ClientCard {
     /// Whether the client was made to leave.
     pub fn leaves<R: Wait>(&self, rt: &R) -> bool {
         self.hold.lock(rt).leaves()
+    }
+
+    /// How many had connected before the client, where it may have to give way to one from this address
+    /// (`Hold::idle_since`).
+    fn idle_since<R: Wait>(&self, rt: &R, address: IpAddr, moment: u64) -> Option<u64> {
+        self.hold.lock(rt).idle_since(address, moment)
+    }
+
+    /// The client is made to leave.
+    fn dismiss<R: Wait>(&self, rt: &R) {
+        self.hold.lock(rt).leave();
+    }
+
+    /// The client is made to leave, if it still may have to give way.
+    fn make_room<R: Wait>(&self, rt: &R, address: IpAddr, moment: u64) {
+        let mut hold = self.hold.lock(rt);
+        if hold.idle_since(address, moment).is_some() {
+            hold.leave();
+        }
     }
 
     /// So many observations were dropped at this place by now. Where that is to be told, where its client connects
@@ -107,7 +133,7 @@ impl Board {
     /// All clients are made to leave.
     pub fn dismiss_all<R: Wait>(&self, rt: &R) {
         for card in &self.clients {
-            card.hold.lock(rt).leave();
+            card.dismiss(rt);
         }
     }
 
@@ -119,7 +145,7 @@ impl Board {
             if client == newcomer {
                 continue;
             }
-            if let Some(order) = card.hold.lock(rt).idle_since(address, moment) {
+            if let Some(order) = card.idle_since(rt, address, moment) {
                 match oldest {
                     Some((before, _)) if before < order => {}
                     _ => oldest = Some((order, card)),
@@ -127,10 +153,7 @@ impl Board {
             }
         }
         if let Some((_, card)) = oldest {
-            let mut hold = card.hold.lock(rt);
-            if hold.idle_since(address, moment).is_some() {
-                hold.leave();
-            }
+            card.make_room(rt, address, moment);
         }
     }
 }

@@ -1,10 +1,10 @@
 //! What an operator is told of controls: each command that comes, what the client is told of it, each request that is
 //! given for it, and what becomes of it.
 
-use crate::watched::Watched;
+use crate::desk::Desk;
 use gw_journal::{CommandEvent, JournalEvent, OrderEvent};
 use gw_model::Ended;
-use gw_threads::{About, Call, Clock, Fate, Gate, Reply, Run, Verdict, control_command};
+use gw_threads::{About, Call, Clock, Fate, Reply, Run, Verdict, control_command};
 use iec_apci::Apdus;
 use iec_command::Command;
 use std::sync::Wait;
@@ -12,7 +12,7 @@ use std::sync::Wait;
 /// The octets in front of an ASDU in its APDU.
 const FRONT: usize = 6;
 
-impl<'a, R: Wait, C: Clock, G: Gate> Watched<'a, R, C, G> {
+impl<'a, R: Wait, C: Clock> Desk<'a, R, C> {
     /// Tells what a step did with a control, if it did something.
     pub(crate) fn tell_of_controls(&self, call: &Call<'_>) {
         match (call.about, call.reply) {

@@ -1,17 +1,16 @@
 //! What the server's threads do.
 
-use crate::client::{Passes, serve_place};
+use crate::client::serve_place;
+use crate::connection::Passes;
 use crate::host::Host;
 use crate::house::{CLIENTS, House, Site};
 use crate::input::await_end;
 use crate::lobby::Lobby;
 use crate::lookout::look_out;
-use crate::options::Options;
 use crate::outstation::serve_outstation;
 use crate::status::serve_status;
 use gw_model::Memory;
 use gw_threads::{Clock, Gate, Pass, clock};
-use std::alloc::Global;
 use std::sync::ledger::Ledger;
 
 /// What one thread does, until the server ends.
@@ -47,44 +46,30 @@ impl<L: Ledger + Send + Sync> Duty<L> {
         self,
         house: &House<'_, L, R, C, G>,
         lobby: &Lobby,
-        site: Site<'_>,
+        site: &Site<'_>,
     ) -> Returned<L> {
+        let desk = house.desk;
         match self {
-            Duty::Journal => {
-                house.journal.write_on(house.rt);
-                Returned::Nothing
-            }
-            Duty::Lookout => {
-                look_out(house);
-                Returned::Nothing
-            }
-            Duty::Status => {
-                if let Some(listener) = site.options.status {
-                    serve_status(house, site, listener);
-                }
-                Returned::Nothing
-            }
+            Duty::Journal => desk.journal.write_on(desk.rt),
+            Duty::Lookout => look_out(desk, house.shared),
+            Duty::Status => serve_status(desk, house.shared, site),
+            Duty::Input => await_end(desk.rt, lobby, site),
             Duty::Clock(pass) => {
-                let watched = house.watched();
-                let (pass, _) = clock(house.rt, house.shared, pass, house.clock, &watched);
-                Returned::One(pass)
+                let (pass, _) = clock(desk.rt, house.shared, pass, desk.clock, house.watched);
+                return Returned::One(pass);
             }
             Duty::Outstation(outstation, passes) => {
-                match site.plans.get(usize::from(outstation)) {
-                    Some(plan) => Returned::Both(serve_outstation(house, outstation, plan, passes)),
-                    None => Returned::Both(passes),
-                }
+                let passes = match site.plans.get(usize::from(outstation)) {
+                    Some(plan) => serve_outstation(house, outstation, plan, passes),
+                    None => passes,
+                };
+                return Returned::Both(passes);
             }
             Duty::Place(place, passes) => {
-                Returned::Both(serve_place(house, lobby, place, passes))
-            }
-            Duty::Input => {
-                if let Some(stdin) = site.options.until_eof {
-                    await_end(house.rt, &stdin, lobby);
-                }
-                Returned::Nothing
+                return Returned::Both(serve_place(house, lobby, place, passes));
             }
         }
+        Returned::Nothing
     }
 }
 
@@ -105,37 +90,54 @@ impl<L: Ledger> Returned<L> {
     }
 }
 
-/// A duty for each thread: the journal's first, then the lookout's, the clock's, the outstations', and those of the
-/// places; behind them that of standard input, where its end is awaited. `passes` are
-/// those of the outstations' readers and writers, of the clients' readers and writers, and the clock's.
-pub fn duties_of<L: Ledger>(
-    alloc: Global,
-    outstations: u8,
-    passes: Vec<Pass<L>>,
-    options: &Options<'_>,
-) -> Result<Vec<Duty<L>>, Memory> {
-    let mut passes = passes;
-    let mut duties = Vec::new(alloc);
+/// Adds a duty for each thread, in the order in which they end: that of standard input, where its end is awaited, those of
+/// the places and of the outstations, the last ones first, the clock's, that of the status, where it is served, the
+/// lookout's and the journal's. `passes` are those of the outstations' readers and writers, of the clients' readers and
+/// writers, and the clock's; they are used up.
+pub fn add_duties<L: Ledger>(
+    duties: &mut Vec<Duty<L>>,
+    passes: &mut Vec<Pass<L>>,
+    site: &Site<'_>,
+) -> Result<(), Memory> {
     let Some(clock) = passes.pop() else {
         return Err(Memory);
     };
-    if options.until_eof.is_some() {
-        duties.push(Duty::Input)?;
+    add_peers(duties, passes, site)?;
+    add(duties, Duty::Clock(clock))?;
+    add_others(duties, site)
+}
+
+/// Adds the duties of standard input, of the places and of the outstations.
+fn add_peers<L: Ledger>(
+    duties: &mut Vec<Duty<L>>,
+    passes: &mut Vec<Pass<L>>,
+    site: &Site<'_>,
+) -> Result<(), Memory> {
+    if site.options.until_eof.is_some() {
+        add(duties, Duty::Input)?;
     }
     for place in (0..CLIENTS).rev() {
-        duties.push(Duty::Place(place, last_two(&mut passes)?))?;
+        add(duties, Duty::Place(place, last_two(passes)?))?;
     }
-    for outstation in (0..outstations).rev() {
-        duties.push(Duty::Outstation(outstation, last_two(&mut passes)?))?;
+    for outstation in (0..site.outstations()).rev() {
+        add(duties, Duty::Outstation(outstation, last_two(passes)?))?;
     }
-    duties.push(Duty::Clock(clock))?;
-    if options.status.is_some() {
-        duties.push(Duty::Status)?;
+    Ok(())
+}
+
+/// Adds the duties of the status, the lookout and the journal.
+fn add_others<L: Ledger>(duties: &mut Vec<Duty<L>>, site: &Site<'_>) -> Result<(), Memory> {
+    if site.options.status.is_some() {
+        add(duties, Duty::Status)?;
     }
-    duties.push(Duty::Lookout)?;
-    duties.push(Duty::Journal)?;
-    duties.reverse();
-    Ok(duties)
+    add(duties, Duty::Lookout)?;
+    add(duties, Duty::Journal)
+}
+
+/// Adds a duty.
+fn add<L: Ledger>(duties: &mut Vec<Duty<L>>, duty: Duty<L>) -> Result<(), Memory> {
+    duties.push(duty)?;
+    Ok(())
 }
 
 /// The last two actors' passes, of which the writer's stands behind the reader's.

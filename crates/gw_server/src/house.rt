@@ -1,14 +1,13 @@
-//! What all of the server's threads share.
+//! What the workers share, and what is served.
+ghost use Rattle.std.specs.Prelude.{◌≤◌};
 
-use crate::board::Board;
-use crate::host::Host;
+use crate::desk::Desk;
 use crate::options::Options;
 use crate::plan::Plan;
 use crate::watched::Watched;
-use gw_journal::{Journal, JournalEvent};
-use gw_threads::{Clock, Gate, Shared};
-use std::alloc::Global;
+use gw_threads::{Clock, Gate, Pass, Shared, Step, make_call};
 use std::net::TcpListener;
+use std::sync::Wait;
 use std::sync::ledger::Ledger;
 
 /// How many outstations there can be.
@@ -17,20 +16,24 @@ pub const OUTSTATIONS: u8 = 32;
 /// How many clients there can be.
 pub const CLIENTS: u8 = 8;
 
-/// What all of the server's threads share.
+/// What the threads share that make steps on the core.
 #[derive(Drop)]
 pub struct House<'a, L: Ledger, R, C, G> {
-    pub alloc: Global,
-    pub rt: &'a R,
+    pub desk: &'a Desk<'a, R, C>,
     pub shared: &'a Shared<L>,
-    pub board: &'a Board,
-    pub clock: &'a C,
-    pub gate: &'a G,
-    pub journal: &'a Journal,
+    /// The gate, with the desk beside it.
+    pub watched: &'a Watched<'a, R, C, G>,
+}
+
+impl<'a, L: Ledger, R: Wait, C: Clock, G: Gate> House<'a, L, R, C, G> {
+    /// Makes a step on the core; whether it was made.
+    pub fn makes(&self, pass: &mut Pass<L>, step: Step) -> bool {
+        make_call(self.desk.rt, self.shared, pass, step, self.watched).is_ok()
+    }
 }
 
 /// What is served.
-#[derive(Clone, Copy)]
+#[derive(Drop)]
 pub struct Site<'a> {
     /// Where clients connect.
     pub listener: &'a TcpListener,
@@ -41,20 +44,11 @@ pub struct Site<'a> {
     pub started: u64,
 }
 
-impl<'a, L: Ledger, R: Host, C: Clock, G: Gate> House<'a, L, R, C, G> {
-    /// Tells an operator what happened just now.
-    pub fn tell(&self, event: JournalEvent) {
-        self.journal.tell(self.rt, self.clock.wall(), event);
-    }
-
-    /// The gate, with the journal and the board beside it.
-    pub fn watched(&self) -> Watched<'a, R, C, G> {
-        Watched {
-            rt: self.rt,
-            journal: self.journal,
-            board: self.board,
-            clock: self.clock,
-            gate: self.gate,
-        }
+impl<'a> Site<'a> {
+    /// How many outstations are served.
+    pub fn outstations(&self) -> u8
+        ensures { result ≤ 32 }
+    {
+        self.plans.len().min(usize::from(OUTSTATIONS)) as u8
     }
 }

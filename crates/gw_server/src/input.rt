@@ -1,14 +1,24 @@
 //! Standard input, whose end asks the server to end.
 
-use crate::host::Host;
+use crate::house::Site;
 use crate::lobby::Lobby;
 use std::io::{ErrorKind, Lock, Read, Stdin};
+use std::sync::Wait;
 
 /// How many octets of it are passed over at once.
 const PIECE: usize = 512;
 
-/// Waits until standard input ends, or can't be read; then no further client is accepted.
-pub fn await_end<R: Host>(rt: &R, stdin: &Stdin, lobby: &Lobby) {
+/// Waits until standard input ends, or can't be read, where that is to end the server; then no further client is
+/// accepted.
+pub fn await_end<R: Wait>(rt: &R, lobby: &Lobby, site: &Site<'_>) {
+    if let Some(stdin) = site.options.until_eof {
+        read_to_end(rt, &stdin);
+        lobby.end(rt);
+    }
+}
+
+/// Reads standard input until it ends, or can't be read.
+fn read_to_end<R: Wait>(rt: &R, stdin: &Stdin) {
     let mut reader = stdin.lock();
     let mut buffer = [0; PIECE];
     for _ in rt.forever() {
@@ -19,5 +29,4 @@ pub fn await_end<R: Host>(rt: &R, stdin: &Stdin, lobby: &Lobby) {
             Err(_) => break,
         }
     }
-    lobby.end(rt);
 }

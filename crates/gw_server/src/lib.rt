@@ -5,7 +5,9 @@
 mod accepting;
 mod board;
 mod client;
+mod connection;
 mod controls;
+mod desk;
 mod duty;
 mod ending;
 mod hold;
@@ -18,6 +20,7 @@ mod network;
 mod options;
 mod outstation;
 mod plan;
+mod refusals;
 mod serving;
 mod sockets;
 mod status;

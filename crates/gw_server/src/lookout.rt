@@ -1,10 +1,11 @@
 //! What is told once in a while.
 
 use crate::board::ClientCard;
-use crate::host::Host;
-use crate::house::House;
+use crate::desk::Desk;
 use gw_journal::{DueNotes, JournalEvent, Refused};
-use gw_threads::{Clock, Gate};
+use gw_threads::{Clock, Figures, Shared};
+use std::rt::Clock as Sleeps;
+use std::sync::Wait;
 use std::sync::ledger::Ledger;
 use std::thread;
 use std::time::Duration;
@@ -19,53 +20,45 @@ const PIECES: u32 = 10;
 pub const ANY_TIME: u64 = u64::MAX;
 
 /// Looks at what is known of all peers each second, and tells what is due, until the server ends.
-pub fn look_out<L: Ledger, R: Host, C: Clock, G: Gate>(house: &House<'_, L, R, C, G>) {
-    for _ in house.rt.forever() {
-        pause(house);
-        if house.shared.stopping() {
+pub fn look_out<L: Ledger, R: Wait + Sleeps, C: Clock>(desk: &Desk<'_, R, C>, shared: &Shared<L>) {
+    for _ in desk.rt.forever() {
+        pause(desk.rt, shared);
+        if shared.stopping() {
             return;
         }
-        let wall = house.clock.wall();
-        look_at_outstations(house, wall);
-        look_at_clients(house, wall);
+        let wall = desk.clock.wall();
+        look_at_outstations(desk, wall);
+        look_at_clients(desk, &shared.figures(desk.rt), wall);
     }
 }
 
 /// Lets a second pass, or less where the server ends.
-pub fn pause<L: Ledger, R: Host, C: Clock, G: Gate>(house: &House<'_, L, R, C, G>) {
+pub fn pause<L: Ledger, R: Sleeps>(rt: &R, shared: &Shared<L>) {
     for _ in 0..PIECES {
-        if house.shared.stopping() {
+        if shared.stopping() {
             return;
         }
-        thread::sleep(house.rt, Duration::from_millis(PIECE_MS));
+        thread::sleep(rt, Duration::from_millis(PIECE_MS));
     }
 }
 
 /// Tells what is due of the outstations.
-pub fn look_at_outstations<L: Ledger, R: Host, C: Clock, G: Gate>(
-    house: &House<'_, L, R, C, G>,
-    wall: u64,
-) {
-    for (outstation, card) in (0u8..).zip(house.board.outstations()) {
-        let due = card.figures.lock(house.rt).due(wall);
-        tell_of_outstation(house, outstation, due);
+pub fn look_at_outstations<R: Wait, C: Clock>(desk: &Desk<'_, R, C>, wall: u64) {
+    for (outstation, card) in (0u8..).zip(desk.board.outstations()) {
+        tell_of_outstation(desk, outstation, card.due(desk.rt, wall));
     }
 }
 
 /// Tells what is due of an outstation.
-fn tell_of_outstation<L: Ledger, R: Host, C: Clock, G: Gate>(
-    house: &House<'_, L, R, C, G>,
-    outstation: u8,
-    due: DueNotes,
-) {
+fn tell_of_outstation<R: Wait, C: Clock>(desk: &Desk<'_, R, C>, outstation: u8, due: DueNotes) {
     if let Some(count) = due.unanswered {
-        house.tell(JournalEvent::Unanswered { outstation, count });
+        desk.tell(JournalEvent::Unanswered { outstation, count });
     }
     if let Some(count) = due.skipped {
-        house.tell(JournalEvent::OctetsSkipped { outstation, count });
+        desk.tell(JournalEvent::OctetsSkipped { outstation, count });
     }
     if let Some(Refused { fault, left_out }) = due.refused {
-        house.tell(JournalEvent::FragmentRefused {
+        desk.tell(JournalEvent::FragmentRefused {
             outstation,
             fault,
             left_out,
@@ -74,26 +67,25 @@ fn tell_of_outstation<L: Ledger, R: Host, C: Clock, G: Gate>(
 }
 
 /// Tells how many observations were dropped for clients.
-fn look_at_clients<L: Ledger, R: Host, C: Clock, G: Gate>(
-    house: &House<'_, L, R, C, G>,
-    wall: u64,
-) {
-    let dropped = house.shared.figures(house.rt).dropped;
-    for (client, (card, total)) in (0u8..).zip(house.board.clients().iter().zip(&dropped)) {
-        tell_dropped(house, card, client, wall, *total);
+fn look_at_clients<R: Wait, C: Clock>(desk: &Desk<'_, R, C>, figures: &Figures, wall: u64) {
+    for (client, card) in (0u8..).zip(desk.board.clients()) {
+        tell_dropped(desk, card, client, figures, wall);
     }
 }
 
-/// Tells how many observations were dropped for a client, where that is due: so many were at its place by now.
-pub fn tell_dropped<L: Ledger, R: Host, C: Clock, G: Gate>(
-    house: &House<'_, L, R, C, G>,
+/// Tells how many observations were dropped for a client, where that is due.
+pub fn tell_dropped<R: Wait, C: Clock>(
+    desk: &Desk<'_, R, C>,
     card: &ClientCard,
     client: u8,
+    figures: &Figures,
     wall: u64,
-    total: u64,
 ) {
-    if let Some((address, count)) = card.dropped(house.rt, wall, total) {
-        house.tell(JournalEvent::NewsDropped {
+    let Some(total) = figures.dropped.get(usize::from(client)) else {
+        return;
+    };
+    if let Some((address, count)) = card.dropped(desk.rt, wall, *total) {
+        desk.tell(JournalEvent::NewsDropped {
             client,
             address,
             count,

@@ -3,7 +3,7 @@
 use std::net::IpAddr;
 
 /// The addresses that begin with the same bits as one.
-#[derive(Clone, Copy, Debug, PartialEq, Eq)]
+#[derive(Clone, Copy)]
 pub struct Network {
     address: IpAddr,
     bits: u8,

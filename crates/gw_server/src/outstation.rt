@@ -1,21 +1,18 @@
 //! One outstation: its workers, connection after connection.
-ghost use Rattle.std.specs.Thread.{IsSend, IsSync};
 
-use crate::client::Passes;
+use crate::connection::{Connection, Link, Passes, Peer, exchange};
+use crate::desk::Desk;
 use crate::ending::Ending;
 use crate::host::Host;
 use crate::house::House;
 use crate::lookout::pause;
 use crate::plan::Plan;
 use crate::sockets::{OutstationSocket, shut};
-use dnp_receive::Receiver;
 use gw_journal::{Cause, Failure, JournalEvent};
-use gw_threads::{
-    Clock, Gate, Line, Pass, Step, WorkerEnd, make_call, outstation_reader, outstation_writer,
-};
+use gw_threads::{Clock, Gate, Line, Step};
 use std::net::{TcpStream, ToSocketAddrs};
+use std::sync::Wait;
 use std::sync::ledger::Ledger;
-use std::thread;
 
 /// The milliseconds behind which it is told again that no connection could be made, though for the same reason.
 const AGAIN_MS: u64 = 3_600_000;
@@ -29,26 +26,34 @@ pub fn serve_outstation<L: Ledger + Send + Sync, R: Host, C: Clock + Sync, G: Ga
 ) -> Passes<L> {
     let mut passes = passes;
     let mut told = None;
-    for _ in house.rt.forever() {
+    for _ in house.desk.rt.forever() {
         if house.shared.stopping() {
             break;
         }
-        match connect(house.rt, plan) {
+        match connect(house.desk.rt, plan) {
             Ok(stream) => {
                 told = None;
-                passes = serve_connection(house, outstation, plan, passes, stream);
+                passes = serve_connection(house, outstation, plan, passes, &stream);
             }
-            Err(cause) => {
-                let wall = house.clock.wall();
-                if is_news(told, cause, wall) {
-                    told = Some((cause, wall));
-                    house.tell(JournalEvent::OutstationUnreachable { outstation, cause });
-                }
-            }
+            Err(cause) => tell_unreachable(house.desk, outstation, &mut told, cause),
         }
-        pause(house);
+        pause(house.desk.rt, house.shared);
     }
     passes
+}
+
+/// Tells that no connection could be made, unless it was told not long ago; why, and when it is told.
+fn tell_unreachable<R: Wait, C: Clock>(
+    desk: &Desk<'_, R, C>,
+    outstation: u8,
+    told: &mut Option<(Failure, u64)>,
+    cause: Failure,
+) {
+    let wall = desk.clock.wall();
+    if is_news(*told, cause, wall) {
+        *told = Some((cause, wall));
+        desk.tell(JournalEvent::OutstationUnreachable { outstation, cause });
+    }
 }
 
 /// Whether it is to be told that no connection could be made: for another reason than it was told, or an hour later. An
@@ -85,116 +90,66 @@ fn serve_connection<L: Ledger + Send + Sync, R: Host, C: Clock + Sync, G: Gate +
     outstation: u8,
     plan: &Plan,
     passes: Passes<L>,
-    stream: TcpStream,
+    stream: &TcpStream,
 ) -> Passes<L> {
     let mut passes = passes;
-    let moment = house.clock.moment();
-    let up = Step::OutstationUp { outstation, moment };
-    let watched = house.watched();
-    if make_call(house.rt, house.shared, &mut passes.reader, up, &watched).is_err() {
-        shut(&stream);
+    let moment = house.desk.clock.moment();
+    if !house.makes(
+        &mut passes.reader,
+        Step::OutstationUp { outstation, moment },
+    ) {
+        shut(stream);
         return passes;
     }
-    if let Some(card) = house.board.outstation(outstation) {
-        card.figures.lock(house.rt).connected(house.clock.wall());
-    }
-    house.tell(JournalEvent::OutstationConnected { outstation });
-    let (passes, cause) = exchange(house, outstation, plan, passes, &stream);
-    if let Some(card) = house.board.outstation(outstation) {
-        card.figures.lock(house.rt).lost();
-    }
-    house.tell(JournalEvent::OutstationLost { outstation, cause });
+    begin(house.desk, outstation);
+    let (passes, met) = serve_stream(house, outstation, plan, passes, stream);
+    let cause = if house.shared.stopping() {
+        Cause::GatewayEnds
+    } else {
+        plan.in_words(met)
+    };
+    end(house.desk, outstation, cause);
     passes
 }
 
-/// Both workers of a connection, until both have ended; why it ended.
-fn exchange<L: Ledger + Send + Sync, R: Host, C: Clock + Sync, G: Gate + Sync>(
+/// Notes that a connection to an outstation stands, and tells of it.
+fn begin<R: Wait, C: Clock>(desk: &Desk<'_, R, C>, outstation: u8) {
+    if let Some(card) = desk.board.outstation(outstation) {
+        card.figures.lock(desk.rt).connected(desk.clock.wall());
+    }
+    desk.tell(JournalEvent::OutstationConnected { outstation });
+}
+
+/// Notes that the connection to an outstation has ended, and tells of it.
+fn end<R: Wait, C: Clock>(desk: &Desk<'_, R, C>, outstation: u8, cause: Cause) {
+    if let Some(card) = desk.board.outstation(outstation) {
+        card.figures.lock(desk.rt).lost();
+    }
+    desk.tell(JournalEvent::OutstationLost { outstation, cause });
+}
+
+/// Serves an outstation on its connection, until that ends; why it ended.
+fn serve_stream<L: Ledger + Send + Sync, R: Host, C: Clock + Sync, G: Gate + Sync>(
     house: &House<'_, L, R, C, G>,
     outstation: u8,
     plan: &Plan,
     passes: Passes<L>,
     stream: &TcpStream,
 ) -> (Passes<L>, Cause) {
-    let Passes { reader, writer } = passes;
     let ending = Ending::new();
-    let socket = OutstationSocket::new(stream, &ending, plan.silence, plan.response);
+    let socket = OutstationSocket::new(stream, &ending, plan);
     let line = Line::new(socket, plan.own, plan.peer);
-    let (ended, shared_line) = (&ending, &line);
-    let ((reader, read), (writer, written)) = thread::scope(
-        thread::scope_env(),
-        house.rt,
-        move |scope| -> ((Pass<L>, WorkerEnd), (Pass<L>, WorkerEnd))
-            requires { IsSend L.row × IsSync L.row × IsSync R.row × IsSync C.row × IsSync G.row }
-        {
-            let work = move || write(house, outstation, writer, shared_line, stream, ended);
-            let writing = scope.spawn(work);
-            if writing.is_err() {
-                // No thread can be made: the reader finds the connection shut, and the writer its peer down.
-                ended.writer();
-                shut(stream);
-            }
-            let read = read_from(house, outstation, plan, reader, shared_line, stream, ended);
-            match writing {
-                Ok(thread) => (read, thread.join(house.rt)),
-                Err(refused) => (read, ((refused.value)().0, WorkerEnd::Memory)),
-            }
-        },
-    );
-    let cause = if house.shared.stopping() {
-        Cause::GatewayEnds
-    } else {
-        plan.in_words(ending.cause(read, written))
+    let link = Link {
+        outstation,
+        own: plan.own,
+        peer: plan.peer,
+        socket,
+        line: &line,
     };
-    (Passes { reader, writer }, cause)
-}
-
-/// The reader, and the end of its connection.
-fn read_from<L: Ledger, R: Host, C: Clock, G: Gate>(
-    house: &House<'_, L, R, C, G>,
-    outstation: u8,
-    plan: &Plan,
-    pass: Pass<L>,
-    line: &Line<OutstationSocket<'_>>,
-    stream: &TcpStream,
-    ending: &Ending,
-) -> (Pass<L>, WorkerEnd) {
-    let mut socket = OutstationSocket::new(stream, ending, plan.silence, plan.response);
-    let ended = outstation_reader(
-        house.alloc,
-        house.rt,
-        house.shared,
-        pass,
-        outstation,
-        Receiver::new(house.alloc, plan.own, plan.peer),
-        &mut socket,
-        line,
-        house.clock,
-        &house.watched(),
-    );
-    ending.reader();
-    shut(stream);
-    ended
-}
-
-/// The writer, and the end of its connection.
-fn write<L: Ledger, R: Host, C: Clock, G: Gate>(
-    house: &House<'_, L, R, C, G>,
-    outstation: u8,
-    pass: Pass<L>,
-    line: &Line<OutstationSocket<'_>>,
-    stream: &TcpStream,
-    ending: &Ending,
-) -> (Pass<L>, WorkerEnd) {
-    let ended = outstation_writer(
-        house.rt,
-        house.shared,
-        pass,
-        outstation,
-        line,
-        house.clock,
-        &house.watched(),
-    );
-    ending.writer();
-    shut(stream);
-    ended
+    let connection = Connection {
+        stream,
+        ending: &ending,
+        peer: Peer::Outstation(link),
+    };
+    exchange(house, &connection, passes)
 }

@@ -10,7 +10,7 @@ use std::time::Duration;
 const LONGEST_CONNECTING_MS: u64 = 5000;
 
 /// The way to an outstation.
-#[derive(Debug, Drop)]
+#[derive(Drop)]
 pub struct Plan {
     /// Where it is reached: a host and a port.
     pub connect: String,

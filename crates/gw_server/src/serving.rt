@@ -1,16 +1,18 @@
 //! The whole server.
-ghost use Rattle.std.specs.Prelude.{◌≡◌, ◌<◌};
+ghost use Rattle.std.specs.Prelude.{◌≡◌, ◌<◌, IfOk};
 ghost use Rattle.std.specs.Thread.{IsSend, IsSync};
 
 use crate::accepting::accept;
 use crate::board::Board;
-use crate::duty::{Duty, Returned, duties_of};
+use crate::desk::Desk;
+use crate::duty::{Duty, Returned, add_duties};
 use crate::host::Host;
 use crate::house::{CLIENTS, House, OUTSTATIONS, Site};
 use crate::lobby::Lobby;
 use crate::lookout::{ANY_TIME, look_at_outstations};
 use crate::options::Options;
-use crate::plan::{Plan, plans_of};
+use crate::plan::plans_of;
+use crate::watched::Watched;
 use gw_journal::{Journal, JournalEvent};
 use gw_map::Settings;
 use gw_model::Memory;
@@ -20,7 +22,7 @@ use std::io;
 use std::marker::Brand;
 use std::net::TcpListener;
 use std::sync::ledger::{Blank, Ledger};
-use std::thread::{self, JoinHandle, Threads};
+use std::thread::{self, JoinHandle, Scope, Threads};
 
 /// Listens where the settings say.
 pub fn open<R: Host>(rt: &R, settings: &Settings) -> io::Result<TcpListener> {
@@ -84,26 +86,23 @@ pub fn serve_as<R: Host, C: Clock + Sync, G: Gate + Sync>(
     gate: &G,
 ) -> Result<Closed, Memory> {
     let plans = plans_of(alloc, &settings)?;
-    let outstations = plans.len().min(usize::from(OUTSTATIONS));
-    let board = Board::new(alloc, outstations, CLIENTS)?;
-    let capacity = (settings.station().recorder as usize).max(1);
-    let routes = Routes::of(alloc, settings.controls())?;
-    let hub = Hub::new(alloc, settings)?;
-    let actors = 2 * (outstations + usize::from(CLIENTS)) + 1;
     let site = Site {
         listener,
         plans: &plans,
         options,
         started: clock.wall(),
     };
-    let blank = Blank::new(actors as u64);
-    let core = Opening {
-        hub,
-        routes,
-        actors,
-        capacity,
+    let board = Board::new(alloc, usize::from(site.outstations()), CLIENTS)?;
+    let desk = Desk {
+        alloc,
+        rt,
+        clock,
+        board: &board,
+        journal,
     };
-    serve_with::<Brand, R, C, G>(alloc, rt, blank, core, site, &board, journal, clock, gate)
+    let opening = Opening::of(alloc, settings, site.outstations())?;
+    let blank = Blank::new(opening.actors as u64);
+    serve_with::<Brand, R, C, G>(&desk, &site, blank, opening, gate)
 }
 
 /// What a shared core is made of.
@@ -115,16 +114,30 @@ struct Opening {
     capacity: usize,
 }
 
+impl Opening {
+    /// That of settings, with so many outstations.
+    fn of(alloc: Global, settings: Settings, outstations: u8) -> Result<Opening, Memory>
+        ensures { IfOk result (λ opening. (0 < opening.actors) × (0 < opening.capacity)) }
+    {
+        let capacity = (settings.station().recorder as usize).max(1);
+        let actors = 2 * (usize::from(outstations) + usize::from(CLIENTS)) + 1;
+        let routes = Routes::of(alloc, settings.controls())?;
+        let hub = Hub::new(alloc, settings)?;
+        Ok(Opening {
+            hub,
+            routes,
+            actors,
+            capacity,
+        })
+    }
+}
+
 /// The same on a ledger of its own.
 fn serve_with<L: Ledger + Send + Sync, R: Host, C: Clock + Sync, G: Gate + Sync>(
-    alloc: Global,
-    rt: &R,
+    desk: &Desk<'_, R, C>,
+    site: &Site<'_>,
     blank: Blank,
     opening: Opening,
-    site: Site<'_>,
-    board: &Board,
-    journal: &Journal,
-    clock: &C,
     gate: &G,
 ) -> Result<Closed, Memory>
     requires name { blank.name ≡ L.name }
@@ -137,87 +150,109 @@ fn serve_with<L: Ledger + Send + Sync, R: Host, C: Clock + Sync, G: Gate + Sync>
         actors,
         capacity,
     } = opening;
-    let (mut shared, passes) = Shared::<L>::new(alloc, blank, hub, actors, capacity)?;
+    let (mut shared, passes) = Shared::<L>::new(desk.alloc, blank, hub, actors, capacity)?;
     shared.follow(routes);
-    let lobby = Lobby::new(alloc, CLIENTS)?;
-    let outstations = site.plans.len().min(usize::from(OUTSTATIONS)) as u8;
-    let duties = duties_of(alloc, outstations, passes, &site.options)?;
+    let watched = Watched { desk, gate };
     let house = House {
-        alloc,
-        rt,
+        desk,
         shared: &shared,
-        board,
-        clock,
-        gate,
-        journal,
+        watched: &watched,
     };
-    let passes = perform_all(&house, &lobby, site, duties)?;
-    match shared.close(rt, passes) {
+    serve_in(&house, site, passes)
+}
+
+/// Serves with these passes, which come back and are counted together.
+fn serve_in<L: Ledger + Send + Sync, R: Host, C: Clock + Sync, G: Gate + Sync>(
+    house: &House<'_, L, R, C, G>,
+    site: &Site<'_>,
+    passes: Vec<Pass<L>>,
+) -> Result<Closed, Memory> {
+    let mut passes = passes;
+    let mut duties = Vec::new(house.desk.alloc);
+    add_duties(&mut duties, &mut passes, site)?;
+    perform_all(house, site, &mut duties, &mut passes)?;
+    match house.shared.close(house.desk.rt, passes) {
         Ok(closed) => Ok(closed),
         Err(_) => Err(Memory),
     }
 }
 
-/// Runs a thread for each duty while clients are accepted; the passes come back.
+/// Runs a thread for each duty, the last one first, while clients are accepted; the passes come back.
 fn perform_all<L: Ledger + Send + Sync, R: Host, C: Clock + Sync, G: Gate + Sync>(
     house: &House<'_, L, R, C, G>,
-    lobby: &Lobby,
-    site: Site<'_>,
-    duties: Vec<Duty<L>>,
-) -> Result<Vec<Pass<L>>, Memory> {
-    let mut threads = Vec::with_capacity(house.alloc, duties.len())?;
-    let mut passes = Vec::with_capacity(house.alloc, house.shared.actors())?;
-    thread::scope(
+    site: &Site<'_>,
+    duties: &mut Vec<Duty<L>>,
+    passes: &mut Vec<Pass<L>>,
+) -> Result<(), Memory> {
+    let lobby = Lobby::new(house.desk.alloc, CLIENTS)?;
+    let mut threads = Vec::with_capacity(house.desk.alloc, duties.len())?;
+    let is_complete = thread::scope(
         thread::scope_env(),
-        house.rt,
-        |scope| -> Result<Vec<Pass<L>>, Memory>
+        house.desk.rt,
+        |scope| -> bool
             requires { IsSend L.row × IsSync L.row × IsSync R.row × IsSync C.row × IsSync G.row }
         {
-            let mut is_complete = true;
-            for duty in duties {
-                match scope.spawn(move || duty.perform(house, lobby, site)) {
-                    Ok(thread) => threads.push(thread)?,
-                    Err(_) => {
-                        is_complete = false;
-                        break;
-                    }
-                }
-            }
+            let is_complete = start_all(scope, house, &lobby, site, duties, &mut threads);
             if is_complete {
-                accept(house, lobby, site);
+                accept(house.desk, &lobby, site);
             } else {
                 house.shared.stop();
-                house.journal.close(house.rt);
+                house.desk.journal.close(house.desk.rt);
             }
-            lobby.close(house.rt);
-            end_all(house, site, &mut threads, &mut passes);
-            if is_complete { Ok(passes) } else { Err(Memory) }
+            lobby.close(house.desk.rt);
+            end_all(house, site, &mut threads, passes);
+            is_complete
         },
-    )
+    );
+    if is_complete { Ok(()) } else { Err(Memory) }
+}
+
+/// Starts a thread for each duty, the last one first, until one can't be; whether all were.
+fn start_all<'s, E, L: Ledger + Send + Sync, R: Host, C: Clock + Sync, G: Gate + Sync>(
+    scope: &Scope<'s, E>,
+    house: &'s House<'_, L, R, C, G>,
+    lobby: &'s Lobby,
+    site: &'s Site<'_>,
+    duties: &mut Vec<Duty<L>>,
+    threads: &mut Vec<JoinHandle<Returned<L>>>,
+) -> bool {
+    for _ in 0..duties.len() {
+        let Some(duty) = duties.pop() else {
+            break;
+        };
+        match scope.spawn(move || duty.perform(house, lobby, site)) {
+            Ok(thread) => {
+                let _ = threads.push(thread);
+            }
+            Err(_) => return false,
+        }
+    }
+    true
 }
 
 /// Lets the threads end once no further client is accepted: those of the places, then the others, and behind what still
 /// waited to be told the journal's. The passes come back. The thread that reads standard input was started last, behind
 /// those of the places, and the journal's first.
-fn end_all<L: Ledger, R: Host, C: Clock, G: Gate>(
+fn end_all<L: Ledger, R: Host, C: Clock, G>(
     house: &House<'_, L, R, C, G>,
-    site: Site<'_>,
+    site: &Site<'_>,
     threads: &mut Vec<JoinHandle<Returned<L>>>,
     passes: &mut Vec<Pass<L>>,
 ) {
+    let (desk, shared) = (house.desk, house.shared);
     if site.options.until_eof.is_some() {
-        join_last(house.rt, threads, 1, passes);
-        house.shared.stop();
-        house.board.dismiss_all(house.rt);
+        join_last(desk.rt, threads, 1, passes);
+        shared.stop();
+        desk.board.dismiss_all(desk.rt);
     }
-    join_last(house.rt, threads, usize::from(CLIENTS), passes);
-    house.shared.stop();
+    join_last(desk.rt, threads, usize::from(CLIENTS), passes);
+    shared.stop();
     let others = threads.len().saturating_sub(1);
-    join_last(house.rt, threads, others, passes);
-    look_at_outstations(house, ANY_TIME);
-    house.tell(JournalEvent::Stopped);
-    house.journal.close(house.rt);
-    join_last(house.rt, threads, 1, passes);
+    join_last(desk.rt, threads, others, passes);
+    look_at_outstations(desk, ANY_TIME);
+    desk.tell(JournalEvent::Stopped);
+    desk.journal.close(desk.rt);
+    join_last(desk.rt, threads, 1, passes);
 }
 
 /// Waits for the ends of those threads that were started last, so many of them; their passes come back.

@@ -3,6 +3,7 @@ ghost use Rattle.std.specs.Prelude.{◌≡◌, ◌≤◌, None, IfOk, length};
 ghost use Rattle.gw_threads.specs.Ends.{IsWithin};
 
 use crate::ending::Ending;
+use crate::plan::Plan;
 use gw_threads::{Arrival, Incoming, Outgoing, Unwritten};
 use std::io::{self, ErrorKind, Read, Write};
 use std::net::{Shutdown, TcpStream};
@@ -40,17 +41,12 @@ impl<'a> ClientSocket<'a> {
 }
 
 impl<'a> OutstationSocket<'a> {
-    /// A connection that was made; how long the outstation may be silent, and how long a write may take. An option
-    /// that can't be set leaves it as it is.
-    pub fn new(
-        stream: &'a TcpStream,
-        ending: &'a Ending,
-        silence: Duration,
-        response: Duration,
-    ) -> OutstationSocket<'a> {
+    /// A connection that was made; the plan says how long the outstation may be silent, and how long a write may take.
+    /// An option that can't be set leaves it as it is.
+    pub fn new(stream: &'a TcpStream, ending: &'a Ending, plan: &Plan) -> OutstationSocket<'a> {
         let _ = stream.set_nodelay(true);
-        let _ = stream.set_read_timeout(Some(silence));
-        let _ = stream.set_write_timeout(Some(response));
+        let _ = stream.set_read_timeout(Some(plan.silence));
+        let _ = stream.set_write_timeout(Some(plan.response));
         OutstationSocket { stream, ending }
     }
 }

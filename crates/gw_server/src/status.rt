@@ -2,17 +2,21 @@
 ghost use Rattle.std.specs.Prelude.{None};
 
 use crate::accepting::look_up_from_accept;
-use crate::host::Host;
-use crate::house::{House, Site};
+use crate::board::{ClientCard, OutstationCard};
+use crate::desk::Desk;
+use crate::house::Site;
 use crate::lookout::pause;
+use crate::plan::Plan;
 use crate::sockets::shut;
 use gw_http::{HttpRequest, Resource, answer, receive, refuse};
 use gw_model::Memory;
 use gw_status::{ClientStatus, Metrics, OrderStatus, OutstationStatus, Page, Status};
-use gw_threads::{Clock, Figures, Gate, OrderCounts};
+use gw_threads::{Clock, Figures, OrderCounts, Shared};
 use std::alloc::Global;
 use std::io::{self, ErrorKind, Read, Write};
-use std::net::{TcpListener, TcpStream};
+use std::net::TcpStream;
+use std::rt::Clock as Sleeps;
+use std::sync::Wait;
 use std::sync::ledger::Ledger;
 use std::time::Duration;
 
@@ -29,7 +33,7 @@ const LOOKS: u32 = 10;
 const FIRST_MS: u64 = 500;
 
 /// A connection that gives octets, or takes them, up to a moment.
-#[derive(Clone, Copy)]
+#[derive(Drop)]
 struct Punctual<'a, C> {
     stream: &'a TcpStream,
     clock: &'a C,
@@ -96,96 +100,151 @@ impl<'a, C: Clock> Write for Punctual<'a, C> {
     }
 }
 
-/// Answers requests, one after another, until the server ends.
-pub fn serve_status<L: Ledger, R: Host, C: Clock, G: Gate>(
-    house: &House<'_, L, R, C, G>,
-    site: Site<'_>,
-    listener: &TcpListener,
+/// Answers requests, one after another, until the server ends, where the status is served.
+pub fn serve_status<L: Ledger, R: Wait + Sleeps, C: Clock>(
+    desk: &Desk<'_, R, C>,
+    shared: &Shared<L>,
+    site: &Site<'_>,
 ) {
+    let Some(listener) = site.options.status else {
+        return;
+    };
     look_up_from_accept(listener);
-    for _ in house.rt.forever() {
-        if house.shared.stopping() {
+    for _ in desk.rt.forever() {
+        if shared.stopping() {
             return;
         }
         match listener.accept() {
-            Ok((stream, _)) => serve_request(house, site, &stream),
+            Ok((stream, _)) => serve_request(desk, shared, site, &stream),
             Err(error) if error.kind() == ErrorKind::WouldBlock => {}
-            Err(_) => pause(house),
+            Err(_) => pause(desk.rt, shared),
         }
     }
 }
 
 /// Answers the request that comes on a connection, if one comes in time.
-fn serve_request<L: Ledger, R: Host, C: Clock, G: Gate>(
-    house: &House<'_, L, R, C, G>,
-    site: Site<'_>,
+fn serve_request<L: Ledger, R: Wait, C: Clock>(
+    desk: &Desk<'_, R, C>,
+    shared: &Shared<L>,
+    site: &Site<'_>,
     stream: &TcpStream,
 ) {
     let _ = stream.set_read_timeout(Some(Duration::from_millis(LOOK_MS)));
     let _ = stream.set_write_timeout(Some(Duration::from_millis(LOOK_MS)));
-    let mut reader = Punctual::new(stream, house.clock, false);
-    if let Some(request) = receive(&mut reader) {
-        if let Ok(text) = answer_to(house, site, request) {
-            let mut writer = Punctual::new(stream, house.clock, true);
-            let _ = writer.write_all(text.as_bytes());
-        }
+    if let Some(request) = receive(&mut Punctual::new(stream, desk.clock, false)) {
+        reply(desk, site, stream, &shared.figures(desk.rt), request);
     }
     shut(stream);
 }
 
-/// The answer to a request.
-fn answer_to<L: Ledger, R: Host, C: Clock, G: Gate>(
-    house: &House<'_, L, R, C, G>,
-    site: Site<'_>,
+/// Answers a request, with what is counted.
+fn reply<R: Wait, C: Clock>(
+    desk: &Desk<'_, R, C>,
+    site: &Site<'_>,
+    stream: &TcpStream,
+    counted: &Figures,
+    request: HttpRequest,
+) {
+    if let Ok(text) = answer_to(desk, site, counted, request) {
+        send(stream, desk.clock, text.as_str());
+    }
+}
+
+/// Sends an answer, as far as it is taken in time.
+fn send<C: Clock>(stream: &TcpStream, clock: &C, text: &str) {
+    let _ = Punctual::new(stream, clock, true).write_all(text.as_bytes());
+}
+
+/// The answer to a request, with what is counted.
+fn answer_to<R: Wait, C: Clock>(
+    desk: &Desk<'_, R, C>,
+    site: &Site<'_>,
+    counted: &Figures,
     request: HttpRequest,
 ) -> Result<String, Memory> {
     match request.asked {
         Ok(asked) => {
-            let body = body_of(house.alloc, asked, &status_of(house, site)?)?;
-            answer(house.alloc, asked, request.is_head, body.as_str())
+            let status = status_of(desk, site, counted)?;
+            answer_with(desk.alloc, asked, request.is_head, &status)
         }
-        Err(refusal) => refuse(house.alloc, refusal, request.is_head),
+        Err(refusal) => refuse(desk.alloc, refusal, request.is_head),
     }
 }
 
-/// What is asked for.
-fn body_of(alloc: Global, asked: Resource, status: &Status) -> Result<String, Memory> {
+/// The answer to a request for something, with a status.
+fn answer_with(
+    alloc: Global,
+    asked: Resource,
+    is_head: bool,
+    status: &Status,
+) -> Result<String, Memory> {
     let body = match asked {
         Resource::Page => format!(in alloc; "{}", Page(status))?,
         Resource::Metrics => format!(in alloc; "{}", Metrics(status))?,
     };
-    Ok(body)
+    answer(alloc, asked, is_head, body.as_str())
 }
 
-/// How the gateway is now.
-fn status_of<L: Ledger, R: Host, C: Clock, G: Gate>(
-    house: &House<'_, L, R, C, G>,
-    site: Site<'_>,
-) -> Result<Status, Memory> {
-    let figures = house.shared.figures(house.rt);
-    Ok(Status {
-        version: site.options.version,
-        now: house.clock.wall(),
-        started: site.started,
-        steps: figures.calls,
-        news: figures.news,
-        outstations: outstations_of(house, site, &figures)?,
-        clients: clients_of(house, &figures)?,
-    })
-}
-
-/// How it is with each outstation.
-fn outstations_of<L: Ledger, R: Host, C: Clock, G: Gate>(
-    house: &House<'_, L, R, C, G>,
-    site: Site<'_>,
+/// How the gateway is now, with what is counted.
+fn status_of<R: Wait, C: Clock>(
+    desk: &Desk<'_, R, C>,
+    site: &Site<'_>,
     counted: &Figures,
-) -> Result<Vec<OutstationStatus>, Memory> {
-    let cards = house.board.outstations();
-    let mut outstations = Vec::with_capacity(house.alloc, cards.len())?;
-    for (card, (plan, orders)) in cards.iter().zip(site.plans.iter().zip(&counted.orders)) {
-        let place = plan.connect.clone()?;
-        let figures = card.figures.lock(house.rt);
-        outstations.push(OutstationStatus {
+) -> Result<Status, Memory> {
+    let mut status = Status {
+        version: site.options.version,
+        now: desk.clock.wall(),
+        started: site.started,
+        steps: counted.calls,
+        news: counted.news,
+        outstations: Vec::new(desk.alloc),
+        clients: Vec::new(desk.alloc),
+    };
+    add_outstations(
+        desk.rt,
+        &mut status.outstations,
+        desk.board.outstations(),
+        site.plans,
+        counted,
+    )?;
+    add_clients(desk.rt, &mut status.clients, desk.board.clients(), counted)?;
+    Ok(status)
+}
+
+/// Adds how it is with each outstation.
+fn add_outstations<R: Wait>(
+    rt: &R,
+    outstations: &mut Vec<OutstationStatus>,
+    cards: &[OutstationCard],
+    plans: &[Plan],
+    counted: &Figures,
+) -> Result<(), Memory> {
+    for (position, card) in cards.iter().enumerate() {
+        if let (Some(plan), Some(orders)) = (plans.get(position), counted.orders.get(position)) {
+            outstations.push(card.status(rt, plan.connect.clone()?, *orders))?;
+        }
+    }
+    Ok(())
+}
+
+/// Adds how it is with each place for a client.
+fn add_clients<R: Wait>(
+    rt: &R,
+    clients: &mut Vec<ClientStatus>,
+    cards: &[ClientCard],
+    counted: &Figures,
+) -> Result<(), Memory> {
+    for (place, card) in cards.iter().enumerate() {
+        clients.push(card.status(rt, counted, place))?;
+    }
+    Ok(())
+}
+
+impl OutstationCard {
+    /// How it is with the outstation that is reached at a place, and with its orders.
+    fn status<R: Wait>(&self, rt: &R, place: String, orders: OrderCounts) -> OutstationStatus {
+        let figures = self.figures.lock(rt);
+        OutstationStatus {
             place,
             connected_since: figures.connected_since,
             last_answer: figures.last_answer,
@@ -195,10 +254,9 @@ fn outstations_of<L: Ledger, R: Host, C: Clock, G: Gate>(
             skipped: figures.skipped,
             indications: figures.indications,
             events: figures.events,
-            orders: orders_of(*orders),
-        })?;
+            orders: orders_of(orders),
+        }
     }
-    Ok(outstations)
 }
 
 /// The orders of an outstation.
@@ -212,28 +270,26 @@ fn orders_of(counts: OrderCounts) -> OrderStatus {
     }
 }
 
-/// How it is with each place for a client.
-fn clients_of<L: Ledger, R: Host, C: Clock, G: Gate>(
-    house: &House<'_, L, R, C, G>,
-    counted: &Figures,
-) -> Result<Vec<ClientStatus>, Memory> {
-    let cards = house.board.clients();
-    let mut clients = Vec::with_capacity(house.alloc, cards.len())?;
-    let of_core = counted
-        .queued
-        .iter()
-        .zip(counted.unacknowledged.iter().zip(&counted.dropped));
-    for (card, (queued, (unacknowledged, dropped))) in cards.iter().zip(of_core) {
-        let figures = card.figures.lock(house.rt);
-        clients.push(ClientStatus {
+impl ClientCard {
+    /// How it is with the place at a position.
+    fn status<R: Wait>(&self, rt: &R, counted: &Figures, place: usize) -> ClientStatus {
+        let figures = self.figures.lock(rt);
+        ClientStatus {
             address: figures.address,
             connected_since: figures.connected_since,
             session: figures.started,
-            unacknowledged: *unacknowledged as u64,
-            queued: *queued as u64,
-            dropped: *dropped,
+            unacknowledged: number_at(&counted.unacknowledged, place),
+            queued: number_at(&counted.queued, place),
+            dropped: counted.dropped.get(place).copied().unwrap_or(0),
             closes: figures.closes,
-        })?;
+        }
     }
-    Ok(clients)
+}
+
+/// The number at a position; 0 behind the last one.
+fn number_at(numbers: &[usize], position: usize) -> u64 {
+    match numbers.get(position) {
+        Some(number) => *number as u64,
+        None => 0,
+    }
 }

@@ -6,7 +6,7 @@ use std::rt::Clock as SystemTimes;
 use std::time::Duration;
 
 /// The system's monotonic clock, and its wall time. A clock that can't be read shows 0.
-#[derive(Clone, Copy)]
+#[derive(Drop)]
 pub struct SystemClock<'a, R> {
     rt: &'a R,
 }

@@ -1,0 +1,24 @@
+//! Where the server's threads tell what happens.
+
+use crate::board::Board;
+use gw_journal::{Journal, JournalEvent};
+use gw_threads::Clock;
+use std::alloc::Global;
+use std::sync::Wait;
+
+/// What all of the server's threads work with: the system, its clock, what is known of each peer, and the journal.
+#[derive(Drop)]
+pub struct Desk<'a, R, C> {
+    pub alloc: Global,
+    pub rt: &'a R,
+    pub clock: &'a C,
+    pub board: &'a Board,
+    pub journal: &'a Journal,
+}
+
+impl<'a, R: Wait, C: Clock> Desk<'a, R, C> {
+    /// Tells an operator what happened just now.
+    pub fn tell(&self, event: JournalEvent) {
+        self.journal.tell(self.rt, self.clock.wall(), event);
+    }
+}
