@@ -33,6 +33,7 @@ ghost use Rattle.gw_control.specs.Example.{
   while_down,
 };
 ghost use Rattle.gw_control.specs.Held.{orders_of};
+ghost use Rattle.gw_control.specs.Selections.{asks_same};
 
 /// Selections, and executes that need one.
 pub fn selections_by_example()
@@ -77,6 +78,16 @@ pub fn selections_by_example()
         ≡ Confirm }
     ensures other_session_ended { answer_of setup (executes 0 true 0 0) (after_end 1 (selects 0 true 0 0 ∷ []))
         ≡ Ordered 1 }
+{}
+
+/// Which commands ask for the same: type, value and qualifier, but not S/E, nor the reserved bit of an SCO.
+pub fn sameness_by_example()
+    ensures single { map (asks_same (single true false 1 true)) (single true true 1 false ∷ single false false 1 false
+        ∷ single true false 2 false ∷ double 2 1 false ∷ []) ≡ true ∷ false ∷ false ∷ false ∷ [] }
+    ensures double { map (asks_same (double 2 1 true)) (double 2 1 false ∷ double 1 1 false ∷ double 2 0 false
+        ∷ single true false 1 false ∷ []) ≡ true ∷ false ∷ false ∷ false ∷ [] }
+    ensures setpoint { map (asks_same (setpoint (pos 5) 0 true)) (setpoint (pos 5) 0 false ∷ setpoint (pos 6) 0 false
+        ∷ setpoint (negsuc 4) 0 false ∷ setpoint (pos 5) 1 false ∷ []) ≡ true ∷ false ∷ false ∷ false ∷ [] }
 {}
 
 /// What is refused whoever selected, and what is unknown.

@@ -6,3 +6,4 @@ pub mod Taking
 pub mod Losing
 pub mod Sessions
 pub mod Made
+pub mod Due

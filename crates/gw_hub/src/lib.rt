@@ -6,6 +6,7 @@
 mod common;
 mod counts;
 mod hub;
+pub mod laws;
 mod news;
 mod orders;
 

@@ -10,7 +10,12 @@ ghost use Rattle.gw_station.specs.declared.event.Why.TheVariants.{Flooded, Malfo
 ghost use Rattle.gw_station.specs.Client.{client_after_close, client_after_tick, client_after_up, client_down, client_with_news, is_timed_out};
 ghost use Rattle.gw_station.specs.Frames.{begins, client_after_apdu, close_of, event_of};
 ghost use Rattle.gw_station.specs.Pump.{given};
+ghost use Rattle.iec_command.specs.declared.command.Action.{Action};
+ghost use Rattle.iec_command.specs.Example.{command as command_for};
 ghost use Rattle.gw_judge.specs.Example.{setup};
+ghost use Rattle.gw_answers.specs.Outgoing.{command_with};
+ghost use Rattle.gw_station.specs.declared.event.Said.TheVariants as said;
+ghost use Rattle.gw_station.specs.Answers.{told};
 ghost use Rattle.gw_station.specs.Example.{command, connected, cut, execute, header_alone, interrogated, interrogation, reading, reads, pushed_out, narrow, narrow_full, overflown, pumped, started, started_from, switched_off, switched_on, taking, tested, waiting};
 
 /// STARTDT, STOPDT and TESTFR.
@@ -162,4 +167,23 @@ pub fn answers()
     ensures waits { (taking 0 (I 0 0 command ∷ []) started).answers ≡ [] }
     // STOPDT leaves no answer.
     ensures stopped { (taking 0 (U StopAct ∷ []) (reads 2 started)).answers ≡ [] }
+{}
+
+/// What a client is told of a command for a control, and of the order that it became, whatever its type.
+pub fn told_by_example()
+    // An activation (6): 7 confirms it, with P/N negatively, and 10 terminates it.
+    ensures confirmed { (x : Action) → told (command_for 6 1 5001 x) said.Confirm
+        ≡ command_with 7 false (command_for 6 1 5001 x) ∷ [] }
+    ensures refused { (x : Action) → told (command_for 6 1 5001 x) said.Negative
+        ≡ command_with 7 true (command_for 6 1 5001 x) ∷ [] }
+    ensures ordered { (x : Action) → told (command_for 6 1 5001 x) said.Ordered ≡ [] }
+    ensures done { (x : Action) → told (command_for 6 1 5001 x) said.Done
+        ≡ command_with 7 false (command_for 6 1 5001 x) ∷ command_with 10 false (command_for 6 1 5001 x) ∷ [] }
+    ensures failed { (x : Action) → told (command_for 6 1 5001 x) said.Failed
+        ≡ command_with 7 true (command_for 6 1 5001 x) ∷ [] }
+    // A deactivation (8): 9 confirms it.
+    ensures taken_back { (x : Action) → told (command_for 8 1 5001 x) said.Confirm
+        ≡ command_with 9 false (command_for 8 1 5001 x) ∷ [] }
+    ensures not_taken_back { (x : Action) → told (command_for 8 1 5001 x) said.Negative
+        ≡ command_with 9 true (command_for 8 1 5001 x) ∷ [] }
 {}
