@@ -14,7 +14,7 @@ use crate::plan::{Plan, plans_of};
 use gw_journal::{Journal, JournalEvent};
 use gw_map::Settings;
 use gw_model::Memory;
-use gw_threads::{Clock, Closed, Gate, Hub, Pass, Routes, Shared};
+use gw_threads::{Clock, Closed, Gate, Hub, Pass, Shared};
 use std::alloc::Global;
 use std::io;
 use std::marker::Brand;
@@ -87,7 +87,6 @@ pub fn serve_as<R: Host, C: Clock + Sync, G: Gate + Sync>(
     let outstations = plans.len().min(usize::from(OUTSTATIONS));
     let board = Board::new(alloc, outstations, CLIENTS)?;
     let capacity = (settings.station().recorder as usize).max(1);
-    let routes = Routes::of(alloc, settings.controls())?;
     let hub = Hub::new(alloc, settings)?;
     let actors = 2 * (outstations + usize::from(CLIENTS)) + 1;
     let site = Site {
@@ -99,7 +98,6 @@ pub fn serve_as<R: Host, C: Clock + Sync, G: Gate + Sync>(
     let blank = Blank::new(actors as u64);
     let core = Opening {
         hub,
-        routes,
         actors,
         capacity,
     };
@@ -110,7 +108,6 @@ pub fn serve_as<R: Host, C: Clock + Sync, G: Gate + Sync>(
 #[derive(Drop)]
 struct Opening {
     hub: Hub,
-    routes: Routes,
     actors: usize,
     capacity: usize,
 }
@@ -133,12 +130,10 @@ fn serve_with<L: Ledger + Send + Sync, R: Host, C: Clock + Sync, G: Gate + Sync>
 {
     let Opening {
         hub,
-        routes,
         actors,
         capacity,
     } = opening;
-    let (mut shared, passes) = Shared::<L>::new(alloc, blank, hub, actors, capacity)?;
-    shared.follow(routes);
+    let (shared, passes) = Shared::<L>::new(alloc, blank, hub, actors, capacity)?;
     let lobby = Lobby::new(alloc, CLIENTS)?;
     let outstations = site.plans.len().min(usize::from(OUTSTATIONS)) as u8;
     let duties = duties_of(alloc, outstations, passes, &site.options)?;
