@@ -128,6 +128,13 @@ impl Controls {
         self.ordered
     }
 
+    /// For each outstation its orders.
+    pub fn outgoing(&self) -> &[Outgoing]
+        ensures { result.now ≡ self.now.outgoing }
+    {
+        &self.outgoing
+    }
+
     /// Whether a command would be an order: what `command` would answer.
     #[tactic(auto, using(crate::proofs::Keeps::confirmed_no_order))]
     pub fn orders(

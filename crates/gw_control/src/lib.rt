@@ -11,7 +11,8 @@ pub mod laws;
 mod outgoing;
 mod selection;
 
+pub use accepted::{Accepted, UnderWay};
 pub use answer::{Answer, Outcome};
 pub use controls::Controls;
 pub use intent::control_for;
-pub use outgoing::MOST_WAITING;
+pub use outgoing::{MOST_WAITING, Outgoing};

@@ -1,8 +1,8 @@
 //! Orders on their way to one outstation.
 ghost use Rattle.std.specs.Prelude.{◌≡◌, ◌≤◌, false, is_some, length, IfOk};
-ghost use Rattle.std.specs.List.{filter};
+ghost use Rattle.std.specs.List.{filter, list_any};
 ghost use Rattle.std.specs.VecDeque.{deque_capacity};
-ghost use Rattle.gw_control.specs.Orders.{is_full, is_of_others, nothing_outgoing, order_given, outcome_at, outcome_lost, outgoing_after_end, outgoing_after_ended, outgoing_after_lost, outgoing_after_taking, outgoing_with};
+ghost use Rattle.gw_control.specs.Orders.{has_number, is_full, is_numbered, is_of_others, nothing_outgoing, order_given, outcome_at, outcome_lost, outgoing_after_end, outgoing_after_ended, outgoing_after_lost, outgoing_after_taking, outgoing_with};
 
 use crate::accepted::{Accepted, UnderWay};
 use crate::answer::Outcome;
@@ -68,6 +68,30 @@ impl Outgoing {
             waiting,
             under_way: self.under_way,
         })
+    }
+
+    /// The orders that wait, oldest first.
+    pub fn waiting(&self) -> &VecDeque<Accepted>
+        ensures { result.now.items ≡ self.now.waiting }
+    {
+        &self.waiting
+    }
+
+    /// The order that is under way, if one is.
+    pub fn under_way(&self) -> Option<UnderWay>
+        ensures { result ≡ self.now.under_way }
+    {
+        self.under_way
+    }
+
+    /// Whether an order is under way, or waits.
+    pub fn has(&self, number: u64) -> bool
+        ensures { result ≡ has_number number self.now }
+    {
+        match self.under_way {
+            Some(under_way) if under_way.accepted.order.number == number => true,
+            _ => is_waiting(&self.waiting, number),
+        }
     }
 
     /// Whether no further order may wait.
@@ -162,6 +186,15 @@ fn refilled(
     copy.extend_from_slice(front)?;
     copy.extend_from_slice(back)?;
     Ok(VecDeque::from_vec(copy))
+}
+
+/// Whether an order is among these.
+fn is_waiting(waiting: &VecDeque<Accepted>, number: u64) -> bool
+    ensures { result ≡ list_any (is_numbered number) waiting.now.items }
+{
+    waiting
+        .iter()
+        .any(|accepted| accepted.order.number == number)
 }
 
 /// Those of other clients stay.

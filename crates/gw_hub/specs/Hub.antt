@@ -6,7 +6,7 @@ use Rattle.gw_map.specs.Settings.{Setup}
 use Rattle.gw_model.specs.declared.observation.Observation.{Observation}
 use Rattle.gw_picture.specs.Picture.{news_of, news_of_report}
 use Rattle.dnp_app.specs.Response.{Fragment}
-use Rattle.dnp_master.specs.Master.{Master, is_ready}
+use Rattle.dnp_master.specs.Master.{Master}
 use Rattle.gw_control.specs.declared.answer.Outcome.{Outcome}
 use Rattle.iec_command.specs.declared.command.Command.{Command as AnyCommand}
 use Rattle.iec_apci.specs.declared.apdu.Apdu.{Apdu}
@@ -97,11 +97,6 @@ state_with_response hub moment response =
 -- a poll of an outstation at the largest moment so far would be answered with a request
 abbrev pub is_poll_due : State → ℕ → Bool
 is_poll_due s o = is_due s.moment (slice_get s.outstations o) || is_some (order_due s o)
-
--- an outstation could be given an order
-abbrev pub is_ready_at : Option Master → Bool
-is_ready_at None = false
-is_ready_at (Some m) = is_ready m
 
 -- once the order that is due for an outstation was taken
 abbrev pub controls_polled : State → ℕ → Controls

@@ -11,6 +11,7 @@ mod news;
 mod orders;
 
 pub use dnp_master::{Ignored, Verdict};
+pub use gw_control::{Accepted, Outgoing};
 pub use gw_station::Why;
 pub use gw_steps::{Reply, Step, StepFault};
 pub use hub::Hub;

@@ -7,5 +7,5 @@ mod recorder;
 mod tape;
 
 pub use entry::Entry;
-pub use gw_hub::{Apdu, ApduBuf, Hub, Reply, Step, StepFault, Verdict, Why};
+pub use gw_hub::{Accepted, Apdu, ApduBuf, Hub, Outgoing, Reply, Step, StepFault, Verdict, Why};
 pub use recorder::{Dump, NoRoom, Recorder};

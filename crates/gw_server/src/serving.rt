@@ -16,7 +16,7 @@ use crate::watched::Watched;
 use gw_journal::{Journal, JournalEvent};
 use gw_map::Settings;
 use gw_model::Memory;
-use gw_threads::{Clock, Closed, Gate, Hub, Pass, Routes, Shared};
+use gw_threads::{Clock, Closed, Gate, Hub, Pass, Shared};
 use std::alloc::Global;
 use std::io;
 use std::marker::Brand;
@@ -109,7 +109,6 @@ pub fn serve_as<R: Host, C: Clock + Sync, G: Gate + Sync>(
 #[derive(Drop)]
 struct Opening {
     hub: Hub,
-    routes: Routes,
     actors: usize,
     capacity: usize,
 }
@@ -121,11 +120,9 @@ impl Opening {
     {
         let capacity = (settings.station().recorder as usize).max(1);
         let actors = 2 * (usize::from(outstations) + usize::from(CLIENTS)) + 1;
-        let routes = Routes::of(alloc, settings.controls())?;
         let hub = Hub::new(alloc, settings)?;
         Ok(Opening {
             hub,
-            routes,
             actors,
             capacity,
         })
@@ -146,12 +143,10 @@ fn serve_with<L: Ledger + Send + Sync, R: Host, C: Clock + Sync, G: Gate + Sync>
 {
     let Opening {
         hub,
-        routes,
         actors,
         capacity,
     } = opening;
-    let (mut shared, passes) = Shared::<L>::new(desk.alloc, blank, hub, actors, capacity)?;
-    shared.follow(routes);
+    let (shared, passes) = Shared::<L>::new(desk.alloc, blank, hub, actors, capacity)?;
     let watched = Watched { desk, gate };
     let house = House {
         desk,

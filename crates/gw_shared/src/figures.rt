@@ -1,7 +1,7 @@
 //! What is counted under the lock.
 
 use crate::dropped::Dropped;
-use crate::pending::Pending;
+use crate::fates::Fates;
 use crate::roused::{CLIENTS, OUTSTATIONS};
 use crate::settled::OrderCounts;
 use gw_record::Hub;
@@ -25,8 +25,8 @@ pub struct Figures {
 
 impl Figures {
     /// Those of a hub on which so many calls were made, with what was dropped in data transfers that have ended, and
-    /// with the orders.
-    pub(crate) fn of(calls: u64, hub: &Hub, dropped: &Dropped, pending: &Pending) -> Figures {
+    /// with what became of orders.
+    pub(crate) fn of(calls: u64, hub: &Hub, dropped: &Dropped, fates: &Fates) -> Figures {
         let mut queued = [0; 8];
         let mut unacknowledged = [0; 8];
         for client in 0..CLIENTS {
@@ -39,7 +39,7 @@ impl Figures {
             queued,
             unacknowledged,
             dropped: dropped.in_all(hub),
-            orders: pending.counts(),
+            orders: fates.counts(),
         }
     }
 }

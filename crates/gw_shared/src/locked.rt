@@ -9,12 +9,11 @@ ghost use Rattle.gw_shared.specs.Turn.{last_call, Answers, IsMadeReady, Steps};
 use crate::awake::Awake;
 use crate::batch::{Batch, LONGEST_APDU};
 use crate::dropped::{Dropped, Watch};
+use crate::fates::Fates;
 use crate::figures::Figures;
 use crate::pass::Pass;
-use crate::pending::{Pending, Wish};
 use crate::pumped::{Pumped, apdu_in};
 use crate::roused::{Roused, Topic};
-use crate::routes::Routes;
 use gw_model::Memory;
 use gw_record::{Hub, Recorder, Reply, Step, StepFault};
 use std::alloc::Global;
@@ -25,7 +24,7 @@ use std::sync::ledger::{Book, Ledger, Share};
 const MOST_PUMPS: u32 = 64;
 
 /// A hub with its recorder, the count of calls, and the book of all passes' counts; what was dropped for clients, which
-/// writers are awake, and which orders have not ended, which no contract sees.
+/// writers are awake, and what became of orders, which no contract sees.
 #[derive(Drop)]
 pub struct Core<L: Ledger> {
     hub: Hub,
@@ -34,7 +33,7 @@ pub struct Core<L: Ledger> {
     book: Book<L>,
     dropped: Dropped,
     awake: Awake,
-    pending: Pending,
+    fates: Fates,
 }
 
 impl<L: Ledger> Model for Core<L> {
@@ -66,7 +65,7 @@ impl<L: Ledger> Core<L> {
         ensures hub { IfOk result (λ core. core.hub ≡ hub) }
         ensures made { IfOk result (λ core. core.made ≡ 0) }
     {
-        let pending = Pending::new(alloc)?;
+        let fates = Fates::new(alloc)?;
         let recorder = Recorder::new(alloc, &hub, actors, capacity)?;
         Ok(Core {
             hub,
@@ -75,15 +74,8 @@ impl<L: Ledger> Core<L> {
             book,
             dropped: Dropped::new(),
             awake: Awake::nobody(),
-            pending,
+            fates,
         })
-    }
-
-    /// Orders go these ways from now on.
-    pub(crate) fn follow(&mut self, routes: Routes)
-        ensures { self.new ≡ self.old }
-    {
-        self.pending.follow(routes);
     }
 
     /// Makes a call: the step is made on the hub and noted with its reply. Gives the call's number, counted over all
@@ -122,29 +114,33 @@ impl<L: Ledger> Core<L> {
     ) -> ((u64, Result<Reply, StepFault>), Roused)
         ensures { Answers pass.old pass.new step result.0 }
     {
-        let (topic, wish) = (Topic::of(&step), Wish::of(&step));
-        let orders = self.hub.orders();
+        let topic = Topic::of(&step);
+        self.foresee(topic);
         let answer = self.step(pass, step);
-        let roused = self.rouse(pass, topic, wish, &answer.1, orders);
+        let roused = self.rouse(pass, topic, &answer.1);
         (answer, roused)
     }
 
-    /// Those of the workers whom a call serves for whom the bell has to ring; there were so many orders before. What
-    /// the call did to orders is kept with its pass.
+    /// What may become of orders by a step is looked at before.
+    fn foresee(&mut self, topic: Topic)
+        ensures { self.new ≡ self.old }
+    {
+        self.fates.foresee(topic, &self.hub);
+    }
+
+    /// Those of the workers whom a call serves for whom the bell has to ring. What the call did to orders is kept with
+    /// its pass.
     fn rouse(
         &mut self,
         pass: &mut Pass<L>,
         topic: Topic,
-        wish: Wish,
         reply: &Result<Reply, StepFault>,
-        before: u64,
     ) -> Roused
         ensures core { self.new ≡ self.old }
         ensures pass { pass.new ≡ pass.old }
     {
         let orders = &mut pass.orders;
-        self.pending
-            .note(topic, wish, reply, before, &self.hub, orders);
+        self.fates.note(topic, reply, &self.hub, orders);
         let ordered = orders.accepted().is_some();
         self.awake.told(topic, reply);
         self.awake
@@ -235,7 +231,7 @@ impl<L: Ledger> Core<L> {
 
     /// What is counted.
     pub fn figures(&self) -> Figures {
-        Figures::of(self.made, &self.hub, &self.dropped, &self.pending)
+        Figures::of(self.made, &self.hub, &self.dropped, &self.fates)
     }
 
     /// How many calls were made, for whoever has all passes' shares.
@@ -259,7 +255,7 @@ impl<L: Ledger> Core<L> {
             book: _,
             dropped: _,
             awake: _,
-            pending: _,
+            fates: _,
         } = self;
         (hub, recorder)
     }

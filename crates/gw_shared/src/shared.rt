@@ -12,7 +12,6 @@ use crate::orders::Orders;
 use crate::pass::Pass;
 use crate::pumped::Pumped;
 use crate::roused::Roused;
-use crate::routes::Routes;
 use gw_bell::Bell;
 use gw_model::Memory;
 use gw_record::{Hub, Recorder, Reply, Step, StepFault};
@@ -95,13 +94,6 @@ impl<L: Ledger> Shared<L> {
             stopping: AtomicBool::new(false),
         };
         Ok((shared, passes))
-    }
-
-    /// Orders go these ways from now on. Of an order whose way isn't known nothing is kept until it is given.
-    pub fn follow(&mut self, routes: Routes)
-        ensures { self.new ≡ self.old }
-    {
-        self.core.get_mut().follow(routes);
     }
 
     /// Makes a call under the lock (`Core::step`), and wakes those whom the step may serve. Gives the call's number and

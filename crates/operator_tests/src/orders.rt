@@ -3,7 +3,7 @@ ghost use Rattle.std.specs.Prelude.{◌≡◌};
 
 use gw_map::Settings;
 use gw_replay::{Instruction, read_instruction};
-use gw_shared::{Fate, Hub, Pass, Routes, Settled, Shared, Step};
+use gw_shared::{Fate, Hub, Pass, Settled, Shared, Step};
 use std::marker::Brand;
 use std::process::Abort;
 use std::sync::Wait;
@@ -116,28 +116,20 @@ const COURSES: &[Course] = &[
 fn orders(rt: HostRuntime) {
     for course in COURSES {
         let settings = Settings::read(rt.alloc(), SETTINGS).expect(&rt, "settings");
-        let routes = Routes::of(rt.alloc(), settings.controls()).expect(&rt, "routes");
         let hub = Hub::new(rt.alloc(), settings).expect(&rt, "a hub");
-        run::<Brand, _>(&rt, Blank::new(1), hub, routes, course);
+        run::<Brand, _>(&rt, Blank::new(1), hub, course);
     }
 }
 
 /// Goes through a course on a core of its own.
-fn run<L: Ledger, R: Wait + Abort + AllocGlobal>(
-    rt: &R,
-    blank: Blank,
-    hub: Hub,
-    routes: Routes,
-    course: &Course,
-)
+fn run<L: Ledger, R: Wait + Abort + AllocGlobal>(rt: &R, blank: Blank, hub: Hub, course: &Course)
     requires name { blank.name ≡ L.name }
     requires parts { (blank.parts ≡ L.parts) × (blank.parts ≡ 1) }
 {
-    let (mut shared, mut passes) = Shared::<L>::new(rt.alloc(), blank, hub, 1, 8).expect(
+    let (shared, mut passes) = Shared::<L>::new(rt.alloc(), blank, hub, 1, 8).expect(
         rt,
         "a shared core",
     );
-    shared.follow(routes);
     let mut pass = passes.pop().expect(rt, "a pass");
     let mut ended = Vec::new(rt.alloc());
     for lines in [BEGINNING, course.lines] {

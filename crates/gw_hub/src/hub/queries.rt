@@ -3,10 +3,11 @@ ghost use Rattle.std.specs.Prelude.{◌≡◌, ◌↔◌, true, false, IsTrue, S
 ghost use Rattle.gw_steps.specs.declared.step.StepFault.TheVariants.{NoClient, NoOutstation};
 ghost use Rattle.gw_steps.specs.Steps.{can_order, client_up, command_of, fault_unless_up, is_ordering, latest, outstation_up};
 ghost use Rattle.gw_hub.specs.Queries.{dropped_at, has_offer, queued_at, unacknowledged_at};
-ghost use Rattle.gw_hub.specs.Hub.{can_take, is_poll_due, is_ready_at, started_at, unless};
+ghost use Rattle.gw_hub.specs.Hub.{can_take, is_poll_due, started_at, unless};
 
 use crate::hub::Hub;
 use crate::orders::is_control_up;
+use gw_control::Outgoing;
 use gw_model::{Observation, Report};
 use gw_steps::StepFault;
 use iec_apci::Apdu;
@@ -65,6 +66,13 @@ impl Hub {
         self.controls.ordered()
     }
 
+    /// For each outstation the orders that wait for it, and the one that is under way to it.
+    pub fn outgoing(&self) -> &[Outgoing]
+        ensures { result.now ≡ self.now.state.controls.outgoing }
+    {
+        self.controls.outgoing()
+    }
+
     /// Whether a client is up.
     pub fn stands(&self, client: u8) -> bool
         ensures { IsTrue result ↔ (client_up self.now.state client ≡ Some true) }
@@ -80,17 +88,6 @@ impl Hub {
             Some(master) => {
                 master.is_due(self.moment) || (master.ready() && self.controls.waits(outstation))
             }
-            None => false,
-        }
-    }
-
-    /// Whether an outstation could be given an order: it is up, no request awaits its answer, and no OPERATE is due. It
-    /// couldn't as long as one is under way to it.
-    pub fn is_ready(&self, outstation: u8) -> bool
-        ensures { result ≡ is_ready_at (slice_get self.now.state.outstations outstation) }
-    {
-        match self.outstations.get(outstation) {
-            Some(master) => master.ready(),
             None => false,
         }
     }
