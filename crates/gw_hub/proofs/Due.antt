@@ -24,8 +24,10 @@ use Rattle.gw_hub.specs.Queries.{gives_apdu, has_offer, is_due}
 -- ---- the wall time makes no difference
 
 front : (clear : Bool) (time : Option ℕ) (record_time : Bool) (wall : ℕ) (rest : List Task)
-    → is_some (slice_get (if_due clear ClearRestart ++ (time_due time ++ (if_due record_time (RecordTime 0) ++ rest))) 0)
-    ≡ is_some (slice_get (if_due clear ClearRestart ++ (time_due time ++ (if_due record_time (RecordTime wall) ++ rest))) 0)
+    → is_some (slice_get (if_due clear ClearRestart
+    ++ (time_due time ++ (if_due record_time (RecordTime 0) ++ rest))) 0)
+    ≡ is_some (slice_get (if_due clear ClearRestart
+    ++ (time_due time ++ (if_due record_time (RecordTime wall) ++ rest))) 0)
 front true time record_time wall rest = refl
 front false (Some t) record_time wall rest = refl
 front false None true wall rest = refl
@@ -65,12 +67,14 @@ by_order : (order : Option Order) (moment wall : ℕ) (m : Master)
     → (is_some (task_given moment 0 m) || is_some order)
     ≡ is_some (request_of (reply_asking (request_polled order moment wall m)))
 by_order None moment wall m =
-    or_false (is_some (task_given moment 0 m)) ∙ (still_given moment wall m ∙ sym (asked m.sequence (task_given moment wall m)))
+    or_false (is_some (task_given moment 0 m))
+    ∙ (still_given moment wall m ∙ sym (asked m.sequence (task_given moment wall m)))
 by_order (Some order) moment wall m = or_true (is_some (task_given moment 0 m))
 
 by_master : (found : Option Master) (outgoing : Option Outgoing) (moment wall : ℕ)
     → (is_due moment found || is_some (order_for found outgoing))
-    ≡ is_some (request_of (outstation_reply (λ m. reply_asking (request_polled (order_for found outgoing) moment wall m)) found))
+    ≡ is_some (request_of
+    (outstation_reply (λ m. reply_asking (request_polled (order_for found outgoing) moment wall m)) found))
 by_master None outgoing moment wall = refl
 by_master (Some m) outgoing moment wall = by_order (order_for (Some m) outgoing) moment wall m
 

@@ -178,7 +178,8 @@ new_once t masters v o one xs number tied k n =
           omega (arith, more, other, k.once n)
     ]
 
-ordered : (t : Story) (masters : List Master) (a : AskedCommand) (control : Control) (act : Act) (standing : Option Selection)
+ordered : (t : Story) (masters : List Master) (a : AskedCommand) (control : Control) (act : Act)
+    (standing : Option Selection)
     (v : Controls) → HasShortIndex control → IsAccepted a control standing v act → Tied t masters v
     → Goes t (story_executing (Some (execute_for a control)) t) masters v (controls_ordering a control (Some act) v)
 ordered t masters a control act standing v short k tied =
@@ -252,7 +253,8 @@ after_for a found standing v deactivation select =
     (cond select (cond (is_selectable a found.1 standing) (controls_selecting a found.0 v) v)
     (controls_ordering a found.1 (act_accepted a found.1 standing v) (controls_unselecting a found.0 v)))
 
-selecting : (t : Story) (masters : List Master) (a : AskedCommand) (found : ℕ × Control) (v : Controls) (selectable : Bool)
+selecting : (t : Story) (masters : List Master) (a : AskedCommand) (found : ℕ × Control) (v : Controls)
+    (selectable : Bool)
     → Tied t masters v → Goes t t masters v (cond selectable (controls_selecting a found.0 v) v)
 selecting t masters a found v true tied = still t masters v (controls_selecting a found.0 v) refl refl tied
 selecting t masters a found v false tied = still t masters v v refl refl tied

@@ -32,7 +32,7 @@ pub record AsksAsOrdered (accepted : List Execute) (outstation : ℕ) (r : Reque
   pub asks : request_intent outstation (octets_of r) ≡ Some intent
   pub ordered : command_intent execute.control execute.command ≡ Some intent
 
--- SELECT, OPERATE, DIRECT_OPERATE and DIRECT_OPERATE_NR, functions 3 to 6 (IEEE Std 1815, 4.4), whatever the objects are
+-- SELECT, OPERATE, DIRECT_OPERATE and DIRECT_OPERATE_NR, functions 3 to 6 (IEEE Std 1815, 4.4), whatever the objects
 abbrev pub is_control_request : List ℕ → Bool
 is_control_request (octet ∷ function ∷ objects) = nat_le 3 function && nat_le function 6
 is_control_request _ = false

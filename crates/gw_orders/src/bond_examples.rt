@@ -26,7 +26,7 @@ pub fn bonds_by_example()
     // SELECT with status 4: no OPERATE.
     ensures refused { marks 1 (made (selected 4 (poll ∷ []))) ≡ Answered false ∷ Asked 0 (setting Select 1) ∷ [] }
     ensures refused_once { map (λ x. x.done) (told setup (made (selected 4 (poll ∷ [])))) ≡ false ∷ [] }
-    // The outstation is lost after SELECT succeeded: what was asked stays so, OPERATE isn't given, and the order failed.
+    // The outstation is lost after SELECT succeeded: what was asked stays so, OPERATE isn't given, the order failed.
     ensures lost { marks 1 (made (selected 0 (outstation_down ∷ outstation_up ∷ poll ∷ []))) ≡ Answered true
         ∷ Asked 0 (setting Select 1) ∷ [] }
     ensures lost_once { map (λ x. x.done) (told setup (made (selected 0 (outstation_down ∷ outstation_up ∷ []))))

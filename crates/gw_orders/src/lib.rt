@@ -1,7 +1,7 @@
-//! Laws of what goes to outstations in every run of the core, by steps and replies. Of controls: each request that operates
-//! an output is that of one accepted execute (IEEE Std 1815, 4.4), which is operated once and told once (`bonds`); when an
-//! order is over, and what its client is told then (`outcomes`); what is said of a command, and which executes are accepted
-//! (`commands`). Of all requests: a poll gives the first that is due (`requests`).
+//! Laws of what goes to outstations in every run of the core, by steps and replies. Of controls: each request that
+//! operates an output is that of one accepted execute (IEEE Std 1815, 4.4), which is operated once and told once
+//! (`bonds`); when an order is over, and what its client is told then (`outcomes`); what is said of a command, and
+//! which executes are accepted (`commands`). Of all requests: a poll gives the first that is due (`requests`).
 #![tactic(auto)]
 
 mod bond_examples;

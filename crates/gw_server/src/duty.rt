@@ -90,10 +90,10 @@ impl<L: Ledger> Returned<L> {
     }
 }
 
-/// Adds a duty for each thread, in the order in which they end: that of standard input, where its end is awaited, those of
-/// the places and of the outstations, the last ones first, the clock's, that of the status, where it is served, the
-/// lookout's and the journal's. `passes` are those of the outstations' readers and writers, of the clients' readers and
-/// writers, and the clock's; they are used up.
+/// Adds a duty for each thread, in the order in which they end: that of standard input, where its end is awaited,
+/// those of the places and of the outstations, the last ones first, the clock's, that of the status, where it is
+/// served, the lookout's and the journal's. `passes` are those of the outstations' readers and writers, of the
+/// clients' readers and writers, and the clock's; they are used up.
 pub fn add_duties<L: Ledger>(
     duties: &mut Vec<Duty<L>>,
     passes: &mut Vec<Pass<L>>,

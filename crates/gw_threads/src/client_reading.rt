@@ -28,8 +28,9 @@ struct Reading<'a, L: Ledger, R: Wait, C: Clock, G: Gate> {
     gate: &'a G,
 }
 
-/// Makes a step of each APDU that comes from a client, until its octets end or are none, the core closes the connection,
-/// or the client isn't up any more. What ends the connection is told to the core, unless the core ended it.
+/// Makes a step of each APDU that comes from a client, until its octets end or are none, the core closes the
+/// connection, or the client isn't up any more. What ends the connection is told to the core, unless the core ended
+/// it.
 pub fn client_reader<'a, L: Ledger, R: Wait, I: Incoming, C: Clock, G: Gate>(
     alloc: Global,
     rt: &'a R,

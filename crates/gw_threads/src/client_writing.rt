@@ -14,8 +14,8 @@ use gw_shared::{Batch, Pass, Shared};
 use std::sync::Wait;
 use std::sync::ledger::Ledger;
 
-/// Hands over what the core puts out to a client, until the client isn't up any more, writing fails, or it is asked to end.
-/// Where nothing waits it sleeps until a step may bring something.
+/// Hands over what the core puts out to a client, until the client isn't up any more, writing fails, or it is asked
+/// to end. Where nothing waits it sleeps until a step may bring something.
 pub fn client_writer<'a, L: Ledger, R: Wait, W: Outgoing, C: Clock, G: Gate>(
     rt: &'a R,
     shared: &'a Shared<L>,

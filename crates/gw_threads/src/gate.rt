@@ -15,8 +15,8 @@ pub enum Place {
     BeforeWrite,
 }
 
-/// What is told of the workers' ways, where no lock is held. A call that takes its time holds the worker. All but `at` may be
-/// left out.
+/// What is told of the workers' ways, where no lock is held. A call that takes its time holds the worker. All but
+/// `at` may be left out.
 pub trait Gate {
     /// An actor has come to a place.
     fn at(&self, actor: usize, place: Place);

@@ -1,6 +1,7 @@
-//! The workers round the shared core: readers, which take octets from a peer, turn them into steps and make these; writers,
-//! which ask the core what goes to a peer and hand it over; and the clock. The core's lock isn't held while octets are read
-//! from a peer, taken apart or handed over. Each worker gives its pass back when it ends, and tells why it ended.
+//! The workers round the shared core: readers, which take octets from a peer, turn them into steps and make these;
+//! writers, which ask the core what goes to a peer and hand it over; and the clock. The core's lock isn't held while
+//! octets are read from a peer, taken apart or handed over. Each worker gives its pass back when it ends, and tells
+//! why it ended.
 #![tactic(auto)]
 
 mod call;

@@ -38,9 +38,10 @@ struct Reading<'a, 'b, L: Ledger, R: Wait, W: Outgoing, C: Clock, G: Gate> {
     recent: [u8; LONGEST_FRAGMENT],
 }
 
-/// Makes a step of each response that comes from an outstation, and sends what is owed for it: the replies of the link,
-/// and confirmations. It ends where its octets end, reading or writing fails, memory runs out, or the outstation isn't up
-/// any more; that is told to the core. `own` and `peer` are the link addresses of the master and of the outstation.
+/// Makes a step of each response that comes from an outstation, and sends what is owed for it: the replies of the
+/// link, and confirmations. It ends where its octets end, reading or writing fails, memory runs out, or the
+/// outstation isn't up any more; that is told to the core. `own` and `peer` are the link addresses of the master and
+/// of the outstation.
 pub fn outstation_reader<'a, 'b, L: Ledger, R: Wait, I: Incoming, W: Outgoing, C: Clock, G: Gate>(
     alloc: Global,
     rt: &'a R,
@@ -144,8 +145,8 @@ impl<'a, 'b, L: Ledger, R: Wait, W: Outgoing, C: Clock, G: Gate> Reading<'a, 'b,
         None
     }
 
-    /// Takes a frame: sends the reply that the link owes, and takes the fragment that it completes. How the worker ends,
-    /// if it does.
+    /// Takes a frame: sends the reply that the link owes, and takes the fragment that it completes. How the worker
+    /// ends, if it does.
     fn take_frame(&mut self, receiver: &mut Receiver, frame: &Frame) -> Option<WorkerEnd>
         ensures own { self.new.pass.actor ≡ self.old.pass.actor }
         ensures end { IfSome result (IsOfFrames W.can_fail) }

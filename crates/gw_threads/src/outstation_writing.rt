@@ -17,8 +17,9 @@ use std::sync::ledger::Ledger;
 use std::thread;
 use std::time::Duration;
 
-/// Sends an outstation the requests that the core gives, until it isn't up any more, writing fails, or the worker is asked
-/// to end. Where none is due it sleeps until a step may bring one; behind 100 requests in a row it rests for 20 milliseconds.
+/// Sends an outstation the requests that the core gives, until it isn't up any more, writing fails, or the worker is
+/// asked to end. Where none is due it sleeps until a step may bring one; behind 100 requests in a row it rests for 20
+/// milliseconds.
 pub fn outstation_writer<L: Ledger, R: Wait + Sleeps, W: Outgoing, C: Clock, G: Gate>(
     rt: &R,
     shared: &Shared<L>,

@@ -23,8 +23,8 @@ pub trait Source {
     /// From this state to that, what was given: a reply, or nothing where it isn't to go on.
     ghost Gives: { Self → Option (Result ReplySeen FaultSeen) → Self → Type 0 };
 
-    /// Asks for replies, and puts the octets of APDUs into a batch, until one is none, or there is no room, or it is time
-    /// to hand them over.
+    /// Asks for replies, and puts the octets of APDUs into a batch, until one is none, or there is no room, or it is
+    /// time to hand them over.
     fn gather(&mut self, batch: &mut Batch) -> Gathered
         ensures { IsGathered Gives self.old self.new batch.old batch.new result };
 
@@ -43,7 +43,8 @@ pub enum Put {
     More,
 }
 
-/// Hands one run of APDUs to a writer, as many together as the source gives at once, up to the first reply that is none.
+/// Hands one run of APDUs to a writer, as many together as the source gives at once, up to the first reply that is
+/// none.
 pub fn put_out<S: Source, W: Outgoing>(source: &mut S, writer: &mut W, batch: &mut Batch) -> Put
     ensures put { IsPut S.Gives source.old source.new (W.contents writer.old) (W.contents writer.new) result }
     ensures fault { MayBePut W.can_fail result }

@@ -6,8 +6,8 @@ const MOST: u32 = 100;
 /// The milliseconds behind which the next request begins a row of its own, and so the rest behind a whole row.
 pub const REST_MS: u64 = 20;
 
-/// How many requests went to an outstation, each soon behind the one before. Indications of events that never clear would
-/// have them follow each other as fast as the outstation answers.
+/// How many requests went to an outstation, each soon behind the one before. Indications of events that never clear
+/// would have them follow each other as fast as the outstation answers.
 #[derive(Clone, Copy)]
 pub struct RequestStreak {
     count: u32,
