@@ -184,10 +184,11 @@ impl Hub {
     ///   number. A poll gives nothing exactly where a request awaits its answer or nothing is due.
     ///
     /// And of each client's connection:
-    /// - `connections`: an APDU closes it for the first cause that holds, and is taken where none does; each STARTDT,
-    ///   STOPDT and TESTFR act that was taken is confirmed once, in order; a tick closes it exactly where t1 has
-    ///   passed, TESTFR act is put out exactly where t3 has, unless a confirmation comes first, and an S format where
-    ///   w or t2 wants one and nothing else is to be said.
+    /// - `connections`: in a step without a fault an APDU closes it for the first cause that holds, or else is taken;
+    ///   each STARTDT, STOPDT and TESTFR act that was taken is confirmed at most once, in order; a tick closes it
+    ///   exactly where t1 has passed; a pump gives the confirmation that waits longest, else TESTFR act exactly where
+    ///   t3 has passed and none is unanswered, an S format only where w or t2 wants one, and nothing only where none
+    ///   of these is due.
     pub fn run(
         alloc: Global,
         settings: Settings,

@@ -13,9 +13,9 @@ pub fn runs_keep_promises()
     ensures { (setup : Setup) (past : List Entry) → IsSoundRun setup past → AtEach (Promises setup) past }
 {}
 
-/// At each point of a run: an APDU closes its connection for the first cause that holds, and is taken where none does;
-/// each STARTDT, STOPDT and TESTFR act that was taken is confirmed once and in order; a tick closes a connection
-/// exactly where t1 has passed, and what a pump gives is due by t2, t3 and w.
+/// At each point of a run: in a step without a fault an APDU closes its connection for the first cause that holds, or
+/// else is taken; each STARTDT, STOPDT and TESTFR act that was taken is confirmed at most once and in order; a tick
+/// closes a connection exactly where t1 has passed, and the U and S formats that a pump gives are due by t2, t3 and w.
 pub fn connections_are_kept()
     ensures { (setup : Setup) (past : List Entry) → IsSoundRun setup past → AtEach (Connections setup) past }
 {}

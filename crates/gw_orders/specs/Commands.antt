@@ -70,7 +70,7 @@ abbrev pub confirmed_if : Bool → Said
 confirmed_if true = Confirm
 confirmed_if false = Negative
 
--- of a command of client c for the control at a position; without a control it comes back with 47
+-- of a command of client c for the control at a position
 abbrev pub said_for : Setup → Orders → List Entry → ℕ → ℕ → ℕ → Control → Command → Said
 said_for setup orders past c moment position control command =
     if is_deactivation command then confirmed_if (is_selected_by c (standing setup position moment past))
@@ -78,6 +78,7 @@ said_for setup orders past c moment position control command =
     then confirmed_if (may_select setup c moment control command (selected setup position past))
     else if is_accepted setup orders past c moment position control command then Ordered else Negative
 
+-- a command for no control is none that is taken: it comes back with 47
 abbrev pub said_due : Setup → Orders → List Entry → ℕ → ℕ → Command → Option (ℕ × Control) → Said
 said_due setup orders past c moment command None = Negative
 said_due setup orders past c moment command (Some found) =

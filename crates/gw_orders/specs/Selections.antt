@@ -1,7 +1,7 @@
 -- Which controls are selected, and by whom, by steps and replies alone. A select that is confirmed begins a selection,
 -- in place of any other. It ends by its client's deactivation or execute, and with its client's session. It stands for
--- a time; then another client may select the control. What a command asks for, and whether that is permitted, is said
--- here apart from the words that the code is proved by.
+-- a time; then another client may select the control. When two commands ask for the same, and whether one is permitted,
+-- is said here apart from the words that the code is proved by.
 use Rattle.std.specs.Prelude.{ℕ, ◌-◌, ℤ, pos, negsuc, ◌*ℤ◌, int_div, int_le, Bool, false, ◌&&◌, ◌||◌, ◌==◌, is_none, nat_le, nat_lt, List, [], ◌∷◌, Option, Some, None, option_map, if◌then◌else◌}
 use Rattle.std.specs.Ordering.{int_eq}
 use Rattle.gw_model.specs.First.{when}
