@@ -7,7 +7,7 @@ use crate::board::Board;
 use crate::desk::Desk;
 use crate::duty::{Duty, Returned, add_duties};
 use crate::host::Host;
-use crate::house::{CLIENTS, House, OUTSTATIONS, Site};
+use crate::house::{CLIENTS, House, Site};
 use crate::lobby::Lobby;
 use crate::lookout::{ANY_TIME, look_at_outstations};
 use crate::options::Options;
