@@ -1,5 +1,5 @@
 -- What one ASDU carries of a list: observations of one type, at consecutive addresses under SQ 1, and never too many.
-use Rattle.std.proofs.Common.{◌≡◌, ℕ, ℤ, zero, suc, ◌+◌, ◌*◌, ◌/◌, ◌<◌, ◌≤◌, ◌&&◌, min, nat_le, Bool, true, false, cond, List, [], ◌∷◌, ◌++◌, length, get_or, take, refl, sym, ap, subst, ◌∙◌, arith, is_some, length-append}
+use Rattle.std.proofs.Common.{◌≡◌, if◌then◌else◌, ℕ, ℤ, zero, suc, ◌+◌, ◌*◌, ◌/◌, ◌<◌, ◌≤◌, ◌&&◌, min, nat_le, Bool, true, false, cond, List, [], ◌∷◌, ◌++◌, length, get_or, take, refl, sym, ap, subst, ◌∙◌, arith, is_some, length-append}
 use Rattle.std.specs.List.{flat_map}
 use Rattle.std.proofs.Math.Nat.{le-div_iff_mul-le}
 use Rattle.std.proofs.lemmas.Bool.{eq-eqb}
@@ -12,7 +12,7 @@ use Rattle.iec_asdu.specs.declared.types.MonitorType.{MonitorType}
 use Rattle.iec_asdu.specs.Types.{type_length}
 use Rattle.iec_asdu.specs.Spelling.{element_kind, identification_at, address_octets, information_octets, object_octets, objects_octets, header_octets, list_spelling, spelling}
 use Rattle.iec_asdu.specs.Fitting.{AreAlike, AreConsecutive, FitsAsdu}
-use Rattle.iec_asdu.specs.Packing.{type_at, alike_count, consecutive_count, apart_count, in_sequence_count, is_in_sequence, taken_of, packed_spelling}
+use Rattle.iec_asdu.specs.Packing.{type_at, alike_count, consecutive_count, apart_count, in_sequence_count, is_in_sequence, room_in_sequence, taken_of, packed_spelling}
 use Rattle.iec_asdu.proofs.Lengths.{information_long}
 use Rattle.iec_asdu.proofs.Known.{same_type, type_short}
 use Rattle.iec_asdu.proofs.Counts.{alike_are, alike_within, alike_longest, consecutive_are, consecutive_within, consecutive_longest}
@@ -205,6 +205,45 @@ taken_of_few offset (x ∷ xs) = (carried offset x xs).few
 -- of one observation that one
 pub taken_of_one : (offset : ℤ) (x : Observation) → taken_of offset (x ∷ []) ≡ 1
 taken_of_one offset x = omega (arith, (carried offset x []).some, (carried offset x []).within)
+
+-- of a list of one that one, under SQ 0
+pub alone_taken : (offset : ℤ) (xs : List Observation) → length xs ≡ 1 → taken_of offset xs ≡ 1
+alone_taken offset (x ∷ []) one = taken_of_one offset x
+alone_taken offset [] one = absurd cc
+alone_taken offset (x ∷ y ∷ ys) one = absurd cc
+
+below_two : (m : ℕ) → m ≤ 1 → nat_le 2 m ≡ false
+below_two zero small = refl
+below_two (suc zero) small = refl
+below_two (suc (suc m)) small = absurd (omega (arith, small))
+
+consecutive_few : (offset : ℤ) (identification address : ℕ) (n : ℕ) (x : Observation)
+    → nat_le 2 (consecutive_count offset identification address (take n (x ∷ []))) ≡ false
+consecutive_few offset identification address n x =
+    let within = consecutive_within offset identification address (take n (x ∷ [])) in
+    let taken = length-take n (x ∷ []) in
+    below_two _ (omega (arith, within, taken))
+
+and_no : (a b : Bool) → a ≡ false → (a && b) ≡ false
+and_no false b same = refl
+and_no true b same = absurd cc
+
+few_or_none : (b : Bool) (n : ℕ) → nat_le 2 n ≡ false → nat_le 2 (if b then 0 else n) ≡ false
+few_or_none true n few = refl
+few_or_none false n few = few
+
+few_in_sequence : (offset : ℤ) (x : Observation) → nat_le 2 (in_sequence_count offset (x ∷ [])) ≡ false
+unfolding in_sequence_count
+few_in_sequence offset x =
+    few_or_none (is_some (tag_of offset x.stamp)) _
+    (consecutive_few offset (identification_at offset x) x.address
+    (room_in_sequence (type_length (type_at offset x))) x)
+
+pub alone_apart : (offset : ℤ) (xs : List Observation) → length xs ≡ 1 → is_in_sequence offset xs ≡ false
+unfolding is_in_sequence
+alone_apart offset [] one = absurd cc
+alone_apart offset (x ∷ y ∷ ys) one = absurd cc
+alone_apart offset (x ∷ []) one = and_no _ _ (few_in_sequence offset x)
 
 -- with no more octets than fit behind the header
 pub packed_room : (offset : ℤ) (xs : List Observation) (sequence : Bool) (taken : ℕ) → 0 < length xs

@@ -129,6 +129,12 @@ pub fn packing_of(observations: &[Observation], zone: &Zone) -> Packing
     ensures sequence { result.sequence ≡ is_in_sequence zone.now.offset_minutes observations.now }
     ensures taken { result.taken ≡ taken_of zone.now.offset_minutes observations.now }
 {
+    if observations.len() == 1 {
+        return Packing {
+            sequence: false,
+            taken: 1,
+        };
+    }
     let apart = count_apart(observations, zone);
     let in_sequence = count_in_sequence(observations, zone);
     if 2 <= in_sequence && apart <= in_sequence {
