@@ -1,3 +1,4 @@
 pub mod Meant
 pub mod Rows
 pub mod Sendable
+pub mod AtOnce

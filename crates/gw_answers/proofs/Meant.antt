@@ -1,7 +1,7 @@
 -- What is written of an answer means what it was made of.
 use Rattle.std.proofs.Common.{◌≡◌, ℕ, ℤ, ◌+◌, ◌/◌, ◌%◌, ◌^◌, ◌<◌, ◌≤◌, Bool, true, false, List, [], ◌∷◌, length, Option, Some, None, Result, Ok, Err, refl, sym, ap, subst, ◌∙◌, arith}
-use Rattle.std.specs.Prelude.{◌*◌, option_map, slice_set}
-use Rattle.std.proofs.lemmas.Bool.{eq-eqb}
+use Rattle.std.specs.Prelude.{◌*◌, option_map, slice_index, slice_set}
+use Rattle.std.proofs.lemmas.Bool.{eq-eqb, lt-ltb}
 use Rattle.gw_model.specs.Bits.{is_set}
 use Rattle.gw_model.specs.Optional.{◌>>=◌}
 use Rattle.gw_model.specs.Fit.{HasWidth, IsFit}
@@ -15,15 +15,18 @@ use Rattle.iec_command.specs.declared.command.Command.{Command}
 use Rattle.iec_command.specs.declared.command.Action.{Action}
 use Rattle.iec_command.specs.declared.command.Action.TheVariants as actions
 use Rattle.iec_command.specs.declared.fault.CommandFault.{CommandFault}
-use Rattle.iec_command.specs.Commands.{spelling as command_spelling, cause_octet, command_in, command_of, faults, mirrored, unless, IsWhole}
+use Rattle.iec_command.specs.Commands.{spelling as command_spelling, cause_octet, command_in, command_of, faults, mirrored, type_of, unless, IsWhole}
 use Rattle.iec_command.proofs.Again.{command_of-spelling}
+use Rattle.iec_command.proofs.Octets.{test_same}
+use Rattle.gw_judge.proofs.Refused.{cut_short}
+use Rattle.gw_judge.proofs.Refusals.{spelled_type}
 use Rattle.gw_answers.specs.declared.outgoing.AsduAnswer.{AsduAnswer}
 use Rattle.gw_answers.specs.declared.outgoing.AsduAnswer.TheVariants.{Returned, Made}
 use Rattle.gw_answers.specs.declared.outgoing.OwnAsdu.{OwnAsdu}
 use Rattle.gw_answers.specs.declared.outgoing.OwnAsdu.TheVariants as outgoing
 use Rattle.gw_answers.specs.Outgoing.{at_station}
 use Rattle.gw_answers.specs.Octets.{octets_in, answer_octets, outgoing_octets}
-use Rattle.gw_answers.specs.Meaning.{Tells, Commands, meant_by, meaning_of, meant_outgoing, asdu_of, HasCause, ComesBack, Means, CanSendOutgoing, CanSendAnswer}
+use Rattle.gw_answers.specs.Meaning.{Meant, Tells, Commands, meant_by, meaning_of, meant_outgoing, asdu_of, HasCause, IsSentBack, ComesBack, IsRefusedWith, Means, CanSendOutgoing, CanSendAnswer}
 
 -- ---- commands
 
@@ -146,31 +149,113 @@ cause_has cause true few = (omega (arith, few), eq-eqb (cause_octet cause true t
 cause_has cause false few =
     (omega (arith, few), eq-eqb (cause_octet cause true false / 2 ^ 6 % 2) 1 (omega (arith, few)))
 
-comes_back : (offset : ℤ) (cause : ℕ) (octets : List ℕ) → cause < 64 → 6 ≤ length octets
-    → ComesBack cause (meaning_of offset (mirrored cause true octets))
-comes_back offset cause [] few long = absurd (omega (arith, long))
-comes_back offset cause (t ∷ []) few long = absurd (omega (arith, long))
-comes_back offset cause (t ∷ v ∷ []) few long = absurd (omega (arith, long))
-comes_back offset cause (t ∷ v ∷ old ∷ rest) few long = by_asdu (asdu_meaning (monitor_types offset) back) refl
+-- what octets with such a cause mean has it
+refused_octets : (offset : ℤ) (cause t v new : ℕ) (rest : List ℕ) → HasCause cause new
+    → IsRefusedWith cause (meaning_of offset (t ∷ v ∷ new ∷ rest))
+refused_octets offset cause t v new rest has = by_asdu (asdu_meaning (monitor_types offset) back) refl
   where
-    new : ℕ
-    new = cause_octet cause true (is_set 7 old)
-
     back : List ℕ
     back = t ∷ v ∷ new ∷ rest
 
-    has : HasCause cause new
-    has = cause_has cause (is_set 7 old) few
-
-    by_command : (r : Result Command CommandFault) → command_of back ≡ r → ComesBack cause (meant_by back None r)
+    by_command : (r : Result Command CommandFault) → command_of back ≡ r → IsRefusedWith cause (meant_by back None r)
     by_command (Ok c) e = let is : c ≡ command_in back = command_told back c e in
         (ap (λ (d : Command). d.cause) is ∙ has.0, ap (λ (d : Command). d.negative) is ∙ has.1)
     by_command (Err fault) e = has
 
     by_asdu : (m : Option Asdu) → asdu_meaning (monitor_types offset) back ≡ m
-        → ComesBack cause (meant_by back m (command_of back))
+        → IsRefusedWith cause (meant_by back m (command_of back))
     by_asdu (Some a) e = subst (HasCause cause) (sym (cause_told (monitor_types offset) t v new rest a e)) has
     by_asdu None e = by_command (command_of back) refl
+
+pub refused_with : (offset : ℤ) (cause : ℕ) (came : List ℕ) (meant : Meant) → 6 ≤ length came
+    → ComesBack offset cause came meant → IsRefusedWith cause meant
+refused_with offset cause [] meant long h = absurd (omega (arith, long))
+refused_with offset cause (t ∷ []) meant long h = absurd (omega (arith, long))
+refused_with offset cause (t ∷ v ∷ []) meant long h = absurd (omega (arith, long))
+refused_with offset cause (t ∷ v ∷ old ∷ rest) meant long h =
+    subst (IsRefusedWith cause) (sym (h.means ∙ ap (meaning_of offset) h.sent.same))
+    (refused_octets offset cause t v h.sent.octet rest (h.sent.has_cause, h.sent.negative))
+
+comes_back : (offset : ℤ) (cause : ℕ) (came : List ℕ) → cause < 64
+    → ComesBack offset cause came (meaning_of offset (mirrored cause true came))
+comes_back offset cause came few =
+    let test : Bool = is_set 7 (slice_index came 2) in
+    let has = cause_has cause test few in
+    record {
+      back = mirrored cause true came;
+      sent = record {
+        octet = cause_octet cause true test;
+        same = refl;
+        has_cause = has.0;
+        negative = has.1;
+        test = test_same cause true test;
+      };
+      means = refl;
+    }
+
+-- ---- a command comes back as it came
+
+-- its type is that of no process information
+no_layout : (offset : ℤ) (t : ℕ) (action : Action) → t ≡ type_of action → layout_of t (monitor_types offset) ≡ None
+no_layout offset t (actions.Single x) e = ap (λ (n : ℕ). layout_of n (monitor_types offset)) e
+no_layout offset t (actions.Double x) e = ap (λ (n : ℕ). layout_of n (monitor_types offset)) e
+no_layout offset t (actions.Setpoint x) e = ap (λ (n : ℕ). layout_of n (monitor_types offset)) e
+no_layout offset t (actions.Interrogation qualifier) e = ap (λ (n : ℕ). layout_of n (monitor_types offset)) e
+no_layout offset t (actions.CounterInterrogation qualifier) e = ap (λ (n : ℕ). layout_of n (monitor_types offset)) e
+no_layout offset t actions.Read e = ap (λ (n : ℕ). layout_of n (monitor_types offset)) e
+
+no_information : (types : List Layout) (t v cause : ℕ) (rest : List ℕ) → layout_of t types ≡ None
+    → asdu_meaning types (t ∷ v ∷ cause ∷ rest) ≡ None
+unfolding asdu_meaning
+no_information types t v cause [] e = refl
+no_information types t v cause (o ∷ []) e = refl
+no_information types t v cause (o ∷ low ∷ []) e = refl
+no_information types t v cause (o ∷ low ∷ high ∷ objects) e = rw e
+
+-- the third octet tells cause, P/N and T alone
+third_octet : (t v old new : ℕ) (rest : List ℕ) (c : Command) → command_of (t ∷ v ∷ old ∷ rest) ≡ Ok c
+    → command_of (t ∷ v ∷ new ∷ rest)
+    ≡ Ok (record c { cause = new % 64; negative = is_set 6 new; test = is_set 7 new })
+unfolding command_of
+third_octet t v old new rest c e = go (first_of (faults (t ∷ v ∷ old ∷ rest))) e
+  where
+    changed : Command → Command
+    changed d = record d { cause = new % 64; negative = is_set 6 new; test = is_set 7 new }
+
+    read : Result Command CommandFault → Command
+    read (Ok d) = d
+    read (Err fault) = c
+
+    go : (fault : Option CommandFault) → unless fault (command_in (t ∷ v ∷ old ∷ rest)) ≡ Ok c
+        → unless fault (command_in (t ∷ v ∷ new ∷ rest)) ≡ Ok (changed c)
+    go None e = ap (λ (d : Command). Ok (changed d)) (ap read e)
+    go (Some fault) e = absurd cc
+
+long_enough : (octets : List ℕ) (c : Command) → length octets < 6 → command_of octets ≡ Ok c → ⊥
+long_enough octets c short e = err_not (sym e ∙ cut_short octets (lt-ltb (length octets) 6 short))
+  where
+    err_not : {fault : CommandFault} → Ok c ≡ Err fault → ⊥
+    err_not e = cc
+
+pub command_back : (offset : ℤ) (cause : ℕ) (came back : List ℕ) (c : Command) → command_of came ≡ Ok c
+    → IsSentBack cause came back → meaning_of offset back ≡ Commands (record c { cause = cause; negative = true })
+command_back offset cause [] back c e sent = absurd (long_enough [] c (omega arith) e)
+command_back offset cause (t ∷ []) back c e sent = absurd (long_enough (t ∷ []) c (omega arith) e)
+command_back offset cause (t ∷ v ∷ []) back c e sent = absurd (long_enough (t ∷ v ∷ []) c (omega arith) e)
+command_back offset cause (t ∷ v ∷ old ∷ rest) back c e sent =
+    let octets : List ℕ = t ∷ v ∷ sent.octet ∷ rest in
+    let known = spelled_type (t ∷ v ∷ old ∷ rest) c e in
+    let same : record c { cause = sent.octet % 64; negative = is_set 6 sent.octet; test = is_set 7 sent.octet }
+    ≡ record c { cause = cause; negative = true } =
+    λ i. record c { cause = sent.has_cause i; negative = sent.negative i; test = (sent.test ∙ test_told old e) i } in
+    ap (meaning_of offset) sent.same
+    ∙ (ap (λ (m : Option Asdu). meant_by octets m (command_of octets))
+    (no_information (monitor_types offset) t v sent.octet rest (no_layout offset t known.0 known.1))
+    ∙ (ap (λ (r : Result Command CommandFault). meant_by octets None r) (third_octet t v old sent.octet rest c e)
+    ∙ ap (λ (d : Command). Commands d) same))
+  where
+    test_told : (old : ℕ) → command_of (t ∷ v ∷ old ∷ rest) ≡ Ok c → is_set 7 old ≡ c.test
+    test_told old e = sym (ap (λ (d : Command). d.test) (command_told (t ∷ v ∷ old ∷ rest) c e))
 
 -- ---- what goes out
 
@@ -184,7 +269,7 @@ outgoing_means offset common (outgoing.Observation cause originator x) small can
 pub answer_means : (offset : ℤ) (common : ℕ) (answer : AsduAnswer) → common < 65536 → CanSendAnswer offset answer
     → Means offset common answer (meaning_of offset (answer_octets offset common answer))
 answer_means offset common (Returned asdu cause) small can =
-    comes_back offset cause (octets_in asdu) (omega (arith, can.2)) can.0
+    comes_back offset cause (octets_in asdu) (omega (arith, can.2))
 answer_means offset common (Made (outgoing.Command c)) small can =
     outgoing_means offset common (outgoing.Command c) small can
 answer_means offset common (Made (outgoing.Observation cause originator x)) small can =

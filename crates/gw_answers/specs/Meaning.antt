@@ -1,5 +1,5 @@
 -- What an ASDU means, whether it carries process information or a command.
-use Rattle.std.specs.Prelude.{◌≡◌, ℕ, ℤ, ◌%◌, Bool, true, ◌==◌, ◌||◌, IsTrue, List, [], ◌∷◌, Option, Some, None, Result, Ok, Err, is_some, slice_index}
+use Rattle.std.specs.Prelude.{◌≡◌, ℕ, ℤ, ◌%◌, Bool, true, ◌==◌, ◌||◌, IsTrue, List, [], ◌∷◌, Option, Some, None, Result, Ok, Err, is_some, slice_index, slice_set}
 use Rattle.gw_model.specs.Bits.{is_set}
 use Rattle.gw_model.specs.Fit.{HasWidth, IsFit}
 use Rattle.gw_model.specs.declared.observation.Observation.{Observation}
@@ -14,7 +14,7 @@ use Rattle.gw_answers.specs.declared.outgoing.AsduAnswer.TheVariants.{Returned, 
 use Rattle.gw_answers.specs.declared.outgoing.OwnAsdu.{OwnAsdu}
 use Rattle.gw_answers.specs.declared.outgoing.OwnAsdu.TheVariants as outgoing
 use Rattle.gw_answers.specs.Outgoing.{at_station}
-use Rattle.gw_answers.specs.Octets.{IsReturnable}
+use Rattle.gw_answers.specs.Octets.{octets_in, IsReturnable}
 
 pub data Meant : Type 0 where
   -- process information
@@ -43,15 +43,29 @@ asdu_of offset common cause originator x = record {
   observations = x ∷ [];
 }
 
+-- what comes back is what came but for its third octet: the cause is this, P/N is set, and T is as it came
+pub record IsSentBack (cause : ℕ) (came back : List ℕ) : Type 0 where
+  pub octet : ℕ
+  pub same : back ≡ slice_set came 2 octet
+  pub has_cause : octet % 64 ≡ cause
+  pub negative : is_set 6 octet ≡ true
+  pub test : is_set 7 octet ≡ is_set 7 (slice_index came 2)
+
+-- such octets mean this
+pub record ComesBack (offset : ℤ) (cause : ℕ) (came : List ℕ) (meant : Meant) : Type 0 where
+  pub back : List ℕ
+  pub sent : IsSentBack cause came back
+  pub means : meant ≡ meaning_of offset back
+
 -- P/N is set, and the cause is this
 abbrev pub HasCause : ℕ → ℕ → Type 0
 HasCause cause octet = (octet % 64 ≡ cause) × (is_set 6 octet ≡ true)
 
--- what comes back with a cause, whatever it is
-abbrev pub ComesBack : ℕ → Meant → Type 0
-ComesBack cause (Tells asdu) = HasCause cause asdu.cause
-ComesBack cause (Commands c) = (c.cause ≡ cause) × (c.negative ≡ true)
-ComesBack cause (Unread octets) = HasCause cause (slice_index octets 2)
+-- so it is in what comes back, whatever it is
+abbrev pub IsRefusedWith : ℕ → Meant → Type 0
+IsRefusedWith cause (Tells asdu) = HasCause cause asdu.cause
+IsRefusedWith cause (Commands c) = (c.cause ≡ cause) × (c.negative ≡ true)
+IsRefusedWith cause (Unread octets) = HasCause cause (slice_index octets 2)
 
 -- what goes out means what it is
 abbrev pub meant_outgoing : ℤ → ℕ → OwnAsdu → Meant
@@ -60,7 +74,7 @@ meant_outgoing offset common (outgoing.Observation cause originator x) =
     Tells (asdu_of offset common cause originator x)
 
 abbrev pub Means : ℤ → ℕ → AsduAnswer → Meant → Type 0
-Means offset common (Returned asdu cause) meant = ComesBack cause meant
+Means offset common (Returned asdu cause) meant = ComesBack offset cause (octets_in asdu) meant
 Means offset common (Made x) meant = meant ≡ meant_outgoing offset common x
 
 -- ---- what can be sent

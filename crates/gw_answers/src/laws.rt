@@ -1,12 +1,38 @@
 //! What holds of every answer.
-ghost use Rattle.std.specs.Prelude.{◌<◌, ℕ, ℤ};
+ghost use Rattle.std.specs.Prelude.{◌≡◌, ◌<◌, ◌↔◌, ℕ, ℤ, true, Bool, List, Some, Ok};
+ghost use Rattle.gw_model.specs.declared.observation.Observation.{Observation as Observed};
+ghost use Rattle.gw_map.specs.Settings.{Setup, HasSingleAddresses};
+ghost use Rattle.iec_apci.specs.declared.apdu.Asdu.{Asdu as AsduOctets};
+ghost use Rattle.iec_command.specs.declared.command.Command.{Command as AnyCommand};
+ghost use Rattle.iec_command.specs.Commands.{command_of};
+ghost use Rattle.gw_judge.specs.Judging.{judged};
 ghost use Rattle.gw_answers.specs.declared.outgoing.AsduAnswer.{AsduAnswer as AnyAnswer};
-ghost use Rattle.gw_answers.specs.Meaning.{CanSendAnswer, Means, meaning_of};
-ghost use Rattle.gw_answers.specs.Octets.{answer_octets};
+ghost use Rattle.gw_answers.specs.Answers.{answered as answered_by};
+ghost use Rattle.gw_answers.specs.AtOnce.{Gets};
+ghost use Rattle.gw_answers.specs.Meaning.{CanSendAnswer, Commands, IsSentBack, Means, meaning_of};
+ghost use Rattle.gw_answers.specs.Octets.{answer_octets, octets_in};
 
-/// What is written of an answer means what it was made of: the command or the observation that goes out, or an ASDU
-/// that comes back with its cause and P/N set.
+/// What is written of an answer means what it was made of: the command or the observation that goes out, or the octets
+/// of an ASDU that comes back as it came, but for its cause, and P/N, which is set.
 pub fn answers_mean_what_they_were()
     ensures { (offset : ℤ) (common : ℕ) (answer : AnyAnswer) → common < 65536 → CanSendAnswer offset answer
         → Means offset common answer (meaning_of offset (answer_octets offset common answer)) }
+{}
+
+/// A command that comes back means the command that came, with that cause and P/N: type, qualifier, T, originator,
+/// addresses and value are as they came.
+pub fn commands_come_back()
+    ensures { (offset : ℤ) (cause : ℕ) (came back : List ℕ) (c : AnyCommand) → command_of came ≡ Ok c
+        → IsSentBack cause came back
+        → meaning_of offset back ≡ Commands (record c { cause = cause; negative = true }) }
+{}
+
+/// What an ASDU gets for an answer at once, each answer apart: it comes back exactly where a cause from 44 to 47 is due;
+/// it is confirmed negatively exactly where it is an interrogation that begins no answer; an observation is told exactly
+/// where the picture shows it of the row that is read. All else gets nothing at once.
+pub fn answers_are_due()
+    ensures { (setup : Setup) (picture : List Observed) (pending : Bool) (asdu : AsduOctets) (answer : AnyAnswer)
+        → HasSingleAddresses setup.rows setup.controls
+        → (answered_by setup picture pending asdu (judged setup (octets_in asdu)) ≡ Some answer)
+        ↔ Gets setup picture pending asdu answer }
 {}

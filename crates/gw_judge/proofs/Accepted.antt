@@ -11,7 +11,7 @@ use Rattle.iec_command.specs.declared.fault.CommandFault.TheVariants.{UnknownTyp
 use Rattle.iec_command.specs.Commands.{command_of}
 use Rattle.gw_judge.specs.declared.judging.Judged.TheVariants.{Accepted}
 use Rattle.gw_judge.specs.Judging.{is_known_cause, has_known_cause, is_for_all, is_addressed, has_object, refusal_of, judged_by, judged_reading, judged}
-use Rattle.gw_judge.specs.Acceptable.{IsCauseOf, IsFor, IsAcceptable}
+use Rattle.gw_judge.specs.Acceptable.{IsCauseOf, HasKnownCause, IsFor, IsAcceptable}
 use Rattle.gw_judge.proofs.Objects.{object_there, object_found}
 
 -- ---- one of two numbers
@@ -66,16 +66,37 @@ refused_not : (a b c : Bool) → a ≡ true → b ≡ true → c ≡ true → fi
 refused_not true true true _ _ _ = refl
 refused_not _ _ _ ea eb ec = absurd cc
 
-pub acceptable : (setup : Setup) (c : Command) → refusal_of setup c ≡ None → IsAcceptable setup c
-acceptable setup c e =
-    let r = not_refused (has_known_cause c) (is_addressed setup c) (has_object setup c) e in
-    let cause = and_parts (not c.negative && not c.test) (is_known_cause c.action c.cause) r.0 in
+-- a known cause, and a station that is addressed
+pub cause_is : (c : Command) → has_known_cause c ≡ true → HasKnownCause c
+cause_is c e =
+    let cause = and_parts (not c.negative && not c.test) (is_known_cause c.action c.cause) e in
     let bits = and_parts (not c.negative) (not c.test) cause.0 in
     record {
       positive = not-true c.negative bits.0;
       real = not-true c.test bits.1;
       cause = cause_known c.action c.cause cause.1;
-      station = address_right c.action setup.station.common_address c.common_address r.1;
+    }
+
+pub is_cause : (c : Command) → HasKnownCause c → has_known_cause c ≡ true
+is_cause c h =
+    and_from (not c.negative && not c.test) (is_known_cause c.action c.cause)
+    (and_from (not c.negative) (not c.test) (not_from_false c.negative h.positive) (not_from_false c.test h.real))
+    (known_cause c.action c.cause h.cause)
+
+pub station_is : (setup : Setup) (c : Command) → is_addressed setup c ≡ true
+    → IsFor c.action setup.station.common_address c.common_address
+station_is setup c e = address_right c.action setup.station.common_address c.common_address e
+
+pub is_station : (setup : Setup) (c : Command) → IsFor c.action setup.station.common_address c.common_address
+    → is_addressed setup c ≡ true
+is_station setup c h = right_address c.action setup.station.common_address c.common_address h
+
+pub acceptable : (setup : Setup) (c : Command) → refusal_of setup c ≡ None → IsAcceptable setup c
+acceptable setup c e =
+    let r = not_refused (has_known_cause c) (is_addressed setup c) (has_object setup c) e in
+    record {
+      cause = cause_is c r.0;
+      station = station_is setup c r.1;
       object = object_there setup c.action c.address r.2;
     }
 
@@ -83,11 +104,7 @@ pub unrefused : (setup : Setup) (c : Command) → HasSingleAddresses setup.rows 
     → refusal_of setup c ≡ None
 unrefused setup c single h =
     refused_not (has_known_cause c) (is_addressed setup c) (has_object setup c)
-    (and_from (not c.negative && not c.test) (is_known_cause c.action c.cause)
-    (and_from (not c.negative) (not c.test) (not_from_false c.negative h.positive) (not_from_false c.test h.real))
-    (known_cause c.action c.cause h.cause))
-    (right_address c.action setup.station.common_address c.common_address h.station)
-    (object_found setup c.action c.address single h.object)
+    (is_cause c h.cause) (is_station setup c h.station) (object_found setup c.action c.address single h.object)
 
 -- ---- the judgement
 

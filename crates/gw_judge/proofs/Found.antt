@@ -1,5 +1,5 @@
 -- Look-ups by an address: what is found has it, and where none stands twice, whatever has it is found.
-use Rattle.std.proofs.Common.{◌≡◌, ℕ, zero, suc, ◌+◌, ◌<◌, ◌==◌, Bool, true, false, cond, ◌⊎◌, inl, inr, List, [], ◌∷◌, ◌++◌, map, length, Some, refl, sym, ap, subst, ◌∙◌, arith}
+use Rattle.std.proofs.Common.{◌≡◌, ℕ, zero, suc, ◌+◌, ◌<◌, ◌==◌, Bool, true, false, cond, ◌⊎◌, inl, inr, List, [], ◌∷◌, ◌++◌, map, length, slice_get, add-zero, Some, refl, sym, ap, subst, ◌∙◌, arith}
 use Rattle.std.specs.Prelude.{Any, slice_index_or}
 use Rattle.std.specs.List.{list_any}
 use Rattle.std.proofs.lemmas.Bool.{cases_Bool, true≢false, eqb-true, eq-eqb}
@@ -94,4 +94,50 @@ module _ {A : Type 0} (f : A → ℕ) (P : A → Type 0) where
               let r = first-any a (n + 1) (m + 1) (old ++ f x ∷ []) xs more behind later in
               (r.0, rw miss r.1, r.2)
         ]
+      ]
+
+  -- where it stands
+  pub first-at : (a m : ℕ) (xs : List A) (found : ℕ × A) → first_from (λ x. a == f x) m xs ≡ Some found
+      → (k : ℕ) × (found.0 ≡ m + k) × (slice_get xs k ≡ Some found.1) × (f found.1 ≡ a)
+  first-at a m [] found e = absurd cc
+  first-at a m (x ∷ xs) found e = elim (cases_Bool (a == f x)) [
+    | inl hit ↦
+        let it : (m, x) ≡ found = same_Some _ _ (rw hit at e) in
+        let here : m ≡ found.0 = ap (λ (q : ℕ × A). q.0) it in
+        let is : x ≡ found.1 = ap (λ (q : ℕ × A). q.1) it in
+        (0, omega arith, ap (λ (y : A). Some y) is, ap f (sym is) ∙ sym (eqb-true a (f x) hit))
+    | inr miss ↦
+        let r = first-at a (m + 1) xs found (rw miss at e) in
+        (suc r.0, omega (arith, r.1), r.2, r.3)
+  ]
+
+  -- what stands at a place with the number is found there, where none stands twice
+  any_of_place : (a k : ℕ) (xs : List A) (y : A) → slice_get xs k ≡ Some y → f y ≡ a → P y
+      → Any (λ x. (f x ≡ a) × P x) xs
+  any_of_place a k [] y e is p = absurd cc
+  any_of_place a zero (x ∷ xs) y e is p =
+      let same : x ≡ y = same_Some _ _ e in
+      any_here (λ x. (f x ≡ a) × P x) x xs (ap f same ∙ is, subst P (sym same) p)
+  any_of_place a (suc k) (x ∷ xs) y e is p =
+      any_there (λ x. (f x ≡ a) × P x) x xs (any_of_place a k xs y e is p)
+
+  pub place-first : (a n m k : ℕ) (old : List ℕ) (xs : List A) (more : List ℕ) (y : A)
+      → repeated same_number n old (map f xs ++ more) ≡ [] → slice_get xs k ≡ Some y → f y ≡ a → P y
+      → first_from (λ x. a == f x) m xs ≡ Some (m + k, y)
+  unfolding repeated
+  place-first a n m k old [] more y single e is p = absurd cc
+  place-first a n m zero old (x ∷ xs) more y single e is p =
+      let same : x ≡ y = same_Some _ _ e in
+      rw (eq-eqb a (f x) (sym (ap f same ∙ is)), same, add-zero)
+  place-first a n m (suc k) old (x ∷ xs) more y single e is p =
+      let behind_it = repeated same_number (n + 1) (old ++ f x ∷ []) (map f xs ++ more) in
+      let (fresh, behind) = fresh_head (list_any (same_number (f x)) old) n behind_it single in
+      elim (cases_Bool (a == f x)) [
+        | inl hit ↦
+            let there = any_last a (f x) old (eqb-true a (f x) hit) in
+            absurd (none_again a (n + 1) (old ++ f x ∷ []) xs more there behind (any_of_place a k xs y e is p))
+        | inr miss ↦
+            let shift : (m + 1) + k ≡ m + suc k = omega arith in
+            rw miss (place-first a (n + 1) (m + 1) k (old ++ f x ∷ []) xs more y behind e is p
+            ∙ ap (λ (j : ℕ). Some (j, y)) shift)
       ]

@@ -2,3 +2,4 @@ pub mod Found
 pub mod Objects
 pub mod Accepted
 pub mod Refused
+pub mod Refusals

@@ -18,7 +18,7 @@ first_true : (b : Bool) (others : List (Option CommandFault)) → b ≡ true →
 first_true true others e = refl
 first_true false others e = absurd cc
 
-cut_short : (octets : List ℕ) → nat_lt (length octets) 6 ≡ true → command_of octets ≡ Err Short
+pub cut_short : (octets : List ℕ) → nat_lt (length octets) 6 ≡ true → command_of octets ≡ Err Short
 unfolding command_of
 cut_short octets cut =
     ap (λ (fault : Option CommandFault). unless fault (command_in octets)) (first_true (nat_lt (length octets) 6) _ cut)

@@ -35,9 +35,13 @@ HasObject setup (Single command) address = HasControl setup address (λ o. (p : 
 HasObject setup (Double command) address = HasControl setup address (λ o. (p : Pulses) × (o ≡ operated.Double p))
 HasObject setup (Setpoint command) address = HasControl setup address (λ o. (s : Scale) × (o ≡ operated.Setpoint s))
 
-pub record IsAcceptable (setup : Setup) (c : Command) : Type 0 where
+-- neither P/N nor T is set, and the cause of transmission is one of its type
+pub record HasKnownCause (c : Command) : Type 0 where
   pub positive : c.negative ≡ false
   pub real : c.test ≡ false
   pub cause : IsCauseOf c.action c.cause
+
+pub record IsAcceptable (setup : Setup) (c : Command) : Type 0 where
+  pub cause : HasKnownCause c
   pub station : IsFor c.action setup.station.common_address c.common_address
   pub object : HasObject setup c.action c.address

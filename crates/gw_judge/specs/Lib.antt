@@ -1,3 +1,4 @@
 pub mod Judging
 pub mod Acceptable
+pub mod Refusals
 pub mod Example
