@@ -1,11 +1,13 @@
 -- What ties a client's news to its session.
 use Rattle.std.proofs.Common.{◌≡◌, ℕ, ℤ, ◌-◌, ◌<◌, ◌≤◌, Bool, true, false, List, [], ◌∷◌, ◌++◌, length, drop, Option, Some, None, refl, sym, ap, subst, ◌∙◌, arith, inl, inr}
-use Rattle.std.specs.Prelude.{◌⊎◌, is_some, IfSome}
+use Rattle.std.specs.Prelude.{◌⊎◌, ◌==◌, ◌||◌, is_some, IfSome, IsTrue}
 use Rattle.std.specs.List.{AllByRecursion}
 use Rattle.std.proofs.lemmas.Bool.{cases_Bool, eq-eqb, true≢false}
 use Rattle.std.proofs.lemmas.List.{append-nil, length-drop}
 use Rattle.circular_buffer.specs.Buffer.{keep_last}
 use Rattle.gw_model.specs.declared.observation.Observation.{Observation}
+use Rattle.gw_model.specs.Fit.{IsFit}
+use Rattle.gw_entries.specs.Setup.{StationSetup}
 use Rattle.gw_map.specs.Settings.{Setup}
 use Rattle.iec_apci.specs.declared.apdu.Apdu.{Apdu}
 use Rattle.iec_apci.specs.declared.apdu.Apdu.TheVariants.{I, S, U}
@@ -23,9 +25,9 @@ use Rattle.gw_answers.specs.declared.outgoing.OwnAsdu.{OwnAsdu}
 use Rattle.gw_answers.specs.declared.outgoing.OwnAsdu.TheVariants as outgoing
 use Rattle.gw_answers.specs.Interrogations.{is_asked_by, cause_for, rows_of}
 use Rattle.gw_answers.specs.Outgoing.{command_with, news as told_news}
-use Rattle.gw_answers.specs.Octets.{answer_octets, outgoing_octets}
+use Rattle.gw_answers.specs.Octets.{answer_octets, octets_in, outgoing_octets}
 use Rattle.gw_answers.specs.Meaning.{Meant, Tells, Commands, Unread, meaning_of, asdu_of, Means, CanSendAnswer, CanSendOutgoing}
-use Rattle.gw_answers.proofs.Meant.{answer_means, outgoing_means}
+use Rattle.gw_answers.proofs.Meant.{answer_means, outgoing_means, refused_with}
 use Rattle.gw_station.specs.declared.event.Event.{Event}
 use Rattle.gw_station.specs.declared.event.Event.TheVariants as events
 use Rattle.gw_station.specs.declared.event.Said.{Said}
@@ -80,29 +82,35 @@ NewsTied setup (Some hs) k = InSession setup hs k
 
 -- ---- what an I format says
 
-answer_of_station : (offset : ℤ) (common : ℕ) (answer : AsduAnswer) (meant : Meant) → CanSendAnswer offset answer
-    → Means offset common answer meant → IsOfStation common meant
-answer_of_station offset common (Returned asdu cause) (Tells told) can means = inr (cause, can.1, can.2, means)
-answer_of_station offset common (Returned asdu cause) (Commands c) can means = inr (cause, can.1, can.2, means)
-answer_of_station offset common (Returned asdu cause) (Unread octets) can means = (cause, can.1, can.2, means)
-answer_of_station offset common (Made (outgoing.Command c)) meant can means =
-    subst (IsOfStation common) (sym means) (inl (can.0, refl))
-answer_of_station offset common (Made (outgoing.Observation cause originator x)) meant can means =
-    subst (IsOfStation common) (sym means)
-    (subst (λ (n : ℕ). IsOfStation common (Tells (asdu_of offset common n originator x))) (sym can.0)
-    (inl (refl, refl)))
+-- an observation of the station
+informs : (station : StationSetup) (cause originator : ℕ) (x : Observation)
+    → IsTrue (cause == 3 || cause == 5 || cause == 20 || cause == 37) → IsFit station.offset_minutes x
+    → IsOfStation station (Tells (asdu_of station.offset_minutes station.common_address cause originator x))
+informs station cause originator x is fit = inl (record { cause = is; common = refl; fit = (fit, tt) })
 
-part_of_station : (offset : ℤ) (common : ℕ) (part : OwnAsdu) (meant : Meant) → CanSendOutgoing offset part
-    → IsRequested part
-    → Means offset common (Made part) meant → IsOfStation common meant
-part_of_station offset common (outgoing.Command c) meant can is means =
-    subst (IsOfStation common) (sym means) (inl (can.0, refl))
-part_of_station offset common (outgoing.Observation cause originator x) meant can (inl is) means =
-    subst (IsOfStation common) (sym means)
-    (subst (λ (n : ℕ). IsOfStation common (Tells (asdu_of offset common n originator x))) (sym is) (inl (refl, refl)))
-part_of_station offset common (outgoing.Observation cause originator x) meant can (inr is) means =
-    subst (IsOfStation common) (sym means)
-    (subst (λ (n : ℕ). IsOfStation common (Tells (asdu_of offset common n originator x))) (sym is) (inl (refl, refl)))
+answer_of_station : (station : StationSetup) (answer : AsduAnswer) (meant : Meant)
+    → CanSendAnswer station.offset_minutes answer → Means station.offset_minutes station.common_address answer meant
+    → IsOfStation station meant
+answer_of_station station (Returned asdu cause) (Tells told) can means =
+    inr (cause, can.1, can.2, refused_with station.offset_minutes cause (octets_in asdu) (Tells told) can.0 means)
+answer_of_station station (Returned asdu cause) (Commands c) can means =
+    inr (cause, can.1, can.2, refused_with station.offset_minutes cause (octets_in asdu) (Commands c) can.0 means)
+answer_of_station station (Returned asdu cause) (Unread octets) can means =
+    (cause, can.1, can.2, refused_with station.offset_minutes cause (octets_in asdu) (Unread octets) can.0 means)
+answer_of_station station (Made (outgoing.Command c)) meant can means =
+    subst (IsOfStation station) (sym means) (inl (can.0, refl))
+answer_of_station station (Made (outgoing.Observation cause originator x)) meant can means =
+    subst (IsOfStation station) (sym means) (informs station cause originator x (rw can.0 refl) can.1.fit)
+
+part_of_station : (station : StationSetup) (part : OwnAsdu) (meant : Meant)
+    → CanSendOutgoing station.offset_minutes part → IsRequested part
+    → Means station.offset_minutes station.common_address (Made part) meant → IsOfStation station meant
+part_of_station station (outgoing.Command c) meant can is means =
+    subst (IsOfStation station) (sym means) (inl (can.0, refl))
+part_of_station station (outgoing.Observation cause originator x) meant can (inl is) means =
+    subst (IsOfStation station) (sym means) (informs station cause originator x (rw is refl) can.fit)
+part_of_station station (outgoing.Observation cause originator x) meant can (inr is) means =
+    subst (IsOfStation station) (sym means) (informs station cause originator x (rw is refl) can.fit)
 
 own_news : (offset : ℤ) (common : ℕ) (x : Observation)
     → spontaneous_of common (Tells (asdu_of offset common 3 0 x)) ≡ x ∷ []
@@ -430,7 +438,7 @@ says_of_station setup (sendings.Answer answer) ts k small is can tied =
     let offset : ℤ = setup.station.offset_minutes in
     let common : ℕ = setup.station.common_address in (
       sym (stands setup (session ts) k tied) ∙ is.in_session,
-      answer_of_station offset common answer
+      answer_of_station setup.station answer
           (meaning_of offset (answer_octets offset common answer)) can (answer_means offset common answer small can),
     )
 says_of_station setup (sendings.Part part) ts k small is can tied =
@@ -438,7 +446,7 @@ says_of_station setup (sendings.Part part) ts k small is can tied =
     let common : ℕ = setup.station.common_address in
     let requested : IsRequested part = requested_in (session ts) tied in (
       sym (stands setup (session ts) k tied) ∙ is.in_session,
-      part_of_station offset common part (meaning_of offset (outgoing_octets offset common part)) can requested
+      part_of_station setup.station part (meaning_of offset (outgoing_octets offset common part)) can requested
           (outgoing_means offset common part small can),
     )
   where
@@ -448,8 +456,10 @@ says_of_station setup (sendings.Part part) ts k small is can tied =
 says_of_station setup (sendings.News x) ts k small is can tied =
     let offset : ℤ = setup.station.offset_minutes in
     let common : ℕ = setup.station.common_address in
-    let means = outgoing_means offset common (told_news x) small can in
-    (sym (stands setup (session ts) k tied) ∙ is.in_session, subst (IsOfStation common) (sym means) (inl (refl, refl)))
+    let means = outgoing_means offset common (told_news x) small can in (
+      sym (stands setup (session ts) k tied) ∙ is.in_session,
+      subst (IsOfStation setup.station) (sym means) (informs setup.station 3 0 x refl can.fit),
+    )
 
 speaks : (setup : Setup) → 0 < setup.station.queue → setup.station.common_address < 65536
     → (ts : List Turn) (k : Client) → Lives setup ts k → Speaks setup.station ts

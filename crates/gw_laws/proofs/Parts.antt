@@ -16,7 +16,9 @@ use Rattle.gw_answers.specs.declared.outgoing.OwnAsdu.{OwnAsdu}
 use Rattle.gw_answers.specs.declared.outgoing.OwnAsdu.TheVariants as outgoing
 use Rattle.gw_answers.specs.Interrogations.{is_asked_by, is_general, is_accepted_act, rows_of, answer_to}
 use Rattle.gw_answers.specs.Outgoing.{command_with, at_station, news}
+use Rattle.gw_answers.specs.Octets.{octets_in}
 use Rattle.gw_answers.specs.Meaning.{Meant, Tells, Commands, Unread, asdu_of, Means, CanSendAnswer}
+use Rattle.gw_answers.proofs.Meant.{refused_with}
 use Rattle.gw_station.specs.Answers.{is_pending as is_asked}
 use Rattle.gw_station.specs.Client.{Client}
 use Rattle.gw_station.specs.Pump.{line}
@@ -54,7 +56,8 @@ not_spontaneous cause octet e from = ne_eqb octet 3 (λ (is : octet ≡ 3). omeg
 pub answer_no_news : (offset : ℤ) (common : ℕ) (answer : AsduAnswer) (meant : Meant) → CanSendAnswer offset answer
     → Means offset common answer meant → spontaneous_of common meant ≡ []
 answer_no_news offset common (Returned asdu cause) (Tells told) can means =
-    rw (not_spontaneous cause told.cause means.0 can.1) refl
+    let refused = refused_with offset cause (octets_in asdu) (Tells told) can.0 means in
+    rw (not_spontaneous cause told.cause refused.0 can.1) refl
 answer_no_news offset common (Returned asdu cause) (Commands c) can means = refl
 answer_no_news offset common (Returned asdu cause) (Unread octets) can means = refl
 answer_no_news offset common (Made (outgoing.Command c)) meant can means = ap (spontaneous_of common) means
@@ -97,8 +100,10 @@ neither cause octet e from =
 pub answer_apart : (offset : ℤ) (common : ℕ) (answer : AsduAnswer) (meant : Meant) → CanSendAnswer offset answer
     → IsApart answer → Means offset common answer meant → parts_in meant ≡ []
 answer_apart offset common (Returned asdu cause) (Tells told) can is means =
-    rw (neither cause told.cause means.0 can.1) refl
-answer_apart offset common (Returned asdu cause) (Commands c) can is means = negative_apart c means.1
+    let refused = refused_with offset cause (octets_in asdu) (Tells told) can.0 means in
+    rw (neither cause told.cause refused.0 can.1) refl
+answer_apart offset common (Returned asdu cause) (Commands c) can is means =
+    negative_apart c (refused_with offset cause (octets_in asdu) (Commands c) can.0 means).1
 answer_apart offset common (Returned asdu cause) (Unread octets) can is means = refl
 answer_apart offset common (Made (outgoing.Command c)) meant can is means =
     ap parts_in means ∙ no_parts (at_station common c) is

@@ -11,7 +11,9 @@ use Rattle.gw_answers.specs.declared.outgoing.OwnAsdu.{OwnAsdu}
 use Rattle.gw_answers.specs.declared.outgoing.OwnAsdu.TheVariants as outgoing
 use Rattle.gw_answers.specs.Outgoing.{command_with}
 use Rattle.gw_answers.specs.Interrogations.{is_asked_by, cause_for, answer_to}
+use Rattle.gw_answers.specs.Octets.{octets_in}
 use Rattle.gw_answers.specs.Meaning.{Meant, Tells, Commands, Unread, asdu_of}
+use Rattle.gw_answers.proofs.Meant.{refused_with}
 use Rattle.gw_station.specs.declared.sending.Sending.{Sending}
 use Rattle.gw_station.specs.declared.sending.Sending.TheVariants as sendings
 use Rattle.gw_station.specs.Sound.{CanSend, IsReturnableSending}
@@ -148,7 +150,8 @@ pub told_as : (offset : ℤ) (common : ℕ) (s : Sending) (meant : Meant) → Is
     → MeansSending offset common s meant
     → observations_in meant ≡ observations_of s
 told_as offset common (sendings.Answer (Returned asdu cause)) (Tells a) plain can means =
-    let others = other_causes cause a.cause means.0 can.1 can.2 in
+    let refused = refused_with offset cause (octets_in asdu) (Tells a) can.0 means in
+    let others = other_causes cause a.cause refused.0 can.1 can.2 in
     rw (others.0, others.1, others.2, others.3) refl
 told_as offset common (sendings.Answer (Returned asdu cause)) (Commands c) plain can means = refl
 told_as offset common (sendings.Answer (Returned asdu cause)) (Unread octets) plain can means = refl
@@ -171,10 +174,11 @@ pub apart : (offset : ℤ) (common : ℕ) (s : Sending) (meant : Meant) → IsPl
     → MeansSending offset common s meant
     → parts_in meant ≡ []
 apart offset common (sendings.Answer (Returned asdu cause)) (Tells a) plain can other means =
-    let others = other_causes cause a.cause means.0 can.1 can.2 in
+    let refused = refused_with offset cause (octets_in asdu) (Tells a) can.0 means in
+    let others = other_causes cause a.cause refused.0 can.1 can.2 in
     rw (others.2, others.3) refl
 apart offset common (sendings.Answer (Returned asdu cause)) (Commands c) plain can other means =
-    negative_apart c means.1
+    negative_apart c (refused_with offset cause (octets_in asdu) (Commands c) can.0 means).1
   where
     negative_apart : (c : Command) → c.negative ≡ true → parts_in (Commands c) ≡ []
     negative_apart c is = elim (cases_Bool (is_interrogation c.action)) [

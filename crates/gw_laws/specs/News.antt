@@ -2,12 +2,14 @@
 -- were put out with cause 3 (spontaneous), followed by those queued, are the news since its STARTDT, in order, less
 -- those dropped. An I format is put out in a session alone, and carries what a station may say.
 use Rattle.std.specs.Prelude.{◌≡◌, ◌⊎◌, ℕ, ◌≤◌, ◌==◌, true, ◌||◌, IsTrue, is_some, List, ◌∷◌, ◌++◌, length, IfSome}
+use Rattle.std.specs.List.{AllByRecursion}
+use Rattle.gw_model.specs.Fit.{IsFit}
 use Rattle.gw_entries.specs.Setup.{StationSetup}
 use Rattle.gw_map.specs.Settings.{Setup}
 use Rattle.gw_picture.specs.Log.{picture_of}
 use Rattle.iec_asdu.specs.Asdu.{Asdu}
 use Rattle.iec_command.specs.declared.command.Command.{Command}
-use Rattle.gw_answers.specs.Meaning.{Meant, Tells, Commands, Unread, ComesBack}
+use Rattle.gw_answers.specs.Meaning.{Meant, Tells, Commands, Unread, IsRefusedWith}
 use Rattle.gw_station.specs.Client.{Client, is_started}
 use Rattle.gw_steps.specs.Runs.{Entry, state_after}
 use Rattle.gw_steps.specs.Said.{IFormat}
@@ -18,10 +20,12 @@ use Rattle.gw_laws.specs.Fates.{items_of, is_queued, is_dropped, is_kept, fates,
 
 -- ---- what a station may say
 
--- process information of the station: spontaneous (3), requested (5), or interrogated (20, 37)
-abbrev pub IsInformation : ℕ → Asdu → Type 0
-IsInformation common asdu =
-    IsTrue (asdu.cause == 3 || asdu.cause == 5 || asdu.cause == 20 || asdu.cause == 37) × (asdu.common_address ≡ common)
+-- process information of the station: spontaneous (3), requested (5), or interrogated (20, 37), of observations that are
+-- fit
+pub record IsInformation (station : StationSetup) (asdu : Asdu) : Type 0 where
+  pub cause : IsTrue (asdu.cause == 3 || asdu.cause == 5 || asdu.cause == 20 || asdu.cause == 37)
+  pub common : asdu.common_address ≡ station.common_address
+  pub fit : AllByRecursion (IsFit station.offset_minutes) asdu.observations
 
 -- the station's confirmation of an activation (7) or a deactivation (9), or a termination (10)
 abbrev pub IsConfirmation : ℕ → Command → Type 0
@@ -29,13 +33,13 @@ IsConfirmation common c = IsTrue (c.cause == 7 || c.cause == 9 || c.cause == 10)
 
 -- what is unknown comes back: P/N is set, and the cause is one from 44 to 47
 abbrev pub IsUnknown : Meant → Type 0
-IsUnknown meant = (cause : ℕ) × (44 ≤ cause) × (cause ≤ 47) × ComesBack cause meant
+IsUnknown meant = (cause : ℕ) × (44 ≤ cause) × (cause ≤ 47) × IsRefusedWith cause meant
 
 -- an I format carries one of these
-abbrev pub IsOfStation : ℕ → Meant → Type 0
-IsOfStation common (Tells asdu) = IsInformation common asdu ⊎ IsUnknown (Tells asdu)
-IsOfStation common (Commands c) = IsConfirmation common c ⊎ IsUnknown (Commands c)
-IsOfStation common (Unread octets) = IsUnknown (Unread octets)
+abbrev pub IsOfStation : StationSetup → Meant → Type 0
+IsOfStation station (Tells asdu) = IsInformation station asdu ⊎ IsUnknown (Tells asdu)
+IsOfStation station (Commands c) = IsConfirmation station.common_address c ⊎ IsUnknown (Commands c)
+IsOfStation station (Unread octets) = IsUnknown (Unread octets)
 
 -- ---- the law
 
@@ -48,7 +52,7 @@ pub record TellsNews (station : StationSetup) (hs : List Turn) (k : Client) : Ty
 -- an I format is put out in a session alone, and carries what the station says
 abbrev pub Speaks : StationSetup → List Turn → Type 0
 Speaks station (PutsOut (IFormat ns nr meant) ∷ ts) =
-    (is_some (session ts) ≡ true) × IsOfStation station.common_address meant
+    (is_some (session ts) ≡ true) × IsOfStation station meant
 Speaks station _ = Unit {0}
 
 pub record News (setup : Setup) (past : List Entry) : Type 0 where

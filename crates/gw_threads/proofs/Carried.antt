@@ -17,9 +17,9 @@ use Rattle.gw_answers.specs.declared.outgoing.AsduAnswer.TheVariants.{Returned, 
 use Rattle.gw_answers.specs.declared.outgoing.OwnAsdu.{OwnAsdu}
 use Rattle.gw_answers.specs.declared.outgoing.OwnAsdu.TheVariants as outgoing
 use Rattle.gw_answers.specs.Outgoing.{at_station, news}
-use Rattle.gw_answers.specs.Octets.{answer_octets, outgoing_octets}
+use Rattle.gw_answers.specs.Octets.{answer_octets, octets_in, outgoing_octets}
 use Rattle.gw_answers.specs.Meaning.{Meant, Tells, Commands, Unread, meaning_of, meant_outgoing, asdu_of, Means, CanSendAnswer, CanSendOutgoing}
-use Rattle.gw_answers.proofs.Meant.{answer_means, outgoing_means}
+use Rattle.gw_answers.proofs.Meant.{answer_means, outgoing_means, refused_with}
 use Rattle.gw_station.specs.declared.sending.Sending.{Sending}
 use Rattle.gw_station.specs.declared.sending.Sending.TheVariants as sendings
 use Rattle.gw_station.specs.Client.{Client, is_up}
@@ -97,8 +97,9 @@ outgoing_tells offset common (outgoing.Observation cause originator x) meant can
 
 answer_tells : (offset : ℤ) (common : ℕ) (answer : AsduAnswer) (meant : Meant) → CanSendAnswer offset answer
     → Means offset common answer meant → TellsFit offset meant
-answer_tells offset common (Returned asdu cause) (Tells told) can means = λ reports.
-    absurd (true≢false (sym reports ∙ unknown_apart (told.cause % 64) (omega (arith, means.0, can.1))))
+answer_tells offset common (Returned asdu cause) (Tells told) can means =
+    let refused = refused_with offset cause (octets_in asdu) (Tells told) can.0 means in
+    λ reports. absurd (true≢false (sym reports ∙ unknown_apart (told.cause % 64) (omega (arith, refused.0, can.1))))
 answer_tells offset common (Returned asdu cause) (Commands command) can means = tt
 answer_tells offset common (Returned asdu cause) (Unread octets) can means = tt
 answer_tells offset common (Made (outgoing.Command c)) meant can means =
