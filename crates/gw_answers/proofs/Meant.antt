@@ -1,6 +1,9 @@
 -- What is written of an answer means what it was made of.
-use Rattle.std.proofs.Common.{◌≡◌, ℕ, ℤ, ◌+◌, ◌/◌, ◌%◌, ◌^◌, ◌<◌, ◌≤◌, Bool, true, false, List, [], ◌∷◌, length, Option, Some, None, Result, Ok, Err, refl, sym, ap, subst, ◌∙◌, arith}
-use Rattle.std.specs.Prelude.{◌*◌, option_map, slice_index, slice_set}
+use Rattle.std.proofs.Common.{◌≡◌, ℕ, zero, suc, ℤ, ◌+◌, ◌/◌, ◌%◌, ◌^◌, ◌<◌, ◌≤◌, Bool, true, false, List, [], ◌∷◌, length, take, Option, Some, None, Result, Ok, Err, refl, sym, ap, subst, ◌∙◌, arith}
+use Rattle.std.specs.Prelude.{◌*◌, All, option_map, slice_index, slice_set}
+use Rattle.std.specs.List.{AllByRecursion}
+use Rattle.std.proofs.lemmas.List.{length-set}
+use Rattle.std.proofs.lemmas.List.Elements.{All-nil, All-cons}
 use Rattle.std.proofs.lemmas.Bool.{eq-eqb, lt-ltb}
 use Rattle.gw_model.specs.Bits.{is_set}
 use Rattle.gw_model.specs.Optional.{◌>>=◌}
@@ -9,8 +12,10 @@ use Rattle.gw_model.specs.First.{first_of}
 use Rattle.gw_model.specs.declared.observation.Observation.{Observation}
 use Rattle.iec_asdu.specs.Types.{Layout}
 use Rattle.iec_asdu.specs.Asdu.{Asdu, asdu_meaning, monitor_types, layout_of, objects_of}
-use Rattle.iec_asdu.specs.Spelling.{spelling}
-use Rattle.iec_asdu.proofs.Meant.{meant}
+use Rattle.iec_asdu.specs.Spelling.{spelling, list_spelling}
+use Rattle.iec_asdu.specs.Packing.{is_in_sequence, taken_of, packed_spelling}
+use Rattle.iec_asdu.proofs.Carried.{taken_of_some, packed_short}
+use Rattle.iec_asdu.proofs.Meant.{meant, packed_means}
 use Rattle.iec_command.specs.declared.command.Command.{Command}
 use Rattle.iec_command.specs.declared.command.Action.{Action}
 use Rattle.iec_command.specs.declared.command.Action.TheVariants as actions
@@ -25,8 +30,8 @@ use Rattle.gw_answers.specs.declared.outgoing.AsduAnswer.TheVariants.{Returned, 
 use Rattle.gw_answers.specs.declared.outgoing.OwnAsdu.{OwnAsdu}
 use Rattle.gw_answers.specs.declared.outgoing.OwnAsdu.TheVariants as outgoing
 use Rattle.gw_answers.specs.Outgoing.{at_station}
-use Rattle.gw_answers.specs.Octets.{octets_in, answer_octets, outgoing_octets}
-use Rattle.gw_answers.specs.Meaning.{Meant, Tells, Commands, meant_by, meaning_of, meant_outgoing, asdu_of, HasCause, IsSentBack, ComesBack, IsRefusedWith, Means, CanSendOutgoing, CanSendAnswer}
+use Rattle.gw_answers.specs.Octets.{octets_in, answer_octets, outgoing_octets, packed_octets}
+use Rattle.gw_answers.specs.Meaning.{Meant, Tells, Commands, meant_by, meaning_of, meant_outgoing, asdu_of, packed_asdu, IsSendable, HasCause, IsSentBack, ComesBack, IsRefusedWith, Means, CanSendOutgoing, CanSendAnswer}
 
 -- ---- commands
 
@@ -101,6 +106,66 @@ observations_mean offset common cause originator x small width fit =
     ap (λ (m : Option Asdu). meant_by octets m (command_of octets))
     (originator_apart (monitor_types offset) _ 1 cause originator _ ∙ ap
     (option_map (λ (a : Asdu). record a { originator = originator })) (meant offset common cause x small width fit))
+
+-- as many as one ASDU carries
+all_fit : (offset : ℤ) (xs : List Observation) → AllByRecursion (IsSendable offset) xs
+    → All (λ x. HasWidth x.value) xs × All (IsFit offset) xs
+all_fit offset [] all = (All-nil (λ x. HasWidth x.value), All-nil (IsFit offset))
+all_fit offset (x ∷ xs) all =
+    let more = all_fit offset xs all.1 in (
+      All-cons (λ y. HasWidth y.value) x xs all.0.width more.0,
+      All-cons (IsFit offset) x xs all.0.fit more.1,
+    )
+
+-- a list that isn't empty has its header first
+originator_changed : (offset : ℤ) (sequence : Bool) (common cause originator : ℕ) (x : Observation)
+    (xs : List Observation) → asdu_meaning (monitor_types offset)
+    (slice_set (list_spelling offset sequence common cause (x ∷ xs)) 3 originator)
+    ≡ option_map (λ (a : Asdu). record a { originator = originator })
+    (asdu_meaning (monitor_types offset) (list_spelling offset sequence common cause (x ∷ xs)))
+unfolding list_spelling
+originator_changed offset sequence common cause originator x xs =
+    originator_apart (monitor_types offset) _ _ cause originator _
+
+packed_changed : (offset : ℤ) (common cause originator : ℕ) (x : Observation) (xs : List Observation)
+    → asdu_meaning (monitor_types offset) (packed_octets offset common cause originator (x ∷ xs))
+    ≡ option_map (λ (a : Asdu). record a { originator = originator })
+    (asdu_meaning (monitor_types offset) (packed_spelling offset common cause (x ∷ xs)))
+unfolding packed_spelling
+packed_changed offset common cause originator x xs =
+    go (taken_of offset (x ∷ xs)) (taken_of_some offset (x ∷ xs) (omega arith))
+  where
+    sequence : Bool
+    sequence = is_in_sequence offset (x ∷ xs)
+
+    go : (n : ℕ) → 0 < n → asdu_meaning (monitor_types offset)
+        (slice_set (list_spelling offset sequence common cause (take n (x ∷ xs))) 3 originator)
+        ≡ option_map (λ (a : Asdu). record a { originator = originator })
+        (asdu_meaning (monitor_types offset) (list_spelling offset sequence common cause (take n (x ∷ xs))))
+    go zero some = absurd (omega arith)
+    go (suc n) some = originator_changed offset sequence common cause originator x (take n xs)
+
+pub packed_mean : (offset : ℤ) (common cause originator : ℕ) (x : Observation) (xs : List Observation)
+    → common < 65536 → AllByRecursion (IsSendable offset) (take (taken_of offset (x ∷ xs)) (x ∷ xs))
+    → meaning_of offset (packed_octets offset common cause originator (x ∷ xs))
+    ≡ Tells (packed_asdu offset common cause originator x xs)
+packed_mean offset common cause originator x xs small all =
+    let octets : List ℕ = packed_octets offset common cause originator (x ∷ xs) in
+    let fit = all_fit offset (take (taken_of offset (x ∷ xs)) (x ∷ xs)) all in
+    ap (λ (m : Option Asdu). meant_by octets m (command_of octets))
+    (packed_changed offset common cause originator x xs
+    ∙ ap (option_map (λ (a : Asdu). record a { originator = originator }))
+    (packed_means offset common cause x xs small fit.0 fit.1))
+
+-- no more octets than an ASDU may have
+pub packed_octets_short : (offset : ℤ) (common cause originator : ℕ) (xs : List Observation)
+    → length (packed_octets offset common cause originator xs) ≤ 249
+packed_octets_short offset common cause originator xs =
+    omega (
+      arith,
+      length-set (packed_spelling offset common cause xs) 3 originator,
+      packed_short offset common cause xs,
+    )
 
 -- ---- what comes back
 

@@ -33,6 +33,11 @@ cause_for _ = 20
 abbrev pub rows_of : Action → List Observation → List OwnAsdu
 rows_of action picture = map (outgoing.Observation (cause_for action) 0) (filter (is_asked_by action) picture)
 
--- the confirmation (7), the rows, and the termination (10)
+-- the confirmation (7), these rows, and the termination (10)
+abbrev pub answer_with : Command → List Observation → List OwnAsdu
+answer_with c rows =
+    command_with 7 false c
+    ∷ (map (outgoing.Observation (cause_for c.action) 0) rows ++ command_with 10 false c ∷ [])
+
 abbrev pub answer_to : Command → List Observation → List OwnAsdu
-answer_to c picture = command_with 7 false c ∷ (rows_of c.action picture ++ command_with 10 false c ∷ [])
+answer_to c picture = answer_with c (filter (is_asked_by c.action) picture)

@@ -1,10 +1,11 @@
 -- What an ASDU means, whether it carries process information or a command.
-use Rattle.std.specs.Prelude.{◌≡◌, ℕ, ℤ, ◌%◌, Bool, true, ◌==◌, ◌||◌, IsTrue, List, [], ◌∷◌, Option, Some, None, Result, Ok, Err, is_some, slice_index, slice_set}
+use Rattle.std.specs.Prelude.{◌≡◌, ℕ, ℤ, ◌%◌, Bool, true, ◌==◌, ◌||◌, IsTrue, List, [], ◌∷◌, Option, Some, None, Result, Ok, Err, is_some, slice_index, slice_set, take}
 use Rattle.gw_model.specs.Bits.{is_set}
 use Rattle.gw_model.specs.Fit.{HasWidth, IsFit}
 use Rattle.gw_model.specs.declared.observation.Observation.{Observation}
 use Rattle.gw_time.specs.Spelling.{tag_of}
 use Rattle.iec_asdu.specs.Asdu.{Asdu, asdu_meaning, monitor_types}
+use Rattle.iec_asdu.specs.Packing.{taken_of}
 use Rattle.iec_asdu.specs.Spelling.{type_of}
 use Rattle.iec_command.specs.declared.command.Command.{Command}
 use Rattle.iec_command.specs.declared.fault.CommandFault.{CommandFault}
@@ -41,6 +42,12 @@ asdu_of offset common cause originator x = record {
   originator = originator;
   common_address = common;
   observations = x ∷ [];
+}
+
+-- the ASDU of as many observations from the front of a list as one carries, of which this is the first
+abbrev pub packed_asdu : ℤ → ℕ → ℕ → ℕ → Observation → List Observation → Asdu
+packed_asdu offset common cause originator x xs = record (asdu_of offset common cause originator x) {
+  observations = take (taken_of offset (x ∷ xs)) (x ∷ xs);
 }
 
 -- what comes back is what came but for its third octet: the cause is this, P/N is set, and T is as it came

@@ -2,6 +2,8 @@
 -- station that has this common address.
 use Rattle.std.specs.Prelude.{ℕ, ℤ, ◌≤◌, true, List, length, take, slice_set}
 use Rattle.iec_apci.specs.declared.apdu.Asdu.{Asdu}
+use Rattle.gw_model.specs.declared.observation.Observation.{Observation}
+use Rattle.iec_asdu.specs.Packing.{packed_spelling}
 use Rattle.iec_asdu.specs.Spelling.{spelling}
 use Rattle.iec_command.specs.Commands.{spelling as command_spelling, mirrored}
 use Rattle.gw_answers.specs.declared.outgoing.AsduAnswer.{AsduAnswer}
@@ -19,6 +21,10 @@ abbrev pub outgoing_octets : ℤ → ℕ → OwnAsdu → List ℕ
 outgoing_octets offset common (outgoing.Command c) = command_spelling (at_station common c)
 outgoing_octets offset common (outgoing.Observation cause originator x) =
     slice_set (spelling offset common cause x) 3 originator
+
+-- as many observations from the front of a list as one ASDU carries
+abbrev pub packed_octets : ℤ → ℕ → ℕ → ℕ → List Observation → List ℕ
+packed_octets offset common cause originator xs = slice_set (packed_spelling offset common cause xs) 3 originator
 
 -- what is unknown comes back as it came, with its cause and P/N set
 abbrev pub answer_octets : ℤ → ℕ → AsduAnswer → List ℕ

@@ -1,14 +1,10 @@
 //! Interrogations.
-ghost use Rattle.std.specs.Prelude.{◌≡◌, ◌<◌, [], ◌∷◌, ◌++◌, length, vec_capacity, IfOk};
-ghost use Rattle.gw_answers.specs.Interrogations.{answer_to, cause_for, is_accepted_act, is_asked_by, is_general, rows_of};
+ghost use Rattle.std.specs.List.{filter};
+ghost use Rattle.std.specs.Prelude.{◌≡◌, IfOk};
+ghost use Rattle.gw_answers.specs.Interrogations.{cause_for, is_accepted_act, is_asked_by, is_general};
 
-use crate::answering::command_with;
-use crate::outgoing::OwnAsdu;
 use gw_model::{Memory, Observation};
-use iec_command::causes::{
-    ACTIVATION, ACTIVATION_CONFIRMATION, ACTIVATION_TERMINATION, COUNTER_INTERROGATION,
-    STATION_INTERROGATION,
-};
+use iec_command::causes::{ACTIVATION, COUNTER_INTERROGATION, STATION_INTERROGATION};
 use iec_command::{Action, Command};
 use std::alloc::Global;
 
@@ -47,7 +43,7 @@ fn is_asked_by(action: Action, observation: &Observation) -> bool
 }
 
 /// The cause of transmission of the rows that answer an interrogation.
-fn cause_for(action: Action) -> u8
+pub fn cause_for(action: Action) -> u8
     ensures { result ≡ cause_for action }
 {
     match action {
@@ -56,34 +52,19 @@ fn cause_for(action: Action) -> u8
     }
 }
 
-/// The answer to an interrogation, of what the picture shows.
-pub fn answer_to(
+/// What the picture shows of what an interrogation asks, in the order of its rows.
+pub fn rows_asked(
     alloc: Global,
-    command: &Command,
+    action: Action,
     picture: &[Observation],
-) -> Result<Vec<OwnAsdu>, Memory>
-    ensures { IfOk result (λ parts. parts.items ≡ answer_to command.now picture.now) }
+) -> Result<Vec<Observation>, Memory>
+    ensures { IfOk result (λ rows. rows.items ≡ filter (is_asked_by action) picture.now) }
 {
-    let mut parts = Vec::with_capacity(alloc, picture.len() + 2)?;
-    parts.push_reserved(command_with(ACTIVATION_CONFIRMATION, false, command));
+    let mut rows = Vec::with_capacity(alloc, picture.len())?;
     for observation in picture {
-        push_row(&mut parts, command.action, *observation);
+        if is_asked_by(action, observation) {
+            rows.push_reserved(*observation);
+        }
     }
-    parts.push_reserved(command_with(ACTIVATION_TERMINATION, false, command));
-    Ok(parts)
-}
-
-/// A row, where it answers the interrogation.
-fn push_row(parts: &mut Vec<OwnAsdu>, action: Action, observation: Observation)
-    requires { length parts.old.items < vec_capacity parts.old }
-    ensures parts { parts.new.items ≡ parts.old.items ++ rows_of action (observation ∷ []) }
-    ensures room { vec_capacity parts.new ≡ vec_capacity parts.old }
-{
-    if is_asked_by(action, &observation) {
-        parts.push_reserved(OwnAsdu::Observation {
-            cause: cause_for(action),
-            originator: 0,
-            observation,
-        });
-    }
+    Ok(rows)
 }

@@ -1,22 +1,32 @@
 //! What holds of every answer.
-ghost use Rattle.std.specs.Prelude.{◌≡◌, ◌<◌, ◌↔◌, ℕ, ℤ, true, Bool, List, Some, Ok};
+ghost use Rattle.std.specs.Prelude.{◌≡◌, ◌<◌, ◌↔◌, ℕ, ℤ, true, Bool, List, ◌∷◌, take, Some, Ok};
+ghost use Rattle.std.specs.List.{AllByRecursion};
 ghost use Rattle.gw_model.specs.declared.observation.Observation.{Observation as Observed};
 ghost use Rattle.gw_map.specs.Settings.{Setup, HasSingleAddresses};
 ghost use Rattle.iec_apci.specs.declared.apdu.Asdu.{Asdu as AsduOctets};
+ghost use Rattle.iec_asdu.specs.Packing.{taken_of};
 ghost use Rattle.iec_command.specs.declared.command.Command.{Command as AnyCommand};
 ghost use Rattle.iec_command.specs.Commands.{command_of};
 ghost use Rattle.gw_judge.specs.Judging.{judged};
 ghost use Rattle.gw_answers.specs.declared.outgoing.AsduAnswer.{AsduAnswer as AnyAnswer};
 ghost use Rattle.gw_answers.specs.Answers.{answered as answered_by};
 ghost use Rattle.gw_answers.specs.AtOnce.{Gets};
-ghost use Rattle.gw_answers.specs.Meaning.{CanSendAnswer, Commands, IsSentBack, Means, meaning_of};
-ghost use Rattle.gw_answers.specs.Octets.{answer_octets, octets_in};
+ghost use Rattle.gw_answers.specs.Meaning.{CanSendAnswer, Commands, IsSendable, IsSentBack, Means, Tells, meaning_of, packed_asdu};
+ghost use Rattle.gw_answers.specs.Octets.{answer_octets, octets_in, packed_octets};
 
 /// What is written of an answer means what it was made of: the command or the observation that goes out, or the octets
 /// of an ASDU that comes back as it came, but for its cause, and P/N, which is set.
 pub fn answers_mean_what_they_were()
     ensures { (offset : ℤ) (common : ℕ) (answer : AnyAnswer) → common < 65536 → CanSendAnswer offset answer
         → Means offset common answer (meaning_of offset (answer_octets offset common answer)) }
+{}
+
+/// What is packed means as many observations from the front of its list as one ASDU carries.
+pub fn packed_asdus_mean_their_observations()
+    ensures { (offset : ℤ) (common cause originator : ℕ) (x : Observed) (xs : List Observed) → common < 65536
+        → AllByRecursion (IsSendable offset) (take (taken_of offset (x ∷ xs)) (x ∷ xs))
+        → meaning_of offset (packed_octets offset common cause originator (x ∷ xs))
+        ≡ Tells (packed_asdu offset common cause originator x xs) }
 {}
 
 /// A command that comes back means the command that came, with that cause and P/N: type, qualifier, T, originator,

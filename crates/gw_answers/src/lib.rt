@@ -9,6 +9,6 @@ mod octets;
 mod outgoing;
 
 pub use answering::{answered, command_by, command_with, confirmed, places_for};
-pub use interrogation::{answer_to, is_accepted_act};
-pub use octets::answer_asdu;
+pub use interrogation::{cause_for, is_accepted_act, rows_asked};
+pub use octets::{PackedAsdu, answer_asdu, pack};
 pub use outgoing::{AsduAnswer, OwnAsdu};

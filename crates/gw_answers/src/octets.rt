@@ -1,8 +1,9 @@
 //! The octets of what goes out (IEC 60870-5-101, 7.1 to 7.3).
 ghost use Rattle.std.specs.Prelude.{◌≡◌, ◌<◌, ◌≤◌, true, length, slice_set};
+ghost use Rattle.iec_asdu.specs.Packing.{taken_of};
 ghost use Rattle.iec_asdu.specs.Spelling.{spelling};
 ghost use Rattle.iec_command.specs.Commands.{mirrored, spelling as command_spelling};
-ghost use Rattle.gw_answers.specs.Octets.{IsReturnable, answer_octets, octets_in, outgoing_octets};
+ghost use Rattle.gw_answers.specs.Octets.{IsReturnable, answer_octets, octets_in, outgoing_octets, packed_octets};
 ghost use Rattle.gw_answers.specs.Outgoing.{at_station};
 
 use crate::outgoing::{AsduAnswer, OwnAsdu};
@@ -15,6 +16,39 @@ use iec_command::{Command, mirror};
 /// Where the originator stands in an ASDU.
 const ORIGINATOR: usize = 3;
 
+/// An ASDU of observations, and how many it carries.
+#[derive(Clone, Copy)]
+pub struct PackedAsdu {
+    pub asdu: Asdu,
+    /// How many observations it carries, from the front of the list.
+    pub taken: usize,
+}
+
+/// The ASDU of as many observations from the front as one carries, with their cause of transmission and originator.
+pub fn pack(
+    common: u16,
+    cause: u8,
+    originator: u8,
+    zone: &Zone,
+    observations: &[Observation],
+) -> PackedAsdu
+    requires { 0 < length observations.now }
+    ensures octets { octets_in result.asdu
+        ≡ packed_octets zone.now.offset_minutes common cause originator observations.now }
+    ensures taken { result.taken ≡ taken_of zone.now.offset_minutes observations.now }
+{
+    let mut octets = [0; 249];
+    let written = write_monitor(observations, common, cause, zone, &mut octets);
+    octets[ORIGINATOR] = originator;
+    PackedAsdu {
+        asdu: Asdu {
+            octets,
+            len: written.octets as u8,
+        },
+        taken: written.taken,
+    }
+}
+
 /// The ASDU of an observation with its cause of transmission and originator.
 fn observation_asdu(
     common: u16,
@@ -26,13 +60,7 @@ fn observation_asdu(
     ensures { octets_in result
         ≡ slice_set (spelling zone.now.offset_minutes common cause observation.now) 3 originator }
 {
-    let mut octets = [0; 249];
-    let written = write_monitor(&[*observation], common, cause, zone, &mut octets);
-    octets[ORIGINATOR] = originator;
-    Asdu {
-        octets,
-        len: written.octets as u8,
-    }
+    pack(common, cause, originator, zone, &[*observation]).asdu
 }
 
 /// The ASDU of a command, by the station that has a common address.

@@ -2,6 +2,9 @@ pub mod All
 pub mod Queues
 pub mod Sounds
 pub mod Line
+pub mod Front
+pub mod Seam
+pub mod Sent
 pub mod Moves
 pub mod Answered
 pub mod Sends

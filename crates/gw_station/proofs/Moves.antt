@@ -1,6 +1,7 @@
 -- What is put out first, and what is left.
-use Rattle.std.proofs.Common.{◌≡◌, ℕ, zero, suc, ℤ, ◌-◌, Bool, true, false, cond, List, [], ◌∷◌, ◌++◌, map, take, drop, Option, Some, None, refl, sym, ap, subst, arith}
-use Rattle.std.specs.Prelude.{◌&&◌, option_map, slice_get}
+use Rattle.std.proofs.Common.{◌≡◌, ℕ, zero, suc, ℤ, ◌+◌, ◌-◌, ◌≤◌, Bool, true, false, cond, List, [], ◌∷◌, ◌++◌, map, length, take, drop, Option, Some, None, refl, sym, ap, subst, ◌∙◌, arith, if◌then◌else◌}
+use Rattle.std.specs.Prelude.{◌&&◌, option_map, slice_get, IfSome}
+use Rattle.std.proofs.lemmas.List.{append-nil, length-take}
 use Rattle.gw_model.specs.First.{when, first_of}
 use Rattle.gw_model.specs.declared.observation.Observation.{Observation}
 use Rattle.iec_apci.specs.declared.apdu.Signal.{Signal}
@@ -11,8 +12,15 @@ use Rattle.gw_answers.specs.declared.outgoing.OwnAsdu.{OwnAsdu}
 use Rattle.gw_station.specs.declared.sending.Sending.{Sending}
 use Rattle.gw_station.specs.declared.sending.Sending.TheVariants as sendings
 use Rattle.gw_station.specs.Client.{Client, is_started}
-use Rattle.gw_station.specs.Pump.{has_room, line, content_of, offered, given, client_with_sent}
+use Rattle.iec_asdu.specs.Packing.{taken_of}
+use Rattle.iec_asdu.proofs.Carried.{taken_of_within}
+use Rattle.gw_station.specs.Answers.{is_pending}
+use Rattle.gw_station.specs.Kept.{news_next}
+use Rattle.gw_station.specs.Pump.{has_room, line, content_of, offered, given, together, client_with_sent}
 use Rattle.gw_station.specs.Quiet.{IsQuiet}
+use Rattle.gw_station.proofs.All.{all-first, all-given}
+use Rattle.gw_station.proofs.Line.{line_so}
+use Rattle.gw_station.proofs.Front.{line_of, split_anywhere, front_goes, drop_mapped, bare_line, news_together, news_first, parts_same, parts_within, part_first}
 
 -- ---- nothing is put out
 
@@ -24,7 +32,7 @@ pub quiet : (offset : ℤ) (common moment : ℕ) (c : Client) → given offset c
 quiet offset common moment c e =
     by (owes_test moment c.window) (is_started c.stage) (has_room c.window) (owes_ack moment c.window) c.confirmations
     (line c) refl refl refl refl refl refl
-    (none_offered (content_of offset common c.window) (offered moment c) e)
+    (none_offered (content_of offset common c) (offered moment c) e)
   where
     by : (test started room ack : Bool) (confirmations : List Signal) (l : List Sending)
         → owes_test moment c.window ≡ test → is_started c.stage ≡ started → has_room c.window ≡ room
@@ -45,56 +53,87 @@ quiet offset common moment c e =
     by false true false false [] l et es er ea ec el e =
         record { confirmations = ec; test = et; line = λ s r. absurd cc; receipt = ea }
 
--- ---- the first of the line is put out
+-- ---- the front of the line is put out
 
-is_first : (a b : Sending) → Some a ≡ Some b → a ≡ b
-is_first a b e = ap value e
+-- answers, news and parts are in line, and no other
+abbrev IsInLine : Sending → Type 0
+IsInLine (sendings.Confirm signal) = ⊥
+IsInLine sendings.Test = ⊥
+IsInLine (sendings.Answer answer) = Unit {0}
+IsInLine (sendings.News x) = Unit {0}
+IsInLine (sendings.Part part) = Unit {0}
+IsInLine sendings.SFormat = ⊥
+
+informs : (c : Client) (s : Sending) → slice_get (line c) 0 ≡ Some s → IsInLine s
+informs c s e =
+    subst (λ (o : Option Sending). IfSome o IsInLine) e
+    (all-first IsInLine (line c)
+    (line_so IsInLine c (all-given (λ answer. IsInLine (sendings.Answer answer)) (λ answer. tt) c.answers)
+    (all-given (λ x. IsInLine (sendings.News x)) (λ x. tt) c.queue)
+    (all-given (λ part. IsInLine (sendings.Part part)) (λ part. tt) c.rest)))
+
+-- news of a session whose interrogation is pending, or not
+news_move : (offset : ℤ) (n older : ℕ) (queue : List Observation) (rest : List OwnAsdu)
+    → n ≤ length (if is_pending rest then take older queue else queue)
+    → line_of [] (older - n) (drop n queue) rest ≡ drop n (line_of [] older queue rest)
+news_move offset n older queue [] few =
+    split_anywhere (older - n) (drop n queue)
+    ∙ (sym (append-nil (map sendings.News (drop n queue)))
+    ∙ (sym (drop_mapped sendings.News n queue [] few)
+    ∙ ap (drop n) (append-nil (map sendings.News queue) ∙ sym (split_anywhere older queue))))
+news_move offset n older queue (part ∷ rest) few =
+    let within : n ≤ older = omega (arith, few, length-take older queue) in
+    let goes = front_goes n (older - n) older queue (omega (arith, within)) in
+    rw (goes.0, goes.1)
+    (sym (drop_mapped sendings.News n (take older queue)
+    (map sendings.Part (part ∷ rest) ++ map sendings.News (drop older queue)) few))
+
+news_moves : (offset : ℤ) (moment : ℕ) (c : Client) (x : Observation) → slice_get (line c) 0 ≡ Some (sendings.News x)
+    → line (client_with_sent offset moment (sendings.News x) c) ≡ drop (together offset (line c)) (line c)
+news_moves offset moment c x e =
+    let first = news_first c x e in
+    let n : ℕ = together offset (line c) in
+    let same : n ≡ taken_of offset (news_next c) =
+    news_together offset (line c) x e ∙ ap (taken_of offset) first.front in
+    let few : n ≤ length (news_next c) = omega (arith, same, taken_of_within offset (news_next c)) in
+    ap (λ (answers : List AsduAnswer). line_of answers (c.older - n) (drop n c.queue) c.rest) first.answers
+    ∙ (news_move offset n c.older c.queue c.rest few
+    ∙ ap (λ (answers : List AsduAnswer). drop n (line_of answers c.older c.queue c.rest)) (sym first.answers))
+
+parts_move : (offset : ℤ) (moment : ℕ) (c : Client) (part : OwnAsdu)
+    → slice_get (line c) 0 ≡ Some (sendings.Part part)
+    → line (client_with_sent offset moment (sendings.Part part) c) ≡ drop (together offset (line c)) (line c)
+parts_move offset moment c part e =
+    let first = part_first c part e in
+    let n : ℕ = together offset (line c) in
+    let few : n ≤ length c.rest =
+    omega (arith, parts_same offset c part first, parts_within offset c.rest part first.first) in
+    let news : List Sending = map sendings.News (drop c.older c.queue) in
+    bare_line c.answers c.older c.queue (drop n c.rest) first.answers first.older
+    ∙ (sym (drop_mapped sendings.Part n c.rest news few) ∙ ap (drop n) (sym first.line))
+
+answer_moves : (offset : ℤ) (moment : ℕ) (c : Client) (answer : AsduAnswer) (answers : List AsduAnswer)
+    → c.answers ≡ answers → slice_get (line c) 0 ≡ Some (sendings.Answer answer)
+    → line (client_with_sent offset moment (sendings.Answer answer) c) ≡ drop (together offset (line c)) (line c)
+answer_moves offset moment c answer [] none e =
+    absurd (no_answer c.older c.queue c.rest
+    (ap (λ (xs : List AsduAnswer). slice_get (line_of xs c.older c.queue c.rest) 0) (sym none) ∙ e))
   where
-    value : Option Sending → Sending
-    value None = a
-    value (Some x) = x
+    no_answer : (older : ℕ) (queue : List Observation) (rest : List OwnAsdu)
+        → slice_get (line_of [] older queue rest) 0 ≡ Some (sendings.Answer answer) → ⊥
+    no_answer zero [] [] e = cc
+    no_answer zero (x ∷ queue) [] e = cc
+    no_answer zero queue (part ∷ rest) e = cc
+    no_answer (suc n) [] [] e = cc
+    no_answer (suc n) [] (part ∷ rest) e = cc
+    no_answer (suc n) (x ∷ queue) rest e = cc
+answer_moves offset moment c answer (a ∷ answers) is e = rw is refl
 
--- where no answer waits
-behind : (moment : ℕ) (c : Client) (first : Sending) (older : ℕ) (queue : List Observation) (rest : List OwnAsdu)
-    → slice_get (line (record c { answers = []; older = older; queue = queue; rest = rest })) 0 ≡ Some first
-    → line (client_with_sent moment first (record c { answers = []; older = older; queue = queue; rest = rest }))
-    ≡ drop 1 (line (record c { answers = []; older = older; queue = queue; rest = rest }))
-behind moment c first (suc n) (x ∷ queue) rest e =
-    let d : Client = record c { answers = []; older = suc n; queue = x ∷ queue; rest = rest } in
-    let less : suc n - 1 ≡ n = omega arith in
-    subst (λ (y : Sending). line (client_with_sent moment y d) ≡ drop 1 (line d)) (is_first (sendings.News x) first e)
-    (ap (λ (m : ℕ). map sendings.News (take m queue) ++ (map sendings.Part rest ++ map sendings.News (drop m queue)))
-    less)
-behind moment c first (suc n) [] [] e = absurd cc
-behind moment c first (suc n) [] (part ∷ rest) e =
-    let d : Client = record c { answers = []; older = suc n; queue = []; rest = part ∷ rest } in
-    subst (λ (y : Sending). line (client_with_sent moment y d) ≡ drop 1 (line d))
-    (is_first (sendings.Part part) first e) refl
-behind moment c first zero queue (part ∷ rest) e =
-    let d : Client = record c { answers = []; older = 0; queue = queue; rest = part ∷ rest } in
-    subst (λ (y : Sending). line (client_with_sent moment y d) ≡ drop 1 (line d))
-    (is_first (sendings.Part part) first e) refl
-behind moment c first zero (x ∷ queue) [] e =
-    let d : Client = record c { answers = []; older = 0; queue = x ∷ queue; rest = [] } in
-    subst (λ (y : Sending). line (client_with_sent moment y d) ≡ drop 1 (line d))
-    (is_first (sendings.News x) first e) refl
-behind moment c first zero [] [] e = absurd cc
-
-pub moves : (moment : ℕ) (c : Client) (first : Sending) → slice_get (line c) 0 ≡ Some first
-    → line (client_with_sent moment first c) ≡ drop 1 (line c)
-moves moment c first e = go c.answers refl
-  where
-    go : (answers : List AsduAnswer) → c.answers ≡ answers → line (client_with_sent moment first c) ≡ drop 1 (line c)
-    go [] is =
-        let same : c ≡ record c { answers = [] } = ap (λ (xs : List AsduAnswer). record c { answers = xs }) is in
-        subst (λ (d : Client). line (client_with_sent moment first d) ≡ drop 1 (line d)) (sym same)
-        (behind moment c first c.older c.queue c.rest
-        (subst (λ (d : Client). slice_get (line d) 0 ≡ Some first) same e))
-    go (answer ∷ answers) is =
-        let d : Client = record c { answers = answer ∷ answers } in
-        let same : c ≡ d = ap (λ (xs : List AsduAnswer). record c { answers = xs }) is in
-        let head : slice_get (line d) 0 ≡ Some first =
-        subst (λ (x : Client). slice_get (line x) 0 ≡ Some first) same e in
-        subst (λ (x : Client). line (client_with_sent moment first x) ≡ drop 1 (line x)) (sym same)
-        (subst (λ (y : Sending). line (client_with_sent moment y d) ≡ drop 1 (line d))
-        (is_first (sendings.Answer answer) first head) refl)
+pub moves : (offset : ℤ) (moment : ℕ) (c : Client) (first : Sending) → slice_get (line c) 0 ≡ Some first
+    → line (client_with_sent offset moment first c) ≡ drop (together offset (line c)) (line c)
+moves offset moment c (sendings.News x) e = news_moves offset moment c x e
+moves offset moment c (sendings.Part part) e = parts_move offset moment c part e
+moves offset moment c (sendings.Answer answer) e = answer_moves offset moment c answer c.answers refl e
+moves offset moment c (sendings.Confirm signal) e = absurd (informs c (sendings.Confirm signal) e)
+moves offset moment c sendings.Test e = absurd (informs c sendings.Test e)
+moves offset moment c sendings.SFormat e = absurd (informs c sendings.SFormat e)

@@ -11,17 +11,17 @@ use Rattle.iec_command.specs.declared.command.Command.{Command}
 use Rattle.iec_command.specs.declared.command.Action.{Action}
 use Rattle.iec_command.specs.declared.command.Action.TheVariants as actions
 use Rattle.iec_command.specs.Commands.{spelling as command_spelling, cause_octet}
-use Rattle.iec_window.specs.Counts.{WindowCounts}
 use Rattle.gw_answers.specs.declared.outgoing.AsduAnswer.{AsduAnswer}
 use Rattle.gw_answers.specs.declared.outgoing.AsduAnswer.TheVariants.{Returned, Made}
 use Rattle.gw_answers.specs.declared.outgoing.OwnAsdu.{OwnAsdu}
 use Rattle.gw_answers.specs.declared.outgoing.OwnAsdu.TheVariants as outgoing
-use Rattle.gw_answers.specs.Outgoing.{at_station, news}
+use Rattle.gw_answers.specs.Outgoing.{at_station}
 use Rattle.gw_answers.specs.Octets.{octets_in, answer_octets, outgoing_octets}
+use Rattle.gw_answers.proofs.Meant.{packed_octets_short}
 use Rattle.gw_station.specs.declared.sending.Sending.{Sending}
 use Rattle.gw_station.specs.declared.sending.Sending.TheVariants as sendings
 use Rattle.gw_station.specs.Client.{Client}
-use Rattle.gw_station.specs.Pump.{content_of, offered}
+use Rattle.gw_station.specs.Pump.{line, content_of, news_front, offered, part_content, rows_front}
 use Rattle.gw_station.specs.Sound.{CanSend, IsSoundClient}
 use Rattle.gw_station.proofs.Line.{line_so, offered_so}
 
@@ -56,11 +56,18 @@ answer_short offset common (Returned asdu cause) =
     omega (arith, length-set came 2 back, length-take asdu.len asdu.octets, asdu.fits)
 answer_short offset common (Made x) = outgoing_short offset common x
 
-pub content_fits : (offset : ℤ) (common : ℕ) (w : WindowCounts) (sending : Sending)
-    → Fits (content_of offset common w sending)
-content_fits offset common w (sendings.Confirm signal) = tt
-content_fits offset common w sendings.Test = tt
-content_fits offset common w (sendings.Answer answer) = (omega arith, omega arith, answer_short offset common answer)
-content_fits offset common w (sendings.News x) = (omega arith, omega arith, outgoing_short offset common (news x))
-content_fits offset common w (sendings.Part part) = (omega arith, omega arith, outgoing_short offset common part)
-content_fits offset common w sendings.SFormat = omega arith
+part_fits : (offset : ℤ) (common : ℕ) (c : Client) (part : OwnAsdu) → Fits (part_content offset common c part)
+part_fits offset common c (outgoing.Command command) =
+    (omega arith, omega arith, outgoing_short offset common (outgoing.Command command))
+part_fits offset common c (outgoing.Observation cause originator x) =
+    (omega arith, omega arith, packed_octets_short offset common cause originator (rows_front cause originator (line c)))
+
+pub content_fits : (offset : ℤ) (common : ℕ) (c : Client) (sending : Sending)
+    → Fits (content_of offset common c sending)
+content_fits offset common c (sendings.Confirm signal) = tt
+content_fits offset common c sendings.Test = tt
+content_fits offset common c (sendings.Answer answer) = (omega arith, omega arith, answer_short offset common answer)
+content_fits offset common c (sendings.News x) =
+    (omega arith, omega arith, packed_octets_short offset common 3 0 (news_front (line c)))
+content_fits offset common c (sendings.Part part) = part_fits offset common c part
+content_fits offset common c sendings.SFormat = omega arith

@@ -34,7 +34,7 @@ use Rattle.gw_station.specs.declared.event.Said.TheVariants as saids
 use Rattle.gw_station.specs.Answers.{client_judging, client_told, held_with, places, terminated, told, CanBeTold}
 use Rattle.gw_station.specs.Client.{Client, is_started, queue_with, overflow, is_timed_out, client_anew, client_with_news, client_after_close, client_after_up, client_after_tick}
 use Rattle.gw_station.specs.Frames.{floods, judged_asdu, close_of, confirmations_with, window_with_signal, client_with_session, client_with_signal, client_taking, client_by, client_after_apdu}
-use Rattle.gw_station.specs.Pump.{offered, client_by_offer, client_after_pump, IsRoomy}
+use Rattle.gw_station.specs.Pump.{line, offered, together, client_without_news, client_without_parts, client_by_offer, client_after_pump, IsRoomy}
 use Rattle.gw_station.specs.Sound.{CanAnswer, IsSoundClient, IsSoundWindow}
 use Rattle.gw_station.proofs.All.{all-append, all-drop}
 use Rattle.gw_station.proofs.Places.{answers_few, confirmations_few, not_flooded}
@@ -358,9 +358,9 @@ sound_told station n i said command c whole room started sound =
 -- ---- a pump
 
 -- a step in which something is put out, or nothing
-pub sound_after_pump : (station : StationSetup) (n i moment : ℕ) (c : Client) → IsSoundClient station n i c
-    → IsSoundClient station (n + 1) i (client_after_pump moment c)
-sound_after_pump station n i moment c sound = go (offered moment c) (offered_roomy moment c)
+pub sound_after_pump : (station : StationSetup) (offset : ℤ) (n i moment : ℕ) (c : Client)
+    → IsSoundClient station n i c → IsSoundClient station (n + 1) i (client_after_pump offset moment c)
+sound_after_pump station offset n i moment c sound = go (offered moment c) (offered_roomy moment c)
   where
     later : IsSoundClient station (n + 1) i c
     later = sound_later station n (n + 1) i i c (omega arith) (omega arith) sound
@@ -372,7 +372,7 @@ sound_after_pump station n i moment c sound = go (offered moment c) (offered_roo
         (window_after_sending station n moment c.window room sound.window) rest
 
     go : (x : Option Sending) → IfSome x (IsRoomy c.window)
-        → IsSoundClient station (n + 1) i (client_by_offer moment x c)
+        → IsSoundClient station (n + 1) i (client_by_offer offset moment x c)
     go None room = later
     go (Some (sendings.Confirm signal)) room =
         with_confirmations station (n + 1) i (drop 1 c.confirmations) c
@@ -387,22 +387,24 @@ sound_after_pump station n i moment c sound = go (offered moment c) (offered_roo
         (omega (arith, length-drop 1 c.answers, sound.places)) sound.stopped
         (all-drop (CanSendAnswer station.offset_minutes) 1 c.answers sound.answers) sound.rest later)
     go (Some (sendings.News x)) room =
-        numbered (record c { queue = drop 1 c.queue; older = c.older - 1 }) room (record {
+        let gone : ℕ = together offset (line c) in
+        numbered (client_without_news gone c) room (record {
           window = later.window;
           confirmations = sound.confirmations;
           places = sound.places;
           stopped = sound.stopped;
           answers = sound.answers;
           limit = sound.limit;
-          few = omega (arith, length-drop 1 c.queue, sound.few);
-          sendable = all-drop (IsSendable station.offset_minutes) 1 c.queue sound.sendable;
+          few = omega (arith, length-drop gone c.queue, sound.few);
+          sendable = all-drop (IsSendable station.offset_minutes) gone c.queue sound.sendable;
           dropped = sound.dropped;
           rest = sound.rest;
         })
     go (Some (sendings.Part part)) room =
-        numbered (record c { rest = drop 1 c.rest }) room
-        (with_answers station (n + 1) i c.held c.older c.answers (drop 1 c.rest) c sound.places sound.stopped
-        sound.answers (all-drop (CanSendOutgoing station.offset_minutes) 1 c.rest sound.rest) later)
+        let gone : ℕ = together offset (line c) in
+        numbered (client_without_parts gone c) room
+        (with_answers station (n + 1) i c.held c.older c.answers (drop gone c.rest) c sound.places sound.stopped
+        sound.answers (all-drop (CanSendOutgoing station.offset_minutes) gone c.rest sound.rest) later)
     go (Some sendings.SFormat) room =
         let w = later.window in
         with_window station (n + 1) (n + 1) i (counts_after_sending_s c.window) c

@@ -1,5 +1,5 @@
 -- Clients of the worked examples.
-use Rattle.std.specs.Prelude.{ℕ, zero, suc, false, true, List, [], ◌∷◌, replicate}
+use Rattle.std.specs.Prelude.{ℕ, zero, suc, false, true, List, [], ◌∷◌, replicate, pos}
 use Rattle.std.proofs.Common.{lit≤}
 use Rattle.gw_model.specs.declared.observation.Observation.{Observation}
 use Rattle.gw_model.specs.declared.observation.Value.TheVariants.{Single}
@@ -57,7 +57,7 @@ taking moment (apdu ∷ more) c = taking moment more (client_after_apdu setup pi
 -- so many pumps at a moment
 abbrev pub pumped : ℕ → ℕ → Client → Client
 pumped moment zero c = c
-pumped moment (suc n) c = pumped moment n (client_after_pump moment c)
+pumped moment (suc n) c = pumped moment n (client_after_pump (pos 0) moment c)
 
 -- STARTDT was confirmed
 abbrev pub started_from : Client → Client
@@ -77,11 +77,12 @@ switched_off = record switched_on { value = Single false }
 abbrev pub overflown : Client
 overflown = client_with_news (switched_on ∷ switched_off ∷ switched_off ∷ []) (started_from (client_down usual 2))
 
--- two news were put out at moment 0, and an I format came
+-- two news were put out at moment 0, one after the other, and a third and an I format came
 abbrev pub narrow_full : Client
 narrow_full =
-    taking 0 (I 0 0 command ∷ [])
-    (pumped 0 2 (client_with_news (switched_on ∷ switched_on ∷ switched_on ∷ []) (started_from narrow)))
+    let first = pumped 0 1 (client_with_news (switched_on ∷ []) (started_from narrow)) in
+    let second = pumped 0 1 (client_with_news (switched_on ∷ []) first) in
+    taking 0 (I 0 0 command ∷ []) (client_with_news (switched_on ∷ []) second)
 
 -- so many TESTFR acts came
 abbrev pub tested : ℕ → Client → Client

@@ -1,10 +1,14 @@
 -- What a station keeps: its queue, and the answer to an interrogation.
-use Rattle.std.specs.Prelude.{◌≡◌, ℕ, ◌≤◌, true, false, List, [], drop, length, Option, Some, None}
+use Rattle.std.specs.Prelude.{◌≡◌, ℕ, ℤ, ◌≤◌, ◌==◌, ◌&&◌, true, false, List, [], ◌∷◌, drop, take, length, Option, Some, None, if◌then◌else◌}
 use Rattle.circular_buffer.specs.Buffer.{Buffer}
 use Rattle.gw_model.specs.declared.observation.Observation.{Observation}
+use Rattle.iec_asdu.specs.Packing.{taken_of}
 use Rattle.gw_answers.specs.declared.outgoing.OwnAsdu.{OwnAsdu}
+use Rattle.gw_answers.specs.declared.outgoing.OwnAsdu.TheVariants as outgoing
+use Rattle.gw_answers.specs.Octets.{outgoing_octets, packed_octets}
 use Rattle.gw_station.specs.declared.client.Stage.{Stage}
-use Rattle.gw_station.specs.Client.{is_started}
+use Rattle.gw_station.specs.Answers.{is_pending}
+use Rattle.gw_station.specs.Client.{Client, is_started}
 
 abbrev pub items_in : Option (Buffer Observation) → List Observation
 items_in None = []
@@ -16,7 +20,28 @@ IsQueue limit stage None = is_started stage ≡ false
 IsQueue limit stage (Some buffer) =
     (is_started stage ≡ true) × (buffer.capacity ≡ limit) × (length buffer.items ≤ limit)
 
+-- the news that may go next: those that came before the interrogation that is pending, or all
+abbrev pub news_next : Client → List Observation
+news_next c = if is_pending c.rest then take c.older c.queue else c.queue
+
 -- what is left of an answer of which so many parts were put out
 abbrev pub parts_left : ℕ → Option (List OwnAsdu) → List OwnAsdu
 parts_left done None = []
 parts_left done (Some parts) = drop done parts
+
+-- the rows at the front of parts that have this cause and originator
+abbrev pub parts_front : ℕ → ℕ → List OwnAsdu → List Observation
+parts_front cause originator (outgoing.Observation c o x ∷ parts) =
+    if c == cause && o == originator then x ∷ parts_front cause originator parts else []
+parts_front cause originator _ = []
+
+-- how many parts go out in one ASDU, and its octets, where this is the first
+abbrev pub parts_together : ℤ → OwnAsdu → List OwnAsdu → ℕ
+parts_together offset (outgoing.Command command) parts = 1
+parts_together offset (outgoing.Observation cause originator x) parts =
+    taken_of offset (parts_front cause originator parts)
+
+abbrev pub parts_octets : ℤ → ℕ → OwnAsdu → List OwnAsdu → List ℕ
+parts_octets offset common (outgoing.Command command) parts = outgoing_octets offset common (outgoing.Command command)
+parts_octets offset common (outgoing.Observation cause originator x) parts =
+    packed_octets offset common cause originator (parts_front cause originator parts)

@@ -1,6 +1,8 @@
 -- What is put out to a client that is up (IEC 60870-5-104, 5.1 to 5.3).
-use Rattle.std.specs.Prelude.{ℕ, ℤ, ◌-◌, Bool, ◌&&◌, nat_lt, ◌<◌, List, [], ◌∷◌, ◌++◌, length, take, drop, map, Option, Some, None, option_map, slice_get, if◌then◌else◌}
+use Rattle.std.specs.Prelude.{◌≡◌, ℕ, ℤ, ◌-◌, ◌==◌, ◌&&◌, Bool, nat_lt, ◌<◌, List, [], ◌∷◌, ◌++◌, length, take, drop, map, Option, Some, None, option_map, slice_get, if◌then◌else◌}
 use Rattle.gw_model.specs.First.{when, first_of}
+use Rattle.gw_model.specs.declared.observation.Observation.{Observation}
+use Rattle.iec_asdu.specs.Packing.{taken_of}
 use Rattle.iec_apci.specs.declared.apdu.Signal.TheVariants.{TestAct}
 use Rattle.iec_apci.specs.Apdu.{ApduContent, Information, Supervisory, Unnumbered}
 use Rattle.iec_window.specs.Counts.{WindowCounts}
@@ -9,8 +11,9 @@ use Rattle.iec_window.specs.Timers.{owes_ack, owes_test}
 use Rattle.iec_window.specs.Steps.{counts_after_sending_s, counts_after_sending_i, counts_after_sending_test}
 use Rattle.gw_answers.specs.declared.outgoing.AsduAnswer.{AsduAnswer}
 use Rattle.gw_answers.specs.declared.outgoing.AsduAnswer.TheVariants.{Made}
-use Rattle.gw_answers.specs.Outgoing.{news}
-use Rattle.gw_answers.specs.Octets.{answer_octets}
+use Rattle.gw_answers.specs.declared.outgoing.OwnAsdu.{OwnAsdu}
+use Rattle.gw_answers.specs.declared.outgoing.OwnAsdu.TheVariants as outgoing
+use Rattle.gw_answers.specs.Octets.{answer_octets, packed_octets}
 use Rattle.gw_station.specs.declared.sending.Sending.{Sending}
 use Rattle.gw_station.specs.declared.sending.Sending.TheVariants as sendings
 use Rattle.gw_station.specs.Client.{Client, is_started}
@@ -27,7 +30,25 @@ line c =
     ++ (map sendings.News (take c.older c.queue)
     ++ (map sendings.Part c.rest ++ map sendings.News (drop c.older c.queue)))
 
--- the first of it, in a session, where an I format may be sent
+-- the news at the front of a line
+abbrev pub news_front : List Sending → List Observation
+news_front (sendings.News x ∷ line) = x ∷ news_front line
+news_front _ = []
+
+-- the rows at its front that have this cause and originator
+abbrev pub rows_front : ℕ → ℕ → List Sending → List Observation
+rows_front cause originator (sendings.Part (outgoing.Observation c o x) ∷ line) =
+    if c == cause && o == originator then x ∷ rows_front cause originator line else []
+rows_front cause originator _ = []
+
+-- how many of a line go out in one ASDU: as many news, or rows, as one carries; all else goes alone
+abbrev pub together : ℤ → List Sending → ℕ
+together offset (sendings.News x ∷ line) = taken_of offset (x ∷ news_front line)
+together offset (sendings.Part (outgoing.Observation cause originator x) ∷ line) =
+    taken_of offset (x ∷ rows_front cause originator line)
+together offset _ = 1
+
+-- the first of the line, in a session, where an I format may be sent
 abbrev pub information_offered : Client → Option Sending
 information_offered c = if is_started c.stage && has_room c.window then slice_get (line c) 0 else None
 
@@ -43,6 +64,15 @@ offers moment c =
 abbrev pub offered : ℕ → Client → Option Sending
 offered moment c = first_of (offers moment c)
 
+-- news and parts are the first of the line
+abbrev pub IsNext : Client → Sending → Type 0
+IsNext c (sendings.Confirm signal) = Unit {0}
+IsNext c sendings.Test = Unit {0}
+IsNext c (sendings.Answer answer) = Unit {0}
+IsNext c (sendings.News x) = slice_get (line c) 0 ≡ Some (sendings.News x)
+IsNext c (sendings.Part part) = slice_get (line c) 0 ≡ Some (sendings.Part part)
+IsNext c sendings.SFormat = Unit {0}
+
 -- an I format has room
 abbrev pub IsRoomy : WindowCounts → Sending → Type 0
 IsRoomy w (sendings.Confirm signal) = Unit {0}
@@ -56,35 +86,54 @@ IsRoomy w sendings.SFormat = Unit {0}
 abbrev pub information : ℤ → ℕ → WindowCounts → AsduAnswer → ApduContent
 information offset common w answer = Information (send_number w) (receive_number w) (answer_octets offset common answer)
 
+-- an I format with as many of these observations as its ASDU carries
+abbrev pub packed_information : ℤ → ℕ → WindowCounts → ℕ → ℕ → List Observation → ApduContent
+packed_information offset common w cause originator xs =
+    Information (send_number w) (receive_number w) (packed_octets offset common cause originator xs)
+
+abbrev pub part_content : ℤ → ℕ → Client → OwnAsdu → ApduContent
+part_content offset common c (outgoing.Command command) =
+    information offset common c.window (Made (outgoing.Command command))
+part_content offset common c (outgoing.Observation cause originator x) =
+    packed_information offset common c.window cause originator (rows_front cause originator (line c))
+
 -- what it carries
-abbrev pub content_of : ℤ → ℕ → WindowCounts → Sending → ApduContent
-content_of offset common w (sendings.Confirm signal) = Unnumbered signal
-content_of offset common w sendings.Test = Unnumbered TestAct
-content_of offset common w (sendings.Answer answer) = information offset common w answer
-content_of offset common w (sendings.News x) = information offset common w (Made (news x))
-content_of offset common w (sendings.Part part) = information offset common w (Made part)
-content_of offset common w sendings.SFormat = Supervisory (receive_number w)
+abbrev pub content_of : ℤ → ℕ → Client → Sending → ApduContent
+content_of offset common c (sendings.Confirm signal) = Unnumbered signal
+content_of offset common c sendings.Test = Unnumbered TestAct
+content_of offset common c (sendings.Answer answer) = information offset common c.window answer
+content_of offset common c (sendings.News x) =
+    packed_information offset common c.window 3 0 (news_front (line c))
+content_of offset common c (sendings.Part part) = part_content offset common c part
+content_of offset common c sendings.SFormat = Supervisory (receive_number c.window)
 
 -- what is put out next at a moment, if anything
 abbrev pub given : ℤ → ℕ → ℕ → Client → Option ApduContent
-given offset common moment c = option_map (content_of offset common c.window) (offered moment c)
+given offset common moment c = option_map (content_of offset common c) (offered moment c)
 
--- it was put out
-abbrev pub client_with_sent : ℕ → Sending → Client → Client
-client_with_sent moment (sendings.Confirm signal) c = record c { confirmations = drop 1 c.confirmations }
-client_with_sent moment sendings.Test c = record c { window = counts_after_sending_test moment c.window }
-client_with_sent moment (sendings.Answer answer) c =
+-- so many news were put out, and so many parts
+abbrev pub client_without_news : ℕ → Client → Client
+client_without_news n c = record c { queue = drop n c.queue; older = c.older - n }
+
+abbrev pub client_without_parts : ℕ → Client → Client
+client_without_parts n c = record c { rest = drop n c.rest }
+
+-- it was put out, with those that went with it
+abbrev pub client_with_sent : ℤ → ℕ → Sending → Client → Client
+client_with_sent offset moment (sendings.Confirm signal) c = record c { confirmations = drop 1 c.confirmations }
+client_with_sent offset moment sendings.Test c = record c { window = counts_after_sending_test moment c.window }
+client_with_sent offset moment (sendings.Answer answer) c =
     record c { window = counts_after_sending_i moment c.window; answers = drop 1 c.answers }
-client_with_sent moment (sendings.News x) c =
-    record c { window = counts_after_sending_i moment c.window; queue = drop 1 c.queue; older = c.older - 1 }
-client_with_sent moment (sendings.Part part) c =
-    record c { window = counts_after_sending_i moment c.window; rest = drop 1 c.rest }
-client_with_sent moment sendings.SFormat c = record c { window = counts_after_sending_s c.window }
+client_with_sent offset moment (sendings.News x) c =
+    record (client_without_news (together offset (line c)) c) { window = counts_after_sending_i moment c.window }
+client_with_sent offset moment (sendings.Part part) c =
+    record (client_without_parts (together offset (line c)) c) { window = counts_after_sending_i moment c.window }
+client_with_sent offset moment sendings.SFormat c = record c { window = counts_after_sending_s c.window }
 
-abbrev pub client_by_offer : ℕ → Option Sending → Client → Client
-client_by_offer moment None c = c
-client_by_offer moment (Some sending) c = client_with_sent moment sending c
+abbrev pub client_by_offer : ℤ → ℕ → Option Sending → Client → Client
+client_by_offer offset moment None c = c
+client_by_offer offset moment (Some sending) c = client_with_sent offset moment sending c
 
--- what is put out next at a moment was put out
-abbrev pub client_after_pump : ℕ → Client → Client
-client_after_pump moment c = client_by_offer moment (offered moment c) c
+-- what is put out next at a moment was put out, where clocks are offset minutes ahead of UTC
+abbrev pub client_after_pump : ℤ → ℕ → Client → Client
+client_after_pump offset moment c = client_by_offer offset moment (offered moment c) c

@@ -19,6 +19,7 @@ ghost use Rattle.gw_station.specs.Answers.{told};
 ghost use Rattle.gw_station.specs.Example.{command, connected, cut, execute, header_alone, interrogated, interrogation, reading, reads, pushed_out, narrow, narrow_full, overflown, pumped, started, started_from, switched_off, switched_on, taking, tested, waiting};
 
 /// STARTDT, STOPDT and TESTFR.
+#[tactic(auto, unfolding(iec_asdu::specs::Spelling::list_spelling, iec_asdu::specs::Packing::packed_spelling, iec_asdu::specs::Packing::taken_of, iec_asdu::specs::Packing::is_in_sequence, iec_asdu::specs::Packing::in_sequence_count, iec_asdu::specs::Packing::apart_count, iec_asdu::specs::Packing::alike_count, iec_asdu::specs::Packing::consecutive_count))]
 pub fn control_functions()
     // Nothing before STARTDT act; then its confirmation; then nothing, or what waits.
     ensures stopped { given (pos 0) 1 0 connected ≡ None }
@@ -54,13 +55,13 @@ pub fn control_functions()
 
 /// Two news may wait: of three the first is dropped and counted, and those that wait are put out in order. A session
 /// that begins anew has none of it.
+#[tactic(auto, unfolding(iec_asdu::specs::Spelling::list_spelling, iec_asdu::specs::Packing::packed_spelling, iec_asdu::specs::Packing::taken_of, iec_asdu::specs::Packing::is_in_sequence, iec_asdu::specs::Packing::in_sequence_count, iec_asdu::specs::Packing::apart_count, iec_asdu::specs::Packing::alike_count, iec_asdu::specs::Packing::consecutive_count))]
 pub fn overflows()
     ensures keeps_last { overflown.queue ≡ switched_off ∷ switched_off ∷ [] }
     ensures counts { overflown.dropped ≡ 1 }
     ensures in_turn { client_with_news (switched_off ∷ [])
         (client_with_news (switched_on ∷ switched_off ∷ []) (started_from (client_down usual 2))) ≡ overflown }
-    ensures room { (client_with_news (switched_on ∷ []) (pumped 0 1 overflown)).queue
-        ≡ switched_off ∷ switched_on ∷ [] }
+    ensures room { (client_with_news (switched_on ∷ []) (pumped 0 1 overflown)).queue ≡ switched_on ∷ [] }
     ensures dropped_once { (client_with_news (switched_on ∷ []) (pumped 0 1 overflown)).dropped ≡ 1 }
     ensures more_than_fit { (client_with_news (switched_on ∷ switched_on ∷ switched_on ∷ []) overflown).dropped ≡ 4 }
     ensures anew { (taking 0 (U StopAct ∷ U StartAct ∷ []) overflown).queue ≡ [] }
@@ -68,7 +69,7 @@ pub fn overflows()
 {}
 
 /// I and S formats.
-#[tactic(auto, unfolding(iec_command::specs::Commands::command_of))]
+#[tactic(auto, unfolding(iec_command::specs::Commands::command_of, iec_asdu::specs::Spelling::list_spelling, iec_asdu::specs::Packing::packed_spelling, iec_asdu::specs::Packing::taken_of, iec_asdu::specs::Packing::is_in_sequence, iec_asdu::specs::Packing::in_sequence_count, iec_asdu::specs::Packing::apart_count, iec_asdu::specs::Packing::alike_count, iec_asdu::specs::Packing::consecutive_count))]
 pub fn numbered_formats()
     // News with N(S) 0, then 1; N(R) counts what came.
     ensures news { given (pos 0) 1 0 waiting
@@ -76,6 +77,12 @@ pub fn numbered_formats()
     ensures more_news { given (pos 0) 1 0
         (taking 0 (I 0 1 command ∷ []) (client_with_news (switched_on ∷ []) (pumped 0 1 waiting)))
         ≡ Some (Information 1 1 (1 ∷ 1 ∷ 3 ∷ 0 ∷ 1 ∷ 0 ∷ 0x05 ∷ 0x10 ∷ 0 ∷ 1 ∷ [])) }
+    // Two news in one ASDU; those behind an interrogation go apart from those before it.
+    ensures packed { given (pos 0) 1 0 (client_with_news (switched_off ∷ []) waiting)
+        ≡ Some (Information 0 0 (1 ∷ 2 ∷ 3 ∷ 0 ∷ 1 ∷ 0 ∷ 0x05 ∷ 0x10 ∷ 0 ∷ 1 ∷ 0x05 ∷ 0x10 ∷ 0 ∷ 0 ∷ [])) }
+    ensures all_gone { (pumped 0 1 (client_with_news (switched_off ∷ []) waiting)).queue ≡ [] }
+    ensures apart { (pumped 0 1 (client_with_news (switched_off ∷ []) (interrogated waiting))).queue
+        ≡ switched_off ∷ [] }
     // An I format closes: without a session; with a wrong number; with fewer than 6 octets. In that order.
     ensures first { close_of setup (I 1 1 cut) connected ≡ Some NotStarted }
     ensures second { close_of setup (I 1 0 cut) started ≡ Some Sequence }
@@ -92,7 +99,7 @@ pub fn numbered_formats()
 {}
 
 /// The windows k and w, and the timers.
-#[tactic(auto, unfolding(iec_command::specs::Commands::command_of))]
+#[tactic(auto, unfolding(iec_command::specs::Commands::command_of, iec_asdu::specs::Spelling::list_spelling, iec_asdu::specs::Packing::packed_spelling, iec_asdu::specs::Packing::taken_of, iec_asdu::specs::Packing::is_in_sequence, iec_asdu::specs::Packing::in_sequence_count, iec_asdu::specs::Packing::apart_count, iec_asdu::specs::Packing::alike_count, iec_asdu::specs::Packing::consecutive_count))]
 pub fn windows_and_timers()
     // t3: TESTFR act once, before news; t1 runs from it, and ends by its confirmation.
     ensures quiet { given (pos 0) 1 19999 started ≡ None }
@@ -117,7 +124,7 @@ pub fn windows_and_timers()
 {}
 
 /// The answer to an interrogation, with N(R) 1: confirmation, rows, termination.
-#[tactic(auto, unfolding(iec_command::specs::Commands::command_of))]
+#[tactic(auto, unfolding(iec_command::specs::Commands::command_of, iec_asdu::specs::Spelling::list_spelling, iec_asdu::specs::Packing::packed_spelling, iec_asdu::specs::Packing::taken_of, iec_asdu::specs::Packing::is_in_sequence, iec_asdu::specs::Packing::in_sequence_count, iec_asdu::specs::Packing::apart_count, iec_asdu::specs::Packing::alike_count, iec_asdu::specs::Packing::consecutive_count))]
 pub fn interrogations()
     ensures confirmation { given (pos 0) 1 0 (interrogated started)
         ≡ Some (Information 0 1 (0x64 ∷ 1 ∷ 7 ∷ 0 ∷ 1 ∷ 0 ∷ 0 ∷ 0 ∷ 0 ∷ 0x14 ∷ [])) }
@@ -151,7 +158,7 @@ pub fn interrogations()
 {}
 
 /// Reads and commands, and the places for their answers.
-#[tactic(auto, unfolding(iec_command::specs::Commands::command_of))]
+#[tactic(auto, unfolding(iec_command::specs::Commands::command_of, iec_asdu::specs::Spelling::list_spelling, iec_asdu::specs::Packing::packed_spelling, iec_asdu::specs::Packing::taken_of, iec_asdu::specs::Packing::is_in_sequence, iec_asdu::specs::Packing::in_sequence_count, iec_asdu::specs::Packing::apart_count, iec_asdu::specs::Packing::alike_count, iec_asdu::specs::Packing::consecutive_count))]
 pub fn answers()
     // A read is answered before older news and before the answer to an interrogation.
     ensures read { given (pos 0) 1 0 (taking 0 (I 1 0 reading ∷ []) (interrogated waiting))

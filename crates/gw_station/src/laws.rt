@@ -2,7 +2,7 @@
 ghost use Rattle.std.specs.Prelude.{◌≡◌, ℕ, ℤ, drop, slice_get, None, Some};
 ghost use Rattle.gw_station.specs.declared.sending.Sending.{Sending as AnySending};
 ghost use Rattle.gw_station.specs.Client.{Client};
-ghost use Rattle.gw_station.specs.Pump.{client_with_sent, given, line};
+ghost use Rattle.gw_station.specs.Pump.{client_with_sent, given, line, together};
 ghost use Rattle.gw_station.specs.Quiet.{IsQuiet};
 
 /// Nothing is put out only where nothing waits, or where what waits needs an I format and none may be sent.
@@ -10,8 +10,8 @@ pub fn nothing_is_held_back()
     ensures { (offset : ℤ) (common moment : ℕ) (c : Client) → given offset common moment c ≡ None → IsQuiet moment c }
 {}
 
-/// What is put out of the line is its first, and the others stay in their order.
+/// What is put out of the line is its front, as much as goes out together, and the others stay in their order.
 pub fn the_line_moves()
-    ensures { (moment : ℕ) (c : Client) (first : AnySending) → slice_get (line c) 0 ≡ Some first
-        → line (client_with_sent moment first c) ≡ drop 1 (line c) }
+    ensures { (offset : ℤ) (moment : ℕ) (c : Client) (first : AnySending) → slice_get (line c) 0 ≡ Some first
+        → line (client_with_sent offset moment first c) ≡ drop (together offset (line c)) (line c) }
 {}

@@ -6,6 +6,7 @@ mod client;
 mod event;
 pub mod examples;
 pub mod laws;
+mod news;
 mod rest;
 mod sending;
 mod station;

@@ -1,5 +1,5 @@
 //! What is known of one client.
-ghost use Rattle.std.specs.Prelude.{◌≡◌, ◌<◌, ◌≤◌, ◌-◌, ◌+◌, ◌^◌, ℕ, ℤ, true, false, None, [], ◌∷◌, ◌++◌, ◌&&◌, drop, is_some, length, nat_le, option_map, slice_get, take, IfOk, IfSome, OnErr, OnOk};
+ghost use Rattle.std.specs.Prelude.{◌≡◌, ◌<◌, ◌≤◌, ◌-◌, ◌+◌, ◌^◌, ℕ, ℤ, true, false, None, Some, [], ◌∷◌, ◌++◌, ◌&&◌, drop, is_some, length, nat_le, option_map, slice_get, take, IfOk, IfSome, OnErr, OnOk};
 ghost use Rattle.std.specs.List.{AllByRecursion};
 ghost use Rattle.std.specs.VecDeque.{deque_capacity};
 ghost use Rattle.iec_apci.specs.Apdu.{Information};
@@ -12,11 +12,12 @@ ghost use Rattle.gw_station.specs.Answers.{client_judging, client_told, is_askin
 ghost use Rattle.gw_station.specs.Client.{client_after_close, client_after_tick, client_after_up, client_anew, client_down, client_with_news, close_by_tick, is_started, is_up, most_confirmations};
 ghost use Rattle.gw_station.specs.Frames.{asks, begins, client_after_apdu, client_with_session, client_with_signal, closes_judged, event_of, floods, given_command, judged_asdu, overfills, wants_memory, HasPlace};
 ghost use Rattle.circular_buffer.specs.Buffer.{buffer};
-ghost use Rattle.gw_station.specs.Kept.{items_in, IsQueue};
-ghost use Rattle.gw_station.specs.Pump.{client_after_pump, client_with_sent, content_of, given, information, information_offered, line, offered, IsRoomy};
+ghost use Rattle.gw_station.specs.Kept.{items_in, news_next, parts_octets, parts_together, IsQueue};
+ghost use Rattle.gw_station.specs.Pump.{client_after_pump, client_with_sent, client_without_news, client_without_parts, content_of, given, information, information_offered, line, offered, packed_information, IsNext, IsRoomy};
 ghost use Rattle.gw_station.specs.Sound.{CanAnswer, CanTake, IsReturnableSending, IsWholeEvent};
 ghost use Rattle.gw_answers.specs.Meaning.{IsSendable};
-ghost use Rattle.gw_answers.specs.Octets.{IsReturnable};
+ghost use Rattle.iec_asdu.specs.Packing.{taken_of};
+ghost use Rattle.gw_answers.specs.Octets.{octets_in, packed_octets, IsReturnable};
 ghost use Rattle.gw_model.specs.First.{first_of};
 ghost use Rattle.gw_station.specs.declared.event.Event.TheVariants as events;
 ghost use Rattle.iec_apci.specs.declared.apdu.Apdu.TheVariants as formats;
@@ -24,12 +25,13 @@ ghost use Rattle.iec_apci.specs.declared.apdu.Signal.TheVariants as signals;
 
 use crate::client::Stage;
 use crate::event::{Event, Said, Why};
+use crate::news::{MOST_PACKED, pack_news};
 use crate::rest::PartsLeft;
 use crate::sending::Sending;
 use circular_buffer::HeapCircularBuffer;
 use gw_answers::{
-    AsduAnswer, OwnAsdu, answer_asdu, answer_to, answered, command_by, command_with, confirmed,
-    is_accepted_act, places_for,
+    AsduAnswer, OwnAsdu, PackedAsdu, answer_asdu, answered, command_by, command_with, confirmed,
+    is_accepted_act, places_for, rows_asked,
 };
 use gw_judge::{Judged, judge};
 use gw_map::Settings;
@@ -351,13 +353,14 @@ impl Station {
 
     /// The next APDU for the client at a moment: a confirmation that waits; TESTFR act where t3 has passed; where a
     /// session stands and fewer than k I formats wait for their acknowledgement, an answer to an ASDU, the oldest news
-    /// that came before the interrogation that is pending, the next part of its answer, or later news; an S format
-    /// where one is due.
+    /// that came before the interrogation that is pending, the next part of its answer, or later news, with as many
+    /// news or rows behind it as one ASDU carries; an S format where one is due.
     pub fn pump(&mut self, settings: &Settings, moment: u64) -> Option<ApduBuf>
         requires { sent_in_all self.old.window + 1 < 2 ^ 64 }
         ensures apdu { result ≡ option_map buffer_of
             (given settings.now.station.offset_minutes settings.now.station.common_address moment self.old) }
-        ensures client { self.new ≡ client_after_pump moment self.old }
+        ensures client { self.new
+            ≡ client_after_pump settings.now.station.offset_minutes moment self.old }
     {
         let sending = self.offered(moment)?;
         Some(self.send(sending, settings, moment))
@@ -476,7 +479,8 @@ impl Station {
         let pending = self.is_pending();
         if let Judged::Accepted(command) = judged {
             if is_accepted_act(pending, command) {
-                self.rest = PartsLeft::of(answer_to(self.alloc, command, picture)?)?;
+                let rows = rows_asked(self.alloc, command.action, picture)?;
+                self.rest = PartsLeft::of(command, rows)?;
                 self.older = self.queued();
                 return Ok(());
             }
@@ -527,6 +531,7 @@ impl Station {
     fn offered(&self, moment: u64) -> Option<Sending>
         ensures sending { result ≡ offered moment self.now }
         ensures room { IfSome result (IsRoomy self.now.window) }
+        ensures next { IfSome result (IsNext self.now) }
         // What the type keeps.
         ensures answers { AllByRecursion IsReturnable self.now.answers }
     {
@@ -581,14 +586,16 @@ impl Station {
         }
     }
 
-    /// Puts out what is offered.
+    /// Puts out what is offered, and what goes out with it.
     fn send(&mut self, sending: Sending, settings: &Settings, moment: u64) -> ApduBuf
         requires room { IsRoomy self.old.window sending }
         requires count { sent_in_all self.old.window + 1 < 2 ^ 64 }
         requires answer { IsReturnableSending sending }
+        requires next { IsNext self.old sending }
         ensures apdu { result ≡ buffer_of (content_of settings.now.station.offset_minutes
-            settings.now.station.common_address self.old.window sending) }
-        ensures client { self.new ≡ client_with_sent moment sending self.old }
+            settings.now.station.common_address self.old sending) }
+        ensures client { self.new
+            ≡ client_with_sent settings.now.station.offset_minutes moment sending self.old }
     {
         match sending {
             Sending::Confirm(signal) => {
@@ -603,18 +610,8 @@ impl Station {
                 self.answers.pop_front();
                 self.send_answer(&answer, settings, moment)
             }
-            Sending::News(observation) => {
-                self.forget_news();
-                self.send_answer(
-                    &AsduAnswer::Made(OwnAsdu::news(observation)),
-                    settings,
-                    moment,
-                )
-            }
-            Sending::Part(part) => {
-                self.forget_part();
-                self.send_answer(&AsduAnswer::Made(part), settings, moment)
-            }
+            Sending::News(_) => self.send_news(settings, moment),
+            Sending::Part(part) => self.send_parts(&part, settings, moment),
             Sending::SFormat => {
                 let nr = self.window.ack_sent();
                 ApduBuf::of(&Apdu::S { nr })
@@ -622,7 +619,7 @@ impl Station {
         }
     }
 
-    /// Puts out an answer, or what else goes out, in an I format.
+    /// Puts out an answer in an I format.
     fn send_answer(&mut self, answer: &AsduAnswer, settings: &Settings, moment: u64) -> ApduBuf
         requires room { length self.old.window.waiting < self.old.window.limits.k }
         requires count { sent_in_all self.old.window + 1 < 2 ^ 64 }
@@ -632,25 +629,90 @@ impl Station {
         ensures client { self.new ≡ record self.old { window = counts_after_sending_i moment self.old.window } }
     {
         let asdu = answer_asdu(settings.station().common_address, &settings.zone(), answer);
+        self.send_asdu(asdu, moment)
+    }
+
+    /// Puts out an ASDU in an I format.
+    fn send_asdu(&mut self, asdu: Asdu, moment: u64) -> ApduBuf
+        requires room { length self.old.window.waiting < self.old.window.limits.k }
+        requires count { sent_in_all self.old.window + 1 < 2 ^ 64 }
+        ensures apdu { result ≡ buffer_of (Information (send_number self.old.window)
+            (receive_number self.old.window) (octets_in asdu)) }
+        ensures client { self.new ≡ record self.old { window = counts_after_sending_i moment self.old.window } }
+    {
         let (ns, nr) = self.window.sent(moment);
         ApduBuf::of(&Apdu::I { ns, nr, asdu })
     }
 
-    /// The oldest news don't wait any more.
-    fn forget_news(&mut self)
-        ensures { self.new ≡ record self.old { queue = drop 1 self.old.queue; older = self.old.older - 1 } }
+    /// Puts out the oldest news, as many as one ASDU carries.
+    fn send_news(&mut self, settings: &Settings, moment: u64) -> ApduBuf
+        requires room { length self.old.window.waiting < self.old.window.limits.k }
+        requires count { sent_in_all self.old.window + 1 < 2 ^ 64 }
+        requires some { 0 < length (news_next self.old) }
+        ensures apdu { result ≡ buffer_of (packed_information settings.now.station.offset_minutes
+            settings.now.station.common_address self.old.window 3 0 (news_next self.old)) }
+        ensures client { self.new ≡ record (client_without_news
+            (taken_of settings.now.station.offset_minutes (news_next self.old)) self.old) {
+              window = counts_after_sending_i moment self.old.window;
+            } }
     {
-        if let Some(queue) = &mut self.queue {
-            queue.pop_front();
-        }
-        self.older = self.older.saturating_sub(1);
+        let packed = self.pack_news(settings);
+        self.forget_news(packed.taken);
+        self.send_asdu(packed.asdu, moment)
     }
 
-    /// The next part of the answer doesn't wait any more.
-    fn forget_part(&mut self)
-        ensures { self.new ≡ record self.old { rest = drop 1 self.old.rest } }
+    /// Puts out the next part of an answer, and as many rows behind it as its ASDU carries.
+    fn send_parts(&mut self, first: &OwnAsdu, settings: &Settings, moment: u64) -> ApduBuf
+        requires room { length self.old.window.waiting < self.old.window.limits.k }
+        requires count { sent_in_all self.old.window + 1 < 2 ^ 64 }
+        requires first { slice_get self.old.rest 0 ≡ Some first.now }
+        ensures apdu { result ≡ buffer_of (Information (send_number self.old.window)
+            (receive_number self.old.window) (parts_octets settings.now.station.offset_minutes
+            settings.now.station.common_address first.now self.old.rest)) }
+        ensures client { self.new ≡ record (client_without_parts
+            (parts_together settings.now.station.offset_minutes first.now self.old.rest) self.old) {
+              window = counts_after_sending_i moment self.old.window;
+            } }
     {
-        self.rest.forget_first();
+        let packed = self.rest.pack(first, settings);
+        self.rest.forget(packed.taken);
+        self.send_asdu(packed.asdu, moment)
+    }
+
+    /// The ASDU of as many as one carries of the news that may go next, and how many these are.
+    fn pack_news(&self, settings: &Settings) -> PackedAsdu
+        requires { 0 < length (news_next self.now) }
+        ensures asdu { octets_in result.asdu ≡ packed_octets settings.now.station.offset_minutes
+            settings.now.station.common_address 3 0 (news_next self.now) }
+        ensures taken { result.taken ≡ taken_of settings.now.station.offset_minutes (news_next self.now) }
+    {
+        let count = self.news_next().min(MOST_PACKED);
+        let Some(queue) = &self.queue else {
+            unreachable!()
+        };
+        let (front, back) = queue.as_slices();
+        pack_news(front, back, count, settings)
+    }
+
+    /// How many news may go next: those that came before the interrogation that is pending, or all.
+    fn news_next(&self) -> usize
+        ensures { result ≡ length (news_next self.now) }
+    {
+        if self.is_pending() {
+            self.queued().min(self.older)
+        } else {
+            self.queued()
+        }
+    }
+
+    /// The oldest news, so many, don't wait any more.
+    fn forget_news(&mut self, count: usize)
+        ensures { self.new ≡ client_without_news count self.old }
+    {
+        if let Some(queue) = &mut self.queue {
+            queue.truncate_front(queue.len().saturating_sub(count));
+        }
+        self.older = self.older.saturating_sub(count);
     }
 }
 

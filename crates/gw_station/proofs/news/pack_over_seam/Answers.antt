@@ -1,0 +1,21 @@
+use Rattle.std.proofs.Common.{◌≡◌, ◌-◌, List, ◌++◌, length, take, ap, ◌∙◌}
+use Rattle.gw_model.specs.declared.observation.Observation.{Observation}
+use Rattle.iec_asdu.specs.Packing.{taken_of}
+use Rattle.gw_answers.specs.Octets.{packed_octets}
+use Rattle.gw_station.proofs.Seam.{over_seam}
+use Rattle.gw_station.proofs.news.pack_over_seam.Goals as goal
+
+pub returns-clause-asdu : goal.returns-clause-asdu
+returns-clause-asdu c =
+    let station = c.args.settings.now.station in
+    c.pack_slice.ensures.asdu
+    ∙ ap (λ (xs : List Observation). packed_octets station.offset_minutes station.common_address 3 0 xs)
+    (over_seam c.args.count _ c.args.front.now c.args.back.now _ _ c.copy_from_slice.ensures.after
+    c.copy_from_slice-2.ensures.after c.requires.over c.requires.within)
+
+pub returns-clause-taken : goal.returns-clause-taken
+returns-clause-taken c =
+    c.pack_slice.ensures.taken
+    ∙ ap (λ (xs : List Observation). taken_of c.args.settings.now.station.offset_minutes xs)
+    (over_seam c.args.count _ c.args.front.now c.args.back.now _ _ c.copy_from_slice.ensures.after
+    c.copy_from_slice-2.ensures.after c.requires.over c.requires.within)

@@ -1,0 +1,12 @@
+use Rattle.std.proofs.Common.{List, sym, ap, ◌∙◌}
+use Rattle.std.specs.Arc.{arc_slice_items}
+use Rattle.gw_station.specs.Answers.{is_pending}
+use Rattle.gw_station.proofs.Rests.{pending_of}
+use Rattle.gw_station.proofs.rest.PartsLeft.is_pending.Goals as goal
+
+pub returns : goal.returns
+returns c =
+    c.is_some.ensures
+    ∙ (sym (pending_of (λ answer. answer.command) (λ answer. arc_slice_items answer.rows) c.self.inside.done
+    c.self.inside.answer c.self.invariant)
+    ∙ ap is_pending c.self.view_is)
