@@ -1,5 +1,6 @@
 -- What each step is to each client.
 use Rattle.std.proofs.Common.{◌≡◌, ℕ, zero, suc, ◌+◌, ◌*◌, ◌/◌, ◌%◌, ◌≤◌, Bool, true, false, cond, map, List, [], ◌∷◌, length, Option, Some, None, Result, Ok, Err, refl, sym, ap, subst, ◌∙◌, arith, inl, inr}
+use Rattle.std.specs.List.{AllByRecursion}
 use Rattle.std.specs.Prelude.{slice_get, option_map, IfSome}
 use Rattle.std.proofs.lemmas.Bool.{cases_Bool, cases_eq, ne_eqb, eq-eqb}
 use Rattle.gw_model.specs.declared.control.Order.{Order}
@@ -22,10 +23,10 @@ use Rattle.gw_station.specs.declared.event.Why.{Why}
 use Rattle.gw_station.specs.declared.sending.Sending.{Sending}
 use Rattle.gw_station.specs.Client.{Client, is_up, is_timed_out, client_after_up, client_after_close, client_after_tick, client_with_news}
 use Rattle.gw_station.specs.Frames.{close_of, event_by, event_of, command_in, client_by, client_taking}
-use Rattle.gw_station.specs.Pump.{offered, content_of, given, client_by_offer, client_after_pump}
+use Rattle.gw_station.specs.Pump.{line, offered, content_of, given, client_by_offer, client_after_pump}
 use Rattle.gw_station.specs.Sound.{CanSend}
 use Rattle.gw_station.proofs.Queues.{came-nil}
-use Rattle.gw_station.proofs.Sends.{offered_can, content_fits}
+use Rattle.gw_station.proofs.Sends.{offered_can, line_can, content_fits}
 use Rattle.gw_steps.specs.declared.step.Step.{Step}
 use Rattle.gw_steps.specs.declared.step.Step.TheVariants as steps
 use Rattle.gw_steps.specs.declared.step.Reply.{Reply}
@@ -257,16 +258,16 @@ frame setup past c m a r sound e picture =
 -- what becomes of its client, by what is offered
 pump_own : (setup : Setup) (past : List Entry) (c m moment : ℕ) (k : Client) (x : Option Sending)
     → length k.queue ≤ k.limit → offered moment k ≡ x
-    → IfSome x (CanSend setup.station.offset_minutes)
+    → IfSome x (CanSend setup.station.offset_minutes) → AllByRecursion (CanSend setup.station.offset_minutes) (line k)
     → let e : Entry = entry (steps.Pump c m) (Ok (reply_giving
-    (option_map (content_of setup.station.offset_minutes setup.station.common_address k.window) x))) in
-    Goes setup (turn_of setup c past e) k (client_by_offer moment x k)
-pump_own setup past c m moment k None few first can = rw (eq-eqb c c refl) (still k few)
-pump_own setup past c m moment k (Some sending) few first can =
-    let content : ApduContent = content_of setup.station.offset_minutes setup.station.common_address k.window sending in
-    let fits = content_fits setup.station.offset_minutes setup.station.common_address k.window sending in
+    (option_map (content_of setup.station.offset_minutes setup.station.common_address k) x))) in
+    Goes setup (turn_of setup c past e) k (client_by_offer setup.station.offset_minutes moment x k)
+pump_own setup past c m moment k None few first can all = rw (eq-eqb c c refl) (still k few)
+pump_own setup past c m moment k (Some sending) few first can all =
+    let content : ApduContent = content_of setup.station.offset_minutes setup.station.common_address k sending in
+    let fits = content_fits setup.station.offset_minutes setup.station.common_address k sending in
     rw (eq-eqb c c refl, said-content setup.station.offset_minutes content fits)
-    (record { moment = moment; sending = sending; first = first; can = can; says = refl; becomes = refl })
+    (record { moment = moment; sending = sending; first = first; can = can; all = all; says = refl; becomes = refl })
 
 pump_apart : (setup : Setup) (past : List Entry) (c d m : ℕ) (given : Option ApduContent) → (c ≡ d → ⊥)
     → turn_of setup d past (entry (steps.Pump c m) (Ok (reply_giving given))) ≡ Some nothing_new
@@ -288,9 +289,9 @@ pump setup past c m r s sound e =
     let can = offered_can setup.station s.counts.steps s.counts.news moment up.0 mine in
     subst (λ (x : Reply). AllGo setup past (entry step (Ok x)) s (after setup s step)) reply
     (one_client setup past (entry step (Ok (reply_giving content))) s (after setup s step) c
-    (client_after_pump moment) up.0 sound up.1 refl
+    (client_after_pump setup.station.offset_minutes moment) up.0 sound up.1 refl
     (λ d ne. pump_apart setup past c d m content ne) (pump_own setup past c m moment up.0
-    (offered moment up.0) mine.few refl can))
+    (offered moment up.0) mine.few refl can (line_can setup.station s.counts.steps s.counts.news up.0 mine)))
 
 -- ---- Tick
 

@@ -8,7 +8,7 @@ use Rattle.gw_control.specs.Moves.{is_operating}
 use Rattle.gw_station.specs.declared.sending.Sending.{Sending}
 use Rattle.gw_station.specs.Client.{Client, is_started, limits_of, client_after_up, client_after_close, client_with_news}
 use Rattle.gw_station.specs.Frames.{close_of, client_taking, command_in, event_taking}
-use Rattle.gw_station.specs.Pump.{offered, content_of, client_with_sent}
+use Rattle.gw_station.specs.Pump.{line, offered, content_of, client_with_sent}
 use Rattle.gw_station.specs.Sound.{CanSend, IsSoundClient}
 use Rattle.gw_steps.specs.Controls.{client_told_all}
 use Rattle.gw_steps.specs.Steps.{client_answered}
@@ -39,9 +39,10 @@ pub record Gave (setup : Setup) (said : ApduMeaning) (k new : Client) : Type 0 w
   pub sending : Sending
   pub first : offered moment k ≡ Some sending
   pub can : CanSend setup.station.offset_minutes sending
+  pub all : AllByRecursion (CanSend setup.station.offset_minutes) (line k)
   pub says : said ≡ said_by setup.station.offset_minutes
-      (content_of setup.station.offset_minutes setup.station.common_address k.window sending)
-  pub becomes : new ≡ client_with_sent moment sending k
+      (content_of setup.station.offset_minutes setup.station.common_address k sending)
+  pub becomes : new ≡ client_with_sent setup.station.offset_minutes moment sending k
 
 abbrev pub Becomes : Setup → Turn → Client → Client → Type 0
 Becomes setup (Idle brought) k new = Came brought k new

@@ -23,12 +23,12 @@ use Rattle.gw_laws.specs.Apdus.{ReadsAsOne, Apdus}
 -- what is made of an offer reads as one
 given_reads : (setup : Setup) (c m : ℕ) (k : Client) (x : Option Sending)
     → ReadsAsOne setup (steps.Pump c m)
-    (Ok (reply_giving (option_map (content_of setup.station.offset_minutes setup.station.common_address k.window) x)))
+    (Ok (reply_giving (option_map (content_of setup.station.offset_minutes setup.station.common_address k) x)))
 given_reads setup c m k None = tt
 given_reads setup c m k (Some sending) =
-    let content : ApduContent = content_of setup.station.offset_minutes setup.station.common_address k.window sending in
+    let content : ApduContent = content_of setup.station.offset_minutes setup.station.common_address k sending in
     rw (said-content setup.station.offset_minutes content
-    (content_fits setup.station.offset_minutes setup.station.common_address k.window sending)) refl
+    (content_fits setup.station.offset_minutes setup.station.common_address k sending)) refl
 
 pump_reads : (setup : Setup) (c m : ℕ) (r : Reply) (s : State) → outcome setup s (steps.Pump c m) ≡ Ok r
     → ReadsAsOne setup (steps.Pump c m) (Ok r)

@@ -1,5 +1,5 @@
 -- What ties the places that a client's orders hold to its session.
-use Rattle.std.proofs.Common.{◌≡◌, ℕ, ◌-◌, ◌*◌, ◌<◌, List, ◌∷◌, length, Option, Some, None, refl, sym, ap, subst, ◌∙◌, arith}
+use Rattle.std.proofs.Common.{ℤ, ◌≡◌, ℕ, ◌-◌, ◌*◌, ◌<◌, List, ◌∷◌, length, Option, Some, None, refl, sym, ap, subst, ◌∙◌, arith}
 use Rattle.std.proofs.lemmas.Bool.{true≢false}
 use Rattle.gw_map.specs.Settings.{Setup}
 use Rattle.iec_apci.specs.declared.apdu.Apdu.{Apdu}
@@ -78,13 +78,13 @@ took setup (S nr) taking moment (Some hs) k opens news tied = tied
 took setup (U signal) taking moment s k opens news tied = signal_taken setup taking moment signal s k news tied
 
 -- what is put out frees none of them
-sent_holds : (moment : ℕ) (x : Sending) (k : Client) → (client_with_sent moment x k).held ≡ k.held
-sent_holds moment (sendings.Confirm signal) k = refl
-sent_holds moment sendings.Test k = refl
-sent_holds moment sendings.SFormat k = refl
-sent_holds moment (sendings.Answer answer) k = refl
-sent_holds moment (sendings.News x) k = refl
-sent_holds moment (sendings.Part part) k = refl
+sent_holds : (offset : ℤ) (moment : ℕ) (x : Sending) (k : Client) → (client_with_sent offset moment x k).held ≡ k.held
+sent_holds offset moment (sendings.Confirm signal) k = refl
+sent_holds offset moment sendings.Test k = refl
+sent_holds offset moment sendings.SFormat k = refl
+sent_holds offset moment (sendings.Answer answer) k = refl
+sent_holds offset moment (sendings.News x) k = refl
+sent_holds offset moment (sendings.Part part) k = refl
 
 put_out : (setup : Setup) (said : ApduMeaning) (s : Option (List Turn))
     → held setup (turns_in (session_with (PutsOut said) s)) ≡ held setup (turns_in s)
@@ -103,7 +103,7 @@ held_more setup some small (Takes a taking) ts k new lives is tied =
     (took setup a taking is.moment (session ts) k is.opens (news_tied setup some small ts k lives) tied)
 held_more setup some small (PutsOut said) ts k new lives is tied =
     ap (λ (x : Client). x.held) is.becomes
-    ∙ (sent_holds is.moment is.sending k ∙ (tied ∙ sym (put_out setup said (session ts))))
+    ∙ (sent_holds setup.station.offset_minutes is.moment is.sending k ∙ (tied ∙ sym (put_out setup said (session ts))))
 
 pub held_tied : (setup : Setup) → 0 < setup.station.queue → setup.station.common_address < 65536
     → (ts : List Turn) (k : Client) → Lives setup ts k → HeldTied setup (session ts) k

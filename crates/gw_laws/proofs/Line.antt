@@ -446,16 +446,16 @@ same_asked common owes q n m meant k none same tied =
 gave : (setup : Setup) (moment : ℕ) (x : Sending) (s : Option (List Turn)) (k : Client)
     → setup.station.common_address < 65536 → IsOffered k x → CanSend setup.station.offset_minutes x
     → NewsTied setup s k → LineTied setup s k → LineTied setup (session_with (PutsOut (says setup k x)) s)
-    (client_with_sent moment x k)
+    (client_with_sent setup.station.offset_minutes moment x k)
 gave setup moment x None k small is can news tied = tt
 gave setup moment (sendings.Confirm signal) (Some hs) k small is can news tied =
-    waits_on _ _ _ _ k (client_with_sent moment (sendings.Confirm signal) k)
+    waits_on _ _ _ _ k (client_with_sent setup.station.offset_minutes moment (sendings.Confirm signal) k)
     (record { rest = refl; older = refl; queue = refl }) refl tied
 gave setup moment sendings.Test (Some hs) k small is can news tied =
-    waits_on _ _ _ _ k (client_with_sent moment sendings.Test k)
+    waits_on _ _ _ _ k (client_with_sent setup.station.offset_minutes moment sendings.Test k)
     (record { rest = refl; older = refl; queue = refl }) refl tied
 gave setup moment sendings.SFormat (Some hs) k small is can news tied =
-    waits_on _ _ _ _ k (client_with_sent moment sendings.SFormat k)
+    waits_on _ _ _ _ k (client_with_sent setup.station.offset_minutes moment sendings.SFormat k)
     (record { rest = refl; older = refl; queue = refl }) refl tied
 gave setup moment (sendings.Answer answer) (Some hs) k small is can news tied =
     let offset : ℤ = setup.station.offset_minutes in
@@ -466,7 +466,7 @@ gave setup moment (sendings.Answer answer) (Some hs) k small is can news tied =
     let apart : IsApart answer = (subst (AllByRecursion IsApart) front.1 tied.apart).0 in
     let none : spontaneous_of common meant ≡ [] = answer_no_news offset common answer meant can means in
     same_asked common (drop 1 (owed setup hs)) (interrogation setup hs) (length (fates setup.station hs)) _ meant
-    (client_with_sent moment (sendings.Answer answer) k)
+    (client_with_sent setup.station.offset_minutes moment (sendings.Answer answer) k)
     (answer_apart offset common answer meant can apart means)
     (sym (ap (λ (xs : List Observation). length (fates_with_put_out (fates setup.station hs) xs)) none))
     (record {
@@ -487,7 +487,7 @@ gave setup moment (sendings.News x) (Some hs) k small is can news tied =
     let none : owed setup hs ≡ [] = sym tied.answers ∙ no_answer k x is.first in
     let front = news_first k x is.first in
     same_asked common (drop 1 (owed setup hs)) (interrogation setup hs) (length (fates setup.station hs)) _ meant
-    (client_with_sent moment (sendings.News x) k)
+    (client_with_sent setup.station.offset_minutes moment (sendings.News x) k)
     (news_apart offset common x meant means)
     (sym (length-gone (fates setup.station hs) (spontaneous_of common meant)))
     (record {
@@ -543,7 +543,7 @@ line_more setup some small (Takes a taking) ts k new lives is tied =
     (took setup a taking is.moment (session ts) k is.opens (news_tied setup some small ts k lives) tied)
 line_more setup some small (PutsOut said) ts k new lives is tied =
     subst (LineTied setup (session (PutsOut said ∷ ts))) (sym is.becomes)
-    (subst (λ (x : ApduMeaning). LineTied setup (session (PutsOut x ∷ ts)) (client_with_sent is.moment is.sending k))
+    (subst (λ (x : ApduMeaning). LineTied setup (session (PutsOut x ∷ ts)) (client_with_sent setup.station.offset_minutes is.moment is.sending k))
     (sym is.says)
     (gave setup is.moment is.sending (session ts) k small (offered_is is.moment k is.sending is.first) is.can
     (news_tied setup some small ts k lives) tied))

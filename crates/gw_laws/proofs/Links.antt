@@ -51,8 +51,8 @@ pub record GivesAt (setup : Setup) (moment : ℕ) (said : ApduMeaning) (k new : 
   pub sending : Sending
   pub first : offered moment k ≡ Some sending
   pub says : said ≡ said_by setup.station.offset_minutes
-      (content_of setup.station.offset_minutes setup.station.common_address k.window sending)
-  pub becomes : new ≡ client_with_sent moment sending k
+      (content_of setup.station.offset_minutes setup.station.common_address k sending)
+  pub becomes : new ≡ client_with_sent setup.station.offset_minutes moment sending k
 
 abbrev pub BecomesAt : Setup → ℕ → Turn → Client → Client → Type 0
 BecomesAt setup moment (Idle brought) k new = Stays k new

@@ -200,7 +200,7 @@ puts_first : (setup : Setup) (log : List Observation) (moment : ℕ) (x : Sendin
     (k : Client) → slice_get (line_of k) 0 ≡ Some x → CanSend setup.station.offset_minutes x
     → MeansSending setup.station.offset_minutes setup.station.common_address x meant → InSession setup hs k
     → LineTied setup (Some hs) k
-    → line_of (client_with_sent moment x k) ≡ line_in
+    → line_of (client_with_sent setup.station.offset_minutes moment x k) ≡ line_in
     (put_out meant (spontaneous_of setup.station.common_address meant) (view setup log hs))
     → PutsFirst setup.station.offset_minutes setup.station.common_address (view setup log hs)
     (put_out meant (spontaneous_of setup.station.common_address meant) (view setup log hs)) meant
@@ -373,8 +373,8 @@ numbered setup log ns nr meant hs puts = record {
 puts : (setup : Setup) (log : List Observation) (moment : ℕ) (x : Sending) (s : Option (List Turn)) (k : Client)
     → setup.station.common_address < 65536 → IsOffered k x → CanSend setup.station.offset_minutes x
     → NewsTied setup s k → LineTied setup s k → NewsTied setup (session_with (PutsOut (says setup k x)) s)
-    (client_with_sent moment x k)
-    → LineTied setup (session_with (PutsOut (says setup k x)) s) (client_with_sent moment x k)
+    (client_with_sent setup.station.offset_minutes moment x k)
+    → LineTied setup (session_with (PutsOut (says setup k x)) s) (client_with_sent setup.station.offset_minutes moment x k)
     → SessionMirrored setup log s → SessionMirrored setup log (session_with (PutsOut (says setup k x)) s)
 puts setup log moment x None k small is can news lined news_then then tied = tt
 puts setup log moment (sendings.Confirm signal) (Some hs) k small is can news lined news_then then tied =
@@ -389,14 +389,14 @@ puts setup log moment sendings.SFormat (Some hs) k small is can news lined news_
 puts setup log moment (sendings.Answer answer) (Some hs) k small is can news lined news_then then tied =
     let x : Sending = sendings.Answer answer in
     let t : Turn = PutsOut (says setup k x) in
-    let now = line_is setup (t ∷ hs) (client_with_sent moment x k) news_then then in
+    let now = line_is setup (t ∷ hs) (client_with_sent setup.station.offset_minutes moment x k) news_then then in
     mirrored setup log log t hs (numbered setup log _ _ _ hs
     (puts_first setup log moment x hs _ k is.first can
     (answer_means setup.station.offset_minutes setup.station.common_address answer small can) news lined now)) tied
 puts setup log moment (sendings.News y) (Some hs) k small is can news lined news_then then tied =
     let x : Sending = sendings.News y in
     let t : Turn = PutsOut (says setup k x) in
-    let now = line_is setup (t ∷ hs) (client_with_sent moment x k) news_then then in
+    let now = line_is setup (t ∷ hs) (client_with_sent setup.station.offset_minutes moment x k) news_then then in
     mirrored setup log log t hs (numbered setup log _ _ _ hs
     (puts_first setup log moment x hs _ k is.first can
     (outgoing_means setup.station.offset_minutes setup.station.common_address (told_news y) small can) news
@@ -404,7 +404,7 @@ puts setup log moment (sendings.News y) (Some hs) k small is can news lined news
 puts setup log moment (sendings.Part part) (Some hs) k small is can news lined news_then then tied =
     let x : Sending = sendings.Part part in
     let t : Turn = PutsOut (says setup k x) in
-    let now = line_is setup (t ∷ hs) (client_with_sent moment x k) news_then then in
+    let now = line_is setup (t ∷ hs) (client_with_sent setup.station.offset_minutes moment x k) news_then then in
     mirrored setup log log t hs (numbered setup log _ _ _ hs
     (puts_first setup log moment x hs _ k is.first can
     (outgoing_means setup.station.offset_minutes setup.station.common_address part small can) news lined now)) tied
@@ -444,7 +444,7 @@ session_mirrored setup fit log (PutsOut said ∷ ts) k lives logged =
     let gave = lives.2 in
     let old : Client = lives.0 in
     let t : ApduMeaning → Turn = λ x. PutsOut x in
-    let new : Client = client_with_sent gave.moment gave.sending old in
+    let new : Client = client_with_sent setup.station.offset_minutes gave.moment gave.sending old in
     subst (λ (x : ApduMeaning). SessionMirrored setup log (session (PutsOut x ∷ ts))) (sym gave.says)
     (puts setup log gave.moment gave.sending (session ts) old fit.station
     (offered_is gave.moment old gave.sending gave.first) gave.can

@@ -325,7 +325,7 @@ put_still setup said hs k new none alike parts tied =
 
 gave : (setup : Setup) (moment : ℕ) (x : Sending) (s : Option (List Turn)) (k : Client)
     → setup.station.common_address < 65536 → IsOffered k x → CanSend setup.station.offset_minutes x
-    → NewsTied setup s k → NewsTied setup (session_with (PutsOut (says setup k x)) s) (client_with_sent moment x k)
+    → NewsTied setup s k → NewsTied setup (session_with (PutsOut (says setup k x)) s) (client_with_sent setup.station.offset_minutes moment x k)
 gave setup moment (sendings.Confirm signal) None k small is can tied = no_session k _ refl refl refl refl refl tied
 gave setup moment sendings.Test None k small is can tied = no_session k _ refl refl refl refl refl tied
 gave setup moment sendings.SFormat None k small is can tied = no_session k _ refl refl refl refl refl tied
@@ -404,7 +404,7 @@ news_more setup some small (Takes a taking) ts k new lives is tied =
     (took setup a taking is.moment (session ts) k is.opens tied)
 news_more setup some small (PutsOut said) ts k new lives is tied =
     subst (NewsTied setup (session (PutsOut said ∷ ts))) (sym is.becomes)
-    (subst (λ (x : ApduMeaning). NewsTied setup (session (PutsOut x ∷ ts)) (client_with_sent is.moment is.sending k))
+    (subst (λ (x : ApduMeaning). NewsTied setup (session (PutsOut x ∷ ts)) (client_with_sent setup.station.offset_minutes is.moment is.sending k))
     (sym is.says)
     (gave setup is.moment is.sending (session ts) k small (offered_is is.moment k is.sending is.first) is.can tied))
 

@@ -93,7 +93,7 @@ took setup moment (U signal) taking ts k new takes tied = record {
 
 abbrev pub says : Setup → Client → Sending → ApduMeaning
 says setup k s = said_by setup.station.offset_minutes
-    (content_of setup.station.offset_minutes setup.station.common_address k.window s)
+    (content_of setup.station.offset_minutes setup.station.common_address k s)
 
 -- a con that is put out is one of those given
 given_more : (signal : Signal) (ts : List Turn) → IsCon signal
@@ -124,7 +124,7 @@ confirmed moment signal ts k (x ∷ cs) same first tied =
     }
 
 gave : (setup : Setup) (moment : ℕ) (s : Sending) (ts : List TimedTurn) (k : Client) → IsOffer moment k (Some s)
-    → SignalsTied ts k → SignalsTied (At moment (PutsOut (says setup k s)) ∷ ts) (client_with_sent moment s k)
+    → SignalsTied ts k → SignalsTied (At moment (PutsOut (says setup k s)) ∷ ts) (client_with_sent setup.station.offset_minutes moment s k)
 gave setup moment (sendings.Confirm signal) ts k offer tied =
     confirmed moment signal ts k k.confirmations refl offer tied
 gave setup moment sendings.Test ts k offer tied = signals_same ts _ k _ refl refl refl tied
@@ -142,7 +142,7 @@ signals_more setup began moment (Takes a taking) ts k new linked tied is so_far 
     took setup moment a taking ts k new is so_far
 signals_more setup began moment (PutsOut said) ts k new linked tied is so_far =
     subst (SignalsTied (At moment (PutsOut said) ∷ ts)) (sym is.becomes)
-    (subst (λ (x : ApduMeaning). SignalsTied (At moment (PutsOut x) ∷ ts) (client_with_sent moment is.sending k))
+    (subst (λ (x : ApduMeaning). SignalsTied (At moment (PutsOut x) ∷ ts) (client_with_sent setup.station.offset_minutes moment is.sending k))
     (sym is.says)
     (gave setup moment is.sending ts k (offer_told moment k (Some is.sending) is.first) so_far))
 signals_more setup began moment Ends ts k new linked tied is so_far = absurd is

@@ -111,14 +111,14 @@ says_due setup now x k sendings.SFormat tied offer = (
 pumped : (setup : Setup) (now : ℕ) (x : Connection) (k : Client) (offer : Option Sending) → Ties setup x k
     → IsOffer now k offer
     → SaysDue setup.station now (says setup (reply_giving (option_map
-    (content_of setup.station.offset_minutes setup.station.common_address k.window) offer))) x
+    (content_of setup.station.offset_minutes setup.station.common_address k) offer))) x
 pumped setup now x k None tied is = (
   no_signal setup now x k tied is.0,
   sym (same_ack setup now x k tied) ∙ is.1,
 )
 pumped setup now x k (Some s) tied is =
-    let content : ApduContent = content_of setup.station.offset_minutes setup.station.common_address k.window s in
-    let fits = content_fits setup.station.offset_minutes setup.station.common_address k.window s in
+    let content : ApduContent = content_of setup.station.offset_minutes setup.station.common_address k s in
+    let fits = content_fits setup.station.offset_minutes setup.station.common_address k s in
     subst (λ (said : Option ApduMeaning). SaysDue setup.station now said x)
     (sym (said-content setup.station.offset_minutes content fits)) (says_due setup now x k s tied is)
 

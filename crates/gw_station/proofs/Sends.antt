@@ -1,6 +1,7 @@
 -- What is put out can be sent: it is of what the client may be sent, and has the octets of an APDU.
 use Rattle.std.proofs.Common.{ℕ, ℤ, ◌≤◌, true, List, length, arith}
 use Rattle.std.specs.Prelude.{slice_index, IfSome}
+use Rattle.std.specs.List.{AllByRecursion}
 use Rattle.std.proofs.lemmas.List.{length-set, length-take}
 use Rattle.gw_model.specs.Bits.{is_set}
 use Rattle.gw_entries.specs.Setup.{StationSetup}
@@ -21,17 +22,23 @@ use Rattle.gw_answers.proofs.Meant.{packed_octets_short}
 use Rattle.gw_station.specs.declared.sending.Sending.{Sending}
 use Rattle.gw_station.specs.declared.sending.Sending.TheVariants as sendings
 use Rattle.gw_station.specs.Client.{Client}
-use Rattle.gw_station.specs.Pump.{line, content_of, news_front, offered, part_content, rows_front}
+use Rattle.gw_station.specs.Pump.{line, content_of, news_front, offered, part_octets, rows_front}
 use Rattle.gw_station.specs.Sound.{CanSend, IsSoundClient}
 use Rattle.gw_station.proofs.Line.{line_so, offered_so}
 
 -- ---- what is offered
 
+-- all that is in line
+pub line_can : (station : StationSetup) (steps news : ℕ) (c : Client) → IsSoundClient station steps news c
+    → AllByRecursion (CanSend station.offset_minutes) (line c)
+line_can station steps news c sound =
+    line_so (CanSend station.offset_minutes) c sound.answers sound.sendable sound.rest
+
 pub offered_can : (station : StationSetup) (steps news moment : ℕ) (c : Client) → IsSoundClient station steps news c
     → IfSome (offered moment c) (CanSend station.offset_minutes)
 offered_can station steps news moment c sound =
     offered_so (CanSend station.offset_minutes) (λ signal. tt) tt tt moment c
-    (line_so (CanSend station.offset_minutes) c sound.answers sound.sendable sound.rest)
+    (line_can station steps news c sound)
 
 -- ---- how many octets it has
 
@@ -56,11 +63,11 @@ answer_short offset common (Returned asdu cause) =
     omega (arith, length-set came 2 back, length-take asdu.len asdu.octets, asdu.fits)
 answer_short offset common (Made x) = outgoing_short offset common x
 
-part_fits : (offset : ℤ) (common : ℕ) (c : Client) (part : OwnAsdu) → Fits (part_content offset common c part)
-part_fits offset common c (outgoing.Command command) =
-    (omega arith, omega arith, outgoing_short offset common (outgoing.Command command))
-part_fits offset common c (outgoing.Observation cause originator x) =
-    (omega arith, omega arith, packed_octets_short offset common cause originator (rows_front cause originator (line c)))
+part_short : (offset : ℤ) (common : ℕ) (l : List Sending) (part : OwnAsdu)
+    → length (part_octets offset common l part) ≤ 249
+part_short offset common l (outgoing.Command command) = outgoing_short offset common (outgoing.Command command)
+part_short offset common l (outgoing.Observation cause originator x) =
+    packed_octets_short offset common cause originator (rows_front cause originator l)
 
 pub content_fits : (offset : ℤ) (common : ℕ) (c : Client) (sending : Sending)
     → Fits (content_of offset common c sending)
@@ -69,5 +76,5 @@ content_fits offset common c sendings.Test = tt
 content_fits offset common c (sendings.Answer answer) = (omega arith, omega arith, answer_short offset common answer)
 content_fits offset common c (sendings.News x) =
     (omega arith, omega arith, packed_octets_short offset common 3 0 (news_front (line c)))
-content_fits offset common c (sendings.Part part) = part_fits offset common c part
+content_fits offset common c (sendings.Part part) = (omega arith, omega arith, part_short offset common (line c) part)
 content_fits offset common c sendings.SFormat = omega arith

@@ -8,11 +8,12 @@ use Rattle.iec_window.specs.Sequence.{send_number, receive_number}
 use Rattle.iec_window.specs.Steps.{counts_after_sending_i}
 use Rattle.gw_answers.specs.declared.outgoing.OwnAsdu.{OwnAsdu}
 use Rattle.gw_answers.specs.declared.outgoing.OwnAsdu.TheVariants as outgoing
+use Rattle.gw_answers.specs.Octets.{packed_octets}
 use Rattle.gw_station.specs.declared.sending.Sending.{Sending}
 use Rattle.gw_station.specs.declared.sending.Sending.TheVariants as sendings
 use Rattle.gw_station.specs.Client.{Client}
 use Rattle.gw_station.specs.Kept.{news_next, parts_octets, parts_together}
-use Rattle.gw_station.specs.Pump.{line, together, packed_information, part_content, content_of, client_without_news, client_without_parts, client_with_sent, IsNext}
+use Rattle.gw_station.specs.Pump.{line, together, packed_information, part_octets, content_of, client_without_news, client_without_parts, client_with_sent, IsNext}
 use Rattle.gw_station.proofs.Front.{news_first, news_together, part_first, parts_same, rows_same}
 
 -- ---- news
@@ -49,11 +50,10 @@ part_is_first c s part is next = (part_first c part (subst (IsNext c) is next)).
 
 octets_are : (offset : ℤ) (common : ℕ) (c : Client) (part : OwnAsdu)
     → slice_get (line c) 0 ≡ Some (sendings.Part part)
-    → Information (send_number c.window) (receive_number c.window) (parts_octets offset common part c.rest)
-    ≡ part_content offset common c part
+    → parts_octets offset common part c.rest ≡ part_octets offset common (line c) part
 octets_are offset common c (outgoing.Command command) e = refl
 octets_are offset common c (outgoing.Observation cause originator x) e =
-    ap (λ (xs : List Observation). packed_information offset common c.window cause originator xs)
+    ap (λ (xs : List Observation). packed_octets offset common cause originator xs)
     (sym (rows_same c (outgoing.Observation cause originator x) cause originator
     (part_first c (outgoing.Observation cause originator x) e)))
 
@@ -62,7 +62,9 @@ pub part_content_is : (offset : ℤ) (common : ℕ) (c : Client) (s : Sending) (
     → Information (send_number c.window) (receive_number c.window) (parts_octets offset common part c.rest)
     ≡ content_of offset common c s
 part_content_is offset common c s part is next =
-    octets_are offset common c part (subst (IsNext c) is next) ∙ ap (content_of offset common c) (sym is)
+    ap (λ (octets : List ℕ). Information (send_number c.window) (receive_number c.window) octets)
+    (octets_are offset common c part (subst (IsNext c) is next))
+    ∙ ap (content_of offset common c) (sym is)
 
 pub parts_sent : (offset : ℤ) (moment : ℕ) (c : Client) (s : Sending) (part : OwnAsdu) → s ≡ sendings.Part part
     → IsNext c s

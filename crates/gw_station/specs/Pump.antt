@@ -13,7 +13,7 @@ use Rattle.gw_answers.specs.declared.outgoing.AsduAnswer.{AsduAnswer}
 use Rattle.gw_answers.specs.declared.outgoing.AsduAnswer.TheVariants.{Made}
 use Rattle.gw_answers.specs.declared.outgoing.OwnAsdu.{OwnAsdu}
 use Rattle.gw_answers.specs.declared.outgoing.OwnAsdu.TheVariants as outgoing
-use Rattle.gw_answers.specs.Octets.{answer_octets, packed_octets}
+use Rattle.gw_answers.specs.Octets.{answer_octets, outgoing_octets, packed_octets}
 use Rattle.gw_station.specs.declared.sending.Sending.{Sending}
 use Rattle.gw_station.specs.declared.sending.Sending.TheVariants as sendings
 use Rattle.gw_station.specs.Client.{Client, is_started}
@@ -91,11 +91,11 @@ abbrev pub packed_information : ℤ → ℕ → WindowCounts → ℕ → ℕ →
 packed_information offset common w cause originator xs =
     Information (send_number w) (receive_number w) (packed_octets offset common cause originator xs)
 
-abbrev pub part_content : ℤ → ℕ → Client → OwnAsdu → ApduContent
-part_content offset common c (outgoing.Command command) =
-    information offset common c.window (Made (outgoing.Command command))
-part_content offset common c (outgoing.Observation cause originator x) =
-    packed_information offset common c.window cause originator (rows_front cause originator (line c))
+-- the octets of a part with those that go out with it
+abbrev pub part_octets : ℤ → ℕ → List Sending → OwnAsdu → List ℕ
+part_octets offset common line (outgoing.Command command) = outgoing_octets offset common (outgoing.Command command)
+part_octets offset common line (outgoing.Observation cause originator x) =
+    packed_octets offset common cause originator (rows_front cause originator line)
 
 -- what it carries
 abbrev pub content_of : ℤ → ℕ → Client → Sending → ApduContent
@@ -104,7 +104,8 @@ content_of offset common c sendings.Test = Unnumbered TestAct
 content_of offset common c (sendings.Answer answer) = information offset common c.window answer
 content_of offset common c (sendings.News x) =
     packed_information offset common c.window 3 0 (news_front (line c))
-content_of offset common c (sendings.Part part) = part_content offset common c part
+content_of offset common c (sendings.Part part) =
+    Information (send_number c.window) (receive_number c.window) (part_octets offset common (line c) part)
 content_of offset common c sendings.SFormat = Supervisory (receive_number c.window)
 
 -- what is put out next at a moment, if anything

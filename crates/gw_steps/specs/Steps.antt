@@ -355,7 +355,8 @@ parts_after setup s moment (steps.ClientDown c _) = record s {
   controls = controls_after_end c s.controls;
 }
 parts_after setup s moment (steps.Frame c apdu _) = parts_after_frame setup s moment c apdu
-parts_after setup s moment (steps.Pump c _) = record s { clients = change c (client_after_pump moment) s.clients }
+parts_after setup s moment (steps.Pump c _) =
+    record s { clients = change c (client_after_pump setup.station.offset_minutes moment) s.clients }
 
 abbrev pub after : Setup → State → Step → State
 after setup s step = record (parts_after setup s (latest s (moment_of step)) step) {

@@ -65,7 +65,7 @@ pub fn replies_by_example()
 {}
 
 /// What is put out in runs, and what becomes of their fragments.
-#[tactic(auto, unfolding(gw_time::specs::Spelling::tag_showing, gw_time::specs::Spelling::date_after))]
+#[tactic(auto, unfolding(gw_time::specs::Spelling::tag_showing, gw_time::specs::Spelling::date_after, iec_asdu::specs::Spelling::list_spelling, iec_asdu::specs::Packing::packed_spelling, iec_asdu::specs::Packing::taken_of, iec_asdu::specs::Packing::is_in_sequence, iec_asdu::specs::Packing::in_sequence_count, iec_asdu::specs::Packing::apart_count, iec_asdu::specs::Packing::alike_count, iec_asdu::specs::Packing::consecutive_count))]
 pub fn runs_by_example()
     // STARTDT con comes first; a second STARTDT act is confirmed too.
     ensures confirmation { outcome setup (reached starting) pump
@@ -124,7 +124,7 @@ pub fn runs_by_example()
 
 /// A station interrogation while news wait: older news, its confirmation, the picture of its moment, its termination,
 /// and then later news.
-#[tactic(auto, unfolding(iec_command::specs::Commands::command_of))]
+#[tactic(auto, unfolding(iec_command::specs::Commands::command_of, iec_asdu::specs::Spelling::list_spelling, iec_asdu::specs::Packing::packed_spelling, iec_asdu::specs::Packing::taken_of, iec_asdu::specs::Packing::is_in_sequence, iec_asdu::specs::Packing::in_sequence_count, iec_asdu::specs::Packing::apart_count, iec_asdu::specs::Packing::alike_count, iec_asdu::specs::Packing::consecutive_count))]
 pub fn interrogations_by_example()
     ensures taken { outcome setup (reached (started ++ fragment_of event ∷ [])) (interrogate 0) ≡ Ok replies.Taken }
     ensures older { outcome setup (reached interrogated) pump ≡ Ok (replies.Apdu (buffer (0x68 ∷ 0x0E ∷ 0 ∷ 0 ∷ 2 ∷ 0
