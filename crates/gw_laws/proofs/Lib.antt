@@ -7,6 +7,7 @@ pub mod Joined
 pub mod Waits
 pub mod Watches
 pub mod Numbers
+pub mod Fronts
 pub mod News
 pub mod Line
 pub mod Held

@@ -4,7 +4,7 @@ use Rattle.std.specs.Prelude.{◌&&◌, option_map, slice_get, IfSome}
 use Rattle.std.specs.Option.{option_to_list}
 use Rattle.std.specs.List.{AllByRecursion}
 use Rattle.std.proofs.lemmas.Bool.{cases_Bool, true≢false}
-use Rattle.std.proofs.lemmas.List.{append-nil, length-append, length-drop}
+use Rattle.std.proofs.lemmas.List.{append-nil, length-append, length-drop, length-map, length-take-le}
 use Rattle.gw_model.specs.declared.observation.Observation.{Observation}
 use Rattle.gw_map.specs.Settings.{Setup}
 use Rattle.iec_apci.specs.declared.apdu.Asdu.{Asdu as AsduOctets}
@@ -21,13 +21,12 @@ use Rattle.gw_judge.specs.declared.judging.Judged.TheVariants as judgements
 use Rattle.gw_answers.specs.declared.outgoing.AsduAnswer.{AsduAnswer}
 use Rattle.gw_answers.specs.declared.outgoing.AsduAnswer.TheVariants.{Made}
 use Rattle.gw_answers.specs.declared.outgoing.OwnAsdu.TheVariants as outgoing
-use Rattle.gw_answers.specs.Outgoing.{news as told_news}
 use Rattle.gw_answers.specs.declared.outgoing.OwnAsdu.{OwnAsdu}
 use Rattle.gw_answers.specs.Interrogations.{is_accepted_act, answer_to}
 use Rattle.gw_answers.specs.Answers.{answered, answered_action, refused_act, shown_at, command_by}
-use Rattle.gw_answers.specs.Octets.{answer_octets, outgoing_octets}
-use Rattle.gw_answers.specs.Meaning.{Meant, Tells as TellsAsdu, meaning_of, asdu_of, Means}
-use Rattle.gw_answers.proofs.Meant.{answer_means, outgoing_means}
+use Rattle.gw_answers.specs.Octets.{answer_octets, packed_octets}
+use Rattle.gw_answers.specs.Meaning.{Meant, meaning_of, Means}
+use Rattle.gw_answers.proofs.Meant.{answer_means}
 use Rattle.gw_station.specs.declared.event.Event.{Event}
 use Rattle.gw_station.specs.declared.event.Event.TheVariants as events
 use Rattle.gw_station.specs.declared.event.Said.{Said}
@@ -36,8 +35,10 @@ use Rattle.gw_station.specs.declared.sending.Sending.TheVariants as sendings
 use Rattle.gw_station.specs.Client.{Client, client_with_news}
 use Rattle.gw_station.specs.Answers.{is_pending as is_asked, is_asking, answers_with, older_with, rest_with}
 use Rattle.gw_station.specs.Frames.{close_of, judged_asdu, client_taking, client_with_signal, command_in, event_taking}
-use Rattle.gw_station.specs.Pump.{line as line_in, client_with_sent}
+use Rattle.gw_station.specs.Pump.{line as line_in, news_front, together, part_octets, client_with_sent}
 use Rattle.gw_station.specs.Sound.{CanSend}
+use Rattle.gw_station.proofs.All.{all-drop}
+use Rattle.gw_station.proofs.Front.{split_anywhere, drop_none, part_first, parts_same, parts_within}
 use Rattle.gw_steps.specs.Controls.{client_told_all}
 use Rattle.gw_steps.specs.Steps.{client_answered}
 use Rattle.gw_steps.specs.Said.{ApduMeaning}
@@ -46,9 +47,10 @@ use Rattle.gw_history.proofs.Lives.{Becomes, Came, IsOperating, Lives, lives_all
 use Rattle.gw_laws.specs.Fates.{spontaneous_of, Element, is_queued, items_of, fates, fates_with_put_out}
 use Rattle.gw_laws.specs.Interrogations.{Interrogation, parts_in, is_pending, as_told, answer_told, interrogation_telling, IsAnsweredInOrder, begun, interrogation, AnswersInterrogation}
 use Rattle.gw_laws.specs.Line.{answers_to, told_of, told_outcomes, since_of, left_of, SaysFirst, owed, line, KeepsLine}
-use Rattle.gw_laws.proofs.Offered.{IsOffered, offered_is, news_first, part_first}
+use Rattle.gw_laws.proofs.Offered.{IsOffered, offered_is}
+use Rattle.gw_laws.proofs.Fronts.{says_front, news_go, parts_go}
 use Rattle.gw_laws.proofs.Settled.{queued, take_queued, drop_queued, length-came, length-gone}
-use Rattle.gw_laws.proofs.Parts.{IsRequested, answer_no_news, IsApart, IsOfInterrogation, answer_apart, news_apart, told_nothing, part_told, accepted_is, answer_is, pending_is, said_more, left_more, nothing_asked, no_answer, no_answer_before}
+use Rattle.gw_laws.proofs.Parts.{answer_no_news, IsApart, IsOfInterrogation, answer_apart, news_apart, told_nothing, accepted_is, answer_is, pending_is, said_more, left_more, nothing_asked}
 use Rattle.gw_laws.proofs.Told.{all_joined, answers_told, command_apart, outcomes_apart, same_beside}
 use Rattle.gw_laws.proofs.Numbers.{says}
 use Rattle.gw_laws.proofs.News.{InSession, NewsTied, news_tied}
@@ -78,13 +80,6 @@ pub pending_told : (common : ℕ) (owes : List AsduAnswer) (q : Option Interroga
     → LineIs common owes q n k → is_pending q ≡ is_asked k.rest
 pending_told common owes None n k tied = ap is_asked (sym tied.rest)
 pending_told common owes (Some q) n k tied = pending_is common q k.rest tied.said
-
--- where nothing stands between, it doesn't matter where a queue is split
-split_anywhere : (n : ℕ) (queue : List Observation)
-    → map sendings.News (take n queue) ++ map sendings.News (drop n queue) ≡ map sendings.News queue
-split_anywhere zero queue = refl
-split_anywhere (suc n) [] = refl
-split_anywhere (suc n) (x ∷ queue) = ap (λ (s : List Sending). sendings.News x ∷ s) (split_anywhere n queue)
 
 same_split : (pending : Bool) (n m : ℕ) (queue : List Observation) (rest : List OwnAsdu) → is_asked rest ≡ pending
     → (pending ≡ true → n ≡ m)
@@ -411,27 +406,31 @@ answer_first k answer e = go k.answers e
     go [] e = absurd (news_before k.older k.queue k.rest answer e)
     go (a ∷ answers) e = (answers, ap (λ (x : AsduAnswer). x ∷ answers) (answer_is_first a answer e))
 
--- one part more was said
-record More (common : ℕ) (k : Client) (q next : Option Interrogation) : Type 0 where
-  rest : drop 1 k.rest ≡ left_of next
-  said : IfSome next (λ i. i.said ++ map (as_told common) (drop 1 k.rest) ≡ answer_told common i)
+-- so many parts more were said
+record More (common n : ℕ) (k : Client) (q next : Option Interrogation) : Type 0 where
+  rest : drop n k.rest ≡ left_of next
+  said : IfSome next (λ i. i.said ++ map (as_told common) (drop n k.rest) ≡ answer_told common i)
   since : since_of next ≡ since_of q
 
-told_more : (common : ℕ) (k : Client) (q : Option Interrogation) (meant : Meant) (part : OwnAsdu) (rest : List OwnAsdu)
-    → k.rest ≡ part ∷ rest
-    → parts_in meant ≡ as_told common part ∷ [] → k.rest ≡ left_of q
+told_more : (common n : ℕ) (k : Client) (q : Option Interrogation) (meant : Meant) → n ≤ length k.rest
+    → parts_in meant ≡ map (as_told common) (take n k.rest) → k.rest ≡ left_of q
     → IfSome q (λ i. i.said ++ map (as_told common) k.rest ≡ answer_told common i)
-    → More common k q (option_map (interrogation_telling meant) q)
-told_more common k None meant part rest is told left said = record { rest = ap (drop 1) left; said = tt; since = refl }
-told_more common k (Some q) meant part rest is told left said =
-    let behind : drop 1 k.rest ≡ rest = ap (drop 1) is in
-    let one : length (q.said ++ parts_in meant) ≡ length q.said + 1 =
-    omega (arith, length-append q.said (parts_in meant), ap length told) in
+    → More common n k q (option_map (interrogation_telling meant) q)
+told_more common n k None meant few told left said =
+    record { rest = ap (drop n) left ∙ drop_none n; said = tt; since = refl }
+told_more common n k (Some q) meant few told left said =
+    let more : length (q.said ++ parts_in meant) ≡ length q.said + n =
+    omega (
+      arith,
+      length-append q.said (parts_in meant),
+      ap length told,
+      length-map (take n k.rest) (as_told common),
+      length-take-le n k.rest few,
+    ) in
     record {
-      rest = left_more (length q.said) k.rest (answer_to q.command q.rows) left
-          ∙ ap (λ (n : ℕ). drop n (answer_to q.command q.rows)) (sym one);
-      said = rw (told, behind) (said_more common q.said part rest
-          ∙ (ap (λ (l : List OwnAsdu). q.said ++ map (as_told common) l) (sym is) ∙ said));
+      rest = left_more (length q.said) n k.rest (answer_to q.command q.rows) left
+          ∙ ap (λ (m : ℕ). drop m (answer_to q.command q.rows)) (sym more);
+      said = rw told (said_more common n q.said k.rest ∙ said);
       since = refl;
     }
 
@@ -443,21 +442,28 @@ same_asked common owes q n m meant k none same tied =
     subst (λ (x : Option Interrogation). LineIs common owes x m k) (sym (told_nothing meant q none))
     (subst (λ (i : ℕ). LineIs common owes q i k) same tied)
 
+-- what is asked still was asked before
+asked_before : (n : ℕ) (rest : List OwnAsdu) → is_asked (drop n rest) ≡ true → is_asked rest ≡ true
+asked_before zero rest e = e
+asked_before (suc n) [] e = absurd (true≢false (sym e))
+asked_before (suc n) (part ∷ rest) e = refl
+
 gave : (setup : Setup) (moment : ℕ) (x : Sending) (s : Option (List Turn)) (k : Client)
     → setup.station.common_address < 65536 → IsOffered k x → CanSend setup.station.offset_minutes x
+    → AllByRecursion (CanSend setup.station.offset_minutes) (line_in k)
     → NewsTied setup s k → LineTied setup s k → LineTied setup (session_with (PutsOut (says setup k x)) s)
     (client_with_sent setup.station.offset_minutes moment x k)
-gave setup moment x None k small is can news tied = tt
-gave setup moment (sendings.Confirm signal) (Some hs) k small is can news tied =
+gave setup moment x None k small is can all news tied = tt
+gave setup moment (sendings.Confirm signal) (Some hs) k small is can all news tied =
     waits_on _ _ _ _ k (client_with_sent setup.station.offset_minutes moment (sendings.Confirm signal) k)
     (record { rest = refl; older = refl; queue = refl }) refl tied
-gave setup moment sendings.Test (Some hs) k small is can news tied =
+gave setup moment sendings.Test (Some hs) k small is can all news tied =
     waits_on _ _ _ _ k (client_with_sent setup.station.offset_minutes moment sendings.Test k)
     (record { rest = refl; older = refl; queue = refl }) refl tied
-gave setup moment sendings.SFormat (Some hs) k small is can news tied =
+gave setup moment sendings.SFormat (Some hs) k small is can all news tied =
     waits_on _ _ _ _ k (client_with_sent setup.station.offset_minutes moment sendings.SFormat k)
     (record { rest = refl; older = refl; queue = refl }) refl tied
-gave setup moment (sendings.Answer answer) (Some hs) k small is can news tied =
+gave setup moment (sendings.Answer answer) (Some hs) k small is can all news tied =
     let offset : ℤ = setup.station.offset_minutes in
     let common : ℕ = setup.station.common_address in
     let meant : Meant = meaning_of offset (answer_octets offset common answer) in
@@ -478,17 +484,16 @@ gave setup moment (sendings.Answer answer) (Some hs) k small is can news tied =
       since = tied.since;
       older = tied.older;
     })
-gave setup moment (sendings.News x) (Some hs) k small is can news tied =
+gave setup moment (sendings.News x) (Some hs) k small is can all news tied =
     let offset : ℤ = setup.station.offset_minutes in
     let common : ℕ = setup.station.common_address in
-    let meant : Meant = meaning_of offset (outgoing_octets offset common (told_news x)) in
-    let means : meant ≡ TellsAsdu (asdu_of offset common 3 0 x) =
-    outgoing_means offset common (told_news x) small can in
-    let none : owed setup hs ≡ [] = sym tied.answers ∙ no_answer k x is.first in
-    let front = news_first k x is.first in
+    let goes = news_go offset common k x _ is.first (says_front setup (sendings.News x) k small is can all) in
+    let n : ℕ = together offset (line_in k) in
+    let meant : Meant = meaning_of offset (packed_octets offset common 3 0 (news_front (line_in k))) in
+    let none : owed setup hs ≡ [] = sym tied.answers ∙ goes.answers in
     same_asked common (drop 1 (owed setup hs)) (interrogation setup hs) (length (fates setup.station hs)) _ meant
     (client_with_sent setup.station.offset_minutes moment (sendings.News x) k)
-    (news_apart offset common x meant means)
+    (news_apart offset common goes.first goes.others meant goes.means)
     (sym (length-gone (fates setup.station hs) (spontaneous_of common meant)))
     (record {
       answers = tied.answers ∙ (none ∙ sym (ap (drop 1) none));
@@ -501,33 +506,34 @@ gave setup moment (sendings.News x) (Some hs) k small is can news tied =
         arith,
         tied.older asked,
         settled_is setup hs k news,
-        ap length front.1,
-        length-drop 1
-            k.queue,
+        goes.within,
+        length-drop n k.queue,
       );
     })
-gave setup moment (sendings.Part part) (Some hs) k small is can news tied =
+gave setup moment (sendings.Part part) (Some hs) k small is can all news tied =
     let offset : ℤ = setup.station.offset_minutes in
     let common : ℕ = setup.station.common_address in
-    let meant : Meant = meaning_of offset (outgoing_octets offset common part) in
-    let means : Means offset common (Made part) meant = outgoing_means offset common part small can in
-    let front = part_first k part is.first in
-    let requested : IsRequested part = (subst (AllByRecursion IsRequested) front.1 news.parts).0 in
-    let of_it = subst (AllByRecursion IsOfInterrogation) front.1 tied.asked in
-    let told : parts_in meant ≡ as_told common part ∷ [] = part_told offset common part meant of_it.0 requested means in
-    let none : owed setup hs ≡ [] = sym tied.answers ∙ no_answer_before k part is.first in
+    let n : ℕ = together offset (line_in k) in
+    let meant : Meant = meaning_of offset (part_octets offset common (line_in k) part) in
+    let first = part_first k part is.first in
+    let few : n ≤ length k.rest =
+    omega (arith, parts_same offset k part first, parts_within offset k.rest part first.first) in
+    let told : parts_in meant ≡ map (as_told common) (take n k.rest) =
+    parts_go offset common k part meant is.first news.parts tied.asked
+    (says_front setup (sendings.Part part) k small is can all) in
+    let none : owed setup hs ≡ [] = sym tied.answers ∙ first.answers in
     let size : length (fates setup.station (PutsOut (says setup k (sendings.Part part)) ∷ hs))
     ≡ length (fates setup.station hs) =
     length-gone (fates setup.station hs) (spontaneous_of common meant) in
-    let more = told_more common k (interrogation setup hs) meant part front.0 front.1 told tied.rest tied.said in
+    let more = told_more common n k (interrogation setup hs) meant few told tied.rest tied.said in
     record {
       answers = tied.answers ∙ (none ∙ sym (ap (drop 1) none));
       apart = tied.apart;
       rest = more.rest;
-      asked = subst (AllByRecursion IsOfInterrogation) (sym (ap (drop 1) front.1)) of_it.1;
+      asked = all-drop IsOfInterrogation n k.rest tied.asked;
       said = more.said;
       since = omega (arith, more.since, tied.since, size);
-      older = λ asked. omega (arith, tied.older (ap is_asked front.1), size, more.since);
+      older = λ asked. omega (arith, tied.older (asked_before n k.rest asked), size, more.since);
     }
 
 -- ---- lives
@@ -545,7 +551,7 @@ line_more setup some small (PutsOut said) ts k new lives is tied =
     subst (LineTied setup (session (PutsOut said ∷ ts))) (sym is.becomes)
     (subst (λ (x : ApduMeaning). LineTied setup (session (PutsOut x ∷ ts)) (client_with_sent setup.station.offset_minutes is.moment is.sending k))
     (sym is.says)
-    (gave setup is.moment is.sending (session ts) k small (offered_is is.moment k is.sending is.first) is.can
+    (gave setup is.moment is.sending (session ts) k small (offered_is is.moment k is.sending is.first) is.can is.all
     (news_tied setup some small ts k lives) tied))
 
 pub line_tied : (setup : Setup) → 0 < setup.station.queue → setup.station.common_address < 65536
@@ -555,34 +561,23 @@ line_tied setup some small = lives_all setup (λ ts k. LineTied setup (session t
 
 -- ---- the laws
 
--- what is put out in an I format is the first in line
+-- what is put out in an I format is the front of the line
 says_first : (setup : Setup) (x : Sending) (s : Option (List Turn)) (k : Client)
     → setup.station.common_address < 65536 → IsOffered k x → CanSend setup.station.offset_minutes x
+    → AllByRecursion (CanSend setup.station.offset_minutes) (line_in k)
     → NewsTied setup s k → LineTied setup s k → SaysFirst setup (line setup (turns_in s)) (says setup k x)
-says_first setup (sendings.Confirm signal) s k small is can news tied = tt
-says_first setup sendings.Test s k small is can news tied = tt
-says_first setup sendings.SFormat s k small is can news tied = tt
-says_first setup (sendings.Answer answer) None k small is can news tied =
+says_first setup x (Some hs) k small is can all news tied =
+    subst (λ (l : List Sending). SaysFirst setup l (says setup k x)) (line_is setup hs k news tied)
+    (says_front setup x k small is can all)
+says_first setup (sendings.Confirm signal) None k small is can all news tied = tt
+says_first setup sendings.Test None k small is can all news tied = tt
+says_first setup sendings.SFormat None k small is can all news tied = tt
+says_first setup (sendings.Answer answer) None k small is can all news tied =
     absurd (true≢false (sym is.in_session ∙ news.stopped))
-says_first setup (sendings.News x) None k small is can news tied =
+says_first setup (sendings.News x) None k small is can all news tied =
     absurd (true≢false (sym is.in_session ∙ news.stopped))
-says_first setup (sendings.Part part) None k small is can news tied =
+says_first setup (sendings.Part part) None k small is can all news tied =
     absurd (true≢false (sym is.in_session ∙ news.stopped))
-says_first setup (sendings.Answer answer) (Some hs) k small is can news tied = record {
-  sending = sendings.Answer answer;
-  first = ap (λ (l : List Sending). slice_get l 0) (sym (line_is setup hs k news tied)) ∙ is.first;
-  means = answer_means setup.station.offset_minutes setup.station.common_address answer small can;
-}
-says_first setup (sendings.News x) (Some hs) k small is can news tied = record {
-  sending = sendings.News x;
-  first = ap (λ (l : List Sending). slice_get l 0) (sym (line_is setup hs k news tied)) ∙ is.first;
-  means = outgoing_means setup.station.offset_minutes setup.station.common_address (told_news x) small can;
-}
-says_first setup (sendings.Part part) (Some hs) k small is can news tied = record {
-  sending = sendings.Part part;
-  first = ap (λ (l : List Sending). slice_get l 0) (sym (line_is setup hs k news tied)) ∙ is.first;
-  means = outgoing_means setup.station.offset_minutes setup.station.common_address part small can;
-}
 
 pub keeps_line : (setup : Setup) → 0 < setup.station.queue → setup.station.common_address < 65536
     → (ts : List Turn) (k : Client) → Lives setup ts k → KeepsLine setup ts
@@ -594,7 +589,7 @@ keeps_line setup some small (PutsOut said ∷ ts) k lives =
     let gave = lives.2 in
     subst (SaysFirst setup (line setup (turns_in (session ts)))) (sym gave.says)
     (says_first setup gave.sending (session ts) lives.0 small
-    (offered_is gave.moment lives.0 gave.sending gave.first) gave.can
+    (offered_is gave.moment lives.0 gave.sending gave.first) gave.can gave.all
     (news_tied setup some small ts lives.0 lives.1) (line_tied setup some small ts lives.0 lives.1))
 
 answered_so : (setup : Setup) (s : Option (List Turn)) (k : Client) → LineTied setup s k

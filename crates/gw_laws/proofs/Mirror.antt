@@ -1,5 +1,5 @@
 -- What is known of the picture by what was put out and what waits: how each turn keeps it.
-use Rattle.std.proofs.Common.{◌≡◌, ℕ, ◌<◌, ◌≤◌, Bool, true, false, eqb, List, [], ◌∷◌, ◌++◌, map, length, drop, Option, Some, None, refl, sym, ap, subst, ◌∙◌, arith, inl, inr}
+use Rattle.std.proofs.Common.{◌≡◌, ℕ, ℤ, ◌<◌, ◌≤◌, Bool, true, false, eqb, List, [], ◌∷◌, ◌++◌, map, length, drop, Option, Some, None, refl, sym, ap, subst, ◌∙◌, arith, inl, inr}
 use Rattle.std.specs.Prelude.{◌&&◌, not, slice_get, option_map, IfSome}
 use Rattle.std.specs.List.{AllByRecursion, list_any}
 use Rattle.std.specs.Option.{option_to_list}
@@ -23,20 +23,18 @@ use Rattle.gw_judge.specs.declared.judging.Judged.TheVariants.{Malformed, Refuse
 use Rattle.gw_answers.specs.declared.outgoing.AsduAnswer.{AsduAnswer}
 use Rattle.gw_answers.specs.declared.outgoing.AsduAnswer.TheVariants.{Made}
 use Rattle.gw_answers.specs.declared.outgoing.OwnAsdu.TheVariants as outgoing
-use Rattle.gw_answers.specs.Outgoing.{news as told_news}
 use Rattle.gw_answers.specs.declared.outgoing.OwnAsdu.{OwnAsdu}
 use Rattle.gw_answers.specs.Interrogations.{is_general, is_accepted_act}
 use Rattle.gw_answers.specs.Answers.{shown_by, refused_act, answered_action, answered, command_by}
 use Rattle.gw_answers.specs.Meaning.{Meant}
-use Rattle.gw_answers.proofs.Meant.{answer_means, outgoing_means}
 use Rattle.gw_station.specs.declared.event.Said.{Said}
 use Rattle.gw_station.specs.declared.sending.Sending.{Sending}
 use Rattle.gw_station.specs.declared.sending.Sending.TheVariants as sendings
 use Rattle.gw_station.specs.Client.{Client}
 use Rattle.gw_station.specs.Frames.{judged_asdu}
-use Rattle.gw_station.specs.Pump.{line as line_of, client_with_sent}
+use Rattle.gw_station.specs.Pump.{line as line_of, together, client_with_sent}
 use Rattle.gw_station.specs.Sound.{CanSend}
-use Rattle.gw_station.proofs.All.{all-append, all-first, all-given}
+use Rattle.gw_station.proofs.All.{all-append, all-given}
 use Rattle.gw_station.proofs.Line.{line_so}
 use Rattle.gw_station.proofs.Moves.{moves}
 use Rattle.gw_steps.specs.Runs.{Entry}
@@ -49,11 +47,12 @@ use Rattle.gw_history.proofs.Logged.{IsLogged, logged}
 use Rattle.gw_history.proofs.Places.{SlotLives, Place}
 use Rattle.gw_laws.specs.Fates.{spontaneous_of, fates}
 use Rattle.gw_laws.specs.Interrogations.{Interrogation, is_termination, is_pending, begun, interrogation}
-use Rattle.gw_laws.specs.Line.{answers_to, told_of, told_outcomes, since_of, left_of, MeansSending, owed, line}
+use Rattle.gw_laws.specs.Line.{answers_to, told_of, told_outcomes, since_of, left_of, MeansFront, owed, line}
 use Rattle.gw_laws.specs.Mirror.{observations_of, waiting_in, is_station_interrogation, told, is_station_act, is_act, MirrorsPicture, Mirrors, Mirror}
 use Rattle.gw_laws.proofs.Offered.{IsOffered, offered_is}
+use Rattle.gw_laws.proofs.Fronts.{says_front}
 use Rattle.gw_laws.proofs.Known.{IsShown, shown_is, knows_picture}
-use Rattle.gw_laws.proofs.Waits.{IsPlain, returnable, waiting_in-append}
+use Rattle.gw_laws.proofs.Waits.{IsPlain, waiting_in-append}
 use Rattle.gw_laws.proofs.Watches.{View, line_in, IsKept, came as news_came, kept_came, put_out, PutsFirst, kept_put_out, taken, begun as watched, kept_taken, IsNew, unheard_begun, heard_begun}
 use Rattle.gw_laws.proofs.Parts.{nothing_asked}
 use Rattle.gw_laws.proofs.Told.{command_none, outcomes_none}
@@ -189,30 +188,28 @@ none_left setup hs k lined quiet =
     sym lined.rest ∙ nothing_asked k.rest (sym (pending_told setup.station.common_address (owed setup hs)
     (interrogation setup hs) (length (fates setup.station hs)) k lined) ∙ quiet)
 
-first_plain : (setup : Setup) (hs : List Turn) (k : Client) (s : Sending) → InSession setup hs k
-    → LineTied setup (Some hs) k → slice_get (line_of k) 0 ≡ Some s → IsPlain s
-first_plain setup hs k s news lined first =
+line_plain : (setup : Setup) (hs : List Turn) (k : Client) → InSession setup hs k → LineTied setup (Some hs) k
+    → AllByRecursion IsPlain (line_of k)
+line_plain setup hs k news lined =
     let each_news = all-given (λ (x : Observation). IsPlain (sendings.News x)) (λ x. tt) k.queue in
-    subst (λ (x : Option Sending). IfSome x IsPlain) first
-    (all-first IsPlain (line_of k) (line_so IsPlain k lined.apart each_news news.parts))
+    line_so IsPlain k lined.apart each_news news.parts
 
 puts_first : (setup : Setup) (log : List Observation) (moment : ℕ) (x : Sending) (hs : List Turn) (meant : Meant)
-    (k : Client) → slice_get (line_of k) 0 ≡ Some x → CanSend setup.station.offset_minutes x
-    → MeansSending setup.station.offset_minutes setup.station.common_address x meant → InSession setup hs k
+    (k : Client) → slice_get (line_of k) 0 ≡ Some x → AllByRecursion (CanSend setup.station.offset_minutes) (line_of k)
+    → MeansFront setup.station.offset_minutes setup.station.common_address (line_of k) meant → InSession setup hs k
     → LineTied setup (Some hs) k
     → line_of (client_with_sent setup.station.offset_minutes moment x k) ≡ line_in
     (put_out meant (spontaneous_of setup.station.common_address meant) (view setup log hs))
     → PutsFirst setup.station.offset_minutes setup.station.common_address (view setup log hs)
     (put_out meant (spontaneous_of setup.station.common_address meant) (view setup log hs)) meant
 puts_first setup log moment x hs meant k first can means news lined now =
+    let offset : ℤ = setup.station.offset_minutes in
     let same : line_of k ≡ line setup hs = line_is setup hs k news lined in
     record {
-      sending = x;
-      first = ap (λ (l : List Sending). slice_get l 0) (sym same) ∙ first;
-      plain = first_plain setup hs k x news lined first;
-      returnable = returnable setup.station.offset_minutes x can;
-      means = means;
-      line = sym now ∙ (moves moment k x first ∙ ap (drop 1) same);
+      means = subst (λ (l : List Sending). MeansFront offset setup.station.common_address l meant) same means;
+      plain = subst (AllByRecursion IsPlain) same (line_plain setup hs k news lined);
+      can = subst (AllByRecursion (CanSend offset)) same can;
+      line = sym now ∙ (moves offset moment k x first ∙ ap (λ (l : List Sending). drop (together offset l) l) same);
     }
 
 -- ---- each session
@@ -372,42 +369,40 @@ numbered setup log ns nr meant hs puts = record {
 
 puts : (setup : Setup) (log : List Observation) (moment : ℕ) (x : Sending) (s : Option (List Turn)) (k : Client)
     → setup.station.common_address < 65536 → IsOffered k x → CanSend setup.station.offset_minutes x
+    → AllByRecursion (CanSend setup.station.offset_minutes) (line_of k)
     → NewsTied setup s k → LineTied setup s k → NewsTied setup (session_with (PutsOut (says setup k x)) s)
     (client_with_sent setup.station.offset_minutes moment x k)
-    → LineTied setup (session_with (PutsOut (says setup k x)) s) (client_with_sent setup.station.offset_minutes moment x k)
+    → LineTied setup (session_with (PutsOut (says setup k x)) s)
+    (client_with_sent setup.station.offset_minutes moment x k)
     → SessionMirrored setup log s → SessionMirrored setup log (session_with (PutsOut (says setup k x)) s)
-puts setup log moment x None k small is can news lined news_then then tied = tt
-puts setup log moment (sendings.Confirm signal) (Some hs) k small is can news lined news_then then tied =
+puts setup log moment x None k small is can all news lined news_then then tied = tt
+puts setup log moment (sendings.Confirm signal) (Some hs) k small is can all news lined news_then then tied =
     mirrored setup log log (PutsOut (says setup k (sendings.Confirm signal))) hs
     (record { begins = λ act. absurd (true≢false (sym act)); goes = λ since newer kept. kept }) tied
-puts setup log moment sendings.Test (Some hs) k small is can news lined news_then then tied =
+puts setup log moment sendings.Test (Some hs) k small is can all news lined news_then then tied =
     mirrored setup log log (PutsOut (says setup k sendings.Test)) hs
     (record { begins = λ act. absurd (true≢false (sym act)); goes = λ since newer kept. kept }) tied
-puts setup log moment sendings.SFormat (Some hs) k small is can news lined news_then then tied =
+puts setup log moment sendings.SFormat (Some hs) k small is can all news lined news_then then tied =
     mirrored setup log log (PutsOut (says setup k sendings.SFormat)) hs
     (record { begins = λ act. absurd (true≢false (sym act)); goes = λ since newer kept. kept }) tied
-puts setup log moment (sendings.Answer answer) (Some hs) k small is can news lined news_then then tied =
+puts setup log moment (sendings.Answer answer) (Some hs) k small is can all news lined news_then then tied =
     let x : Sending = sendings.Answer answer in
     let t : Turn = PutsOut (says setup k x) in
     let now = line_is setup (t ∷ hs) (client_with_sent setup.station.offset_minutes moment x k) news_then then in
     mirrored setup log log t hs (numbered setup log _ _ _ hs
-    (puts_first setup log moment x hs _ k is.first can
-    (answer_means setup.station.offset_minutes setup.station.common_address answer small can) news lined now)) tied
-puts setup log moment (sendings.News y) (Some hs) k small is can news lined news_then then tied =
+    (puts_first setup log moment x hs _ k is.first all (says_front setup x k small is can all) news lined now)) tied
+puts setup log moment (sendings.News y) (Some hs) k small is can all news lined news_then then tied =
     let x : Sending = sendings.News y in
     let t : Turn = PutsOut (says setup k x) in
     let now = line_is setup (t ∷ hs) (client_with_sent setup.station.offset_minutes moment x k) news_then then in
     mirrored setup log log t hs (numbered setup log _ _ _ hs
-    (puts_first setup log moment x hs _ k is.first can
-    (outgoing_means setup.station.offset_minutes setup.station.common_address (told_news y) small can) news
-    lined now)) tied
-puts setup log moment (sendings.Part part) (Some hs) k small is can news lined news_then then tied =
+    (puts_first setup log moment x hs _ k is.first all (says_front setup x k small is can all) news lined now)) tied
+puts setup log moment (sendings.Part part) (Some hs) k small is can all news lined news_then then tied =
     let x : Sending = sendings.Part part in
     let t : Turn = PutsOut (says setup k x) in
     let now = line_is setup (t ∷ hs) (client_with_sent setup.station.offset_minutes moment x k) news_then then in
     mirrored setup log log t hs (numbered setup log _ _ _ hs
-    (puts_first setup log moment x hs _ k is.first can
-    (outgoing_means setup.station.offset_minutes setup.station.common_address part small can) news lined now)) tied
+    (puts_first setup log moment x hs _ k is.first all (says_front setup x k small is can all) news lined now)) tied
 
 -- news and outcomes come
 comes : (setup : Setup) (before : List Observation) (brought : Brought) (s : Option (List Turn)) (k : Client)
@@ -447,7 +442,7 @@ session_mirrored setup fit log (PutsOut said ∷ ts) k lives logged =
     let new : Client = client_with_sent setup.station.offset_minutes gave.moment gave.sending old in
     subst (λ (x : ApduMeaning). SessionMirrored setup log (session (PutsOut x ∷ ts))) (sym gave.says)
     (puts setup log gave.moment gave.sending (session ts) old fit.station
-    (offered_is gave.moment old gave.sending gave.first) gave.can
+    (offered_is gave.moment old gave.sending gave.first) gave.can gave.all
     (news_tied setup fit.queue fit.station ts old lives.1) (line_tied setup fit.queue fit.station ts old lives.1)
     (subst (λ (x : ApduMeaning). NewsTied setup (session (PutsOut x ∷ ts)) new) gave.says
     (subst (NewsTied setup (session (PutsOut said ∷ ts))) gave.becomes

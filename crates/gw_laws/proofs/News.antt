@@ -1,14 +1,15 @@
 -- What ties a client's news to its session.
-use Rattle.std.proofs.Common.{◌≡◌, ℕ, ℤ, ◌-◌, ◌<◌, ◌≤◌, Bool, true, false, List, [], ◌∷◌, ◌++◌, length, drop, Option, Some, None, refl, sym, ap, subst, ◌∙◌, arith, inl, inr}
+use Rattle.std.proofs.Common.{◌≡◌, ℕ, ℤ, ◌-◌, ◌<◌, ◌≤◌, Bool, true, false, List, [], ◌∷◌, ◌++◌, map, length, take, drop, Option, Some, None, refl, sym, ap, subst, ◌∙◌, arith, inl, inr}
 use Rattle.std.specs.Prelude.{◌⊎◌, ◌==◌, ◌||◌, is_some, IfSome, IsTrue}
 use Rattle.std.specs.List.{AllByRecursion}
 use Rattle.std.proofs.lemmas.Bool.{cases_Bool, eq-eqb, true≢false}
-use Rattle.std.proofs.lemmas.List.{append-nil, length-drop}
+use Rattle.std.proofs.lemmas.List.{append-nil, length-drop, take-append-drop}
 use Rattle.circular_buffer.specs.Buffer.{keep_last}
 use Rattle.gw_model.specs.declared.observation.Observation.{Observation}
 use Rattle.gw_model.specs.Fit.{IsFit}
 use Rattle.gw_entries.specs.Setup.{StationSetup}
 use Rattle.gw_map.specs.Settings.{Setup}
+use Rattle.iec_asdu.specs.Packing.{taken_of}
 use Rattle.iec_apci.specs.declared.apdu.Apdu.{Apdu}
 use Rattle.iec_apci.specs.declared.apdu.Apdu.TheVariants.{I, S, U}
 use Rattle.iec_apci.specs.declared.apdu.Signal.{Signal}
@@ -24,10 +25,10 @@ use Rattle.gw_answers.specs.declared.outgoing.AsduAnswer.TheVariants.{Returned, 
 use Rattle.gw_answers.specs.declared.outgoing.OwnAsdu.{OwnAsdu}
 use Rattle.gw_answers.specs.declared.outgoing.OwnAsdu.TheVariants as outgoing
 use Rattle.gw_answers.specs.Interrogations.{is_asked_by, cause_for, rows_of}
-use Rattle.gw_answers.specs.Outgoing.{command_with, news as told_news}
-use Rattle.gw_answers.specs.Octets.{answer_octets, octets_in, outgoing_octets}
-use Rattle.gw_answers.specs.Meaning.{Meant, Tells, Commands, Unread, meaning_of, asdu_of, Means, CanSendAnswer, CanSendOutgoing}
-use Rattle.gw_answers.proofs.Meant.{answer_means, outgoing_means, refused_with}
+use Rattle.gw_answers.specs.Outgoing.{command_with}
+use Rattle.gw_answers.specs.Octets.{answer_octets, octets_in, packed_octets}
+use Rattle.gw_answers.specs.Meaning.{Meant, Tells, Commands, Unread, meaning_of, asdu_of, packed_asdu, IsSendable, Means, CanSendAnswer}
+use Rattle.gw_answers.proofs.Meant.{answer_means, refused_with}
 use Rattle.gw_station.specs.declared.event.Event.{Event}
 use Rattle.gw_station.specs.declared.event.Event.TheVariants as events
 use Rattle.gw_station.specs.declared.event.Said.{Said}
@@ -36,8 +37,10 @@ use Rattle.gw_station.specs.declared.sending.Sending.TheVariants as sendings
 use Rattle.gw_station.specs.Client.{Client, is_started, client_with_news}
 use Rattle.gw_station.specs.Answers.{rest_with, is_asking}
 use Rattle.gw_station.specs.Frames.{close_of, judged_asdu, client_taking, client_with_signal, command_in, event_taking}
-use Rattle.gw_station.specs.Pump.{client_with_sent}
+use Rattle.gw_station.specs.Pump.{line, news_front, rows_front, together, client_with_sent}
 use Rattle.gw_station.specs.Sound.{CanSend}
+use Rattle.gw_station.proofs.All.{all-take, all-drop, all-given}
+use Rattle.gw_station.proofs.Line.{line_so}
 use Rattle.gw_steps.specs.Controls.{client_told_all}
 use Rattle.gw_steps.specs.Steps.{client_answered}
 use Rattle.gw_steps.specs.Runs.{Entry}
@@ -47,9 +50,11 @@ use Rattle.gw_history.specs.Life.{Brought, Taking, Turn, Idle, Takes, PutsOut, E
 use Rattle.gw_history.proofs.Places.{Place, SlotLives, of_each}
 use Rattle.gw_history.proofs.Lives.{Becomes, Came, IsFresh, Lives, lives_all}
 use Rattle.gw_laws.specs.Fates.{spontaneous_of, spontaneous_in, Element, is_put_out, is_dropped, items_of, fates, gone, fates_with_news, fates_with_put_out}
+use Rattle.gw_laws.specs.Line.{MeansFront}
 use Rattle.gw_laws.specs.News.{IsOfStation, TellsNews, Speaks, News}
-use Rattle.gw_laws.proofs.Offered.{IsOffered, offered_is, news_first, part_first}
-use Rattle.gw_laws.proofs.Parts.{IsRequested, answer_no_news, part_no_news}
+use Rattle.gw_laws.proofs.Offered.{IsOffered, offered_is}
+use Rattle.gw_laws.proofs.Fronts.{news_sendable, rows_sendable, says_front, NewsGo, news_go, parts_no_news}
+use Rattle.gw_laws.proofs.Parts.{IsRequested, answer_no_news}
 use Rattle.gw_station.proofs.Opens.{open_i}
 use Rattle.gw_laws.proofs.Settled.{put, AreSettled, before_queue, queue_shrinks, settled_more, kept_in, queued_in, dropped_in, put_out_more, dropped_same, grown}
 use Rattle.gw_laws.proofs.Told.{same_beside}
@@ -82,11 +87,29 @@ NewsTied setup (Some hs) k = InSession setup hs k
 
 -- ---- what an I format says
 
--- an observation of the station
+-- observations of the station
 informs : (station : StationSetup) (cause originator : ℕ) (x : Observation)
     → IsTrue (cause == 3 || cause == 5 || cause == 20 || cause == 37) → IsFit station.offset_minutes x
     → IsOfStation station (Tells (asdu_of station.offset_minutes station.common_address cause originator x))
 informs station cause originator x is fit = inl (record { cause = is; common = refl; fit = (fit, tt) })
+
+all_fit : (offset : ℤ) (xs : List Observation) → AllByRecursion (IsSendable offset) xs
+    → AllByRecursion (IsFit offset) xs
+all_fit offset [] all = tt
+all_fit offset (x ∷ xs) all = (all.0.fit, all_fit offset xs all.1)
+
+pack_informs : (station : StationSetup) (cause originator : ℕ) (x : Observation) (xs : List Observation)
+    → IsTrue (cause == 3 || cause == 5 || cause == 20 || cause == 37)
+    → AllByRecursion (IsSendable station.offset_minutes) (x ∷ xs)
+    → IsOfStation station (Tells (packed_asdu station.offset_minutes station.common_address cause originator x xs))
+pack_informs station cause originator x xs is all =
+    let n : ℕ = taken_of station.offset_minutes (x ∷ xs) in
+    inl (record {
+      cause = is;
+      common = refl;
+      fit = all_fit station.offset_minutes (take n (x ∷ xs))
+          (all-take (IsSendable station.offset_minutes) n (x ∷ xs) all);
+    })
 
 answer_of_station : (station : StationSetup) (answer : AsduAnswer) (meant : Meant)
     → CanSendAnswer station.offset_minutes answer → Means station.offset_minutes station.common_address answer meant
@@ -102,19 +125,41 @@ answer_of_station station (Made (outgoing.Command c)) meant can means =
 answer_of_station station (Made (outgoing.Observation cause originator x)) meant can means =
     subst (IsOfStation station) (sym means) (informs station cause originator x (rw can.0 refl) can.1.fit)
 
-part_of_station : (station : StationSetup) (part : OwnAsdu) (meant : Meant)
-    → CanSendOutgoing station.offset_minutes part → IsRequested part
-    → Means station.offset_minutes station.common_address (Made part) meant → IsOfStation station meant
-part_of_station station (outgoing.Command c) meant can is means =
-    subst (IsOfStation station) (sym means) (inl (can.0, refl))
-part_of_station station (outgoing.Observation cause originator x) meant can (inl is) means =
-    subst (IsOfStation station) (sym means) (informs station cause originator x (rw is refl) can.fit)
-part_of_station station (outgoing.Observation cause originator x) meant can (inr is) means =
-    subst (IsOfStation station) (sym means) (informs station cause originator x (rw is refl) can.fit)
+-- rows of the answer to an interrogation are asked for
+abbrev IsRequestedSending : Sending → Type 0
+IsRequestedSending (sendings.Part part) = IsRequested part
+IsRequestedSending _ = Unit {0}
 
-own_news : (offset : ℤ) (common : ℕ) (x : Observation)
-    → spontaneous_of common (Tells (asdu_of offset common 3 0 x)) ≡ x ∷ []
-own_news offset common x = rw (eq-eqb common common refl) refl
+abbrev IsRequestedFirst : List Sending → Type 0
+IsRequestedFirst (sendings.Part part ∷ line) = IsRequested part
+IsRequestedFirst _ = Unit {0}
+
+front_of_station : (station : StationSetup) (l : List Sending) (meant : Meant)
+    → MeansFront station.offset_minutes station.common_address l meant
+    → AllByRecursion (CanSend station.offset_minutes) l → IsRequestedFirst l → IsOfStation station meant
+front_of_station station [] meant means all is = absurd means
+front_of_station station (sendings.Answer answer ∷ l) meant means all is =
+    answer_of_station station answer meant all.0 means
+front_of_station station (sendings.News x ∷ l) meant means all is =
+    subst (IsOfStation station) (sym means)
+    (pack_informs station 3 0 x (news_front l) refl (all.0, news_sendable station.offset_minutes l all.1))
+front_of_station station (sendings.Part (outgoing.Command c) ∷ l) meant means all is =
+    subst (IsOfStation station) (sym means) (inl (all.0.0, refl))
+front_of_station station (sendings.Part (outgoing.Observation cause originator x) ∷ l) meant means all is =
+    subst (IsOfStation station) (sym means)
+    (pack_informs station cause originator x (rows_front cause originator l) (asked is)
+    (all.0, rows_sendable station.offset_minutes cause originator l all.1))
+  where
+    asked : (cause ≡ 20) ⊎ (cause ≡ 37) → IsTrue (cause == 3 || cause == 5 || cause == 20 || cause == 37)
+    asked (inl is) = rw is refl
+    asked (inr is) = rw is refl
+front_of_station station (sendings.Confirm signal ∷ l) meant means all is = absurd means
+front_of_station station (sendings.Test ∷ l) meant means all is = absurd means
+front_of_station station (sendings.SFormat ∷ l) meant means all is = absurd means
+
+own_news : (offset : ℤ) (common : ℕ) (x : Observation) (xs : List Observation)
+    → spontaneous_of common (Tells (packed_asdu offset common 3 0 x xs)) ≡ take (taken_of offset (x ∷ xs)) (x ∷ xs)
+own_news offset common x xs = rw (eq-eqb common common refl) refl
 
 -- ---- parts of an answer
 
@@ -145,10 +190,6 @@ parts_with picture (judgements.Accepted c) true k all =
 parts_with picture (judgements.Accepted c) false k all = all
 parts_with picture judgements.Malformed asks k all = all
 parts_with picture (judgements.Refuse cause execute) asks k all = all
-
-all_drop : (parts : List OwnAsdu) → AllByRecursion IsRequested parts → AllByRecursion IsRequested (drop 1 parts)
-all_drop [] all = tt
-all_drop (part ∷ parts) all = all.1
 
 -- ---- one turn more
 
@@ -323,65 +364,86 @@ put_still setup said hs k new none alike parts tied =
     (ap (λ (xs : List Observation). gone setup.station hs ++ xs) none ∙ append-nil (gone setup.station hs)) alike
     parts tied
 
+-- some of the rest is left
+rest_left : (n : ℕ) (k : Client) → AllByRecursion IsRequested k.rest → AllByRecursion IsRequested (drop n k.rest)
+rest_left n k all = all-drop IsRequested n k.rest all
+
+-- news are put out, from the front of the queue
+-- the octets of the ASDU that carries them
+abbrev news_octets : Setup → Client → List ℕ
+news_octets setup k =
+    packed_octets setup.station.offset_minutes setup.station.common_address 3 0 (news_front (line k))
+
+news_went : (setup : Setup) (moment : ℕ) (x : Observation) (hs : List Turn) (k : Client)
+    → NewsGo setup.station.offset_minutes setup.station.common_address k
+    (meaning_of setup.station.offset_minutes (news_octets setup k)) → InSession setup hs k
+    → InSession setup (PutsOut (says setup k (sendings.News x)) ∷ hs)
+    (client_with_sent setup.station.offset_minutes moment (sendings.News x) k)
+news_went setup moment x hs k goes tied =
+    let offset : ℤ = setup.station.offset_minutes in
+    let common : ℕ = setup.station.common_address in
+    let n : ℕ = together offset (line k) in
+    let xs : List Observation = take n k.queue in
+    let left : List Observation = drop n k.queue in
+    let puts : spontaneous_of common (meaning_of offset (news_octets setup k)) ≡ xs =
+    ap (spontaneous_of common) goes.means ∙ (own_news offset common goes.first goes.others ∙ goes.told) in
+    record {
+      started = tied.started;
+      settled = tied.settled ++ map put xs;
+      all_settled = settled_more tied.settled xs tied.all_settled;
+      told = ap (λ (ys : List Observation). fates_with_put_out (fates setup.station hs) ys) puts
+          ∙ (ap (λ (es : List Element). fates_with_put_out es xs)
+          (tied.told ∙ ap (before_queue tied.settled) (sym (take-append-drop n k.queue)))
+          ∙ queue_shrinks tied.settled xs left tied.all_settled);
+      put_out = ap (λ (ys : List Observation). gone setup.station hs ++ ys) puts
+          ∙ (ap (λ (ys : List Observation). ys ++ xs) tied.put_out ∙ sym (put_out_more tied.settled xs));
+      dropped = tied.dropped ∙ sym (ap length (dropped_same tied.settled xs));
+      few = omega (arith, length-drop n k.queue, tied.few);
+      parts = tied.parts;
+    }
+
 gave : (setup : Setup) (moment : ℕ) (x : Sending) (s : Option (List Turn)) (k : Client)
     → setup.station.common_address < 65536 → IsOffered k x → CanSend setup.station.offset_minutes x
-    → NewsTied setup s k → NewsTied setup (session_with (PutsOut (says setup k x)) s) (client_with_sent setup.station.offset_minutes moment x k)
-gave setup moment (sendings.Confirm signal) None k small is can tied = no_session k _ refl refl refl refl refl tied
-gave setup moment sendings.Test None k small is can tied = no_session k _ refl refl refl refl refl tied
-gave setup moment sendings.SFormat None k small is can tied = no_session k _ refl refl refl refl refl tied
-gave setup moment (sendings.Answer answer) None k small is can tied =
+    → AllByRecursion (CanSend setup.station.offset_minutes) (line k)
+    → NewsTied setup s k → NewsTied setup (session_with (PutsOut (says setup k x)) s)
+    (client_with_sent setup.station.offset_minutes moment x k)
+gave setup moment (sendings.Confirm signal) None k small is can all tied =
+    no_session k _ refl refl refl refl refl tied
+gave setup moment sendings.Test None k small is can all tied = no_session k _ refl refl refl refl refl tied
+gave setup moment sendings.SFormat None k small is can all tied = no_session k _ refl refl refl refl refl tied
+gave setup moment (sendings.Answer answer) None k small is can all tied =
     absurd (true≢false (sym is.in_session ∙ tied.stopped))
-gave setup moment (sendings.Part part) None k small is can tied = absurd (true≢false (sym is.in_session ∙ tied.stopped))
-gave setup moment (sendings.News x) None k small is can tied = absurd (true≢false (sym is.in_session ∙ tied.stopped))
-gave setup moment (sendings.Confirm signal) (Some hs) k small is can tied =
+gave setup moment (sendings.Part part) None k small is can all tied =
+    absurd (true≢false (sym is.in_session ∙ tied.stopped))
+gave setup moment (sendings.News x) None k small is can all tied =
+    absurd (true≢false (sym is.in_session ∙ tied.stopped))
+gave setup moment (sendings.Confirm signal) (Some hs) k small is can all tied =
     put_still setup (says setup k (sendings.Confirm signal)) hs k _ refl
     (record { stage = refl; limit = refl; queue = refl; dropped = refl }) tied.parts tied
-gave setup moment sendings.Test (Some hs) k small is can tied =
+gave setup moment sendings.Test (Some hs) k small is can all tied =
     put_still setup (says setup k sendings.Test) hs k _ refl
     (record { stage = refl; limit = refl; queue = refl; dropped = refl }) tied.parts tied
-gave setup moment sendings.SFormat (Some hs) k small is can tied =
+gave setup moment sendings.SFormat (Some hs) k small is can all tied =
     put_still setup (says setup k sendings.SFormat) hs k _ refl
     (record { stage = refl; limit = refl; queue = refl; dropped = refl }) tied.parts tied
-gave setup moment (sendings.Answer answer) (Some hs) k small is can tied =
+gave setup moment (sendings.Answer answer) (Some hs) k small is can all tied =
     let offset : ℤ = setup.station.offset_minutes in
     let common : ℕ = setup.station.common_address in
     let meant : Meant = meaning_of offset (answer_octets offset common answer) in
     put_still setup (says setup k (sendings.Answer answer)) hs k _
     (answer_no_news offset common answer meant can (answer_means offset common answer small can))
     (record { stage = refl; limit = refl; queue = refl; dropped = refl }) tied.parts tied
-gave setup moment (sendings.Part part) (Some hs) k small is can tied =
+gave setup moment (sendings.Part part) (Some hs) k small is can all tied =
     let offset : ℤ = setup.station.offset_minutes in
     let common : ℕ = setup.station.common_address in
-    let meant : Meant = meaning_of offset (outgoing_octets offset common part) in
-    let front = part_first k part is.first in
-    let requested : IsRequested part = (subst (AllByRecursion IsRequested) front.1 tied.parts).0 in
     put_still setup (says setup k (sendings.Part part)) hs k _
-    (part_no_news offset common part meant requested (outgoing_means offset common part small can))
-    (record { stage = refl; limit = refl; queue = refl; dropped = refl }) (all_drop k.rest tied.parts) tied
-gave setup moment (sendings.News x) (Some hs) k small is can tied =
-    let offset : ℤ = setup.station.offset_minutes in
-    let common : ℕ = setup.station.common_address in
-    let queue : ℕ = setup.station.queue in
-    let meant : Meant = meaning_of offset (outgoing_octets offset common (told_news x)) in
-    let means : meant ≡ Tells (asdu_of offset common 3 0 x) = outgoing_means offset common (told_news x) small can in
-    let puts : spontaneous_of common meant ≡ x ∷ [] = ap (spontaneous_of common) means ∙ own_news offset common x in
-    let front = news_first k x is.first in
-    let rest : drop 1 k.queue ≡ front.0 = ap (drop 1) front.1 in
-    record {
-      started = tied.started;
-      settled = tied.settled ++ put x ∷ [];
-      all_settled = settled_more tied.settled x tied.all_settled;
-      told = ap (λ (xs : List Observation). fates_with_put_out (fates setup.station hs) xs) puts
-          ∙ (ap (λ (es : List Element). fates_with_put_out es (x ∷ []))
-          (tied.told ∙ ap (before_queue tied.settled) front.1)
-          ∙ (queue_shrinks tied.settled x front.0 tied.all_settled
-          ∙ ap (before_queue (tied.settled ++ put x ∷ [])) (sym rest)));
-      put_out = ap (λ (xs : List Observation). gone setup.station hs ++ xs) puts
-          ∙ (ap (λ (ys : List Observation). ys ++ x ∷ []) tied.put_out ∙ sym (put_out_more tied.settled x));
-      dropped = tied.dropped ∙ sym (ap length (dropped_same tied.settled x));
-      few = omega (arith, length-drop 1 k.queue, tied.few);
-      parts = tied.parts;
-    }
+    (parts_no_news offset common k part _ is.first tied.parts (says_front setup (sendings.Part part) k small is can all))
+    (record { stage = refl; limit = refl; queue = refl; dropped = refl })
+    (rest_left (together offset (line k)) k tied.parts) tied
+gave setup moment (sendings.News x) (Some hs) k small is can all tied =
+    news_went setup moment x hs k
+    (news_go setup.station.offset_minutes setup.station.common_address k x _ is.first
+    (says_front setup (sendings.News x) k small is can all)) tied
 
 news_first_tied : (setup : Setup) (k : Client) → IsFresh setup k → NewsTied setup None k
 news_first_tied setup k is = record {
@@ -406,7 +468,7 @@ news_more setup some small (PutsOut said) ts k new lives is tied =
     subst (NewsTied setup (session (PutsOut said ∷ ts))) (sym is.becomes)
     (subst (λ (x : ApduMeaning). NewsTied setup (session (PutsOut x ∷ ts)) (client_with_sent setup.station.offset_minutes is.moment is.sending k))
     (sym is.says)
-    (gave setup is.moment is.sending (session ts) k small (offered_is is.moment k is.sending is.first) is.can tied))
+    (gave setup is.moment is.sending (session ts) k small (offered_is is.moment k is.sending is.first) is.can is.all tied))
 
 pub news_tied : (setup : Setup) → 0 < setup.station.queue → setup.station.common_address < 65536
     → (ts : List Turn) (k : Client) → Lives setup ts k → NewsTied setup (session ts) k
@@ -424,42 +486,53 @@ tells setup (Some hs) k tied = record {
   dropped = tied.dropped ∙ sym (ap length (rw tied.told (dropped_in tied.settled k.queue)));
 }
 
+-- a session stands while it is started
 pub stands : (setup : Setup) (s : Option (List Turn)) (k : Client) → NewsTied setup s k → is_started k.stage ≡ is_some s
 stands setup None k tied = tied.stopped
 stands setup (Some hs) k tied = tied.started
 
+-- the first of the rest is asked for
+requested_first : (setup : Setup) (k : Client) → AllByRecursion IsRequested k.rest → IsRequestedFirst (line k)
+requested_first setup k all = first (line k)
+    (line_so IsRequestedSending k (all-given (λ (answer : AsduAnswer). IsRequestedSending (sendings.Answer answer))
+    (λ answer. tt) k.answers) (all-given (λ (x : Observation). IsRequestedSending (sendings.News x)) (λ x. tt) k.queue)
+    all)
+  where
+    first : (l : List Sending) → AllByRecursion IsRequestedSending l → IsRequestedFirst l
+    first [] each = tt
+    first (sendings.Part part ∷ l) each = each.0
+    first (sendings.News x ∷ l) each = tt
+    first (sendings.Answer answer ∷ l) each = tt
+    first (sendings.Confirm signal ∷ l) each = tt
+    first (sendings.Test ∷ l) each = tt
+    first (sendings.SFormat ∷ l) each = tt
+
+-- an I format is offered in a session alone
+says_in_session : (setup : Setup) (s : Option (List Turn)) (k : Client) (meant : Meant)
+    → is_started k.stage ≡ true → NewsTied setup s k
+    → MeansFront setup.station.offset_minutes setup.station.common_address (line k) meant
+    → AllByRecursion (CanSend setup.station.offset_minutes) (line k)
+    → (is_some s ≡ true) × IsOfStation setup.station meant
+says_in_session setup None k meant started tied means all = absurd (true≢false (sym started ∙ tied.stopped))
+says_in_session setup (Some hs) k meant started tied means all =
+    (refl, front_of_station setup.station (line k) meant means all (requested_first setup k tied.parts))
+
 says_of_station : (setup : Setup) (x : Sending) (ts : List Turn) (k : Client) → setup.station.common_address < 65536
     → IsOffered k x → CanSend setup.station.offset_minutes x
+    → AllByRecursion (CanSend setup.station.offset_minutes) (line k)
     → NewsTied setup (session ts) k → Speaks setup.station (PutsOut (says setup k x) ∷ ts)
-says_of_station setup (sendings.Confirm signal) ts k small is can tied = tt
-says_of_station setup sendings.Test ts k small is can tied = tt
-says_of_station setup sendings.SFormat ts k small is can tied = tt
-says_of_station setup (sendings.Answer answer) ts k small is can tied =
-    let offset : ℤ = setup.station.offset_minutes in
-    let common : ℕ = setup.station.common_address in (
-      sym (stands setup (session ts) k tied) ∙ is.in_session,
-      answer_of_station setup.station answer
-          (meaning_of offset (answer_octets offset common answer)) can (answer_means offset common answer small can),
-    )
-says_of_station setup (sendings.Part part) ts k small is can tied =
-    let offset : ℤ = setup.station.offset_minutes in
-    let common : ℕ = setup.station.common_address in
-    let requested : IsRequested part = requested_in (session ts) tied in (
-      sym (stands setup (session ts) k tied) ∙ is.in_session,
-      part_of_station setup.station part (meaning_of offset (outgoing_octets offset common part)) can requested
-          (outgoing_means offset common part small can),
-    )
-  where
-    requested_in : (s : Option (List Turn)) → NewsTied setup s k → IsRequested part
-    requested_in None tied = absurd (true≢false (sym is.in_session ∙ tied.stopped))
-    requested_in (Some hs) tied = (subst (AllByRecursion IsRequested) (part_first k part is.first).1 tied.parts).0
-says_of_station setup (sendings.News x) ts k small is can tied =
-    let offset : ℤ = setup.station.offset_minutes in
-    let common : ℕ = setup.station.common_address in
-    let means = outgoing_means offset common (told_news x) small can in (
-      sym (stands setup (session ts) k tied) ∙ is.in_session,
-      subst (IsOfStation setup.station) (sym means) (informs setup.station 3 0 x refl can.fit),
-    )
+says_of_station setup (sendings.Confirm signal) ts k small is can all tied = tt
+says_of_station setup sendings.Test ts k small is can all tied = tt
+says_of_station setup sendings.SFormat ts k small is can all tied = tt
+says_of_station setup (sendings.Answer answer) ts k small is can all tied =
+    says_in_session setup (session ts) k _ is.in_session tied
+    (says_front setup (sendings.Answer answer) k small is can all) all
+says_of_station setup (sendings.Part part) ts k small is can all tied =
+    says_in_session setup (session ts) k _ is.in_session tied
+    (says_front setup (sendings.Part part) k small is can all) all
+says_of_station setup (sendings.News x) ts k small is can all tied =
+    says_in_session setup (session ts) k _ is.in_session tied
+    (says_front setup (sendings.News x) k small is can all) all
 
 speaks : (setup : Setup) → 0 < setup.station.queue → setup.station.common_address < 65536
     → (ts : List Turn) (k : Client) → Lives setup ts k → Speaks setup.station ts
@@ -471,7 +544,7 @@ speaks setup some small (PutsOut said ∷ ts) k lives =
     let gave = lives.2 in
     subst (λ (x : ApduMeaning). Speaks setup.station (PutsOut x ∷ ts)) (sym gave.says)
     (says_of_station setup gave.sending ts lives.0 small
-    (offered_is gave.moment lives.0 gave.sending gave.first) gave.can
+    (offered_is gave.moment lives.0 gave.sending gave.first) gave.can gave.all
     (news_tied setup some small ts lives.0 lives.1))
 
 pub tells_news : (setup : Setup) (past : List Entry) → Place setup past → News setup past

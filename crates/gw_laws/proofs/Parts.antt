@@ -1,29 +1,26 @@
 -- What is put out of the answer to an interrogation, and what isn't.
-use Rattle.std.proofs.Common.{◌≡◌, ℕ, zero, suc, ℤ, ◌+◌, ◌%◌, ◌≤◌, Bool, true, false, eqb, List, [], ◌∷◌, ◌++◌, map, drop, Option, Some, None, refl, ap, ◌∙◌, arith, inl, inr, take}
+use Rattle.std.proofs.Common.{◌≡◌, ℕ, zero, suc, ℤ, ◌+◌, ◌%◌, ◌≤◌, Bool, true, false, eqb, List, [], ◌∷◌, ◌++◌, map, drop, Option, Some, None, refl, sym, ap, ◌∙◌, append_assoc, arith, inl, inr, take}
 use Rattle.std.specs.Prelude.{◌&&◌, ◌||◌, not, option_map, ◌⊎◌, slice_get}
 use Rattle.std.specs.List.{AllByRecursion, list_any}
 use Rattle.std.proofs.lemmas.Bool.{cases_Bool, ne_eqb}
-use Rattle.std.proofs.lemmas.List.{append-nil}
+use Rattle.std.proofs.lemmas.List.{append-nil, map-append, take-append-drop, drop-drop}
 use Rattle.gw_model.specs.declared.observation.Observation.{Observation}
 use Rattle.iec_command.specs.declared.command.Command.{Command}
 use Rattle.iec_command.specs.declared.command.Action.{Action}
-use Rattle.iec_command.specs.declared.command.Action.TheVariants as actions
-use Rattle.iec_command.specs.declared.command.Action.TheVariants as actions
 use Rattle.iec_command.specs.declared.command.Action.TheVariants as actions
 use Rattle.gw_answers.specs.declared.outgoing.AsduAnswer.{AsduAnswer}
 use Rattle.gw_answers.specs.declared.outgoing.AsduAnswer.TheVariants.{Returned, Made}
 use Rattle.gw_answers.specs.declared.outgoing.OwnAsdu.{OwnAsdu}
 use Rattle.gw_answers.specs.declared.outgoing.OwnAsdu.TheVariants as outgoing
 use Rattle.gw_answers.specs.Interrogations.{is_asked_by, is_general, is_accepted_act, rows_of, answer_to}
-use Rattle.gw_answers.specs.Outgoing.{command_with, at_station, news}
+use Rattle.gw_answers.specs.Outgoing.{command_with, at_station}
 use Rattle.gw_answers.specs.Octets.{octets_in}
-use Rattle.gw_answers.specs.Meaning.{Meant, Tells, Commands, Unread, asdu_of, Means, CanSendAnswer}
+use Rattle.gw_answers.specs.Meaning.{Meant, Tells, Commands, Unread, asdu_of, packed_asdu, Means, CanSendAnswer}
 use Rattle.gw_answers.proofs.Meant.{refused_with}
 use Rattle.gw_station.specs.Answers.{is_pending as is_asked}
 use Rattle.gw_station.specs.Client.{Client}
 use Rattle.gw_station.specs.Pump.{line}
 use Rattle.gw_station.specs.declared.sending.Sending.{Sending}
-use Rattle.gw_station.specs.declared.sending.Sending.TheVariants as sendings
 use Rattle.gw_station.specs.declared.sending.Sending.TheVariants as sendings
 use Rattle.gw_laws.specs.Interrogations.{Interrogation, is_interrogation, parts_of_command, parts_in, is_termination, is_pending, as_told, answer_told, interrogation_telling}
 use Rattle.gw_laws.specs.Fates.{spontaneous_of}
@@ -110,9 +107,9 @@ answer_apart offset common (Made (outgoing.Command c)) meant can is means =
 answer_apart offset common (Made (outgoing.Observation cause originator x)) meant can is means =
     ap parts_in means ∙ ap (λ (n : ℕ). parts_in (Tells (asdu_of offset common n originator x))) is
 
-pub news_apart : (offset : ℤ) (common : ℕ) (x : Observation) (meant : Meant)
-    → Means offset common (Made (news x)) meant → parts_in meant ≡ []
-news_apart offset common x meant means = ap parts_in means
+pub news_apart : (offset : ℤ) (common : ℕ) (x : Observation) (xs : List Observation) (meant : Meant)
+    → meant ≡ Tells (packed_asdu offset common 3 0 x xs) → parts_in meant ≡ []
+news_apart offset common x xs meant means = ap parts_in means
 
 -- nothing of it was put out
 pub told_nothing : (meant : Meant) (q : Option Interrogation) → parts_in meant ≡ []
@@ -228,46 +225,22 @@ pending_is common q rest e =
     last_said front q.said (map (as_told common) rest) termination (rows_go_on common c.action q.rows) refl (e ∙ whole)
     ∙ told_asked common rest
 
--- one part more was said
-pub said_more : (common : ℕ) (said : List OwnAsdu) (part : OwnAsdu) (rest : List OwnAsdu)
-    → (said ++ as_told common part ∷ []) ++ map (as_told common) rest ≡ said ++ map (as_told common) (part ∷ rest)
-said_more common [] part rest = refl
-said_more common (s ∷ said) part rest = ap (λ (parts : List OwnAsdu). s ∷ parts) (said_more common said part rest)
+-- more parts were said
+pub said_more : (common n : ℕ) (said rest : List OwnAsdu)
+    → (said ++ map (as_told common) (take n rest)) ++ map (as_told common) (drop n rest)
+    ≡ said ++ map (as_told common) rest
+said_more common n said rest =
+    append_assoc said (map (as_told common) (take n rest)) (map (as_told common) (drop n rest))
+    ∙ ap (λ (parts : List OwnAsdu). said ++ parts) (sym (map-append (as_told common) (take n rest) (drop n rest))
+    ∙ ap (map (as_told common)) (take-append-drop n rest))
 
 -- what is left is what is behind as many as were said
-pub left_more : (said : ℕ) (rest answer : List OwnAsdu) → rest ≡ drop said answer → drop 1 rest ≡ drop (said + 1) answer
-left_more said rest answer is = ap (drop 1) is ∙ drop_twice said (said + 1) answer refl
-  where
-    drop_twice : (n m : ℕ) (parts : List OwnAsdu) → m ≡ n + 1 → drop 1 (drop n parts) ≡ drop m parts
-    drop_twice zero m parts e = let one : 1 ≡ m = omega (arith, e) in ap (λ (i : ℕ). drop i parts) one
-    drop_twice (suc n) zero parts e = absurd (omega (arith, e))
-    drop_twice (suc n) (suc m) [] e = refl
-    drop_twice (suc n) (suc m) (p ∷ parts) e = drop_twice n m parts (omega (arith, e))
+pub left_more : (said n : ℕ) (rest answer : List OwnAsdu) → rest ≡ drop said answer
+    → drop n rest ≡ drop (said + n) answer
+left_more said n rest answer is = ap (drop n) is ∙ drop-drop n said answer
 
 -- ---- what waits before
 
 pub nothing_asked : (rest : List OwnAsdu) → is_asked rest ≡ false → rest ≡ []
 nothing_asked [] e = refl
 nothing_asked (part ∷ rest) e = absurd cc
-
-abbrev front : List AsduAnswer → ℕ → List Observation → List OwnAsdu → List Sending
-front answers older queue rest =
-    map sendings.Answer answers ++ (map sendings.News (take older queue)
-    ++ (map sendings.Part rest ++ map sendings.News (drop older queue)))
-
--- news and parts come where no answer waits
-pub no_answer : (k : Client) (x : Observation) → slice_get (line k) 0 ≡ Some (sendings.News x) → k.answers ≡ []
-no_answer k x e = go k.answers e
-  where
-    go : (answers : List AsduAnswer) → slice_get (front answers k.older k.queue k.rest) 0 ≡ Some (sendings.News x)
-        → answers ≡ []
-    go [] e = refl
-    go (a ∷ answers) e = absurd cc
-
-pub no_answer_before : (k : Client) (part : OwnAsdu) → slice_get (line k) 0 ≡ Some (sendings.Part part) → k.answers ≡ []
-no_answer_before k part e = go k.answers e
-  where
-    go : (answers : List AsduAnswer) → slice_get (front answers k.older k.queue k.rest) 0 ≡ Some (sendings.Part part)
-        → answers ≡ []
-    go [] e = refl
-    go (a ∷ answers) e = absurd cc

@@ -35,14 +35,22 @@ use_up-settled : (settled : List Element) (x : Observation) (rest : List Element
 use_up-settled [] x rest all = refl
 use_up-settled (e ∷ es) x rest all = rw all.0 (ap (λ (zs : List Element). e ∷ zs) (use_up-settled es x rest all.1))
 
-pub queue_shrinks : (settled : List Element) (x : Observation) (queue : List Observation) → AreSettled settled
-    → use_up (before_queue settled (x ∷ queue)) ≡ before_queue (settled ++ put x ∷ []) queue
-queue_shrinks settled x queue all =
-    use_up-settled settled x (map queued queue) all ∙ sym (append_assoc settled (put x ∷ []) (map queued queue))
+pub settled_more : (settled : List Element) (xs : List Observation) → AreSettled settled
+    → AreSettled (settled ++ map put xs)
+settled_more [] [] all = tt
+settled_more [] (x ∷ xs) all = (refl, settled_more [] xs tt)
+settled_more (e ∷ es) xs all = (all.0, settled_more es xs all.1)
 
-pub settled_more : (settled : List Element) (x : Observation) → AreSettled settled → AreSettled (settled ++ put x ∷ [])
-settled_more [] x all = (refl, tt)
-settled_more (e ∷ es) x all = (all.0, settled_more es x all.1)
+pub queue_shrinks : (settled : List Element) (xs queue : List Observation) → AreSettled settled
+    → fates_with_put_out (before_queue settled (xs ++ queue)) xs ≡ before_queue (settled ++ map put xs) queue
+queue_shrinks settled [] queue all =
+    ap (λ (es : List Element). es ++ map queued queue) (sym (append-nil settled))
+queue_shrinks settled (x ∷ xs) queue all =
+    ap (λ (es : List Element). fates_with_put_out es xs)
+    (use_up-settled settled x (map queued (xs ++ queue)) all
+    ∙ sym (append_assoc settled (put x ∷ []) (map queued (xs ++ queue))))
+    ∙ (queue_shrinks (settled ++ put x ∷ []) xs queue (settled_more settled (x ∷ []) all)
+    ∙ ap (λ (es : List Element). es ++ map queued queue) (append_assoc settled (put x ∷ []) (map put xs)))
 
 -- ---- the observations by their fates
 
@@ -105,14 +113,27 @@ dropped_in settled queue =
     ∙ (ap (λ (xs : List Observation). items_of is_dropped settled ++ xs) (none_of_queue_dropped queue)
     ∙ append-nil (items_of is_dropped settled))
 
--- one more that was put out
-pub put_out_more : (settled : List Element) (x : Observation)
-    → items_of is_put_out (settled ++ put x ∷ []) ≡ items_of is_put_out settled ++ x ∷ []
-put_out_more settled x = items_of-append is_put_out settled (put x ∷ [])
+-- those that were put out, and no others
+all_put : (xs : List Observation) → items_of is_put_out (map put xs) ≡ xs
+all_put [] = refl
+all_put (x ∷ xs) = ap (λ (ys : List Observation). x ∷ ys) (all_put xs)
 
-pub dropped_same : (settled : List Element) (x : Observation)
-    → items_of is_dropped (settled ++ put x ∷ []) ≡ items_of is_dropped settled
-dropped_same settled x = items_of-append is_dropped settled (put x ∷ []) ∙ append-nil (items_of is_dropped settled)
+none_dropped : (xs : List Observation) → items_of is_dropped (map put xs) ≡ []
+none_dropped [] = refl
+none_dropped (x ∷ xs) = none_dropped xs
+
+pub put_out_more : (settled : List Element) (xs : List Observation)
+    → items_of is_put_out (settled ++ map put xs) ≡ items_of is_put_out settled ++ xs
+put_out_more settled xs =
+    items_of-append is_put_out settled (map put xs)
+    ∙ ap (λ (ys : List Observation). items_of is_put_out settled ++ ys) (all_put xs)
+
+pub dropped_same : (settled : List Element) (xs : List Observation)
+    → items_of is_dropped (settled ++ map put xs) ≡ items_of is_dropped settled
+dropped_same settled xs =
+    items_of-append is_dropped settled (map put xs)
+    ∙ (ap (λ (ys : List Observation). items_of is_dropped settled ++ ys) (none_dropped xs)
+    ∙ append-nil (items_of is_dropped settled))
 
 -- ---- news that come
 

@@ -1,9 +1,12 @@
 -- What waits in a line, and what is meant by the first of it.
-use Rattle.std.proofs.Common.{◌≡◌, ℕ, ℤ, ◌%◌, ◌≤◌, Bool, true, false, cond, eqb, List, [], ◌∷◌, ◌++◌, map, length, take, drop, Option, Some, None, refl, sym, ap, ◌∙◌, append_assoc, arith, inl, inr}
-use Rattle.std.specs.Prelude.{filter, slice_get}
+use Rattle.std.proofs.Common.{◌≡◌, ℕ, zero, suc, ℤ, ◌+◌, ◌%◌, ◌<◌, ◌≤◌, Bool, true, false, cond, eqb, List, [], ◌∷◌, ◌++◌, map, length, take, drop, Option, Some, None, refl, sym, ap, ◌∙◌, append_assoc, arith, inl, inr}
+use Rattle.std.specs.Prelude.{◌⊎◌, ◌==◌, ◌&&◌, filter, if◌then◌else◌}
+use Rattle.std.specs.List.{AllByRecursion}
 use Rattle.std.proofs.lemmas.Bool.{cases_Bool, ne_eqb}
 use Rattle.std.proofs.lemmas.List.{take-append-le, drop-append-le}
 use Rattle.gw_model.specs.declared.observation.Observation.{Observation}
+use Rattle.iec_asdu.specs.Packing.{taken_of}
+use Rattle.iec_asdu.proofs.Carried.{taken_of_some, taken_of_within}
 use Rattle.iec_command.specs.declared.command.Command.{Command}
 use Rattle.gw_answers.specs.declared.outgoing.AsduAnswer.{AsduAnswer}
 use Rattle.gw_answers.specs.declared.outgoing.AsduAnswer.TheVariants.{Returned, Made}
@@ -12,14 +15,15 @@ use Rattle.gw_answers.specs.declared.outgoing.OwnAsdu.TheVariants as outgoing
 use Rattle.gw_answers.specs.Outgoing.{command_with}
 use Rattle.gw_answers.specs.Interrogations.{is_asked_by, cause_for, answer_to}
 use Rattle.gw_answers.specs.Octets.{octets_in}
-use Rattle.gw_answers.specs.Meaning.{Meant, Tells, Commands, Unread, asdu_of}
+use Rattle.gw_answers.specs.Meaning.{Meant, Tells, Commands, Unread, asdu_of, packed_asdu, Means, CanSendAnswer}
 use Rattle.gw_answers.proofs.Meant.{refused_with}
 use Rattle.gw_station.specs.declared.sending.Sending.{Sending}
 use Rattle.gw_station.specs.declared.sending.Sending.TheVariants as sendings
-use Rattle.gw_station.specs.Sound.{CanSend, IsReturnableSending}
+use Rattle.gw_station.specs.Pump.{news_front, rows_front, together}
+use Rattle.gw_station.specs.Sound.{CanSend}
 use Rattle.gw_laws.specs.Fates.{Element, items_of, is_queued}
 use Rattle.gw_laws.specs.Interrogations.{Interrogation, is_interrogation, parts_in}
-use Rattle.gw_laws.specs.Line.{since_of, left_of, line_with, MeansSending}
+use Rattle.gw_laws.specs.Line.{since_of, left_of, line_with, MeansFront}
 use Rattle.gw_laws.specs.Mirror.{observations_in, observations_of, waiting_in}
 use Rattle.gw_laws.proofs.Settled.{queued, items_of-append, queued_in}
 use Rattle.gw_laws.proofs.Parts.{IsRequested, IsApart}
@@ -121,16 +125,6 @@ abbrev pub is_part : Sending → Bool
 is_part (sendings.Part part) = true
 is_part _ = false
 
--- what can be sent comes back, where it does, with one of the causes of what is unknown
-pub returnable : (offset : ℤ) (s : Sending) → CanSend offset s → IsReturnableSending s
-returnable offset (sendings.Answer (Returned asdu cause)) can = can
-returnable offset (sendings.Answer (Made x)) can = tt
-returnable offset (sendings.News x) can = tt
-returnable offset (sendings.Part part) can = tt
-returnable offset (sendings.Confirm signal) can = tt
-returnable offset sendings.Test can = tt
-returnable offset sendings.SFormat can = tt
-
 -- none of the causes of observations is one of what is unknown
 other_causes : (cause octet : ℕ) → octet % 64 ≡ cause → 44 ≤ cause → cause ≤ 47
     → (eqb octet 3 ≡ false) × (eqb octet 5 ≡ false) × (eqb octet 20 ≡ false) × (eqb octet 37 ≡ false)
@@ -145,39 +139,117 @@ other_causes cause octet is low high = (
     other : (n : ℕ) → (n % 64 ≤ 43) → eqb octet n ≡ false
     other n few = ne_eqb octet n (λ e. omega (arith, is, low, few, ap (λ (m : ℕ). m % 64) e))
 
--- the observations that it tells
-pub told_as : (offset : ℤ) (common : ℕ) (s : Sending) (meant : Meant) → IsPlain s → IsReturnableSending s
-    → MeansSending offset common s meant
-    → observations_in meant ≡ observations_of s
-told_as offset common (sendings.Answer (Returned asdu cause)) (Tells a) plain can means =
+-- the observations that an answer tells
+answer_tells : (offset : ℤ) (common : ℕ) (answer : AsduAnswer) (meant : Meant) → IsApart answer
+    → CanSendAnswer offset answer → Means offset common answer meant
+    → observations_in meant ≡ observations_of (sendings.Answer answer)
+answer_tells offset common (Returned asdu cause) (Tells a) plain can means =
     let refused = refused_with offset cause (octets_in asdu) (Tells a) can.0 means in
     let others = other_causes cause a.cause refused.0 can.1 can.2 in
     rw (others.0, others.1, others.2, others.3) refl
-told_as offset common (sendings.Answer (Returned asdu cause)) (Commands c) plain can means = refl
-told_as offset common (sendings.Answer (Returned asdu cause)) (Unread octets) plain can means = refl
-told_as offset common (sendings.Answer (Made (outgoing.Command c))) meant plain can means = ap observations_in means
-told_as offset common (sendings.Answer (Made (outgoing.Observation cause originator x))) meant plain can means =
+answer_tells offset common (Returned asdu cause) (Commands c) plain can means = refl
+answer_tells offset common (Returned asdu cause) (Unread octets) plain can means = refl
+answer_tells offset common (Made (outgoing.Command c)) meant plain can means = ap observations_in means
+answer_tells offset common (Made (outgoing.Observation cause originator x)) meant plain can means =
     ap observations_in means ∙ ap (λ (n : ℕ). observations_in (Tells (asdu_of offset common n originator x))) plain
-told_as offset common (sendings.News x) meant plain can means = ap observations_in means
-told_as offset common (sendings.Part (outgoing.Command c)) meant plain can means = ap observations_in means
-told_as offset common (sendings.Part (outgoing.Observation cause originator x)) meant (inl is) can means =
-    ap observations_in means ∙ ap (λ (n : ℕ). observations_in (Tells (asdu_of offset common n originator x))) is
-told_as offset common (sendings.Part (outgoing.Observation cause originator x)) meant (inr is) can means =
-    ap observations_in means ∙ ap (λ (n : ℕ). observations_in (Tells (asdu_of offset common n originator x))) is
-told_as offset common (sendings.Confirm signal) meant plain can means = absurd means
-told_as offset common sendings.Test meant plain can means = absurd means
-told_as offset common sendings.SFormat meant plain can means = absurd means
 
--- only parts are taken for parts
-pub apart : (offset : ℤ) (common : ℕ) (s : Sending) (meant : Meant) → IsPlain s → IsReturnableSending s
-    → is_part s ≡ false
-    → MeansSending offset common s meant
-    → parts_in meant ≡ []
-apart offset common (sendings.Answer (Returned asdu cause)) (Tells a) plain can other means =
+-- news at the front of a line wait first
+news_wait : (n : ℕ) (l : List Sending) → n ≤ length (news_front l)
+    → waiting_in l ≡ take n (news_front l) ++ waiting_in (drop n l)
+news_wait zero l few = refl
+news_wait (suc n) [] few = absurd (omega (arith, few))
+news_wait (suc n) (sendings.News x ∷ l) few =
+    ap (λ (xs : List Observation). x ∷ xs) (news_wait n l (omega (arith, few)))
+news_wait (suc n) (sendings.Answer answer ∷ l) few = absurd (omega (arith, few))
+news_wait (suc n) (sendings.Part part ∷ l) few = absurd (omega (arith, few))
+news_wait (suc n) (sendings.Confirm signal ∷ l) few = absurd (omega (arith, few))
+news_wait (suc n) (sendings.Test ∷ l) few = absurd (omega (arith, few))
+news_wait (suc n) (sendings.SFormat ∷ l) few = absurd (omega (arith, few))
+
+-- and so do rows
+rows_wait : (cause originator n : ℕ) (l : List Sending) → n ≤ length (rows_front cause originator l)
+    → waiting_in l ≡ take n (rows_front cause originator l) ++ waiting_in (drop n l)
+rows_wait cause originator zero l few = refl
+rows_wait cause originator (suc n) [] few = absurd (omega (arith, few))
+rows_wait cause originator (suc n) (sendings.Part (outgoing.Observation c o x) ∷ l) few =
+    by (c == cause && o == originator) (λ few. rows_wait cause originator n l few) few
+  where
+    front : List Observation
+    front = rows_front cause originator l
+
+    by : (b : Bool) → (n ≤ length front → waiting_in l ≡ take n front ++ waiting_in (drop n l))
+        → suc n ≤ length (if b then x ∷ front else [])
+        → x ∷ waiting_in l ≡ take (suc n) (if b then x ∷ front else []) ++ waiting_in (drop n l)
+    by true others few = ap (λ (xs : List Observation). x ∷ xs) (others (omega (arith, few)))
+    by false others few = absurd (omega (arith, few))
+rows_wait cause originator (suc n) (sendings.Part (outgoing.Command command) ∷ l) few = absurd (omega (arith, few))
+rows_wait cause originator (suc n) (sendings.News x ∷ l) few = absurd (omega (arith, few))
+rows_wait cause originator (suc n) (sendings.Answer answer ∷ l) few = absurd (omega (arith, few))
+rows_wait cause originator (suc n) (sendings.Confirm signal ∷ l) few = absurd (omega (arith, few))
+rows_wait cause originator (suc n) (sendings.Test ∷ l) few = absurd (omega (arith, few))
+rows_wait cause originator (suc n) (sendings.SFormat ∷ l) few = absurd (omega (arith, few))
+
+-- the first of a list, and those that go with it
+with_first : (n : ℕ) (x : Observation) (xs : List Observation) (l : List Sending) → 0 < n → n ≤ length xs + 1
+    → ((m : ℕ) → m ≤ length xs → waiting_in l ≡ take m xs ++ waiting_in (drop m l))
+    → x ∷ waiting_in l ≡ take n (x ∷ xs) ++ waiting_in (drop n (sendings.News x ∷ l))
+with_first zero x xs l some few each = absurd (omega (arith, some))
+with_first (suc n) x xs l some few each = ap (λ (ys : List Observation). x ∷ ys) (each n (omega (arith, few)))
+
+-- what an ASDU tells waited first
+pub told_first : (offset : ℤ) (common : ℕ) (l : List Sending) (meant : Meant) → MeansFront offset common l meant
+    → AllByRecursion IsPlain l → AllByRecursion (CanSend offset) l
+    → waiting_in l ≡ observations_in meant ++ waiting_in (drop (together offset l) l)
+told_first offset common [] meant means plain can = absurd means
+told_first offset common (sendings.Answer answer ∷ l) meant means plain can =
+    ap (λ (xs : List Observation). xs ++ waiting_in l) (sym (answer_tells offset common answer meant plain.0 can.0 means))
+told_first offset common (sendings.News x ∷ l) meant means plain can =
+    let xs : List Observation = news_front l in
+    let n : ℕ = taken_of offset (x ∷ xs) in
+    with_first n x xs l (taken_of_some offset (x ∷ xs) (omega arith)) (omega (arith, taken_of_within offset (x ∷ xs)))
+    (λ m few. news_wait m l few)
+    ∙ ap (λ (ys : List Observation). ys ++ waiting_in (drop n (sendings.News x ∷ l))) (sym (ap observations_in means))
+told_first offset common (sendings.Part (outgoing.Command command) ∷ l) meant means plain can =
+    ap (λ (xs : List Observation). xs ++ waiting_in l) (sym (ap observations_in means))
+told_first offset common (sendings.Part (outgoing.Observation cause originator x) ∷ l) meant means plain can =
+    let xs : List Observation = rows_front cause originator l in
+    let n : ℕ = taken_of offset (x ∷ xs) in
+    rows_first n (taken_of_some offset (x ∷ xs) (omega arith)) (omega (arith, taken_of_within offset (x ∷ xs)))
+    ∙ ap (λ (ys : List Observation). ys ++ waiting_in (drop n (sendings.Part (outgoing.Observation cause originator x) ∷ l)))
+    (sym (ap observations_in means ∙ rows_told plain.0))
+  where
+    front : List Observation
+    front = rows_front cause originator l
+
+    rows_first : (n : ℕ) → 0 < n → n ≤ length front + 1
+        → x ∷ waiting_in l ≡ take n (x ∷ front)
+        ++ waiting_in (drop n (sendings.Part (outgoing.Observation cause originator x) ∷ l))
+    rows_first zero some few = absurd (omega (arith, some))
+    rows_first (suc n) some few =
+        ap (λ (ys : List Observation). x ∷ ys) (rows_wait cause originator n l (omega (arith, few)))
+
+    rows_told : (cause ≡ 20) ⊎ (cause ≡ 37)
+        → observations_in (Tells (packed_asdu offset common cause originator x front))
+        ≡ take (taken_of offset (x ∷ front)) (x ∷ front)
+    rows_told (inl is) = rw is refl
+    rows_told (inr is) = rw is refl
+told_first offset common (sendings.Confirm signal ∷ l) meant means plain can = absurd means
+told_first offset common (sendings.Test ∷ l) meant means plain can = absurd means
+told_first offset common (sendings.SFormat ∷ l) meant means plain can = absurd means
+
+-- ---- only parts are taken for parts
+
+abbrev pub begins_with_part : List Sending → Bool
+begins_with_part [] = false
+begins_with_part (s ∷ l) = is_part s
+
+answer_apart : (offset : ℤ) (common : ℕ) (answer : AsduAnswer) (meant : Meant) → IsApart answer
+    → CanSendAnswer offset answer → Means offset common answer meant → parts_in meant ≡ []
+answer_apart offset common (Returned asdu cause) (Tells a) plain can means =
     let refused = refused_with offset cause (octets_in asdu) (Tells a) can.0 means in
     let others = other_causes cause a.cause refused.0 can.1 can.2 in
     rw (others.2, others.3) refl
-apart offset common (sendings.Answer (Returned asdu cause)) (Commands c) plain can other means =
+answer_apart offset common (Returned asdu cause) (Commands c) plain can means =
     negative_apart c (refused_with offset cause (octets_in asdu) (Commands c) can.0 means).1
   where
     negative_apart : (c : Command) → c.negative ≡ true → parts_in (Commands c) ≡ []
@@ -185,24 +257,30 @@ apart offset common (sendings.Answer (Returned asdu cause)) (Commands c) plain c
       | inl one ↦ rw (one, is) refl
       | inr none ↦ rw none refl
     ]
-apart offset common (sendings.Answer (Returned asdu cause)) (Unread octets) plain can other means = refl
-apart offset common (sendings.Answer (Made (outgoing.Command c))) meant plain can other means =
-    ap parts_in means ∙ rw plain refl
-apart offset common (sendings.Answer (Made (outgoing.Observation cause originator x))) meant plain can other means =
+answer_apart offset common (Returned asdu cause) (Unread octets) plain can means = refl
+answer_apart offset common (Made (outgoing.Command c)) meant plain can means = ap parts_in means ∙ rw plain refl
+answer_apart offset common (Made (outgoing.Observation cause originator x)) meant plain can means =
     ap parts_in means ∙ ap (λ (n : ℕ). parts_in (Tells (asdu_of offset common n originator x))) plain
-apart offset common (sendings.News x) meant plain can other means = ap parts_in means
-apart offset common (sendings.Part part) meant plain can other means = absurd cc
-apart offset common (sendings.Confirm signal) meant plain can other means = absurd means
-apart offset common sendings.Test meant plain can other means = absurd means
-apart offset common sendings.SFormat meant plain can other means = absurd means
+
+pub apart : (offset : ℤ) (common : ℕ) (l : List Sending) (meant : Meant) → begins_with_part l ≡ false
+    → MeansFront offset common l meant → AllByRecursion IsPlain l → AllByRecursion (CanSend offset) l
+    → parts_in meant ≡ []
+apart offset common [] meant other means plain can = absurd means
+apart offset common (sendings.Answer answer ∷ l) meant other means plain can =
+    answer_apart offset common answer meant plain.0 can.0 means
+apart offset common (sendings.News x ∷ l) meant other means plain can = ap parts_in means
+apart offset common (sendings.Part part ∷ l) meant other means plain can = absurd cc
+apart offset common (sendings.Confirm signal ∷ l) meant other means plain can = absurd means
+apart offset common (sendings.Test ∷ l) meant other means plain can = absurd means
+apart offset common (sendings.SFormat ∷ l) meant other means plain can = absurd means
 
 -- a part is first where no answer and no older news wait
-pub part_first : (owed : List AsduAnswer) (xs : List Observation) (rest : List Sending) (p : OwnAsdu)
-    → slice_get (map sendings.Answer owed ++ (map sendings.News xs ++ rest)) 0 ≡ Some (sendings.Part p)
+pub part_first : (owed : List AsduAnswer) (xs : List Observation) (rest : List Sending)
+    → begins_with_part (map sendings.Answer owed ++ (map sendings.News xs ++ rest)) ≡ true
     → (owed ≡ []) × (xs ≡ [])
-part_first (answer ∷ owed) xs rest p e = absurd cc
-part_first [] (x ∷ xs) rest p e = absurd cc
-part_first [] [] rest p e = (refl, refl)
+part_first (answer ∷ owed) xs rest e = absurd cc
+part_first [] (x ∷ xs) rest e = absurd cc
+part_first [] [] rest e = (refl, refl)
 
 -- the line from its first part on
 abbrev pub from_part : List Sending → List Sending
@@ -216,22 +294,24 @@ from_part_of (answer ∷ owed) xs p rest = from_part_of owed xs p rest
 from_part_of [] (x ∷ xs) p rest = from_part_of [] xs p rest
 from_part_of [] [] p rest = refl
 
-pub from_part_next : (s : Sending) (line : List Sending) → slice_get line 0 ≡ Some s → is_part s ≡ false
-    → from_part (drop 1 line) ≡ from_part line
-from_part_next s [] first other = absurd cc
-from_part_next s (t ∷ line) first other = let is : is_part t ≡ false =
-    ap (λ (x : Option Sending). of x) first ∙ other in rw is refl
-  where
-    of : Option Sending → Bool
-    of None = false
-    of (Some x) = is_part x
+-- news that go are before it
+from_part_news : (n : ℕ) (l : List Sending) → n ≤ length (news_front l) → from_part (drop n l) ≡ from_part l
+from_part_news zero l few = refl
+from_part_news (suc n) [] few = absurd (omega (arith, few))
+from_part_news (suc n) (sendings.News x ∷ l) few = from_part_news n l (omega (arith, few))
+from_part_news (suc n) (sendings.Answer answer ∷ l) few = absurd (omega (arith, few))
+from_part_news (suc n) (sendings.Part part ∷ l) few = absurd (omega (arith, few))
+from_part_news (suc n) (sendings.Confirm signal ∷ l) few = absurd (omega (arith, few))
+from_part_news (suc n) (sendings.Test ∷ l) few = absurd (omega (arith, few))
+from_part_news (suc n) (sendings.SFormat ∷ l) few = absurd (omega (arith, few))
 
--- the first, and the others
-pub first_waits : (s : Sending) (line : List Sending) → slice_get line 0 ≡ Some s
-    → waiting_in line ≡ observations_of s ++ waiting_in (drop 1 line)
-first_waits s [] first = absurd cc
-first_waits s (t ∷ line) first = ap (λ (x : Option Sending). of x ++ waiting_in line) first
-  where
-    of : Option Sending → List Observation
-    of None = []
-    of (Some x) = observations_of x
+pub from_part_next : (offset : ℤ) (l : List Sending) → begins_with_part l ≡ false
+    → from_part (drop (together offset l) l) ≡ from_part l
+from_part_next offset [] other = refl
+from_part_next offset (sendings.News x ∷ l) other =
+    from_part_news (taken_of offset (x ∷ news_front l)) (sendings.News x ∷ l) (taken_of_within offset (x ∷ news_front l))
+from_part_next offset (sendings.Answer answer ∷ l) other = refl
+from_part_next offset (sendings.Part part ∷ l) other = absurd cc
+from_part_next offset (sendings.Confirm signal ∷ l) other = refl
+from_part_next offset (sendings.Test ∷ l) other = refl
+from_part_next offset (sendings.SFormat ∷ l) other = refl

@@ -1,7 +1,8 @@
 -- What is kept of an interrogation that is watched, by what the history tells of a client, and how each turn keeps it.
-use Rattle.std.proofs.Common.{◌≡◌, ℕ, ℤ, ◌≤◌, true, false, List, [], ◌∷◌, ◌++◌, map, length, take, drop, Option, Some, None, refl, sym, ap, subst, ◌∙◌, append_assoc, arith}
-use Rattle.std.specs.Prelude.{not, filter, slice_get, option_map}
+use Rattle.std.proofs.Common.{◌≡◌, ℕ, ℤ, ◌≤◌, true, false, List, [], ◌∷◌, ◌++◌, map, length, take, drop, Option, Some, None, refl, sym, ap, subst, ◌∙◌, append_assoc, arith, inl, inr}
+use Rattle.std.specs.Prelude.{not, filter, option_map}
 use Rattle.std.specs.List.{AllByRecursion}
+use Rattle.std.proofs.lemmas.Bool.{cases_Bool}
 use Rattle.std.proofs.lemmas.List.{append-nil, map-append, take-append-drop}
 use Rattle.std.proofs.Math.Seq.{take-length, drop-length}
 use Rattle.gw_model.specs.declared.observation.Observation.{Observation}
@@ -19,15 +20,16 @@ use Rattle.gw_answers.specs.Meaning.{Meant}
 use Rattle.gw_answers.specs.Outgoing.{command_with}
 use Rattle.gw_station.specs.declared.sending.Sending.{Sending}
 use Rattle.gw_station.specs.declared.sending.Sending.TheVariants as sendings
-use Rattle.gw_station.specs.Sound.{IsReturnableSending}
+use Rattle.gw_station.specs.Pump.{together}
+use Rattle.gw_station.specs.Sound.{CanSend}
 use Rattle.gw_laws.specs.Fates.{Element, is_queued, items_of, fates_with_news, fates_with_put_out}
 use Rattle.gw_laws.specs.Interrogations.{Interrogation, is_interrogation, parts_in, as_told, interrogation_telling}
-use Rattle.gw_laws.specs.Line.{since_of, left_of, line_with, MeansSending}
+use Rattle.gw_laws.specs.Line.{since_of, left_of, line_with, MeansFront}
 use Rattle.gw_laws.specs.Mirror.{observations_in, waiting_in, is_station_interrogation, told_with, NoneDropped}
 use Rattle.gw_laws.proofs.Settled.{queued, items_of-append}
 use Rattle.gw_laws.proofs.Known.{IsShown, Knows, filtered_shown, shown_last, knows_news, knows_inserted}
 use Rattle.gw_laws.proofs.Joined.{joins_behind, none_before, joins, came_front, gone_dropped, gone_front}
-use Rattle.gw_laws.proofs.Waits.{waiting_in-append, waiting_answer, from_answer, waiting_from, waiting_line, from_answer_joined, line_joined, IsPlain, is_part, told_as, apart, part_first, from_part, from_part_of, from_part_next, first_waits}
+use Rattle.gw_laws.proofs.Waits.{waiting_in-append, waiting_answer, from_answer, waiting_from, waiting_line, from_answer_joined, line_joined, IsPlain, begins_with_part, told_first, apart, part_first, from_part, from_part_of, from_part_next}
 
 -- ---- what the history tells of a client
 
@@ -128,14 +130,12 @@ put_out meant ys v = record v {
   owed = drop 1 v.owed;
 }
 
--- it means the first in line, and the others wait then
+-- it means the front of the line, and the others wait then
 pub record PutsFirst (offset : ℤ) (common : ℕ) (v new : View) (meant : Meant) : Type 0 where
-  pub sending : Sending
-  pub first : slice_get (line_in v) 0 ≡ Some sending
-  pub plain : IsPlain sending
-  pub returnable : IsReturnableSending sending
-  pub means : MeansSending offset common sending meant
-  pub line : line_in new ≡ drop 1 (line_in v)
+  pub means : MeansFront offset common (line_in v) meant
+  pub plain : AllByRecursion IsPlain (line_in v)
+  pub can : AllByRecursion (CanSend offset) (line_in v)
+  pub line : line_in new ≡ drop (together offset (line_in v)) (line_in v)
 
 same_since : (meant : Meant) (q : Option Interrogation)
     → since_of (option_map (interrogation_telling meant) q) ≡ since_of q
@@ -150,10 +150,8 @@ heard_put_out rows offset common since told meant ys v puts kept =
     let new : View = put_out meant ys v in
     let rest : List Observation = waiting_in (line_in new) in
     let first : waiting_in (line_in v) ≡ observations_in meant ++ rest =
-    first_waits puts.sending (line_in v) puts.first
-    ∙ (ap (λ (xs : List Observation). xs ++ waiting_in (drop 1 (line_in v)))
-    (sym (told_as offset common puts.sending meant puts.plain puts.returnable puts.means))
-    ∙ ap (λ (l : List Sending). observations_in meant ++ waiting_in l) (sym puts.line)) in
+    told_first offset common (line_in v) meant puts.means puts.plain puts.can
+    ∙ ap (λ (l : List Sending). observations_in meant ++ waiting_in l) (sym puts.line) in
     record {
       mark = omega (arith, kept.mark, same_since meant v.asked);
       settled = gone_front since v.elements ys kept.settled;
@@ -185,7 +183,7 @@ watched_from asked es since is =
 
 -- something else than a part
 unheard_put_out : (rows : List Row) (offset : ℤ) (common since : ℕ) (meant : Meant) (ys : List Observation) (v : View)
-    → (puts : PutsFirst offset common v (put_out meant ys v) meant) → is_part puts.sending ≡ false
+    → (puts : PutsFirst offset common v (put_out meant ys v) meant) → begins_with_part (line_in v) ≡ false
     → Unheard rows v since
     → IsKept rows (put_out meant ys v) since (told_with meant None)
 unheard_put_out rows offset common since meant ys v puts other kept = rw none_said kept_on
@@ -194,7 +192,7 @@ unheard_put_out rows offset common since meant ys v puts other kept = rw none_sa
     new = put_out meant ys v
 
     none_said : parts_in meant ≡ []
-    none_said = apart offset common puts.sending meant puts.plain puts.returnable other puts.means
+    none_said = apart offset common (line_in v) meant other puts.means puts.plain puts.can
 
     watched : IsWatched new.asked since
     watched = record {
@@ -215,7 +213,7 @@ unheard_put_out rows offset common since meant ys v puts other kept = rw none_sa
     same : from_answer v.asked v.elements ≡ from_answer new.asked new.elements
     same =
         sym (front v kept.watched)
-        ∙ (sym (from_part_next puts.sending (line_in v) puts.first other)
+        ∙ (sym (from_part_next offset (line_in v) other)
         ∙ (ap from_part (sym puts.line) ∙ front new watched))
 
     kept_on : Unheard rows new since
@@ -228,11 +226,10 @@ unheard_put_out rows offset common since meant ys v puts other kept = rw none_sa
 
 -- its confirmation
 confirmed : (rows : List Row) (offset : ℤ) (common since : ℕ) (meant : Meant) (ys : List Observation) (v : View)
-    (p : OwnAsdu)
-    → slice_get (line_in v) 0 ≡ Some (sendings.Part p) → MeansSending offset common (sendings.Part p) meant
-    → line_in (put_out meant ys v) ≡ drop 1 (line_in v) → Unheard rows v since
+    → begins_with_part (line_in v) ≡ true → MeansFront offset common (line_in v) meant
+    → line_in (put_out meant ys v) ≡ drop (together offset (line_in v)) (line_in v) → Unheard rows v since
     → IsKept rows (put_out meant ys v) since (told_with meant None)
-confirmed rows offset common since meant ys v p first means moved kept = rw is_said heard
+confirmed rows offset common since meant ys v first means moved kept = rw is_said heard
   where
     new : View
     new = put_out meant ys v
@@ -247,7 +244,7 @@ confirmed rows offset common since meant ys v p first means moved kept = rw is_s
     from = watched_from v.asked v.elements since kept.watched
 
     none : (v.owed ≡ []) × (older ≡ [])
-    none = part_first v.owed older (from_answer v.asked v.elements) p first
+    none = part_first v.owed older (from_answer v.asked v.elements) first
 
     whole : line_in v ≡ sendings.Part (command_with 7 false q.command) ∷ behind q v.elements
     whole =
@@ -255,17 +252,12 @@ confirmed rows offset common since meant ys v p first means moved kept = rw is_s
         ++ (map sendings.News older ++ from_answer v.asked v.elements)) none.0
         ∙ (ap (λ (xs : List Observation). map sendings.News xs ++ from_answer v.asked v.elements) none.1 ∙ from)
 
-    part_is : p ≡ command_with 7 false q.command
-    part_is = ap of (sym first ∙ ap (λ (l : List Sending). slice_get l 0) whole)
-      where
-        of : Option Sending → OwnAsdu
-        of (Some (sendings.Part part)) = part
-        of _ = p
-
     is_said : parts_in meant ≡ as_told common (command_with 7 false q.command) ∷ []
-    is_said =
-        ap parts_in (subst (λ (part : OwnAsdu). MeansSending offset common (sendings.Part part) meant) part_is means)
+    is_said = ap parts_in (subst (λ (l : List Sending). MeansFront offset common l meant) whole means)
         ∙ rw kept.watched.kind refl
+
+    left : drop (together offset (line_in v)) (line_in v) ≡ behind q v.elements
+    left = ap (λ (l : List Sending). drop (together offset l) l) whole
 
     mark : since_of v.asked ≡ since
     mark = ap since_of kept.watched.is ∙ kept.watched.mark
@@ -277,7 +269,7 @@ confirmed rows offset common since meant ys v p first means moved kept = rw is_s
           none.1);
       knows = λ kept_all.
           subst (λ (xs : List Observation). Knows rows v.log xs)
-          (ap waiting_in from ∙ sym (ap waiting_in (moved ∙ ap (drop 1) whole)))
+          (ap waiting_in from ∙ sym (ap waiting_in (moved ∙ left)))
           (kept.knows (sym (gone_dropped since v.elements ys) ∙ kept_all));
     }
 
@@ -286,17 +278,11 @@ pub kept_put_out : (rows : List Row) (offset : ℤ) (common since : ℕ) (told :
     → IsKept rows (put_out meant ys v) since (told_with meant told)
 kept_put_out rows offset common since (Some told) meant ys v puts kept =
     heard_put_out rows offset common since told meant ys v puts kept
-kept_put_out rows offset common since None meant ys v puts kept = by puts.sending refl
-  where
-    by : (s : Sending) → puts.sending ≡ s → IsKept rows (put_out meant ys v) since (told_with meant None)
-    by (sendings.Part p) is =
-        confirmed rows offset common since meant ys v p (puts.first ∙ ap (λ (s : Sending). Some s) is)
-        (subst (λ (s : Sending). MeansSending offset common s meant) is puts.means) puts.line kept
-    by (sendings.Answer answer) is = unheard_put_out rows offset common since meant ys v puts (ap is_part is) kept
-    by (sendings.News x) is = unheard_put_out rows offset common since meant ys v puts (ap is_part is) kept
-    by (sendings.Confirm signal) is = unheard_put_out rows offset common since meant ys v puts (ap is_part is) kept
-    by sendings.Test is = unheard_put_out rows offset common since meant ys v puts (ap is_part is) kept
-    by sendings.SFormat is = unheard_put_out rows offset common since meant ys v puts (ap is_part is) kept
+kept_put_out rows offset common since None meant ys v puts kept =
+    elim (cases_Bool (begins_with_part (line_in v))) [
+      | inl part ↦ confirmed rows offset common since meant ys v part puts.means puts.line kept
+      | inr other ↦ unheard_put_out rows offset common since meant ys v puts other kept
+    ]
 
 -- ---- an ASDU is taken
 

@@ -1,7 +1,7 @@
--- Line: each I format that is put out to a client is the first of what waits for it: the answers to its ASDUs and what
+-- Line: each I format that is put out to a client is the front of what waits for it: the answers to its ASDUs and what
 -- became of its orders, the news that came before the interrogation that is pending, the rest of its answer, and later
--- news.
-use Rattle.std.specs.Prelude.{◌≡◌, ℕ, ℤ, Bool, List, [], ◌∷◌, ◌++◌, length, map, take, drop, slice_get, Option, Some, None}
+-- news. An answer goes alone; of news, and of the rows of an interrogation, as many go together as one ASDU carries.
+use Rattle.std.specs.Prelude.{◌≡◌, ℕ, ℤ, Bool, List, [], ◌∷◌, ◌++◌, length, map, take, drop, Option, Some, None}
 use Rattle.std.specs.Option.{option_to_list}
 use Rattle.gw_map.specs.Settings.{Setup}
 use Rattle.iec_apci.specs.declared.apdu.Asdu.{Asdu}
@@ -12,15 +12,16 @@ use Rattle.gw_judge.specs.declared.judging.Judged.{Judged}
 use Rattle.gw_answers.specs.declared.outgoing.AsduAnswer.{AsduAnswer}
 use Rattle.gw_answers.specs.declared.outgoing.AsduAnswer.TheVariants.{Made}
 use Rattle.gw_answers.specs.declared.outgoing.OwnAsdu.{OwnAsdu}
-use Rattle.gw_answers.specs.Outgoing.{news}
+use Rattle.gw_answers.specs.declared.outgoing.OwnAsdu.TheVariants as outgoing
 use Rattle.gw_answers.specs.Interrogations.{answer_to}
 use Rattle.gw_answers.specs.Answers.{answered, command_by}
-use Rattle.gw_answers.specs.Meaning.{Meant, Means}
+use Rattle.gw_answers.specs.Meaning.{Meant, Tells, packed_asdu, Means}
 use Rattle.gw_station.specs.declared.sending.Sending.{Sending}
 use Rattle.gw_station.specs.declared.sending.Sending.TheVariants as sendings
 use Rattle.gw_station.specs.declared.event.Said.{Said}
 use Rattle.gw_station.specs.Answers.{told}
 use Rattle.gw_station.specs.Frames.{judged_asdu}
+use Rattle.gw_station.specs.Pump.{news_front, rows_front}
 use Rattle.gw_steps.specs.Controls.{said_of_outcome}
 use Rattle.gw_steps.specs.Runs.{Entry}
 use Rattle.gw_steps.specs.Said.{ApduMeaning, IFormat, SFormat, UFormat}
@@ -76,25 +77,25 @@ line setup hs = line_with (owed setup hs) (interrogation setup hs) (fates setup.
 
 -- ---- the law
 
--- an ASDU means what waited
-abbrev pub MeansSending : ℤ → ℕ → Sending → Meant → Type 0
-MeansSending offset common (sendings.Answer answer) meant = Means offset common answer meant
-MeansSending offset common (sendings.News x) meant = Means offset common (Made (news x)) meant
-MeansSending offset common (sendings.Part part) meant = Means offset common (Made part) meant
-MeansSending offset common _ meant = ⊥
-
--- it is the first in line
-pub record IsFirst (setup : Setup) (line : List Sending) (meant : Meant) : Type 0 where
-  pub sending : Sending
-  pub first : slice_get line 0 ≡ Some sending
-  pub means : MeansSending setup.station.offset_minutes setup.station.common_address sending meant
+-- an ASDU means what is at the front of a line: an answer, a command of the answer to an interrogation, or as many news,
+-- or as many rows of that answer, as one ASDU carries
+abbrev pub MeansFront : ℤ → ℕ → List Sending → Meant → Type 0
+MeansFront offset common (sendings.Answer answer ∷ line) meant = Means offset common answer meant
+MeansFront offset common (sendings.News x ∷ line) meant =
+    meant ≡ Tells (packed_asdu offset common 3 0 x (news_front line))
+MeansFront offset common (sendings.Part (outgoing.Command command) ∷ line) meant =
+    Means offset common (Made (outgoing.Command command)) meant
+MeansFront offset common (sendings.Part (outgoing.Observation cause originator x) ∷ line) meant =
+    meant ≡ Tells (packed_asdu offset common cause originator x (rows_front cause originator line))
+MeansFront offset common _ meant = ⊥
 
 abbrev pub SaysFirst : Setup → List Sending → ApduMeaning → Type 0
-SaysFirst setup line (IFormat ns nr meant) = IsFirst setup line meant
+SaysFirst setup line (IFormat ns nr meant) =
+    MeansFront setup.station.offset_minutes setup.station.common_address line meant
 SaysFirst setup line (SFormat nr) = Unit {0}
 SaysFirst setup line (UFormat signal) = Unit {0}
 
--- what is put out last in an I format is the first of what waited before
+-- what is put out last in an I format is the front of what waited before
 abbrev pub KeepsLine : Setup → List Turn → Type 0
 KeepsLine setup (PutsOut said ∷ ts) = SaysFirst setup (line setup (turns_in (session ts))) said
 KeepsLine setup _ = Unit {0}

@@ -17,7 +17,7 @@ ghost use Rattle.gw_laws.specs.Mirror.{known_of, last_value};
 ghost use Rattle.gw_laws.specs.Example.{analog_at_first, analog_read, command, ended, executed, known_after, ordered, said_of, session_after, told_after};
 
 /// News wait, a client interrogates the station, and other news come.
-#[tactic(auto, unfolding(iec_command::specs::Commands::command_of, iec_apci::specs::Stream::reading, iec_apci::specs::Stream::answer_at_front, iec_apci::specs::Stream::content_of, iec_asdu::specs::Asdu::asdu_meaning, iec_asdu::specs::Asdu::objects_of, iec_asdu::specs::Asdu::objects_apart))]
+#[tactic(auto, unfolding(iec_command::specs::Commands::command_of, iec_apci::specs::Stream::reading, iec_apci::specs::Stream::answer_at_front, iec_apci::specs::Stream::content_of, iec_asdu::specs::Asdu::asdu_meaning, iec_asdu::specs::Asdu::objects_of, iec_asdu::specs::Asdu::objects_apart, iec_asdu::specs::Spelling::list_spelling, iec_asdu::specs::Packing::packed_spelling, iec_asdu::specs::Packing::taken_of, iec_asdu::specs::Packing::is_in_sequence, iec_asdu::specs::Packing::in_sequence_count, iec_asdu::specs::Packing::apart_count, iec_asdu::specs::Packing::alike_count, iec_asdu::specs::Packing::consecutive_count))]
 pub fn promises_by_example()
     // In line are the older news, the answer as the picture was at the act, and the later news.
     ensures line { line setup (session_after 0) ≡ News switched_on

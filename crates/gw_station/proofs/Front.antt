@@ -111,7 +111,7 @@ news_first c x e =
 
 -- ---- parts
 
-rows_run : (cause originator : ℕ) (rest : List OwnAsdu) (xs : List Observation)
+pub rows_run : (cause originator : ℕ) (rest : List OwnAsdu) (xs : List Observation)
     → rows_front cause originator (map sendings.Part rest ++ map sendings.News xs) ≡ parts_front cause originator rest
 rows_run cause originator [] [] = refl
 rows_run cause originator [] (x ∷ xs) = refl
