@@ -105,7 +105,7 @@ by_client : (offset : ℤ) (common : ℕ) (found : Option Client) (moment : ℕ)
 by_client offset common None moment e = absurd cc
 by_client offset common (Some k) moment e =
     let up : is_up k.stage ≡ true = cc in
-    ap (λ (b : Bool). b && is_some (offered moment k)) up ∙ gave (content_of offset common k.window) (offered moment k)
+    ap (λ (b : Bool). b && is_some (offered moment k)) up ∙ gave (content_of offset common k) (offered moment k)
 
 pub pumped : (setup : Setup) (s : State) (client : ℕ) → client_up s client ≡ Some true
     → has_offer s.moment (slice_get s.clients client) ≡ gives_apdu (reply_to setup s (steps.Pump client s.moment))

@@ -2,7 +2,7 @@
 use Rattle.std.specs.Prelude.{slice_get, option_map, is_some, nat_lt, IfSome, if◌then◌else◌}
 use Rattle.std.specs.List.{AllByRecursion}
 use Rattle.std.specs.Option.{option_to_list}
-use Rattle.std.proofs.Common.{◌≡◌, ℕ, zero, suc, ◌+◌, ◌*◌, ◌-◌, ◌<◌, ◌≤◌, Bool, true, false, List, [], ◌∷◌, ◌++◌, map, length, Option, Some, None, Ok, refl, sym, ap, subst, ◌∙◌, arith, inl, inr}
+use Rattle.std.proofs.Common.{◌≡◌, ℕ, ℤ, zero, suc, ◌+◌, ◌*◌, ◌-◌, ◌<◌, ◌≤◌, Bool, true, false, List, [], ◌∷◌, ◌++◌, map, length, Option, Some, None, Ok, refl, sym, ap, subst, ◌∙◌, arith, inl, inr}
 use Rattle.std.proofs.lemmas.List.{length-append}
 use Rattle.std.proofs.lemmas.Bool.{cases_Bool, cases_eq, ne_eqb, eq-eqb}
 use Rattle.gw_model.specs.Places.{change}
@@ -413,10 +413,10 @@ sound_of setup s picture rows masters o = record {
 }
 
 -- where no client's places change, orders keep theirs
-pub pumped_held : (moment : ℕ) (k : Client) → (client_after_pump moment k).held ≡ k.held
-pumped_held moment k = go (offered moment k)
+pub pumped_held : (offset : ℤ) (moment : ℕ) (k : Client) → (client_after_pump offset moment k).held ≡ k.held
+pumped_held offset moment k = go (offered moment k)
   where
-    go : (x : Option Sending) → (client_by_offer moment x k).held ≡ k.held
+    go : (x : Option Sending) → (client_by_offer offset moment x k).held ≡ k.held
     go None = refl
     go (Some sendings.Test) = refl
     go (Some _) = refl

@@ -1,6 +1,6 @@
 -- What every hub keeps of its clients: outside of a session no news wait, and none were dropped.
 use Rattle.std.specs.Prelude.{replicate}
-use Rattle.std.proofs.Common.{◌≡◌, ℕ, zero, suc, Option, Some, None, List, [], ◌∷◌, drop, inl, inr, refl, sym, ap, subst, arith}
+use Rattle.std.proofs.Common.{◌≡◌, ℕ, ℤ, zero, suc, Option, Some, None, List, [], ◌∷◌, drop, inl, inr, refl, sym, ap, subst, ◌∙◌, arith}
 use Rattle.std.specs.List.{AllByRecursion}
 use Rattle.std.proofs.lemmas.Bool.{cases_Bool}
 use Rattle.gw_model.specs.declared.observation.Observation.{Observation}
@@ -16,7 +16,8 @@ use Rattle.gw_station.specs.declared.sending.Sending.{Sending}
 use Rattle.gw_station.specs.declared.sending.Sending.TheVariants as sendings
 use Rattle.gw_station.specs.Client.{Client, client_after_close, client_after_tick, client_after_up, client_down, client_with_news, is_started, is_timed_out}
 use Rattle.gw_station.specs.Frames.{client_after_apdu, client_by, client_taking, client_with_session, close_of}
-use Rattle.gw_station.specs.Pump.{client_after_pump, client_by_offer, offered}
+use Rattle.gw_station.specs.Pump.{line, together, client_after_pump, client_by_offer, offered}
+use Rattle.gw_station.proofs.Front.{drop_none}
 use Rattle.gw_control.specs.declared.answer.Outcome.{Outcome}
 use Rattle.iec_command.specs.declared.command.Command.{Command}
 use Rattle.gw_station.specs.declared.event.Event.{Event}
@@ -78,13 +79,15 @@ pub kept_told : (command : Command) (said : Said) (c : Client) → KeepsToSessio
     → KeepsToSession (client_told command said c)
 kept_told command said c holds = record { outside = holds.outside }
 
-pub kept_after_pump : (moment : ℕ) (c : Client) → KeepsToSession c → KeepsToSession (client_after_pump moment c)
-kept_after_pump moment c holds = go (offered moment c)
+pub kept_after_pump : (offset : ℤ) (moment : ℕ) (c : Client) → KeepsToSession c
+    → KeepsToSession (client_after_pump offset moment c)
+kept_after_pump offset moment c holds = go (offered moment c)
   where
-    go : (x : Option Sending) → KeepsToSession (client_by_offer moment x c)
+    go : (x : Option Sending) → KeepsToSession (client_by_offer offset moment x c)
     go None = holds
     go (Some (sendings.News x)) =
-        record { outside = λ idle. (ap (drop 1) (holds.outside idle).0, (holds.outside idle).1) }
+        let n : ℕ = together offset (line c) in
+        record { outside = λ idle. (ap (drop n) (holds.outside idle).0 ∙ drop_none n, (holds.outside idle).1) }
     go (Some _) = record { outside = holds.outside }
 
 -- ---- all clients

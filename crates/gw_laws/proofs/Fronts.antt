@@ -1,5 +1,5 @@
 -- What goes out together: what it means, and what it leaves.
-use Rattle.std.proofs.Common.{◌≡◌, ℕ, zero, suc, ℤ, ◌<◌, ◌≤◌, ◌==◌, ◌&&◌, ◌||◌, Bool, true, false, List, [], ◌∷◌, ◌++◌, map, length, take, drop, Option, Some, None, refl, sym, ap, subst, ◌∙◌, arith, inl, inr, if◌then◌else◌}
+use Rattle.std.proofs.Common.{◌≡◌, ℕ, zero, suc, ℤ, ◌<◌, ◌≤◌, ◌==◌, ◌&&◌, Bool, true, false, List, [], ◌∷◌, ◌++◌, map, length, take, drop, Option, Some, None, refl, sym, ap, subst, ◌∙◌, arith, inl, inr, if◌then◌else◌}
 use Rattle.std.specs.Prelude.{◌⊎◌, IsTrue, slice_get}
 use Rattle.std.specs.List.{AllByRecursion}
 use Rattle.std.proofs.lemmas.Bool.{cases_Bool, eq-eqb, eqb-true, and_parts}
@@ -22,40 +22,13 @@ use Rattle.gw_station.specs.Kept.{parts_front, parts_together}
 use Rattle.gw_station.specs.Pump.{line, news_front, rows_front, together, part_octets}
 use Rattle.gw_station.specs.Sound.{CanSend}
 use Rattle.gw_station.proofs.All.{all-take}
-use Rattle.gw_station.proofs.Front.{news_together, news_first, part_first, rows_run, parts_same, parts_within, next_front, next_within}
+use Rattle.gw_station.proofs.Front.{news_sendable, rows_sendable, news_together, news_first, part_first, rows_run, parts_same, parts_within, next_front, next_within}
 use Rattle.gw_laws.specs.Fates.{spontaneous_of}
 use Rattle.gw_laws.specs.Interrogations.{parts_in, as_told}
 use Rattle.gw_laws.specs.Line.{MeansFront, SaysFirst}
 use Rattle.gw_laws.proofs.Numbers.{says}
 use Rattle.gw_laws.proofs.Offered.{IsOffered}
 use Rattle.gw_laws.proofs.Parts.{IsRequested, IsOfInterrogation, part_told, part_no_news}
-
--- ---- what goes together can be sent
-
-pub news_sendable : (offset : ℤ) (l : List Sending) → AllByRecursion (CanSend offset) l
-    → AllByRecursion (IsSendable offset) (news_front l)
-news_sendable offset [] all = tt
-news_sendable offset (sendings.News x ∷ l) all = (all.0, news_sendable offset l all.1)
-news_sendable offset (sendings.Confirm signal ∷ l) all = tt
-news_sendable offset (sendings.Test ∷ l) all = tt
-news_sendable offset (sendings.Answer answer ∷ l) all = tt
-news_sendable offset (sendings.Part part ∷ l) all = tt
-news_sendable offset (sendings.SFormat ∷ l) all = tt
-
-pub rows_sendable : (offset : ℤ) (cause originator : ℕ) (l : List Sending) → AllByRecursion (CanSend offset) l
-    → AllByRecursion (IsSendable offset) (rows_front cause originator l)
-rows_sendable offset cause originator [] all = tt
-rows_sendable offset cause originator (sendings.Part (outgoing.Observation c o x) ∷ l) all =
-    elim (cases_Bool (c == cause && o == originator)) [
-      | inl same ↦ rw same (all.0, rows_sendable offset cause originator l all.1)
-      | inr other ↦ rw other tt
-    ]
-rows_sendable offset cause originator (sendings.Part (outgoing.Command command) ∷ l) all = tt
-rows_sendable offset cause originator (sendings.News x ∷ l) all = tt
-rows_sendable offset cause originator (sendings.Confirm signal ∷ l) all = tt
-rows_sendable offset cause originator (sendings.Test ∷ l) all = tt
-rows_sendable offset cause originator (sendings.Answer answer ∷ l) all = tt
-rows_sendable offset cause originator (sendings.SFormat ∷ l) all = tt
 
 -- ---- an ASDU means the front of the line
 

@@ -40,6 +40,7 @@ use Rattle.gw_station.specs.Frames.{close_of, judged_asdu, client_taking, client
 use Rattle.gw_station.specs.Pump.{line, news_front, rows_front, together, client_with_sent}
 use Rattle.gw_station.specs.Sound.{CanSend}
 use Rattle.gw_station.proofs.All.{all-take, all-drop, all-given}
+use Rattle.gw_station.proofs.Front.{news_sendable, rows_sendable}
 use Rattle.gw_station.proofs.Line.{line_so}
 use Rattle.gw_steps.specs.Controls.{client_told_all}
 use Rattle.gw_steps.specs.Steps.{client_answered}
@@ -53,7 +54,7 @@ use Rattle.gw_laws.specs.Fates.{spontaneous_of, spontaneous_in, Element, is_put_
 use Rattle.gw_laws.specs.Line.{MeansFront}
 use Rattle.gw_laws.specs.News.{IsOfStation, TellsNews, Speaks, News}
 use Rattle.gw_laws.proofs.Offered.{IsOffered, offered_is}
-use Rattle.gw_laws.proofs.Fronts.{news_sendable, rows_sendable, says_front, NewsGo, news_go, parts_no_news}
+use Rattle.gw_laws.proofs.Fronts.{says_front, NewsGo, news_go, parts_no_news}
 use Rattle.gw_laws.proofs.Parts.{IsRequested, answer_no_news}
 use Rattle.gw_station.proofs.Opens.{open_i}
 use Rattle.gw_laws.proofs.Settled.{put, AreSettled, before_queue, queue_shrinks, settled_more, kept_in, queued_in, dropped_in, put_out_more, dropped_same, grown}

@@ -168,10 +168,10 @@ client_down setup past c m r s e fresh =
 pump : (setup : Setup) (past : List Entry) (c m : ℕ) (r : Reply) (s : State) → FreshState s
     → Goes setup past (steps.Pump c m) r s (after setup s (steps.Pump c m))
 pump setup past c m r s fresh = record {
-  fresh = leaving (λ d. false) s.clients (change c (client_after_pump (latest s m)) s.clients) s.sessions
+  fresh = leaving (λ d. false) s.clients (change c (client_after_pump setup.station.offset_minutes (latest s m)) s.clients) s.sessions
       s.counts.sessions (s.counts.sessions + 0) s.controls s.controls
-      (change-length c (client_after_pump (latest s m)) s.clients)
-      (λ d. told_kept started_at c (client_after_pump (latest s m)) s.clients d (λ k. pumped_stage (latest s m) k))
+      (change-length c (client_after_pump setup.station.offset_minutes (latest s m)) s.clients)
+      (λ d. told_kept started_at c (client_after_pump setup.station.offset_minutes (latest s m)) s.clients d (λ k. pumped_stage setup.station.offset_minutes (latest s m) k))
       (omega arith) (still_leaves s.controls s.controls refl refl) fresh;
   opened = λ p. sym (unless_none (open_at p s.controls));
 }

@@ -183,7 +183,7 @@ impl Clients {
     pub fn pump(&mut self, client: u8, settings: &Settings, moment: u64) -> Reply
         requires { AllByRecursion CanPump self.old }
         ensures reply { result ≡ reply_to_pump settings.now moment (slice_get self.old client) }
-        ensures clients { self.new ≡ change client (client_after_pump moment) self.old }
+        ensures clients { self.new ≡ change client (client_after_pump settings.now.station.offset_minutes moment) self.old }
     {
         let Some(station) = self.get_mut(client) else {
             return Reply::Nothing;

@@ -1,6 +1,7 @@
 -- What stands at the front of the line, and goes out together.
 use Rattle.std.proofs.Common.{◌≡◌, ℕ, zero, suc, ℤ, ◌+◌, ◌-◌, ◌<◌, ◌≤◌, ◌==◌, min, ◌&&◌, Bool, true, false, List, [], ◌∷◌, ◌++◌, map, length, take, drop, Option, Some, None, refl, sym, ap, subst, ◌∙◌, arith, inl, inr, if◌then◌else◌}
 use Rattle.std.specs.Prelude.{slice_get}
+use Rattle.std.specs.List.{AllByRecursion}
 use Rattle.std.proofs.lemmas.Bool.{cases_Bool, eq-eqb}
 use Rattle.std.proofs.lemmas.List.{append-nil, length-map, length-take, length-drop}
 use Rattle.std.proofs.lemmas.Option.{same_Some}
@@ -10,12 +11,14 @@ use Rattle.iec_asdu.proofs.Carried.{taken_of_some, taken_of_within}
 use Rattle.gw_answers.specs.declared.outgoing.AsduAnswer.{AsduAnswer}
 use Rattle.gw_answers.specs.declared.outgoing.OwnAsdu.{OwnAsdu}
 use Rattle.gw_answers.specs.declared.outgoing.OwnAsdu.TheVariants as outgoing
+use Rattle.gw_answers.specs.Meaning.{IsSendable}
 use Rattle.gw_station.specs.declared.sending.Sending.{Sending}
 use Rattle.gw_station.specs.declared.sending.Sending.TheVariants as sendings
 use Rattle.gw_station.specs.Answers.{is_pending}
 use Rattle.gw_station.specs.Client.{Client}
 use Rattle.gw_station.specs.Kept.{news_next, parts_front, parts_together}
 use Rattle.gw_station.specs.Pump.{line, news_front, rows_front, together}
+use Rattle.gw_station.specs.Sound.{CanSend}
 
 -- the line of these
 abbrev pub line_of : List AsduAnswer → ℕ → List Observation → List OwnAsdu → List Sending
@@ -218,6 +221,33 @@ pub bare_line : (answers : List AsduAnswer) (older : ℕ) (queue : List Observat
     → answers ≡ [] → take older queue ≡ []
     → line_of answers older queue rest ≡ map sendings.Part rest ++ map sendings.News (drop older queue)
 bare_line answers older queue rest none no_news = rw (none, no_news) refl
+
+-- ---- what goes together can be sent
+
+pub news_sendable : (offset : ℤ) (l : List Sending) → AllByRecursion (CanSend offset) l
+    → AllByRecursion (IsSendable offset) (news_front l)
+news_sendable offset [] all = tt
+news_sendable offset (sendings.News x ∷ l) all = (all.0, news_sendable offset l all.1)
+news_sendable offset (sendings.Confirm signal ∷ l) all = tt
+news_sendable offset (sendings.Test ∷ l) all = tt
+news_sendable offset (sendings.Answer answer ∷ l) all = tt
+news_sendable offset (sendings.Part part ∷ l) all = tt
+news_sendable offset (sendings.SFormat ∷ l) all = tt
+
+pub rows_sendable : (offset : ℤ) (cause originator : ℕ) (l : List Sending) → AllByRecursion (CanSend offset) l
+    → AllByRecursion (IsSendable offset) (rows_front cause originator l)
+rows_sendable offset cause originator [] all = tt
+rows_sendable offset cause originator (sendings.Part (outgoing.Observation c o x) ∷ l) all =
+    elim (cases_Bool (c == cause && o == originator)) [
+      | inl same ↦ rw same (all.0, rows_sendable offset cause originator l all.1)
+      | inr other ↦ rw other tt
+    ]
+rows_sendable offset cause originator (sendings.Part (outgoing.Command command) ∷ l) all = tt
+rows_sendable offset cause originator (sendings.News x ∷ l) all = tt
+rows_sendable offset cause originator (sendings.Confirm signal ∷ l) all = tt
+rows_sendable offset cause originator (sendings.Test ∷ l) all = tt
+rows_sendable offset cause originator (sendings.Answer answer ∷ l) all = tt
+rows_sendable offset cause originator (sendings.SFormat ∷ l) all = tt
 
 -- ---- the first 127 news that may go
 

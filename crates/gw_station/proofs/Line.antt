@@ -15,7 +15,7 @@ use Rattle.gw_answers.specs.Octets.{IsReturnable}
 use Rattle.gw_station.specs.declared.sending.Sending.{Sending}
 use Rattle.gw_station.specs.declared.sending.Sending.TheVariants as sendings
 use Rattle.gw_station.specs.Client.{Client, is_started}
-use Rattle.gw_station.specs.Pump.{has_room, line, information_offered, offered, IsRoomy}
+use Rattle.gw_station.specs.Pump.{has_room, line, information_offered, offered, IsRoomy, IsNext}
 use Rattle.gw_station.specs.Sound.{IsReturnableSending}
 use Rattle.gw_station.proofs.All.{all-append, all-take, all-drop, all-first, all-given, all-map}
 
@@ -103,6 +103,38 @@ offered_roomy moment c = go (slice_get c.confirmations 0) (owes_test moment c.wi
     go None false ack (Some sending) room = room
     go None false true None room = tt
     go None false false None room = tt
+
+-- ---- it is next
+
+next : (c : Client) (sending : Sending) → slice_get (line c) 0 ≡ Some sending → IsNext c sending
+next c (sendings.Confirm signal) first = tt
+next c sendings.Test first = tt
+next c (sendings.Answer answer) first = tt
+next c (sendings.News x) first = first
+next c (sendings.Part part) first = first
+next c sendings.SFormat first = tt
+
+information_next : (c : Client) → IfSome (information_offered c) (IsNext c)
+information_next c = go (is_started c.stage && has_room c.window) (slice_get (line c) 0) refl
+  where
+    go : (may : Bool) (x : Option Sending) → slice_get (line c) 0 ≡ x → IfSome (cond may x None) (IsNext c)
+    go true (Some sending) first = next c sending first
+    go true None first = tt
+    go false x first = tt
+
+pub offered_next : (moment : ℕ) (c : Client) → IfSome (offered moment c) (IsNext c)
+offered_next moment c = go (slice_get c.confirmations 0) (owes_test moment c.window) (owes_ack moment c.window)
+    (information_offered c) (information_next c)
+  where
+    go : (confirmation : Option Signal) (test ack : Bool) (information : Option Sending)
+        → IfSome information (IsNext c)
+        → IfSome (first_of (option_map sendings.Confirm confirmation ∷ when test sendings.Test ∷ information
+        ∷ when ack sendings.SFormat ∷ [])) (IsNext c)
+    go (Some signal) test ack information is = tt
+    go None true ack information is = tt
+    go None false ack (Some sending) is = is
+    go None false true None is = tt
+    go None false false None is = tt
 
 -- ---- it can be spelled
 

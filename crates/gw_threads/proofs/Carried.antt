@@ -1,31 +1,35 @@
 -- What a pump puts out tells of fit observations.
-use Rattle.std.proofs.Common.{◌≡◌, ℕ, ℤ, zero, suc, ◌/◌, ◌%◌, ◌≤◌, Bool, false, List, [], ◌∷◌, ◌++◌, take, Option, Some, None, Ok, refl, sym, ap, subst, ◌∙◌, arith}
+use Rattle.std.proofs.Common.{◌≡◌, ℕ, ℤ, zero, suc, ◌/◌, ◌%◌, ◌≤◌, Bool, false, List, [], ◌∷◌, ◌++◌, length, take, Option, Some, None, Ok, refl, sym, ap, subst, ◌∙◌, arith}
 use Rattle.std.specs.Prelude.{slice_get, slice_set, option_map, is_some, IfSome, IsSomeAnd}
 use Rattle.std.specs.Int.{w16, w32, to_le_bytes}
 use Rattle.std.specs.List.{AllByRecursion}
-use Rattle.std.proofs.lemmas.Bool.{true≢false, ne_eqb}
+use Rattle.std.proofs.lemmas.Bool.{true≢false, eq-eqb, ne_eqb}
 use Rattle.gw_model.specs.declared.observation.Observation.{Observation}
+use Rattle.gw_model.specs.Fit.{IsFit}
 use Rattle.gw_time.specs.Spelling.{tag_of}
 use Rattle.iec_apci.specs.declared.buffer.ApduBuf.{ApduBuf}
 use Rattle.iec_apci.specs.Buffer.{buffer_of}
-use Rattle.iec_asdu.specs.Spelling.{type_of, element_spelling, tag_octets, spelling}
+use Rattle.iec_asdu.specs.Packing.{is_in_sequence, packed_spelling, taken_of}
+use Rattle.iec_asdu.specs.Spelling.{type_of, element_spelling, header_octets, identification_at, list_spelling, objects_octets, qualifier_of, tag_octets, spelling}
 use Rattle.iec_command.specs.declared.command.Command.{Command}
 use Rattle.iec_command.specs.Commands.{type_of as command_type, element_of, cause_octet, spelling as command_spelling}
-use Rattle.iec_window.specs.Counts.{WindowCounts}
 use Rattle.gw_answers.specs.declared.outgoing.AsduAnswer.{AsduAnswer}
 use Rattle.gw_answers.specs.declared.outgoing.AsduAnswer.TheVariants.{Returned, Made}
 use Rattle.gw_answers.specs.declared.outgoing.OwnAsdu.{OwnAsdu}
 use Rattle.gw_answers.specs.declared.outgoing.OwnAsdu.TheVariants as outgoing
-use Rattle.gw_answers.specs.Outgoing.{at_station, news}
-use Rattle.gw_answers.specs.Octets.{answer_octets, octets_in, outgoing_octets}
-use Rattle.gw_answers.specs.Meaning.{Meant, Tells, Commands, Unread, meaning_of, meant_outgoing, asdu_of, Means, CanSendAnswer, CanSendOutgoing}
-use Rattle.gw_answers.proofs.Meant.{answer_means, outgoing_means, refused_with}
+use Rattle.gw_answers.specs.Outgoing.{at_station}
+use Rattle.gw_answers.specs.Octets.{answer_octets, octets_in, outgoing_octets, packed_octets}
+use Rattle.gw_answers.specs.Meaning.{Meant, Tells, Commands, Unread, meaning_of, meant_outgoing, asdu_of, IsSendable, Means, CanSendAnswer, CanSendOutgoing}
+use Rattle.gw_answers.proofs.Meant.{answer_means, outgoing_means, packed_mean, refused_with}
 use Rattle.gw_station.specs.declared.sending.Sending.{Sending}
 use Rattle.gw_station.specs.declared.sending.Sending.TheVariants as sendings
 use Rattle.gw_station.specs.Client.{Client, is_up}
-use Rattle.gw_station.specs.Pump.{content_of, given, offered}
+use Rattle.gw_station.specs.Pump.{line, news_front, rows_front, part_octets, IsNext, content_of, given, offered}
 use Rattle.gw_station.specs.Sound.{CanSend, IsSoundClient}
-use Rattle.gw_station.proofs.Sends.{offered_can, content_fits}
+use Rattle.gw_station.proofs.All.{all-take}
+use Rattle.gw_station.proofs.Front.{news_sendable, rows_sendable}
+use Rattle.gw_station.proofs.Line.{offered_next}
+use Rattle.gw_station.proofs.Sends.{line_can, offered_can, content_fits}
 use Rattle.gw_steps.specs.declared.step.Step.{Step}
 use Rattle.gw_steps.specs.declared.step.Step.TheVariants.{Pump}
 use Rattle.gw_steps.specs.declared.step.Reply.{Reply}
@@ -77,6 +81,22 @@ answer_within : (offset : ℤ) (common : ℕ) (answer : AsduAnswer)
 answer_within offset common (Returned asdu cause) = refl
 answer_within offset common (Made x) = outgoing_within offset common x
 
+-- so it is where observations go together
+header_within : (offset : ℤ) (sequence : Bool) (common cause : ℕ) (xs : List Observation)
+    → header_octets offset sequence common cause xs ≡ header_octets offset sequence (common % 65536) cause xs
+header_within offset sequence common cause [] = refl
+header_within offset sequence common cause (x ∷ xs) =
+    ap (λ (word : List ℕ).
+    identification_at offset x ∷ qualifier_of sequence (length (x ∷ xs)) ∷ cause ∷ 0 ∷ word) (words_within common)
+
+packed_within : (offset : ℤ) (common cause originator : ℕ) (xs : List Observation)
+    → packed_octets offset common cause originator xs ≡ packed_octets offset (common % 65536) cause originator xs
+unfolding packed_spelling list_spelling
+packed_within offset common cause originator xs =
+    let ys : List Observation = take (taken_of offset xs) xs in
+    ap (λ (header : List ℕ). slice_set (header ++ objects_octets offset (is_in_sequence offset xs) ys) 3 originator)
+    (header_within offset (is_in_sequence offset xs) common cause ys)
+
 -- ---- what is meant
 
 -- what comes back as unknown reports nothing
@@ -116,25 +136,85 @@ outgoing_says offset common x can =
     (outgoing_tells offset (common % 65536) x (meaning_of offset (outgoing_octets offset (common % 65536) x)) can
     (outgoing_means offset (common % 65536) x (omega arith) can))
 
--- what can be sent says so
-says : (offset : ℤ) (common : ℕ) (w : WindowCounts) (s : Sending) → CanSend offset s
-    → SaysFit offset (said_by offset (content_of offset common w s))
-says offset common w (sendings.Confirm signal) can = tt
-says offset common w sendings.Test can = tt
-says offset common w (sendings.Answer answer) can =
+-- as many observations as one ASDU carries
+all_fit : (offset : ℤ) (xs : List Observation) → AllByRecursion (IsSendable offset) xs
+    → AllByRecursion (IsFit offset) xs
+all_fit offset [] all = tt
+all_fit offset (x ∷ xs) all = (all.0.fit, all_fit offset xs all.1)
+
+packed_says : (offset : ℤ) (common cause originator : ℕ) (x : Observation) (xs : List Observation)
+    → AllByRecursion (IsSendable offset) (x ∷ xs)
+    → TellsFit offset (meaning_of offset (packed_octets offset common cause originator (x ∷ xs)))
+packed_says offset common cause originator x xs all =
+    let n : ℕ = taken_of offset (x ∷ xs) in
+    let can = all-take (IsSendable offset) n (x ∷ xs) all in
+    subst (λ (octets : List ℕ). TellsFit offset (meaning_of offset octets))
+    (sym (packed_within offset common cause originator (x ∷ xs)))
+    (subst (TellsFit offset) (sym (packed_mean offset (common % 65536) cause originator x xs (omega arith) can))
+    (λ reports. all_fit offset (take n (x ∷ xs)) can))
+
+-- those at the front of a line, which aren't none
+news_say : (offset : ℤ) (common : ℕ) (x : Observation) (l : List Sending) → AllByRecursion (CanSend offset) l
+    → slice_get l 0 ≡ Some (sendings.News x)
+    → TellsFit offset (meaning_of offset (packed_octets offset common 3 0 (news_front l)))
+news_say offset common x [] all e = absurd cc
+news_say offset common x (sendings.News y ∷ l) all e =
+    packed_says offset common 3 0 y (news_front l) (all.0, news_sendable offset l all.1)
+news_say offset common x (sendings.Answer answer ∷ l) all e = absurd cc
+news_say offset common x (sendings.Part part ∷ l) all e = absurd cc
+news_say offset common x (sendings.Confirm signal ∷ l) all e = absurd cc
+news_say offset common x (sendings.Test ∷ l) all e = absurd cc
+news_say offset common x (sendings.SFormat ∷ l) all e = absurd cc
+
+part_read : OwnAsdu → Option Sending → OwnAsdu
+part_read d (Some (sendings.Part part)) = part
+part_read d _ = d
+
+rows_say : (offset : ℤ) (common : ℕ) (part : OwnAsdu) (l : List Sending) → AllByRecursion (CanSend offset) l
+    → slice_get l 0 ≡ Some (sendings.Part part)
+    → TellsFit offset (meaning_of offset (part_octets offset common l part))
+unfolding part_read
+rows_say offset common part [] all e = absurd cc
+rows_say offset common part (sendings.Part (outgoing.Command command) ∷ l) all e =
+    let line : List Sending = sendings.Part (outgoing.Command command) ∷ l in
+    subst (λ (p : OwnAsdu). TellsFit offset (meaning_of offset (part_octets offset common line p)))
+    (ap (part_read part) e) (outgoing_says offset common (outgoing.Command command) all.0)
+rows_say offset common part (sendings.Part (outgoing.Observation cause originator x) ∷ l) all e =
+    let line : List Sending = sendings.Part (outgoing.Observation cause originator x) ∷ l in
+    subst (λ (p : OwnAsdu). TellsFit offset (meaning_of offset (part_octets offset common line p)))
+    (ap (part_read part) e)
+    (subst (λ (xs : List Observation). TellsFit offset (meaning_of offset (packed_octets offset common cause originator xs)))
+    (sym front) (packed_says offset common cause originator x (rows_front cause originator l)
+    (all.0, rows_sendable offset cause originator l all.1)))
+  where
+    front : rows_front cause originator (sendings.Part (outgoing.Observation cause originator x) ∷ l)
+        ≡ x ∷ rows_front cause originator l
+    front = rw (eq-eqb cause cause refl, eq-eqb originator originator refl) refl
+rows_say offset common part (sendings.News x ∷ l) all e = absurd cc
+rows_say offset common part (sendings.Answer answer ∷ l) all e = absurd cc
+rows_say offset common part (sendings.Confirm signal ∷ l) all e = absurd cc
+rows_say offset common part (sendings.Test ∷ l) all e = absurd cc
+rows_say offset common part (sendings.SFormat ∷ l) all e = absurd cc
+
+-- what is next and can be sent says so
+says : (offset : ℤ) (common : ℕ) (k : Client) (s : Sending) → AllByRecursion (CanSend offset) (line k)
+    → CanSend offset s → IsNext k s → SaysFit offset (said_by offset (content_of offset common k s))
+says offset common k (sendings.Confirm signal) all can next = tt
+says offset common k sendings.Test all can next = tt
+says offset common k (sendings.Answer answer) all can next =
     subst (λ (octets : List ℕ). TellsFit offset (meaning_of offset octets)) (sym (answer_within offset common answer))
     (answer_tells offset (common % 65536) answer (meaning_of offset (answer_octets offset (common % 65536) answer)) can
     (answer_means offset (common % 65536) answer (omega arith) can))
-says offset common w (sendings.News x) can = outgoing_says offset common (news x) can
-says offset common w (sendings.Part part) can = outgoing_says offset common part can
-says offset common w sendings.SFormat can = tt
+says offset common k (sendings.News x) all can next = news_say offset common x (line k) all next
+says offset common k (sendings.Part part) all can next = rows_say offset common part (line k) all next
+says offset common k sendings.SFormat all can next = tt
 
-carries : (offset : ℤ) (common : ℕ) (w : WindowCounts) (s : Sending) → CanSend offset s
-    → CarriesFit offset (buffer_of (content_of offset common w s))
-carries offset common w s can =
+carries : (offset : ℤ) (common : ℕ) (k : Client) (s : Sending) → AllByRecursion (CanSend offset) (line k)
+    → CanSend offset s → IsNext k s → CarriesFit offset (buffer_of (content_of offset common k s))
+carries offset common k s all can next =
     subst (λ (x : Option ApduMeaning). IsSomeAnd x (SaysFit offset))
-    (sym (said-content offset (content_of offset common w s) (content_fits offset common w s)))
-    (says offset common w s can)
+    (sym (said-content offset (content_of offset common k s) (content_fits offset common k s)))
+    (says offset common k s all can next)
 
 apdu_is : (a b : ApduBuf) → Apdu a ≡ Apdu b → a ≡ b
 apdu_is a b e = ap value e
@@ -143,13 +223,13 @@ apdu_is a b e = ap value e
     value (Apdu c) = c
     value _ = a
 
-given_carries : (offset : ℤ) (common : ℕ) (w : WindowCounts) (x : Option Sending) (apdu : ApduBuf)
-    → IfSome x (CanSend offset)
-    → reply_giving (option_map (content_of offset common w) x) ≡ Apdu apdu → CarriesFit offset apdu
-given_carries offset common w None apdu can e = absurd cc
-given_carries offset common w (Some s) apdu can e =
-    subst (CarriesFit offset) (apdu_is (buffer_of (content_of offset common w s)) apdu e)
-    (carries offset common w s can)
+given_carries : (offset : ℤ) (common : ℕ) (k : Client) (x : Option Sending) (apdu : ApduBuf)
+    → AllByRecursion (CanSend offset) (line k) → IfSome x (CanSend offset) → IfSome x (IsNext k)
+    → reply_giving (option_map (content_of offset common k) x) ≡ Apdu apdu → CarriesFit offset apdu
+given_carries offset common k None apdu all can next e = absurd cc
+given_carries offset common k (Some s) apdu all can next e =
+    subst (CarriesFit offset) (apdu_is (buffer_of (content_of offset common k s)) apdu e)
+    (carries offset common k s all can next)
 
 some_is : {A : Type 0} (x y : A) → Some x ≡ Some y → x ≡ y
 some_is x y e = cc
@@ -178,5 +258,6 @@ pumped_carries client apdu pumped =
     sym (ap (client_reply (λ (other : Client). reply_giving (given offset common moment other))) up.1) ∙ told.2 in
     let mine =
     at_place (IsSoundClient setup.station s.counts.steps s.counts.news) s.clients client k pumped.sound.clients up.1 in
-    given_carries offset common k.window (offered moment k) apdu
-    (offered_can setup.station s.counts.steps s.counts.news moment k mine) reply
+    given_carries offset common k (offered moment k) apdu
+    (line_can setup.station s.counts.steps s.counts.news k mine)
+    (offered_can setup.station s.counts.steps s.counts.news moment k mine) (offered_next moment k) reply

@@ -30,14 +30,14 @@ invariant_of-self c =
         rows = before.rows;
         masters = before.masters;
         clients = sound_change _ counted.before _ _ _ c.args.client _ _ _ c.pump.ensures.clients counted.counted
-            (omega arith) (sound_after_pump _ _ _ c.self.inside.moment) counted.sound;
+            (omega arith) (sound_after_pump _ _ _ _ c.self.inside.moment) counted.sound;
         controls = before.controls;
         commands = before.commands;
         held = rw c.pump.ensures.clients
-            (held_kept c.args.client _ _ c.self.inside.controls (pumped_held c.self.inside.moment) before.held);
+            (held_kept c.args.client _ _ c.self.inside.controls (pumped_held _ c.self.inside.moment) before.held);
       };
       sessions = all_kept KeepsToSession c.args.client _ _ _ c.pump.ensures.clients
-          (kept_after_pump c.self.inside.moment) c.self.invariant.sessions;
+          (kept_after_pump _ c.self.inside.moment) c.self.invariant.sessions;
     }
 
 same_reply : (c : ℕ) (a b : Setup) (m l : ℕ) (ks js : List Client) → a ≡ b → m ≡ l → ks ≡ js

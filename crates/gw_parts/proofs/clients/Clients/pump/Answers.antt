@@ -8,7 +8,7 @@ use Rattle.gw_parts.proofs.clients.Clients.pump.Goals as goal
 
 pub returns-in_default-clause-clients : goal.returns-in_default-clause-clients
 returns-in_default-clause-clients c =
-    none_changed c.args.client (client_after_pump c.args.moment) c.args.self.now c.in_default.ensures.value
+    none_changed c.args.client (client_after_pump c.args.settings.now.station.offset_minutes c.args.moment) c.args.self.now c.in_default.ensures.value
 
 pub pump-requires : goal.pump-requires
 pump-requires c =
@@ -24,7 +24,7 @@ returns-in-Some-pump-clause-reply c =
 
 pub returns-in-Some-pump-clause-clients : goal.returns-in-Some-pump-clause-clients
 returns-in-Some-pump-clause-clients c =
-    lent_changed c.args.client (client_after_pump c.args.moment) c.args.self.now c.in-Some.station.now c.pump.new.self
+    lent_changed c.args.client (client_after_pump c.args.settings.now.station.offset_minutes c.args.moment) c.args.self.now c.in-Some.station.now c.pump.new.self
     c.in-Some.ensures.value c.pump.ensures.client
 
 pub returns-in-None-clause-reply : goal.returns-in-None-clause-reply
@@ -37,5 +37,5 @@ returns-in-None-clause-reply c =
 
 pub returns-in-None-clause-clients : goal.returns-in-None-clause-clients
 returns-in-None-clause-clients c =
-    lent_changed c.args.client (client_after_pump c.args.moment) c.args.self.now c.in-Some.station.now c.pump.new.self
+    lent_changed c.args.client (client_after_pump c.args.settings.now.station.offset_minutes c.args.moment) c.args.self.now c.in-Some.station.now c.pump.new.self
     c.in-Some.ensures.value c.pump.ensures.client
