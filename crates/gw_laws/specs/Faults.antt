@@ -2,7 +2,7 @@
 -- that one isn't up; or, of a step by which it comes up, AlreadyUp: it is. Else Spent: by the step one of the counts
 -- would reach 2^64, of the steps without a fault, the news and losses in the log, the sessions, the orders. Where none
 -- of these holds the step is made; only an APDU that begins a session, and the act of an interrogation that is
--- accepted, may be answered with Memory.
+-- accepted, may be answered with Memory. Which commands are orders is what the controls told, as in a client's life.
 use Rattle.std.specs.Prelude.{◌≡◌, ℕ, ◌+◌, ◌^◌, Bool, true, false, not, ◌&&◌, ◌||◌, is_none, is_some, nat_le, IsTrue, List, [], ◌∷◌, ◌++◌, length, Option, Some, None, Result, Ok, Err}
 use Rattle.gw_model.specs.First.{when, first_of}
 use Rattle.gw_map.specs.Settings.{Setup}
@@ -43,7 +43,7 @@ no_outstation setup o = when (nat_le (length setup.outstations) o) NoOutstation
 abbrev pub no_client : ℕ → Option StepFault
 no_client c = when (nat_le client_limit c) NoClient
 
--- it is wanted there, and up
+-- of a step for which it has to be up
 abbrev pub outstation_faults : Setup → List Entry → ℕ → List (Option StepFault)
 outstation_faults setup past o = no_outstation setup o ∷ when (not (is_outstation_up o past)) NotUp ∷ []
 
@@ -72,11 +72,12 @@ abbrev pub begins : Setup → Apdu → Connection → Bool
 begins setup (U StartAct) x = is_none (session (turns x)) && is_taken setup (U StartAct) x
 begins setup _ x = false
 
+-- an ASDU that was judged is an act that is accepted, where an interrogation is pending, or isn't
 abbrev pub is_act : Bool → Judged → Bool
 is_act pending (Accepted command) = is_accepted_act pending command
 is_act pending _ = false
 
--- the act of an interrogation that is accepted: none is pending
+-- the act of an interrogation that is accepted
 abbrev pub interrogates : Setup → Apdu → Connection → Bool
 interrogates setup (I ns nr asdu) x = is_taken setup (I ns nr asdu) x
     && is_act (is_pending (interrogation setup (turns_in (session (turns x))))) (judged_asdu setup asdu)
