@@ -9,3 +9,4 @@ pub mod Clients
 pub mod Places
 pub mod Logged
 pub mod Confirmed
+pub mod Ups

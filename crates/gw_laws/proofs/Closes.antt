@@ -49,17 +49,17 @@ use Rattle.gw_laws.proofs.Signals.{signals_tied, waiting_is}
 use Rattle.gw_laws.proofs.Steps.{same_turns}
 
 -- what ties a client to the turns of its connection
-record Ties (setup : Setup) (ts : List Turn) (k : Client) : Type 0 where
-  window : WindowTied setup ts k.window
-  news : NewsTied setup (session ts) k
-  line : LineTied setup (session ts) k
-  held : HeldTied setup (session ts) k
-  acknowledged : k.window.acknowledged ≡ acknowledged ts
-  waiting : waiting ts ≡ k.confirmations
+pub record Ties (setup : Setup) (ts : List Turn) (k : Client) : Type 0 where
+  pub window : WindowTied setup ts k.window
+  pub news : NewsTied setup (session ts) k
+  pub line : LineTied setup (session ts) k
+  pub held : HeldTied setup (session ts) k
+  pub acknowledged : k.window.acknowledged ≡ acknowledged ts
+  pub waiting : waiting ts ≡ k.confirmations
 
 -- ---- each cause
 
-not_standing : (s : Option (List Turn)) → not (is_some s) ≡ is_none s
+pub not_standing : (s : Option (List Turn)) → not (is_some s) ≡ is_none s
 not_standing None = refl
 not_standing (Some hs) = refl
 
@@ -98,7 +98,7 @@ same_causes setup ts ns nr j k small tied =
     ap (λ (n : ℕ). nat_lt 32 n) (sym (same_places setup (session ts) k j tied.news tied.line tied.held)) in
     rw (started, send, receive, same_malformed j, places) refl
 
-same_close : (setup : Setup) (ts : List Turn) (a : Apdu) (k : Client) → setup.station.k < 32768 → Ties setup ts k
+pub same_close : (setup : Setup) (ts : List Turn) (a : Apdu) (k : Client) → setup.station.k < 32768 → Ties setup ts k
     → close_of setup a k ≡ close_due setup ts a
 same_close setup ts (I ns nr asdu) k small tied = same_causes setup ts ns nr (judged_asdu setup asdu) k small tied
 same_close setup ts (S nr) k small tied =
@@ -124,7 +124,7 @@ same_reply None None = refl
 same_reply None (Some command) = refl
 same_reply (Some why) command = refl
 
-ties : (setup : Setup) (ts : List Turn) (x : Connection) (k : Client) → IsSoundSetup setup → turns x ≡ ts
+pub ties : (setup : Setup) (ts : List Turn) (x : Connection) (k : Client) → IsSoundSetup setup → turns x ≡ ts
     → Lives setup ts k → ClientLinked setup (Some x) k → Ties setup (turns x) k
 ties setup ts x k fit same lives linked =
     let mine : Lives setup (turns x) k = subst (λ (zs : List Turn). Lives setup zs k) (sym same) lives in

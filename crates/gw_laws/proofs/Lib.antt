@@ -23,4 +23,8 @@ pub mod Signals
 pub mod Closes
 pub mod Timers
 pub mod Times
+pub mod Clients
+pub mod Ordered
+pub mod Needs
+pub mod Faults
 pub mod Kept

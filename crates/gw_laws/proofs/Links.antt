@@ -91,8 +91,9 @@ abbrev pub ClientLinked : Setup → Option Connection → Client → Type 0
 ClientLinked setup None k = is_up k.stage ≡ false
 ClientLinked setup (Some x) k = (is_up k.stage ≡ true) × Linked setup x.began x.timed k
 
+-- where there is no such client, no connection stands
 abbrev pub SlotLinked : Setup → Option Connection → Option Client → Type 0
-SlotLinked setup x None = Unit {0}
+SlotLinked setup x None = x ≡ None
 SlotLinked setup x (Some k) = ClientLinked setup x k
 
 -- each client is, after a history

@@ -28,7 +28,7 @@ IsOffer moment k (Some (sendings.Part part)) = NoSignal moment k
 IsOffer moment k None = NoSignal moment k × (owes_ack moment k.window ≡ false)
 
 -- I formats are in line
-abbrev IsInformation : Sending → Type 0
+abbrev pub IsInformation : Sending → Type 0
 IsInformation (sendings.Confirm signal) = ⊥
 IsInformation sendings.Test = ⊥
 IsInformation (sendings.Answer answer) = Unit {0}
@@ -36,7 +36,7 @@ IsInformation (sendings.News x) = Unit {0}
 IsInformation (sendings.Part part) = Unit {0}
 IsInformation sendings.SFormat = ⊥
 
-informs : (k : Client) → IfSome (information_offered k) IsInformation
+pub informs : (k : Client) → IfSome (information_offered k) IsInformation
 informs k = by (is_started k.stage && has_room k.window)
   where
     by : (may : Bool) → IfSome (cond may (slice_get (line k) 0) None) IsInformation

@@ -84,11 +84,17 @@ rests_client setup now x k next true brought counted goes linked = ap (λ (y : C
 rests_client setup now x k next false brought counted goes linked =
     stays_linked setup now brought x k next (came_stays brought k next goes) counted linked
 
+rests_down : (now : ℕ) (x : Option Connection) (b : Bool) (brought : Brought) → x ≡ None
+    → connection_with now (Some (cond b Ends (Idle brought))) x ≡ None
+rests_down now x true brought down = refl
+rests_down now x false brought down = ap (going_on now (Idle brought)) down
+
 rests : (setup : Setup) (now : ℕ) (x : Option Connection) (s new : Option Client) (turn : Option Turn) (b : Bool)
     (brought : Brought) → turn ≡ Some (cond b Ends (Idle brought)) → Counted setup x s → SlotGoes setup turn s new
     → SlotLinked setup x s → SlotLinked setup (connection_with now turn x) new
 rests setup now x None new turn b brought is counted goes linked =
-    subst (SlotLinked setup (connection_with now turn x)) (sym goes) tt
+    subst (SlotLinked setup (connection_with now turn x)) (sym goes)
+    (ap (λ (t : Option Turn). connection_with now t x) is ∙ rests_down now x b brought linked)
 rests setup now x (Some k) new turn b brought is counted goes linked =
     subst (SlotLinked setup (connection_with now turn x)) (sym goes.1)
     (subst (λ (t : Option Turn). ClientLinked setup (connection_with now t x) goes.0) (sym is)
@@ -448,7 +454,7 @@ links_more setup past step (Err f) d single allowed before =
 -- at first all are down
 first_linked : (setup : Setup) (n d : ℕ)
     → SlotLinked setup None (slice_get (replicate n (client_down (limits_of setup.station) setup.station.queue)) d)
-first_linked setup zero d = tt
+first_linked setup zero d = refl
 first_linked setup (suc n) zero = refl
 first_linked setup (suc n) (suc d) = first_linked setup n d
 

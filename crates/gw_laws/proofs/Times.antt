@@ -1,6 +1,6 @@
--- A tick closes where t1 has passed, and a pump puts out what is due.
-use Rattle.std.proofs.Common.{◌≡◌, ℕ, zero, suc, ◌+◌, ◌*◌, ◌/◌, ◌%◌, ◌<◌, Bool, true, false, List, [], ◌∷◌, map, length, Option, Some, None, Result, Ok, Err, refl, sym, ap, subst, ◌∙◌, arith}
-use Rattle.std.specs.Prelude.{◌&&◌, ◌||◌, nat_le, nat_lt, option_map, slice_get, IfSome, IsTrue}
+-- A tick closes where t1 has passed, and a pump gives what is due first.
+use Rattle.std.proofs.Common.{◌≡◌, ℕ, zero, suc, ◌+◌, ◌*◌, ◌/◌, ◌%◌, Bool, true, false, cond, List, [], ◌∷◌, map, length, Option, Some, None, Result, Ok, Err, refl, sym, ap, subst, ◌∙◌, arith}
+use Rattle.std.specs.Prelude.{◌&&◌, ◌||◌, is_some, nat_le, nat_lt, option_map, slice_get, IfSome}
 use Rattle.std.proofs.lemmas.Bool.{eq-eqb, lt-ltb, ne_eqb, true≢false}
 use Rattle.gw_model.specs.First.{when, first_of}
 use Rattle.gw_entries.specs.Setup.{StationSetup}
@@ -12,32 +12,37 @@ use Rattle.iec_window.specs.declared.limits.Limits.{Limits}
 use Rattle.iec_window.specs.Timers.{has_passed as is_passed, owes_ack, owes_test, t1_passed}
 use Rattle.gw_station.specs.declared.sending.Sending.{Sending}
 use Rattle.gw_station.specs.declared.sending.Sending.TheVariants as sendings
-use Rattle.gw_station.specs.Client.{Client, is_timed_out, is_up, limits_of}
-use Rattle.gw_station.specs.Pump.{content_of, given, offered}
+use Rattle.gw_station.specs.Client.{Client, is_started, is_timed_out, is_up, limits_of}
+use Rattle.gw_station.specs.Pump.{content_of, given, has_room, information_offered, line as line_in, offered}
 use Rattle.gw_station.proofs.Sends.{content_fits}
 use Rattle.gw_steps.specs.declared.step.Step.{Step}
 use Rattle.gw_steps.specs.declared.step.Step.TheVariants as steps
 use Rattle.gw_steps.specs.declared.step.Reply.{Reply}
 use Rattle.gw_steps.specs.declared.step.StepFault.{StepFault}
 use Rattle.gw_steps.specs.declared.step.StepFault.TheVariants.{NoClient}
-use Rattle.gw_steps.specs.State.{State, client_limit}
+use Rattle.gw_steps.specs.State.{State, later}
 use Rattle.gw_steps.specs.Steps.{Allowed, bits_of, can_be_counted, client_reply, fault_of, latest, needs, one_if, outcome, reply_giving, reply_to}
-use Rattle.gw_steps.specs.Said.{ApduMeaning}
 use Rattle.gw_steps.specs.Runs.{Entry, state_after}
 use Rattle.gw_steps.proofs.Inversion.{answered, who_is_up}
 use Rattle.gw_steps.proofs.Saying.{said-content}
-use Rattle.gw_history.specs.Life.{has_bit, is_closed_in, life}
+use Rattle.gw_history.specs.Accepted.{moment_after}
+use Rattle.gw_history.specs.Life.{Turn, has_bit, life, session, turns_in}
 use Rattle.gw_history.specs.Premises.{client_at, IsSoundSetup}
+use Rattle.gw_history.proofs.Lives.{Lives}
 use Rattle.gw_history.proofs.Places.{Known, Place, SlotLives}
 use Rattle.gw_history.proofs.Tied.{told_moment}
 use Rattle.gw_history.proofs.Told.{sound_at}
-use Rattle.gw_laws.specs.Connection.{Connection, OfStanding, connection, turns}
+use Rattle.gw_laws.specs.Connection.{Connection, OfStanding, connection, is_so, turns}
 use Rattle.gw_laws.specs.Signals.{waiting}
-use Rattle.gw_laws.specs.Times.{SaysDue, Times, TimesBy, has_passed, is_late, is_late_if, is_receipt_due, is_test_due, says, signal_due, tested_at, unacknowledged, unreceipted}
+use Rattle.gw_laws.specs.Line.{line}
+use Rattle.gw_laws.specs.Times.{ClosesLate, Due, GivesDue, Times, TimesBy, ToAcknowledge, ToInform, ToSignal, due, has_passed, is_information_due, is_late, is_receipt_due, is_test_due, tested_at, unacknowledged, unreceipted, was_due}
 use Rattle.gw_laws.proofs.Closes.{LinkedBefore}
 use Rattle.gw_laws.proofs.Links.{AllLinked, ClientLinked, SlotLinked}
-use Rattle.gw_laws.proofs.Offers.{IsOffer, NoSignal, offer_told}
+use Rattle.gw_laws.proofs.Line.{LineTied, line_is, line_tied}
+use Rattle.gw_laws.proofs.News.{NewsTied, news_tied, stands}
+use Rattle.gw_laws.proofs.Offers.{IsInformation, informs}
 use Rattle.gw_laws.proofs.Signals.{says as saying, signals_tied, waiting_is}
+use Rattle.gw_laws.proofs.Steps.{same_turns}
 use Rattle.gw_laws.proofs.Timers.{TimersTied, timers_tied}
 
 -- ---- what is due
@@ -51,6 +56,8 @@ record Ties (setup : Setup) (x : Connection) (k : Client) : Type 0 where
   limits : k.window.limits ≡ limits_of setup.station
   waiting : waiting (turns x) ≡ k.confirmations
   timers : TimersTied x.began x.timed k
+  news : NewsTied setup (session (turns x)) k
+  line : LineTied setup (session (turns x)) k
 
 either_passed : (limit now : ℕ) (a b : Option ℕ)
     → is_passed limit a now || is_passed limit b now ≡ has_passed limit now a || has_passed limit now b
@@ -81,71 +88,125 @@ same_ack setup now x k tied =
     ∙ same_receipt setup.station now k.window.owed k.window.owed_since (unreceipted x.timed) tied.timers.owed
     tied.timers.since
 
--- ---- what a pump says
+-- in a session, with room, the first in line is put out
+said_if : {A : Type 0} (started room : Bool) (first : Option A)
+    → is_some (cond (started && room) first None) ≡ started && room && is_some first
+said_if true true first = refl
+said_if true false first = refl
+said_if false room first = refl
 
-signal_is : (setup : Setup) (now : ℕ) (x : Connection) (k : Client) → Ties setup x k
-    → signal_due setup.station now x
-    ≡ first_of (slice_get k.confirmations 0 ∷ when (owes_test now k.window) TestAct ∷ [])
-signal_is setup now x k tied =
-    ap (λ (cs : List Signal). first_of (slice_get cs 0 ∷ when (is_test_due setup.station now x) TestAct ∷ []))
-    tied.waiting
-    ∙ ap (λ (b : Bool). first_of (slice_get k.confirmations 0 ∷ when b TestAct ∷ []))
-    (sym (same_test setup now x k tied))
+same_line : (setup : Setup) (s : Option (List Turn)) (room : Bool) (k : Client) → NewsTied setup s k
+    → LineTied setup s k → is_some s && room && is_some (slice_get (line_in k) 0)
+    ≡ is_some s && room && is_some (slice_get (line setup (turns_in s)) 0)
+same_line setup None room k news tied = refl
+same_line setup (Some hs) room k news tied =
+    ap (λ (l : List Sending). room && is_some (slice_get l 0)) (line_is setup hs k news tied)
 
-no_signal : (setup : Setup) (now : ℕ) (x : Connection) (k : Client) → Ties setup x k → NoSignal now k
-    → signal_due setup.station now x ≡ None
-no_signal setup now x k tied none = signal_is setup now x k tied ∙ rw (none.confirmation, none.test) refl
+same_information : (setup : Setup) (x : Connection) (k : Client) → Ties setup x k
+    → is_some (information_offered k) ≡ is_information_due setup x
+same_information setup x k tied =
+    let room : has_room k.window ≡ nat_lt (length (unacknowledged x.timed)) setup.station.k =
+    rw (tied.limits, tied.timers.waiting) refl in
+    said_if (is_started k.stage) (has_room k.window) (slice_get (line_in k) 0)
+    ∙ rw (stands setup (session (turns x)) k tied.news, room)
+    (same_line setup (session (turns x)) (nat_lt (length (unacknowledged x.timed)) setup.station.k) k tied.news
+    tied.line)
 
-says_due : (setup : Setup) (now : ℕ) (x : Connection) (k : Client) (s : Sending) → Ties setup x k
-    → IsOffer now k (Some s) → SaysDue setup.station now (Some (saying setup k s)) x
-says_due setup now x k (sendings.Confirm signal) tied offer = signal_is setup now x k tied ∙ rw offer refl
-says_due setup now x k sendings.Test tied offer = signal_is setup now x k tied ∙ rw (offer.0, offer.1) refl
-says_due setup now x k (sendings.Answer answer) tied offer = no_signal setup now x k tied offer
-says_due setup now x k (sendings.News y) tied offer = no_signal setup now x k tied offer
-says_due setup now x k (sendings.Part part) tied offer = no_signal setup now x k tied offer
-says_due setup now x k sendings.SFormat tied offer = (
-  no_signal setup now x k tied offer.0,
-  subst IsTrue (same_ack setup now x k tied) (subst IsTrue (sym offer.1) refl),
-)
+-- ---- what a pump gives
 
-pumped : (setup : Setup) (now : ℕ) (x : Connection) (k : Client) (offer : Option Sending) → Ties setup x k
-    → IsOffer now k offer
-    → SaysDue setup.station now (says setup (reply_giving (option_map
-    (content_of setup.station.offset_minutes setup.station.common_address k) offer))) x
-pumped setup now x k None tied is = (
-  no_signal setup now x k tied is.0,
-  sym (same_ack setup now x k tied) ∙ is.1,
-)
-pumped setup now x k (Some s) tied is =
+-- what is put out was due so
+abbrev owed_by : Sending → Due
+owed_by (sendings.Confirm signal) = ToSignal signal
+owed_by sendings.Test = ToSignal TestAct
+owed_by (sendings.Answer answer) = ToInform
+owed_by (sendings.News x) = ToInform
+owed_by (sendings.Part part) = ToInform
+owed_by sendings.SFormat = ToAcknowledge
+
+says_due : (setup : Setup) (k : Client) (s : Sending) → was_due (saying setup k s) ≡ owed_by s
+says_due setup k (sendings.Confirm signal) = refl
+says_due setup k sendings.Test = refl
+says_due setup k (sendings.Answer answer) = refl
+says_due setup k (sendings.News y) = refl
+says_due setup k (sendings.Part part) = refl
+says_due setup k sendings.SFormat = refl
+
+informing : (s : Sending) → IsInformation s → ToInform ≡ owed_by s
+informing (sendings.Confirm signal) is = absurd is
+informing sendings.Test is = absurd is
+informing (sendings.Answer answer) is = refl
+informing (sendings.News y) is = refl
+informing (sendings.Part part) is = refl
+informing sendings.SFormat is = absurd is
+
+-- what is due is what is offered
+same_first : (confirmation : Option Signal) (test : Bool) (first : Option Sending) (ack : Bool)
+    → IfSome first IsInformation
+    → first_of (option_map ToSignal confirmation ∷ when test (ToSignal TestAct)
+    ∷ when (is_some first) ToInform ∷ when ack ToAcknowledge ∷ [])
+    ≡ option_map owed_by (first_of (option_map sendings.Confirm confirmation ∷ when test sendings.Test ∷ first
+    ∷ when ack sendings.SFormat ∷ []))
+same_first (Some signal) test first ack is = refl
+same_first None true first ack is = refl
+same_first None false (Some s) ack is = ap Some (informing s is)
+same_first None false None true is = refl
+same_first None false None false is = refl
+
+same_due : (setup : Setup) (now : ℕ) (x : Connection) (k : Client) → Ties setup x k
+    → due setup now x ≡ option_map owed_by (offered now k)
+same_due setup now x k tied =
+    rw (
+      tied.waiting,
+      sym (same_test setup now x k tied),
+      sym (same_information setup x k tied),
+      sym (same_ack setup now x k tied),
+    )
+    (same_first (slice_get k.confirmations 0) (owes_test now k.window) (information_offered k)
+    (owes_ack now k.window) (informs k))
+
+offers_due : (setup : Setup) (k : Client) (offer : Option Sending)
+    → GivesDue setup (option_map owed_by offer) (reply_giving (option_map
+    (content_of setup.station.offset_minutes setup.station.common_address k) offer))
+offers_due setup k None = refl
+offers_due setup k (Some s) =
     let content : ApduContent = content_of setup.station.offset_minutes setup.station.common_address k s in
     let fits = content_fits setup.station.offset_minutes setup.station.common_address k s in
-    subst (λ (said : Option ApduMeaning). SaysDue setup.station now said x)
-    (sym (said-content setup.station.offset_minutes content fits)) (says_due setup now x k s tied is)
+    ap (option_map was_due) (said-content setup.station.offset_minutes content fits)
+    ∙ ap Some (says_due setup k s)
 
 -- ---- each connection
 
-ties : (setup : Setup) (x : Connection) (k : Client) → IsSoundSetup setup → k.window.limits ≡ limits_of setup.station
-    → ClientLinked setup (Some x) k → Ties setup x k
-ties setup x k fit limits linked = record {
-  limits = limits;
-  waiting = waiting_is x.timed k (signals_tied setup x.began x.timed k linked.1);
-  timers = timers_tied setup x.began fit.window x.timed k linked.1;
-}
+ties : (setup : Setup) (ts : List Turn) (x : Connection) (k : Client) → IsSoundSetup setup
+    → k.window.limits ≡ limits_of setup.station → turns x ≡ ts → Lives setup ts k → ClientLinked setup (Some x) k
+    → Ties setup x k
+ties setup ts x k fit limits same lives linked =
+    let mine : Lives setup (turns x) k = subst (λ (zs : List Turn). Lives setup zs k) (sym same) lives in
+    record {
+      limits = limits;
+      waiting = waiting_is x.timed k (signals_tied setup x.began x.timed k linked.1);
+      timers = timers_tied setup x.began fit.window x.timed k linked.1;
+      news = news_tied setup fit.queue fit.station (turns x) k mine;
+      line = line_tied setup fit.queue fit.station (turns x) k mine;
+    }
 
-pumped_slot : (setup : Setup) (now : ℕ) (x : Option Connection) (k : Client) → IsSoundSetup setup
-    → k.window.limits ≡ limits_of setup.station → is_up k.stage ≡ true → ClientLinked setup x k
-    → OfStanding (SaysDue setup.station now (says setup (reply_giving
-    (given setup.station.offset_minutes setup.station.common_address now k)))) x
-pumped_slot setup now None k fit limits up linked = absurd (true≢false (sym up ∙ linked))
-pumped_slot setup now (Some x) k fit limits up linked =
-    pumped setup now x k (offered now k) (ties setup x k fit limits linked) (offer_told now k (offered now k) refl)
+pumped_slot : (setup : Setup) (now : ℕ) (ts : List Turn) (x : Option Connection) (k : Client) → IsSoundSetup setup
+    → k.window.limits ≡ limits_of setup.station → IfSome x (λ y. turns y ≡ ts) → Lives setup ts k
+    → is_up k.stage ≡ true → ClientLinked setup x k
+    → OfStanding (λ y. GivesDue setup (due setup now y) (reply_giving
+    (given setup.station.offset_minutes setup.station.common_address now k))) x
+pumped_slot setup now ts None k fit limits same lives up linked = absurd (true≢false (sym up ∙ linked))
+pumped_slot setup now ts (Some x) k fit limits same lives up linked =
+    subst (λ (d : Option Due). GivesDue setup d (reply_giving
+    (given setup.station.offset_minutes setup.station.common_address now k)))
+    (sym (same_due setup now x k (ties setup ts x k fit limits same lives linked)))
+    (offers_due setup k (offered now k))
 
-late_slot : (setup : Setup) (now : ℕ) (x : Option Connection) (k : Client) → IsSoundSetup setup
-    → k.window.limits ≡ limits_of setup.station → ClientLinked setup x k
-    → is_timed_out now k ≡ is_late_if setup.station now x
-late_slot setup now None k fit limits linked = rw linked refl
-late_slot setup now (Some x) k fit limits linked =
-    rw linked.0 (same_late setup now x k (ties setup x k fit limits linked))
+late_slot : (setup : Setup) (now : ℕ) (ts : List Turn) (x : Option Connection) (k : Client) → IsSoundSetup setup
+    → k.window.limits ≡ limits_of setup.station → IfSome x (λ y. turns y ≡ ts) → Lives setup ts k
+    → ClientLinked setup x k → is_timed_out now k ≡ is_so (is_late setup.station now) x
+late_slot setup now ts None k fit limits same lives linked = rw linked refl
+late_slot setup now ts (Some x) k fit limits same lives linked =
+    rw linked.0 (same_late setup now x k (ties setup ts x k fit limits same lives linked))
 
 -- ---- Pump
 
@@ -163,10 +224,11 @@ pump setup past c m r fit e known linked =
     (given setup.station.offset_minutes setup.station.common_address now x))) up.1) ∙ told.2 in
     let mine = sound_at setup.station s.counts.steps s.counts.news s.clients c up.0 up.1 known.sound.clients in
     subst (λ (x : Reply). TimesBy setup past step (Ok x)) reply
-    (subst (λ (n : ℕ). OfStanding (SaysDue setup.station n (says setup (reply_giving
-    (given setup.station.offset_minutes setup.station.common_address now up.0)))) (connection setup c past))
+    (subst (λ (n : ℕ). OfStanding (λ y. GivesDue setup (due setup n y) (reply_giving
+    (given setup.station.offset_minutes setup.station.common_address now up.0))) (connection setup c past))
     (told_moment setup past s m known.tied)
-    (pumped_slot setup now (connection setup c past) up.0 fit mine.window.limits up.2
+    (pumped_slot setup now (life setup c past) (connection setup c past) up.0 fit mine.window.limits
+    (same_turns setup c past) (subst (SlotLives setup c (life setup c past)) up.1 (known.lives c)) up.2
     (subst (SlotLinked setup (connection setup c past)) up.1 (linked c))))
 
 -- ---- Tick
@@ -197,12 +259,13 @@ bit_told now (k ∷ ks) (suc c) = ap (has_bit c) (others (is_timed_out now k)) �
     others false = omega arith
 
 late_told : (setup : Setup) (past : List Entry) (c now : ℕ) (s : Option Client) → IsSoundSetup setup
-    → c < client_limit → IfSome s (λ k. k.window.limits ≡ limits_of setup.station)
+    → IfSome s (λ k. k.window.limits ≡ limits_of setup.station)
     → SlotLives setup c (life setup c past) s → SlotLinked setup (connection setup c past) s
-    → late_at now s ≡ is_late_if setup.station now (connection setup c past)
-late_told setup past c now None fit within limits lives linked = absurd (omega (arith, lives, within))
-late_told setup past c now (Some k) fit within limits lives linked =
-    late_slot setup now (connection setup c past) k fit limits linked
+    → late_at now s ≡ is_so (is_late setup.station now) (connection setup c past)
+late_told setup past c now None fit limits lives linked = ap (is_so (is_late setup.station now)) (sym linked)
+late_told setup past c now (Some k) fit limits lives linked =
+    late_slot setup now (life setup c past) (connection setup c past) k fit limits (same_turns setup c past) lives
+    linked
 
 -- the limits are those of the station
 limits_at : (setup : Setup) (past : List Entry) (c : ℕ) (s : Option Client) → Known setup past
@@ -216,16 +279,16 @@ limits_at setup past c (Some k) known at =
 tick : (setup : Setup) (past : List Entry) (m : ℕ) (r : Reply) → IsSoundSetup setup
     → outcome setup (state_after setup past) (steps.Tick m) ≡ Ok r → Known setup past → AllLinked setup past
     → TimesBy setup past (steps.Tick m) (Ok r)
-tick setup past m r fit e known linked c within =
+tick setup past m r fit e known linked =
     let step : Step = steps.Tick m in
     let s : State = state_after setup past in
     let now : ℕ = latest s m in
     let told = answered (fault_of s step) (can_be_counted s (needs setup s step)) (reply_to setup s step) r e in
-    ap (is_closed_in c) (sym told.2)
-    ∙ (bit_told now s.clients c
-    ∙ (late_told setup past c now (client_at setup c past) fit within
+    subst (ClosesLate setup (later (moment_after past) m) past) told.2
+    (λ c. bit_told now s.clients c
+    ∙ (late_told setup past c now (client_at setup c past) fit
     (limits_at setup past c (client_at setup c past) known refl) (known.lives c) (linked c)
-    ∙ ap (λ (n : ℕ). is_late_if setup.station n (connection setup c past)) (told_moment setup past s m known.tied)))
+    ∙ ap (λ (n : ℕ). is_so (is_late setup.station n) (connection setup c past)) (told_moment setup past s m known.tied)))
 
 -- ---- all steps
 

@@ -1,6 +1,6 @@
 -- The connection of each client that stands: when it began, and its turns since, each with its moment, newest first.
 -- Moments never go back: the largest so far counts.
-use Rattle.std.specs.Prelude.{ℕ, ◌<◌, List, [], ◌∷◌, map, Option, Some, None, IfSome}
+use Rattle.std.specs.Prelude.{ℕ, ◌<◌, Bool, false, List, [], ◌∷◌, map, Option, Some, None, IfSome}
 use Rattle.gw_map.specs.Settings.{Setup}
 use Rattle.gw_steps.specs.State.{client_limit}
 use Rattle.gw_steps.specs.Runs.{Entry}
@@ -40,6 +40,11 @@ connection setup c (e ∷ past) =
 -- a law of each connection that stands
 abbrev pub OfEachConnection : (Connection → Type 0) → Setup → List Entry → Type 0
 OfEachConnection Law setup past = (c : ℕ) → c < client_limit → IfSome (connection setup c past) Law
+
+-- it is there, and so
+abbrev pub is_so : {A : Type 0} → (A → Bool) → Option A → Bool
+is_so test None = false
+is_so test (Some x) = test x
 
 -- what a step of a client says of its connection: there is one
 abbrev pub OfStanding : (Connection → Type 0) → Option Connection → Type 0

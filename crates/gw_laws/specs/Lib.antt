@@ -11,6 +11,7 @@ pub mod Connection
 pub mod Signals
 pub mod Closes
 pub mod Times
+pub mod Faults
 pub mod Connections
 pub mod Example
 pub mod ConnectionExample

@@ -1,5 +1,6 @@
 -- Signals (IEC 60870-5-104, 5.2 and 5.3): of the STARTDT, STOPDT and TESTFR acts that were taken each is confirmed at
--- most once, in order; no other U format is put out but TESTFR act; and no more than 32 confirmations wait.
+-- most once, in order; no other U format is put out but TESTFR act; and no more than 32 confirmations wait. While one
+-- waits each pump gives the one that has waited longest (Times).
 use Rattle.std.specs.Prelude.{◌≡◌, ℕ, ◌≤◌, List, [], ◌∷◌, ◌++◌, drop, length, take}
 use Rattle.std.specs.Option.{option_to_list}
 use Rattle.gw_map.specs.Settings.{Setup}

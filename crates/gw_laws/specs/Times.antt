@@ -1,9 +1,10 @@
 -- Times (IEC 60870-5-104, 5.1 to 5.3 and 5.5). A tick closes a connection exactly where the oldest I format that isn't
--- acknowledged, or the TESTFR act that isn't confirmed, was put out t1 or longer ago. A pump puts out the confirmation
--- that has waited longest; else TESTFR act exactly where nothing came for t3 or longer and none is unconfirmed; an S
--- format only where w or more I formats that came are not acknowledged, or the oldest since t2 or longer; and nothing
--- at all only where none of these is due.
-use Rattle.std.specs.Prelude.{◌≡◌, ℕ, ◌+◌, ◌<◌, Bool, false, ◌&&◌, ◌||◌, is_none, nat_le, IsTrue, List, [], ◌∷◌, ◌++◌, drop, length, map, slice_get, Option, Some, None, Result, Ok}
+-- acknowledged, or the TESTFR act that isn't confirmed, was put out t1 or longer ago, and nothing else. A pump gives the
+-- first of this that is due, and nothing exactly where none is: the confirmation that has waited longest; TESTFR act,
+-- where nothing came for t3 or longer and none is unconfirmed; an I format, where a session stands, something is in line
+-- and fewer than k are not acknowledged; an S format, where w or more I formats that came are not acknowledged, or the
+-- oldest since t2 or longer.
+use Rattle.std.specs.Prelude.{◌≡◌, ℕ, ◌+◌, Bool, false, ◌&&◌, ◌||◌, is_none, is_some, nat_le, nat_lt, List, [], ◌∷◌, ◌++◌, drop, length, map, slice_get, Option, Some, None, option_map, Result, Ok}
 use Rattle.gw_model.specs.First.{when, first_of}
 use Rattle.gw_entries.specs.Setup.{StationSetup}
 use Rattle.gw_map.specs.Settings.{Setup}
@@ -17,11 +18,12 @@ use Rattle.gw_steps.specs.declared.step.Reply.TheVariants as replies
 use Rattle.gw_steps.specs.declared.step.StepFault.{StepFault}
 use Rattle.gw_steps.specs.Runs.{Entry}
 use Rattle.gw_steps.specs.Said.{ApduMeaning, IFormat, SFormat, UFormat, said}
-use Rattle.gw_steps.specs.State.{client_limit, later}
+use Rattle.gw_steps.specs.State.{later}
 use Rattle.gw_history.specs.Accepted.{moment_after}
-use Rattle.gw_history.specs.Life.{Takes, PutsOut, is_closed_in}
+use Rattle.gw_history.specs.Life.{Takes, PutsOut, has_bit, session, turns_in}
 use Rattle.gw_laws.specs.Closes.{acknowledged}
-use Rattle.gw_laws.specs.Connection.{At, Connection, OfStanding, TimedTurn, connection, turn_in, turns}
+use Rattle.gw_laws.specs.Line.{line}
+use Rattle.gw_laws.specs.Connection.{At, Connection, OfStanding, TimedTurn, connection, is_so, turn_in, turns}
 use Rattle.gw_laws.specs.Signals.{waiting}
 
 -- ---- since when
@@ -79,37 +81,59 @@ is_receipt_due station now [] = false
 is_receipt_due station now (oldest ∷ others) =
     nat_le station.w (length (oldest ∷ others)) || has_passed station.t2_ms now (Some oldest)
 
-abbrev pub signal_due : StationSetup → ℕ → Connection → Option Signal
-signal_due station now x =
-    first_of (slice_get (waiting (turns x)) 0 ∷ when (is_test_due station now x) TestAct ∷ [])
+-- a session stands, fewer than k I formats are not acknowledged, and something is in line
+abbrev pub is_information_due : Setup → Connection → Bool
+is_information_due setup x =
+    is_some (session (turns x))
+    && nat_lt (length (unacknowledged x.timed)) setup.station.k
+    && is_some (slice_get (line setup (turns_in (session (turns x)))) 0)
+
+-- what a pump may owe
+pub data Due : Type 0 where
+  -- a U format with this control function
+  ToSignal : Signal → Due
+  -- an I format
+  ToInform : Due
+  -- an S format
+  ToAcknowledge : Due
+
+-- the first that is due
+abbrev pub due : Setup → ℕ → Connection → Option Due
+due setup now x = first_of
+    (option_map ToSignal (slice_get (waiting (turns x)) 0)
+    ∷ when (is_test_due setup.station now x) (ToSignal TestAct)
+    ∷ when (is_information_due setup x) ToInform
+    ∷ when (is_receipt_due setup.station now (unreceipted x.timed)) ToAcknowledge
+    ∷ [])
 
 -- ---- the law
+
+-- what was due where this is put out
+abbrev pub was_due : ApduMeaning → Due
+was_due (UFormat signal) = ToSignal signal
+was_due (IFormat ns nr meant) = ToInform
+was_due (SFormat nr) = ToAcknowledge
 
 -- what a pump gives says
 abbrev pub says : Setup → Reply → Option ApduMeaning
 says setup (replies.Apdu apdu) = said setup.station.offset_minutes apdu
 says setup _ = None
 
--- what is put out is due
-abbrev pub SaysDue : StationSetup → ℕ → Option ApduMeaning → Connection → Type 0
-SaysDue station now (Some (UFormat signal)) x = signal_due station now x ≡ Some signal
-SaysDue station now (Some (IFormat ns nr meant)) x = signal_due station now x ≡ None
-SaysDue station now (Some (SFormat nr)) x =
-    (signal_due station now x ≡ None) × IsTrue (is_receipt_due station now (unreceipted x.timed))
-SaysDue station now None x =
-    (signal_due station now x ≡ None) × (is_receipt_due station now (unreceipted x.timed) ≡ false)
+-- a pump gives what is due, and nothing where nothing is
+abbrev pub GivesDue : Setup → Option Due → Reply → Type 0
+GivesDue setup None reply = reply ≡ replies.Nothing
+GivesDue setup (Some first) reply = option_map was_due (says setup reply) ≡ Some first
 
--- a client that is down isn't closed
-abbrev pub is_late_if : StationSetup → ℕ → Option Connection → Bool
-is_late_if station now None = false
-is_late_if station now (Some x) = is_late station now x
+-- of what a tick tells, bit c is set exactly where the connection of client c stands and is late; it is closed
+abbrev pub ClosesLate : Setup → ℕ → List Entry → Reply → Type 0
+ClosesLate setup now past (replies.Ticked closed) =
+    (c : ℕ) → has_bit c closed ≡ is_so (is_late setup.station now) (connection setup c past)
+ClosesLate setup now past _ = ⊥
 
 abbrev pub TimesBy : Setup → List Entry → Step → Result Reply StepFault → Type 0
-TimesBy setup past (steps.Tick moment) (Ok reply) = (c : ℕ) → c < client_limit → is_closed_in c reply
-    ≡ is_late_if setup.station (later (moment_after past) moment) (connection setup c past)
+TimesBy setup past (steps.Tick moment) (Ok reply) = ClosesLate setup (later (moment_after past) moment) past reply
 TimesBy setup past (steps.Pump c moment) (Ok reply) =
-    OfStanding (SaysDue setup.station (later (moment_after past) moment) (says setup reply))
-    (connection setup c past)
+    OfStanding (λ x. GivesDue setup (due setup (later (moment_after past) moment) x) reply) (connection setup c past)
 TimesBy setup past _ _ = Unit {0}
 
 abbrev pub Times : Setup → List Entry → Type 0

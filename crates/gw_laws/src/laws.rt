@@ -15,7 +15,9 @@ pub fn runs_keep_promises()
 
 /// At each point of a run: in a step without a fault an APDU closes its connection for the first cause that holds, or
 /// else is taken; each STARTDT, STOPDT and TESTFR act that was taken is confirmed at most once and in order; a tick
-/// closes a connection exactly where t1 has passed, and the U and S formats that a pump gives are due by t2, t3 and w.
+/// closes a connection exactly where t1 has passed; a pump gives the first that is due of a confirmation, TESTFR act,
+/// an I format and an S format, and nothing exactly where none is; and a step isn't made exactly for the fault that is
+/// due, or, where memory may be wanted, for want of it.
 pub fn connections_are_kept()
     ensures { (setup : Setup) (past : List Entry) → IsSoundRun setup past → AtEach (Connections setup) past }
 {}
