@@ -1,12 +1,12 @@
 //! Worked examples of the definitions, computed by the definitions themselves.
-ghost use Rattle.std.specs.Prelude.{◌≡◌, ℕ, pos, negsuc, [], ◌∷◌, Ok, Err, Some, None, true, false};
+ghost use Rattle.std.specs.Prelude.{◌≡◌, ℕ, pos, negsuc, [], ◌∷◌, map, Ok, Err, Some, None, true, false};
 ghost use Rattle.dnp_objects.specs.Headers.{number};
 ghost use Rattle.dnp_objects.specs.declared.fault.HeaderFault.TheVariants.{UnknownObject, ShortData};
 ghost use Rattle.dnp_points.specs.Objects.{binary_report};
 ghost use Rattle.dnp_app.specs.declared.fault.AppFault.TheVariants.{Short, NotResponse, Object};
 ghost use Rattle.dnp_app.specs.Control.{control_of, confirmation_of, confirm_of};
 ghost use Rattle.dnp_app.specs.Echo.{echo_of};
-ghost use Rattle.dnp_app.specs.Response.{response_of, fragment_of};
+ghost use Rattle.dnp_app.specs.Response.{response_of, fragment_of, is_unsolicited};
 ghost use Rattle.dnp_app.specs.SteppedOver.{stepped_over_count_of};
 ghost use Rattle.dnp_app.specs.Requests.{clear_restart_octets, disable_octets, enable_octets, read_octets, record_time_octets, write_time_octets};
 ghost use Rattle.dnp_app.specs.Asking.{asking_of, asks_for, Read, WriteIndication};
@@ -30,6 +30,10 @@ pub fn fragments_by_example()
     // F0 82 90 08: an unsolicited response with internal indications and an empty object part.
     ensures unsolicited { response_of 0 (0xF0 ∷ 0x82 ∷ 0x90 ∷ 0x08 ∷ [])
         ≡ Ok (fragment_of 0 (0xF0 ∷ 0x82 ∷ 0x90 ∷ 0x08 ∷ []) []) }
+    // Function 130 makes it one, whatever UNS says.
+    ensures by_function { map (λ octets. is_unsolicited (fragment_of 7 octets []))
+        ((0xE3 ∷ 0x82 ∷ 0x00 ∷ 0x00 ∷ []) ∷ (0xF3 ∷ 0x82 ∷ 0x00 ∷ 0x00 ∷ []) ∷ (0xF3 ∷ 0x81 ∷ 0x00 ∷ 0x00 ∷ [])
+        ∷ (0xE3 ∷ 0x81 ∷ 0x00 ∷ 0x00 ∷ []) ∷ []) ≡ true ∷ true ∷ false ∷ false ∷ [] }
     ensures empty { response_of 0 (0xC0 ∷ 0x81 ∷ 0x00 ∷ 0x00 ∷ [])
         ≡ Ok (fragment_of 0 (0xC0 ∷ 0x81 ∷ 0x00 ∷ 0x00 ∷ []) []) }
     // Fewer than four octets, whatever the function; then other functions: WRITE and 131 (an authentication

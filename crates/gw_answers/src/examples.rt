@@ -1,9 +1,11 @@
 //! Worked examples, computed by the definitions: station 1, single-point 4101, scaled value 4201, integrated total
 //! 4301, of which nothing was reported yet.
-ghost use Rattle.std.specs.Prelude.{◌≡◌, [], ◌∷◌, true, false, Some, None};
+ghost use Rattle.std.specs.Prelude.{◌≡◌, [], ◌∷◌, map, pos, true, false, Some, None};
 ghost use Rattle.std.proofs.Common.{lit≤};
 ghost use Rattle.iec_command.specs.declared.command.Action.TheVariants.{CounterInterrogation, Interrogation};
-ghost use Rattle.gw_answers.specs.Example.{act, replies, reply};
+ghost use Rattle.gw_answers.specs.Interrogations.{answer_to};
+ghost use Rattle.gw_answers.specs.Octets.{outgoing_octets};
+ghost use Rattle.gw_answers.specs.Example.{act, picture, replies, reply};
 
 /// The answer to an interrogation: confirmation, rows, termination.
 pub fn interrogations()
@@ -21,6 +23,13 @@ pub fn interrogations()
         (0x65 ∷ 1 ∷ 7 ∷ 9 ∷ 1 ∷ 0 ∷ 0 ∷ 0 ∷ 0 ∷ 5 ∷ [])
         ∷ (0x0F ∷ 1 ∷ 0x25 ∷ 0 ∷ 1 ∷ 0 ∷ 0xCD ∷ 0x10 ∷ 0 ∷ 0 ∷ 0 ∷ 0 ∷ 0 ∷ 0x80 ∷ [])
         ∷ (0x65 ∷ 1 ∷ 0x0A ∷ 9 ∷ 1 ∷ 0 ∷ 0 ∷ 0 ∷ 0 ∷ 5 ∷ []) ∷ [] }
+    // Station 258, of whose address the low octet comes first.
+    ensures of_258 { map (outgoing_octets (pos 0) 258) (answer_to (record (act (CounterInterrogation 5)) {
+      common_address = 65535;
+    }) picture) ≡
+        (0x65 ∷ 1 ∷ 7 ∷ 0 ∷ 2 ∷ 1 ∷ 0 ∷ 0 ∷ 0 ∷ 5 ∷ [])
+        ∷ (0x0F ∷ 1 ∷ 0x25 ∷ 0 ∷ 2 ∷ 1 ∷ 0xCD ∷ 0x10 ∷ 0 ∷ 0 ∷ 0 ∷ 0 ∷ 0 ∷ 0x80 ∷ [])
+        ∷ (0x65 ∷ 1 ∷ 0x0A ∷ 0 ∷ 2 ∷ 1 ∷ 0 ∷ 0 ∷ 0 ∷ 5 ∷ []) ∷ [] }
 {}
 
 /// What isn't accepted is confirmed negatively.
@@ -37,6 +46,13 @@ pub fn refused_acts()
         ≡ Some (0x64 ∷ 1 ∷ 0x49 ∷ 0 ∷ 1 ∷ 0 ∷ 0 ∷ 0 ∷ 0 ∷ 0x14 ∷ []) }
     ensures freeze { reply false (0x65 ∷ 1 ∷ 6 ∷ 0 ∷ 1 ∷ 0 ∷ 0 ∷ 0 ∷ 0 ∷ 0x45 ∷ []) (lit≤ tt)
         ≡ Some (0x65 ∷ 1 ∷ 0x47 ∷ 0 ∷ 1 ∷ 0 ∷ 0 ∷ 0 ∷ 0 ∷ 0x45 ∷ []) }
+    // The counters of groups 1 and 4, and no counter.
+    ensures counter_group { reply false (0x65 ∷ 1 ∷ 6 ∷ 0 ∷ 1 ∷ 0 ∷ 0 ∷ 0 ∷ 0 ∷ 1 ∷ []) (lit≤ tt)
+        ≡ Some (0x65 ∷ 1 ∷ 0x47 ∷ 0 ∷ 1 ∷ 0 ∷ 0 ∷ 0 ∷ 0 ∷ 1 ∷ []) }
+    ensures last_counter_group { reply false (0x65 ∷ 1 ∷ 6 ∷ 0 ∷ 1 ∷ 0 ∷ 0 ∷ 0 ∷ 0 ∷ 4 ∷ []) (lit≤ tt)
+        ≡ Some (0x65 ∷ 1 ∷ 0x47 ∷ 0 ∷ 1 ∷ 0 ∷ 0 ∷ 0 ∷ 0 ∷ 4 ∷ []) }
+    ensures no_counter { reply false (0x65 ∷ 1 ∷ 6 ∷ 0 ∷ 1 ∷ 0 ∷ 0 ∷ 0 ∷ 0 ∷ 0 ∷ []) (lit≤ tt)
+        ≡ Some (0x65 ∷ 1 ∷ 0x47 ∷ 0 ∷ 1 ∷ 0 ∷ 0 ∷ 0 ∷ 0 ∷ 0 ∷ []) }
     // For all stations, by the station's own address.
     ensures all_stations { reply true (0x65 ∷ 1 ∷ 6 ∷ 7 ∷ 0xFF ∷ 0xFF ∷ 0 ∷ 0 ∷ 0 ∷ 5 ∷ []) (lit≤ tt)
         ≡ Some (0x65 ∷ 1 ∷ 0x47 ∷ 7 ∷ 1 ∷ 0 ∷ 0 ∷ 0 ∷ 0 ∷ 5 ∷ []) }

@@ -103,3 +103,7 @@ by_double = record setup { controls = record switch { operates = operated.Double
 -- the judgements of some ASDUs
 abbrev pub judgements : List (List ℕ) → List Judged
 judgements asdus = map (judged setup) asdus
+
+-- station 258
+abbrev pub at_258 : Setup
+at_258 = record setup { station = record station { common_address = 258 } }

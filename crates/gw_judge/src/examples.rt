@@ -6,7 +6,7 @@ ghost use Rattle.iec_command.specs.declared.command.Action.TheVariants.{Interrog
 ghost use Rattle.iec_command.specs.Example.{command, single, double, setpoint};
 ghost use Rattle.gw_judge.specs.declared.judging.Judged.TheVariants.{Accepted, Malformed, Refuse};
 ghost use Rattle.gw_judge.specs.Judging.{is_execute, judged};
-ghost use Rattle.gw_judge.specs.Example.{by_double, judgements, setup};
+ghost use Rattle.gw_judge.specs.Example.{at_258, by_double, judgements, setup};
 
 /// What is sent back: the first cause counts.
 pub fn refusals_by_example()
@@ -49,6 +49,16 @@ pub fn requests_by_example()
         (0x66 ∷ 1 ∷ 5 ∷ 0 ∷ 0xFF ∷ 0xFF ∷ 0x05 ∷ 0x10 ∷ 0 ∷ [])
         ∷ (0x2D ∷ 1 ∷ 6 ∷ 0 ∷ 0xFF ∷ 0xFF ∷ 0x89 ∷ 0x13 ∷ 0 ∷ 1 ∷ []) ∷ [])
         ≡ Refuse 46 false ∷ Refuse 46 false ∷ [] }
+    // A common address has two octets: a read and an interrogation of station 258, and of others that share one of them.
+    ensures two_octets { map (judged at_258) (
+        (0x66 ∷ 1 ∷ 5 ∷ 0 ∷ 2 ∷ 1 ∷ 0x05 ∷ 0x10 ∷ 0 ∷ [])
+        ∷ (0x65 ∷ 1 ∷ 6 ∷ 0 ∷ 2 ∷ 1 ∷ 0 ∷ 0 ∷ 0 ∷ 0x05 ∷ []) ∷ [])
+        ≡ Accepted (command 5 258 4101 Read) ∷ Accepted (command 6 258 0 (CounterInterrogation 5)) ∷ [] }
+    ensures one_octet { map (judged at_258) (
+        (0x66 ∷ 1 ∷ 5 ∷ 0 ∷ 2 ∷ 0 ∷ 0x05 ∷ 0x10 ∷ 0 ∷ [])
+        ∷ (0x65 ∷ 1 ∷ 6 ∷ 0 ∷ 0xFF ∷ 1 ∷ 0 ∷ 0 ∷ 0 ∷ 0x05 ∷ [])
+        ∷ (0x65 ∷ 1 ∷ 6 ∷ 0 ∷ 1 ∷ 0 ∷ 0 ∷ 0 ∷ 0 ∷ 0x05 ∷ []) ∷ [])
+        ≡ Refuse 46 false ∷ Refuse 46 false ∷ Refuse 46 false ∷ [] }
     // An interrogation has no object; it may be deactivated.
     ensures object { judgements (
         (0x64 ∷ 1 ∷ 6 ∷ 0 ∷ 1 ∷ 0 ∷ 1 ∷ 0 ∷ 0 ∷ 0x14 ∷ [])

@@ -1,5 +1,5 @@
 //! Worked runs, computed by the step relation itself.
-ghost use Rattle.std.specs.Prelude.{◌≡◌, ◌-◌, ◌++◌, [], ◌∷◌, Some, None, true, false, Ok, Err};
+ghost use Rattle.std.specs.Prelude.{◌≡◌, ◌-◌, ◌++◌, [], ◌∷◌, map, Some, None, true, false, Ok, Err};
 ghost use Rattle.gw_steps.specs.declared.step.Step.TheVariants as steps;
 ghost use Rattle.gw_steps.specs.declared.step.Reply.TheVariants as replies;
 ghost use Rattle.gw_steps.specs.declared.step.StepFault.TheVariants.{NoOutstation, NoClient, NotUp, AlreadyUp, Spent};
@@ -62,6 +62,19 @@ pub fn replies_by_example()
     // A moment before an earlier one counts as that one.
     ensures moment { (reached (steps.ClientUp 0 9 ∷ steps.Frame 0 (U StartAct) 5 ∷ [])).moment ≡ 9 }
     ensures later_moment { (reached (steps.ClientUp 0 9 ∷ steps.Frame 0 (U StartAct) 12 ∷ [])).moment ≡ 12 }
+{}
+
+/// Memory is wanted for the STARTDT act that begins a session, and for no other step than an APDU: those that come up
+/// and are lost, a fragment, a poll, a pump and a tick want none, at any moment.
+pub fn memory_by_example()
+    ensures begins { (needs setup (reached (steps.ClientUp 0 7 ∷ [])) (steps.Frame 0 (U StartAct) 9)).memory ≡ true }
+    ensures goes_on { (needs setup (reached started) (steps.Frame 0 (U StartAct) 9)).memory ≡ false }
+    ensures receipt { (needs setup (reached returned) (steps.Frame 0 (S 2) 9)).memory ≡ false }
+    ensures others { map (λ step. (needs setup (reached (started ++ fragment_of event ∷ [])) step).memory)
+        (steps.Pump 0 9 ∷ steps.Poll 0 9 1700000000000 ∷ steps.Tick 15009 ∷ steps.Fragment reading 9
+        ∷ steps.OutstationDown 0 9 ∷ steps.ClientDown 0 9 ∷ steps.ClientUp 1 9 ∷ [])
+        ≡ false ∷ false ∷ false ∷ false ∷ false ∷ false ∷ false ∷ [] }
+    ensures comes_up { (needs setup (at_first setup) (steps.OutstationUp 0 9)).memory ≡ false }
 {}
 
 /// What is put out in runs, and what becomes of their fragments.
