@@ -1,8 +1,11 @@
 //! Worked examples, computed by the definitions: station 1, single-point 4101, scaled value 4201, integrated total
 //! 4301, of which nothing was reported yet.
-ghost use Rattle.std.specs.Prelude.{◌≡◌, [], ◌∷◌, map, pos, true, false, Some, None};
+ghost use Rattle.std.specs.Prelude.{◌≡◌, [], ◌∷◌, is_some, map, pos, true, false, Some, None};
 ghost use Rattle.std.proofs.Common.{lit≤};
-ghost use Rattle.iec_command.specs.declared.command.Action.TheVariants.{CounterInterrogation, Interrogation};
+ghost use Rattle.iec_command.specs.declared.command.Action.TheVariants.{CounterInterrogation, Interrogation, Read};
+ghost use Rattle.iec_command.specs.Example.{double, setpoint, single};
+ghost use Rattle.gw_judge.specs.declared.judging.Judged.TheVariants.{Accepted};
+ghost use Rattle.gw_answers.specs.Answers.{command_by};
 ghost use Rattle.gw_answers.specs.Interrogations.{answer_to};
 ghost use Rattle.gw_answers.specs.Octets.{outgoing_octets};
 ghost use Rattle.gw_answers.specs.Example.{act, picture, replies, reply};
@@ -82,4 +85,11 @@ pub fn reads_and_refusals()
         ≡ Some (0x67 ∷ 0 ∷ 0x6C ∷ 0 ∷ 0 ∷ 0 ∷ []) }
     // A command for a control waits for what is said of it.
     ensures command { reply false (0x2D ∷ 1 ∷ 6 ∷ 0 ∷ 1 ∷ 0 ∷ 0x89 ∷ 0x13 ∷ 0 ∷ 0x81 ∷ []) (lit≤ tt) ≡ None }
+{}
+
+/// Which commands are for controls: single and double commands and set points.
+pub fn commands()
+    ensures { map (λ action. is_some (command_by (Accepted (act action)))) (single true false 0 false
+        ∷ double 1 0 false ∷ setpoint (pos 1) 0 false ∷ Interrogation 20 ∷ CounterInterrogation 5 ∷ Read ∷ [])
+        ≡ true ∷ true ∷ true ∷ false ∷ false ∷ false ∷ [] }
 {}

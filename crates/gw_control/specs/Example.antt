@@ -1,7 +1,7 @@
 -- Clients of the worked examples, and what they command. A control by single commands at 5001, which has to be selected
 -- and is operated directly; one by set-point commands at 5002, which needn't be, and is selected before it is operated;
 -- and one by double commands at 5003.
-use Rattle.std.specs.Prelude.{ℕ, zero, suc, ◌+◌, true, false, Bool, List, [], ◌∷◌, ◌++◌, ℤ, pos, Option, slice_get}
+use Rattle.std.specs.Prelude.{ℕ, zero, suc, ◌+◌, true, false, Bool, List, [], ◌∷◌, ◌++◌, ℤ, pos, map, Option, option_map, slice_get}
 use Rattle.std.proofs.Common.{lit≤}
 use Rattle.gw_model.specs.declared.control.Act.{Act}
 use Rattle.gw_model.specs.declared.control.Ended.{Ended}
@@ -20,6 +20,7 @@ use Rattle.gw_control.specs.declared.answer.Answer.{Answer}
 use Rattle.gw_control.specs.declared.answer.Outcome.{Outcome}
 use Rattle.gw_control.specs.declared.asked.AskedCommand.{AskedCommand}
 use Rattle.gw_control.specs.Selections.{asked}
+use Rattle.gw_control.specs.Orders.{order_given}
 use Rattle.gw_control.specs.Controls.{Controls, answer_of, controls_after_command, controls_after_end, controls_after_ended, controls_after_taking, no_controls, order_at, outcome_ended_at, outcome_lost_at}
 
 -- ---- settings
@@ -102,6 +103,17 @@ setup_with scale = record {
 abbrev pub setup : Setup
 setup = setup_with one_to_one
 
+-- a selection stands for 3 seconds
+abbrev pub brief : Setup
+brief = record setup { station = record station { select_ms = 3000 } }
+
+-- two outstations, of which the second one has the breaker
+abbrev pub two_outstations : Setup
+two_outstations = record setup {
+  outstations = outstation ∷ outstation ∷ [];
+  controls = record breaker { outstation = 1 } ∷ [];
+}
+
 -- ---- commands
 
 -- client 0 in session 10, client 1 in session 11; the outstation is up
@@ -118,6 +130,10 @@ executes client on qualifier moment = of_client client 6 5001 (single on false q
 
 abbrev pub cancels : ℕ → ℕ → AskedCommand
 cancels client moment = of_client client 8 5001 (single true false 0 true) moment
+
+-- in another session
+abbrev pub in_session : ℕ → AskedCommand → AskedCommand
+in_session session a = record a { session = session }
 
 -- it sets 5002, and operates 5003
 abbrev pub sets : ℕ → ℤ → AskedCommand
@@ -179,6 +195,10 @@ done number v = controls_after_ended 0 (ended number true) v
 
 abbrev pub loss : Controls → Option Outcome
 loss v = outcome_lost_at (slice_get v.outgoing 0)
+
+-- to which outstations orders are given next
+abbrev pub next_of_each : Controls → List (Option ℕ)
+next_of_each v = map (λ o. option_map (λ x. x.intent.outstation) (order_given o)) v.outgoing
 
 -- an order for the outstation
 abbrev pub order : ℕ → ℕ → Act → Bool → Order

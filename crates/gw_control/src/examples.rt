@@ -10,13 +10,16 @@ ghost use Rattle.gw_control.specs.Example.{
   after,
   after_end,
   answered,
+  brief,
   cancels,
   done,
   doubled,
   ended,
   executes,
+  in_session,
   loss,
   next,
+  next_of_each,
   of_client,
   operates,
   order,
@@ -28,7 +31,9 @@ ghost use Rattle.gw_control.specs.Example.{
   setup,
   setup_with,
   sixteen,
+  taking,
   told,
+  two_outstations,
   two_thirds,
   while_down,
 };
@@ -65,17 +70,24 @@ pub fn selections_by_example()
     ensures still_taken { answered (selects 0 true 0 0 ∷ []) (selects 1 true 0 9999) ≡ Negative }
     ensures free { answered (selects 0 true 0 0 ∷ []) (selects 1 true 0 10000) ≡ Confirm }
     ensures late { answered (selects 0 true 0 (2 ^ 64 - 5000) ∷ []) (executes 0 true 0 (2 ^ 64 - 1)) ≡ Ordered 1 }
-    // Cause 8 ends it, and is confirmed once, for the client alone that selected.
+    // Or as long as the settings tell.
+    ensures brief { map (λ moment. answer_of brief (executes 0 true 0 moment) (controls_after_command brief
+        (selects 0 true 0 0) (no_controls brief))) (2999 ∷ 3000 ∷ []) ≡ Ordered 1 ∷ Negative ∷ [] }
+    // Cause 8 ends it, whatever S/E, and is confirmed once, for the client alone that selected.
     ensures cancel { answered (selects 0 true 0 0 ∷ []) (cancels 0 0) ≡ Confirm }
+    ensures cancel_by_execute { answered (selects 0 true 0 0 ∷ []) (of_client 0 8 5001 (single true false 0 false) 0)
+        ≡ Confirm }
     ensures cancel_again { answered (selects 0 true 0 0 ∷ cancels 0 0 ∷ []) (cancels 0 0) ≡ Negative }
     ensures cancelled { answered (selects 0 true 0 0 ∷ cancels 0 0 ∷ []) (executes 0 true 0 0) ≡ Negative }
     ensures cancel_of_another { answered (selects 0 true 0 0 ∷ []) (cancels 1 0) ≡ Negative }
     ensures not_cancelled { answered (selects 0 true 0 0 ∷ cancels 1 0 ∷ []) (executes 0 true 0 0) ≡ Ordered 1 }
-    // Its session's end ends it, another one's doesn't.
+    // Its session's end ends it, also where the next one selects another control; another one's doesn't.
     ensures session_ended { answer_of setup (executes 0 true 0 0) (after_end 0 (selects 0 true 0 0 ∷ []))
         ≡ Negative }
     ensures free_again { answer_of setup (selects 1 true 0 0) (after_end 0 (selects 0 true 0 0 ∷ []))
         ≡ Confirm }
+    ensures next_session { answer_of setup (in_session 12 (executes 0 true 0 0))
+        (taking (in_session 12 (selects_value 0 (pos 1) 0) ∷ []) (after_end 0 (selects 0 true 0 0 ∷ []))) ≡ Negative }
     ensures other_session_ended { answer_of setup (executes 0 true 0 0) (after_end 1 (selects 0 true 0 0 ∷ []))
         ≡ Ordered 1 }
 {}
@@ -157,6 +169,9 @@ pub fn orders_by_example()
     ensures elsewhere { outcome 1 true (controls_after_ended 1 (ended 1 true) (sent (after (sets 0 (pos 1) ∷ []))))
         ≡ Some (told 0 (pos 1) true) }
     ensures once { outcome 1 true (done 1 (sent (after (sets 0 (pos 1) ∷ [])))) ≡ None }
+    // Of two outstations each gets its own.
+    ensures own_outstation { next_of_each (controls_after_command two_outstations (operates 1 0 false)
+        (no_controls two_outstations)) ≡ None ∷ Some 1 ∷ [] }
     // The outstation is lost: those that wait fail, oldest first.
     ensures lost { loss (after (sets 0 (pos 1) ∷ sets 1 (pos 2) ∷ [])) ≡ Some (told 0 (pos 1) false) }
     ensures lost_next { loss (controls_after_lost 0 (after (sets 0 (pos 1) ∷ sets 1 (pos 2) ∷ [])))

@@ -15,7 +15,7 @@ ghost use Rattle.iec_command.specs.Example.{command as command_for};
 ghost use Rattle.gw_judge.specs.Example.{setup};
 ghost use Rattle.gw_answers.specs.Outgoing.{command_with};
 ghost use Rattle.gw_station.specs.declared.event.Said.TheVariants as said;
-ghost use Rattle.gw_station.specs.Answers.{told};
+ghost use Rattle.gw_station.specs.Answers.{held_with, told};
 ghost use Rattle.gw_station.specs.Example.{command, connected, cut, execute, header_alone, interrogated, interrogation, reading, reads, pushed_out, narrow, narrow_full, overflown, pumped, started, started_from, switched_off, switched_on, taking, tested, waiting};
 
 /// STARTDT, STOPDT and TESTFR.
@@ -188,6 +188,9 @@ pub fn told_by_example()
         ≡ command_with 7 false (command_for 6 1 5001 x) ∷ command_with 10 false (command_for 6 1 5001 x) ∷ [] }
     ensures failed { (x : Action) → told (command_for 6 1 5001 x) said.Failed
         ≡ command_with 7 true (command_for 6 1 5001 x) ∷ [] }
+    // An order holds two places until its outcome.
+    ensures held { map (λ x. held_with x 4) (said.Confirm ∷ said.Negative ∷ said.Ordered ∷ said.Done ∷ said.Failed ∷ [])
+        ≡ 4 ∷ 4 ∷ 6 ∷ 2 ∷ 2 ∷ [] }
     // A deactivation (8): 9 confirms it.
     ensures taken_back { (x : Action) → told (command_for 8 1 5001 x) said.Confirm
         ≡ command_with 9 false (command_for 8 1 5001 x) ∷ [] }

@@ -4,6 +4,7 @@ use Rattle.std.specs.Prelude.{ℕ, zero, suc, ◌-◌, ◌^◌, pos, true, List,
 use Rattle.gw_model.specs.declared.point.Report.{Report}
 use Rattle.gw_model.specs.declared.point.Stamp.TheVariants.{At}
 use Rattle.gw_entries.specs.Example.{station, outstation}
+use Rattle.gw_entries.specs.declared.control.Control.{Control}
 use Rattle.gw_map.specs.Settings.{Setup}
 use Rattle.gw_translate.specs.Example.{static_value, timed_event}
 use Rattle.gw_picture.specs.Example.{rows, analog_value}
@@ -11,6 +12,9 @@ use Rattle.dnp_points.specs.Objects.{binary_report}
 use Rattle.dnp_app.specs.Response.{Fragment}
 use Rattle.iec_apci.specs.declared.apdu.Apdu.TheVariants.{I, U}
 use Rattle.iec_apci.specs.declared.apdu.Signal.TheVariants.{StartAct}
+use Rattle.gw_control.specs.Example.{breaker, order, sent, sets, setup as with_controls, after as ordered}
+use Rattle.gw_model.specs.declared.control.Act.TheVariants.{Set}
+use Rattle.dnp_master.specs.Master.{Master, master_down, master_after_order, master_after_up}
 use Rattle.gw_station.specs.Example.{command, interrogation}
 use Rattle.gw_steps.specs.declared.step.Step.{Step}
 use Rattle.gw_steps.specs.declared.step.Step.TheVariants as steps
@@ -134,3 +138,23 @@ interrogated = started ++ fragment_of event ∷ interrogate 0 ∷ fragment_of re
 -- the last count of 64 bits
 abbrev pub last_count : ℕ
 last_count = 2 ^ 64 - 1
+
+-- ---- controls
+
+-- the master of an outstation that is down, and of one that is up
+abbrev pub down : Master
+down = master_down outstation.poll
+
+abbrev pub up : Master
+up = master_after_up 0 down
+
+-- a control at an outstation
+abbrev pub control_of : ℕ → Control
+control_of o = record breaker { outstation = o }
+
+-- client 0's order is under way, and two of client 1 wait
+abbrev pub three_orders : State
+three_orders = record (at_first with_controls) {
+  outstations = master_after_order 0 (order 1 4 (Set (pos 1)) true) up ∷ [];
+  controls = sent (ordered (sets 0 (pos 1) ∷ sets 1 (pos 2) ∷ sets 1 (pos 3) ∷ []));
+}

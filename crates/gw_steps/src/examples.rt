@@ -1,5 +1,5 @@
 //! Worked runs, computed by the step relation itself.
-ghost use Rattle.std.specs.Prelude.{◌≡◌, ◌-◌, ◌++◌, [], ◌∷◌, map, Some, None, true, false, Ok, Err};
+ghost use Rattle.std.specs.Prelude.{◌≡◌, ◌-◌, ◌++◌, [], ◌∷◌, map, pos, Some, None, true, false, Ok, Err};
 ghost use Rattle.gw_steps.specs.declared.step.Step.TheVariants as steps;
 ghost use Rattle.gw_steps.specs.declared.step.Reply.TheVariants as replies;
 ghost use Rattle.gw_steps.specs.declared.step.StepFault.TheVariants.{NoOutstation, NoClient, NotUp, AlreadyUp, Spent};
@@ -10,9 +10,13 @@ ghost use Rattle.dnp_app.specs.Requests.{read_octets, request};
 ghost use Rattle.iec_apci.specs.Buffer.{buffer};
 ghost use Rattle.iec_apci.specs.declared.apdu.Apdu.TheVariants.{S, U};
 ghost use Rattle.iec_apci.specs.declared.apdu.Signal.TheVariants.{StartAct};
+ghost use Rattle.gw_control.specs.Example.{setup as with_controls, told};
+ghost use Rattle.gw_control.specs.Orders.{nothing_outgoing};
+ghost use Rattle.gw_station.specs.declared.event.Said.TheVariants as saids;
+ghost use Rattle.gw_steps.specs.Controls.{is_control_up, said_of_outcome};
 ghost use Rattle.gw_steps.specs.State.{at_first};
-ghost use Rattle.gw_steps.specs.Steps.{needs, outcome};
-ghost use Rattle.gw_steps.specs.Example.{after_steps, ahead, beginning, connect, counting, event, fragment_of, integrity_answer, interrogate, interrogated, last_count, next_reading, operate, outstation_down, outstation_up, poll, pump, pumps, reached, reading, returned, setup, solicited, start, started, starting, starts, timed, two_clients};
+ghost use Rattle.gw_steps.specs.Steps.{needs, outcome, outcomes_of_loss, parts_after_loss};
+ghost use Rattle.gw_steps.specs.Example.{after_steps, ahead, beginning, connect, control_of, counting, down, event, fragment_of, integrity_answer, interrogate, interrogated, last_count, next_reading, operate, outstation_down, outstation_up, poll, pump, pumps, reached, reading, returned, setup, solicited, start, started, starting, starts, three_orders, timed, two_clients, up};
 
 /// Replies to single steps, with faults before them.
 pub fn replies_by_example()
@@ -169,4 +173,18 @@ pub fn interrogations_by_example()
     // Memory is wanted for the act alone that is accepted.
     ensures memory { (needs setup (reached started) (interrogate 0)).memory ≡ true }
     ensures no_memory { (needs setup (reached (started ++ interrogate 0 ∷ [])) (interrogate 1)).memory ≡ false }
+{}
+
+/// Commands for controls and their orders.
+pub fn controls_by_example()
+    // Of two outstations the second one is up.
+    ensures up { map (λ o. is_control_up (down ∷ up ∷ []) (Some (0, control_of o))) (0 ∷ 1 ∷ 2 ∷ [])
+        ≡ false ∷ true ∷ false ∷ [] }
+    // What a client is told of its order, done or failed.
+    ensures outcomes { map said_of_outcome (told 0 (pos 1) true ∷ told 0 (pos 1) false ∷ [])
+        ≡ saids.Done ∷ saids.Failed ∷ [] }
+    // The outstation is lost: the order under way fails, and then all that wait, the oldest first.
+    ensures lost { outcomes_of_loss three_orders 0
+        ≡ told 0 (pos 1) false ∷ told 1 (pos 2) false ∷ told 1 (pos 3) false ∷ [] }
+    ensures none_left { (parts_after_loss with_controls three_orders 0).controls.outgoing ≡ nothing_outgoing ∷ [] }
 {}
