@@ -6,9 +6,10 @@ import queue
 import select
 import socket
 import struct
-from contextlib import suppress
 import threading
 import time
+from collections import deque
+from contextlib import suppress
 
 HOST = "127.0.0.1"
 # The link address of the master.
@@ -39,6 +40,10 @@ CANCEL, CANCELLED, NEGATIVE = 8, 9, 0x40
 # I formats it acknowledges at once.
 WITNESS_EVENT = bytes.fromhex("20 01 17 01 09 01")
 WITNESSED, WITNESS_EVERY, WITNESS_W = 9001, 0.05, 4
+
+
+# How many octets an object of each type of process information has behind its address.
+ELEMENTS = {1: 1, 3: 1, 7: 5, 11: 3, 15: 5, 30: 8, 31: 8, 33: 12, 35: 10, 37: 12}
 
 
 class Difference(Exception):
@@ -256,6 +261,22 @@ def asdu(kind, cause, address, element):
     return bytes([kind, 1, cause, 0, 1, 0]) + address.to_bytes(3, "little") + bytes.fromhex(element)
 
 
+def each_alone(octets):
+    """The ASDUs of one object each that say the same: of process information, whatever went together. What comes back,
+    and what is of another type, has one object."""
+    kind, count, cause = octets[0], octets[1] & 0x7F, octets[2] & 0x3F
+    if kind not in ELEMENTS or cause > COUNTERS:
+        return [octets]
+    front, size, is_sequence = bytes([kind, 1]) + octets[2:6], ELEMENTS[kind], octets[1] & 0x80
+    same(f"the length of {spelled(octets)}", len(octets), 9 + count * size if is_sequence else 6 + count * (3 + size))
+    if not is_sequence:
+        return [front + octets[begin : begin + 3 + size] for begin in range(6, len(octets), 3 + size)]
+    first = int.from_bytes(octets[6:9], "little")
+    return [
+        front + (first + n).to_bytes(3, "little") + octets[9 + n * size : 9 + (n + 1) * size] for n in range(count)
+    ]
+
+
 def general(cause):
     return asdu(100, cause, 0, "14")
 
@@ -278,6 +299,8 @@ class Centre(Line):
         super().__init__(connection)
         self.address = f"{host}:{connection.getsockname()[1]}"
         self.sent, self.got, self.acknowledged, self.writing = 0, 0, 0, threading.Lock()
+        # What is left of the last I format, an ASDU for each object.
+        self.alone = deque()
 
     def send(self, text):
         self.write(bytes.fromhex(text))
@@ -292,6 +315,7 @@ class Centre(Line):
     def start(self):
         self.send(START)
         self.wants(START_CON)
+        self.alone.clear()
 
     def ask(self, octets, apart=None, got=None):
         """Sends an I format, which acknowledges all that came, or as much as this."""
@@ -304,7 +328,10 @@ class Centre(Line):
             self.write(bytes([0x68, 4, 1, 0]) + struct.pack("<H", self.got * 2 & 0xFFFF))
 
     def asdu(self):
-        """The ASDU of the next APDU, an I format with the next N(S), and an N(R) that can be."""
+        """An ASDU of the next object: of the last I format, or of the next APDU, which is one with the next N(S), and an
+        N(R) that can be."""
+        if self.alone:
+            return self.alone.popleft()
         apdu = self.apdu()
         sent, got = struct.unpack_from("<HH", apdu, 2)
         same(f"N(S) of {spelled(apdu)}", sent, self.got * 2 & 0xFFFF)
@@ -312,13 +339,18 @@ class Centre(Line):
             raise Difference(f"N(R) of {spelled(apdu)}: wanted {self.acknowledged} to {self.sent}")
         self.acknowledged = got // 2
         self.got += 1
-        return apdu[6:]
+        self.alone.extend(each_alone(apdu[6:]))
+        return self.alone.popleft()
 
     def takes(self, *asdus):
-        """The next I formats have these ASDUs and acknowledge all that was sent."""
+        """The next objects are those of these ASDUs, and their I formats acknowledge all that was sent."""
         for octets in asdus:
-            same_octets("an APDU", self.apdu(), i_format(self.got, self.sent, octets))
-            self.got += 1
+            if not self.alone:
+                apdu = self.apdu()
+                same_octets("an APDU", apdu[:6], i_format(self.got, self.sent, apdu[6:])[:6])
+                self.got += 1
+                self.alone.extend(each_alone(apdu[6:]))
+            same_octets("an object", self.alone.popleft(), octets)
 
     def interrogate(self, *rows, apart=None):
         """A station interrogation is answered with these rows."""
