@@ -127,11 +127,9 @@ ordered_more setup s (steps.Fragment f m) = omega (arith, by (is_accepting s f))
     by false = refl
 ordered_more setup s (steps.Poll o m wall) = omega (arith, polled s (latest s m) o wall (order_due s o))
 ordered_more setup s (steps.Tick m) =
+    let closed : List Bool = map (is_timed_out (latest s m)) s.clients in
     let v : Controls = controls_closed s (latest s m) in
-    omega (
-      arith,
-      all_ended_none 0 (ended_late s (latest s m)) v ∙ closes_none 0 (map (is_timed_out (latest s m)) s.clients) s.controls,
-    )
+    omega (arith, all_ended_none 0 (ended_late s (latest s m)) v ∙ closes_none 0 closed s.controls)
 ordered_more setup s (steps.ClientUp c m) = omega arith
 ordered_more setup s (steps.ClientDown c m) = omega arith
 ordered_more setup s (steps.Frame c apdu m) = framed setup s (latest s m) c apdu (slice_get s.clients c)

@@ -288,7 +288,8 @@ tick setup past m r fit e known linked =
     (λ c. bit_told now s.clients c
     ∙ (late_told setup past c now (client_at setup c past) fit
     (limits_at setup past c (client_at setup c past) known refl) (known.lives c) (linked c)
-    ∙ ap (λ (n : ℕ). is_so (is_late setup.station n) (connection setup c past)) (told_moment setup past s m known.tied)))
+    ∙ ap (λ (n : ℕ). is_so (is_late setup.station n) (connection setup c past))
+    (told_moment setup past s m known.tied)))
 
 -- ---- all steps
 

@@ -1,5 +1,5 @@
--- Worked runs of a client, at a station with k = 3, w = 2, t1 = 7 s, t2 = 3 s and t3 = 9 s, one outstation, and a control
--- by set-point commands at 5002.
+-- Worked runs of a client, at a station with k = 3, w = 2, t1 = 7 s, t2 = 3 s and t3 = 9 s, one outstation, and a
+-- control by set-point commands at 5002.
 use Rattle.std.specs.Prelude.{ℕ, List, [], ◌∷◌, ◌++◌, replicate, unwrap_or, Option, Err}
 use Rattle.std.proofs.Common.{lit≤}
 use Rattle.gw_map.specs.Settings.{Setup}

@@ -1,8 +1,8 @@
--- Faults: why a step isn't made, told by the history. NoOutstation or NoClient: there is none of its number. Else NotUp:
--- that one isn't up; or, of a step by which it comes up, AlreadyUp: it is. Else Spent: by the step one of the counts
--- would reach 2^64, of the steps without a fault, the news and losses in the log, the sessions, the orders. Where none
--- of these holds the step is made; only an APDU that begins a session, and the act of an interrogation that is
--- accepted, may be answered with Memory. Which commands are orders is what the controls told, as in a client's life.
+-- Faults: why a step isn't made, told by the history. NoOutstation or NoClient: there is none of its number. Else
+-- NotUp: that one isn't up; or, of a step by which it comes up, AlreadyUp: it is. Else Spent: by the step one of the
+-- counts would reach 2^64, of the steps without a fault, the news and losses in the log, the sessions, the orders.
+-- Where none of these holds the step is made; only an APDU that begins a session, and the act of an interrogation that
+-- is accepted, may be answered with Memory. Which commands are orders is what the controls told, as in a client's life.
 use Rattle.std.specs.Prelude.{◌≡◌, ℕ, ◌+◌, ◌^◌, Bool, true, false, not, ◌&&◌, ◌||◌, is_none, is_some, nat_le, IsTrue, List, [], ◌∷◌, ◌++◌, length, Option, Some, None, Result, Ok, Err}
 use Rattle.gw_model.specs.First.{when, first_of}
 use Rattle.gw_map.specs.Settings.{Setup}

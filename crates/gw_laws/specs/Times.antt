@@ -1,9 +1,9 @@
 -- Times (IEC 60870-5-104, 5.1 to 5.3 and 5.5). A tick closes a connection exactly where the oldest I format that isn't
--- acknowledged, or the TESTFR act that isn't confirmed, was put out t1 or longer ago, and nothing else. A pump gives the
--- first of this that is due, and nothing exactly where none is: the confirmation that has waited longest; TESTFR act,
--- where nothing came for t3 or longer and none is unconfirmed; an I format, where a session stands, something is in line
--- and fewer than k are not acknowledged; an S format, where w or more I formats that came are not acknowledged, or the
--- oldest since t2 or longer.
+-- acknowledged, or the TESTFR act that isn't confirmed, was put out t1 or longer ago. A pump gives the first of this
+-- that is due, and nothing exactly where none is: the confirmation that has waited longest; TESTFR act, where nothing
+-- came for t3 or longer and none is unconfirmed; an I format, where a session stands, something is in line and fewer
+-- than k are not acknowledged; an S format, where w or more I formats that came are not acknowledged, or the oldest
+-- since t2 or longer.
 use Rattle.std.specs.Prelude.{◌≡◌, ℕ, ◌+◌, Bool, false, ◌&&◌, ◌||◌, is_none, is_some, nat_le, nat_lt, List, [], ◌∷◌, ◌++◌, drop, length, map, slice_get, Option, Some, None, option_map, Result, Ok}
 use Rattle.gw_model.specs.First.{when, first_of}
 use Rattle.gw_entries.specs.Setup.{StationSetup}

@@ -8,7 +8,7 @@ ghost use Rattle.gw_steps.specs.declared.step.Step.TheVariants as steps;
 ghost use Rattle.gw_steps.specs.declared.step.StepFault.TheVariants.{AlreadyUp, NoClient, NoOutstation, NotUp};
 ghost use Rattle.gw_steps.specs.Example.{event, outstation_up};
 ghost use Rattle.gw_history.specs.Up.{is_outstation_up};
-ghost use Rattle.gw_laws.specs.Connection.{turns};
+ghost use Rattle.gw_laws.specs.Connection.{connection, is_so, turns};
 ghost use Rattle.gw_laws.specs.Closes.{acknowledged};
 ghost use Rattle.gw_laws.specs.Faults.{count, is_spent_of, news_added, one_step, orders_added, sessions_added, wants_memory};
 ghost use Rattle.gw_laws.specs.Signals.{given, waiting, wanted};
@@ -24,6 +24,9 @@ pub fn tests_by_example()
     ensures once { map (λ now. due setup now (reached tested)) (9500 ∷ 30000 ∷ []) ≡ None ∷ None ∷ [] }
     // Its t1 runs from when it was put out.
     ensures late { map (λ now. is_late setup.station now (reached tested)) (16499 ∷ 16500 ∷ []) ≡ false ∷ true ∷ [] }
+    // A tick closes that connection then, and no other.
+    ensures ticked { map (λ c. is_so (is_late setup.station 16500) (connection setup c (passed tested)))
+        (0 ∷ 1 ∷ 8 ∷ []) ≡ true ∷ false ∷ false ∷ [] }
     // TESTFR con ends it, and t3 runs anew.
     ensures confirmed { map (λ now. is_late setup.station now (reached (tested ++ comes (U TestCon) 16499 ∷ [])))
         (16500 ∷ 90000 ∷ []) ≡ false ∷ false ∷ [] }
@@ -67,9 +70,10 @@ pub fn pumps_by_example()
     ensures stopped { due setup 2000 (reached (connected ++ outstation_up ∷ steps.Fragment event 2000 ∷ [])) ≡ None }
     ensures idle { due setup 2000 (reached started) ≡ None }
     ensures news { due setup 2000 (reached (started ++ steps.Fragment event 2000 ∷ [])) ≡ Some ToInform }
-    // Where k aren't acknowledged an S format goes when it is due; once one is, the next I format.
+    // Where k aren't acknowledged an S format goes when it is due, by t2 or w; once one is, the next I format.
     ensures full { map (λ now. due setup now (reached full)) (2700 ∷ 5699 ∷ 5700 ∷ [])
         ≡ None ∷ None ∷ Some ToAcknowledge ∷ [] }
+    ensures many { due setup 2800 (reached (full ++ comes (I 2 0 reading) 2800 ∷ [])) ≡ Some ToAcknowledge }
     ensures room { due setup 5700 (reached (full ++ comes (S 1) 2800 ∷ [])) ≡ Some ToInform }
 {}
 
