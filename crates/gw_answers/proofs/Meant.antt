@@ -15,7 +15,7 @@ use Rattle.iec_asdu.specs.Asdu.{Asdu, asdu_meaning, monitor_types, layout_of, ob
 use Rattle.iec_asdu.specs.Spelling.{spelling, list_spelling}
 use Rattle.iec_asdu.specs.Packing.{is_in_sequence, taken_of, packed_spelling}
 use Rattle.iec_asdu.proofs.Carried.{taken_of_some, packed_short}
-use Rattle.iec_asdu.proofs.Meant.{meant, packed_means}
+use Rattle.iec_asdu.proofs.Meant.{meant, packed_is_meant}
 use Rattle.iec_command.specs.declared.command.Command.{Command}
 use Rattle.iec_command.specs.declared.command.Action.{Action}
 use Rattle.iec_command.specs.declared.command.Action.TheVariants as actions
@@ -155,7 +155,7 @@ packed_mean offset common cause originator x xs small all =
     ap (λ (m : Option Asdu). meant_by octets m (command_of octets))
     (packed_changed offset common cause originator x xs
     ∙ ap (option_map (λ (a : Asdu). record a { originator = originator }))
-    (packed_means offset common cause x xs small fit.0 fit.1))
+    (packed_is_meant offset common cause x xs small fit.0 fit.1))
 
 -- no more octets than an ASDU may have
 pub packed_octets_short : (offset : ℤ) (common cause originator : ℕ) (xs : List Observation)

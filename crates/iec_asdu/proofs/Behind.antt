@@ -1,7 +1,7 @@
 -- What a buffer has after a write, and after one write behind another.
 use Rattle.std.proofs.Common.{◌≡◌, ℕ, zero, suc, ◌+◌, ◌-◌, ◌<◌, ◌≤◌, List, [], ◌∷◌, ◌++◌, length, get_or, take, drop, refl, ap, sym, ◌∙◌, append_assoc, arith, length-append}
 use Rattle.std.specs.List.{flat_map}
-use Rattle.std.proofs.lemmas.List.{append-nil, drop-drop, take_more}
+use Rattle.std.proofs.lemmas.List.{append-nil, drop-drop, drop-take, drop_at, length-take-le, take-append-drop, take-take, take_more}
 use Rattle.std.proofs.lemmas.List.Concat.{flat_map-append}
 use Rattle.std.proofs.lemmas.Slice.{take-put_mid, drop-put_mid}
 use borrow.Rule.Slice.PartMut.{put_mid}
@@ -32,6 +32,36 @@ writes_both start middle end old between new first second v w =
   where
     behind : (o : List ℕ) → drop end o ≡ drop (length second) (drop middle o)
     behind o = ap (λ (n : ℕ). drop n o) w.ends ∙ sym (drop-drop (length second) middle o)
+
+-- after a write at the front, behind which something stands already
+pub writes_before : (middle end : ℕ) (old between new first second : List ℕ) → middle ≤ length old
+    → Writes middle end old between second → Writes 0 middle between new first
+    → Writes 0 end old new (first ++ second)
+writes_before middle end old between new first second room v w =
+    record {
+      ends = omega (arith, v.ends, w.ends, length-append first second);
+      front = sym (take-append-drop middle (take end new)) ∙ rw (in_front, behind) refl;
+      rest = beyond new ∙ (ap (λ (o : List ℕ). drop (length second) o) w.rest ∙ (sym (beyond between) ∙ v.rest));
+    }
+  where
+    apart : (o : List ℕ) → drop middle (take end o) ≡ take (length second) (drop middle o)
+    apart o = ap (λ (n : ℕ). drop middle (take n o)) v.ends ∙ drop-take middle (length second) o
+
+    beyond : (o : List ℕ) → drop end o ≡ drop (length second) (drop middle o)
+    beyond o = ap (λ (n : ℕ). drop n o) v.ends ∙ sym (drop-drop (length second) middle o)
+
+    in_front : take middle (take end new) ≡ first
+    in_front = take-take middle end new (omega (arith, v.ends)) ∙ w.front
+
+    stays : drop middle (take end between) ≡ second
+    stays =
+        ap (λ (o : List ℕ). drop middle o) v.front
+        ∙ drop_at (take middle old) second middle (length-take-le middle old room)
+
+    behind : drop middle (take end new) ≡ second
+    behind =
+        apart new
+        ∙ (ap (λ (o : List ℕ). take (length second) o) w.rest ∙ (sym (apart between) ∙ stays))
 
 -- one more of a list
 pub flat_map_next : {X : Type 0} (f : X → List ℕ) (xs : List X) (i : ℕ) (d : X) → i < length xs

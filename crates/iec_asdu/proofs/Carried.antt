@@ -1,21 +1,24 @@
 -- What one ASDU carries of a list: observations of one type, at consecutive addresses under SQ 1, and never too many.
-use Rattle.std.proofs.Common.{◌≡◌, if◌then◌else◌, ℕ, ℤ, zero, suc, ◌+◌, ◌*◌, ◌/◌, ◌<◌, ◌≤◌, ◌&&◌, min, nat_le, Bool, true, false, cond, List, [], ◌∷◌, ◌++◌, length, get_or, take, refl, sym, ap, subst, ◌∙◌, arith, is_some, length-append}
+use Rattle.std.proofs.Common.{◌≡◌, if◌then◌else◌, ℕ, ℤ, zero, suc, ◌+◌, ◌-◌, ◌*◌, ◌/◌, ◌<◌, ◌≤◌, ◌&&◌, min, nat_le, Bool, true, false, cond, List, [], ◌∷◌, ◌++◌, length, get_or, take, drop, Option, Some, None, refl, sym, ap, subst, ◌∙◌, arith, is_some, length-append}
+use Rattle.std.specs.Int.{w16, to_le_bytes}
+use Rattle.std.specs.Prelude.{IfSome}
 use Rattle.std.specs.List.{flat_map}
-use Rattle.std.proofs.Math.Nat.{le-div_iff_mul-le}
+use Rattle.std.proofs.Math.Nat.{le-div_iff_mul-le, mul-le-mul_left}
 use Rattle.std.proofs.lemmas.Bool.{eq-eqb}
 use Rattle.std.proofs.lemmas.Bool.Decides.{nat_tests}
-use Rattle.std.proofs.lemmas.List.{append-nil, length-take, length-take-le, take-take}
+use Rattle.std.proofs.lemmas.List.{append-nil, length-take, length-take-le, take-take, take_all}
 use Rattle.std.proofs.lemmas.Nat.{div_below}
 use Rattle.gw_model.specs.declared.observation.Observation.{Observation}
 use Rattle.gw_time.specs.Spelling.{tag_of}
+use Rattle.iec_asdu.specs.declared.types.ElementKind.{ElementKind}
 use Rattle.iec_asdu.specs.declared.types.MonitorType.{MonitorType}
-use Rattle.iec_asdu.specs.Types.{type_length}
-use Rattle.iec_asdu.specs.Spelling.{element_kind, identification_at, address_octets, information_octets, object_octets, objects_octets, header_octets, list_spelling, spelling}
+use Rattle.iec_asdu.specs.Types.{identification_by, type_length}
+use Rattle.iec_asdu.specs.Spelling.{element_kind, element_octets, tag_octets, identification_at, address_octets, information_octets, object_octets, objects_octets, qualifier_of, header_octets, list_spelling, spelling}
 use Rattle.iec_asdu.specs.Fitting.{AreAlike, AreConsecutive, FitsAsdu}
 use Rattle.iec_asdu.specs.Packing.{type_at, alike_count, consecutive_count, apart_count, in_sequence_count, is_in_sequence, room_in_sequence, taken_of, packed_spelling}
 use Rattle.iec_asdu.proofs.Lengths.{information_long}
 use Rattle.iec_asdu.proofs.Known.{same_type, type_short}
-use Rattle.iec_asdu.proofs.Counts.{alike_are, alike_within, alike_longest, consecutive_are, consecutive_within, consecutive_longest}
+use Rattle.iec_asdu.proofs.Counts.{nothing, alike_are, alike_within, alike_longest, consecutive_are, consecutive_within, consecutive_longest}
 
 -- ---- how many octets they have
 
@@ -206,12 +209,6 @@ taken_of_few offset (x ∷ xs) = (carried offset x xs).few
 pub taken_of_one : (offset : ℤ) (x : Observation) → taken_of offset (x ∷ []) ≡ 1
 taken_of_one offset x = omega (arith, (carried offset x []).some, (carried offset x []).within)
 
--- of a list of one that one, under SQ 0
-pub alone_taken : (offset : ℤ) (xs : List Observation) → length xs ≡ 1 → taken_of offset xs ≡ 1
-alone_taken offset (x ∷ []) one = taken_of_one offset x
-alone_taken offset [] one = absurd cc
-alone_taken offset (x ∷ y ∷ ys) one = absurd cc
-
 below_two : (m : ℕ) → m ≤ 1 → nat_le 2 m ≡ false
 below_two zero small = refl
 below_two (suc zero) small = refl
@@ -239,11 +236,62 @@ few_in_sequence offset x =
     (consecutive_few offset (identification_at offset x) x.address
     (room_in_sequence (type_length (type_at offset x))) x)
 
-pub alone_apart : (offset : ℤ) (xs : List Observation) → length xs ≡ 1 → is_in_sequence offset xs ≡ false
+-- one alone stands under SQ 0
+pub alone_apart : (offset : ℤ) (x : Observation) → is_in_sequence offset (x ∷ []) ≡ false
 unfolding is_in_sequence
-alone_apart offset [] one = absurd cc
-alone_apart offset (x ∷ y ∷ ys) one = absurd cc
-alone_apart offset (x ∷ []) one = and_no _ _ (few_in_sequence offset x)
+alone_apart offset x = and_no _ _ (few_in_sequence offset x)
+
+-- ---- behind the first one
+
+-- the first one and so many behind it fit under SQ 0
+pub room_behind : (size room behind : ℕ) → room ≡ 243 / (3 + size) → 1 ≤ room → behind ≤ room - 1
+    → 6 + (3 + size) + behind * (3 + size) ≤ 249
+room_behind size room behind is some few =
+    let fits : (behind + 1) * (3 + size) ≤ 243 =
+    (le-div_iff_mul-le {k = 3 + size} (omega arith)).0 (omega (arith, is, some, few)) in
+    omega (arith, fits)
+
+-- where so many of a size have room, there is room for one more behind fewer
+pub room_more : (start i n size : ℕ) → i < n → start + n * (3 + size) ≤ 249 → start + i * (3 + size) + (3 + size) ≤ 249
+room_more start i n size less room =
+    let more : (3 + size) * (i + 1) ≤ (3 + size) * n = mul-le-mul_left (3 + size) (omega arith) in
+    omega (arith, more, room)
+
+-- a list by its first one and those behind it
+pub by_first : (xs : List Observation) → 0 < length xs
+    → get_or xs 0 nothing ∷ take (length xs - 1) (drop 1 xs) ≡ xs
+by_first [] some = absurd (omega arith)
+by_first (x ∷ xs) some =
+    let less : suc (length xs) - 1 ≡ length xs = omega arith in
+    rw (less, take_all (length xs) xs (omega arith)) refl
+
+-- the first one and so many of a front
+pub taken_first : (k n : ℕ) (x : Observation) (xs front : List Observation) → front ≡ take k xs → n ≤ length front
+    → take (1 + n) (x ∷ xs) ≡ x ∷ take n front
+taken_first k n x xs front is few =
+    let more : 1 + n ≡ suc n = omega arith in
+    let long : length front ≡ min k (length xs) = ap (λ (o : List Observation). length o) is ∙ length-take k xs in
+    rw (more, is, take-take n k xs (omega (arith, few, long))) refl
+
+untimed_octets : (offset : ℤ) (y : Observation) → is_some (tag_of offset y.stamp) ≡ false
+    → information_octets offset y ≡ element_octets y
+untimed_octets offset y none = ap (λ (o : List ℕ). element_octets y ++ o) (no_tag (tag_of offset y.stamp) none)
+    ∙ append-nil (element_octets y)
+  where
+    no_tag : (tag : Option (List ℕ)) → is_some tag ≡ false → tag_octets tag ≡ []
+    no_tag None none = refl
+    no_tag (Some tag) none = absurd cc
+
+-- of one type without time elements alone are written
+pub elements_alone : (offset : ℤ) (x : Observation) (ys : List Observation)
+    → is_some (tag_of offset x.stamp) ≡ false → AreAlike offset (identification_at offset x) ys
+    → flat_map (information_octets offset) ys ≡ flat_map element_octets ys
+elements_alone offset x [] none alike = refl
+elements_alone offset x (y ∷ ys) none alike =
+    let same = same_type (element_kind y.value) (element_kind x.value) (is_some (tag_of offset y.stamp))
+    (is_some (tag_of offset x.stamp)) alike.0 in
+    let untimed : is_some (tag_of offset y.stamp) ≡ false = ap (λ (t : MonitorType). t.timed) same ∙ none in
+    rw (untimed_octets offset y untimed, elements_alone offset x ys none alike.1) refl
 
 -- with no more octets than fit behind the header
 pub packed_room : (offset : ℤ) (xs : List Observation) (sequence : Bool) (taken : ℕ) → 0 < length xs
@@ -304,6 +352,149 @@ packed_short offset common cause (x ∷ xs) =
       header_short offset sequence common cause taken,
       (carried offset x xs).room,
     )
+
+-- ---- what it begins with
+
+-- the header of so many
+pub header_first : (offset : ℤ) (sequence : Bool) (common cause : ℕ) (x : Observation) (xs : List Observation) (n : ℕ)
+    → 0 < n → n ≤ length (x ∷ xs)
+    → header_octets offset sequence common cause (take n (x ∷ xs))
+    ≡ identification_at offset x ∷ qualifier_of sequence n ∷ cause ∷ 0 ∷ to_le_bytes w16 common
+header_first offset sequence common cause x xs zero some within = absurd (omega arith)
+header_first offset sequence common cause x xs (suc n) some within = rw (length-take-le n xs (omega arith)) refl
+
+pub packed_header : (offset : ℤ) (common cause : ℕ) (x : Observation) (xs : List Observation)
+    → (rest : List ℕ) × (packed_spelling offset common cause (x ∷ xs)
+    ≡ identification_at offset x ∷ qualifier_of (is_in_sequence offset (x ∷ xs)) (taken_of offset (x ∷ xs))
+    ∷ cause ∷ 0 ∷ rest)
+unfolding packed_spelling list_spelling
+packed_header offset common cause x xs =
+    let sequence = is_in_sequence offset (x ∷ xs) in
+    let n = taken_of offset (x ∷ xs) in
+    let c = carried offset x xs in (
+      to_le_bytes w16 common ++ objects_octets offset sequence (take n (x ∷ xs)),
+      ap (λ (o : List ℕ). o ++ objects_octets offset sequence (take n (x ∷ xs)))
+          (header_first offset sequence common cause x xs n c.some c.within),
+    )
+
+-- a header, and the objects
+pub packed_whole : (offset : ℤ) (common cause : ℕ) (x : Observation) (xs : List Observation) (element : ElementKind)
+    (timed sequence : Bool) (n : ℕ) → element ≡ element_kind x.value → timed ≡ is_some (tag_of offset x.stamp)
+    → sequence ≡ is_in_sequence offset (x ∷ xs) → n ≡ taken_of offset (x ∷ xs)
+    → (identification_by element timed ∷ qualifier_of sequence n ∷ cause ∷ 0 ∷ to_le_bytes w16 common)
+    ++ objects_octets offset (is_in_sequence offset (x ∷ xs)) (take (taken_of offset (x ∷ xs)) (x ∷ xs))
+    ≡ packed_spelling offset common cause (x ∷ xs)
+packed_whole offset common cause x xs element timed sequence n kind tagged chosen taken =
+    let c = carried offset x xs in
+    rw (kind, tagged, chosen, taken) (
+    ap (λ (o : List ℕ). o ++ objects_octets offset (is_in_sequence offset (x ∷ xs))
+    (take (taken_of offset (x ∷ xs)) (x ∷ xs)))
+    (sym (header_first offset (is_in_sequence offset (x ∷ xs)) common cause x xs (taken_of offset (x ∷ xs)) c.some
+    c.within))
+    ∙ packed_parts offset common cause (x ∷ xs) _ _ refl refl
+    )
+
+-- ---- under each SQ
+
+-- under SQ 0
+pub apart_octets : (offset : ℤ) (x : Observation) (xs : List Observation) (n : ℕ)
+    → is_in_sequence offset (x ∷ xs) ≡ false → n ≡ apart_count offset (x ∷ xs)
+    → (n ≡ taken_of offset (x ∷ xs))
+    × (flat_map (object_octets offset) (take n (x ∷ xs))
+    ≡ objects_octets offset (is_in_sequence offset (x ∷ xs)) (take (taken_of offset (x ∷ xs)) (x ∷ xs)))
+unfolding taken_of
+apart_octets offset x xs n chosen is = (rw chosen is, rw (chosen, is) refl)
+
+-- under SQ 1 the first one and so many behind it
+pub record InSequence (offset : ℤ) (x : Observation) (xs : List Observation) (behind : ℕ) : Type 0 where
+  pub taken : behind + 1 ≡ taken_of offset (x ∷ xs)
+  pub within : behind ≤ length xs
+  pub list : x ∷ take behind xs ≡ take (taken_of offset (x ∷ xs)) (x ∷ xs)
+  pub octets : address_octets x.address ++ flat_map element_octets (x ∷ take behind xs)
+      ≡ objects_octets offset (is_in_sequence offset (x ∷ xs)) (take (taken_of offset (x ∷ xs)) (x ∷ xs))
+  pub room : 9 + length (flat_map element_octets (x ∷ take behind xs)) ≤ 249
+
+chosen_taken : (offset : ℤ) (xs : List Observation) → is_in_sequence offset xs ≡ true
+    → taken_of offset xs ≡ in_sequence_count offset xs
+unfolding taken_of
+chosen_taken offset xs chosen = rw chosen refl
+
+pub in_sequence : (offset : ℤ) (x : Observation) (xs : List Observation) (sequence : Option ℕ) (behind : ℕ)
+    → sequence ≡ Some behind → is_some sequence ≡ is_in_sequence offset (x ∷ xs)
+    → IfSome sequence (λ n. n + 1 ≡ in_sequence_count offset (x ∷ xs)) → InSequence offset x xs behind
+in_sequence offset x xs sequence behind is told counted =
+    let c = carried offset x xs in
+    let chosen : is_in_sequence offset (x ∷ xs) ≡ true = sym told ∙ ap (λ (o : Option ℕ). is_some o) is in
+    let count : behind + 1 ≡ in_sequence_count offset (x ∷ xs) = rw is at counted in
+    let taken : behind + 1 ≡ taken_of offset (x ∷ xs) = count ∙ sym (chosen_taken offset (x ∷ xs) chosen) in
+    let one : taken_of offset (x ∷ xs) ≡ suc behind = omega (arith, taken) in
+    let list : x ∷ take behind xs ≡ take (taken_of offset (x ∷ xs)) (x ∷ xs) = rw one refl in
+    let alike : AreAlike offset (identification_at offset x) (x ∷ take behind xs) =
+    subst (AreAlike offset (identification_at offset x)) (sym list) c.alike in
+    let plain : flat_map (information_octets offset) (x ∷ take behind xs)
+    ≡ flat_map element_octets (x ∷ take behind xs) =
+    elements_alone offset x (x ∷ take behind xs) (c.untimed chosen) alike in
+    let octets : address_octets x.address ++ flat_map element_octets (x ∷ take behind xs)
+    ≡ objects_octets offset (is_in_sequence offset (x ∷ xs)) (take (taken_of offset (x ∷ xs)) (x ∷ xs)) =
+    rw (chosen, one) (ap (λ (o : List ℕ). address_octets x.address ++ o) (sym plain)) in
+    let room : 6 + length (objects_octets offset (is_in_sequence offset (x ∷ xs))
+    (take (taken_of offset (x ∷ xs)) (x ∷ xs))) ≤ 249 = c.room in
+    record {
+      taken = taken;
+      within = omega (arith, one, c.within);
+      list = list;
+      octets = octets;
+      room = omega (
+        arith,
+        room,
+        ap (λ (o : List ℕ). length o) octets,
+        length-append (address_octets x.address) (flat_map element_octets (x ∷ take behind xs)),
+      );
+    }
+
+-- ---- what it hangs on
+
+apart_front : (offset : ℤ) (xs : List Observation) → apart_count offset (take 127 xs) ≡ apart_count offset xs
+unfolding apart_count
+apart_front offset [] = refl
+apart_front offset (x ∷ xs) =
+    let size = size_at offset x in
+    let few : 243 / (3 + size) ≤ 127 = omega (
+      arith,
+      div_below 243 (3 + size) 127 (omega arith)
+          (omega (arith, (type_short (element_kind x.value) (is_some (tag_of offset x.stamp))).0)),
+    ) in
+    ap (λ (o : List Observation). alike_count offset (identification_at offset x) o)
+    (take-take (243 / (3 + size)) 127 (x ∷ xs) few)
+
+sequence_front : (offset : ℤ) (xs : List Observation)
+    → in_sequence_count offset (take 127 xs) ≡ in_sequence_count offset xs
+unfolding in_sequence_count
+sequence_front offset [] = refl
+sequence_front offset (x ∷ xs) =
+    let room = min 127 (240 / size_at offset x) in
+    ap (λ (o : List Observation). cond (is_some (tag_of offset x.stamp)) 0
+    (consecutive_count offset (identification_at offset x) x.address o))
+    (take-take room 127 (x ∷ xs) (omega arith))
+
+chosen_front : (offset : ℤ) (xs : List Observation) → is_in_sequence offset (take 127 xs) ≡ is_in_sequence offset xs
+unfolding is_in_sequence
+chosen_front offset xs = rw (apart_front offset xs, sequence_front offset xs) refl
+
+-- on the first 127 at most
+pub taken_of_front : (offset : ℤ) (xs : List Observation) → taken_of offset (take 127 xs) ≡ taken_of offset xs
+unfolding taken_of
+taken_of_front offset xs = rw (chosen_front offset xs, apart_front offset xs, sequence_front offset xs) refl
+
+pub packed_spelling_front : (offset : ℤ) (common cause : ℕ) (xs : List Observation)
+    → packed_spelling offset common cause (take 127 xs) ≡ packed_spelling offset common cause xs
+unfolding packed_spelling
+packed_spelling_front offset common cause xs =
+    rw (
+      chosen_front offset xs,
+      taken_of_front offset xs,
+      take-take (taken_of offset xs) 127 xs (taken_of_few offset xs),
+    ) refl
 
 -- ---- it is the longest prefix that fits
 

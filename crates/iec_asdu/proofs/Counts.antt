@@ -1,5 +1,5 @@
 -- The prefixes of a list that an ASDU carries: what is counted at each place, and what holds of what is counted.
-use Rattle.std.proofs.Common.{◌≡◌, ◌≢◌, ℕ, ℤ, zero, suc, ◌+◌, ◌/◌, ◌<◌, ◌≤◌, ◌==◌, ◌&&◌, min, Bool, true, false, cond, List, [], ◌∷◌, length, get_or, take, drop, refl, sym, ap, ◌∙◌, arith, is_some}
+use Rattle.std.proofs.Common.{◌≡◌, ◌≢◌, ℕ, ℤ, zero, suc, ◌+◌, ◌-◌, ◌<◌, ◌≤◌, ◌==◌, ◌&&◌, Bool, true, false, cond, List, [], ◌∷◌, length, get_or, take, drop, refl, sym, ap, ◌∙◌, arith, is_some}
 use Rattle.std.proofs.lemmas.Bool.{eqb-true, eq-eqb, ne_eqb}
 use Rattle.std.proofs.lemmas.List.{at_drop_more, drop_all}
 use Rattle.gw_model.specs.declared.point.Stamp.TheVariants.{Untimed}
@@ -7,10 +7,10 @@ use Rattle.gw_model.specs.declared.observation.Value.TheVariants.{Single}
 use Rattle.gw_model.specs.declared.observation.Observation.{Observation}
 use Rattle.gw_time.specs.Spelling.{tag_of}
 use Rattle.iec_asdu.specs.declared.types.MonitorType.{MonitorType}
-use Rattle.iec_asdu.specs.Types.{type_length}
+use Rattle.iec_asdu.specs.Types.{identification_by, type_length}
 use Rattle.iec_asdu.specs.Spelling.{identification_at}
 use Rattle.iec_asdu.specs.Fitting.{AreAlike, AreConsecutive}
-use Rattle.iec_asdu.specs.Packing.{type_at, room_in_sequence, alike_count, consecutive_count, apart_count, in_sequence_count}
+use Rattle.iec_asdu.specs.Packing.{type_at, room_apart, room_in_sequence, alike_count, consecutive_count, apart_count, in_sequence_count}
 
 -- ---- place by place
 
@@ -58,36 +58,35 @@ unfolding consecutive_count
 consecutive_next offset identification address xs i d inside =
     at_drop_more (consecutive_count offset identification address) xs i d inside
 
-pub consecutive_stops : (offset : ℤ) (identification address found : ℕ) (xs : List Observation) (i : ℕ)
-    (d : Observation) → i < length xs → found ≡ identification_at offset (get_or xs i d) → found ≢ identification
-    → consecutive_count offset identification address (drop i xs) ≡ 0
-consecutive_stops offset identification address found xs i d inside is other =
-    rw (consecutive_next offset identification address xs i d inside, ← is, ne_eqb found identification other) refl
+and_false : (b c : Bool) → c ≡ false → (b && c) ≡ false
+and_false false c off = refl
+and_false true c off = off
 
--- the next one is of the type, at another address
-pub consecutive_leaves : (offset : ℤ) (identification address found place : ℕ) (xs : List Observation) (i : ℕ)
-    (d : Observation) → i < length xs → found ≡ identification_at offset (get_or xs i d) → found ≡ identification
-    → place ≡ (get_or xs i d).address → place ≢ address
-    → consecutive_count offset identification address (drop i xs) ≡ 0
-consecutive_leaves offset identification address found place xs i d inside is same at other =
-    rw (
-      consecutive_next offset identification address xs i d inside,
-      ← is,
-      eq-eqb found identification same,
-      ← at,
-      ne_eqb place address other,
-    ) refl
+-- the next one is of another type
+pub consecutive_stops : (offset : ℤ) (identification address : ℕ) (alike : Bool) (xs : List Observation) (i : ℕ)
+    (d : Observation) → i < length xs → alike ≡ (identification_at offset (get_or xs i d) == identification)
+    → alike ≡ false → consecutive_count offset identification address (drop i xs) ≡ 0
+consecutive_stops offset identification address alike xs i d inside is other =
+    rw (consecutive_next offset identification address xs i d inside, ← is, other) refl
 
-pub consecutive_goes_on : (offset : ℤ) (identification address found place : ℕ) (xs : List Observation) (i : ℕ)
-    (d : Observation) → i < length xs → found ≡ identification_at offset (get_or xs i d) → found ≡ identification
-    → place ≡ (get_or xs i d).address → place ≡ address
+-- the next one stands at another address
+pub consecutive_leaves : (offset : ℤ) (identification address place : ℕ) (xs : List Observation) (i : ℕ)
+    (d : Observation) → i < length xs → place ≡ (get_or xs i d).address → place ≢ address
+    → consecutive_count offset identification address (drop i xs) ≡ 0
+consecutive_leaves offset identification address place xs i d inside at other =
+    let elsewhere : ((get_or xs i d).address == address) ≡ false = rw (← at) (ne_eqb place address other) in
+    rw (consecutive_next offset identification address xs i d inside, and_false _ _ elsewhere) refl
+
+pub consecutive_goes_on : (offset : ℤ) (identification address place : ℕ) (alike : Bool) (xs : List Observation)
+    (i : ℕ) (d : Observation) → i < length xs → place ≡ (get_or xs i d).address → place ≡ address
+    → alike ≡ (identification_at offset (get_or xs i d) == identification) → alike ≡ true
     → consecutive_count offset identification address (drop i xs)
     ≡ suc (consecutive_count offset identification (address + 1) (drop (i + 1) xs))
-consecutive_goes_on offset identification address found place xs i d inside is same at here =
+consecutive_goes_on offset identification address place alike xs i d inside at here is same =
     rw (
       consecutive_next offset identification address xs i d inside,
       ← is,
-      eq-eqb found identification same,
+      same,
       ← at,
       eq-eqb place address here,
     ) refl
@@ -98,46 +97,59 @@ unfolding consecutive_count
 consecutive_none offset identification address xs i past =
     ap (consecutive_count offset identification address) (drop_all i xs past)
 
--- ---- of a list that has a first one
+-- ---- of a list by its first one
 
-pub apart_counted : (offset : ℤ) (xs within : List Observation) (d : Observation) (kind : MonitorType)
-    (octets identification count : ℕ) → 0 < length xs → kind ≡ type_at offset (get_or xs 0 d)
-    → octets ≡ type_length kind → within ≡ take (243 / (3 + octets)) xs
-    → identification ≡ identification_at offset (get_or xs 0 d)
-    → count ≡ alike_count offset identification within → count ≡ apart_count offset xs
-unfolding apart_count
-apart_counted offset [] within d kind octets identification count some of long front named is = absurd (omega arith)
-apart_counted offset (x ∷ xs) within d kind octets identification count some of long front named is =
-    rw (is, named, front, long, of) refl
+pub first_named : (offset : ℤ) (x : Observation) (kind : MonitorType) → kind ≡ type_at offset x
+    → identification_by kind.element kind.timed ≡ identification_at offset x
+first_named offset x kind of = ap (λ (k : MonitorType). identification_by k.element k.timed) of
 
-pub timed_counted : (offset : ℤ) (xs : List Observation) (d : Observation) (kind : MonitorType) → 0 < length xs
-    → kind ≡ type_at offset (get_or xs 0 d) → kind.timed ≡ true → 0 ≡ in_sequence_count offset xs
-unfolding in_sequence_count
-timed_counted offset [] d kind some of timed = absurd (omega arith)
-timed_counted offset (x ∷ xs) d kind some of timed =
-    let tagged : is_some (tag_of offset x.stamp) ≡ true = sym (ap (λ (k : MonitorType). k.timed) of) ∙ timed in
-    rw tagged refl
+-- under SQ 0 the first one, and those behind it that are of its type, and fit
+pub apart_counted : (offset : ℤ) (x : Observation) (xs within : List Observation) (kind : MonitorType)
+    (room behind : ℕ) → kind ≡ type_at offset x → room ≡ room_apart (type_length kind) → 1 ≤ room
+    → within ≡ take (room - 1) xs
+    → behind ≡ alike_count offset (identification_by kind.element kind.timed) within
+    → 1 + behind ≡ apart_count offset (x ∷ xs)
+unfolding apart_count alike_count
+apart_counted offset x xs within kind zero behind of long some front is = absurd (omega arith)
+apart_counted offset x xs within kind (suc k) behind of long some front is =
+    let same : room_apart (type_length (type_at offset x)) ≡ suc k =
+    sym (long ∙ ap (λ (t : MonitorType). room_apart (type_length t)) of) in
+    let less : suc k - 1 ≡ k = omega arith in
+    let first = identification_at offset x in
+    let counted : behind ≡ alike_count offset first (take k xs) =
+    is ∙ rw (first_named offset x kind of, front, less) refl in
+    rw (same, eq-eqb first first refl) (omega (arith, counted))
 
-pub sequence_counted : (offset : ℤ) (xs within : List Observation) (d : Observation) (kind : MonitorType)
-    (octets room identification count : ℕ) → 0 < length xs → kind ≡ type_at offset (get_or xs 0 d)
-    → kind.timed ≡ false → octets ≡ type_length kind → room ≡ min 127 (240 / octets) → within ≡ take room xs
-    → identification ≡ identification_at offset (get_or xs 0 d)
-    → count ≡ consecutive_count offset identification (get_or xs 0 d).address within
-    → count ≡ in_sequence_count offset xs
-unfolding in_sequence_count
-sequence_counted offset [] within d kind octets room identification count some of plain long most front named is =
-    absurd (omega arith)
-sequence_counted offset (x ∷ xs) within d kind octets room identification count some of plain long most front named
-    is =
-    let untagged : is_some (tag_of offset x.stamp) ≡ false = sym (ap (λ (k : MonitorType). k.timed) of) ∙ plain in
-    let counted : count ≡ consecutive_count offset (identification_at offset x) x.address
-    (take (room_in_sequence (type_length (type_at offset x))) (x ∷ xs)) =
-    rw (is, named, front, most, long, of) refl in
-    counted ∙ sym (chosen (is_some (tag_of offset x.stamp)) untagged _)
+-- under SQ 1 the first one, and those behind it that go on from it, and fit
+pub sequence_counted : (offset : ℤ) (x : Observation) (xs within : List Observation) (kind : MonitorType)
+    (room behind : ℕ) → kind ≡ type_at offset x → kind.timed ≡ false → room ≡ room_in_sequence (type_length kind)
+    → 1 ≤ room → within ≡ take (room - 1) xs
+    → behind ≡ consecutive_count offset (identification_by kind.element kind.timed) (x.address + 1) within
+    → behind + 1 ≡ in_sequence_count offset (x ∷ xs)
+unfolding in_sequence_count consecutive_count
+sequence_counted offset x xs within kind zero behind of plain long some front is = absurd (omega arith)
+sequence_counted offset x xs within kind (suc k) behind of plain long some front is =
+    let same : room_in_sequence (type_length (type_at offset x)) ≡ suc k =
+    sym (long ∙ ap (λ (t : MonitorType). room_in_sequence (type_length t)) of) in
+    let untagged : is_some (tag_of offset x.stamp) ≡ false = sym (ap (λ (t : MonitorType). t.timed) of) ∙ plain in
+    let less : suc k - 1 ≡ k = omega arith in
+    let first = identification_at offset x in
+    let counted : behind ≡ consecutive_count offset first (x.address + 1) (take k xs) =
+    is ∙ rw (first_named offset x kind of, front, less) refl in
+    rw (same, eq-eqb first first refl, eq-eqb x.address x.address refl)
+    (chosen (is_some (tag_of offset x.stamp)) untagged _ (omega (arith, counted)))
   where
-    chosen : (b : Bool) → b ≡ false → (n : ℕ) → cond b 0 n ≡ n
-    chosen false e n = refl
-    chosen true e n = absurd cc
+    chosen : (b : Bool) → b ≡ false → (n : ℕ) → behind + 1 ≡ n → behind + 1 ≡ cond b 0 n
+    chosen false e n is = is
+    chosen true e n is = absurd cc
+
+-- with time none go under SQ 1
+pub timed_counted : (offset : ℤ) (x : Observation) (xs : List Observation) (kind : MonitorType)
+    → kind ≡ type_at offset x → kind.timed ≡ true → in_sequence_count offset (x ∷ xs) ≡ 0
+unfolding in_sequence_count
+timed_counted offset x xs kind of timed =
+    let tagged : is_some (tag_of offset x.stamp) ≡ true = sym (ap (λ (t : MonitorType). t.timed) of) ∙ timed in
+    rw tagged refl
 
 -- ---- what holds of them
 
@@ -166,6 +178,40 @@ unfolding alike_count
 alike_within offset identification [] = omega arith
 alike_within offset identification (x ∷ xs) =
     count_within (identification_at offset x == identification) _ _ (alike_within offset identification xs)
+
+-- one of another type ends it
+pub alike_ends : (offset : ℤ) (identification : ℕ) (xs : List Observation) (i : ℕ) (d : Observation) → i < length xs
+    → (identification_at offset (get_or xs i d) == identification) ≡ false → alike_count offset identification xs ≤ i
+unfolding alike_count
+alike_ends offset identification [] i d inside other = absurd (omega arith)
+alike_ends offset identification (x ∷ xs) zero d inside other = rw other (omega arith)
+alike_ends offset identification (x ∷ xs) (suc i) d inside other =
+    count_within (identification_at offset x == identification) _ _
+    (alike_ends offset identification xs i d (omega arith) other)
+
+counts_fewer : (b : Bool) (n m : ℕ) → n ≤ m → cond b (suc n) 0 ≤ cond b (suc m) 0
+counts_fewer true n m le = omega arith
+counts_fewer false n m le = omega arith
+
+-- of fewer no more
+pub alike_fewer : (offset : ℤ) (identification : ℕ) (k : ℕ) (xs : List Observation)
+    → alike_count offset identification (take k xs) ≤ alike_count offset identification xs
+unfolding alike_count
+alike_fewer offset identification zero xs = omega arith
+alike_fewer offset identification (suc k) [] = omega arith
+alike_fewer offset identification (suc k) (x ∷ xs) =
+    counts_fewer (identification_at offset x == identification) _ _ (alike_fewer offset identification k xs)
+
+-- one more that is of the type
+pub alike_more : (offset : ℤ) (identification : ℕ) (xs : List Observation) (n : ℕ) (d : Observation)
+    → n < length xs → AreAlike offset identification (take n xs)
+    → (identification_at offset (get_or xs n d) == identification) ≡ true
+    → AreAlike offset identification (take (suc n) xs)
+alike_more offset identification [] n d inside alike is = absurd (omega arith)
+alike_more offset identification (x ∷ xs) zero d inside alike is =
+    (eqb-true (identification_at offset x) identification is, tt)
+alike_more offset identification (x ∷ xs) (suc n) d inside alike is =
+    (alike.0, alike_more offset identification xs n d (omega arith) alike.1 is)
 
 -- both of it
 abbrev InRow : ℤ → ℕ → ℕ → List Observation → Type 0

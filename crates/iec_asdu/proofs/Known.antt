@@ -1,5 +1,8 @@
 -- What a type identification tells: the element, and whether a time tag stands behind it.
-use Rattle.std.proofs.Common.{◌≡◌, ℕ, ℤ, ◌<◌, ◌≤◌, ◌==◌, Bool, true, false, Some, if◌then◌else◌, refl, sym, ap, ◌∙◌, arith}
+use Rattle.std.proofs.Common.{◌≡◌, ◌≢◌, ℕ, ℤ, ◌<◌, ◌≤◌, ◌==◌, Bool, true, false, Some, if◌then◌else◌, not, refl, sym, ap, ◌∙◌, arith, rules}
+use denote.Enum.Bare.{sameb, differs_true, differs_false}
+use mathlib.Core.Bool.{beq}
+use Rattle.iec_asdu.specs.contracts.types.ElementKind.{the_type}
 use Rattle.iec_asdu.specs.declared.types.ElementKind.{ElementKind}
 use Rattle.iec_asdu.specs.declared.types.ElementKind.TheVariants.{SinglePoint, DoublePoint, BitString, ScaledValue, CounterReading}
 use Rattle.iec_asdu.specs.declared.types.MonitorType.{MonitorType}
@@ -63,3 +66,39 @@ type_short ScaledValue false = (omega arith, omega arith)
 type_short ScaledValue true = (omega arith, omega arith)
 type_short CounterReading false = (omega arith, omega arith)
 type_short CounterReading true = (omega arith, omega arith)
+
+-- a type by its parts
+pub typed_as : (kind : MonitorType) (element : ElementKind) (timed : Bool) → element ≡ kind.element
+    → timed ≡ kind.timed → kind ≡ typed element timed
+typed_as kind element timed same both = rw (same, both) refl
+
+-- another element, or time on one side alone, is another type
+pub other_element : (kind : MonitorType) (element : ElementKind) (timed : Bool) → element ≢ kind.element
+    → identification_by element timed ≢ identification_by kind.element kind.timed
+other_element kind element timed other same =
+    other (ap (λ (t : MonitorType). t.element) (same_type element kind.element timed kind.timed same))
+
+pub other_time : (kind : MonitorType) (element : ElementKind) (timed : Bool) → timed ≢ kind.timed
+    → identification_by element timed ≢ identification_by kind.element kind.timed
+other_time kind element timed other same =
+    other (ap (λ (t : MonitorType). t.timed) (same_type element kind.element timed kind.timed same))
+
+-- ---- what a comparison tells
+
+pub element_is : (a b : ElementKind) → not (sameb the_type a b) ≡ false → a ≡ b
+element_is a b same = differs_false the_type (search rules) a b same
+
+pub element_is_not : (a b : ElementKind) → not (sameb the_type a b) ≡ true → a ≢ b
+element_is_not a b other = differs_true the_type a b other
+
+pub timed_is : (a b : Bool) → not (beq a b) ≡ false → a ≡ b
+timed_is true true e = refl
+timed_is false false e = refl
+timed_is true false e = absurd cc
+timed_is false true e = absurd cc
+
+pub timed_is_not : (a b : Bool) → not (beq a b) ≡ true → a ≢ b
+timed_is_not true true e same = absurd cc
+timed_is_not false false e same = absurd cc
+timed_is_not true false e same = absurd cc
+timed_is_not false true e same = absurd cc

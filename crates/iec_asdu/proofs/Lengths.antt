@@ -1,5 +1,5 @@
 -- How long an element with its time tag is, and the ASDU of one observation.
-use Rattle.std.proofs.Common.{ℕ, ℤ, pos, negsuc, ◌≤◌, Bool, true, false, ◌&&◌, nat_lt, nat_le, List, length, Option, Some, None, is_some, refl, arith, length-append, ◌≡◌}
+use Rattle.std.proofs.Common.{ℕ, ℤ, pos, negsuc, ◌+◌, ◌≤◌, Bool, true, false, ◌&&◌, nat_lt, nat_le, List, length, Option, Some, None, is_some, refl, arith, length-append, ◌≡◌}
 use Rattle.gw_model.specs.declared.point.Stamp.{Stamp}
 use Rattle.gw_model.specs.declared.point.Stamp.TheVariants.{Untimed, At, Doubtful}
 use Rattle.gw_model.specs.declared.observation.Value.{Value}
@@ -8,8 +8,9 @@ use Rattle.gw_model.specs.declared.observation.Quality.{Quality}
 use Rattle.gw_model.specs.declared.observation.Observation.{Observation}
 use Rattle.gw_time.specs.Window.{shown_at}
 use Rattle.gw_time.specs.Spelling.{numbers_at, octets_of, tag_of, tag_showing}
+use Rattle.iec_asdu.specs.declared.types.MonitorType.{MonitorType}
 use Rattle.iec_asdu.specs.Types.{element_length, tag_length, type_length}
-use Rattle.iec_asdu.specs.Spelling.{element_kind, element_spelling, tag_octets, information_octets, spelling}
+use Rattle.iec_asdu.specs.Spelling.{element_kind, element_spelling, tag_octets, information_octets, object_octets_with, spelling}
 use Rattle.iec_asdu.specs.Packing.{type_at}
 use Rattle.iec_asdu.proofs.Known.{type_short}
 
@@ -48,6 +49,16 @@ information_long offset x =
       length-append (element_spelling x.value x.quality) (tag_octets (tag_of offset x.stamp)),
       element_long x.value x.quality,
       tag_long offset x.stamp,
+    )
+
+-- an object of a type, with its tag, has an address more, and at most 15 octets
+pub object_long : (offset : ℤ) (x : Observation) (tag : Option (List ℕ)) (kind : MonitorType)
+    → tag ≡ tag_of offset x.stamp → kind ≡ type_at offset x
+    → (length (object_octets_with tag x) ≡ 3 + type_length kind) × (type_length kind ≤ 12)
+object_long offset x tag kind is of =
+    rw (is, of) (
+      omega (arith, information_long offset x),
+      (type_short (element_kind x.value) (is_some (tag_of offset x.stamp))).1,
     )
 
 -- the ASDU of an observation has at most 21 octets

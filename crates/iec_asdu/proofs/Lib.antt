@@ -7,4 +7,4 @@ pub mod Behind
 pub mod Counts
 pub mod Known
 pub mod Carried
-pub mod Front
+pub mod Sequence

@@ -206,14 +206,20 @@ meant offset common cause x small width fit =
     (All-cons (λ y. HasWidth y.value) x [] width (All-nil (λ y. HasWidth y.value)))
     (All-cons (IsFit offset) x [] fit (All-nil (IsFit offset)))
 
--- what is spelled for a list means the observations that are taken, by the type of the first one
-pub packed_means : (offset : ℤ) (common cause : ℕ) (x : Observation) (xs : List Observation) → common < 65536
-    → All (λ y. HasWidth y.value) (take (taken_of offset (x ∷ xs)) (x ∷ xs))
-    → All (IsFit offset) (take (taken_of offset (x ∷ xs)) (x ∷ xs))
+-- what is spelled for a list means the observations that are taken
+pub packed_is_meant : (offset : ℤ) (common cause : ℕ) (x : Observation) (xs : List Observation) → common < 65536
+    → let taken = take (taken_of offset (x ∷ xs)) (x ∷ xs) in
+    All (λ y. HasWidth y.value) taken → All (IsFit offset) taken
     → asdu_meaning (monitor_types offset) (packed_spelling offset common cause (x ∷ xs))
-    ≡ Some (record (asdu_of offset common cause x []) { observations = take (taken_of offset (x ∷ xs)) (x ∷ xs) })
+    ≡ Some (record {
+      identification = identification_at offset x;
+      cause = cause;
+      originator = 0;
+      common_address = common;
+      observations = taken;
+    })
 unfolding packed_spelling
-packed_means offset common cause x xs small widths fits =
+packed_is_meant offset common cause x xs small widths fits =
     go (taken_of offset (x ∷ xs)) c.some c.few c.alike c.consecutive widths fits
   where
     sequence : Bool
@@ -226,10 +232,17 @@ packed_means offset common cause x xs small widths fits =
         → (sequence ≡ true → AreConsecutive x.address (take n (x ∷ xs)))
         → All (λ y. HasWidth y.value) (take n (x ∷ xs)) → All (IsFit offset) (take n (x ∷ xs))
         → asdu_meaning (monitor_types offset) (list_spelling offset sequence common cause (take n (x ∷ xs)))
-        ≡ Some (record (asdu_of offset common cause x []) { observations = take n (x ∷ xs) })
+        ≡ Some (record {
+          identification = identification_at offset x;
+          cause = cause;
+          originator = 0;
+          common_address = common;
+          observations = take n (x ∷ xs);
+        })
     go zero some few alike row widths fits = absurd (omega arith)
     go (suc n) some few alike row widths fits =
-        list_means offset sequence common cause x (take n xs) small (omega (arith, length-take n xs)) alike row widths fits
+        list_means offset sequence common cause x (take n xs) small (omega (arith, length-take n xs)) alike row widths
+        fits
 
 pub packed_meant : (offset : ℤ) (common cause : ℕ) (xs : List Observation) → 0 < length xs → common < 65536
     → All (λ y. HasWidth y.value) (take (taken_of offset xs) xs) → All (IsFit offset) (take (taken_of offset xs) xs)
@@ -238,7 +251,7 @@ pub packed_meant : (offset : ℤ) (common cause : ℕ) (xs : List Observation) �
     × (asdu.observations ≡ take (taken_of offset xs) xs))
 packed_meant offset common cause [] some small widths fits = absurd (omega arith)
 packed_meant offset common cause (x ∷ xs) some small widths fits =
-    rw (packed_means offset common cause x xs small widths fits) (refl, refl, refl, refl)
+    rw (packed_is_meant offset common cause x xs small widths fits) (refl, refl, refl, refl)
 
 -- the same of what was written
 pub written_meant : (offset : ℤ) (common cause : ℕ) (xs : List Observation) (octets : List ℕ) (taken : ℕ)

@@ -56,6 +56,14 @@ spelling offset common cause x = spelling_with (tag_of offset x.stamp) common ca
 abbrev pub address_octets : ℕ → List ℕ
 address_octets address = take 3 (to_le_bytes w32 address)
 
+-- the element of an observation
+abbrev pub element_octets : Observation → List ℕ
+element_octets x = element_spelling x.value x.quality
+
+-- its address, its element, and behind them this time tag or none
+abbrev pub object_octets_with : Option (List ℕ) → Observation → List ℕ
+object_octets_with tag x = address_octets x.address ++ (element_octets x ++ tag_octets tag)
+
 -- element and time tag of an observation
 abbrev pub information_octets : ℤ → Observation → List ℕ
 information_octets offset x = element_spelling x.value x.quality ++ tag_octets (tag_of offset x.stamp)

@@ -1,7 +1,6 @@
 //! The types of process information in monitor direction that the gateway has (IEC 60870-5-101, 7.2.1 and
 //! 7.3.1), without time and with the time tag CP56Time2a.
 ghost use Rattle.std.specs.Prelude.{◌≡◌, ◌≤◌, ℤ, true, false, length, option_map, ok_or};
-ghost use Rattle.iec_asdu.specs.Spelling.{type_of};
 
 use crate::elements::{BitString, CounterReading, DoublePoint, ScaledValue, SinglePoint};
 use crate::fault::AsduFault;
@@ -39,26 +38,8 @@ const M_ME_TE_1: u8 = 35;
 /// Integrated totals with time tag.
 const M_IT_TB_1: u8 = 37;
 
-/// The type identification of a value, with a time tag or without.
-pub fn identification_of(value: Value, timed: bool) -> u8
-    ensures { result ≡ type_of value timed }
-{
-    match (value, timed) {
-        (Value::Single(_), false) => M_SP_NA_1,
-        (Value::Single(_), true) => M_SP_TB_1,
-        (Value::Double(_), false) => M_DP_NA_1,
-        (Value::Double(_), true) => M_DP_TB_1,
-        (Value::Word(_), false) => M_BO_NA_1,
-        (Value::Word(_), true) => M_BO_TB_1,
-        (Value::Scaled(_), false) => M_ME_NB_1,
-        (Value::Scaled(_), true) => M_ME_TE_1,
-        (Value::Total(_), false) => M_IT_NA_1,
-        (Value::Total(_), true) => M_IT_TB_1,
-    }
-}
-
 /// The information elements of process information.
-#[derive(Clone, Copy)]
+#[derive(Clone, Copy, PartialEq, Eq)]
 pub enum ElementKind {
     SinglePoint,
     DoublePoint,
@@ -136,7 +117,7 @@ pub struct MonitorType {
 
 impl MonitorType {
     ghost use Rattle.iec_asdu.specs.Asdu.{layout_of, monitor_types};
-    ghost use Rattle.iec_asdu.specs.Types.{layout_at, tag_length, type_length, tag_stamp};
+    ghost use Rattle.iec_asdu.specs.Types.{identification_by, layout_at, tag_length, type_length, tag_stamp};
 
     fn plain(element: ElementKind) -> MonitorType
         ensures { result ≡ record { element = element; timed = false } }
@@ -174,6 +155,24 @@ impl MonitorType {
             M_IT_TB_1 => MonitorType::timed(ElementKind::CounterReading),
             _ => return None,
         })
+    }
+
+    /// Its identification.
+    pub fn identification(self) -> u8
+        ensures { result ≡ identification_by self.element self.timed }
+    {
+        match (self.element, self.timed) {
+            (ElementKind::SinglePoint, false) => M_SP_NA_1,
+            (ElementKind::SinglePoint, true) => M_SP_TB_1,
+            (ElementKind::DoublePoint, false) => M_DP_NA_1,
+            (ElementKind::DoublePoint, true) => M_DP_TB_1,
+            (ElementKind::BitString, false) => M_BO_NA_1,
+            (ElementKind::BitString, true) => M_BO_TB_1,
+            (ElementKind::ScaledValue, false) => M_ME_NB_1,
+            (ElementKind::ScaledValue, true) => M_ME_TE_1,
+            (ElementKind::CounterReading, false) => M_IT_NA_1,
+            (ElementKind::CounterReading, true) => M_IT_TB_1,
+        }
     }
 
     /// How many octets element and time tag have.

@@ -1,15 +1,19 @@
 //! Writing ASDUs with process information.
-ghost use Rattle.std.specs.Prelude.{◌≡◌, ◌+◌, ◌<◌, ◌≤◌, length, take, drop, All, IsSomeAnd};
+ghost use Rattle.std.specs.Prelude.{◌≡◌, ◌+◌, ◌*◌, ◌<◌, ◌≤◌, ◌∷◌, ◌++◌, length, take, drop, is_some, All, IfSome, IsSomeAnd};
 ghost use Rattle.std.specs.List.{flat_map};
+ghost use Rattle.std.specs.Int.{w16, to_le_bytes};
 ghost use Rattle.gw_model.specs.Fit.{HasWidth, IsFit};
+ghost use Rattle.gw_time.specs.Spelling.{tag_of};
 ghost use Rattle.iec_asdu.specs.Asdu.{monitor_types, asdu_meaning};
-ghost use Rattle.iec_asdu.specs.Packing.{taken_of, packed_spelling};
-ghost use Rattle.iec_asdu.specs.Spelling.{element_spelling, address_octets, information_octets, object_octets, objects_octets, header_octets};
+ghost use Rattle.iec_asdu.specs.Packing.{type_at, alike_count, apart_count, in_sequence_count, is_in_sequence, taken_of, packed_spelling};
+ghost use Rattle.iec_asdu.specs.Types.{identification_by, type_length};
+ghost use Rattle.iec_asdu.specs.Spelling.{element_spelling, element_octets, address_octets, object_octets, object_octets_with, objects_octets, qualifier_of};
 ghost use Rattle.iec_asdu.specs.Buffer.{Writes};
 
 use crate::elements::{BitString, CounterReading, DoublePoint, ScaledValue, SinglePoint};
-use crate::packing::{identification_at, packing_of};
+use crate::packing::{front, room_apart, sequence_behind};
 use crate::sizes::{ADDRESS_OCTETS, HEADER_OCTETS, TAG_OCTETS};
+use crate::types::{ElementKind, MonitorType};
 use gw_model::{Element, Observation, Quality, Value};
 use gw_time::{Zone, to_tag};
 
@@ -58,27 +62,6 @@ fn write_element(value: Value, quality: Quality, start: usize, out: &mut [u8; 24
     }
 }
 
-/// Writes the element of an observation and behind it its time tag, if it has one. Answers where they end.
-fn write_information(
-    observation: &Observation,
-    zone: &Zone,
-    start: usize,
-    out: &mut [u8; 249],
-) -> usize
-    requires { start + length (information_octets zone.now.offset_minutes observation.now) ≤ 249 }
-    ensures written { Writes start result out.old out.new
-        (information_octets zone.now.offset_minutes observation.now) }
-    ensures width { HasWidth observation.now.value }
-{
-    let tag = to_tag(observation.stamp, zone);
-    let end = write_element(observation.value, observation.quality, start, out);
-    let Some(tag) = tag else {
-        return end;
-    };
-    out[end..end + TAG_OCTETS].copy_from_slice(&tag);
-    end + TAG_OCTETS
-}
-
 /// Writes an address. Answers where it ends.
 fn write_address(address: u32, start: usize, out: &mut [u8; 249]) -> usize
     requires { start + 3 ≤ 249 }
@@ -89,85 +72,159 @@ fn write_address(address: u32, start: usize, out: &mut [u8; 249]) -> usize
     start + ADDRESS_OCTETS
 }
 
-/// Writes each object with its address. Answers where they end.
-fn write_apart(
-    observations: &[Observation],
-    zone: &Zone,
+/// Writes an object with its address, and with its time tag, if it has one. Answers where it ends.
+fn write_object(
+    observation: &Observation,
+    tag: Option<[u8; 7]>,
     start: usize,
     out: &mut [u8; 249],
 ) -> usize
-    requires { start + length (flat_map (object_octets zone.now.offset_minutes) observations.now) ≤ 249 }
-    ensures written { Writes start result out.old out.new
-        (flat_map (object_octets zone.now.offset_minutes) observations.now) }
-    ensures width { All (λ x. HasWidth x.value) observations.now }
+    requires { start + length (object_octets_with tag observation.now) ≤ 249 }
+    ensures written { Writes start result out.old out.new (object_octets_with tag observation.now) }
+    ensures width { HasWidth observation.now.value }
 {
-    let mut end = start;
+    let behind = write_address(observation.address, start, out);
+    let end = write_element(observation.value, observation.quality, behind, out);
+    let Some(tag) = tag else {
+        return end;
+    };
+    out[end..end + TAG_OCTETS].copy_from_slice(&tag);
+    end + TAG_OCTETS
+}
+
+/// Writes the objects of as many from the front as are of a type, each with its address.
+fn write_alike(
+    observations: &[Observation],
+    kind: MonitorType,
+    zone: &Zone,
+    start: usize,
+    out: &mut [u8; 249],
+) -> Written
+    requires { start + length observations.now * (3 + type_length kind) ≤ 249 }
+    ensures taken { result.taken
+        ≡ alike_count zone.now.offset_minutes (identification_by kind.element kind.timed) observations.now }
+    ensures written { Writes start result.octets out.old out.new
+        (flat_map (object_octets zone.now.offset_minutes) (take result.taken observations.now)) }
+    ensures width { All (λ x. HasWidth x.value) (take result.taken observations.now) }
+{
+    let mut written = Written {
+        octets: start,
+        taken: 0,
+    };
     for observation in observations {
-        let behind = write_address(observation.address, end, out);
-        end = write_information(observation, zone, behind, out);
+        if ElementKind::of(observation.value) != kind.element {
+            return written;
+        }
+        let tag = to_tag(observation.stamp, zone);
+        if tag.is_some() != kind.timed {
+            return written;
+        }
+        written.octets = write_object(observation, tag, written.octets, out);
+        written.taken += 1;
     }
-    end
+    written
+}
+
+/// Writes the objects under SQ 0: of the first one, of this type with this time tag or none, and behind it of as many as
+/// are of its type and fit.
+fn write_apart(
+    first: &Observation,
+    others: &[Observation],
+    tag: Option<[u8; 7]>,
+    kind: MonitorType,
+    zone: &Zone,
+    out: &mut [u8; 249],
+) -> Written
+    requires tag { tag ≡ tag_of zone.now.offset_minutes first.now.stamp }
+    requires kind { kind ≡ type_at zone.now.offset_minutes first.now }
+    ensures taken { result.taken ≡ apart_count zone.now.offset_minutes (first.now ∷ others.now) }
+    ensures written { let taken = take result.taken (first.now ∷ others.now) in
+        Writes 6 result.octets out.old out.new (flat_map (object_octets zone.now.offset_minutes) taken) }
+    ensures width { All (λ x. HasWidth x.value) (take result.taken (first.now ∷ others.now)) }
+{
+    let start = write_object(first, tag, HEADER_OCTETS, out);
+    let fitting = front(others, room_apart(kind) - 1);
+    let behind = write_alike(fitting, kind, zone, start, out);
+    Written {
+        octets: behind.octets,
+        taken: 1 + behind.taken,
+    }
 }
 
 /// Writes element behind element. Answers where they end.
-fn write_elements(
-    observations: &[Observation],
-    zone: &Zone,
-    start: usize,
-    out: &mut [u8; 249],
-) -> usize
-    requires { start + length (flat_map (information_octets zone.now.offset_minutes) observations.now) ≤ 249 }
-    ensures written { Writes start result out.old out.new
-        (flat_map (information_octets zone.now.offset_minutes) observations.now) }
+fn write_elements(observations: &[Observation], start: usize, out: &mut [u8; 249]) -> usize
+    requires { start + length (flat_map element_octets observations.now) ≤ 249 }
+    ensures written { Writes start result out.old out.new (flat_map element_octets observations.now) }
     ensures width { All (λ x. HasWidth x.value) observations.now }
 {
     let mut end = start;
     for observation in observations {
-        end = write_information(observation, zone, end, out);
+        end = write_element(observation.value, observation.quality, end, out);
     }
     end
 }
 
-/// Writes the objects behind the header. Answers where they end.
+/// Writes the objects under SQ 1: the first one's address, its element, and those of all others. Answers where they end.
+fn write_in_sequence(first: &Observation, others: &[Observation], out: &mut [u8; 249]) -> usize
+    requires { 9 + length (flat_map element_octets (first.now ∷ others.now)) ≤ 249 }
+    ensures written { Writes 6 result out.old out.new
+        (address_octets first.now.address ++ flat_map element_octets (first.now ∷ others.now)) }
+    ensures width { All (λ x. HasWidth x.value) (first.now ∷ others.now) }
+{
+    let start = write_address(first.address, HEADER_OCTETS, out);
+    let behind = write_element(first.value, first.quality, start, out);
+    write_elements(others, behind, out)
+}
+
+/// Writes the objects behind the header: under SQ 1 the first one and so many behind it, else under SQ 0 as many as are
+/// of this type, which is the first one's, and fit.
 fn write_objects(
-    sequence: bool,
-    observations: &[Observation],
+    first: &Observation,
+    others: &[Observation],
+    tag: Option<[u8; 7]>,
+    kind: MonitorType,
+    sequence: Option<usize>,
     zone: &Zone,
     out: &mut [u8; 249],
-) -> usize
-    requires some { 0 < length observations.now }
-    requires room { 6 + length (objects_octets zone.now.offset_minutes sequence observations.now) ≤ 249 }
-    ensures written { Writes 6 result out.old out.new
-        (objects_octets zone.now.offset_minutes sequence observations.now) }
-    ensures width { All (λ x. HasWidth x.value) observations.now }
+) -> Written
+    requires tag { tag ≡ tag_of zone.now.offset_minutes first.now.stamp }
+    requires kind { kind ≡ type_at zone.now.offset_minutes first.now }
+    requires sequence { is_some sequence ≡ is_in_sequence zone.now.offset_minutes (first.now ∷ others.now) }
+    requires behind { IfSome sequence
+        (λ behind. behind + 1 ≡ in_sequence_count zone.now.offset_minutes (first.now ∷ others.now)) }
+    ensures taken { result.taken ≡ taken_of zone.now.offset_minutes (first.now ∷ others.now) }
+    ensures written { let offset = zone.now.offset_minutes in let xs = first.now ∷ others.now in
+        Writes 6 result.octets out.old out.new
+        (objects_octets offset (is_in_sequence offset xs) (take (taken_of offset xs) xs)) }
+    ensures width { let xs = first.now ∷ others.now in
+        All (λ x. HasWidth x.value) (take (taken_of zone.now.offset_minutes xs) xs) }
 {
-    if sequence {
-        let start = write_address(observations[0].address, HEADER_OCTETS, out);
-        write_elements(observations, zone, start, out)
-    } else {
-        write_apart(observations, zone, HEADER_OCTETS, out)
+    match sequence {
+        Some(behind) => Written {
+            octets: write_in_sequence(first, &others[..behind], out),
+            taken: behind + 1,
+        },
+        None => write_apart(first, others, tag, kind, zone, out),
     }
 }
 
-/// Writes the header before so many objects.
+/// Writes the header before so many objects of a type.
 fn write_header(
+    kind: MonitorType,
     sequence: bool,
-    observations: &[Observation],
+    number: usize,
     common: u16,
     cause: u8,
-    zone: &Zone,
     out: &mut [u8; 249],
 )
-    requires some { 0 < length observations.now }
-    requires few { length observations.now ≤ 127 }
-    ensures { Writes 0 6 out.old out.new
-        (header_octets zone.now.offset_minutes sequence common cause observations.now) }
+    requires { number ≤ 127 }
+    ensures { Writes 0 6 out.old out.new (identification_by kind.element kind.timed
+        ∷ qualifier_of sequence number ∷ cause ∷ 0 ∷ to_le_bytes w16 common) }
 {
-    let identification = identification_at(&observations[0], zone);
-    let number = observations.len() as u8;
+    let number = number as u8;
     let qualifier = if sequence { SEQUENCE + number } else { number };
     let [low, high] = common.to_le_bytes();
-    out[..HEADER_OCTETS].copy_from_slice(&[identification, qualifier, cause, 0, low, high]);
+    out[..HEADER_OCTETS].copy_from_slice(&[kind.identification(), qualifier, cause, 0, low, high]);
 }
 
 /// Writes the ASDU of as many observations from the front as it carries: of one type, with time where their
@@ -199,12 +256,15 @@ pub fn write_monitor(
         (asdu.cause ≡ cause) × (asdu.originator ≡ 0) × (asdu.common_address ≡ common)
         × (asdu.observations ≡ written)) }
 {
-    let packing = packing_of(observations, zone);
-    let taken = &observations[..packing.taken];
-    write_header(packing.sequence, taken, common, cause, zone, out);
-    let octets = write_objects(packing.sequence, taken, zone, out);
-    Written {
-        octets,
-        taken: packing.taken,
-    }
+    let first = &observations[0];
+    let others = &observations[1..];
+    let tag = to_tag(first.stamp, zone);
+    let kind = MonitorType {
+        element: ElementKind::of(first.value),
+        timed: tag.is_some(),
+    };
+    let sequence = sequence_behind(first, others, kind, zone);
+    let written = write_objects(first, others, tag, kind, sequence, zone, out);
+    write_header(kind, sequence.is_some(), written.taken, common, cause, out);
+    written
 }

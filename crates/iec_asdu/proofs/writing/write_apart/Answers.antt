@@ -1,38 +1,65 @@
-use Rattle.std.proofs.Common.{arith}
-use Rattle.std.proofs.lemmas.List.Elements.{All-more}
+use Rattle.std.proofs.Common.{◌-◌, ◌≤◌, Option, List, ℕ, length, subst, arith}
+use Rattle.std.proofs.lemmas.List.{length-take}
+use Rattle.std.proofs.lemmas.List.Elements.{All-cons}
 use Rattle.gw_model.specs.Fit.{HasWidth}
-use Rattle.iec_asdu.specs.Spelling.{object_octets}
-use Rattle.iec_asdu.proofs.Behind.{writes_both, flat_map_next, room_next}
-use Rattle.iec_asdu.proofs.Counts.{nothing}
+use Rattle.iec_asdu.specs.Buffer.{Writes}
+use Rattle.iec_asdu.specs.Types.{identification_by, type_length}
+use Rattle.iec_asdu.specs.Spelling.{object_octets, object_octets_with}
+use Rattle.iec_asdu.proofs.Behind.{writes_both}
+use Rattle.iec_asdu.proofs.Lengths.{object_long}
+use Rattle.iec_asdu.proofs.Carried.{room_behind, taken_first}
+use Rattle.iec_asdu.proofs.Counts.{apart_counted, alike_within}
 use Rattle.iec_asdu.proofs.writing.write_apart.Goals as goal
 
-pub write_address-behind-requires : goal.write_address-behind-requires
-write_address-behind-requires c =
+pub write_object-start-requires : goal.write_object-start-requires
+write_object-start-requires c =
     omega (
       arith,
-      c.requires,
-      c.loop-observation.invariant.written.ends,
-      room_next (object_octets c.args.zone.now.offset_minutes) c.args.observations.now
-          c.loop-observation.observation-index nothing c.loop-observation-test.true,
+      object_long c.args.zone.now.offset_minutes c.args.first.now c.args.tag c.args.kind c.requires.tag
+          c.requires.kind,
     )
 
-pub write_information-end-requires : goal.write_information-end-requires
-write_information-end-requires c =
+pub write_alike-behind-requires : goal.write_alike-behind-requires
+write_alike-behind-requires c =
+    let long = object_long c.args.zone.now.offset_minutes c.args.first.now c.args.tag c.args.kind c.requires.tag
+    c.requires.kind in
+    let few : length c.front-fitting.result.now ≤ c.room_apart.result - 1 =
+    rw c.front-fitting.ensures (omega (arith, length-take (c.room_apart.result - 1) c.args.others.now)) in
     omega (
       arith,
-      c.requires,
-      c.loop-observation.invariant.written.ends,
-      c.write_address-behind.ensures.ends,
-      room_next (object_octets c.args.zone.now.offset_minutes) c.args.observations.now
-          c.loop-observation.observation-index nothing c.loop-observation-test.true,
+      long,
+      c.write_object-start.ensures.written.ends,
+      room_behind (type_length c.args.kind) c.room_apart.result (length c.front-fitting.result.now)
+          c.room_apart.ensures.exact c.room_apart.ensures.some few,
     )
 
-pub loop-observation-preserved : goal.loop-observation-preserved
-loop-observation-preserved c = record {
-  written = rw (flat_map_next (object_octets c.args.zone.now.offset_minutes) c.args.observations.now
-      c.loop-observation.observation-index nothing c.loop-observation-test.true)
-      (writes_both _ _ _ _ _ _ _ _ c.loop-observation.invariant.written
-      (writes_both _ _ _ _ _ _ _ _ c.write_address-behind.ensures c.write_information-end.ensures.written));
-  width = All-more (λ x. HasWidth x.value) c.args.observations.now c.loop-observation.observation-index nothing
-      c.loop-observation-test.true c.loop-observation.invariant.width c.write_information-end.ensures.width;
-}
+pub overflow_add-result : goal.overflow_add-result
+overflow_add-result c =
+    let front : length c.front-fitting.result.now ≤ c.room_apart.result - 1 =
+    rw c.front-fitting.ensures (omega (arith, length-take (c.room_apart.result - 1) c.args.others.now)) in
+    let few : c.write_alike-behind.result.taken ≤ length c.front-fitting.result.now =
+    rw c.write_alike-behind.ensures.taken (alike_within c.args.zone.now.offset_minutes
+    (identification_by c.args.kind.element c.args.kind.timed) c.front-fitting.result.now) in
+    omega (arith, few, front, c.room_apart.ensures.some, c.room_apart.type_inv)
+
+pub returns-clause-taken : goal.returns-clause-taken
+returns-clause-taken c =
+    apart_counted c.args.zone.now.offset_minutes c.args.first.now c.args.others.now _ c.args.kind _ _ c.requires.kind
+    c.room_apart.ensures.exact c.room_apart.ensures.some c.front-fitting.ensures c.write_alike-behind.ensures.taken
+
+pub returns-clause-written : goal.returns-clause-written
+returns-clause-written c =
+    let first : Writes 6 c.write_object-start.result c.args.out.now c.write_object-start.new.out
+    (object_octets c.args.zone.now.offset_minutes c.args.first.now) =
+    subst (λ (t : Option (List ℕ)). Writes 6 c.write_object-start.result c.args.out.now c.write_object-start.new.out
+    (object_octets_with t c.args.first.now)) c.requires.tag c.write_object-start.ensures.written in
+    rw (taken_first (c.room_apart.result - 1) c.write_alike-behind.result.taken c.args.first.now c.args.others.now
+    c.front-fitting.result.now c.front-fitting.ensures (rw c.write_alike-behind.ensures.taken (alike_within c.args.zone.now.offset_minutes
+    (identification_by c.args.kind.element c.args.kind.timed) c.front-fitting.result.now))) (writes_both _ _ _ _ _ _ _ _ first c.write_alike-behind.ensures.written)
+
+pub returns-clause-width : goal.returns-clause-width
+returns-clause-width c =
+    rw (taken_first (c.room_apart.result - 1) c.write_alike-behind.result.taken c.args.first.now c.args.others.now
+    c.front-fitting.result.now c.front-fitting.ensures (rw c.write_alike-behind.ensures.taken (alike_within c.args.zone.now.offset_minutes
+    (identification_by c.args.kind.element c.args.kind.timed) c.front-fitting.result.now))) (All-cons (λ x. HasWidth x.value) c.args.first.now _ c.write_object-start.ensures.width
+    c.write_alike-behind.ensures.width)

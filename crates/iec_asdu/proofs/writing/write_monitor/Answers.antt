@@ -1,69 +1,87 @@
-use Rattle.std.proofs.Common.{◌≡◌, ◌∙◌, ◌++◌, take, sym, arith}
-use Rattle.std.proofs.lemmas.List.{length-take, length-take-le}
-use Rattle.iec_asdu.specs.Buffer.{Writes}
-use Rattle.iec_asdu.specs.Spelling.{header_octets, objects_octets}
-use Rattle.iec_asdu.specs.Packing.{packed_spelling}
-use Rattle.iec_asdu.proofs.Behind.{writes_both}
-use Rattle.iec_asdu.proofs.Carried.{taken_of_some, taken_of_within, taken_of_few, packed_room, packed_parts}
+use Rattle.std.proofs.Common.{◌≡◌, ◌∙◌, ◌∷◌, ◌-◌, ℕ, List, Option, is_some, length, get_or, take, drop, refl, sym, ap, subst, arith}
+use Rattle.std.specs.Prelude.{All}
+use Rattle.gw_model.specs.Fit.{HasWidth}
+use Rattle.gw_model.specs.declared.observation.Observation.{Observation}
+use Rattle.iec_asdu.specs.Packing.{taken_of, packed_spelling}
+use Rattle.iec_asdu.proofs.Behind.{writes_before}
+use Rattle.iec_asdu.proofs.Carried.{taken_of_some, taken_of_within, taken_of_few, packed_room, packed_whole, by_first}
+use Rattle.iec_asdu.proofs.Counts.{nothing}
 use Rattle.iec_asdu.proofs.Meant.{written_meant}
 use Rattle.iec_asdu.proofs.writing.write_monitor.Goals as goal
+use Rattle.iec_asdu.proofs.writing.write_monitor.Goals.{After-write_header}
 
-pub slice_bounds-taken-end : goal.slice_bounds-taken-end
-slice_bounds-taken-end c =
-    let within = taken_of_within c.args.zone.now.offset_minutes c.args.observations.now in
-    sym (length-take-le c.packing_of-packing.result.taken c.args.observations.now (omega (arith, within)))
+-- the first one, and those behind it
+abbrev first : (c : After-write_header) → Observation
+first c = get_or c.args.observations.now 0 nothing
 
-pub write_header-requires-clause-some : goal.write_header-requires-clause-some
-write_header-requires-clause-some c =
+abbrev others : (c : After-write_header) → List Observation
+others c = take (length c.args.observations.now - 1) (drop 1 c.args.observations.now)
+
+same : (c : After-write_header) → first c ∷ others c ≡ c.args.observations.now
+same c = by_first c.args.observations.now c.requires
+
+taken : (c : After-write_header)
+    → c.write_objects-written.result.taken ≡ taken_of c.args.zone.now.offset_minutes c.args.observations.now
+taken c =
+    c.write_objects-written.ensures.taken
+    ∙ ap (λ (xs : List Observation). taken_of c.args.zone.now.offset_minutes xs) (same c)
+
+pub write_header-requires : goal.write_header-requires
+write_header-requires c =
     omega (
       arith,
-      length-take c.packing_of-packing.result.taken c.args.observations.now,
-      taken_of_some c.args.zone.now.offset_minutes c.args.observations.now c.requires,
+      c.write_objects-written.ensures.taken,
+      taken_of_few c.args.zone.now.offset_minutes
+          (get_or c.args.observations.now 0 nothing
+          ∷ take (length c.args.observations.now - 1) (drop 1 c.args.observations.now)),
     )
 
-pub write_header-requires-clause-few : goal.write_header-requires-clause-few
-write_header-requires-clause-few c =
-    omega (
-      arith,
-      length-take c.packing_of-packing.result.taken c.args.observations.now,
-      taken_of_few c.args.zone.now.offset_minutes c.args.observations.now,
-    )
+pub returns-clause-taken : goal.returns-clause-taken
+returns-clause-taken c = taken c
 
-pub write_objects-octets-requires-clause-room : goal.write_objects-octets-requires-clause-room
-write_objects-octets-requires-clause-room c =
-    packed_room c.args.zone.now.offset_minutes c.args.observations.now _ _ c.requires
-    c.packing_of-packing.ensures.sequence c.packing_of-packing.ensures.taken
+pub returns-clause-some : goal.returns-clause-some
+returns-clause-some c =
+    omega (arith, taken c, taken_of_some c.args.zone.now.offset_minutes c.args.observations.now c.requires)
 
 pub returns-clause-within : goal.returns-clause-within
 returns-clause-within c =
-    omega (arith, taken_of_within c.args.zone.now.offset_minutes c.args.observations.now)
+    omega (arith, taken c, taken_of_within c.args.zone.now.offset_minutes c.args.observations.now)
 
 pub returns-clause-most : goal.returns-clause-most
-returns-clause-most c = omega (arith, taken_of_few c.args.zone.now.offset_minutes c.args.observations.now)
+returns-clause-most c =
+    omega (arith, taken c, taken_of_few c.args.zone.now.offset_minutes c.args.observations.now)
 
--- header and objects stand one behind the other
-whole : (c : goal.After-write_objects-octets)
-    → let taken = take c.packing_of-packing.result.taken c.args.observations.now in
-    let offset = c.args.zone.now.offset_minutes in
-    let sequence = c.packing_of-packing.result.sequence in
-    Writes 0 c.write_objects-octets.result c.args.out.now c.write_objects-octets.new.out
-    (header_octets offset sequence c.args.common c.args.cause taken ++ objects_octets offset sequence taken)
-whole c = writes_both _ _ _ _ _ _ _ _ c.write_header.ensures c.write_objects-octets.ensures.written
-
-spelled : (c : goal.After-write_objects-octets)
-    → take c.write_objects-octets.result c.write_objects-octets.new.out
-    ≡ packed_spelling c.args.zone.now.offset_minutes c.args.common c.args.cause c.args.observations.now
-spelled c =
-    (whole c).front ∙ packed_parts c.args.zone.now.offset_minutes c.args.common c.args.cause c.args.observations.now _ _
-    c.packing_of-packing.ensures.sequence c.packing_of-packing.ensures.taken
+pub returns-clause-room : goal.returns-clause-room
+returns-clause-room c =
+    omega (
+      arith,
+      c.write_objects-written.ensures.written.ends,
+      packed_room c.args.zone.now.offset_minutes (first c ∷ others c) _ _ (omega arith) refl refl,
+    )
 
 pub returns-clause-rest : goal.returns-clause-rest
-returns-clause-rest c = (whole c).rest
+returns-clause-rest c =
+    (writes_before _ _ _ _ _ _ _ (omega arith) c.write_objects-written.ensures.written c.write_header.ensures).rest
+
+spelled : (c : After-write_header)
+    → take c.write_objects-written.result.octets c.write_header.new.out
+    ≡ packed_spelling c.args.zone.now.offset_minutes c.args.common c.args.cause c.args.observations.now
+spelled c =
+    (writes_before _ _ _ _ _ _ _ (omega arith) c.write_objects-written.ensures.written c.write_header.ensures).front
+    ∙ packed_whole c.args.zone.now.offset_minutes c.args.common c.args.cause (first c) (others c) _ _ _ _ c.of.ensures
+    (c.is_some.ensures ∙ ap (λ (t : Option (List ℕ)). is_some t) c.to_tag-tag.ensures.exact)
+    (c.is_some-2.ensures ∙ c.sequence_behind-sequence.ensures.sequence) c.write_objects-written.ensures.taken
+    ∙ ap (λ (xs : List Observation).
+    packed_spelling c.args.zone.now.offset_minutes c.args.common c.args.cause xs) (same c)
 
 pub returns-clause-spelled : goal.returns-clause-spelled
 returns-clause-spelled c = spelled c
 
 pub returns-clause-meant : goal.returns-clause-meant
 returns-clause-meant c =
+    let widths : All (λ x. HasWidth x.value) (take c.write_objects-written.result.taken c.args.observations.now) =
+    subst (λ (xs : List Observation). All (λ x. HasWidth x.value) (take c.write_objects-written.result.taken xs))
+    (same c) (subst (λ (n : ℕ). All (λ x. HasWidth x.value) (take n (first c ∷ others c)))
+    (sym c.write_objects-written.ensures.taken) c.write_objects-written.ensures.width) in
     written_meant c.args.zone.now.offset_minutes c.args.common c.args.cause c.args.observations.now _ _ c.requires
-    (omega arith) c.packing_of-packing.ensures.taken (spelled c) c.write_objects-octets.ensures.width
+    (omega arith) (taken c) (spelled c) widths

@@ -2,7 +2,7 @@ use Rattle.std.proofs.Common.{◌≡◌, ℕ, List, ◌++◌, take, sym, ap, ◌
 use Rattle.std.specs.Prelude.{slice_set}
 use Rattle.gw_model.specs.declared.observation.Observation.{Observation}
 use Rattle.iec_asdu.specs.Packing.{taken_of}
-use Rattle.iec_asdu.proofs.Front.{packed_front, taken_front}
+use Rattle.iec_asdu.proofs.Carried.{packed_spelling_front, taken_of_front}
 use Rattle.gw_answers.specs.Octets.{packed_octets}
 use Rattle.gw_station.specs.Client.{Client}
 use Rattle.gw_station.specs.Kept.{items_in, news_next}
@@ -24,10 +24,10 @@ returns-clause-asdu c =
     c.pack_news.ensures.asdu
     ∙ (ap (λ (xs : List Observation). packed_octets station.offset_minutes station.common_address 3 0 xs) (front c)
     ∙ ap (λ (octets : List ℕ). slice_set octets 3 0)
-    (packed_front station.offset_minutes station.common_address 3 (news_next c.args.self.now)))
+    (packed_spelling_front station.offset_minutes station.common_address 3 (news_next c.args.self.now)))
 
 pub returns-clause-taken : goal.returns-clause-taken
 returns-clause-taken c =
     c.pack_news.ensures.taken
     ∙ (ap (λ (xs : List Observation). taken_of c.args.settings.now.station.offset_minutes xs) (front c)
-    ∙ taken_front c.args.settings.now.station.offset_minutes (news_next c.args.self.now))
+    ∙ taken_of_front c.args.settings.now.station.offset_minutes (news_next c.args.self.now))
