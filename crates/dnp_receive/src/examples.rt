@@ -67,6 +67,9 @@ pub fn last_of_frames()
     // No reply is owed for UNCONFIRMED_USER_DATA, and no reset is needed.
     ensures unconfirmed { reply_owed 1024 1 [] whole ≡ None }
     ensures unconfirmed_completes { fragment_completed 1024 1 [] whole ≡ Some (0xDD ∷ []) }
+    // A frame to all stations is for none that masters have.
+    ensures to_all { fragment_completed 1024 1 [] (record whole { destination = 65535 }) ≡ None }
+    ensures to_all_unanswered { reply_owed 1024 1 [] (record asked_status { destination = 65533 }) ≡ None }
     // Another frame may come between the segments of a fragment.
     ensures status { reply_owed 1024 1 (sent 0x44 (0x7E ∷ 0xAA ∷ []) ∷ []) asked_status ≡ Some link_status }
     ensures goes_on { fragment_completed 1024 1 (sent 0x44 (0x7E ∷ 0xAA ∷ []) ∷ asked_status ∷ [])

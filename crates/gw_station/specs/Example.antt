@@ -97,6 +97,10 @@ reads (suc n) c = client_after_apdu setup picture 0 (I n 0 reading) (reads n c)
 abbrev pub execute : Asdu
 execute = asdu_with (0x2D ∷ 1 ∷ 6 ∷ 0 ∷ 1 ∷ 0 ∷ 0x89 ∷ 0x13 ∷ 0 ∷ 1 ∷ []) (lit≤ tt)
 
+-- 5004 is, of which there is no control
+abbrev pub execute_unknown : Asdu
+execute_unknown = asdu_with (0x2D ∷ 1 ∷ 6 ∷ 0 ∷ 1 ∷ 0 ∷ 0x8C ∷ 0x13 ∷ 0 ∷ 1 ∷ []) (lit≤ tt)
+
 -- an interrogation came at moment 0
 abbrev pub interrogated : Client → Client
 interrogated c = taking 0 (I 0 0 interrogation ∷ []) c

@@ -16,7 +16,7 @@ ghost use Rattle.gw_judge.specs.Example.{setup};
 ghost use Rattle.gw_answers.specs.Outgoing.{command_with};
 ghost use Rattle.gw_station.specs.declared.event.Said.TheVariants as said;
 ghost use Rattle.gw_station.specs.Answers.{held_with, told};
-ghost use Rattle.gw_station.specs.Example.{command, connected, cut, execute, header_alone, interrogated, interrogation, reading, reads, pushed_out, narrow, narrow_full, overflown, pumped, started, started_from, switched_off, switched_on, taking, tested, waiting};
+ghost use Rattle.gw_station.specs.Example.{command, connected, cut, execute, header_alone, interrogated, interrogation, reading, reads, pushed_out, narrow, narrow_full, overflown, pumped, started, started_from, switched_off, switched_on, taking, tested, waiting, execute_unknown};
 
 /// STARTDT, STOPDT and TESTFR.
 #[tactic(auto, unfolding(iec_asdu::specs::Spelling::list_spelling, iec_asdu::specs::Packing::packed_spelling, iec_asdu::specs::Packing::taken_of, iec_asdu::specs::Packing::is_in_sequence, iec_asdu::specs::Packing::in_sequence_count, iec_asdu::specs::Packing::apart_count, iec_asdu::specs::Packing::alike_count, iec_asdu::specs::Packing::consecutive_count))]
@@ -170,6 +170,9 @@ pub fn answers()
     ensures execute { close_of setup (I 30 0 execute) (reads 30 started) ≡ None }
     ensures execute_flooded { event_of setup (I 31 0 execute) (reads 31 started) ≡ Closed Flooded }
     ensures select { close_of setup (I 31 0 command) (reads 31 started) ≡ None }
+    // So does one of which only the object is unknown.
+    ensures unknown { event_of setup (I 30 0 execute_unknown) (reads 30 started) ≡ Taken }
+    ensures unknown_flooded { event_of setup (I 31 0 execute_unknown) (reads 31 started) ≡ Closed Flooded }
     // A command waits for what is said of it.
     ensures waits { (taking 0 (I 0 0 command ∷ []) started).answers ≡ [] }
     // STOPDT leaves no answer.
