@@ -1,5 +1,5 @@
 -- What changes of a client that is told what became of its orders: its answers, and the places that orders hold.
-use Rattle.std.proofs.Common.{◌≡◌, ◌-◌, ◌*◌, Bool, true, false, cond, List, [], ◌∷◌, ◌++◌, map, length, Option, Some, None, refl, sym, ap, ◌∙◌, append_assoc, arith}
+use Rattle.std.proofs.Common.{◌≡◌, ◌-◌, ◌*◌, Bool, true, false, cond, List, [], ◌∷◌, ◌++◌, map, length, Option, Some, None, refl, sym, subst, ap, ◌∙◌, append_assoc, arith}
 use Rattle.std.specs.Prelude.{◌&&◌, not, IfSome}
 use Rattle.std.specs.List.{AllByRecursion}
 use Rattle.std.proofs.lemmas.List.{append-nil}
@@ -12,7 +12,9 @@ use Rattle.gw_judge.specs.declared.judging.Judged.{Judged}
 use Rattle.gw_judge.specs.declared.judging.Judged.TheVariants as judgements
 use Rattle.gw_answers.specs.declared.outgoing.AsduAnswer.{AsduAnswer}
 use Rattle.gw_answers.specs.declared.outgoing.AsduAnswer.TheVariants.{Made}
+use Rattle.gw_answers.specs.declared.outgoing.OwnAsdu.{OwnAsdu}
 use Rattle.gw_answers.specs.Answers.{command_by, control_command}
+use Rattle.gw_answers.specs.Outgoing.{command_with, confirmed}
 use Rattle.gw_station.specs.declared.event.Said.{Said}
 use Rattle.gw_station.specs.declared.event.Said.TheVariants as saids
 use Rattle.gw_station.specs.declared.sending.Sending.TheVariants as sendings
@@ -21,7 +23,7 @@ use Rattle.gw_station.specs.Client.{Client}
 use Rattle.gw_steps.specs.Controls.{client_told_all, client_told_of, said_of_outcome}
 use Rattle.gw_history.proofs.Lives.{IsOperating}
 use Rattle.gw_laws.specs.Interrogations.{is_interrogation}
-use Rattle.gw_laws.specs.Line.{told_of, told_outcomes}
+use Rattle.gw_laws.specs.Line.{told_of, told_outcome, told_outcomes}
 use Rattle.gw_laws.specs.Mirror.{waiting_in}
 use Rattle.gw_laws.proofs.Parts.{IsApart}
 
@@ -60,11 +62,21 @@ same_beside (x ∷ xs) k =
 
 -- ---- what changes
 
+-- what the station says of an outcome is what has to be told of it
+told_is : (x : Outcome) → told x.command (said_of_outcome x) ≡ told_outcome x
+told_is x = by x.done
+  where
+    by : (done : Bool) → told x.command (cond done saids.Done saids.Failed) ≡ cond done
+        (confirmed false x.command ∷ command_with 10 false x.command ∷ []) (confirmed true x.command ∷ [])
+    by true = refl
+    by false = refl
+
 pub answers_told : (xs : List Outcome) (k : Client) → (client_told_all xs k).answers ≡ k.answers ++ told_outcomes xs
 answers_told [] k = sym (append-nil k.answers)
 answers_told (x ∷ xs) k =
     answers_told xs (client_told_of x k)
-    ∙ append_assoc k.answers (map Made (told x.command (said_of_outcome x))) (told_outcomes xs)
+    ∙ (append_assoc k.answers (map Made (told x.command (said_of_outcome x))) (told_outcomes xs)
+    ∙ ap (λ (said : List OwnAsdu). k.answers ++ (map Made said ++ told_outcomes xs)) (told_is x))
 
 -- each outcome frees two places
 pub held_told : (xs : List Outcome) (k : Client) → (client_told_all xs k).held ≡ k.held - 2 * length xs
@@ -108,8 +120,10 @@ told_apart command said operating = by said
 pub outcomes_apart : (xs : List Outcome) → AllByRecursion IsOperating xs → AllByRecursion IsApart (told_outcomes xs)
 outcomes_apart [] all = tt
 outcomes_apart (x ∷ xs) all =
-    all_joined (map Made (told x.command (said_of_outcome x))) (told_outcomes xs)
-    (told_apart x.command (said_of_outcome x) all.0) (outcomes_apart xs all.1)
+    all_joined (map Made (told_outcome x)) (told_outcomes xs)
+    (subst (λ (said : List OwnAsdu). AllByRecursion IsApart (map Made said)) (told_is x)
+    (told_apart x.command (said_of_outcome x) all.0))
+    (outcomes_apart xs all.1)
 
 -- a command for a control has a type that operates controls
 control_operates : (c : Command) (action : Action) → c.action ≡ action
@@ -153,7 +167,7 @@ outcomes_none [] = refl
 outcomes_none (x ∷ xs) = by x.done (outcomes_none xs)
   where
     by : (done : Bool) → waiting_in (map sendings.Answer (told_outcomes xs)) ≡ []
-        → waiting_in (map sendings.Answer
-        (map Made (told x.command (cond done saids.Done saids.Failed)) ++ told_outcomes xs)) ≡ []
+        → waiting_in (map sendings.Answer (map Made (cond done (confirmed false x.command
+        ∷ command_with 10 false x.command ∷ []) (confirmed true x.command ∷ [])) ++ told_outcomes xs)) ≡ []
     by true others = others
     by false others = others

@@ -1,7 +1,7 @@
 -- Line: each I format that is put out to a client is the front of what waits for it: the answers to its ASDUs and what
 -- became of its orders, the news that came before the interrogation that is pending, the rest of its answer, and later
 -- news. An answer goes alone; of news, and of the rows of an interrogation, as many go together as one ASDU carries.
-use Rattle.std.specs.Prelude.{◌≡◌, ℕ, ℤ, Bool, List, [], ◌∷◌, ◌++◌, length, map, take, drop, Option, Some, None}
+use Rattle.std.specs.Prelude.{◌≡◌, ℕ, ℤ, Bool, true, false, List, [], ◌∷◌, ◌++◌, length, map, take, drop, Option, Some, None, if◌then◌else◌}
 use Rattle.std.specs.Option.{option_to_list}
 use Rattle.gw_map.specs.Settings.{Setup}
 use Rattle.iec_apci.specs.declared.apdu.Asdu.{Asdu}
@@ -13,6 +13,7 @@ use Rattle.gw_answers.specs.declared.outgoing.AsduAnswer.{AsduAnswer}
 use Rattle.gw_answers.specs.declared.outgoing.AsduAnswer.TheVariants.{Made}
 use Rattle.gw_answers.specs.declared.outgoing.OwnAsdu.{OwnAsdu}
 use Rattle.gw_answers.specs.declared.outgoing.OwnAsdu.TheVariants as outgoing
+use Rattle.gw_answers.specs.Outgoing.{command_with, confirmed}
 use Rattle.gw_answers.specs.Interrogations.{answer_to}
 use Rattle.gw_answers.specs.Answers.{answered, command_by}
 use Rattle.gw_answers.specs.Meaning.{Meant, Tells, packed_asdu, Means}
@@ -22,7 +23,6 @@ use Rattle.gw_station.specs.declared.event.Said.{Said}
 use Rattle.gw_station.specs.Answers.{told}
 use Rattle.gw_station.specs.Frames.{judged_asdu}
 use Rattle.gw_station.specs.Pump.{news_front, rows_front}
-use Rattle.gw_steps.specs.Controls.{said_of_outcome}
 use Rattle.gw_steps.specs.Runs.{Entry}
 use Rattle.gw_steps.specs.Said.{ApduMeaning, IFormat, SFormat, UFormat}
 use Rattle.gw_history.specs.Life.{Taking, Turn, Idle, Takes, PutsOut, session, turns_in, OfEachLife}
@@ -41,10 +41,16 @@ abbrev pub answers_to : Setup → Taking → Bool → Asdu → Judged → List A
 answers_to setup taking pending asdu j =
     option_to_list (answered setup taking.picture pending asdu j) ++ told_of taking.said (command_by j)
 
--- what is told of outcomes
+-- what is told of an outcome: an order that was done is confirmed and terminated (10), and one that failed is confirmed
+-- negatively
+abbrev pub told_outcome : Outcome → List OwnAsdu
+told_outcome x =
+    if x.done then confirmed false x.command ∷ command_with 10 false x.command ∷ [] else confirmed true x.command ∷ []
+
+-- and of more than one
 abbrev pub told_outcomes : List Outcome → List AsduAnswer
 told_outcomes [] = []
-told_outcomes (x ∷ xs) = map Made (told x.command (said_of_outcome x)) ++ told_outcomes xs
+told_outcomes (x ∷ xs) = map Made (told_outcome x) ++ told_outcomes xs
 
 -- the answers that wait, oldest first: what is put out in an I format is the one that waits longest, where one waits
 abbrev pub owed : Setup → List Turn → List AsduAnswer
