@@ -186,9 +186,10 @@ impl Hub {
     /// And of each client's connection:
     /// - `connections`: in a step without a fault an APDU closes it for the first cause that holds, or else is taken;
     ///   each STARTDT, STOPDT and TESTFR act that was taken is confirmed at most once, in order; a tick closes it
-    ///   exactly where t1 has passed; a pump gives the confirmation that waits longest, else TESTFR act exactly where
-    ///   t3 has passed and none is unanswered, an S format only where w or t2 wants one, and nothing only where none
-    ///   of these is due.
+    ///   exactly where t1 has passed; a pump gives the first that is due of the confirmation that waits longest,
+    ///   TESTFR act, an I format and an S format, and nothing exactly where none is. And of each step: its fault is
+    ///   the one that is due by the history, and `Memory` comes only for a session that begins or an interrogation
+    ///   that is accepted.
     pub fn run(
         alloc: Global,
         settings: Settings,
