@@ -1,4 +1,8 @@
 //! What becomes of orders, by what the hub has of them before and behind each step.
+ghost use Rattle.std.specs.Prelude.{◌≡◌, [], ◌++◌};
+ghost use Rattle.gw_steps.specs.Controls.{is_on_its_way};
+ghost use Rattle.gw_shared.specs.Fates.{ended, fates_of, TellsEnded};
+ghost use Rattle.gw_shared.specs.Orders.{accepted_since};
 
 use crate::orders::Orders;
 use crate::roused::{CLIENTS, OUTSTATIONS, Topic};
@@ -6,6 +10,7 @@ use crate::settled::{Fate, OrderCounts, Settled};
 use gw_model::Memory;
 use gw_record::{Accepted, Hub, Outgoing, Reply, StepFault, Verdict};
 use std::alloc::Global;
+use std::marker::Model;
 
 /// How many orders there can be at once: for each outstation 16 that wait, and one under way.
 const MOST_ORDERS: usize = 17 * OUTSTATIONS as usize;
@@ -41,6 +46,14 @@ pub(crate) struct Fates {
     before: u64,
 }
 
+impl Model for Fates {
+    ghost use Rattle.gw_shared.specs.Fates.{Fates as Seen};
+
+    ghost Value = { Seen };
+
+    ghost view = { λ f. record { at_stake = f.at_stake.items; before = f.before } };
+}
+
 impl Fates {
     /// Of no order.
     pub fn new(alloc: Global) -> Result<Fates, Memory> {
@@ -57,8 +70,9 @@ impl Fates {
     }
 
     /// A step about this is to be made on a hub.
-    pub fn foresee(&mut self, topic: Topic, hub: &Hub) {
-        self.before = hub.orders();
+    pub fn foresee(&mut self, topic: Topic, hub: &Hub)
+        ensures { self.new.before ≡ hub.now.state.controls.ordered }
+    {
         self.at_stake.clear();
         match topic {
             Topic::Loss(outstation) => self.add_lost(outstation, hub),
@@ -69,6 +83,7 @@ impl Fates {
             }
             Topic::Poll(_) | Topic::Pump(_) | Topic::Fragment(_) | Topic::Up(_) => {}
         }
+        self.before = hub.orders();
     }
 
     /// The orders of an outstation that is lost: the one under way to it, and those that wait for it.
@@ -131,7 +146,12 @@ impl Fates {
         reply: &Result<Reply, StepFault>,
         hub: &Hub,
         orders: &mut Orders,
-    ) {
+    )
+        ensures accepted { orders.new.accepted ≡ accepted_since self.old.before hub.now.state.controls.ordered }
+        // Where there was memory for all.
+        ensures settled { orders.new.left_out ≡ 0
+            → TellsEnded hub.now.state self.old.at_stake orders.new.settled }
+    {
         orders.begin(self.before, hub.orders());
         if let Some(order) = orders.accepted() {
             self.accept(order, hub);
@@ -141,7 +161,9 @@ impl Fates {
     }
 
     /// An order of this number was accepted: it is the last that waits for its outstation.
-    fn accept(&mut self, order: u64, hub: &Hub) {
+    fn accept(&mut self, order: u64, hub: &Hub)
+        ensures { self.new ≡ self.old }
+    {
         for (counts, outgoing) in self.counts.iter_mut().zip(hub.outgoing()) {
             if is_last(order, outgoing) {
                 counts.accept();
@@ -150,7 +172,9 @@ impl Fates {
     }
 
     /// An answer ends the order under way to its outstation.
-    fn answer(&mut self, topic: Topic, reply: &Result<Reply, StepFault>) {
+    fn answer(&mut self, topic: Topic, reply: &Result<Reply, StepFault>)
+        ensures { self.new ≡ self.old }
+    {
         if let (
             Topic::Fragment(outstation),
             Ok(
@@ -170,14 +194,34 @@ impl Fates {
     }
 
     /// What was at stake and isn't on its way any more has ended.
-    fn settle(&mut self, hub: &Hub, orders: &mut Orders) {
-        self.at_stake
-            .retain(|stake| !is_on_its_way(&stake.settled, hub));
+    fn settle(&mut self, hub: &Hub, orders: &mut Orders)
+        requires { orders.old.settled ≡ [] }
+        ensures accepted { orders.new.accepted ≡ orders.old.accepted }
+        ensures settled { orders.new.left_out ≡ 0
+            → TellsEnded hub.now.state self.old.at_stake orders.new.settled }
+    {
+        keep_ended(&mut self.at_stake, hub);
         self.at_stake.sort_unstable_by_key(|stake| stake.rank());
-        for stake in &self.at_stake {
-            settle_in(&mut self.counts, &stake.settled);
-            orders.settle(stake.settled);
-        }
+        tell(self.at_stake.as_slice(), &mut self.counts, orders);
+    }
+}
+
+/// Those stay that aren't on their way any more.
+fn keep_ended(at_stake: &mut Vec<AtStake>, hub: &Hub)
+    ensures { at_stake.new.items ≡ ended hub.now.state at_stake.old.items }
+{
+    at_stake.retain(|stake| !is_on_its_way(&stake.settled, hub));
+}
+
+/// These ended, one after the other.
+fn tell(at_stake: &[AtStake], counts: &mut [OrderCounts], orders: &mut Orders)
+    ensures accepted { orders.new.accepted ≡ orders.old.accepted }
+    ensures settled { orders.new.left_out ≡ 0
+        → orders.new.settled ≡ orders.old.settled ++ fates_of at_stake.now }
+{
+    for stake in at_stake {
+        settle_in(counts, &stake.settled);
+        orders.settle(stake.settled);
     }
 }
 
@@ -190,7 +234,9 @@ fn is_last(order: u64, outgoing: &Outgoing) -> bool {
 }
 
 /// Whether an order waits for its outstation, or is under way to it.
-fn is_on_its_way(settled: &Settled, hub: &Hub) -> bool {
+fn is_on_its_way(settled: &Settled, hub: &Hub) -> bool
+    ensures { result ≡ is_on_its_way hub.now.state settled.now.outstation settled.now.order }
+{
     match hub.outgoing().get(usize::from(settled.outstation)) {
         Some(outgoing) => outgoing.has(settled.order),
         None => false,
