@@ -73,7 +73,6 @@ impl Fates {
     pub fn foresee(&mut self, topic: Topic, hub: &Hub)
         ensures { self.new.before ≡ hub.now.state.controls.ordered }
     {
-        self.before = hub.orders();
         self.at_stake.clear();
         match topic {
             Topic::Loss(outstation) => self.add_lost(outstation, hub),
@@ -84,12 +83,11 @@ impl Fates {
             }
             Topic::Poll(_) | Topic::Pump(_) | Topic::Fragment(_) | Topic::Up(_) => {}
         }
+        self.before = hub.orders();
     }
 
     /// The orders of an outstation that is lost: the one under way to it, and those that wait for it.
-    fn add_lost(&mut self, outstation: u8, hub: &Hub)
-        ensures { self.new.before ≡ self.old.before }
-    {
+    fn add_lost(&mut self, outstation: u8, hub: &Hub) {
         let Some(outgoing) = hub.outgoing().get(usize::from(outstation)) else {
             return;
         };
@@ -102,9 +100,7 @@ impl Fates {
     }
 
     /// The orders that wait of a client, or of all, where its session ends.
-    fn add_let_go(&mut self, client: Option<u8>, hub: &Hub)
-        ensures { self.new.before ≡ self.old.before }
-    {
+    fn add_let_go(&mut self, client: Option<u8>, hub: &Hub) {
         for outgoing in hub.outgoing() {
             if !outgoing.waiting().is_empty() {
                 self.add_waiting(client, outgoing);
@@ -113,9 +109,7 @@ impl Fates {
     }
 
     /// Those that wait for one outstation.
-    fn add_waiting(&mut self, client: Option<u8>, outgoing: &Outgoing)
-        ensures { self.new.before ≡ self.old.before }
-    {
+    fn add_waiting(&mut self, client: Option<u8>, outgoing: &Outgoing) {
         for accepted in outgoing.waiting() {
             if client.is_none() || client == Some(accepted.client) {
                 self.add(*accepted, Fate::LetGo);
@@ -124,9 +118,7 @@ impl Fates {
     }
 
     /// The orders under way, where no answer came in time.
-    fn add_unanswered(&mut self, hub: &Hub)
-        ensures { self.new.before ≡ self.old.before }
-    {
+    fn add_unanswered(&mut self, hub: &Hub) {
         for outgoing in hub.outgoing() {
             if let Some(under_way) = outgoing.under_way() {
                 self.add(under_way.accepted, Fate::Unanswered);
@@ -135,9 +127,7 @@ impl Fates {
     }
 
     /// One more is at stake. There is room for all.
-    fn add(&mut self, accepted: Accepted, fate: Fate)
-        ensures { self.new.before ≡ self.old.before }
-    {
+    fn add(&mut self, accepted: Accepted, fate: Fate) {
         let order = accepted.order;
         let _ = self.at_stake.push(AtStake {
             client: accepted.client,

@@ -1,7 +1,7 @@
 //! The core behind its lock.
 ghost use Rattle.std.specs.Prelude.{◌≡◌, ◌<◌, IfOk, map, vec_len};
 ghost use Rattle.std.specs.List.{range_with_len};
-ghost use Rattle.gw_shared.specs.Pumping.{IsPumpedRun};
+ghost use Rattle.gw_shared.specs.Pumping.{IsPumpedRun, MayGoOn};
 ghost use Rattle.gw_shared.specs.Turn.{unused, Answers};
 
 use crate::batch::Batch;
@@ -121,6 +121,7 @@ impl<L: Ledger> Shared<L> {
         batch: &mut Batch,
     ) -> Pumped
         ensures run { IsPumpedRun client batch.old batch.new result }
+        ensures more { MayGoOn pass.old pass.new batch.new result }
         ensures own { pass.new.actor ≡ pass.old.actor }
     {
         self.core.lock(rt).pump(pass, client, moment, batch)
