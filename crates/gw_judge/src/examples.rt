@@ -49,7 +49,7 @@ pub fn requests_by_example()
         (0x66 ∷ 1 ∷ 5 ∷ 0 ∷ 0xFF ∷ 0xFF ∷ 0x05 ∷ 0x10 ∷ 0 ∷ [])
         ∷ (0x2D ∷ 1 ∷ 6 ∷ 0 ∷ 0xFF ∷ 0xFF ∷ 0x89 ∷ 0x13 ∷ 0 ∷ 1 ∷ []) ∷ [])
         ≡ Refuse 46 false ∷ Refuse 46 false ∷ [] }
-    // A common address has two octets: a read and an interrogation of station 258, and of others that share one of them.
+    // A common address has two octets: a read and an interrogation of station 258, and of others with one of them.
     ensures two_octets { map (judged at_258) (
         (0x66 ∷ 1 ∷ 5 ∷ 0 ∷ 2 ∷ 1 ∷ 0x05 ∷ 0x10 ∷ 0 ∷ [])
         ∷ (0x65 ∷ 1 ∷ 6 ∷ 0 ∷ 2 ∷ 1 ∷ 0 ∷ 0 ∷ 0 ∷ 0x05 ∷ []) ∷ [])

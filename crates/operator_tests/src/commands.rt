@@ -145,6 +145,40 @@ fn check_command(
     Ok(())
 }
 
+/// Octets that are no command, with the number and the words of their fault.
+const NO_COMMANDS: &[(&[u8], u8, &str)] = &[
+    (b"\x2D\x01\x06\x00\x01", 1, "1 Short"),
+    (b"\x2D\x01\x06\x00\x01\x00\x89\x13\x00\x01\x00", 2, "2 Long"),
+    (b"\x67\x01\x06\x00\x01\x00", 3, "3 UnknownType"),
+    (b"\x2D\x02\x06\x00\x01\x00\x89\x13\x00\x01", 4, "4 Count"),
+];
+
+#[test]
+fn faults_of_commands(rt: HostRuntime) -> Result<(), Fail> {
+    for (octets, number, words) in NO_COMMANDS {
+        check_fault(&rt, octets, *number, words)?;
+    }
+    Ok(())
+}
+
+/// Octets are no command, with this fault.
+fn check_fault(
+    rt: &(impl Abort + AllocGlobal),
+    asdu: &[u8],
+    number: u8,
+    words: &str,
+) -> Result<(), Fail> {
+    match read_command(asdu) {
+        Ok(_) => assert!(rt; false),
+        Err(fault) => {
+            assert_eq!(rt; fault as u8, number);
+            let shown = format!(in rt.alloc(); "{fault}")?;
+            assert_eq!(rt; shown.as_str(), words);
+        }
+    }
+    Ok(())
+}
+
 /// When the next note was, and how many notes it tells of that were left out, if it does.
 fn next_of(waiting: &mut WaitingNotes) -> Option<(u64, Option<u64>)> {
     match waiting.next() {
