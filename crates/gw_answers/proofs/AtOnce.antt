@@ -1,5 +1,5 @@
 -- What an ASDU gets at once is what the definitions apart from the code say.
-use Rattle.std.proofs.Common.{◌≡◌, ◌↔◌, ℕ, ◌+◌, ◌==◌, Bool, true, false, not, ◌&&◌, ◌⊎◌, inl, inr, List, [], ◌∷◌, map, slice_get, Option, Some, None, Ok, refl, sym, ap, subst, ◌∙◌, arith}
+use Rattle.std.proofs.Common.{◌≡◌, ◌↔◌, ℕ, ◌+◌, ◌==◌, Bool, true, false, not, ◌&&◌, ◌⊎◌, inl, inr, List, [], map, slice_get, Option, Some, None, Ok, refl, sym, ap, subst, ◌∙◌, arith}
 use Rattle.std.proofs.lemmas.Bool.{cases_Bool, true≢false, eqb-true, eq-eqb, and_parts, and_from, not-true, not_from_false}
 use Rattle.std.proofs.lemmas.Option.{same_Some}
 use Rattle.std.specs.Prelude.{option_map}
@@ -21,11 +21,10 @@ use Rattle.gw_judge.proofs.Found.{first-at, place-first}
 use Rattle.gw_judge.proofs.Refusals.{comes_back, back_comes}
 use Rattle.gw_answers.specs.declared.outgoing.AsduAnswer.{AsduAnswer}
 use Rattle.gw_answers.specs.declared.outgoing.AsduAnswer.TheVariants.{Returned, Made}
-use Rattle.gw_answers.specs.declared.outgoing.OwnAsdu.{OwnAsdu}
 use Rattle.gw_answers.specs.declared.outgoing.OwnAsdu.TheVariants as outgoing
 use Rattle.gw_answers.specs.Outgoing.{confirmation_cause, confirmed}
 use Rattle.gw_answers.specs.Interrogations.{is_general, is_accepted_act}
-use Rattle.gw_answers.specs.Answers.{shown_by, shown_at, refused_act, answered_action, answered}
+use Rattle.gw_answers.specs.Answers.{shown_by, refused_act, answered_action, answered}
 use Rattle.gw_answers.specs.Octets.{octets_in}
 use Rattle.gw_answers.specs.AtOnce.{IsInterrogation, IsGeneral, BeginsAnswer, IsConfirmedWith, IsRefusedAct, IsShownAt, IsRead, Gets}
 

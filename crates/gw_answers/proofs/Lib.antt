@@ -1,4 +1,3 @@
 pub mod Meant
-pub mod Rows
 pub mod Sendable
 pub mod AtOnce

@@ -1,5 +1,5 @@
 -- Each cause with which an ASDU is sent back, and what closes the connection.
-use Rattle.std.proofs.Common.{◌≡◌, ◌↔◌, ℕ, ◌+◌, ◌<◌, ◌≤◌, ◌==◌, Bool, true, false, not, ◌&&◌, ◌||◌, ◌⊎◌, inl, inr, List, [], ◌∷◌, length, Option, Some, None, Result, Ok, Err, refl, sym, ap, subst, ◌∙◌, arith}
+use Rattle.std.proofs.Common.{◌≡◌, ◌↔◌, ℕ, ◌+◌, ◌==◌, Bool, true, false, not, ◌&&◌, inl, inr, List, [], ◌∷◌, length, Option, Some, None, Result, Ok, Err, refl, sym, ap, ◌∙◌, arith}
 use Rattle.std.specs.Prelude.{nat_lt, slice_index}
 use Rattle.std.proofs.lemmas.Bool.{cases_Bool, eqb-true, eq-eqb, true≢false, ltb-false, ltb-true, le-ltb, lt-ltb}
 use Rattle.std.proofs.lemmas.Option.{same_Some}
@@ -10,9 +10,9 @@ use Rattle.iec_command.specs.declared.command.Action.{Action}
 use Rattle.iec_command.specs.declared.command.Action.TheVariants.{Single, Double, Setpoint, Interrogation, CounterInterrogation, Read}
 use Rattle.iec_command.specs.declared.fault.CommandFault.{CommandFault}
 use Rattle.iec_command.specs.declared.fault.CommandFault.TheVariants.{Short, Long, UnknownType, Count}
-use Rattle.iec_command.specs.Commands.{action_of, command_in, command_of, element_length, faults, is_known, type_of, unless}
+use Rattle.iec_command.specs.Commands.{action_of, command_in, command_of, element_length, is_known, type_of, unless}
 use Rattle.gw_judge.specs.declared.judging.Judged.{Judged}
-use Rattle.gw_judge.specs.declared.judging.Judged.TheVariants.{Malformed, Refuse, Accepted}
+use Rattle.gw_judge.specs.declared.judging.Judged.TheVariants.{Malformed, Refuse}
 use Rattle.gw_judge.specs.Judging.{has_known_cause, is_addressed, has_object, is_execute, refusal_of, judged_by, judged_reading, judged}
 use Rattle.gw_judge.specs.Acceptable.{HasKnownCause, IsFor, HasObject}
 use Rattle.gw_judge.specs.Refusals.{HasKnownType, IsMalformed, HasUnknownType, HasUnknownCause, HasUnknownStation, HasUnknownObject, ComesBackWith}

@@ -1,11 +1,10 @@
 -- What goes out together: what it means, and what it leaves.
-use Rattle.std.proofs.Common.{◌≡◌, ℕ, zero, suc, ℤ, ◌<◌, ◌≤◌, ◌==◌, ◌&&◌, Bool, true, false, List, [], ◌∷◌, ◌++◌, map, length, take, drop, Option, Some, None, refl, sym, ap, subst, ◌∙◌, arith, inl, inr, if◌then◌else◌}
-use Rattle.std.specs.Prelude.{◌⊎◌, IsTrue, slice_get}
+use Rattle.std.proofs.Common.{◌≡◌, ℕ, zero, suc, ℤ, ◌<◌, ◌≤◌, ◌==◌, ◌&&◌, Bool, true, false, List, [], ◌∷◌, ◌++◌, map, length, take, drop, Option, Some, refl, sym, ap, subst, ◌∙◌, arith, inl, inr, if◌then◌else◌}
+use Rattle.std.specs.Prelude.{◌⊎◌, slice_get}
 use Rattle.std.specs.List.{AllByRecursion}
-use Rattle.std.proofs.lemmas.Bool.{cases_Bool, eq-eqb, eqb-true, and_parts}
+use Rattle.std.proofs.lemmas.Bool.{eq-eqb, eqb-true, and_parts}
 use Rattle.std.proofs.lemmas.Option.{same_Some}
 use Rattle.gw_model.specs.declared.observation.Observation.{Observation}
-use Rattle.gw_model.specs.Fit.{IsFit}
 use Rattle.gw_map.specs.Settings.{Setup}
 use Rattle.iec_asdu.specs.Packing.{taken_of}
 use Rattle.iec_asdu.proofs.Carried.{taken_of_within}
@@ -22,7 +21,7 @@ use Rattle.gw_station.specs.Kept.{parts_front, parts_together}
 use Rattle.gw_station.specs.Pump.{line, news_front, rows_front, together, part_octets}
 use Rattle.gw_station.specs.Sound.{CanSend}
 use Rattle.gw_station.proofs.All.{all-take}
-use Rattle.gw_station.proofs.Front.{news_sendable, rows_sendable, news_together, news_first, part_first, rows_run, parts_same, parts_within, next_front, next_within}
+use Rattle.gw_station.proofs.Front.{news_sendable, rows_sendable, news_together, news_first, part_first, rows_run, parts_same, next_front, next_within}
 use Rattle.gw_laws.specs.Fates.{spontaneous_of}
 use Rattle.gw_laws.specs.Interrogations.{parts_in, as_told}
 use Rattle.gw_laws.specs.Line.{MeansFront, SaysFirst}

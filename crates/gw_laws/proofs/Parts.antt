@@ -1,6 +1,6 @@
 -- What is put out of the answer to an interrogation, and what isn't.
-use Rattle.std.proofs.Common.{◌≡◌, ℕ, zero, suc, ℤ, ◌+◌, ◌%◌, ◌≤◌, Bool, true, false, eqb, List, [], ◌∷◌, ◌++◌, map, drop, Option, Some, None, refl, sym, ap, ◌∙◌, append_assoc, arith, inl, inr, take}
-use Rattle.std.specs.Prelude.{◌&&◌, ◌||◌, not, option_map, ◌⊎◌, slice_get}
+use Rattle.std.proofs.Common.{◌≡◌, ℕ, ℤ, ◌+◌, ◌%◌, ◌≤◌, Bool, true, false, eqb, List, [], ◌∷◌, ◌++◌, map, drop, Option, Some, None, refl, sym, ap, ◌∙◌, append_assoc, arith, inl, inr, take}
+use Rattle.std.specs.Prelude.{◌&&◌, ◌||◌, not, option_map, ◌⊎◌}
 use Rattle.std.specs.List.{AllByRecursion, list_any}
 use Rattle.std.proofs.lemmas.Bool.{cases_Bool, ne_eqb}
 use Rattle.std.proofs.lemmas.List.{append-nil, map-append, take-append-drop, drop-drop}
@@ -18,10 +18,6 @@ use Rattle.gw_answers.specs.Octets.{octets_in}
 use Rattle.gw_answers.specs.Meaning.{Meant, Tells, Commands, Unread, asdu_of, packed_asdu, Means, CanSendAnswer}
 use Rattle.gw_answers.proofs.Meant.{refused_with}
 use Rattle.gw_station.specs.Answers.{is_pending as is_asked}
-use Rattle.gw_station.specs.Client.{Client}
-use Rattle.gw_station.specs.Pump.{line}
-use Rattle.gw_station.specs.declared.sending.Sending.{Sending}
-use Rattle.gw_station.specs.declared.sending.Sending.TheVariants as sendings
 use Rattle.gw_laws.specs.Interrogations.{Interrogation, is_interrogation, parts_of_command, parts_in, is_termination, is_pending, as_told, answer_told, interrogation_telling}
 use Rattle.gw_laws.specs.Fates.{spontaneous_of}
 

@@ -1,9 +1,8 @@
 -- What is left of an answer, behind the parts that were put out.
-use Rattle.std.proofs.Common.{◌≡◌, ◌+◌, ◌-◌, ◌<◌, ◌≤◌, ◌==◌, ◌&&◌, ℕ, ℤ, zero, suc, Bool, true, false, List, [], ◌∷◌, ◌++◌, length, map, drop, Option, Some, None, refl, sym, ap, subst, ◌∙◌, arith}
+use Rattle.std.proofs.Common.{◌≡◌, ◌+◌, ◌-◌, ◌<◌, ◌≤◌, ℕ, zero, suc, true, false, List, [], ◌∷◌, ◌++◌, length, map, drop, Option, Some, None, refl, sym, ap, subst, ◌∙◌, arith}
 use Rattle.std.specs.Prelude.{is_some, option_map, slice_get, IfSome}
 use Rattle.std.proofs.lemmas.Bool.{eq-eqb}
 use Rattle.std.proofs.lemmas.List.{drop-drop, drop_all, length-append, length-map}
-use Rattle.std.proofs.lemmas.Option.{same_Some}
 use Rattle.gw_model.specs.declared.observation.Observation.{Observation}
 use Rattle.iec_command.specs.declared.command.Command.{Command}
 use Rattle.gw_answers.specs.declared.outgoing.OwnAsdu.{OwnAsdu}

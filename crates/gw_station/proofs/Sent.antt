@@ -2,7 +2,7 @@
 use Rattle.std.proofs.Common.{◌≡◌, ℕ, ℤ, ◌<◌, List, length, Some, refl, sym, ap, subst, ◌∙◌}
 use Rattle.std.specs.Prelude.{slice_get}
 use Rattle.gw_model.specs.declared.observation.Observation.{Observation}
-use Rattle.iec_apci.specs.Apdu.{ApduContent, Information}
+use Rattle.iec_apci.specs.Apdu.{Information}
 use Rattle.iec_asdu.specs.Packing.{taken_of}
 use Rattle.iec_window.specs.Sequence.{send_number, receive_number}
 use Rattle.iec_window.specs.Steps.{counts_after_sending_i}

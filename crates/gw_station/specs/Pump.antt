@@ -10,7 +10,6 @@ use Rattle.iec_window.specs.Sequence.{send_number, receive_number}
 use Rattle.iec_window.specs.Timers.{owes_ack, owes_test}
 use Rattle.iec_window.specs.Steps.{counts_after_sending_s, counts_after_sending_i, counts_after_sending_test}
 use Rattle.gw_answers.specs.declared.outgoing.AsduAnswer.{AsduAnswer}
-use Rattle.gw_answers.specs.declared.outgoing.AsduAnswer.TheVariants.{Made}
 use Rattle.gw_answers.specs.declared.outgoing.OwnAsdu.{OwnAsdu}
 use Rattle.gw_answers.specs.declared.outgoing.OwnAsdu.TheVariants as outgoing
 use Rattle.gw_answers.specs.Octets.{answer_octets, outgoing_octets, packed_octets}

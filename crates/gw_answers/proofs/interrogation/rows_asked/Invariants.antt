@@ -1,6 +1,6 @@
 -- The rows before this one that are asked; there is room for the others.
 use Rattle.std.specs.List.{filter}
-use Rattle.std.proofs.Common.{◌≡◌, ◌+◌, ◌≤◌, length, take}
+use Rattle.std.proofs.Common.{◌≡◌, ◌≤◌, length, take}
 use Rattle.std.specs.Prelude.{vec_capacity}
 use Rattle.gw_answers.specs.Interrogations.{is_asked_by}
 use Rattle.gw_answers.proofs.interrogation.rows_asked.Given as goal

@@ -1,4 +1,4 @@
-use Rattle.std.proofs.Common.{◌≡◌, ◌+◌, ◌≤◌, List, drop, length, ap, ◌∙◌, arith, rules}
+use Rattle.std.proofs.Common.{◌≡◌, ◌+◌, ◌≤◌, drop, length, ap, ◌∙◌, arith, rules}
 use Rattle.std.specs.Arc.{arc_slice_items}
 use Rattle.gw_station.proofs.Rests.{forgotten, forgotten_all}
 use Rattle.gw_station.proofs.rest.PartsLeft.forget.Goals as goal

@@ -1,4 +1,4 @@
-use Rattle.std.proofs.Common.{List, sym, ap, ◌∙◌}
+use Rattle.std.proofs.Common.{sym, ap, ◌∙◌}
 use Rattle.std.specs.Arc.{arc_slice_items}
 use Rattle.gw_station.specs.Answers.{is_pending}
 use Rattle.gw_station.proofs.Rests.{pending_of}

@@ -1,4 +1,4 @@
-use Rattle.std.proofs.Common.{◌≡◌, ℕ, List, refl, ap, ◌∙◌, rules}
+use Rattle.std.proofs.Common.{◌≡◌, ℕ, List, refl, ap, ◌∙◌}
 use Rattle.iec_apci.specs.Apdu.{Information}
 use Rattle.iec_apci.specs.Buffer.{buffer_of}
 use Rattle.iec_window.specs.Counts.{WindowCounts}
