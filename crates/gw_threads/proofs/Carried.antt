@@ -19,7 +19,7 @@ use Rattle.gw_answers.specs.declared.outgoing.OwnAsdu.{OwnAsdu}
 use Rattle.gw_answers.specs.declared.outgoing.OwnAsdu.TheVariants as outgoing
 use Rattle.gw_answers.specs.Outgoing.{at_station}
 use Rattle.gw_answers.specs.Octets.{answer_octets, octets_in, outgoing_octets, packed_octets}
-use Rattle.gw_answers.specs.Meaning.{Meant, Tells, Commands, Unread, meaning_of, meant_outgoing, asdu_of, IsSendable, Means, CanSendAnswer, CanSendOutgoing}
+use Rattle.gw_answers.specs.Meaning.{Meant, Tells, Commands, Unread, meaning_of, meant_outgoing, IsSendable, Means, CanSendAnswer, CanSendOutgoing}
 use Rattle.gw_answers.proofs.Meant.{answer_means, outgoing_means, packed_mean, refused_with}
 use Rattle.gw_station.specs.declared.sending.Sending.{Sending}
 use Rattle.gw_station.specs.declared.sending.Sending.TheVariants as sendings
