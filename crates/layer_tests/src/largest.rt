@@ -1,4 +1,7 @@
-//! Calls that take memory, at their largest sizes: no contract tells memory that ran out from a limit of the code.
+//! Calls that take memory, at their largest sizes and where nothing comes of it: no contract tells memory that ran out
+//! from a limit of the code.
+ghost use Rattle.std.specs.Prelude.{◌≤◌, length};
+
 use dnp_app::Response;
 use dnp_link::laws::events_of;
 use dnp_link::{LinkEvent, LinkFeed, SkipReason, write_frame};
@@ -78,14 +81,30 @@ fn largest_fragment() -> [u8; FRAGMENT_LIMIT] {
     fragment
 }
 
+/// The frame of a segment from station 1 to station 1024.
+fn add_frame(frames: &mut Vec<u8>, segment: &[u8]) -> Result<(), Fail>
+    requires { length segment.now ≤ 250 }
+{
+    let mut frame = [0; 292];
+    let octets = write_frame(0x44, 1024, 1, segment, &mut frame);
+    frames.extend_from_slice(&frame[..octets])?;
+    Ok(())
+}
+
+/// A fragment in frames.
+fn framed(alloc: Global, fragment: &[u8]) -> Result<Vec<u8>, Fail>
+    requires { length fragment.now ≤ 2048 }
+{
+    let mut frames = Vec::new(alloc);
+    for segment in segments(fragment, 60) {
+        add_frame(&mut frames, segment.octets())?;
+    }
+    Ok(frames)
+}
+
 /// So many of a fragment in frames, one after another.
 fn stream_of(alloc: Global, fragment: &[u8; FRAGMENT_LIMIT], count: u16) -> Result<Vec<u8>, Fail> {
-    let mut frames = Vec::new(alloc);
-    let mut frame = [0; 292];
-    for segment in segments(fragment, 60) {
-        let octets = write_frame(0x44, 1024, 1, segment.octets(), &mut frame);
-        frames.extend_from_slice(&frame[..octets])?;
-    }
+    let frames = framed(alloc, fragment)?;
     repeated(alloc, b"", &frames, count)
 }
 
@@ -145,6 +164,60 @@ fn many_largest_responses(rt: HostRuntime) -> Result<(), Fail> {
     let stream = long_stream(&rt, &fragment)?;
     check_stream(&rt, &[&[], &stream, &[]], &fragment)?;
     check_in_tens(&rt, &stream, &fragment)
+}
+
+/// A mebibyte in one piece: 16 times these octets.
+#[test]
+fn a_large_piece_of_a_link(rt: HostRuntime) -> Result<(), Fail> {
+    let stream = long_stream(&rt, &largest_fragment())?;
+    let piece = repeated(rt.alloc(), b"", &stream, 16)?;
+    assert_eq!(rt; count_events(rt.alloc(), &[&piece])?, 10_912);
+    Ok(())
+}
+
+/// How many responses a fragment in frames is; it is one fragment.
+fn count_in_fragment(rt: &(impl Abort + AllocGlobal), fragment: &[u8]) -> Result<usize, Fail>
+    requires { length fragment.now ≤ 2048 }
+{
+    let stream = framed(rt.alloc(), fragment)?;
+    assert_eq!(rt; count_fragments(rt.alloc(), &[&stream])?, 1);
+    Ok(read_responses(rt.alloc(), &[&stream])?.len())
+}
+
+/// A fragment that is refused is no response, and no want of memory: one of three octets, a request, and an object
+/// without its octets. The same with the octets of the object is a response.
+#[test]
+fn refused_fragments(rt: HostRuntime) -> Result<(), Fail> {
+    assert_eq!(rt; count_in_fragment(&rt, b"\xC0\x81\0")?, 0);
+    assert_eq!(rt; count_in_fragment(&rt, b"\xC0\x01\x3C\x02\x06")?, 0);
+    assert_eq!(rt;
+        count_in_fragment(&rt, b"\xC0\x81\0\0\x02\x01\x17\x01\x05")?,
+        0
+    );
+    assert_eq!(rt;
+        count_in_fragment(&rt, b"\xC0\x81\0\0\x02\x01\x17\x01\x05\x81")?,
+        1
+    );
+    Ok(())
+}
+
+/// How many fragments segments are, each in a frame.
+fn count_in_segments(rt: &(impl Abort + AllocGlobal), carried: &[[u8; 2]]) -> Result<usize, Fail> {
+    let mut frames = Vec::new(rt.alloc());
+    for segment in carried {
+        add_frame(&mut frames, segment)?;
+    }
+    count_fragments(rt.alloc(), &[&frames])
+}
+
+/// A segment that is dropped is no want of memory: the last one of a fragment alone, and behind a gap.
+#[test]
+fn dropped_segments(rt: HostRuntime) -> Result<(), Fail> {
+    let alone: [[u8; 2]; 3] = [[0x85, 0xAA], [0xC6, 0xBB], [0x87, 0xCC]];
+    assert_eq!(rt; count_in_segments(&rt, &alone)?, 1);
+    let behind_a_gap: [[u8; 2]; 3] = [[0x45, 0xAA], [0x07, 0xBB], [0x88, 0xCC]];
+    assert_eq!(rt; count_in_segments(&rt, &behind_a_gap)?, 0);
+    Ok(())
 }
 
 /// A feed that was fed octets in pieces of ten.
@@ -268,6 +341,14 @@ fn longest_apdus(rt: HostRuntime) -> Result<(), Fail> {
     let stream = repeated(rt.alloc(), b"\x68", &behind, 1)?;
     assert_eq!(rt; stream.len(), 65_536);
     check_all(&rt, &mut fed(rt.alloc(), &stream, &behind)?, 514);
+    Ok(())
+}
+
+/// The same 16 times in one piece: a mebibyte.
+#[test]
+fn a_large_piece_of_apdus(rt: HostRuntime) -> Result<(), Fail> {
+    let piece = repeated(rt.alloc(), b"\x68", &longest_behind(rt.alloc())?, 16)?;
+    assert_eq!(rt; count_apdus(&rt, &[&piece])?, 4112);
     Ok(())
 }
 
