@@ -150,8 +150,9 @@ impl Hub {
     ///   those dropped. I formats are put out in a session alone, and carry what a station may say.
     /// - `interrogations`: what was put out of the answer to a client's interrogation is the front of it, and all of it
     ///   once its termination is out: the confirmation, what the picture showed at its act, and the termination.
-    /// - `line`: each I format put out to a client is the first of what waited for it: answers to its ASDUs, news that
-    ///   came before the interrogation that is pending, the rest of its answer, and later news.
+    /// - `line`: each I format put out to a client is the front of what waited for it: answers to its ASDUs, news that
+    ///   came before the interrogation that is pending, the rest of its answer, and later news. An answer goes alone;
+    ///   of news, and of rows, as many go together as one ASDU carries.
     /// - `mirror`: once a station interrogation was confirmed, and while no news since its act was dropped, the
     ///   observations put out from then on and those that wait have as their last values what the picture shows, but
     ///   for totals.
