@@ -44,6 +44,7 @@ impl<W: Outgoing> Wire<W> {
         ensures ok { OnOk result (Appends (W.contents self.old.writer) (W.contents self.new.writer)
             (framed self.old.own self.old.peer (segments_of fragment.now (self.old.sequence % 64)))) }
         ensures err { OnErr result (CanFail W.can_fail) }
+        ensures addresses { (self.new.own ≡ self.old.own) × (self.new.peer ≡ self.old.peer) }
     {
         'segments: for segment in segments(fragment, self.sequence % 64) {
             let mut frame = [0; 292];
@@ -58,6 +59,8 @@ impl<W: Outgoing> Wire<W> {
     pub fn answer(&mut self, frame: &[u8]) -> Result<(), Unwritten>
         ensures ok { OnOk result (Appends (W.contents self.old.writer) (W.contents self.new.writer) frame.now) }
         ensures err { OnErr result (CanFail W.can_fail) }
+        ensures addresses { (self.new.own ≡ self.old.own) × (self.new.peer ≡ self.old.peer) }
+        ensures sequence { self.new.sequence ≡ self.old.sequence }
     {
         self.writer.hand(frame)
     }
