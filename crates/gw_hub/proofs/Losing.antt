@@ -8,9 +8,9 @@ use Rattle.gw_picture.specs.Loss.{losses_at, losses_of, picture_after_loss, pict
 use Rattle.gw_picture.proofs.Losses.{loss_next, shown_next, losses_end, shown_end}
 use Rattle.gw_station.specs.Client.{Client, client_with_news}
 use Rattle.gw_answers.specs.Meaning.{IsSendable}
-use Rattle.gw_station.specs.Sound.{CanTake}
+use Rattle.gw_station.specs.Sound.{WaitsWithin}
 use Rattle.gw_station.proofs.Sounds.{sendable-append}
-use Rattle.gw_hub.proofs.Taking.{can_fewer, map_came-nil, map_came-twice}
+use Rattle.gw_hub.proofs.Taking.{map_came-nil, map_came-twice}
 
 -- what the rows from a place on still lose
 abbrev pub rest_of : ℕ → List Row → ℕ → List Observation → List Observation
@@ -49,22 +49,26 @@ left_behind offset o rows n picture new cs changed all last final within left en
     } in
     subst (λ (q : List Observation). LeftToLose offset o rows (n + 1) q changed all last final) (sym en) on
 
-pub left_at_last : (offset : ℤ) (o : ℕ) (rows : List Row) (n m : ℕ) (picture : List Observation) (cs : List Client)
+pub left_at_last : (offset : ℤ) (o : ℕ) (rows : List Row) (n : ℕ) (picture : List Observation) (cs : List Client)
     (all last : List Observation) (final : List Client)
-    → length picture ≤ n → AllByRecursion (CanTake m) cs → LeftToLose offset o rows n picture cs all last final
+    → length picture ≤ n → AllByRecursion WaitsWithin cs → LeftToLose offset o rows n picture cs all last final
     → (picture ≡ last) × (cs ≡ final) × AllByRecursion (IsSendable offset) all
-left_at_last offset o rows n m picture cs all last final past can left =
+left_at_last offset o rows n picture cs all last final past few left =
     let none : rest_of o rows n picture ≡ [] = losses_end o rows picture n past in (
       sym (shown_end o rows picture n past) ∙ left.shown,
-      map_came-nil m cs can
+      map_came-nil cs few
           ∙ (ap (λ (xs : List Observation). map (client_with_news xs) cs) (sym none) ∙ left.clients_left),
       left.sendable (subst (AllByRecursion (IsSendable offset)) (sym none) tt),
     )
 
--- ---- how many more can come
+-- ---- how many more come
 
--- where the rest can come, the losses of this row can, and those behind it
-rest_length : (o : ℕ) (rows : List Row) (n : ℕ) (picture : List Observation) → n < length picture
+pub rest_none : (o : ℕ) (rows : List Row) (n : ℕ) (picture : List Observation) → length picture ≤ n
+    → rest_of o rows n picture ≡ []
+rest_none o rows n picture past = losses_end o rows picture n past
+
+-- what is left is what this row loses, and what those behind it do
+pub rest_length : (o : ℕ) (rows : List Row) (n : ℕ) (picture : List Observation) → n < length picture
     → length (rest_of o rows n picture)
     ≡ length (rest_of o rows (n + 1) (picture_losing_at o rows picture n)) + length (losses_at o rows picture n)
 rest_length o rows n picture within =
@@ -73,14 +77,3 @@ rest_length o rows n picture within =
       ap length (loss_next o rows picture n within),
       length-append (losses_at o rows picture n) (rest_of o rows (n + 1) (picture_losing_at o rows picture n)),
     )
-
-pub can_apart : (o : ℕ) (rows : List Row) (n : ℕ) (picture : List Observation) (cs : List Client) → n < length picture
-    → AllByRecursion (CanTake (length (rest_of o rows n picture))) cs
-    → AllByRecursion (CanTake (length (rest_of o rows (n + 1) (picture_losing_at o rows picture n))
-    + length (losses_at o rows picture n))) cs
-can_apart o rows n picture cs within all = can_fewer _ _ cs (omega (arith, rest_length o rows n picture within)) all
-
-pub can_for_row : (o : ℕ) (rows : List Row) (n : ℕ) (picture : List Observation) (cs : List Client) → n < length picture
-    → AllByRecursion (CanTake (length (rest_of o rows n picture))) cs
-    → AllByRecursion (CanTake (length (losses_at o rows picture n))) cs
-can_for_row o rows n picture cs within all = can_fewer _ _ cs (omega (arith, rest_length o rows n picture within)) all

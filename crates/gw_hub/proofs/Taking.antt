@@ -17,8 +17,8 @@ use Rattle.gw_picture.specs.Shown.{IsShown}
 use Rattle.gw_picture.proofs.Shows.{shown_fit}
 use Rattle.gw_station.specs.Client.{Client, client_after_tick, client_with_news}
 use Rattle.gw_answers.specs.Meaning.{IsSendable}
-use Rattle.gw_station.specs.Sound.{IsSoundClient, CanTake}
-use Rattle.gw_station.proofs.Queues.{came-nil, came-twice}
+use Rattle.gw_station.specs.Sound.{IsSoundClient, WaitsWithin}
+use Rattle.gw_station.proofs.Queues.{came-nil, came-twice, came_within}
 use Rattle.gw_station.proofs.Sounds.{all_later, sendable-append, sound_after_tick, sound_later, sound_with_news}
 use Rattle.gw_parts.specs.Clients.{CanCount, CanPump}
 use Rattle.gw_hub.proofs.Each.{all_changed, all_mapped, all_so, has_at}
@@ -26,24 +26,24 @@ use Rattle.gw_hub.proofs.Each.{all_changed, all_mapped, all_so, has_at}
 -- ---- news that come one after the other
 
 -- no news change nothing
-pub map_came-nil : (n : ℕ) (cs : List Client) → AllByRecursion (CanTake n) cs → cs ≡ map (client_with_news []) cs
-map_came-nil n [] all = refl
-map_came-nil n (c ∷ cs) all = let one = sym (came-nil c all.0.few) in let rest = map_came-nil n cs all.1 in cc
+pub map_came-nil : (cs : List Client) → AllByRecursion WaitsWithin cs → cs ≡ map (client_with_news []) cs
+map_came-nil [] all = refl
+map_came-nil (c ∷ cs) all = let one = sym (came-nil c all.0) in let rest = map_came-nil cs all.1 in cc
 
-pub came_none : (n : ℕ) (xs : List Observation) (cs : List Client) → [] ≡ xs → AllByRecursion (CanTake n) cs
+pub came_none : (xs : List Observation) (cs : List Client) → [] ≡ xs → AllByRecursion WaitsWithin cs
     → cs ≡ map (client_with_news xs) cs
-came_none n xs cs e all = subst (λ (ys : List Observation). cs ≡ map (client_with_news ys) cs) e (map_came-nil n cs all)
+came_none xs cs e all = subst (λ (ys : List Observation). cs ≡ map (client_with_news ys) cs) e (map_came-nil cs all)
 
 pub map_came-twice : (xs ys : List Observation) (cs : List Client)
     → map (client_with_news ys) (map (client_with_news xs) cs) ≡ map (client_with_news (xs ++ ys)) cs
 map_came-twice xs ys [] = refl
 map_came-twice xs ys (c ∷ cs) = let one = came-twice xs ys c in let rest = map_came-twice xs ys cs in cc
 
--- ---- how many more can come
-
-pub can_fewer : (m n : ℕ) (cs : List Client) → n ≤ m → AllByRecursion (CanTake m) cs → AllByRecursion (CanTake n) cs
-can_fewer m n cs le all =
-    all_so (CanTake m) (CanTake n) cs (λ c can. record { count = omega (arith, le, can.count); few = can.few }) all
+-- no more wait than may
+pub within_then : (xs : List Observation) (cs changed : List Client) → changed ≡ map (client_with_news xs) cs
+    → AllByRecursion WaitsWithin cs → AllByRecursion WaitsWithin changed
+within_then xs cs changed e all =
+    all_mapped WaitsWithin WaitsWithin (client_with_news xs) cs changed e (came_within xs) all
 
 -- ---- what every client keeps
 
@@ -127,12 +127,9 @@ pumps_can station n i cs lt all =
     all_so (IsSoundClient station n i) CanPump cs
     (λ c sound. record { sent = omega (arith, lt, sound.window.sent) }) all
 
--- where so many news more can be counted, each client can take them
-pub news_can : (station : StationSetup) (n i news : ℕ) (cs : List Client) → i + news < 2 ^ 64
-    → AllByRecursion (IsSoundClient station n i) cs → AllByRecursion (CanTake news) cs
-news_can station n i news cs lt all =
-    all_so (IsSoundClient station n i) (CanTake news) cs
-    (λ c sound. record { count = omega (arith, lt, sound.dropped); few = sound.few }) all
+pub sound_within : (station : StationSetup) (n i : ℕ) (cs : List Client)
+    → AllByRecursion (IsSoundClient station n i) cs → AllByRecursion WaitsWithin cs
+sound_within station n i cs all = all_so (IsSoundClient station n i) WaitsWithin cs (λ c sound. sound.few) all
 
 -- ---- what is left to take
 
@@ -172,14 +169,14 @@ left_more offset rows n m picture new r now rest cs changed all last final left 
     } in
     subst (λ (p : List Observation). Left offset rows (n + m) p rest changed all last final) (sym en) on
 
-pub left_none : (offset : ℤ) (rows : List Row) (n m : ℕ) (picture : List Observation) (rest : List Report)
+pub left_none : (offset : ℤ) (rows : List Row) (n : ℕ) (picture : List Observation) (rest : List Report)
     (cs : List Client) (all last : List Observation) (final : List Client)
-    → rest ≡ [] → AllByRecursion (CanTake m) cs → Left offset rows n picture rest cs all last final
+    → rest ≡ [] → AllByRecursion WaitsWithin cs → Left offset rows n picture rest cs all last final
     → (n ≡ length all) × (picture ≡ last) × (cs ≡ final) × AllByRecursion (IsSendable offset) all
-left_none offset rows n m picture rest cs all last final e can left =
+left_none offset rows n picture rest cs all last final e few left =
     let here : Left offset rows n picture [] cs all last final =
     subst (λ (rs : List Report). Left offset rows n picture rs cs all last final) e left in
-    (omega (arith, here.count), here.shown, map_came-nil m cs can ∙ here.clients_left, here.sendable tt)
+    (omega (arith, here.count), here.shown, map_came-nil cs few ∙ here.clients_left, here.sendable tt)
 
 -- the first of the reports brings no more than all of them, and the others the rest
 pub rest_length : (offset : ℤ) (rows : List Row) (picture : List Observation) (r : Report) (now rest : List Report)

@@ -36,10 +36,11 @@ use Rattle.gw_steps.specs.Steps.{Allowed, can_rise, raised, latest, parts_after_
 pub record KeepsToSession (k : Client) : Type 0 where
   pub outside : is_started k.stage ≡ false → (k.queue ≡ []) × (k.dropped ≡ 0)
 
--- what a hub keeps in every state
-pub record IsKept (setup : Setup) (s : State) : Type 0 where
+-- what a hub keeps in every state, where so many news came to the clients
+pub record IsKept (setup : Setup) (s : State) (came : ℕ) : Type 0 where
   pub sound : IsSoundState setup s
   pub sessions : AllByRecursion KeepsToSession s.clients
+  pub news : came ≡ s.counts.news
 
 -- a client is started; no absent one is
 abbrev pub started_at : Option Client → Bool

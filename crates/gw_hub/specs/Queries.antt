@@ -1,8 +1,6 @@
 -- What the hub is asked of one client or one outstation, between steps.
-use Rattle.std.specs.Prelude.{ℕ, Bool, true, false, ◌&&◌, is_some, length, Option, Some, None}
+use Rattle.std.specs.Prelude.{ℕ, Bool, true, false, is_some, Option, Some, None}
 use Rattle.dnp_master.specs.Master.{Master, task_given}
-use Rattle.gw_station.specs.Client.{Client, is_up}
-use Rattle.gw_station.specs.Pump.{offered}
 use Rattle.gw_steps.specs.declared.step.Reply.{Reply}
 use Rattle.gw_steps.specs.declared.step.Reply.TheVariants as replies
 
@@ -15,22 +13,3 @@ is_due moment (Some m) = is_some (task_given moment 0 m)
 abbrev pub gives_apdu : Reply → Bool
 gives_apdu (replies.Apdu apdu) = true
 gives_apdu _ = false
-
--- a pump at a moment would be answered with an APDU
-abbrev pub has_offer : ℕ → Option Client → Bool
-has_offer moment None = false
-has_offer moment (Some k) = is_up k.stage && is_some (offered moment k)
-
--- how many news wait at a place, and how many were dropped
-abbrev pub queued_at : Option Client → ℕ
-queued_at None = 0
-queued_at (Some k) = length k.queue
-
-abbrev pub dropped_at : Option Client → ℕ
-dropped_at None = 0
-dropped_at (Some k) = k.dropped
-
--- how many I formats sent to a client are not acknowledged
-abbrev pub unacknowledged_at : Option Client → ℕ
-unacknowledged_at None = 0
-unacknowledged_at (Some k) = length k.window.waiting

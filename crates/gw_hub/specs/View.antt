@@ -6,7 +6,7 @@ abbrev pub state_in : Inside → State
 state_in h = record {
   outstations = h.outstations;
   picture = h.picture;
-  clients = h.clients;
+  clients = h.clients.each;
   sessions = h.sessions;
   controls = h.controls;
   counts = h.counts;

@@ -73,7 +73,7 @@ impl Model for Hub {
 
     ghost view = { λ h. record { setup = h.settings; state = state_in h } };
 
-    ghost invariant = { λ h. IsKept h.settings (state_in h) };
+    ghost invariant = { λ h. IsKept h.settings (state_in h) h.clients.news };
 }
 
 impl Hub {
@@ -189,8 +189,7 @@ impl Hub {
     ///   each STARTDT, STOPDT and TESTFR act that was taken is confirmed at most once, in order; a tick closes it
     ///   exactly where t1 has passed; a pump gives the first that is due of the confirmation that waits longest,
     ///   TESTFR act, an I format and an S format, and nothing exactly where none is. And of each step: its fault is
-    ///   the one that is due by the history, and `Memory` comes only for a session that begins or an interrogation
-    ///   that is accepted.
+    ///   the one that is due by the history, and `Memory` comes only for an interrogation that is accepted.
     pub fn run(
         alloc: Global,
         settings: Settings,

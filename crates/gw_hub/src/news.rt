@@ -1,11 +1,11 @@
 //! What reports and losses show, and what of it comes to the clients.
-ghost use Rattle.std.specs.Prelude.{◌≡◌, ◌+◌, ℕ, length, map};
+ghost use Rattle.std.specs.Prelude.{◌≡◌, ◌+◌, ◌<◌, ◌^◌, length, map};
 ghost use Rattle.std.specs.List.{AllByRecursion};
 ghost use Rattle.gw_picture.specs.Loss.{losses_at, losses_of, picture_after_loss, picture_losing_at};
 ghost use Rattle.gw_picture.specs.Picture.{picture_after, picture_after_report};
 ghost use Rattle.gw_station.specs.Client.{client_with_news};
 ghost use Rattle.gw_answers.specs.Meaning.{IsSendable};
-ghost use Rattle.gw_station.specs.Sound.{CanTake};
+ghost use Rattle.gw_station.specs.Sound.{WaitsWithin};
 ghost use Rattle.gw_hub.specs.Hub.{news_of_all, news_of_one};
 
 use gw_map::Settings;
@@ -20,15 +20,15 @@ fn take_report(
     settings: &Settings,
     report: &Report,
 ) -> u64
-    requires { AllByRecursion (CanTake (length (news_of_one settings.now picture.old report.now))) clients.old }
+    requires count { clients.old.news + length (news_of_one settings.now picture.old report.now) < 2 ^ 64 }
+    requires few { AllByRecursion WaitsWithin clients.old.each }
     ensures count { result ≡ length (news_of_one settings.now picture.old report.now) }
     ensures picture { picture.new
         ≡ picture_after_report settings.now.station.offset_minutes settings.now.rows picture.old report.now }
-    ensures clients { clients.new
-        ≡ map (client_with_news (news_of_one settings.now picture.old report.now)) clients.old }
-    ensures more { (n : ℕ)
-        → AllByRecursion (CanTake (n + length (news_of_one settings.now picture.old report.now))) clients.old
-        → AllByRecursion (CanTake n) clients.new }
+    ensures clients { clients.new.each
+        ≡ map (client_with_news (news_of_one settings.now picture.old report.now)) clients.old.each }
+    ensures news { clients.new.news
+        ≡ clients.old.news + length (news_of_one settings.now picture.old report.now) }
     ensures sendable { AllByRecursion (IsSendable settings.now.station.offset_minutes)
         (news_of_one settings.now picture.old report.now) }
 {
@@ -48,12 +48,15 @@ pub fn take_reports(
     settings: &Settings,
     reports: &[Report],
 ) -> u64
-    requires { AllByRecursion (CanTake (length (news_of_all settings.now picture.old reports.now))) clients.old }
+    requires count { clients.old.news + length (news_of_all settings.now picture.old reports.now) < 2 ^ 64 }
+    requires few { AllByRecursion WaitsWithin clients.old.each }
     ensures count { result ≡ length (news_of_all settings.now picture.old reports.now) }
     ensures picture { picture.new
         ≡ picture_after settings.now.station.offset_minutes settings.now.rows picture.old reports.now }
-    ensures clients { clients.new
-        ≡ map (client_with_news (news_of_all settings.now picture.old reports.now)) clients.old }
+    ensures clients { clients.new.each
+        ≡ map (client_with_news (news_of_all settings.now picture.old reports.now)) clients.old.each }
+    ensures news { clients.new.news
+        ≡ clients.old.news + length (news_of_all settings.now picture.old reports.now) }
     ensures sendable { AllByRecursion (IsSendable settings.now.station.offset_minutes)
         (news_of_all settings.now picture.old reports.now) }
 {
@@ -64,7 +67,7 @@ pub fn take_reports(
     news
 }
 
-/// Shows the loss of the row at a position, and puts it into the queues.
+/// Shows the loss of the row at a position, which is news for the clients.
 fn lose_row(
     picture: &mut Picture,
     clients: &mut Clients,
@@ -72,15 +75,13 @@ fn lose_row(
     position: usize,
     outstation: u8,
 )
-    requires { AllByRecursion (CanTake (length (losses_at outstation settings.now.rows picture.old position)))
-        clients.old }
+    requires count { clients.old.news + length (losses_at outstation settings.now.rows picture.old position) < 2 ^ 64 }
+    requires few { AllByRecursion WaitsWithin clients.old.each }
     ensures picture { picture.new ≡ picture_losing_at outstation settings.now.rows picture.old position }
-    ensures clients { clients.new
-        ≡ map (client_with_news (losses_at outstation settings.now.rows picture.old position)) clients.old }
-    ensures more { (n : ℕ)
-        → AllByRecursion (CanTake (n + length (losses_at outstation settings.now.rows picture.old position)))
-        clients.old
-        → AllByRecursion (CanTake n) clients.new }
+    ensures clients { clients.new.each
+        ≡ map (client_with_news (losses_at outstation settings.now.rows picture.old position)) clients.old.each }
+    ensures news { clients.new.news
+        ≡ clients.old.news + length (losses_at outstation settings.now.rows picture.old position) }
     ensures sendable { AllByRecursion (IsSendable settings.now.station.offset_minutes)
         (losses_at outstation settings.now.rows picture.old position) }
 {
@@ -89,12 +90,15 @@ fn lose_row(
     }
 }
 
-/// Shows the loss of an outstation, row by row, and puts it into the queues.
+/// Shows the loss of an outstation, row by row, which are news for the clients.
 pub fn lose_rows(picture: &mut Picture, clients: &mut Clients, settings: &Settings, outstation: u8)
-    requires { AllByRecursion (CanTake (length (losses_of outstation settings.now.rows picture.old))) clients.old }
+    requires count { clients.old.news + length (losses_of outstation settings.now.rows picture.old) < 2 ^ 64 }
+    requires few { AllByRecursion WaitsWithin clients.old.each }
     ensures picture { picture.new ≡ picture_after_loss outstation settings.now.rows picture.old }
-    ensures clients { clients.new
-        ≡ map (client_with_news (losses_of outstation settings.now.rows picture.old)) clients.old }
+    ensures clients { clients.new.each
+        ≡ map (client_with_news (losses_of outstation settings.now.rows picture.old)) clients.old.each }
+    ensures news { clients.new.news
+        ≡ clients.old.news + length (losses_of outstation settings.now.rows picture.old) }
     ensures sendable { AllByRecursion (IsSendable settings.now.station.offset_minutes)
         (losses_of outstation settings.now.rows picture.old) }
 {

@@ -72,11 +72,12 @@ pub fn settle(
     apdu: &Apdu,
     event: &Event,
 )
-    requires place { IfSome (slice_get clients.old sender.now.client) (HasPlace event.now) }
+    requires place { IfSome (slice_get clients.old.each sender.now.client) (HasPlace event.now) }
     requires acts { IsActEvent event.now }
     requires number { CanOrder settings.now outstations.now sender.now event.now controls.old }
-    ensures clients { clients.new ≡ change sender.now.client
-        (client_answered (said_to_sender settings.now outstations.now sender.now controls.old) event.now) clients.old }
+    ensures clients { clients.new.each ≡ change sender.now.client (client_answered
+        (said_to_sender settings.now outstations.now sender.now controls.old) event.now) clients.old.each }
+    ensures news { clients.new.news ≡ clients.old.news }
     ensures controls { controls.new
         ≡ controls_settled settings.now outstations.now sender.now apdu.now event.now controls.old }
 {
@@ -94,8 +95,9 @@ pub fn settle(
 
 /// Tells a client what became of its order, if something did.
 fn tell(clients: &mut Clients, outcome: Option<Outcome>)
-    requires { IfSome outcome (CanTell clients.old) }
-    ensures { clients.new ≡ clients_told (option_to_list outcome) clients.old }
+    requires { IfSome outcome (CanTell clients.old.each) }
+    ensures clients { clients.new.each ≡ clients_told (option_to_list outcome) clients.old.each }
+    ensures news { clients.new.news ≡ clients.old.news }
 {
     let Some(outcome) = outcome else {
         return;
@@ -115,10 +117,11 @@ pub fn end_order(
     position: usize,
     ended: Option<Ended>,
 )
-    requires { HoldsPlaces clients.old controls.old }
+    requires { HoldsPlaces clients.old.each controls.old }
     ensures controls { controls.new ≡ controls_with_ended position ended controls.old }
-    ensures clients { clients.new
-        ≡ clients_told (option_to_list (outcome_ended position ended controls.old)) clients.old }
+    ensures clients { clients.new.each
+        ≡ clients_told (option_to_list (outcome_ended position ended controls.old)) clients.old.each }
+    ensures news { clients.new.news ≡ clients.old.news }
 {
     if let Some(ended) = ended {
         let outcome = controls.outcome(position, ended);
@@ -128,9 +131,10 @@ pub fn end_order(
 
 /// The oldest order that waits for a lost outstation fails.
 fn lose_order(controls: &mut Controls, clients: &mut Clients, outstation: u8)
-    requires { HoldsPlaces clients.old controls.old }
+    requires { HoldsPlaces clients.old.each controls.old }
     ensures controls { controls.new ≡ controls_after_losses 1 outstation controls.old }
-    ensures clients { clients.new ≡ clients_told (outcomes_lost 1 outstation controls.old) clients.old }
+    ensures clients { clients.new.each ≡ clients_told (outcomes_lost 1 outstation controls.old) clients.old.each }
+    ensures news { clients.new.news ≡ clients.old.news }
 {
     let outcome = controls.lost(outstation);
     tell(clients, outcome);
@@ -138,9 +142,11 @@ fn lose_order(controls: &mut Controls, clients: &mut Clients, outstation: u8)
 
 /// All orders that wait for a lost outstation fail, the oldest first.
 pub fn lose_orders(controls: &mut Controls, clients: &mut Clients, outstation: u8)
-    requires { HoldsPlaces clients.old controls.old }
+    requires { HoldsPlaces clients.old.each controls.old }
     ensures controls { controls.new ≡ controls_after_losses places outstation controls.old }
-    ensures clients { clients.new ≡ clients_told (outcomes_lost places outstation controls.old) clients.old }
+    ensures clients { clients.new.each
+        ≡ clients_told (outcomes_lost places outstation controls.old) clients.old.each }
+    ensures news { clients.new.news ≡ clients.old.news }
 {
     for _ in 0..MOST_WAITING {
         lose_order(controls, clients, outstation);
@@ -154,12 +160,13 @@ pub fn pass_time(
     clients: &mut Clients,
     moment: u64,
 )
-    requires { HoldsPlaces clients.old controls.old }
+    requires { HoldsPlaces clients.old.each controls.old }
     ensures outstations { outstations.new ≡ map (master_after_tick moment) outstations.old }
     ensures controls { controls.new
         ≡ controls_after_all_ended 0 (map (ended_by_tick moment) outstations.old) controls.old }
-    ensures clients { clients.new
-        ≡ clients_told (outcomes_ended 0 (map (ended_by_tick moment) outstations.old) controls.old) clients.old }
+    ensures clients { clients.new.each
+        ≡ clients_told (outcomes_ended 0 (map (ended_by_tick moment) outstations.old) controls.old) clients.old.each }
+    ensures news { clients.new.news ≡ clients.old.news }
 {
     for position in 0..outstations.len() {
         let ended = outstations.tick(position, moment);

@@ -1,6 +1,6 @@
 -- What a step needs is what the history tells that it adds.
 use Rattle.std.proofs.Common.{◌≡◌, ℕ, ◌<◌, Bool, true, false, cond, List, [], ◌∷◌, length, Option, Some, None, refl, sym, ap, subst, ◌∙◌}
-use Rattle.std.specs.Prelude.{◌&&◌, ◌||◌, not, is_none, slice_get, IfSome}
+use Rattle.std.specs.Prelude.{◌&&◌, not, is_none, slice_get, IfSome}
 use Rattle.std.proofs.lemmas.Bool.{true≢false}
 use Rattle.gw_model.specs.First.{when, first_of}
 use Rattle.gw_model.specs.declared.observation.Observation.{Observation}
@@ -21,7 +21,7 @@ use Rattle.gw_station.specs.declared.event.Why.{Why}
 use Rattle.gw_station.specs.declared.event.Why.TheVariants.{Flooded}
 use Rattle.gw_station.specs.Answers.{is_asking, is_pending as is_asked}
 use Rattle.gw_station.specs.Client.{Client, is_started, is_up}
-use Rattle.gw_station.specs.Frames.{asks, begins as begins_session, close_of, command_given, command_in, floods, judged_asdu, wants_memory as wants}
+use Rattle.gw_station.specs.Frames.{asks, begins as begins_session, close_of, command_given, command_in, floods, judged_asdu}
 use Rattle.gw_steps.specs.declared.step.Step.{Step}
 use Rattle.gw_steps.specs.declared.step.Step.TheVariants as steps
 use Rattle.gw_steps.specs.declared.step.StepFault.TheVariants.{NoClient, NoOutstation}
@@ -128,7 +128,7 @@ record FrameTold (setup : Setup) (s : State) (moment c : ℕ) (a : Apdu) (x : Op
   begun : begins_session a k ≡ is_so (begins setup a) x
   ordered : is_ordering setup s moment c (command_of setup a (Some k))
       ≡ is_so (orders setup (said_to setup s moment c) a) x
-  wanted : wants setup a k ≡ is_so (λ y. begins setup a y || interrogates setup a y) x
+  wanted : asks setup a k ≡ is_so (interrogates setup a) x
 
 frame_told : (setup : Setup) (s : State) (moment c : ℕ) (a : Apdu) (ts : List Turn) (x : Option Connection)
     (k : Client) → IsSoundSetup setup → IfSome x (λ y. turns y ≡ ts) → Lives setup ts k → is_up k.stage ≡ true
@@ -136,12 +136,10 @@ frame_told : (setup : Setup) (s : State) (moment c : ℕ) (a : Apdu) (ts : List 
 frame_told setup s moment c a ts None k fit same lives up linked = absurd (true≢false (sym up ∙ linked))
 frame_told setup s moment c a ts (Some x) k fit same lives up linked =
     let tied : Ties setup (turns x) k = ties setup ts x k fit same lives linked in
-    let begun : begins_session a k ≡ begins setup a x = begins_told setup a x k fit.window tied in
     record {
-      begun = begun;
+      begun = begins_told setup a x k fit.window tied;
       ordered = orders_told setup s moment c a x k fit.window tied;
-      wanted = ap (λ (b : Bool). b || asks setup a k) begun
-          ∙ ap (λ (b : Bool). begins setup a x || b) (asks_told setup a x k fit.window tied);
+      wanted = asks_told setup a x k fit.window tied;
     }
 
 framed : (setup : Setup) (past : List Entry) (c m : ℕ) (a : Apdu) → IsSoundSetup setup → Known setup past

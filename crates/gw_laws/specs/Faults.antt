@@ -1,8 +1,8 @@
 -- Faults: why a step isn't made, told by the history. NoOutstation or NoClient: there is none of its number. Else
 -- NotUp: that one isn't up; or, of a step by which it comes up, AlreadyUp: it is. Else Spent: by the step one of the
 -- counts would reach 2^64, of the steps without a fault, the news and losses in the log, the sessions, the orders.
--- Where none of these holds the step is made; only an APDU that begins a session, and the act of an interrogation that
--- is accepted, may be answered with Memory. Which commands are orders is what the controls told, as in a client's life.
+-- Where none of these holds the step is made; only the act of an interrogation that is accepted may be answered with
+-- Memory. Which commands are orders is what the controls told, as in a client's life.
 use Rattle.std.specs.Prelude.{◌≡◌, ℕ, ◌+◌, ◌^◌, Bool, true, false, not, ◌&&◌, ◌||◌, is_none, is_some, nat_le, IsTrue, List, [], ◌∷◌, ◌++◌, length, Option, Some, None, Result, Ok, Err}
 use Rattle.gw_model.specs.First.{when, first_of}
 use Rattle.gw_map.specs.Settings.{Setup}
@@ -137,7 +137,7 @@ fault_due setup past step = first_of (faults_of_actor setup past step ++ when (i
 
 abbrev pub wants_memory : Setup → List Entry → Step → Bool
 wants_memory setup past (steps.Frame c apdu moment) =
-    is_so (λ x. begins setup apdu x || interrogates setup apdu x) (connection setup c past)
+    is_so (interrogates setup apdu) (connection setup c past)
 wants_memory setup past _ = false
 
 abbrev pub FaultsBy : Setup → List Entry → Step → Result Reply StepFault → Type 0

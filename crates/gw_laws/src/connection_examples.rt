@@ -119,10 +119,10 @@ pub fn faults_by_example()
         ≡ None ∷ Some NotUp ∷ Some NotUp ∷ None ∷ None ∷ Some NotUp ∷ [] }
     ensures others { map (λ c. fault_then tested (steps.Pump c 9600)) (0 ∷ 1 ∷ 8 ∷ [])
         ≡ None ∷ Some NotUp ∷ Some NoClient ∷ [] }
-    // Memory is wanted for a session that begins, and for an interrogation that is accepted.
+    // Memory is wanted for an interrogation that is accepted, and not for a session that begins.
     ensures session { map (wants_memory setup (passed connected))
         (comes (U StartAct) 700 ∷ comes (U StopAct) 700 ∷ comes (I 0 0 interrogation) 700 ∷ [])
-        ≡ true ∷ false ∷ false ∷ [] }
+        ≡ false ∷ false ∷ false ∷ [] }
     ensures interrogation { map (wants_memory setup (passed started))
         (comes (I 0 0 interrogation) 700 ∷ comes (I 1 0 interrogation) 700 ∷ comes (I 0 0 reading) 700
         ∷ comes (U StartAct) 700 ∷ []) ≡ true ∷ false ∷ false ∷ false ∷ [] }

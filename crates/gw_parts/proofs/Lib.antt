@@ -1,4 +1,5 @@
 pub mod Places
+pub mod Seats
 pub mod Walks
 pub mod Sounds
 pub mod Bits

@@ -1,8 +1,6 @@
-//! All clients, by their position.
-ghost use Rattle.std.specs.Prelude.{◌≡◌, ◌+◌, ◌<◌, ◌≤◌, ℕ, [], ◌∷◌, length, map, option_copied, option_map, replicate, slice_get, true, IfOk, IfSome, OnErr, OnOk};
-ghost use Rattle.std.specs.Borrow.{sem};
+//! All clients, by their position, and the news for all of them.
+ghost use Rattle.std.specs.Prelude.{◌≡◌, ◌+◌, ◌<◌, ◌≤◌, ◌^◌, ℕ, [], ◌∷◌, map, option_map, replicate, slice_get, true, IfOk, IfSome, OnErr, OnOk};
 ghost use Rattle.std.specs.List.{AllByRecursion};
-ghost use Rattle.std.specs.Option.{option_copied_mut};
 ghost use Rattle.gw_model.specs.Places.{change};
 ghost use Rattle.gw_map.specs.Settings.{Setup};
 ghost use Rattle.gw_station.specs.Client.{client_after_close, client_after_tick, client_after_up, client_down, client_with_news, is_timed_out, is_up};
@@ -10,16 +8,15 @@ ghost use Rattle.gw_station.specs.Answers.{client_told, CanBeTold};
 ghost use Rattle.gw_station.specs.Frames.{client_after_apdu, HasPlace};
 ghost use Rattle.gw_station.specs.Pump.{client_after_pump};
 ghost use Rattle.gw_answers.specs.Meaning.{IsSendable};
-ghost use Rattle.gw_station.specs.Sound.{CanTake, IsSoundClient, IsWholeEvent};
+ghost use Rattle.gw_station.specs.Sound.{IsSoundClient, IsWholeEvent};
 ghost use Rattle.gw_steps.specs.Controls.{controls_after_closes};
 ghost use Rattle.gw_steps.specs.Steps.{begun_by, bits_of, command_of, wanted_by};
-ghost use Rattle.gw_parts.specs.Clients.{event_at, reply_to_pump, CanCount, CanPump};
-ghost use Rattle.gw_parts.specs.Lending.{LendsClient};
+ghost use Rattle.gw_parts.specs.Clients.{dropped_at, event_at, has_offer, queued_at, reply_to_pump, unacknowledged_at, CanCount, CanPump};
 
 use gw_control::Controls;
 use gw_map::Settings;
 use gw_model::{Memory, Observation};
-use gw_station::{Event, Said, Station};
+use gw_station::{Event, NewsRing, Said, Station};
 use gw_steps::Reply;
 use iec_apci::Apdu;
 use iec_command::Command;
@@ -27,118 +24,153 @@ use iec_window::Limits;
 use std::alloc::Global;
 use std::marker::Model;
 
-/// For each client its station.
+/// For each client its station, and the last news, for all of them.
 #[derive(Debug, Drop)]
 pub struct Clients {
+    news: NewsRing,
     stations: Vec<Station>,
 }
 
 impl Model for Clients {
-    ghost use Rattle.std.specs.Prelude.{List, length, ◌≤◌};
-    ghost use Rattle.gw_station.specs.Client.{Client};
+    ghost use Rattle.std.specs.Prelude.{length, map, ◌≤◌};
+    ghost use Rattle.std.specs.List.{AllByRecursion};
+    ghost use Rattle.gw_station.specs.Ring.{seen, Stands};
+    ghost use Rattle.gw_parts.specs.Clients.{Clients as Seen};
 
-    ghost Value = { List Client };
+    ghost Value = { Seen };
 
-    ghost view = { λ c. c.stations.items };
+    ghost view = { λ c. record { each = map (seen c.news) c.stations.items; news = c.news.next } };
 
     // A bit of an octet for each.
-    ghost invariant = { λ c. length c.stations.items ≤ 8 };
+    ghost invariant = { λ c. (length c.stations.items ≤ 8) × AllByRecursion (Stands c.news) c.stations.items };
 }
 
 impl Clients {
     /// So many clients, all down, with the parameters of their connections; `queue` news may wait for each.
     pub fn new(alloc: Global, count: u8, limits: &Limits, queue: u32) -> Result<Clients, Memory>
         requires { (count ≤ 8) × (limits.now.k < 32768) }
-        ensures { IfOk result (λ clients. clients ≡ replicate count (client_down limits.now queue)) }
+        ensures clients { IfOk result (λ clients.
+            clients.each ≡ replicate count (client_down limits.now queue)) }
+        ensures news { IfOk result (λ clients. clients.news ≡ 0) }
     {
+        let news = NewsRing::new(alloc, queue)?;
         let mut stations = Vec::with_capacity(alloc, usize::from(count))?;
         for _ in 0..count {
-            stations.push(Station::new(alloc, limits, queue)?)?;
+            stations.push(Station::new(alloc, limits)?)?;
         }
-        Ok(Clients { stations })
+        Ok(Clients { news, stations })
     }
 
-    /// An equal value, or `Memory` where there is no room for its stations and what waits in them.
+    /// An equal value, or `Memory` where there is no room for its stations, what waits in them, and the news.
     pub fn copy(&self) -> Result<Clients, Memory>
         ensures { IfOk result (λ copy. copy ≡ self.now) }
     {
-        let stations = Vec::new(*self.stations.allocator());
-        self.copy_over(Clients { stations })
+        let news = self.news.copy()?;
+        let none = Vec::new(*self.stations.allocator());
+        let stations = copied_all(&self.stations, none)?;
+        Ok(Clients { news, stations })
     }
 
     /// The same, in the memory of what isn't needed any more, so that little is asked for where that suffices.
     pub fn copy_over(&self, spare: Clients) -> Result<Clients, Memory>
         ensures { IfOk result (λ copy. copy ≡ self.now) }
     {
-        let alloc = *self.stations.allocator();
-        let mut stations = Vec::with_capacity(alloc, self.stations.len())?;
-        let mut spares = spare.stations.into_iter();
-        for station in &self.stations {
-            stations.push(copied(station, spares.next())?)?;
-        }
-        Ok(Clients { stations })
-    }
-
-    /// A client's station; none where there is no such client.
-    pub fn get(&self, client: u8) -> Option<&Station>
-        ensures { option_copied result ≡ slice_get self.now client }
-    {
-        self.stations.get(usize::from(client))
+        let news = self.news.copy_over(spare.news)?;
+        let stations = copied_all(&self.stations, spare.stations)?;
+        Ok(Clients { news, stations })
     }
 
     /// Whether a client is up; none where there is no such client.
     pub fn presence(&self, client: u8) -> Option<bool>
-        ensures { result ≡ option_map (λ k. is_up k.stage) (slice_get self.now client) }
+        ensures { result ≡ option_map (λ k. is_up k.stage) (slice_get self.now.each client) }
     {
-        Some(self.get(client)?.is_up())
+        Some(self.stations.get(usize::from(client))?.is_up())
     }
 
     /// Whether a session would begin by an APDU of a client.
     pub fn begins(&self, client: u8, apdu: &Apdu) -> bool
-        ensures { result ≡ begun_by apdu.now (slice_get self.now client) }
+        ensures { result ≡ begun_by apdu.now (slice_get self.now.each client) }
     {
-        match self.get(client) {
+        match self.stations.get(usize::from(client)) {
             Some(station) => station.begins(apdu),
             None => false,
         }
     }
 
-    /// A client's station, to be changed.
-    fn get_mut(&mut self, client: u8) -> Option<&mut Station>
-        ensures* lent { sem 𝓛 (LendsClient self.entry client result) }
-        ensures value { option_copied_mut result ≡ slice_get self.old client }
+    /// How many news wait for a client; 0 where there is no such client.
+    pub fn queued(&self, client: u8) -> usize
+        ensures { result ≡ queued_at (slice_get self.now.each client) }
     {
-        self.stations.get_mut(usize::from(client))
+        match self.stations.get(usize::from(client)) {
+            Some(station) => station.queued(&self.news),
+            None => 0,
+        }
+    }
+
+    /// How many news of a client's session were dropped; 0 where there is no such client.
+    pub fn dropped(&self, client: u8) -> u64
+        ensures { result ≡ dropped_at (slice_get self.now.each client) }
+    {
+        match self.stations.get(usize::from(client)) {
+            Some(station) => station.dropped(&self.news),
+            None => 0,
+        }
+    }
+
+    /// How many I formats sent to a client are not acknowledged; 0 where there is no such client.
+    pub fn unacknowledged(&self, client: u8) -> usize
+        ensures { result ≡ unacknowledged_at (slice_get self.now.each client) }
+    {
+        match self.stations.get(usize::from(client)) {
+            Some(station) => station.unacknowledged(),
+            None => 0,
+        }
+    }
+
+    /// Whether a client is up, and `pump` would give an APDU at a moment.
+    pub fn has_offer(&self, client: u8, moment: u64) -> bool
+        ensures { result ≡ has_offer moment (slice_get self.now.each client) }
+    {
+        match self.stations.get(usize::from(client)) {
+            Some(station) => station.has_offer(moment, &self.news),
+            None => false,
+        }
     }
 
     /// A client comes up at a moment.
     pub fn come_up(&mut self, client: u8, moment: u64)
-        ensures { self.new ≡ change client (client_after_up moment) self.old }
+        ensures clients { self.new.each ≡ change client (client_after_up moment) self.old.each }
+        ensures news { self.new.news ≡ self.old.news }
     {
-        if let Some(station) = self.get_mut(client) {
-            station.up(moment);
-        }
+        let Some(station) = self.stations.get_mut(usize::from(client)) else {
+            return;
+        };
+        station.up(moment);
     }
 
     /// The connection to a client is lost.
     pub fn go_down(&mut self, client: u8)
-        ensures { self.new ≡ change client client_after_close self.old }
+        ensures clients { self.new.each ≡ change client client_after_close self.old.each }
+        ensures news { self.new.news ≡ self.old.news }
     {
-        if let Some(station) = self.get_mut(client) {
-            station.down();
-        }
+        let Some(station) = self.stations.get_mut(usize::from(client)) else {
+            return;
+        };
+        station.down();
     }
 
     /// The command for a control that an APDU of a client carries, if it would be taken.
     pub fn gives(&self, client: u8, apdu: &Apdu, settings: &Settings) -> Option<Command>
-        ensures { result ≡ command_of settings.now apdu.now (slice_get self.now client) }
+        ensures { result ≡ command_of settings.now apdu.now (slice_get self.now.each client) }
     {
-        self.get(client)?.gives(apdu, settings)
+        match self.stations.get(usize::from(client)) {
+            Some(station) => station.gives(apdu, settings),
+            None => None,
+        }
     }
 
     /// Takes an APDU that came from a client at a moment: what became of it. `picture` is what is shown of each row of
-    /// `settings`. Memory is wanted for the queue of a session that begins, and for the copy of the picture that
-    /// answers an interrogation.
+    /// `settings`. Memory is wanted for the copy of the picture that answers an interrogation.
     pub fn frame(
         &mut self,
         client: u8,
@@ -147,48 +179,54 @@ impl Clients {
         settings: &Settings,
         picture: &[Observation],
     ) -> Result<Event, Memory>
-        requires { AllByRecursion CanCount self.old }
-        ensures event { IfOk result (λ event. event ≡ event_at settings.now apdu.now (slice_get self.old client)) }
-        ensures clients { OnOk result
-            (self.new ≡ change client (client_after_apdu settings.now picture.now moment apdu.now) self.old) }
-        ensures memory { OnErr result (wanted_by settings.now apdu.now (slice_get self.old client) ≡ true) }
+        requires { AllByRecursion CanCount self.old.each }
+        ensures event { IfOk result (λ event.
+            event ≡ event_at settings.now apdu.now (slice_get self.old.each client)) }
+        ensures clients { OnOk result (self.new.each
+            ≡ change client (client_after_apdu settings.now picture.now moment apdu.now) self.old.each) }
+        ensures news { self.new.news ≡ self.old.news }
+        ensures memory { OnErr result (wanted_by settings.now apdu.now (slice_get self.old.each client) ≡ true) }
         ensures same { OnErr result (self.new ≡ self.old) }
         // A command that is given has fields that fit, and finds places for what is said of it.
         ensures whole { IfOk result (λ event. IsWholeEvent event) }
-        ensures place { IfOk result (λ event. IfSome (slice_get self.new client) (HasPlace event)) }
+        ensures place { IfOk result (λ event. IfSome (slice_get self.new.each client) (HasPlace event)) }
         // Where the picture can be sent, all clients stay sound, one step later.
         ensures sound { (any : Setup) (n i : ℕ)
             → AllByRecursion (IsSendable any.station.offset_minutes) picture.now
-            → AllByRecursion (IsSoundClient any.station n i) self.old
-            → OnOk result (AllByRecursion (IsSoundClient any.station (n + 1) i) self.new) }
+            → AllByRecursion (IsSoundClient any.station n i) self.old.each
+            → OnOk result (AllByRecursion (IsSoundClient any.station (n + 1) i) self.new.each) }
     {
-        let Some(station) = self.get_mut(client) else {
+        let Some(station) = self.stations.get_mut(usize::from(client)) else {
             return Ok(Event::Taken);
         };
-        let event = station.frame(apdu, moment, settings, picture)?;
+        let event = station.frame(apdu, moment, settings, picture, &self.news)?;
         Ok(event)
     }
 
     /// Says something of a command of a client, or what became of the order that it was.
     pub fn answer(&mut self, client: u8, command: &Command, said: Said)
-        requires { IfSome (slice_get self.old client) (CanBeTold command.now said) }
-        ensures { self.new ≡ change client (client_told command.now said) self.old }
+        requires { IfSome (slice_get self.old.each client) (CanBeTold command.now said) }
+        ensures clients { self.new.each ≡ change client (client_told command.now said) self.old.each }
+        ensures news { self.new.news ≡ self.old.news }
     {
-        if let Some(station) = self.get_mut(client) {
-            station.answer(command, said);
-        }
+        let Some(station) = self.stations.get_mut(usize::from(client)) else {
+            return;
+        };
+        station.answer(command, said);
     }
 
     /// The next APDU for a client.
     pub fn pump(&mut self, client: u8, settings: &Settings, moment: u64) -> Reply
-        requires { AllByRecursion CanPump self.old }
-        ensures reply { result ≡ reply_to_pump settings.now moment (slice_get self.old client) }
-        ensures clients { self.new ≡ change client (client_after_pump settings.now.station.offset_minutes moment) self.old }
+        requires { AllByRecursion CanPump self.old.each }
+        ensures reply { result ≡ reply_to_pump settings.now moment (slice_get self.old.each client) }
+        ensures clients { self.new.each
+            ≡ change client (client_after_pump settings.now.station.offset_minutes moment) self.old.each }
+        ensures news { self.new.news ≡ self.old.news }
     {
-        let Some(station) = self.get_mut(client) else {
+        let Some(station) = self.stations.get_mut(usize::from(client)) else {
             return Reply::Nothing;
         };
-        match station.pump(settings, moment) {
+        match station.pump(settings, moment, &self.news) {
             Some(apdu) => Reply::Apdu(apdu),
             None => Reply::Nothing,
         }
@@ -197,9 +235,11 @@ impl Clients {
     /// Time has passed, for every client: a bit for each whose connection is closed, the lowest for the first. With it
     /// its session ends.
     pub fn tick(&mut self, controls: &mut Controls, moment: u64) -> u8
-        ensures closed { result ≡ bits_of (map (is_timed_out moment) self.old) }
-        ensures clients { self.new ≡ map (client_after_tick moment) self.old }
-        ensures controls { controls.new ≡ controls_after_closes 0 (map (is_timed_out moment) self.old) controls.old }
+        ensures closed { result ≡ bits_of (map (is_timed_out moment) self.old.each) }
+        ensures clients { self.new.each ≡ map (client_after_tick moment) self.old.each }
+        ensures news { self.new.news ≡ self.old.news }
+        ensures controls { controls.new
+            ≡ controls_after_closes 0 (map (is_timed_out moment) self.old.each) controls.old }
     {
         let mut closed = 0;
         for position in 0..self.stations.len() {
@@ -212,16 +252,26 @@ impl Clients {
         closed
     }
 
-    /// Puts news into the queue of every started client.
+    /// News came, for every client in a session. Its cost is the same for any number of clients.
     pub fn put(&mut self, news: Observation)
-        requires { AllByRecursion (CanTake 1) self.old }
-        ensures clients { self.new ≡ map (client_with_news (news ∷ [])) self.old }
-        ensures more { (n : ℕ) → AllByRecursion (CanTake (n + 1)) self.old → AllByRecursion (CanTake n) self.new }
+        requires { self.old.news + 1 < 2 ^ 64 }
+        ensures clients { self.new.each ≡ map (client_with_news (news ∷ [])) self.old.each }
+        ensures news { self.new.news ≡ self.old.news + 1 }
     {
-        for position in 0..self.stations.len() {
-            self.stations[position].put(news);
-        }
+        self.news.push(news);
     }
+}
+
+/// Equal stations, in the memory of spare ones as far as these go.
+fn copied_all(stations: &Vec<Station>, spare: Vec<Station>) -> Result<Vec<Station>, Memory>
+    ensures { IfOk result (λ copy. copy.items ≡ stations.now.items) }
+{
+    let mut copies = Vec::with_capacity(*stations.allocator(), stations.len())?;
+    let mut spares = spare.into_iter();
+    for station in stations {
+        copies.push(copied(station, spares.next())?)?;
+    }
+    Ok(copies)
 }
 
 /// An equal station, in the memory of a spare one if there is one.

@@ -1,5 +1,6 @@
 pub mod All
 pub mod Queues
+pub mod Seen
 pub mod Sounds
 pub mod Line
 pub mod Front

@@ -57,7 +57,7 @@ overflow-twice limit xs ys true queue =
     )
 overflow-twice limit xs ys false queue = refl
 
-of_all : (c : Client) (queue more : List Observation) (n m i j : ℕ) → queue ≡ more → n ≡ m → i ≡ j
+pub of_all : (c : Client) (queue more : List Observation) (n m i j : ℕ) → queue ≡ more → n ≡ m → i ≡ j
     → record c { queue = queue; dropped = n; older = i } ≡ record c { queue = more; dropped = m; older = j }
 of_all c queue more n m i j eq en ei = rw (eq, en, ei) refl
 
@@ -83,3 +83,12 @@ came-twice xs ys c =
     (c.older - overflow xs c.limit started c.queue - overflow ys c.limit started kept)
     (c.older - overflow (xs ++ ys) c.limit started c.queue)
     (queue-twice c.limit xs ys started c.queue) (omega (arith, both)) (omega (arith, both))
+
+-- no more wait than may
+pub came_within : (xs : List Observation) (c : Client) → length c.queue ≤ c.limit
+    → length (client_with_news xs c).queue ≤ c.limit
+came_within xs c few = by (is_started c.stage)
+  where
+    by : (started : Bool) → length (queue_with xs c.limit started c.queue) ≤ c.limit
+    by true = omega (arith, length-drop (length (c.queue ++ xs) - c.limit) (c.queue ++ xs))
+    by false = few

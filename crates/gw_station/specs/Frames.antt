@@ -1,5 +1,5 @@
 -- What becomes of an APDU from a client that is up (IEC 60870-5-104, 5.1 to 5.3), by the settings.
-use Rattle.std.specs.Prelude.{◌≡◌, ℕ, ◌+◌, Bool, true, false, not, ◌&&◌, ◌||◌, nat_le, nat_lt, ◌≤◌, is_none, is_some, List, [], ◌∷◌, ◌++◌, length, take, Option, Some, None, if◌then◌else◌}
+use Rattle.std.specs.Prelude.{◌≡◌, ℕ, ◌+◌, Bool, true, false, not, ◌&&◌, nat_le, nat_lt, ◌≤◌, is_none, is_some, List, [], ◌∷◌, ◌++◌, length, take, Option, Some, None, if◌then◌else◌}
 use Rattle.gw_model.specs.First.{when, first_of}
 use Rattle.gw_model.specs.declared.observation.Observation.{Observation}
 use Rattle.gw_map.specs.Settings.{Setup}
@@ -132,19 +132,15 @@ HasPlace (events.Closed why) c = Unit {0}
 
 -- ---- what is told beforehand
 
--- a session begins by it, for which a queue is made
+-- a session begins by it
 abbrev pub begins : Apdu → Client → Bool
 begins (U StartAct) c = not (is_started c.stage) && not (floods StartAct c)
 begins _ c = false
 
--- an interrogation is accepted by it, for which the picture is copied
+-- an interrogation is accepted by it, for which the picture is copied: memory is wanted
 abbrev pub asks : Setup → Apdu → Client → Bool
 asks setup (I ns nr asdu) c = is_none (close_of setup (I ns nr asdu) c) && is_asking (judged_asdu setup asdu) c
 asks setup _ c = false
-
--- memory is wanted for it
-abbrev pub wants_memory : Setup → Apdu → Client → Bool
-wants_memory setup apdu c = begins apdu c || asks setup apdu c
 
 -- the command for a control that it gives
 abbrev pub command_given : Option Why → Option Command → Option Command

@@ -1,24 +1,12 @@
--- What a station keeps: its queue, and the answer to an interrogation.
-use Rattle.std.specs.Prelude.{◌≡◌, ℕ, ℤ, ◌≤◌, ◌==◌, ◌&&◌, true, false, List, [], ◌∷◌, drop, take, length, Option, Some, None, if◌then◌else◌}
-use Rattle.circular_buffer.specs.Buffer.{Buffer}
+-- What a station keeps of the news that may go next, and of the answer to an interrogation.
+use Rattle.std.specs.Prelude.{ℕ, ℤ, ◌==◌, ◌&&◌, List, [], ◌∷◌, drop, take, Option, Some, None, if◌then◌else◌}
 use Rattle.gw_model.specs.declared.observation.Observation.{Observation}
 use Rattle.iec_asdu.specs.Packing.{taken_of}
 use Rattle.gw_answers.specs.declared.outgoing.OwnAsdu.{OwnAsdu}
 use Rattle.gw_answers.specs.declared.outgoing.OwnAsdu.TheVariants as outgoing
 use Rattle.gw_answers.specs.Octets.{outgoing_octets, packed_octets}
-use Rattle.gw_station.specs.declared.client.Stage.{Stage}
 use Rattle.gw_station.specs.Answers.{is_pending}
-use Rattle.gw_station.specs.Client.{Client, is_started}
-
-abbrev pub items_in : Option (Buffer Observation) → List Observation
-items_in None = []
-items_in (Some buffer) = buffer.items
-
--- there is one in a session alone, with room for so many
-abbrev pub IsQueue : ℕ → Stage → Option (Buffer Observation) → Type 0
-IsQueue limit stage None = is_started stage ≡ false
-IsQueue limit stage (Some buffer) =
-    (is_started stage ≡ true) × (buffer.capacity ≡ limit) × (length buffer.items ≤ limit)
+use Rattle.gw_station.specs.Client.{Client}
 
 -- the news that may go next: those that came before the interrogation that is pending, or all
 abbrev pub news_next : Client → List Observation

@@ -3,6 +3,8 @@ pub mod Answers
 pub mod Frames
 pub mod Pump
 pub mod Quiet
+pub mod Ring
 pub mod Kept
 pub mod Sound
 pub mod Example
+pub mod RingExample

@@ -1,6 +1,6 @@
 -- What every client's part keeps, by the settings of the station: what waits can be sent, no more waits than may, and
 -- the counts of steps and of news are no fewer than its I formats and what it dropped.
-use Rattle.std.specs.Prelude.{◌≡◌, ℕ, ℤ, ◌+◌, ◌^◌, ◌<◌, ◌≤◌, false, length}
+use Rattle.std.specs.Prelude.{◌≡◌, ℕ, ℤ, ◌≤◌, false, length}
 use Rattle.std.specs.List.{AllByRecursion}
 use Rattle.gw_entries.specs.Setup.{StationSetup}
 use Rattle.iec_command.specs.Commands.{IsWhole}
@@ -60,7 +60,6 @@ pub record IsSoundClient (station : StationSetup) (steps news : ℕ) (c : Client
   -- what is left of the answer to an interrogation
   pub rest : AllByRecursion (CanSendOutgoing station.offset_minutes) c.rest
 
--- so many more news can come: they can be counted as dropped in 64 bits, and no more wait than may
-pub record CanTake (n : ℕ) (c : Client) : Type 0 where
-  pub count : c.dropped + n < 2 ^ 64
-  pub few : length c.queue ≤ c.limit
+-- no more news wait than may
+abbrev pub WaitsWithin : Client → Type 0
+WaitsWithin c = length c.queue ≤ c.limit

@@ -3,15 +3,19 @@
 #![tactic(auto)]
 
 mod client;
+mod cursor;
 mod event;
 pub mod examples;
 pub mod laws;
 mod news;
 mod rest;
+mod ring;
+pub mod ring_examples;
 mod sending;
 mod station;
 
 pub use client::Stage;
 pub use event::{Event, Said, Why};
+pub use ring::NewsRing;
 pub use sending::Sending;
 pub use station::Station;

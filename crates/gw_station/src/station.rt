@@ -9,12 +9,12 @@ ghost use Rattle.iec_window.specs.Sequence.{receive_number, send_number};
 ghost use Rattle.iec_window.specs.Steps.{counts_after_sending_i};
 ghost use Rattle.gw_answers.specs.declared.outgoing.AsduAnswer.TheVariants.{Made};
 ghost use Rattle.gw_station.specs.Answers.{client_judging, client_told, is_asking, is_pending, places, places_taken, CanBeTold};
-ghost use Rattle.gw_station.specs.Client.{client_after_close, client_after_tick, client_after_up, client_anew, client_down, client_with_news, close_by_tick, is_started, is_up, most_confirmations};
-ghost use Rattle.gw_station.specs.Frames.{asks, begins, client_after_apdu, client_with_session, client_with_signal, closes_judged, event_of, floods, given_command, judged_asdu, overfills, wants_memory, HasPlace};
-ghost use Rattle.circular_buffer.specs.Buffer.{buffer};
-ghost use Rattle.gw_station.specs.Kept.{items_in, news_next, parts_octets, parts_together, IsQueue};
+ghost use Rattle.gw_station.specs.Client.{client_after_tick, close_by_tick, is_started, is_up, most_confirmations};
+ghost use Rattle.gw_station.specs.Frames.{asks, begins, client_after_apdu, client_with_session, client_with_signal, closes_judged, event_of, floods, given_command, judged_asdu, overfills, HasPlace};
+ghost use Rattle.gw_station.specs.Kept.{news_next, parts_octets, parts_together};
 ghost use Rattle.gw_station.specs.Pump.{client_after_pump, client_with_sent, client_without_news, client_without_parts, content_of, given, information, information_offered, line, offered, packed_information, IsNext, IsRoomy};
-ghost use Rattle.gw_station.specs.Sound.{CanAnswer, CanTake, IsReturnableSending, IsWholeEvent};
+ghost use Rattle.gw_station.specs.Ring.{alone, dropped_in, older_in, seat_after_close, seat_after_up, seat_down, seen, waiting_in, Ring, Stands};
+ghost use Rattle.gw_station.specs.Sound.{CanAnswer, IsReturnableSending, IsWholeEvent};
 ghost use Rattle.gw_answers.specs.Meaning.{IsSendable};
 ghost use Rattle.iec_asdu.specs.Packing.{taken_of};
 ghost use Rattle.gw_answers.specs.Octets.{octets_in, packed_octets, IsReturnable};
@@ -24,11 +24,12 @@ ghost use Rattle.iec_apci.specs.declared.apdu.Apdu.TheVariants as formats;
 ghost use Rattle.iec_apci.specs.declared.apdu.Signal.TheVariants as signals;
 
 use crate::client::Stage;
+use crate::cursor::Cursor;
 use crate::event::{Event, Said, Why};
 use crate::news::{MOST_PACKED, pack_news};
 use crate::rest::PartsLeft;
+use crate::ring::NewsRing;
 use crate::sending::Sending;
-use circular_buffer::HeapCircularBuffer;
 use gw_answers::{
     AsduAnswer, OwnAsdu, PackedAsdu, answer_asdu, answered, command_by, command_with, confirmed,
     is_accepted_act, places_for, rows_asked,
@@ -62,15 +63,9 @@ pub struct Station {
     answers: VecDeque<AsduAnswer>,
     /// How many places for answers its orders hold until their outcomes.
     held: usize,
-    /// How many news may wait.
-    limit: usize,
-    /// In a session: the news that aren't put out yet, oldest first.
-    queue: Option<HeapCircularBuffer<Observation>>,
-    /// How many news of the session were dropped.
-    dropped: u64,
-    /// How many of the queue came before the interrogation that is pending.
-    older: usize,
-    /// What is left of its answer.
+    /// In a session: where it stands in the news.
+    cursor: Option<Cursor>,
+    /// What is left of the answer to the interrogation that is pending.
     rest: PartsLeft,
 }
 
@@ -79,36 +74,31 @@ impl Model for Station {
     ghost use Rattle.std.specs.List.{AllByRecursion};
     ghost use Rattle.std.specs.VecDeque.{deque_capacity};
     ghost use Rattle.gw_answers.specs.Octets.{IsReturnable};
-    ghost use Rattle.gw_station.specs.Client.{Client};
-    ghost use Rattle.gw_station.specs.Kept.{items_in, IsQueue};
+    ghost use Rattle.gw_station.specs.Ring.{Seat};
 
-    ghost Value = { Client };
+    ghost Value = { Seat };
 
     ghost view = { λ s. record {
       stage = s.stage;
       window = s.window;
       confirmations = s.confirmations.items;
-      limit = s.limit;
       answers = s.answers.items;
       held = s.held;
-      queue = items_in s.queue;
-      dropped = s.dropped;
-      older = s.older;
+      cursor = s.cursor;
       rest = s.rest;
     } };
 
-    // There is room for 32 confirmations, for 32 answers and orders, whose answers can be spelled, and in a session for
-    // the news that may wait.
+    // There is room for 32 confirmations, and for 32 answers and orders, whose answers can be spelled.
     ghost invariant = { λ s. (length s.confirmations.items ≤ 32) × (32 ≤ deque_capacity s.confirmations)
         × (length s.answers.items + s.held ≤ 32) × (32 ≤ deque_capacity s.answers)
-        × AllByRecursion IsReturnable s.answers.items × IsQueue s.limit s.stage s.queue };
+        × AllByRecursion IsReturnable s.answers.items };
 }
 
 impl Station {
-    /// A client that is down, with the parameters of its connections; `limit` news may wait for it.
-    pub fn new(alloc: Global, limits: &Limits, limit: u32) -> Result<Station, Memory>
+    /// A client that is down, with the parameters of its connections.
+    pub fn new(alloc: Global, limits: &Limits) -> Result<Station, Memory>
         requires { limits.now.k < 32768 }
-        ensures { IfOk result (λ station. station ≡ client_down limits.now limit) }
+        ensures { IfOk result (λ station. station ≡ seat_down limits.now) }
     {
         let window = Window::new(alloc, limits.k, limits.w, limits.t1, limits.t2, limits.t3)?;
         let confirmations = VecDeque::with_capacity(alloc, MOST_CONFIRMATIONS)?;
@@ -120,10 +110,7 @@ impl Station {
             confirmations,
             answers,
             held: 0,
-            limit: limit as usize,
-            queue: None,
-            dropped: 0,
-            older: 0,
+            cursor: None,
             rest: PartsLeft::none(),
         })
     }
@@ -137,13 +124,11 @@ impl Station {
         let confirmations = refilled(none, &self.confirmations, MOST_CONFIRMATIONS)?;
         let none = VecDeque::new(self.alloc);
         let answers = refilled(none, &self.answers, MOST_ANSWERS)?;
-        let queue = queue_like(None, &self.queue)?;
         let rest = self.rest.copy()?;
         Ok(Station {
             window,
             confirmations,
             answers,
-            queue,
             rest,
             ..*self
         })
@@ -156,13 +141,11 @@ impl Station {
         let window = self.window.copy_over(spare.window)?;
         let confirmations = refilled(spare.confirmations, &self.confirmations, MOST_CONFIRMATIONS)?;
         let answers = refilled(spare.answers, &self.answers, MOST_ANSWERS)?;
-        let queue = queue_like(spare.queue, &self.queue)?;
         let rest = self.rest.copy()?;
         Ok(Station {
             window,
             confirmations,
             answers,
-            queue,
             rest,
             ..*self
         })
@@ -176,11 +159,11 @@ impl Station {
     }
 
     /// How many news wait.
-    pub fn queued(&self) -> usize
-        ensures { result ≡ length self.now.queue }
+    pub fn queued(&self, news: &NewsRing) -> usize
+        ensures { result ≡ length (waiting_in news.now self.now.cursor) }
     {
-        match &self.queue {
-            Some(queue) => queue.len(),
+        match &self.cursor {
+            Some(cursor) => cursor.waiting(news),
             None => 0,
         }
     }
@@ -193,15 +176,19 @@ impl Station {
     }
 
     /// How many news of the session were dropped.
-    pub fn dropped(&self) -> u64
-        ensures { result ≡ self.now.dropped }
+    pub fn dropped(&self, news: &NewsRing) -> u64
+        requires { Stands news.now self.now }
+        ensures { result ≡ dropped_in news.now self.now.cursor }
     {
-        self.dropped
+        match &self.cursor {
+            Some(cursor) => cursor.dropped(news),
+            None => 0,
+        }
     }
 
     /// The client connects at a moment, in milliseconds.
     pub fn up(&mut self, moment: u64)
-        ensures { self.new ≡ client_after_up moment self.old }
+        ensures { self.new ≡ seat_after_up moment self.old }
     {
         self.begin_at(Stage::Stopped, None);
         self.window.begin(moment);
@@ -210,29 +197,26 @@ impl Station {
 
     /// The connection is closed, or lost.
     pub fn down(&mut self)
-        ensures { self.new ≡ client_after_close self.old }
+        ensures { self.new ≡ seat_after_close self.old }
     {
         self.begin_at(Stage::Down, None);
     }
 
-    /// Stands at a stage, with this queue and nothing else of a session.
-    fn begin_at(&mut self, stage: Stage, queue: Option<HeapCircularBuffer<Observation>>)
-        requires made { IsQueue self.old.limit stage queue }
-        requires empty { items_in queue ≡ [] }
-        ensures { self.new ≡ client_anew stage self.old }
+    /// Stands at a stage, with this cursor and nothing else of a session.
+    fn begin_at(&mut self, stage: Stage, cursor: Option<Cursor>)
+        ensures { self.new
+            ≡ record self.old { stage = stage; answers = []; held = 0; cursor = cursor; rest = [] } }
     {
         self.stage = stage;
-        self.queue = queue;
+        self.cursor = cursor;
         self.answers.clear();
         self.held = 0;
-        self.dropped = 0;
-        self.older = 0;
         self.rest = PartsLeft::none();
     }
 
     /// Whether a session would begin by an APDU.
     pub fn begins(&self, apdu: &Apdu) -> bool
-        ensures { result ≡ begins apdu.now self.now }
+        ensures { result ≡ begins apdu.now (alone self.now) }
     {
         match apdu {
             Apdu::U(Signal::StartAct) => !self.is_started() && !self.is_full(),
@@ -242,7 +226,7 @@ impl Station {
 
     /// The command for a control that `frame` would give for an APDU, if it would.
     pub fn gives(&self, apdu: &Apdu, settings: &Settings) -> Option<Command>
-        ensures { result ≡ given_command settings.now apdu.now self.now }
+        ensures { result ≡ given_command settings.now apdu.now (alone self.now) }
     {
         match apdu {
             Apdu::I { ns, nr, asdu } => {
@@ -257,31 +241,33 @@ impl Station {
     }
 
     /// Takes an APDU that came at a moment, or closes the connection. `picture` is what is shown of each row of
-    /// `settings`. Memory is wanted for the queue of a session that begins, and for the answer to an interrogation that
-    /// is accepted.
+    /// `settings`. Memory is wanted for the answer to an interrogation that is accepted.
     pub fn frame(
         &mut self,
         apdu: &Apdu,
         moment: u64,
         settings: &Settings,
         picture: &[Observation],
+        news: &NewsRing,
     ) -> Result<Event, Memory>
-        requires { self.old.window.received + 1 < 2 ^ 64 }
-        ensures event { IfOk result (λ event. event ≡ event_of settings.now apdu.now self.old) }
-        ensures client { OnOk result
-            (self.new ≡ client_after_apdu settings.now picture.now moment apdu.now self.old) }
-        ensures place { IfOk result (λ event. HasPlace event self.new) }
+        requires received { self.old.window.received + 1 < 2 ^ 64 }
+        requires stands { Stands news.now self.old }
+        ensures event { IfOk result (λ event. event ≡ event_of settings.now apdu.now (seen news.now self.old)) }
+        ensures client { OnOk result (seen news.now self.new
+            ≡ client_after_apdu settings.now picture.now moment apdu.now (seen news.now self.old)) }
+        ensures stands { OnOk result (Stands news.now self.new) }
+        ensures place { IfOk result (λ event. HasPlace event (seen news.now self.new)) }
         // Its answers can be sent, where they could before, and the picture's observations can.
-        ensures sendable { (offset : ℤ) → AllByRecursion (IsSendable offset) picture.now → CanAnswer offset self.old
-            → OnOk result (CanAnswer offset self.new) }
+        ensures sendable { (offset : ℤ) → AllByRecursion (IsSendable offset) picture.now
+            → CanAnswer offset (seen news.now self.old) → OnOk result (CanAnswer offset (seen news.now self.new)) }
         // A command that is given has fields that fit.
         ensures whole { IfOk result (λ event. IsWholeEvent event) }
-        ensures memory { OnErr result (wants_memory settings.now apdu.now self.old ≡ true) }
+        ensures memory { OnErr result (asks settings.now apdu.now (seen news.now self.old) ≡ true) }
         ensures same { OnErr result (self.new ≡ self.old) }
     {
         match apdu {
             Apdu::I { ns, nr, asdu } => {
-                self.take_information(*ns, *nr, asdu, moment, settings, picture)
+                self.take_information(*ns, *nr, asdu, moment, settings, picture, news)
             }
             Apdu::S { nr } => match self.window.acknowledged(*nr, moment) {
                 Ok(()) => Ok(Event::Taken),
@@ -290,7 +276,7 @@ impl Station {
             },
             Apdu::U(signal) if self.is_flooded_by(*signal) => Ok(self.close(Why::Flooded)),
             Apdu::U(signal) => {
-                self.take_signal(*signal, moment)?;
+                self.take_signal(*signal, moment, news);
                 Ok(Event::Taken)
             }
         }
@@ -298,7 +284,7 @@ impl Station {
 
     fn close(&mut self, why: Why) -> Event
         ensures event { result ≡ events.Closed why }
-        ensures client { self.new ≡ client_after_close self.old }
+        ensures seat { self.new ≡ seat_after_close self.old }
     {
         self.down();
         Event::Closed(why)
@@ -306,8 +292,9 @@ impl Station {
 
     /// Says something of a command for a control that `frame` gave, or what became of the order that it was.
     pub fn answer(&mut self, command: &Command, said: Said)
-        requires { CanBeTold command.now said self.old }
-        ensures { self.new ≡ client_told command.now said self.old }
+        requires { CanBeTold command.now said (alone self.old) }
+        ensures client { (r : Ring) → seen r self.new ≡ client_told command.now said (seen r self.old) }
+        ensures stands { (r : Ring) → Stands r self.old → Stands r self.new }
     {
         self.held = said.held_with(self.held);
         match said {
@@ -323,53 +310,41 @@ impl Station {
 
     /// One more answer waits, for which there is a place.
     fn push_answer(&mut self, answer: OwnAsdu)
-        requires { places_taken self.old < places }
+        requires { length self.old.answers + self.old.held < places }
         ensures { self.new ≡ record self.old { answers = self.old.answers ++ Made answer ∷ [] } }
     {
         self.answers.push_back_reserved(AsduAnswer::Made(answer));
     }
 
-    /// Takes news: they join the queue of a started client, and the oldest are dropped where too many would wait.
-    pub fn put(&mut self, news: Observation)
-        requires { CanTake 1 self.old }
-        ensures client { self.new ≡ client_with_news (news ∷ []) self.old }
-        ensures more { (n : ℕ) → CanTake (n + 1) self.old → CanTake n self.new }
-    {
-        if let Some(queue) = &mut self.queue {
-            if queue.is_full() {
-                self.dropped += 1;
-                self.older = self.older.saturating_sub(1);
-            }
-            queue.push_back(news);
-        }
-    }
-
     /// Whether the client is up, and `pump` would give an APDU at a moment.
-    pub fn has_offer(&self, moment: u64) -> bool
-        ensures { result ≡ (is_up self.now.stage && is_some (offered moment self.now)) }
+    pub fn has_offer(&self, moment: u64, news: &NewsRing) -> bool
+        ensures { result ≡ (is_up self.now.stage && is_some (offered moment (seen news.now self.now))) }
     {
-        self.is_up() && self.offered(moment).is_some()
+        self.is_up() && self.offered(moment, news).is_some()
     }
 
     /// The next APDU for the client at a moment: a confirmation that waits; TESTFR act where t3 has passed; where a
     /// session stands and fewer than k I formats wait for their acknowledgement, an answer to an ASDU, the oldest news
     /// that came before the interrogation that is pending, the next part of its answer, or later news, with as many
     /// news or rows behind it as one ASDU carries; an S format where one is due.
-    pub fn pump(&mut self, settings: &Settings, moment: u64) -> Option<ApduBuf>
-        requires { sent_in_all self.old.window + 1 < 2 ^ 64 }
-        ensures apdu { result ≡ option_map buffer_of
-            (given settings.now.station.offset_minutes settings.now.station.common_address moment self.old) }
-        ensures client { self.new
-            ≡ client_after_pump settings.now.station.offset_minutes moment self.old }
+    pub fn pump(&mut self, settings: &Settings, moment: u64, news: &NewsRing) -> Option<ApduBuf>
+        requires count { sent_in_all self.old.window + 1 < 2 ^ 64 }
+        requires stands { Stands news.now self.old }
+        ensures apdu { result ≡ option_map buffer_of (given settings.now.station.offset_minutes
+            settings.now.station.common_address moment (seen news.now self.old)) }
+        ensures client { seen news.now self.new
+            ≡ client_after_pump settings.now.station.offset_minutes moment (seen news.now self.old) }
+        ensures stands { Stands news.now self.new }
     {
-        let sending = self.offered(moment)?;
-        Some(self.send(sending, settings, moment))
+        let sending = self.offered(moment, news)?;
+        Some(self.send(sending, settings, moment, news))
     }
 
     /// Time has passed: why the connection is closed, if it is.
     pub fn tick(&mut self, moment: u64) -> Option<Why>
-        ensures closed { result ≡ close_by_tick moment self.old }
-        ensures client { self.new ≡ client_after_tick moment self.old }
+        ensures closed { result ≡ close_by_tick moment (alone self.old) }
+        ensures client { (r : Ring) → seen r self.new ≡ client_after_tick moment (seen r self.old) }
+        ensures stands { (r : Ring) → Stands r self.old → Stands r self.new }
     {
         if self.is_up() && self.window.t1_passed(moment) {
             self.down();
@@ -394,14 +369,14 @@ impl Station {
 
     /// Whether a confirmation is wanted, for which there is no place.
     fn is_flooded_by(&self, signal: Signal) -> bool
-        ensures { result ≡ floods signal self.now }
+        ensures { result ≡ floods signal (alone self.now) }
     {
         signal.confirmation().is_some() && self.is_full()
     }
 
     /// Why an I format closes the connection, if it does.
     fn close_by_information(&self, ns: u16, nr: u16, judged: &Judged) -> Option<Why>
-        ensures { result ≡ first_of (closes_judged ns nr judged.now self.now) }
+        ensures { result ≡ first_of (closes_judged ns nr judged.now (alone self.now)) }
     {
         if !self.is_started() {
             return Some(Why::NotStarted);
@@ -434,25 +409,29 @@ impl Station {
         moment: u64,
         settings: &Settings,
         picture: &[Observation],
+        news: &NewsRing,
     ) -> Result<Event, Memory>
-        requires { self.old.window.received + 1 < 2 ^ 64 }
-        ensures event { IfOk result (λ event. event ≡ event_of settings.now (formats.I ns nr asdu.now) self.old) }
-        ensures client { OnOk result
-            (self.new ≡ client_after_apdu settings.now picture.now moment (formats.I ns nr asdu.now) self.old) }
-        ensures place { IfOk result (λ event. HasPlace event self.new) }
+        requires received { self.old.window.received + 1 < 2 ^ 64 }
+        requires stands { Stands news.now self.old }
+        ensures event { IfOk result (λ event.
+            event ≡ event_of settings.now (formats.I ns nr asdu.now) (seen news.now self.old)) }
+        ensures client { OnOk result (seen news.now self.new
+            ≡ client_after_apdu settings.now picture.now moment (formats.I ns nr asdu.now) (seen news.now self.old)) }
+        ensures stands { OnOk result (Stands news.now self.new) }
+        ensures place { IfOk result (λ event. HasPlace event (seen news.now self.new)) }
         // Its answers can be sent, where they could before, and the picture's observations can.
-        ensures sendable { (offset : ℤ) → AllByRecursion (IsSendable offset) picture.now → CanAnswer offset self.old
-            → OnOk result (CanAnswer offset self.new) }
+        ensures sendable { (offset : ℤ) → AllByRecursion (IsSendable offset) picture.now
+            → CanAnswer offset (seen news.now self.old) → OnOk result (CanAnswer offset (seen news.now self.new)) }
         // A command that is given has fields that fit.
         ensures whole { IfOk result (λ event. IsWholeEvent event) }
-        ensures memory { OnErr result (asks settings.now (formats.I ns nr asdu.now) self.old ≡ true) }
+        ensures memory { OnErr result (asks settings.now (formats.I ns nr asdu.now) (seen news.now self.old) ≡ true) }
         ensures same { OnErr result (self.new ≡ self.old) }
     {
         let judged = judge(asdu.as_slice(), settings);
         if let Some(why) = self.close_by_information(ns, nr, &judged) {
             return Ok(self.close(why));
         }
-        self.take_asdu(settings, picture, asdu, &judged)?;
+        self.take_asdu(settings, picture, asdu, &judged, news)?;
         self.window.received(ns, nr, moment);
         Ok(match command_by(&judged) {
             Some(command) => Event::Command(command),
@@ -468,12 +447,15 @@ impl Station {
         picture: &[Observation],
         asdu: &Asdu,
         judged: &Judged,
+        news: &NewsRing,
     ) -> Result<(), Memory>
         requires judged { judged.now ≡ judged_asdu settings.now asdu.now }
-        requires room { overfills judged.now self.old ≡ false }
-        ensures client { OnOk result
-            (self.new ≡ client_judging settings.now picture.now asdu.now judged.now self.old) }
-        ensures memory { OnErr result (is_asking judged.now self.old ≡ true) }
+        requires room { overfills judged.now (alone self.old) ≡ false }
+        requires stands { Stands news.now self.old }
+        ensures client { OnOk result (seen news.now self.new
+            ≡ client_judging settings.now picture.now asdu.now judged.now (seen news.now self.old)) }
+        ensures stands { OnOk result (Stands news.now self.new) }
+        ensures memory { OnErr result (is_asking judged.now (alone self.old) ≡ true) }
         ensures same { OnErr result (self.new ≡ self.old) }
     {
         let pending = self.is_pending();
@@ -481,7 +463,7 @@ impl Station {
             if is_accepted_act(pending, command) {
                 let rows = rows_asked(self.alloc, command.action, picture)?;
                 self.rest = PartsLeft::of(command, rows)?;
-                self.older = self.queued();
+                self.mark(news);
                 return Ok(());
             }
         }
@@ -491,14 +473,27 @@ impl Station {
         Ok(())
     }
 
-    /// Takes a control function, for whose confirmation there is a place.
-    fn take_signal(&mut self, signal: Signal, moment: u64) -> Result<(), Memory>
-        requires { floods signal self.old ≡ false }
-        ensures client { OnOk result (self.new ≡ client_with_signal moment signal self.old) }
-        ensures memory { OnErr result (begins (formats.U signal) self.old ≡ true) }
-        ensures same { OnErr result (self.new ≡ self.old) }
+    /// All that wait are older than the interrogation that is accepted.
+    fn mark(&mut self, news: &NewsRing)
+        requires { Stands news.now self.old }
+        ensures client { seen news.now self.new
+            ≡ record (seen news.now self.old) { older = length (waiting_in news.now self.old.cursor) } }
+        ensures stands { Stands news.now self.new }
+        ensures rest { self.new.rest ≡ self.old.rest }
     {
-        self.begin_or_end(signal)?;
+        if let Some(cursor) = &mut self.cursor {
+            cursor.mark = news.next();
+        }
+    }
+
+    /// Takes a control function, for whose confirmation there is a place.
+    fn take_signal(&mut self, signal: Signal, moment: u64, news: &NewsRing)
+        requires floods { floods signal (alone self.old) ≡ false }
+        requires stands { Stands news.now self.old }
+        ensures client { seen news.now self.new ≡ client_with_signal moment signal (seen news.now self.old) }
+        ensures stands { Stands news.now self.new }
+    {
+        self.begin_or_end(signal, news);
         match signal {
             Signal::TestCon => self.window.test_confirmed(moment),
             _ => self.window.heard(moment),
@@ -506,32 +501,29 @@ impl Station {
         if let Some(confirmation) = signal.confirmation() {
             self.confirmations.push_back_reserved(confirmation);
         }
-        Ok(())
     }
 
     /// Begins a session by STARTDT act where none stands, and ends it by STOPDT act.
-    fn begin_or_end(&mut self, signal: Signal) -> Result<(), Memory>
-        ensures client { OnOk result (self.new ≡ client_with_session signal self.old) }
-        ensures memory { OnErr result ((signal ≡ signals.StartAct) × (is_started self.old.stage ≡ false)) }
-        ensures same { OnErr result (self.new ≡ self.old) }
+    fn begin_or_end(&mut self, signal: Signal, news: &NewsRing)
+        requires { Stands news.now self.old }
+        ensures client { seen news.now self.new ≡ client_with_session signal (seen news.now self.old) }
+        ensures stands { Stands news.now self.new }
     {
         let started = self.is_started();
         match signal {
             Signal::StartAct if !started => {
-                let queue = HeapCircularBuffer::with_capacity(self.alloc, self.limit)?;
-                self.begin_at(Stage::Started, Some(queue));
+                self.begin_at(Stage::Started, Some(Cursor::behind(news)));
             }
             Signal::StopAct if started => self.begin_at(Stage::Stopped, None),
             _ => {}
         }
-        Ok(())
     }
 
     /// What is put out next at a moment, if anything.
-    fn offered(&self, moment: u64) -> Option<Sending>
-        ensures sending { result ≡ offered moment self.now }
+    fn offered(&self, moment: u64, news: &NewsRing) -> Option<Sending>
+        ensures sending { result ≡ offered moment (seen news.now self.now) }
         ensures room { IfSome result (IsRoomy self.now.window) }
-        ensures next { IfSome result (IsNext self.now) }
+        ensures next { IfSome result (IsNext (seen news.now self.now)) }
         // What the type keeps.
         ensures answers { AllByRecursion IsReturnable self.now.answers }
     {
@@ -541,7 +533,7 @@ impl Station {
         if self.window.owes_test(moment) {
             return Some(Sending::Test);
         }
-        let information = self.information_offered();
+        let information = self.information_offered(news);
         if information.is_none() && self.window.owes_ack(moment) {
             return Some(Sending::SFormat);
         }
@@ -549,53 +541,71 @@ impl Station {
     }
 
     /// The first of what waits for an I format, in a session, where one may be sent.
-    fn information_offered(&self) -> Option<Sending>
-        ensures sending { result ≡ information_offered self.now }
+    fn information_offered(&self, news: &NewsRing) -> Option<Sending>
+        ensures sending { result ≡ information_offered (seen news.now self.now) }
         ensures room { IfSome result (IsRoomy self.now.window) }
     {
         if self.is_started() && self.window.may_send() {
-            self.first_in_line()
+            self.first_in_line(news)
         } else {
             None
         }
     }
 
     /// The first of what waits for an I format.
-    fn first_in_line(&self) -> Option<Sending>
-        ensures { result ≡ slice_get (line self.now) 0 }
+    fn first_in_line(&self, news: &NewsRing) -> Option<Sending>
+        ensures { result ≡ slice_get (line (seen news.now self.now)) 0 }
     {
         if let Some(answer) = self.answers.front() {
             return Some(Sending::Answer(*answer));
         }
-        let news = self.oldest_news().map(Sending::News);
-        if news.is_some() && self.older > 0 {
-            return news;
+        let oldest = self.oldest_news(news).map(Sending::News);
+        if oldest.is_some() && self.older(news) > 0 {
+            return oldest;
         }
         if let Some(part) = self.rest.first() {
             return Some(Sending::Part(part));
         }
-        news
+        oldest
     }
 
-    fn oldest_news(&self) -> Option<Observation>
-        ensures { result ≡ slice_get self.now.queue 0 }
+    fn oldest_news(&self, news: &NewsRing) -> Option<Observation>
+        ensures { result ≡ slice_get (waiting_in news.now self.now.cursor) 0 }
     {
-        match &self.queue {
-            Some(queue) => queue.front().copied(),
+        match &self.cursor {
+            Some(cursor) => news.first_from(cursor.first),
             None => None,
         }
     }
 
+    /// How many of the news that wait came before the interrogation that is pending.
+    fn older(&self, news: &NewsRing) -> u64
+        ensures { result ≡ older_in news.now self.now.cursor }
+    {
+        match &self.cursor {
+            Some(cursor) => cursor.older(news),
+            None => 0,
+        }
+    }
+
     /// Puts out what is offered, and what goes out with it.
-    fn send(&mut self, sending: Sending, settings: &Settings, moment: u64) -> ApduBuf
+    fn send(
+        &mut self,
+        sending: Sending,
+        settings: &Settings,
+        moment: u64,
+        news: &NewsRing,
+    ) -> ApduBuf
         requires room { IsRoomy self.old.window sending }
         requires count { sent_in_all self.old.window + 1 < 2 ^ 64 }
         requires answer { IsReturnableSending sending }
-        requires next { IsNext self.old sending }
+        requires next { IsNext (seen news.now self.old) sending }
+        requires stands { Stands news.now self.old }
         ensures apdu { result ≡ buffer_of (content_of settings.now.station.offset_minutes
-            settings.now.station.common_address self.old sending) }
-        ensures client { self.new
-            ≡ client_with_sent settings.now.station.offset_minutes moment sending self.old }
+            settings.now.station.common_address (seen news.now self.old) sending) }
+        ensures client { seen news.now self.new
+            ≡ client_with_sent settings.now.station.offset_minutes moment sending (seen news.now self.old) }
+        ensures stands { Stands news.now self.new }
     {
         match sending {
             Sending::Confirm(signal) => {
@@ -610,7 +620,7 @@ impl Station {
                 self.answers.pop_front();
                 self.send_answer(&answer, settings, moment)
             }
-            Sending::News(_) => self.send_news(settings, moment),
+            Sending::News(_) => self.send_news(settings, moment, news),
             Sending::Part(part) => self.send_parts(&part, settings, moment),
             Sending::SFormat => {
                 let nr = self.window.ack_sent();
@@ -645,19 +655,21 @@ impl Station {
     }
 
     /// Puts out the oldest news, as many as one ASDU carries.
-    fn send_news(&mut self, settings: &Settings, moment: u64) -> ApduBuf
+    fn send_news(&mut self, settings: &Settings, moment: u64, news: &NewsRing) -> ApduBuf
         requires room { length self.old.window.waiting < self.old.window.limits.k }
         requires count { sent_in_all self.old.window + 1 < 2 ^ 64 }
-        requires some { 0 < length (news_next self.old) }
+        requires some { 0 < length (news_next (seen news.now self.old)) }
+        requires stands { Stands news.now self.old }
         ensures apdu { result ≡ buffer_of (packed_information settings.now.station.offset_minutes
-            settings.now.station.common_address self.old.window 3 0 (news_next self.old)) }
-        ensures client { self.new ≡ record (client_without_news
-            (taken_of settings.now.station.offset_minutes (news_next self.old)) self.old) {
+            settings.now.station.common_address self.old.window 3 0 (news_next (seen news.now self.old))) }
+        ensures client { seen news.now self.new ≡ record (client_without_news (taken_of
+            settings.now.station.offset_minutes (news_next (seen news.now self.old))) (seen news.now self.old)) {
               window = counts_after_sending_i moment self.old.window;
             } }
+        ensures stands { Stands news.now self.new }
     {
-        let packed = self.pack_news(settings);
-        self.forget_news(packed.taken);
+        let packed = self.pack_news(settings, news);
+        self.forget_news(packed.taken, news);
         self.send_asdu(packed.asdu, moment)
     }
 
@@ -669,10 +681,10 @@ impl Station {
         ensures apdu { result ≡ buffer_of (Information (send_number self.old.window)
             (receive_number self.old.window) (parts_octets settings.now.station.offset_minutes
             settings.now.station.common_address first.now self.old.rest)) }
-        ensures client { self.new ≡ record (client_without_parts
-            (parts_together settings.now.station.offset_minutes first.now self.old.rest) self.old) {
-              window = counts_after_sending_i moment self.old.window;
-            } }
+        ensures seat { self.new ≡ record self.old {
+          window = counts_after_sending_i moment self.old.window;
+          rest = drop (parts_together settings.now.station.offset_minutes first.now self.old.rest) self.old.rest;
+        } }
     {
         let packed = self.rest.pack(first, settings);
         self.rest.forget(packed.taken);
@@ -680,39 +692,51 @@ impl Station {
     }
 
     /// The ASDU of as many as one carries of the news that may go next, and how many these are.
-    fn pack_news(&self, settings: &Settings) -> PackedAsdu
-        requires { 0 < length (news_next self.now) }
+    fn pack_news(&self, settings: &Settings, news: &NewsRing) -> PackedAsdu
+        requires { 0 < length (news_next (seen news.now self.now)) }
         ensures asdu { octets_in result.asdu ≡ packed_octets settings.now.station.offset_minutes
-            settings.now.station.common_address 3 0 (news_next self.now) }
-        ensures taken { result.taken ≡ taken_of settings.now.station.offset_minutes (news_next self.now) }
+            settings.now.station.common_address 3 0 (news_next (seen news.now self.now)) }
+        ensures taken { result.taken
+            ≡ taken_of settings.now.station.offset_minutes (news_next (seen news.now self.now)) }
     {
-        let count = self.news_next().min(MOST_PACKED);
-        let Some(queue) = &self.queue else {
-            unreachable!()
-        };
-        let (front, back) = queue.as_slices();
+        let count = self.news_next(news).min(MOST_PACKED);
+        let (front, back) = self.news_waiting(news);
         pack_news(front, back, count, settings)
     }
 
-    /// How many news may go next: those that came before the interrogation that is pending, or all.
-    fn news_next(&self) -> usize
-        ensures { result ≡ length (news_next self.now) }
+    /// The news that wait, in two slices.
+    fn news_waiting<'a>(&self, news: &'a NewsRing) -> (&'a [Observation], &'a [Observation])
+        ensures { result.0.now ++ result.1.now ≡ waiting_in news.now self.now.cursor }
     {
+        match &self.cursor {
+            Some(cursor) => news.slices_from(cursor.first),
+            None => (&[], &[]),
+        }
+    }
+
+    /// How many news may go next: those that came before the interrogation that is pending, or all.
+    fn news_next(&self, news: &NewsRing) -> usize
+        ensures { result ≡ length (news_next (seen news.now self.now)) }
+    {
+        let queued = self.queued(news);
         if self.is_pending() {
-            self.queued().min(self.older)
+            (queued as u64).min(self.older(news)) as usize
         } else {
-            self.queued()
+            queued
         }
     }
 
     /// The oldest news, so many, don't wait any more.
-    fn forget_news(&mut self, count: usize)
-        ensures { self.new ≡ client_without_news count self.old }
+    fn forget_news(&mut self, count: usize, news: &NewsRing)
+        requires few { count ≤ length (waiting_in news.now self.old.cursor) }
+        requires stands { Stands news.now self.old }
+        ensures client { seen news.now self.new ≡ client_without_news count (seen news.now self.old) }
+        ensures stands { Stands news.now self.new }
     {
-        if let Some(queue) = &mut self.queue {
-            queue.truncate_front(queue.len().saturating_sub(count));
-        }
-        self.older = self.older.saturating_sub(count);
+        self.cursor = match &self.cursor {
+            Some(cursor) => Some(cursor.past(news, count)),
+            None => None,
+        };
     }
 }
 
@@ -732,47 +756,4 @@ fn refilled<T: Copy>(
     copy.extend_from_slice(front)?;
     copy.extend_from_slice(back)?;
     Ok(VecDeque::from_vec(copy))
-}
-
-/// The same queue, in the memory of a spare one with the same room.
-fn queue_like(
-    spare: Option<HeapCircularBuffer<Observation>>,
-    queue: &Option<HeapCircularBuffer<Observation>>,
-) -> Result<Option<HeapCircularBuffer<Observation>>, Memory>
-    ensures { IfOk result (λ copy. copy ≡ queue.now) }
-{
-    match queue {
-        None => Ok(None),
-        Some(news) => Ok(Some(news_like(spare, news)?)),
-    }
-}
-
-fn news_like(
-    spare: Option<HeapCircularBuffer<Observation>>,
-    news: &HeapCircularBuffer<Observation>,
-) -> Result<HeapCircularBuffer<Observation>, Memory>
-    ensures { IfOk result (λ copy. copy ≡ news.now) }
-{
-    let mut copy = room_for_news(spare, *news.allocator(), news.capacity())?;
-    let (front, back) = news.as_slices();
-    copy.extend_from_slice(front);
-    copy.extend_from_slice(back);
-    Ok(copy)
-}
-
-/// A queue without news and with this room: the spare one where it has it.
-fn room_for_news(
-    spare: Option<HeapCircularBuffer<Observation>>,
-    alloc: Global,
-    room: usize,
-) -> Result<HeapCircularBuffer<Observation>, Memory>
-    ensures { IfOk result (λ queue. queue ≡ buffer [] room) }
-{
-    if let Some(mut spare) = spare {
-        if spare.capacity() == room {
-            spare.clear();
-            return Ok(spare);
-        }
-    }
-    Ok(HeapCircularBuffer::with_capacity(alloc, room)?)
 }

@@ -25,7 +25,7 @@ use Rattle.gw_station.specs.declared.event.Event.TheVariants as events
 use Rattle.gw_station.specs.Client.{Client, is_up, is_timed_out, client_after_up, client_after_close, client_with_news, client_after_tick}
 use Rattle.gw_station.specs.declared.event.Said.{Said}
 use Rattle.gw_station.specs.Answers.{client_told}
-use Rattle.gw_station.specs.Frames.{event_of, client_after_apdu, begins, given_command, wants_memory}
+use Rattle.gw_station.specs.Frames.{event_of, client_after_apdu, asks, begins, given_command}
 use Rattle.gw_station.specs.Pump.{given, client_after_pump}
 use Rattle.gw_steps.specs.declared.step.Step.{Step}
 use Rattle.gw_steps.specs.declared.step.Step.TheVariants as steps
@@ -95,10 +95,10 @@ begun_by apdu (Some k) = begins apdu k
 abbrev pub is_beginning : State → ℕ → Apdu → Bool
 is_beginning s c apdu = begun_by apdu (slice_get s.clients c)
 
--- memory is wanted for an APDU: for the queue of a session that begins, or the copy of the picture for an interrogation
+-- memory is wanted for an APDU: for the copy of the picture that answers an interrogation
 abbrev pub wanted_by : Setup → Apdu → Option Client → Bool
 wanted_by setup apdu None = false
-wanted_by setup apdu (Some k) = wants_memory setup apdu k
+wanted_by setup apdu (Some k) = asks setup apdu k
 
 -- the moment of a step
 abbrev pub latest : State → ℕ → ℕ

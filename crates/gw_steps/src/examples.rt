@@ -68,10 +68,12 @@ pub fn replies_by_example()
     ensures later_moment { (reached (steps.ClientUp 0 9 ∷ steps.Frame 0 (U StartAct) 12 ∷ [])).moment ≡ 12 }
 {}
 
-/// Memory is wanted for the STARTDT act that begins a session, and for no other step than an APDU: those that come up
-/// and are lost, a fragment, a poll, a pump and a tick want none, at any moment.
+/// Memory is wanted for an interrogation, and for no other step than an APDU: those that come up and are lost, a
+/// fragment, a poll, a pump and a tick want none, at any moment; nor does the STARTDT act that begins a session.
+#[tactic(auto, unfolding(iec_command::specs::Commands::command_of))]
 pub fn memory_by_example()
-    ensures begins { (needs setup (reached (steps.ClientUp 0 7 ∷ [])) (steps.Frame 0 (U StartAct) 9)).memory ≡ true }
+    ensures asks { (needs setup (reached started) (interrogate 0)).memory ≡ true }
+    ensures begins { (needs setup (reached (steps.ClientUp 0 7 ∷ [])) (steps.Frame 0 (U StartAct) 9)).memory ≡ false }
     ensures goes_on { (needs setup (reached started) (steps.Frame 0 (U StartAct) 9)).memory ≡ false }
     ensures receipt { (needs setup (reached returned) (steps.Frame 0 (S 2) 9)).memory ≡ false }
     ensures others { map (λ step. (needs setup (reached (started ++ fragment_of event ∷ [])) step).memory)

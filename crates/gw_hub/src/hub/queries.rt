@@ -2,7 +2,7 @@
 ghost use Rattle.std.specs.Prelude.{◌≡◌, ◌↔◌, true, false, IsTrue, Some, slice_get, slice_index};
 ghost use Rattle.gw_steps.specs.declared.step.StepFault.TheVariants.{NoClient, NoOutstation};
 ghost use Rattle.gw_steps.specs.Steps.{can_order, client_up, command_of, fault_unless_up, is_ordering, latest, outstation_up};
-ghost use Rattle.gw_hub.specs.Queries.{dropped_at, has_offer, queued_at, unacknowledged_at};
+ghost use Rattle.gw_parts.specs.Clients.{dropped_at, has_offer, queued_at, unacknowledged_at};
 ghost use Rattle.gw_hub.specs.Hub.{can_take, is_poll_due, started_at, unless};
 
 use crate::hub::Hub;
@@ -25,10 +25,7 @@ impl Hub {
         ensures count { result ≡ queued_at (slice_get self.now.state.clients client) }
         ensures outside { started_at (slice_get self.now.state.clients client) ≡ false → result ≡ 0 }
     {
-        match self.clients.get(client) {
-            Some(station) => station.queued(),
-            None => 0,
-        }
+        self.clients.queued(client)
     }
 
     /// How many news of a client's session were dropped; 0 where it isn't started, or there is no such client.
@@ -36,20 +33,14 @@ impl Hub {
         ensures count { result ≡ dropped_at (slice_get self.now.state.clients client) }
         ensures outside { started_at (slice_get self.now.state.clients client) ≡ false → result ≡ 0 }
     {
-        match self.clients.get(client) {
-            Some(station) => station.dropped(),
-            None => 0,
-        }
+        self.clients.dropped(client)
     }
 
     /// How many I formats sent to a client are not acknowledged; 0 where there is no such client.
     pub fn unacknowledged(&self, client: u8) -> usize
         ensures { result ≡ unacknowledged_at (slice_get self.now.state.clients client) }
     {
-        match self.clients.get(client) {
-            Some(station) => station.unacknowledged(),
-            None => 0,
-        }
+        self.clients.unacknowledged(client)
     }
 
     /// How many observations were news since the hub began.
@@ -96,10 +87,7 @@ impl Hub {
     pub fn is_pump_due(&self, client: u8) -> bool
         ensures { result ≡ has_offer self.now.state.moment (slice_get self.now.state.clients client) }
     {
-        match self.clients.get(client) {
-            Some(station) => station.has_offer(self.moment),
-            None => false,
-        }
+        self.clients.has_offer(client, self.moment)
     }
 
     /// The largest moment so far, this one included.

@@ -1,13 +1,9 @@
-use Rattle.std.proofs.Common.{rules, ◌+◌, length, ap, subst, arith}
+use Rattle.std.proofs.Common.{rules, subst}
 use Rattle.std.specs.List.{AllByRecursion}
 use Rattle.gw_model.specs.Fit.{HasWidth}
 use Rattle.gw_answers.specs.Meaning.{IsSendable}
-use Rattle.gw_hub.proofs.Taking.{came_none, can_fewer}
+use Rattle.gw_hub.proofs.Taking.{came_none}
 use Rattle.gw_hub.proofs.news.lose_row.Goals as goal
-
-pub returns-in-Some-clause-more : goal.returns-in-Some-clause-more
-returns-in-Some-clause-more c = λ n all.
-    c.put.ensures.more n (can_fewer _ (n + 1) c.args.clients.now (omega (arith, ap length c.in-Some.ensures.news)) all)
 
 pub returns-in-Some-clause-sendable : goal.returns-in-Some-clause-sendable
 returns-in-Some-clause-sendable c =
@@ -16,4 +12,4 @@ returns-in-Some-clause-sendable c =
     (record { fit = c.in-Some.ensures.fit c.args.settings.now.station.offset_minutes; width = width }, tt)
 
 pub returns-in_default-clause-clients : goal.returns-in_default-clause-clients
-returns-in_default-clause-clients c = came_none _ _ c.args.clients.now c.in_default.ensures.news c.requires
+returns-in_default-clause-clients c = came_none _ c.args.clients.now.each c.in_default.ensures.news c.requires.few

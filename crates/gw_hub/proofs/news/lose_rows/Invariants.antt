@@ -1,16 +1,18 @@
--- The rows before this one are done, and what the others lose can come.
-use Rattle.std.proofs.Common.{◌≡◌, length, map}
+-- The rows before this one are done.
+use Rattle.std.proofs.Common.{◌≡◌, ◌+◌, length, map}
 use Rattle.std.specs.List.{AllByRecursion}
 use Rattle.gw_picture.specs.Loss.{losses_of, picture_after_loss}
 use Rattle.gw_station.specs.Client.{client_with_news}
-use Rattle.gw_station.specs.Sound.{CanTake}
+use Rattle.gw_station.specs.Sound.{WaitsWithin}
 use Rattle.gw_hub.proofs.Losing.{LeftToLose, rest_of}
 use Rattle.gw_hub.proofs.news.lose_rows.Given as goal
 
 abbrev pub invariant-loop-position : goal.invariant-loop-position
 invariant-loop-position l =
-    LeftToLose l.settings.station.offset_minutes l.outstation l.settings.rows l.position l.picture l.clients
+    LeftToLose l.settings.station.offset_minutes l.outstation l.settings.rows l.position l.picture l.clients.each
     (losses_of l.outstation l.settings.rows l.fn.picture) (picture_after_loss l.outstation l.settings.rows l.fn.picture)
-    (map (client_with_news (losses_of l.outstation l.settings.rows l.fn.picture)) l.fn.clients)
-    × AllByRecursion (CanTake (length (rest_of l.outstation l.settings.rows l.position l.picture))) l.clients
+    (map (client_with_news (losses_of l.outstation l.settings.rows l.fn.picture)) l.fn.clients.each)
+    × AllByRecursion WaitsWithin l.clients.each
     × (length l.picture ≡ length l.fn.picture)
+    × (l.clients.news + length (rest_of l.outstation l.settings.rows l.position l.picture)
+    ≡ l.fn.clients.news + length (losses_of l.outstation l.settings.rows l.fn.picture))

@@ -22,7 +22,7 @@ loop-preserved c =
     let o = c.args.outstation in
     let n = c.loop.counter in
     let v = c.loop.controls in
-    let ks = c.loop.clients in
+    let ks = c.loop.clients.each in
     let more : ℕ = places - (n + 1) in
     let first : List Outcome = option_to_list (outcome_lost_at (slice_get v.outgoing o)) in
     let one = left n (omega (arith, c.loop-test.true)) in
@@ -32,4 +32,5 @@ loop-preserved c =
       sym (told_more first (outcomes_lost more o (controls_after_lost o v)) ks)
           ∙ (sym (ap (λ (m : ℕ). clients_told (outcomes_lost m o v) ks) one) ∙ c.loop.invariant.1),
       holds_lost o ks v c.loop.invariant.2,
+      c.lose_order.ensures.news ∙ c.loop.invariant.3,
     )

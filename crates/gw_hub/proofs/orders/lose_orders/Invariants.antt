@@ -10,6 +10,7 @@ abbrev pub invariant-loop : goal.invariant-loop
 invariant-loop l =
     (controls_after_losses (places - l.counter) l.outstation l.controls
     ≡ controls_after_losses places l.outstation l.fn.controls)
-    × (clients_told (outcomes_lost (places - l.counter) l.outstation l.controls) l.clients
-    ≡ clients_told (outcomes_lost places l.outstation l.fn.controls) l.fn.clients)
-    × HoldsPlaces l.clients l.controls
+    × (clients_told (outcomes_lost (places - l.counter) l.outstation l.controls) l.clients.each
+    ≡ clients_told (outcomes_lost places l.outstation l.fn.controls) l.fn.clients.each)
+    × HoldsPlaces l.clients.each l.controls
+    × (l.clients.news ≡ l.fn.clients.news)

@@ -18,7 +18,7 @@ pub end_order-requires : goal.end_order-requires
 end_order-requires c = c.loop-position.invariant.4
 
 pub loop-position-init : goal.loop-position-init
-loop-position-init c = (refl, refl, refl, refl, c.requires)
+loop-position-init c = (refl, refl, refl, refl, c.requires, refl)
 
 pub loop-position-preserved : goal.loop-position-preserved
 loop-position-preserved c =
@@ -27,7 +27,7 @@ loop-position-preserved c =
     let ends = ended_by_tick c.args.moment in
     let ms = c.loop-position.outstations in
     let v = c.loop-position.controls in
-    let ks = c.loop-position.clients in
+    let ks = c.loop-position.clients.each in
     let ended = c.tick-ended.result in
     let inside : n < length ms =
     omega (arith, c.loop-position-test.true, c.len-position-end.ensures, c.loop-position.invariant.1) in
@@ -43,6 +43,7 @@ loop-position-preserved c =
           ∙ (ap (λ (xs : List Outcome). clients_told xs ks) (outcomes_next n after ends ms ended v inside is)
           ∙ c.loop-position.invariant.3),
       holds_ended n ended ks v c.loop-position.invariant.4,
+      c.end_order.ensures.news ∙ c.loop-position.invariant.5,
     )
 
 pub returns : goal.returns
@@ -56,4 +57,5 @@ returns c =
       outstations = sym (masters_end n (master_after_tick c.args.moment) ms past) ∙ c.loop-position.invariant.0;
       controls = rw none at c.loop-position.invariant.2;
       clients = rw none at c.loop-position.invariant.3;
+      news = c.loop-position.invariant.5;
     }

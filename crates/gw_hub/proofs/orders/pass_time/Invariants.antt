@@ -13,6 +13,7 @@ invariant-loop-position l =
     × (controls_after_all_ended l.position (map (ended_by_tick l.moment) (drop l.position l.outstations)) l.controls
     ≡ controls_after_all_ended 0 (map (ended_by_tick l.moment) l.fn.outstations) l.fn.controls)
     × (clients_told
-    (outcomes_ended l.position (map (ended_by_tick l.moment) (drop l.position l.outstations)) l.controls) l.clients
-    ≡ clients_told (outcomes_ended 0 (map (ended_by_tick l.moment) l.fn.outstations) l.fn.controls) l.fn.clients)
-    × HoldsPlaces l.clients l.controls
+    (outcomes_ended l.position (map (ended_by_tick l.moment) (drop l.position l.outstations)) l.controls) l.clients.each
+    ≡ clients_told (outcomes_ended 0 (map (ended_by_tick l.moment) l.fn.outstations) l.fn.controls) l.fn.clients.each)
+    × HoldsPlaces l.clients.each l.controls
+    × (l.clients.news ≡ l.fn.clients.news)

@@ -1,21 +1,27 @@
-use Rattle.std.proofs.Common.{length, sym, ap, subst, ◌∙◌, arith, rules}
+use Rattle.std.proofs.Common.{ℕ, length, sym, ap, subst, ◌∙◌, arith, rules}
 use Rattle.gw_picture.specs.Shown.{ShowsRows}
 use Rattle.gw_picture.proofs.ByType.{reports_rows}
 use Rattle.gw_picture.proofs.Lists.{change-length}
 use Rattle.gw_steps.specs.State.{Counts}
 use Rattle.std.specs.Option.{option_to_list}
 use Rattle.gw_steps.specs.Controls.{outcome_ended}
-use Rattle.gw_hub.specs.Hub.{KeepsToSession}
+use Rattle.gw_hub.specs.Hub.{KeepsToSession, news_of_all}
 use Rattle.gw_hub.proofs.Each.{all_mapped}
 use Rattle.gw_hub.proofs.Holding.{left_by_end, left_by_news, news_holds, orderly, sound_of}
-use Rattle.gw_hub.proofs.Taking.{can_rise_news, news_can, sound_came}
+use Rattle.gw_hub.proofs.Taking.{can_rise_news, sound_came, sound_within}
 use Rattle.gw_hub.proofs.Sessions.{kept_outcomes, kept_with_news}
 use Rattle.gw_hub.proofs.hub.Hub.accept.Goals as goal
 
-pub take_reports-news-requires : goal.take_reports-news-requires
-take_reports-news-requires c =
-    let few = can_rise_news c.self.inside.counts _ 0 (search (rules, c.can_rise.ensures, c.if-not-can_rise.false)) in
-    news_can _ _ _ _ _ few c.self.invariant.sound.clients
+pub take_reports-news-requires-clause-count : goal.take_reports-news-requires-clause-count
+take_reports-news-requires-clause-count c =
+    let news : ℕ =
+    length (news_of_all c.get.result.now c.self.inside.picture c.reports-reports.result.now) in
+    let few = can_rise_news c.self.inside.counts news 0
+    (search (rules, c.can_rise.ensures, c.if-not-can_rise.false, c.get.ensures)) in
+    omega (arith, few, c.self.invariant.news)
+
+pub take_reports-news-requires-clause-few : goal.take_reports-news-requires-clause-few
+take_reports-news-requires-clause-few c = sound_within _ _ _ _ c.self.invariant.sound.clients
 
 pub invariant_of-self : goal.invariant_of-self
 invariant_of-self c =
@@ -38,6 +44,14 @@ invariant_of-self c =
           c.end_order.ensures.clients
           (all_mapped KeepsToSession KeepsToSession _ _ _ c.take_reports-news.ensures.clients (kept_with_news _)
           c.self.invariant.sessions);
+      news = omega (
+        arith,
+        c.end_order.ensures.news,
+        c.take_reports-news.ensures.news,
+        c.take_reports-news.ensures.count,
+        ap (λ (counts : Counts). counts.news) c.raise.ensures,
+        c.self.invariant.news,
+      );
     })
 
 pub end_order-requires : goal.end_order-requires

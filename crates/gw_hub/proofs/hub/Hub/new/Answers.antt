@@ -10,7 +10,8 @@ invariant_of-result c =
     let settings = c.args.settings in
     let outstations : c.in_ok-outstations.outstations ≡ (at_first settings).outstations = search rules in
     let picture : c.in_ok-picture.picture ≡ (at_first settings).picture = search rules in
-    let clients : c.in_ok-clients.clients ≡ (at_first settings).clients = search rules in
+    let clients : c.in_ok-clients.clients.each ≡ (at_first settings).clients = search rules in
+    let news : c.in_ok-clients.clients.news ≡ 0 = search rules in
     let common : c.in_ok-common.common ≡ settings = search rules in
     let counts : c.new-counts.result ≡ (at_first settings).counts = search rules in
     let controls : c.in_ok-controls.controls ≡ (at_first settings).controls = search rules in
@@ -27,4 +28,5 @@ invariant_of-result c =
         held = first.held;
       };
       sessions = kept_at_first (limits_of settings.station) settings.station.queue client_limit;
+      news = news;
     })

@@ -13,17 +13,20 @@ use Rattle.gw_steps.specs.Controls.{outcome_ended, outcomes_lost}
 use Rattle.gw_hub.specs.Hub.{KeepsToSession}
 use Rattle.gw_hub.proofs.Each.{all_mapped}
 use Rattle.gw_hub.proofs.Holding.{end_holds, left_by_end, left_by_loss, left_by_news, news_holds, orderly, sound_of}
-use Rattle.gw_hub.proofs.Taking.{can_rise_news, news_can, sound_came}
+use Rattle.gw_hub.proofs.Taking.{can_rise_news, sound_came, sound_within}
 use Rattle.gw_hub.proofs.Sessions.{kept_outcomes, kept_with_news}
 use Rattle.gw_hub.proofs.hub.Hub.outstation_down.Goals as goal
 
-pub lose_rows-requires : goal.lose_rows-requires
-lose_rows-requires c =
+pub lose_rows-requires-clause-count : goal.lose_rows-requires-clause-count
+lose_rows-requires-clause-count c =
     let few = can_rise_news c.self.inside.counts c.losses-news.result 0
     (search (rules, c.can_rise.ensures, c.if-not-can_rise.false)) in
     let same = ap (λ (s : Setup). length (losses_of c.args.outstation s.rows c.self.inside.picture))
     (c.get.ensures ∙ sym c.get-2.ensures) in
-    news_can _ _ _ _ _ (omega (arith, few, c.losses-news.ensures, same)) c.self.invariant.sound.clients
+    omega (arith, few, c.losses-news.ensures, same, c.self.invariant.news)
+
+pub lose_rows-requires-clause-few : goal.lose_rows-requires-clause-few
+lose_rows-requires-clause-few c = sound_within _ _ _ _ c.self.invariant.sound.clients
 
 pub invariant_of-self : goal.invariant_of-self
 invariant_of-self c =
@@ -54,6 +57,16 @@ invariant_of-self c =
           (kept_outcomes (option_to_list (outcome_ended _ ended c.self.inside.controls)) _ _ c.end_order.ensures.clients
           (all_mapped KeepsToSession KeepsToSession _ _ _ c.lose_rows.ensures.clients (kept_with_news _)
           c.self.invariant.sessions));
+      news = omega (
+        arith,
+        c.lose_orders.ensures.news,
+        c.end_order.ensures.news,
+        c.lose_rows.ensures.news,
+        c.losses-news.ensures,
+        same,
+        ap (λ (counts : Counts). counts.news) c.raise.ensures,
+        c.self.invariant.news,
+      );
     })
 
 pub end_order-requires : goal.end_order-requires

@@ -10,4 +10,5 @@ invariant_of-self c =
       sound = sound_of _ _ before.picture before.rows
           (ap length c.come_up.ensures ∙ (change-length c.args.outstation _ _ ∙ before.masters)) (orderly _ _ before);
       sessions = c.self-2.invariant.sessions;
+      news = c.self-2.invariant.news;
     }

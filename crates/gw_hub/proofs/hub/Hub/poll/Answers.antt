@@ -14,6 +14,7 @@ invariant_of-self c =
           (ap length c.poll.ensures.masters ∙ (change-length c.args.outstation _ _ ∙ before.masters))
           (orderly _ _ before);
       sessions = c.self.invariant.sessions;
+      news = c.self.invariant.news;
     }
 
 pub poll-requires : goal.poll-requires

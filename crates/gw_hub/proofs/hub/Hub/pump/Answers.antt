@@ -38,6 +38,7 @@ invariant_of-self c =
       };
       sessions = all_kept KeepsToSession c.args.client _ _ _ c.pump.ensures.clients
           (kept_after_pump _ c.self.inside.moment) c.self.invariant.sessions;
+      news = c.pump.ensures.news ∙ c.self.invariant.news;
     }
 
 same_reply : (c : ℕ) (a b : Setup) (m l : ℕ) (ks js : List Client) → a ≡ b → m ≡ l → ks ≡ js
@@ -57,7 +58,7 @@ returns-clause-step c =
     let state = c.in_ok-count.ensures.ok.1 in
     let seen = ap (λ (h : Hub). h.state) c.self.view_is ∙ state in
     let moment : c.self.inside.moment ≡ latest old.state c.args.moment = ap (λ (s : State). s.moment) seen in
-    let clients : c.self.inside.clients ≡ old.state.clients = ap (λ (s : State). s.clients) seen in
+    let clients : c.self.inside.clients.each ≡ old.state.clients = ap (λ (s : State). s.clients) seen in
     let reply : c.pump.result
     ≡ reply_to_pump old.setup (latest old.state c.args.moment) (slice_get old.state.clients c.args.client) =
     c.pump.ensures.reply ∙ same_reply c.args.client _ _ _ _ _ _ (c.get.ensures ∙ setup) moment clients in

@@ -28,7 +28,7 @@ frame-requires c =
 
 pub settle-requires-clause-acts : goal.settle-requires-clause-acts
 settle-requires-clause-acts c =
-    given_acts c.get-settings.result.now c.args.apdu.now (slice_get c.self.inside.clients c.args.client) c.in-Ok.event
+    given_acts c.get-settings.result.now c.args.apdu.now (slice_get c.self.inside.clients.each c.args.client) c.in-Ok.event
     c.in-Ok.ensures.event
 
 pub settle-requires-clause-number : goal.settle-requires-clause-number
@@ -37,11 +37,11 @@ settle-requires-clause-number c =
     (command_of h.setup c.args.apdu.now (slice_get h.state.clients c.args.client))) h.state.controls))
     (sym c.self.view_is) c.requires.order in
     let event = subst (λ (s : Setup). c.in-Ok.event
-    ≡ event_at s c.args.apdu.now (slice_get c.self.inside.clients c.args.client)) c.get-settings.ensures
+    ≡ event_at s c.args.apdu.now (slice_get c.self.inside.clients.each c.args.client)) c.get-settings.ensures
     c.in-Ok.ensures.event in
     rw c.get-settings.ensures (number_left c.self.inside.settings (state_in c.self.inside)
     (record { client = c.args.client; session = c.session.result; moment = c.args.moment })
-    c.args.apdu.now (slice_get c.self.inside.clients c.args.client) c.in-Ok.event event
+    c.args.apdu.now (slice_get c.self.inside.clients.each c.args.client) c.in-Ok.event event
     (c.session.ensures ∙ ap (λ (h : Hub). slice_index h.state.sessions c.args.client) (sym c.self.view_is)) can)
 
 pub invariant_of-self-2 : goal.invariant_of-self-2
@@ -61,10 +61,10 @@ invariant_of-self-2 c =
     let mid = all_later setup.station _ _ _ _ _ steps news
     (c.in-Ok.ensures.sound setup counts.steps counts.news sends before.clients) in
     let orders = left_by_apdu setup setup.station counts.steps c.raise.new.self.steps counts.news c.raise.new.self.news
-    c.rows-picture.result.now c.self.inside.outstations sender c.args.apdu.now c.in-Ok.event c.self.inside.clients
-    c.frame.new.self c.settle.new.clients c.self.inside.controls c.settle.new.controls c.in-Ok.ensures.event
+    c.rows-picture.result.now c.self.inside.outstations sender c.args.apdu.now c.in-Ok.event c.self.inside.clients.each
+    c.frame.new.self.each c.settle.new.clients.each c.self.inside.controls c.settle.new.controls c.in-Ok.ensures.event
     c.in-Ok.ensures.clients c.settle.ensures.clients c.settle.ensures.controls c.in-Ok.ensures.whole
-    (given_acts setup c.args.apdu.now (slice_get c.self.inside.clients c.args.client) c.in-Ok.event
+    (given_acts setup c.args.apdu.now (slice_get c.self.inside.clients.each c.args.client) c.in-Ok.event
     c.in-Ok.ensures.event) c.in-Ok.ensures.place mid (orderly _ _ before) in
     rw (← c.get-settings.ensures)
     (record {
@@ -72,6 +72,13 @@ invariant_of-self-2 c =
       sessions = all_kept KeepsToSession c.args.client _ _ _ c.settle.ensures.clients (kept_answered _ c.in-Ok.event)
           (all_kept KeepsToSession c.args.client _ _ _ c.in-Ok.ensures.clients
           (kept_after_apdu setup c.rows-picture.result.now c.args.moment c.args.apdu.now) c.self.invariant.sessions);
+      news = omega (
+        arith,
+        c.settle.ensures.news,
+        c.in-Ok.ensures.news,
+        ap (λ (counts : Counts). counts.news) c.raise.ensures,
+        c.self.invariant.news,
+      );
     })
 
 pub returns-clause-step : goal.returns-clause-step
@@ -94,14 +101,14 @@ returns-clause-step c =
     c.session.ensures ∙ ap (λ (h : Hub). slice_index h.state.sessions client) back in
     let event = subst (λ (s : Setup). c.in-Ok.event ≡ event_at s apdu (slice_get state.clients client))
     c.get-settings.ensures c.in-Ok.ensures.event in
-    let mid = subst (λ (s : Setup). c.frame.new.self
+    let mid = subst (λ (s : Setup). c.frame.new.self.each
     ≡ change client (client_after_apdu s state.picture moment apdu) state.clients) c.get-settings.ensures
-    (subst (λ (p : List Observation). c.frame.new.self
+    (subst (λ (p : List Observation). c.frame.new.self.each
     ≡ change client (client_after_apdu c.get-settings.result.now p moment apdu) state.clients)
     c.rows-picture.ensures.shown c.in-Ok.ensures.clients) in
-    let clients = subst (λ (s : Setup). c.settle.new.clients
+    let clients = subst (λ (s : Setup). c.settle.new.clients.each
     ≡ change client (client_answered (said_to_sender s state.outstations sender state.controls) c.in-Ok.event)
-    c.frame.new.self) c.get-settings.ensures c.settle.ensures.clients in
+    c.frame.new.self.each) c.get-settings.ensures c.settle.ensures.clients in
     let controls = subst (λ (s : Setup). c.settle.new.controls
     ≡ controls_settled s state.outstations sender apdu c.in-Ok.event state.controls) c.get-settings.ensures
     c.settle.ensures.controls in
@@ -112,7 +119,7 @@ returns-clause-step c =
     search (rules, c.set_session.ensures, c.sessions.ensures) in
     subst (λ (h : Hub). (outcome h.setup h.state (steps.Frame client apdu moment) ≡ Ok c.reply_of.result)
     × ((record state {
-      clients = c.settle.new.clients;
+      clients = c.settle.new.clients.each;
       sessions = c.set_session.new.sessions;
       controls = c.settle.new.controls;
       counts = c.raise.new.self;
@@ -120,7 +127,7 @@ returns-clause-step c =
     }) ≡ after h.setup h.state (steps.Frame client apdu moment))) c.self.view_is (
       frame_answer setup state client moment apdu c.in-Ok.event c.reply_of.result c.args.begins at up begins rises order
           event c.reply_of.ensures,
-      frame_state setup state sender apdu c.in-Ok.event c.frame.new.self c.settle.new.clients
+      frame_state setup state sender apdu c.in-Ok.event c.frame.new.self.each c.settle.new.clients.each
           c.set_session.new.sessions c.settle.new.controls c.raise.new.self c.args.begins at session event up mid
           clients controls begins counts sessions,
     )

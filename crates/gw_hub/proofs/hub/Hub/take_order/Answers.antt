@@ -10,6 +10,7 @@ invariant_of-self c =
     rw c.take_order.ensures.after (record {
       sound = sound_of _ _ before.picture before.rows before.masters orders;
       sessions = c.self.invariant.sessions;
+      news = c.self.invariant.news;
     })
 
 pub returns-then-ready-clause-state : goal.returns-then-ready-clause-state

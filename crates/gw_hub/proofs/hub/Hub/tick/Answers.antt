@@ -28,6 +28,7 @@ invariant_of-self c =
           (outcomes_ended 0 (map (ended_by_tick moment) c.self.inside.outstations) c.tick-closed.new.controls) _ _
           c.pass_time.ensures.clients (all_mapped KeepsToSession KeepsToSession _ _ _ c.tick-closed.ensures.clients
           (kept_after_tick moment) c.self.invariant.sessions);
+      news = c.pass_time.ensures.news ∙ (c.tick-closed.ensures.news ∙ c.self.invariant.news);
     }
 
 same_bits : (m l : ℕ) (ks js : List Client) → m ≡ l → ks ≡ js
@@ -39,7 +40,7 @@ returns-clause-step c =
     let old : Hub = c.args.self.now in
     let seen = ap (λ (h : Hub). h.state) c.self.view_is ∙ c.in_ok-count.ensures.ok.1 in
     let moment : c.self.inside.moment ≡ latest old.state c.args.moment = ap (λ (s : State). s.moment) seen in
-    let clients : c.self.inside.clients ≡ old.state.clients = ap (λ (s : State). s.clients) seen in
+    let clients : c.self.inside.clients.each ≡ old.state.clients = ap (λ (s : State). s.clients) seen in
     let closed : c.tick-closed.result
     ≡ bits_of (map (is_timed_out (latest old.state c.args.moment)) old.state.clients) =
     c.tick-closed.ensures.closed ∙ same_bits _ _ _ _ moment clients in (

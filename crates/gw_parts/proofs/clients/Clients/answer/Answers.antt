@@ -1,11 +1,16 @@
+use Rattle.std.proofs.Common.{ap}
 use Rattle.gw_station.specs.Answers.{client_told}
-use Rattle.gw_parts.proofs.Places.{lent_changed, none_changed}
+use Rattle.gw_parts.specs.Clients.{Clients}
+use Rattle.gw_parts.proofs.Seats.{clients_changed, clients_unchanged}
 use Rattle.gw_parts.proofs.clients.Clients.answer.Goals as goal
 
-pub returns-in-Some : goal.returns-in-Some
-returns-in-Some c = lent_changed c.args.client (client_told c.args.command.now c.args.said) c.args.self.now
-    c.in-Some.station.now c.answer.new.self c.in-Some.ensures.value c.answer.ensures
+pub returns-in_default-clause-clients : goal.returns-in_default-clause-clients
+returns-in_default-clause-clients c =
+    clients_unchanged c.self.inside.news c.from.result c.args.client (client_told c.args.command.now c.args.said) _ _ c.from.ensures
+    (ap (λ (k : Clients). k.each) c.self.view_is) c.in_default.ensures.item.3
 
-pub returns-in_default : goal.returns-in_default
-returns-in_default c = none_changed c.args.client (client_told c.args.command.now c.args.said) c.args.self.now
-    c.in_default.ensures.value
+pub returns-clause-clients : goal.returns-clause-clients
+returns-clause-clients c =
+    let r = c.self.inside.news in
+    clients_changed r c.from.result c.args.client (client_told c.args.command.now c.args.said) _ _ _ _ c.from.ensures
+    (ap (λ (k : Clients). k.each) c.self.view_is) c.in-Some.ensures.value (c.answer.ensures.client r)

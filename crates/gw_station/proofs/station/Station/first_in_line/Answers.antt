@@ -4,10 +4,10 @@ use Rattle.std.proofs.lemmas.Option.{slice_get_read}
 use Rattle.std.proofs.lemmas.Bool.{false≢true}
 use Rattle.std.proofs.lemmas.Option.{none-some}
 use Rattle.gw_station.specs.declared.sending.Sending.TheVariants as sendings
-use Rattle.gw_station.specs.Client.{Client}
 use Rattle.gw_station.proofs.Line.{first_answer, first_older, first_part, first_news}
+use Rattle.gw_station.specs.Ring.{seen, Seat}
 use Rattle.gw_station.proofs.station.Station.first_in_line.Goals as goal
-use Rattle.gw_station.proofs.station.Station.first_in_line.Goals.{else-is_some-via-then-is_some+else-self-gt0, else-is_some-via-else-is_some}
+use Rattle.gw_station.proofs.station.Station.first_in_line.Goals.{else-is_some-via-then-is_some+else-older-gt0, else-is_some-via-else-is_some}
 
 nothing : {A : Type 0} (xs : List A) (n : ℕ) → n ≡ length xs → (0 < n → false ≡ true) → xs ≡ []
 nothing [] n all some = refl
@@ -23,31 +23,31 @@ returns-in-Some c =
     let answer = c.in-Some.answer.now in
     let first = slice_get_read answers.items answers.len 0 answer answers.ok.0
     (c.in-Some.ensures.variant.0 refl) c.in-Some.ensures.lookup in
-    first_answer c.args.self.now answer
-    (subst (λ (k : Client). slice_get k.answers 0 ≡ Some answer) c.self.view_is first)
+    first_answer (seen c.args.news.now c.args.self.now) answer
+    (subst (λ (k : Seat). slice_get k.answers 0 ≡ Some answer) c.self.view_is first)
 
-pub returns-then-self-gt0 : goal.returns-then-self-gt0
-returns-then-self-gt0 c =
+pub returns-then-older-gt0 : goal.returns-then-older-gt0
+returns-then-older-gt0 c =
     let answers = c.self.inside.answers in
-    let none = sym (ap (λ (k : Client). k.answers) c.self.view_is)
+    let none = sym (ap (λ (k : Seat). k.answers) c.self.view_is)
     ∙ nothing answers.items answers.len answers.ok.0 c.in_default.ensures.variant.1 in
-    let news : c.map-news.result ≡ option_map sendings.News (slice_get c.args.self.now.queue 0) = search rules in
-    let queued = sym (c.map-news.ensures.variant ∙ ap is_some c.oldest_news.ensures) in
+    let news : c.map-oldest.result ≡ option_map sendings.News (slice_get (seen c.args.news.now c.args.self.now).queue 0) = search rules in
+    let queued = sym (c.map-oldest.ensures.variant ∙ ap is_some c.oldest_news.ensures) in
     let waits = queued ∙ (sym c.is_some.ensures ∙ c.if-is_some.true) in
     news
-    ∙ first_older c.args.self.now none (subst (λ (k : Client). 0 < k.older) c.self.view_is c.if-self-gt0.true) waits
+    ∙ first_older (seen c.args.news.now c.args.self.now) none (subst (λ (n : ℕ). 0 < n) c.older.ensures c.if-older-gt0.true) waits
 
 pub returns-in-Some-first : goal.returns-in-Some-first
 returns-in-Some-first c =
-    let s = c.args.self.now in
+    let s = (seen c.args.news.now c.args.self.now) in
     let answers = c.self.inside.answers in
     let part = c.in-Some-first.part in
-    let none = sym (ap (λ (k : Client). k.answers) c.self.view_is)
+    let none = sym (ap (λ (k : Seat). k.answers) c.self.view_is)
     ∙ nothing answers.items answers.len answers.ok.0 c.in_default.ensures.variant.1 in
-    let queued = sym (c.map-news.ensures.variant ∙ ap is_some c.oldest_news.ensures) in
+    let queued = sym (c.map-oldest.ensures.variant ∙ ap is_some c.oldest_news.ensures) in
     let no_news : (s.older ≤ 0) ⊎ (is_some (slice_get s.queue 0) ≡ false) = elim c.else-is_some.branch [
-      | else-is_some-via-then-is_some+else-self-gt0 w ↦
-          inl (subst (λ (k : Client). k.older ≤ 0) c.self.view_is w.if-self-gt0.false)
+      | else-is_some-via-then-is_some+else-older-gt0 w ↦
+          inl (subst (λ (n : ℕ). n ≤ 0) w.older.ensures w.if-older-gt0.false)
       | else-is_some-via-else-is_some w ↦ inr (queued ∙ (sym c.is_some.ensures ∙ w.if-is_some.false))
     ] in
     let first : slice_get s.rest 0 ≡ Some part = search rules in
@@ -56,8 +56,8 @@ returns-in-Some-first c =
 pub returns : goal.returns
 returns c =
     let answers = c.self.inside.answers in
-    let none = sym (ap (λ (k : Client). k.answers) c.self.view_is)
+    let none = sym (ap (λ (k : Seat). k.answers) c.self.view_is)
     ∙ nothing answers.items answers.len answers.ok.0 c.in_default.ensures.variant.1 in
-    let first : slice_get c.args.self.now.rest 0 ≡ None = search rules in
-    let news : c.map-news.result ≡ option_map sendings.News (slice_get c.args.self.now.queue 0) = search rules in
-    news ∙ first_news c.args.self.now none (without_first c.args.self.now.rest first)
+    let first : slice_get (seen c.args.news.now c.args.self.now).rest 0 ≡ None = search rules in
+    let news : c.map-oldest.result ≡ option_map sendings.News (slice_get (seen c.args.news.now c.args.self.now).queue 0) = search rules in
+    news ∙ first_news (seen c.args.news.now c.args.self.now) none (without_first (seen c.args.news.now c.args.self.now).rest first)

@@ -4,7 +4,7 @@ use Rattle.iec_apci.specs.Buffer.{buffer_of}
 use Rattle.iec_window.specs.Counts.{WindowCounts}
 use Rattle.iec_window.specs.Sequence.{receive_number, send_number}
 use Rattle.iec_window.specs.Steps.{counts_after_sending_i}
-use Rattle.gw_station.specs.Client.{Client}
+use Rattle.gw_station.specs.Ring.{Seat}
 use Rattle.gw_station.proofs.station.Station.send_asdu.Goals as goal
 
 same_format : (ns nr : ℕ) (w v : WindowCounts) (octets : List ℕ) → ns ≡ send_number w → nr ≡ receive_number w → w ≡ v
@@ -15,9 +15,9 @@ pub returns-clause-apdu : goal.returns-clause-apdu
 returns-clause-apdu c =
     c.of.ensures.octets
     ∙ same_format _ _ _ _ _ c.sent-ns.ensures.send c.sent-ns.ensures.receive
-    (ap (λ (k : Client). k.window) c.self.view_is)
+    (ap (λ (k : Seat). k.window) c.self.view_is)
 
 pub returns-clause-client : goal.returns-clause-client
 returns-clause-client c =
     rw c.sent-ns.ensures.after
-    (ap (λ (k : Client). record k { window = counts_after_sending_i c.args.moment k.window }) c.self.view_is)
+    (ap (λ (k : Seat). record k { window = counts_after_sending_i c.args.moment k.window }) c.self.view_is)

@@ -1,6 +1,7 @@
 use Rattle.std.proofs.Common.{sym, ap, subst, ◌∙◌}
 use Rattle.gw_judge.specs.Judging.{judged}
 use Rattle.gw_station.specs.Client.{Client}
+use Rattle.gw_station.specs.Ring.{seen}
 use Rattle.gw_station.specs.Sound.{CanAnswer}
 use Rattle.gw_station.proofs.Answered.{judging_can}
 use Rattle.gw_station.proofs.station.Station.take_information.Goals as goal
@@ -10,7 +11,8 @@ returns-clause-sendable c = λ offset shown can.
     let setup = c.args.settings.now in
     let j = c.judge-judged.result in
     let so = sym (c.judge-judged.ensures.judged ∙ ap (judged setup) c.as_slice.ensures) in
-    let after = c.self.view_is ∙ c.in_ok-take_asdu.ensures.client in
+    let k = seen c.args.news.now c.args.self.now in
+    let after = ap (seen c.args.news.now) c.self.view_is ∙ c.in_ok-take_asdu.ensures.client in
     subst (λ (d : Client). CanAnswer offset d) (sym after)
-    (judging_can offset setup c.args.picture.now c.args.asdu.now j c.args.self.now so
+    (judging_can offset setup c.args.picture.now c.args.asdu.now j k so
     c.judge-judged.ensures.whole shown can)

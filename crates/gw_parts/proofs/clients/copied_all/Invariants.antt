@@ -1,6 +1,6 @@
 -- Those before this one are copied already.
 use Rattle.std.proofs.Common.{◌≡◌, ◌++◌, drop}
-use Rattle.gw_parts.proofs.clients.Clients.copy_over.Given as goal
+use Rattle.gw_parts.proofs.clients.copied_all.Given as goal
 
 abbrev pub invariant-loop-station : goal.invariant-loop-station
-invariant-loop-station l = l.stations.items ++ drop l.station-index l.self ≡ l.self
+invariant-loop-station l = l.copies.items ++ drop l.station-index l.stations.items ≡ l.stations.items
