@@ -45,6 +45,9 @@ impl<W: Outgoing> Wire<W> {
             (framed self.old.own self.old.peer (segments_of fragment.now (self.old.sequence % 64)))) }
         ensures err { OnErr result (CanFail W.can_fail) }
         ensures addresses { (self.new.own ≡ self.old.own) × (self.new.peer ≡ self.old.peer) }
+        // The next sequence number is behind those of the segments.
+        ensures sequence { OnOk result (self.new.sequence % 64
+            ≡ (self.old.sequence + length (segments_of fragment.now (self.old.sequence % 64))) % 64) }
     {
         'segments: for segment in segments(fragment, self.sequence % 64) {
             let mut frame = [0; 292];

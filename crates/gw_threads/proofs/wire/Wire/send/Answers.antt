@@ -1,4 +1,5 @@
 use Rattle.std.proofs.Common.{List, ℕ, ◌++◌, ◌∷◌, [], sym, ap, subst, ◌∙◌, append_assoc, arith}
+use Rattle.std.proofs.lemmas.List.{length-append}
 use Rattle.std.specs.Io.KnownBytes.{Appends}
 use Rattle.dnp_link.specs.Frame.{frame, frame_content}
 use Rattle.gw_threads.proofs.Framing.{framed-one, front-written}
@@ -23,6 +24,7 @@ segments-preserved g c =
     record {
       own = c.segments.invariant.own;
       peer = c.segments.invariant.peer;
+      sequence = omega (arith, c.segments.invariant.sequence, length-append before (segment ∷ []));
       segments =
           append_assoc before (segment ∷ []) c.next.new.self
           ∙ (ap (λ (rest : List (List ℕ)). before ++ rest) (sym c.in-Some.ensures.steps)
