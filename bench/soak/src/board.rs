@@ -1,0 +1,61 @@
+//! What all threads look at: how far the run is, and the first fault.
+use std::sync::atomic::{AtomicBool, AtomicU8, Ordering::SeqCst};
+use std::sync::Mutex;
+
+/// How far a run is.
+#[derive(Clone, Copy, PartialEq)]
+pub enum Phase {
+    /// Peers make trouble.
+    Wild,
+    /// They don't. Each control centre begins anew.
+    Calm,
+    /// Nothing happens any more in outstations, and control centres take what waits for them and leave.
+    Quiet,
+}
+
+pub struct Board {
+    pub seed: u64,
+    phase: AtomicU8,
+    over: AtomicBool,
+    fault: Mutex<Option<String>>,
+}
+
+impl Board {
+    pub fn new(seed: u64, phase: Phase) -> Board {
+        Board { seed, phase: AtomicU8::new(phase as u8), over: AtomicBool::new(false), fault: Mutex::new(None) }
+    }
+
+    pub fn phase(&self) -> Phase {
+        [Phase::Wild, Phase::Calm, Phase::Quiet][usize::from(self.phase.load(SeqCst))]
+    }
+
+    pub fn enter(&self, phase: Phase) {
+        self.phase.store(phase as u8, SeqCst);
+    }
+
+    pub fn is_wild(&self) -> bool {
+        self.phase() == Phase::Wild
+    }
+
+    pub fn is_quiet(&self) -> bool {
+        self.phase() == Phase::Quiet
+    }
+
+    pub fn is_over(&self) -> bool {
+        self.over.load(SeqCst)
+    }
+
+    pub fn end(&self) {
+        self.over.store(true, SeqCst);
+    }
+
+    /// Something isn't as it has to be: the first fault is kept, and ends the run.
+    pub fn fault(&self, fault: String) {
+        self.fault.lock().unwrap().get_or_insert(fault);
+        self.end();
+    }
+
+    pub fn first_fault(&self) -> Option<String> {
+        self.fault.lock().unwrap().clone()
+    }
+}

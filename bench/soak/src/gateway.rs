@@ -1,0 +1,196 @@
+//! The gateway's process, and what it tells on standard error.
+use crate::outstation::Site;
+use crate::system::{now_us, sleep_us};
+use std::collections::{HashMap, VecDeque};
+use std::fmt::Write as _;
+use std::io::{BufRead, BufReader, Read};
+use std::net::SocketAddr;
+use std::process::{Child, ChildStderr, Command, Stdio};
+use std::sync::{Arc, Mutex};
+use std::thread::JoinHandle;
+
+/// What is in the settings beside the outstations.
+pub struct Station {
+    pub queue: u32,
+    pub k: u16,
+    pub w: u16,
+}
+
+/// The timers of the station, and how often outstations are polled, in milliseconds.
+pub const T1_MS: u64 = 6000;
+const T2_MS: u64 = 2000;
+const T3_MS: u64 = 3000;
+const POLL_MS: u64 = 400;
+const RESPONSE_MS: u64 = 1000;
+/// How many of the last lines are kept, and how long it may take to start and to end.
+const LINES: usize = 12;
+const PATIENCE_US: u64 = 20_000_000;
+
+/// The settings of a gateway between these outstations, which are reached at these ports.
+pub fn settings(station: &Station, sites: &[Site], ports: &[u16]) -> String {
+    let Station { queue, k, w } = station;
+    let mut text = format!(
+        "[station]\ncommon_address = 1\nlisten = \"127.0.0.1:0\"\nqueue = {queue}\nk = {k}\nw = {w}\n\
+         t1_ms = {T1_MS}\nt2_ms = {T2_MS}\nt3_ms = {T3_MS}\n"
+    );
+    for (site, port) in sites.iter().zip(ports) {
+        let _ = write!(
+            text,
+            "[[outstation]]\naddress = {}\nconnect = \"127.0.0.1:{port}\"\npoll_ms = {POLL_MS}\n\
+             response_ms = {RESPONSE_MS}\nunsolicited = {}\n",
+            site.link_address(),
+            site.manner.is_unsolicited
+        );
+    }
+    for site in sites {
+        for point in 0..site.points() {
+            let (kind, show, index) = if point < site.manner.analogs {
+                ("analog", "word", point)
+            } else {
+                ("counter", "total", point - site.manner.analogs)
+            };
+            let (number, address) = (site.number, site.address_of(point));
+            let _ = write!(
+                text,
+                "[[point]]\noutstation = {number}\nkind = \"{kind}\"\nindex = {index}\naddress = {address}\n\
+                 show = \"{show}\"\n"
+            );
+        }
+    }
+    text
+}
+
+/// What the gateway told.
+#[derive(Default)]
+struct Told {
+    /// Of each client's address, how many observations were dropped.
+    dropped: HashMap<String, u64>,
+    /// How often each cause ended a connection of a client.
+    ends: HashMap<String, u64>,
+    port: Option<u16>,
+    last: VecDeque<String>,
+}
+
+impl Told {
+    fn take(&mut self, line: String) {
+        let words: Vec<&str> = line.split(' ').collect();
+        match words[..] {
+            [_, "listening", "on", place] => self.port = place.rsplit(':').next().and_then(|it| it.parse().ok()),
+            [_, "client", _, address, count, "observation" | "observations", "dropped,", ..] => {
+                *self.dropped.entry(address.to_string()).or_default() += count.parse().unwrap_or(0)
+            }
+            [_, "client", _, _, "closed:" | "lost:", ..] => {
+                *self.ends.entry(words[4..].join(" ")).or_default() += 1;
+            }
+            _ => {}
+        }
+        if self.last.len() == LINES {
+            self.last.pop_front();
+        }
+        self.last.push_back(line);
+    }
+}
+
+pub struct Gateway {
+    child: Child,
+    told: Arc<Mutex<Told>>,
+    hearing: Option<JoinHandle<()>>,
+    pub address: SocketAddr,
+}
+
+fn hear(errors: ChildStderr, told: &Mutex<Told>) {
+    for line in BufReader::new(errors).lines().map_while(Result::ok) {
+        told.lock().unwrap().take(line);
+    }
+}
+
+impl Gateway {
+    /// Starts a gateway by these words, and waits until it listens.
+    pub fn start(words: &[String], file: &std::path::Path) -> Result<Gateway, String> {
+        let (program, options) = words.split_first().ok_or("no program")?;
+        let child = Command::new(program)
+            .arg("run")
+            .arg(file)
+            .arg("--until-eof")
+            .args(options)
+            .env_remove("JOURNAL_STREAM")
+            .stdin(Stdio::piped())
+            .stdout(Stdio::piped())
+            .stderr(Stdio::piped())
+            .spawn();
+        let mut child = child.map_err(|it| format!("{program}: {it}"))?;
+        let told = Arc::new(Mutex::new(Told::default()));
+        let (errors, told_here) = (child.stderr.take().ok_or("no standard error")?, told.clone());
+        let hearing = Some(std::thread::spawn(move || hear(errors, &told_here)));
+        let mut gateway = Gateway { child, told, hearing, address: SocketAddr::from(([127, 0, 0, 1], 0)) };
+        let end = now_us() + PATIENCE_US;
+        while now_us() < end && !gateway.has_ended() {
+            if let Some(port) = gateway.told.lock().unwrap().port {
+                gateway.address.set_port(port);
+                break;
+            }
+            sleep_us(5000);
+        }
+        match gateway.address.port() {
+            0 => Err(format!("the gateway doesn't listen\n{}", gateway.last_lines())),
+            _ => Ok(gateway),
+        }
+    }
+
+    pub fn process(&self) -> u32 {
+        self.child.id()
+    }
+
+    pub fn has_ended(&mut self) -> bool {
+        !matches!(self.child.try_wait(), Ok(None))
+    }
+
+    /// How many observations it told as dropped for the client at an address, which isn't asked for again.
+    pub fn dropped(&self, address: SocketAddr) -> u64 {
+        self.told.lock().unwrap().dropped.remove(&address.to_string()).unwrap_or(0)
+    }
+
+    /// Why clients' connections ended, and how often.
+    pub fn ends(&self) -> Vec<(String, u64)> {
+        let mut ends: Vec<_> = self.told.lock().unwrap().ends.clone().into_iter().collect();
+        ends.sort();
+        ends
+    }
+
+    pub fn last_lines(&self) -> String {
+        let told = self.told.lock().unwrap();
+        told.last.iter().map(|it| format!("  {it}\n")).collect()
+    }
+
+    /// Ends standard input, so that it ends by itself; what it prints.
+    pub fn finish(&mut self) -> Result<String, String> {
+        drop(self.child.stdin.take());
+        let end = now_us() + PATIENCE_US;
+        while !self.has_ended() {
+            if now_us() > end {
+                return Err("the gateway doesn't end".to_string());
+            }
+            sleep_us(5000);
+        }
+        let mut printed = String::new();
+        if let Some(mut output) = self.child.stdout.take() {
+            let _ = output.read_to_string(&mut printed);
+        }
+        match self.child.wait() {
+            Ok(status) if status.success() => Ok(printed.trim().to_string()),
+            status => Err(format!("the gateway ended with {status:?}\n{}", self.last_lines())),
+        }
+    }
+}
+
+impl Drop for Gateway {
+    fn drop(&mut self) {
+        if !self.has_ended() {
+            let _ = self.child.kill();
+            let _ = self.child.wait();
+        }
+        if let Some(hearing) = self.hearing.take() {
+            let _ = hearing.join();
+        }
+    }
+}

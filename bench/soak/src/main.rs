@@ -1,0 +1,89 @@
+//! Plays outstations and control centres round `gateway run`, and judges what it makes of them. README.md tells more.
+mod against;
+mod apdu;
+mod board;
+mod centre;
+mod gateway;
+mod histogram;
+mod ledger;
+mod link;
+mod outstation;
+mod random;
+mod scene;
+mod session;
+mod soak;
+mod system;
+mod verdict;
+
+use std::process::ExitCode;
+
+const HELP: &str = "soak WHAT [OPTIONS]
+WHAT is `soak`, `outstation` or `client`: peers that make trouble, an outstation at line rate beside 31 others, a control
+centre at line rate beside 7 others.
+  --gateway WORDS       the program and further options of `gateway run` (the one that is built in this repository)
+  --seconds S           how long, or how long each part (60)
+  --seed N              of what is done by chance (1)
+  --queue Q             observations that may wait for a client (200)
+  --outstations N       of the soak, 1 to 32 (8)       --clients N     1 to 8 (6)
+  --slow N              of them read slowly (2)        --rate EVENTS   a second of each outstation (150)
+The status is 0, 1 where something isn't as it has to be, or 2.";
+
+pub struct Options {
+    pub gateway: Vec<String>,
+    pub seconds: u64,
+    pub seed: u64,
+    pub queue: u32,
+    pub outstations: usize,
+    pub clients: usize,
+    pub slow: usize,
+    pub rate: f64,
+}
+
+fn options(words: &mut dyn Iterator<Item = String>) -> Option<Options> {
+    let mut options = Options {
+        gateway: vec![concat!(env!("CARGO_MANIFEST_DIR"), "/../../crates/gw_program/out/gw_program").to_string()],
+        seconds: 60,
+        seed: 1,
+        queue: 200,
+        outstations: 8,
+        clients: 6,
+        slow: 2,
+        rate: 150.0,
+    };
+    while let Some(name) = words.next() {
+        let value = words.next()?;
+        match name.as_str() {
+            "--gateway" => options.gateway = value.split_whitespace().map(str::to_string).collect(),
+            "--seconds" => options.seconds = value.parse().ok()?,
+            "--seed" => options.seed = value.parse().ok()?,
+            "--queue" => options.queue = value.parse().ok()?,
+            "--outstations" => options.outstations = value.parse().ok().filter(|it| (1..=32).contains(it))?,
+            "--clients" => options.clients = value.parse().ok().filter(|it| (1..=8).contains(it))?,
+            "--slow" => options.slow = value.parse().ok()?,
+            "--rate" => options.rate = value.parse().ok().filter(|it| *it > 0.0)?,
+            _ => return None,
+        }
+    }
+    Some(options)
+}
+
+fn main() -> ExitCode {
+    let mut words = std::env::args().skip(1);
+    let what = words.next().unwrap_or_default();
+    let result = match (what.as_str(), options(&mut words)) {
+        ("soak", Some(options)) => soak::run(&options),
+        ("outstation", Some(options)) => against::outstation(&options),
+        ("client", Some(options)) => against::client(&options),
+        _ => {
+            eprintln!("{HELP}");
+            return ExitCode::from(2);
+        }
+    };
+    match result {
+        Ok(()) => ExitCode::SUCCESS,
+        Err(fault) => {
+            println!("fault: {fault}");
+            ExitCode::FAILURE
+        }
+    }
+}

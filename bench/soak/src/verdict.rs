@@ -1,0 +1,169 @@
+//! The verdict on connections that have ended: what is missing in them was dropped, and told as dropped.
+use crate::gateway::{Gateway, Station};
+use crate::outstation::Site;
+use crate::scene::Scene;
+use crate::session::Session;
+use crate::system::now_us;
+use std::collections::VecDeque;
+use std::net::SocketAddr;
+use std::ops::Range;
+use std::sync::Mutex;
+
+/// How long after its end a connection is judged: by then the gateway has told what it dropped, and outstations have
+/// read the confirmations of what was told.
+pub const REST_US: u64 = 3_000_000;
+/// How many objects an APDU has at most.
+const OBJECTS: u64 = 127;
+
+/// A data transfer that has ended.
+pub struct Ended {
+    pub session: Session,
+    /// Of each outstation, the objects that hadn't come, and were sent by then.
+    pub rest: Vec<Range<u32>>,
+    /// It took all that was for it.
+    pub is_whole: bool,
+}
+
+/// A connection of a control centre that has ended.
+pub struct Grave {
+    pub client: usize,
+    pub address: SocketAddr,
+    pub ended: Vec<Ended>,
+    pub at_us: u64,
+}
+
+#[derive(Default)]
+pub struct Graves(Mutex<VecDeque<Grave>>);
+
+impl Graves {
+    pub fn dig(&self, grave: Grave) {
+        self.0.lock().unwrap().push_back(grave);
+    }
+
+    fn next(&self, until_us: u64) -> Option<Grave> {
+        self.0.lock().unwrap().pop_front_if(|it| it.at_us <= until_us)
+    }
+}
+
+/// What was found in all connections.
+#[derive(Default)]
+pub struct Totals {
+    pub connections: u64,
+    pub sessions: u64,
+    pub whole: u64,
+    pub exact: u64,
+    pub observations: u64,
+    pub losses: u64,
+    pub answers: u64,
+    pub rows: u64,
+    /// Of each outstation, the confirmed objects that didn't come, of sessions that took all or later ones.
+    pub missing: Vec<u64>,
+    pub dropped: u64,
+    pub left_waiting: u64,
+}
+
+/// What is missing in a connection, though it was confirmed to outstations.
+struct Missing {
+    /// Of each outstation, what didn't come though later news did, or though all was waited for.
+    lost: Vec<u64>,
+    first: Option<(usize, u32)>,
+    /// What was behind the last that came, and may have waited when data transfer ended.
+    behind: u64,
+}
+
+impl Missing {
+    fn of(sites: &[Site], ended: &[Ended]) -> Missing {
+        let mut missing = Missing { lost: vec![0; sites.len()], first: None, behind: 0 };
+        for Ended { session, rest, is_whole } in ended {
+            for gap in &session.gaps {
+                missing.lose(sites, gap.site, gap.serials.clone());
+            }
+            for (site, serials) in rest.iter().enumerate() {
+                if *is_whole {
+                    missing.lose(sites, site, serials.clone());
+                } else {
+                    missing.behind += sites[site].ledger().confirmed_within(serials.clone()).0;
+                }
+            }
+        }
+        missing
+    }
+
+    /// Counts those of these objects that were confirmed; keeps the first.
+    fn lose(&mut self, sites: &[Site], site: usize, serials: Range<u32>) {
+        let (count, first) = sites[site].ledger().confirmed_within(serials);
+        self.first = self.first.or(first.map(|it| (site, it)));
+        self.lost[site] += count;
+    }
+
+    /// The first missing object in words.
+    fn first_of(&self, sites: &[Site]) -> String {
+        let Some((site, serial)) = self.first else { return "none".to_string() };
+        let sent_us = sites[site].ledger().sent_us(serial);
+        format!("value {serial} of outstation {site}, sent {:.3} s before", (now_us() - sent_us) as f64 / 1e6)
+    }
+}
+
+impl Totals {
+    /// Judges the connections that ended long enough ago.
+    pub fn judge(&mut self, scene: &Scene, gateway: &Gateway) -> Result<(), String> {
+        while let Some(grave) = scene.graves.next(now_us().saturating_sub(REST_US)) {
+            let dropped = gateway.dropped(grave.address);
+            self.judge_one(&grave, &scene.sites, &scene.station, dropped)
+                .map_err(|it| format!("client {} {}: {it}", grave.client, grave.address))?;
+        }
+        Ok(())
+    }
+
+    fn judge_one(&mut self, grave: &Grave, sites: &[Site], station: &Station, dropped: u64) -> Result<(), String> {
+        let missing = Missing::of(sites, &grave.ended);
+        let lost: u64 = missing.lost.iter().sum();
+        if lost > dropped {
+            return Err(format!(
+                "{lost} confirmed observations are missing, and {dropped} were told as dropped; the first: {}",
+                missing.first_of(sites)
+            ));
+        }
+        let waiting = (u64::from(station.queue) + u64::from(station.k) * OBJECTS) * grave.ended.len() as u64;
+        if missing.behind > waiting + dropped - lost {
+            let (behind, queue) = (missing.behind, station.queue);
+            return Err(format!("{behind} confirmed observations are missing at the end, where {queue} may wait"));
+        }
+        if is_exact(grave, sites) {
+            self.exact += 1;
+            if lost != dropped {
+                return Err(format!("{dropped} observations were told as dropped, though only {lost} are missing"));
+            }
+        }
+        for doubt in grave.ended.iter().flat_map(|it| &it.session.doubts) {
+            if sites[doubt.site].ledger().stood(doubt.times.start..doubt.times.end + REST_US) {
+                return Err(format!("a row isn't topical, though its outstation was: address {}", doubt.address));
+            }
+        }
+        self.add(grave, &missing, dropped);
+        Ok(())
+    }
+
+    fn add(&mut self, grave: &Grave, missing: &Missing, dropped: u64) {
+        self.connections += 1;
+        self.missing.resize(missing.lost.len(), 0);
+        self.missing.iter_mut().zip(&missing.lost).for_each(|(all, more)| *all += more);
+        self.left_waiting += missing.behind;
+        self.dropped += dropped;
+        for Ended { session, is_whole, .. } in &grave.ended {
+            self.sessions += 1;
+            self.whole += u64::from(*is_whole);
+            self.observations += session.observations;
+            self.losses += session.losses;
+            self.answers += session.answers;
+            self.rows += session.rows;
+        }
+    }
+}
+
+/// Whether all that was for a connection is known: it had one data transfer, took all, and no outstation was lost.
+fn is_exact(grave: &Grave, sites: &[Site]) -> bool {
+    let [only] = &grave.ended[..] else { return false };
+    let began_us = only.session.began_us;
+    only.is_whole && sites.iter().all(|it| it.ledger().topical_since().is_some_and(|since| since < began_us))
+}
