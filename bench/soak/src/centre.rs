@@ -25,7 +25,7 @@ const SLOW_PATIENCE_US: u64 = 40_000_000;
 const LOOK_US: u64 = 20_000;
 const IDLE_US: u64 = 200_000;
 /// How long a connection lasts, and from one act of a control centre to the next, on average.
-const STAY_US: u64 = 6_000_000;
+const STAY_US: u64 = 4_000_000;
 const ACT_US: u64 = 900_000;
 /// How long outstations get to come back before a control centre begins anew in calm, and how long nothing comes when all
 /// was taken.
@@ -184,6 +184,8 @@ struct Connection<'a> {
     leaving: Leaving,
     /// It began in calm.
     is_calm: bool,
+    /// It sends nothing more.
+    has_gone: bool,
     /// When it began, and the last that was done.
     began_us: u64,
     done: VecDeque<(u64, &'static str)>,
@@ -229,6 +231,7 @@ impl<'a> Connection<'a> {
             leave_us: if is_calm { u64::MAX } else { leave_us },
             leaving,
             is_calm,
+            has_gone: false,
             began_us: now,
             done: VecDeque::new(),
         })
@@ -481,6 +484,7 @@ impl<'a> Connection<'a> {
 
     /// Sends nothing more, and takes what still comes.
     fn go(&mut self, is_whole: bool) -> Result<(), End> {
+        self.has_gone = true;
         let _ = self.socket.shutdown(Shutdown::Write);
         let _ = self.socket.set_read_timeout(Some(Duration::from_millis(500)));
         let mut octets = vec![0; 65536];
@@ -551,7 +555,7 @@ impl<'a> Connection<'a> {
             self.desk.is_ready.store(true, Relaxed);
         }
         // One that isn't slow acknowledges between I formats that come together.
-        let is_mute = self.leaving == Leaving::Mute && now >= self.leave_us;
+        let is_mute = self.has_gone || self.leaving == Leaving::Mute && now >= self.leave_us;
         let waits = self.received.wrapping_sub(self.acknowledged) & 0x7FFF;
         if waits >= w && !self.desk.habit.is_slow && now >= self.hold_us && !is_mute {
             return self.acknowledge();

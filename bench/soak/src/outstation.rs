@@ -44,7 +44,7 @@ const CONFIRMED_US: u64 = 8_000_000;
 /// How long the loop sleeps at most.
 const LOOK_US: u64 = 10_000;
 /// From one trouble that an outstation makes to the next, on average.
-const TROUBLE_US: u64 = 8_000_000;
+const TROUBLE_US: u64 = 6_000_000;
 
 /// How an outstation goes about sending events without a pause.
 #[derive(Clone, Copy, PartialEq)]
@@ -515,7 +515,7 @@ impl Outstation<'_> {
         count(&self.site.counts.fragments);
         let mut octets = Vec::with_capacity(fragment.len() * 5 / 4 + 32);
         connection.link.write(fragment, &mut octets);
-        if connection.is_to_be_cut {
+        if connection.is_to_be_cut && self.is_troubling() {
             let front = self.random.within(1, octets.len() as u64) as usize;
             connection.socket.write_all(&octets[..front])?;
             if self.random.percent(50) {

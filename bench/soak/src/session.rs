@@ -8,6 +8,9 @@ use crate::outstation::Site;
 use crate::system::now_us;
 use std::ops::Range;
 
+/// How long it takes at most until a loss is noticed.
+const NOTICED_US: u64 = 6_000_000;
+
 /// News that didn't come, though later ones of the same outstation did.
 pub struct Gap {
     pub site: usize,
@@ -24,7 +27,7 @@ struct Front {
     points: Vec<u32>,
 }
 
-/// Rows that showed values as not topical, which the loss of a connection has to explain.
+/// A value was told or shown as not topical, which the end of a connection within a time has to explain.
 pub struct Doubt {
     pub site: usize,
     pub times: Range<u64>,
@@ -117,7 +120,7 @@ impl Session {
                     return Err(format!("news within the answer to an interrogation: {asdu:02X?}"));
                 }
                 for object in objects(asdu)? {
-                    let measured = self.take_news(sites, &object)?;
+                    let measured = self.take_news(sites, &object, now)?;
                     if let (Some((site, sent_us)), Some(latency)) = (measured, latency.as_mut()) {
                         latency[site].add(now.saturating_sub(sent_us));
                     }
@@ -165,14 +168,20 @@ impl Session {
 
     /// News of a point: a new object, or the loss of the outstation. Gives the outstation and when the object was sent, where
     /// that was since STARTDT.
-    fn take_news(&mut self, sites: &[Site], object: &Object) -> Result<Option<(usize, u64)>, String> {
+    fn take_news(&mut self, sites: &[Site], object: &Object, now: u64) -> Result<Option<(usize, u64)>, String> {
         let (site, point) = point_at(sites, object)?;
         let (front, ledger, serial) = (&mut self.fronts[site], sites[site].ledger(), object.value);
         let known = &mut front.points[usize::from(point)];
         if object.quality & (IV | NT) != 0 {
             self.losses += 1;
-            let is_right = serial >= *known && (serial == 0 || ledger.is_of(serial, point));
-            return if is_right { Ok(None) } else { Err(wrong(object, "the loss of another value", *known)) };
+            if serial < *known || serial != 0 && !ledger.is_of(serial, point) {
+                return Err(wrong(object, "the loss of another value", *known));
+            }
+            if self.doubts.last().is_none_or(|it| it.site != site) {
+                let times = self.began_us.saturating_sub(NOTICED_US)..now;
+                self.doubts.push(Doubt { site, times, address: object.address });
+            }
+            return Ok(None);
         }
         if !ledger.is_of(serial, point) {
             return Err(wrong(object, "news of a value that the point never had", *known));
@@ -245,4 +254,133 @@ fn point_at(sites: &[Site], object: &Object) -> Result<(usize, u16), String> {
 fn wrong(object: &Object, what: &str, than: u32) -> String {
     let Object { address, value, quality } = object;
     format!("{what}: address {address}, value {value}, quality {quality:02X}; {than} was known")
+}
+
+#[cfg(test)]
+mod tests {
+    use super::*;
+    use crate::outstation::{Flood, Manner};
+
+    /// An outstation with two analog inputs, which sent three fragments: 1 and 2; 3 and 4; 5.
+    fn site() -> [Site; 1] {
+        let (events_a_second, together, flood) = (1.0, 1, Flood::Never);
+        let manner =
+            Manner { is_unsolicited: true, analogs: 2, counters: 0, events_a_second, together, is_wild: false, flood };
+        let site = Site::new(0, manner);
+        send(&site, &[0, 1]);
+        site.ledger().confirm(0);
+        [site]
+    }
+
+    fn send(site: &Site, points: &[u16]) {
+        let mut ledger = site.ledger();
+        ledger.begin(now_us());
+        for point in points {
+            ledger.add(*point);
+        }
+    }
+
+    /// A session that begins behind the first fragment, and two fragments more.
+    fn session(sites: &[Site; 1]) -> Session {
+        let session = Session::new(sites, &before_start(sites));
+        send(&sites[0], &[0, 1]);
+        send(&sites[0], &[0]);
+        session
+    }
+
+    fn asdu(kind: u8, cause: u8, point: u8, value: u8, quality: u8) -> Vec<u8> {
+        let mut octets = vec![kind, 1, cause, 0, 1, 0, point, 0, 1, value, 0, 0, 0, quality];
+        octets.truncate(if kind == GENERAL { 10 } else { 14 });
+        octets
+    }
+
+    fn takes(session: &mut Session, sites: &[Site; 1], asdus: &[Vec<u8>]) -> Result<(), String> {
+        asdus.iter().try_for_each(|it| session.take(sites, it, now_us(), &mut None))
+    }
+
+    fn news(point: u8, value: u8) -> Vec<u8> {
+        asdu(7, SPONTANEOUS, point, value, 0)
+    }
+
+    fn row(point: u8, value: u8) -> Vec<u8> {
+        asdu(7, INTERROGATED, point, value, 0)
+    }
+
+    #[test]
+    fn news_in_order_are_right() {
+        let sites = site();
+        let mut session = session(&sites);
+        assert!(takes(&mut session, &sites, &[news(0, 3), news(1, 4), news(0, 5)]).is_ok());
+        assert!(session.gaps.is_empty() && session.rest(&sites)[0].is_empty());
+    }
+
+    #[test]
+    fn wrong_news_are_refused() {
+        for wrong in [
+            [news(0, 3), news(0, 3)],
+            [news(1, 4), news(0, 3)],
+            [news(0, 3), news(0, 4)],
+            [news(0, 3), news(0, 9)],
+            [news(0, 3), news(1, 2)],
+            [news(0, 3), news(2, 4)],
+        ] {
+            let sites = site();
+            assert!(takes(&mut session(&sites), &sites, &wrong).is_err(), "{wrong:02X?}");
+        }
+    }
+
+    #[test]
+    fn what_is_skipped_is_a_gap() {
+        let sites = site();
+        let mut session = session(&sites);
+        assert!(takes(&mut session, &sites, &[news(1, 4)]).is_ok());
+        assert_eq!(session.gaps[0].serials, 3..4);
+        assert_eq!(session.rest(&sites)[0], 5..6);
+        assert_eq!(sites[0].ledger().confirmed_within(3..6), (0, None));
+        sites[0].ledger().confirm(1);
+        assert_eq!(sites[0].ledger().confirmed_within(3..6), (2, Some(3)));
+    }
+
+    /// An interrogation behind news 3, answered so.
+    fn interrogation(answer: &[Vec<u8>]) -> Result<Session, String> {
+        let sites = site();
+        let mut session = session(&sites);
+        takes(&mut session, &sites, &[news(0, 3)])?;
+        session.ask(&sites, GENERAL, now_us());
+        takes(&mut session, &sites, answer).map(|()| session)
+    }
+
+    #[test]
+    fn answers_are_judged() {
+        let (con, term) = (asdu(GENERAL, CONFIRMATION, 0, 0, 0), asdu(GENERAL, TERMINATION, 0, 0, 0));
+        let right = interrogation(&[con.clone(), row(0, 3), row(1, 2), term.clone()]);
+        assert!(right.is_ok_and(|it| it.gaps.is_empty() && it.answers == 1));
+        let ahead = interrogation(&[con.clone(), row(0, 3), row(1, 4), term.clone()]);
+        assert!(ahead.is_ok_and(|it| it.gaps[0].serials == (4..5)));
+        for wrong in [
+            vec![row(0, 3)],
+            vec![con.clone(), con.clone()],
+            vec![con.clone(), row(0, 3), term.clone()],
+            vec![con.clone(), row(0, 1)],
+            vec![con.clone(), row(1, 0)],
+            vec![con.clone(), row(0, 3), row(0, 3)],
+            vec![con.clone(), row(0, 3), news(1, 4)],
+            vec![con.clone(), row(0, 3), row(1, 4), term.clone(), news(1, 4)],
+            vec![con.clone(), asdu(7, COUNTERS_REQUESTED, 0, 3, 0)],
+            vec![term.clone()],
+        ] {
+            assert!(interrogation(&wrong).is_err(), "{wrong:02X?}");
+        }
+    }
+
+    #[test]
+    fn losses_show_the_last_value_and_are_doubted() {
+        let sites = site();
+        let mut session = session(&sites);
+        let loss = |point, value| asdu(7, SPONTANEOUS, point, value, NT);
+        assert!(takes(&mut session, &sites, &[news(0, 3), loss(0, 3)]).is_ok());
+        assert!(sites[0].ledger().stood(session.doubts[0].times.clone()));
+        assert!(takes(&mut session, &sites, &[loss(0, 1)]).is_err());
+        assert!(takes(&mut session, &sites, &[loss(0, 4)]).is_err());
+    }
 }

@@ -137,7 +137,7 @@ impl Totals {
         }
         for doubt in grave.ended.iter().flat_map(|it| &it.session.doubts) {
             if sites[doubt.site].ledger().stood(doubt.times.start..doubt.times.end + REST_US) {
-                return Err(format!("a row isn't topical, though its outstation was: address {}", doubt.address));
+                return Err(format!("not topical, though no connection ended: address {}", doubt.address));
             }
         }
         self.add(grave, &missing, dropped);
@@ -166,4 +166,47 @@ fn is_exact(grave: &Grave, sites: &[Site]) -> bool {
     let [only] = &grave.ended[..] else { return false };
     let began_us = only.session.began_us;
     only.is_whole && sites.iter().all(|it| it.ledger().topical_since().is_some_and(|since| since < began_us))
+}
+
+#[cfg(test)]
+mod tests {
+    use super::*;
+    use crate::outstation::{Flood, Manner};
+    use crate::session::before_start;
+
+    /// An outstation that sent three objects in a fragment, which was confirmed while a session stood that got none.
+    fn unheard(is_whole: bool) -> ([Site; 1], Ended) {
+        let (events_a_second, together, flood) = (1.0, 1, Flood::Never);
+        let manner =
+            Manner { is_unsolicited: true, analogs: 1, counters: 0, events_a_second, together, is_wild: false, flood };
+        let sites = [Site::new(0, manner)];
+        sites[0].ledger().told_all(0);
+        let mut session = Session::new(&sites, &before_start(&sites));
+        session.began_us = 1;
+        let mut ledger = sites[0].ledger();
+        let place = ledger.begin(2);
+        for _ in 0..3 {
+            ledger.add(0);
+        }
+        ledger.confirm(place);
+        drop(ledger);
+        let rest = session.rest(&sites);
+        (sites, Ended { session, rest, is_whole })
+    }
+
+    fn judged(queue: u32, is_whole: bool, dropped: u64) -> Result<(), String> {
+        let (sites, ended) = unheard(is_whole);
+        let grave = Grave { client: 0, address: ([127, 0, 0, 1], 1).into(), ended: vec![ended], at_us: 3 };
+        Totals::default().judge_one(&grave, &sites, &Station { queue, k: 0, w: 0 }, dropped)
+    }
+
+    #[test]
+    fn what_is_missing_was_dropped_or_may_wait() {
+        assert!(judged(1000, true, 3).is_ok());
+        assert!(judged(1000, true, 2).is_err());
+        assert!(judged(1000, true, 4).is_err());
+        assert!(judged(3, false, 0).is_ok());
+        assert!(judged(2, false, 1).is_ok());
+        assert!(judged(2, false, 0).is_err());
+    }
 }
