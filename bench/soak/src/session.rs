@@ -49,6 +49,8 @@ struct Asked {
 
 pub struct Session {
     pub began_us: u64,
+    /// The objects that were sent before the confirmation of STARTDT had come, and may or may not be news.
+    pub unsure: u64,
     fronts: Vec<Front>,
     asked: Option<Asked>,
     pub gaps: Vec<Gap>,
@@ -72,9 +74,11 @@ impl Session {
             first_due: site.ledger().next(),
             points: vec![0; usize::from(site.points())],
         };
+        let fronts: Vec<Front> = sites.iter().zip(before).map(front).collect();
         Session {
             began_us: now_us(),
-            fronts: sites.iter().zip(before).map(front).collect(),
+            unsure: fronts.iter().map(|it| u64::from(it.first_due - 1 - it.last)).sum(),
+            fronts,
             asked: None,
             gaps: Vec::new(),
             doubts: Vec::new(),
@@ -190,6 +194,7 @@ impl Session {
             return Err(wrong(object, "news that are told again, late, or from before STARTDT", front.last));
         }
         self.observations += 1;
+        self.unsure -= u64::from(serial < front.first_due);
         *known = serial;
         let missed = (front.last + 1).max(front.first_due)..serial;
         front.last = serial;

@@ -129,9 +129,9 @@ impl Totals {
             let (behind, queue) = (missing.behind, station.queue);
             return Err(format!("{behind} confirmed observations are missing at the end, where {queue} may wait"));
         }
-        if is_exact(grave, sites) {
+        if let Some(unsure) = unsure_of_whole(grave, sites) {
             self.exact += 1;
-            if lost != dropped {
+            if dropped > lost + unsure {
                 return Err(format!("{dropped} observations were told as dropped, though only {lost} are missing"));
             }
         }
@@ -161,11 +161,12 @@ impl Totals {
     }
 }
 
-/// Whether all that was for a connection is known: it had one data transfer, took all, and no outstation was lost.
-fn is_exact(grave: &Grave, sites: &[Site]) -> bool {
-    let [only] = &grave.ended[..] else { return false };
-    let began_us = only.session.began_us;
-    only.is_whole && sites.iter().all(|it| it.ledger().topical_since().is_some_and(|since| since < began_us))
+/// Where all that was for a connection is known, how many objects may or may not have been: it had one data transfer, took
+/// all, and no outstation was lost.
+fn unsure_of_whole(grave: &Grave, sites: &[Site]) -> Option<u64> {
+    let [Ended { session, is_whole: true, .. }] = &grave.ended[..] else { return None };
+    let have_stood = sites.iter().all(|it| it.ledger().topical_since().is_some_and(|since| since < session.began_us));
+    have_stood.then_some(session.unsure)
 }
 
 #[cfg(test)]
