@@ -18,15 +18,13 @@ const POINTS: u16 = 40;
 /// How many events a quiet outstation has a second.
 const QUIET_RATE: f64 = 5.0;
 
-/// One outstation at line rate beside 31: first without it, then with one that obeys confirmations, then with one that
-/// doesn't.
+/// One outstation at line rate beside 31: first without it, then with one that obeys confirmations, with one that doesn't,
+/// and with one that waits for all control centres too.
 pub fn outstation(options: &Options) -> Result<(), String> {
-    for (title, flood) in
-        [("all quiet", Flood::Never), ("one obeys confirmations", Flood::Confirmed), ("one obeys none", Flood::Blind)]
-    {
-        measure(title, options, flood, false)?;
-    }
-    Ok(())
+    measure("all quiet", options, Flood::Never, false)?;
+    measure("one outstation obeys confirmations", options, Flood::Confirmed, false)?;
+    measure("one outstation obeys none", options, Flood::Blind, false)?;
+    measure("one outstation waits for all clients", options, Flood::Paced, false)
 }
 
 /// One control centre at line rate beside 7: first without it.

@@ -1,5 +1,5 @@
 //! What all threads look at: how far the run is, and the first fault.
-use std::sync::atomic::{AtomicBool, AtomicU8, Ordering::SeqCst};
+use std::sync::atomic::{AtomicBool, AtomicU32, AtomicU8, Ordering::SeqCst};
 use std::sync::Mutex;
 
 /// How far a run is.
@@ -15,14 +15,31 @@ pub enum Phase {
 
 pub struct Board {
     pub seed: u64,
+    /// Of each control centre, the last object of outstation 0 that it was told.
+    seen: Vec<AtomicU32>,
     phase: AtomicU8,
     over: AtomicBool,
     fault: Mutex<Option<String>>,
 }
 
 impl Board {
-    pub fn new(seed: u64, phase: Phase) -> Board {
-        Board { seed, phase: AtomicU8::new(phase as u8), over: AtomicBool::new(false), fault: Mutex::new(None) }
+    pub fn new(seed: u64, phase: Phase, clients: usize) -> Board {
+        Board {
+            seed,
+            seen: (0..clients).map(|_| AtomicU32::new(0)).collect(),
+            phase: AtomicU8::new(phase as u8),
+            over: AtomicBool::new(false),
+            fault: Mutex::new(None),
+        }
+    }
+
+    pub fn see(&self, client: usize, serial: u32) {
+        self.seen[client].store(serial, SeqCst);
+    }
+
+    /// Whether each control centre was told an object of outstation 0, or a later one.
+    pub fn have_all_seen(&self, serial: u32) -> bool {
+        self.seen.iter().all(|it| it.load(SeqCst) >= serial)
     }
 
     pub fn phase(&self) -> Phase {

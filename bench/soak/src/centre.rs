@@ -551,6 +551,7 @@ impl<'a> Connection<'a> {
         let mut measured = is_measured.then_some(&mut *latency);
         session.take(&self.house.scene.sites, asdu, now, &mut measured).map_err(End::Fault)?;
         drop(latency);
+        self.house.scene.board.see(self.desk.number, session.last_of(0));
         if session.answers > 0 {
             self.desk.is_ready.store(true, Relaxed);
         }

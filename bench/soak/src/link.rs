@@ -113,3 +113,36 @@ impl Link {
         Ok(Some(user))
     }
 }
+
+#[cfg(test)]
+mod tests {
+    use super::*;
+
+    #[test]
+    fn a_known_crc() {
+        assert_eq!(crc(&[0x05, 0x64, 0x05, 0xC0, 0x01, 0x00, 0x00, 0x04]), [0xE9, 0x21]);
+    }
+
+    #[test]
+    fn frames_of_the_master_have_to_be_right() {
+        let mut frame = Vec::new();
+        add_block(&[0x05, 0x64, 8, MASTER_USER_DATA, 1, 0, 0, 4], &mut frame);
+        add_block(&[FIR | FIN, 0xC3, 0], &mut frame);
+        for cut in 0..frame.len() {
+            let mut link = Link::new(1);
+            link.feed(&frame[..cut]);
+            assert_eq!(link.next(), Ok(None));
+            link.feed(&frame[cut..]);
+            assert_eq!(link.next(), Ok(Some(vec![0xC3, 0])));
+            link.feed(&frame);
+            assert!(link.next().is_err(), "the same transport number again");
+        }
+        for place in [0, 1, 3, 4, 6, 8, 10, 11, 13] {
+            let mut link = Link::new(1);
+            let mut wrong = frame.clone();
+            wrong[place] ^= 0x10;
+            link.feed(&wrong);
+            assert!(link.next().is_err(), "octet {place}");
+        }
+    }
+}

@@ -43,6 +43,8 @@ const GIVEN_UP_US: u64 = 1_500_000;
 const CONFIRMED_US: u64 = 8_000_000;
 /// How long the loop sleeps at most.
 const LOOK_US: u64 = 10_000;
+/// How long it sleeps where it looks for control centres to be told all.
+const PACE_US: u64 = 50;
 /// From one trouble that an outstation makes to the next, on average.
 const TROUBLE_US: u64 = 6_000_000;
 
@@ -52,6 +54,8 @@ pub enum Flood {
     Never,
     /// The next fragment once the last was confirmed.
     Confirmed,
+    /// The next fragment once all control centres were told all of the last: as if readers held it back.
+    Paced,
     /// Fragment after fragment, whatever is confirmed.
     Blind,
 }
@@ -256,9 +260,7 @@ impl Outstation<'_> {
         }
         self.repeat(connection, now)?;
         self.report(connection)?;
-        let floods = connection.is_enabled && self.site.manner.flood == Flood::Blind && !self.board.is_quiet();
-        let wait = if floods { 0 } else { self.next_event_us.saturating_sub(now).clamp(500, LOOK_US) };
-        if !is_readable(&connection.socket, wait) {
+        if !is_readable(&connection.socket, self.wait(connection, now)) {
             return Ok(());
         }
         let mut octets = [0; 4096];
@@ -270,6 +272,15 @@ impl Outstation<'_> {
             self.take(connection, &fragment)?;
         }
         Ok(())
+    }
+
+    /// How long it may take until something is due.
+    fn wait(&self, connection: &Connection, now: u64) -> u64 {
+        match self.site.manner.flood {
+            Flood::Blind if connection.is_enabled && !self.board.is_quiet() => 0,
+            Flood::Paced => PACE_US,
+            _ => self.next_event_us.saturating_sub(now).clamp(500, LOOK_US),
+        }
     }
 
     /// Events happen.
@@ -335,10 +346,15 @@ impl Outstation<'_> {
         Ok(())
     }
 
+    /// Whether events wait until control centres were told all that was sent.
+    fn is_held(&self) -> bool {
+        self.site.manner.flood == Flood::Paced && !self.board.have_all_seen(self.site.ledger().next() - 1)
+    }
+
     /// Events go unsolicited, where that is enabled and nothing else is under way.
     fn report(&mut self, connection: &mut Connection) -> Result<(), End> {
         let is_free = connection.flight.is_none() && connection.answer.is_none();
-        if !connection.is_enabled || !is_free || self.events.is_empty() {
+        if !connection.is_enabled || !is_free || self.events.is_empty() || self.is_held() {
             return Ok(());
         }
         let number = connection.unsolicited_number;
@@ -414,7 +430,7 @@ impl Outstation<'_> {
     }
 
     fn begin_answer(&mut self, connection: &mut Connection, number: u8, has_statics: bool) -> Result<(), End> {
-        let events = self.events.len();
+        let events = if self.is_held() { 0 } else { self.events.len() };
         connection.answer = Some(Answer { number, is_first: true, events, has_statics, next_point: 0 });
         self.go_on(connection)
     }
@@ -506,7 +522,9 @@ impl Outstation<'_> {
     /// Sets the internal indications of a fragment that has so many events.
     fn indicate(&self, fragment: &mut [u8], events: usize) {
         fragment[2] |= if self.has_restarted { RESTARTED } else { 0 };
-        fragment[2] |= if self.events.len() > events { CLASS_1 } else { 0 };
+        // One that floods isn't asked for events.
+        let has_more = self.events.len() > events && self.site.manner.flood == Flood::Never;
+        fragment[2] |= if has_more { CLASS_1 } else { 0 };
         fragment[3] |= if self.has_overflowed { OVERFLOWED } else { 0 };
     }
 

@@ -27,7 +27,7 @@ impl Scene {
     pub fn new(phase: Phase, seed: u64, station: Station, manners: &[Manner], habits: &[Habit]) -> Scene {
         let count = manners.len();
         Scene {
-            board: Board::new(seed, phase),
+            board: Board::new(seed, phase, habits.len()),
             sites: manners.iter().enumerate().map(|(number, it)| Site::new(number, *it)).collect(),
             desks: habits.iter().enumerate().map(|(number, it)| Desk::new(number, *it, count)).collect(),
             graves: Graves::default(),

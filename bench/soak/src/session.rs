@@ -89,6 +89,11 @@ impl Session {
         }
     }
 
+    /// The last object of an outstation that was told or shown.
+    pub fn last_of(&self, site: usize) -> u32 {
+        self.fronts[site].last
+    }
+
     pub fn is_asking(&self) -> bool {
         self.asked.is_some()
     }
