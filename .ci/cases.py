@@ -1,4 +1,5 @@
 """The cases of transcripts/, as transcripts/README.md tells how they are written, and the program."""
+import os
 import re
 import subprocess
 import sys
@@ -108,3 +109,13 @@ def first_difference(found, wanted):
 def build():
     """Proves and builds the program, unless it stands."""
     subprocess.run(["./gateway", "translate"], cwd=ROOT, stdin=subprocess.DEVNULL, check=True)
+
+
+def resources(pid):
+    """How many kB of memory, threads, open files and children a process has."""
+    with open(f"/proc/{pid}/status") as file:
+        status = dict(line.split(":", 1) for line in file)
+    with open(f"/proc/{pid}/task/{pid}/children") as file:
+        children = len(file.read().split())
+    count = lambda key: int(status[key].split()[0])
+    return count("VmRSS"), (count("Threads"), len(os.listdir(f"/proc/{pid}/fd")), children)

@@ -3,6 +3,7 @@
 They judge each octet that comes, and raise `Difference` where it isn't what is wanted.
 """
 import queue
+import re
 import select
 import socket
 import struct
@@ -42,6 +43,8 @@ WITNESS_EVENT = bytes.fromhex("20 01 17 01 09 01")
 WITNESSED, WITNESS_EVERY, WITNESS_W = 9001, 0.05, 4
 
 
+# A line of standard error: the priority for a journal, the time, and what is told.
+NOTE = re.compile(r"(<\d>)?(\d{4}-\d\d-\d\dT\d\d:\d\d:\d\d\.\d{3})Z (.+)")
 # How many octets an object of each type of process information has behind its address.
 ELEMENTS = {1: 1, 3: 1, 7: 5, 11: 3, 15: 5, 30: 8, 31: 8, 33: 12, 35: 10, 37: 12}
 
@@ -71,6 +74,12 @@ def narrow(socket_of_peer, room):
     """Gives a peer a receive buffer of this room, and small segments, which keep the gateway's buffer small too."""
     socket_of_peer.setsockopt(socket.SOL_SOCKET, socket.SO_RCVBUF, room)
     socket_of_peer.setsockopt(socket.IPPROTO_TCP, socket.TCP_MAXSEG, SMALL_SEGMENT)
+
+
+def free_place():
+    """An address where nobody listens."""
+    with socket.create_server((HOST, 0)) as server:
+        return f"{HOST}:{server.getsockname()[1]}"
 
 
 class Line:
@@ -122,13 +131,22 @@ class Line:
         self.connection.close()
 
 
+def divided(register):
+    """A register after eight bits, by x^16 + x^13 + x^12 + x^11 + x^10 + x^8 + x^6 + x^5 + x^2 + 1, least bit first."""
+    for _ in range(8):
+        register = (register >> 1) ^ (0xA6BC if register & 1 else 0)
+    return register
+
+
+# For each octet, the register that starts with it, after its bits.
+DIVIDED = [divided(octet) for octet in range(256)]
+
+
 def crc(octets):
-    """The CRC of a block: x^16 + x^13 + x^12 + x^11 + x^10 + x^8 + x^6 + x^5 + x^2 + 1, least bits first, inverted."""
+    """The CRC of a block, inverted."""
     register = 0
     for octet in octets:
-        register ^= octet
-        for _ in range(8):
-            register = (register >> 1) ^ (0xA6BC if register & 1 else 0)
+        register = (register >> 8) ^ DIVIDED[(register ^ octet) & 0xFF]
     return (register ^ 0xFFFF).to_bytes(2, "little")
 
 
@@ -363,9 +381,9 @@ class Witness:
     """An outstation and a control centre that are served all the while: the one tells events, the other gets each of
     them, in order. What else it gets waits for whoever wants it."""
 
-    def __init__(self, link, centre):
-        self.link, self.centre, self.others = link, centre, queue.SimpleQueue()
-        self.times, self.seen, self.last, self.slowest, self.fault = [], 0, None, 0.0, None
+    def __init__(self, link, centre, others=None):
+        self.link, self.centre, self.others = link, centre, others or queue.SimpleQueue()
+        self.times, self.delays, self.last, self.fault = [], [], None, None
         self.ending = threading.Event()
         self.threads = [threading.Thread(target=self.watch, args=[it], daemon=True) for it in (self.tell, self.listen)]
         for thread in self.threads:
@@ -389,17 +407,17 @@ class Witness:
                 self.link.send(response(fragment[0] & 0x0F))
 
     def listen(self):
-        while self.seen != self.last:
+        while len(self.delays) != self.last:
             octets = self.centre.asdu()
-            if self.centre.got % WITNESS_W == 0:
+            if not self.centre.alone and self.centre.got % WITNESS_W == 0:
                 self.centre.acknowledge()
             if octets[6:9] != WITNESSED.to_bytes(3, "little"):
                 self.others.put(octets)
             elif octets[2] == NEWS:
-                value = (self.seen + 1).to_bytes(4, "little")
+                seen = len(self.delays)
+                value = (seen + 1).to_bytes(4, "little")
                 same_octets("news of the witness", octets, asdu(7, NEWS, WITNESSED, spelled(value) + "00"))
-                self.slowest = max(self.slowest, time.monotonic() - self.times[self.seen])
-                self.seen += 1
+                self.delays.append(time.monotonic() - self.times[seen])
 
     def takes(self, *asdus):
         """These are the next ASDUs of other points."""
@@ -413,14 +431,19 @@ class Witness:
         self.centre.ask(general(ACTIVATION))
         self.takes(general(CONFIRMATION), *rows, general(TERMINATION))
 
-    def finish(self, limit):
-        """Each event came, within so many seconds, and nothing else is left."""
+    def end(self, limit):
+        """Each event came, within so many seconds."""
         self.ending.set()
         for thread in self.threads:
             thread.join(PATIENCE)
         if self.fault:
             raise self.fault
-        same("events that the witness got", self.seen, len(self.times))
-        if not self.seen or self.slowest > limit:
-            raise Difference(f"the slowest event of the witness: wanted {limit} s, got {self.slowest:.3f} s")
+        same("events that the witness got", len(self.delays), len(self.times))
+        if not self.delays or max(self.delays) > limit:
+            slowest = max(self.delays, default=0)
+            raise Difference(f"the slowest event of the witness: wanted {limit} s, got {slowest:.3f} s")
+
+    def finish(self, limit):
+        """The same, and nothing else is left."""
+        self.end(limit)
         same("ASDUs that nobody wanted", self.others.qsize(), 0)
