@@ -404,7 +404,8 @@ class Witness:
             event = unsolicited(len(self.times), WITNESS_EVENT + len(self.times).to_bytes(4, "little"))
             self.link.send(event)
             while (fragment := self.link.fragment()) != confirmation(event):
-                self.link.send(response(fragment[0] & 0x0F))
+                is_order = fragment[1] in (SELECT, OPERATE, DIRECT_OPERATE)
+                self.link.send(response(fragment[0] & 0x0F, fragment[2:] if is_order else b""))
 
     def listen(self):
         while len(self.delays) != self.last:

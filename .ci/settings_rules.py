@@ -1,0 +1,194 @@
+"""What `gateway check` has to say of a settings file, by the tables of docs/SETTINGS.md, apart from the gateway."""
+import tomllib
+
+from random_steps import SHOWN
+
+LARGEST_FILE = 16_777_216
+ROWS, OUTSTATIONS = 20_000, 32
+SECTIONS = ("outstation", "point", "control")
+
+# What may stand at a key: a number from .. to, or up to or below that of another key; a flag; a text; a word; and the
+# position of an outstation. And what is meant where the key is left out, unless it is required.
+REQUIRED = object()
+STATION = {
+    "common_address": ((1, 65_534), REQUIRED),
+    "master_address": ((0, 65_519), 1024),
+    "offset_minutes": ((-840, 840), 0),
+    "k": ((1, 32_767), 12),
+    "w": ((1, "k", 0), 8),
+    "t1_ms": ((1, 255_000), 15_000),
+    "t2_ms": ((1, "t1_ms", -1), 10_000),
+    "t3_ms": ((1, 255_000), 20_000),
+    "queue": ((1, 65_536), 1000),
+    "select_ms": ((1, 600_000), 10_000),
+    "recorder": ((1, 65_536), 1024),
+    "listen": (str, "127.0.0.1:2404"),
+}
+OUTSTATION = {
+    "address": ((0, 65_519), REQUIRED),
+    "connect": (str, "127.0.0.1:20000"),
+    "poll_ms": ((1, 86_400_000), 2000),
+    "integrity_ms": ((0, 86_400_000), 3_600_000),
+    "response_ms": ((1, 600_000), 5000),
+    "unsolicited": (bool, False),
+    "lan_time": (bool, False),
+}
+POINT = {
+    "outstation": ("position", REQUIRED),
+    "kind": (list(SHOWN), REQUIRED),
+    "index": ((0, 65_535), REQUIRED),
+    "address": ((1, 16_777_215), REQUIRED),
+    "show": (["single", "double", "scaled", "word", "total"], None),
+    "num": ((1, 32_767), 1),
+    "den": ((1, 32_767), 1),
+}
+CONTROL = {
+    "outstation": ("position", REQUIRED),
+    "show": (["single", "double", "setpoint"], REQUIRED),
+    "index": ((0, 65_535), REQUIRED),
+    "address": ((1, 16_777_215), REQUIRED),
+    "select": (bool, False),
+    "mode": (["direct", "sbo"], "direct"),
+    "rest": (["latch", "short"], "latch"),
+    "short_ms": ((1, 3_600_000), 500),
+    "long_ms": ((1, 3_600_000), 2000),
+    "num": ((1, 32_767), 1),
+    "den": ((1, 32_767), 1),
+}
+KEYS = {"station": STATION, "outstation": OUTSTATION, "point": POINT, "control": CONTROL}
+
+
+class Refusal(Exception):
+    """Settings are refused by this line."""
+
+
+def fault_of_number(allowed, value, table):
+    if type(value) is not int:
+        return "3 WrongType"
+    first, last = allowed[:2]
+    last = last if isinstance(last, int) else table[last] + allowed[2]
+    return None if first <= value <= last else "4 OutOfRange"
+
+
+def fault_of_value(allowed, value, table, outstations):
+    """What is wrong with a value, if anything; `table` has those of the keys before it."""
+    if isinstance(allowed, tuple):
+        return fault_of_number(allowed, value, table)
+    if allowed == "position":
+        return fault_of_number((0, outstations - 1), value, table)
+    wanted = str if isinstance(allowed, list) else allowed
+    if type(value) is not wanted:
+        return "3 WrongType"
+    return "4 OutOfRange" if isinstance(allowed, list) and value not in allowed else None
+
+
+def mismatch_of(section, table):
+    """The key that doesn't fit another one, if there is one; what a key that is left out means isn't in the table."""
+    if section == "point":
+        allowed = SHOWN[table["kind"]]
+        if "show" in table and table["show"] not in allowed:
+            return "show"
+        unfit = () if table.get("show", allowed[0]) == "scaled" else ("num", "den")
+    elif section == "control":
+        unfit = ("rest", "short_ms", "long_ms") if table["show"] == "setpoint" else ("num", "den")
+    else:
+        unfit = ()
+    return next((key for key in unfit if key in table), None)
+
+
+def judge_table(section, position, table, outstations):
+    keys, place = KEYS[section], f"{section} {position}"
+    unknown = sorted((it.encode() for it in table if it not in keys))
+    if unknown:
+        raise Refusal(f"5 UnknownKey {place} {unknown[0].decode()}")
+    values = {}
+    for key, (allowed, default) in keys.items():
+        values[key] = table.get(key, default)
+        if values[key] is REQUIRED:
+            raise Refusal(f"2 Missing {place} {key}")
+        is_by_kind = default is None and key not in table
+        fault = None if is_by_kind else fault_of_value(allowed, values[key], values, outstations)
+        if fault:
+            raise Refusal(f"{fault} {place} {key}")
+    unfit = mismatch_of(section, table)
+    if unfit:
+        raise Refusal(f"8 KindMismatch {place} {unfit}")
+
+
+def judge_section(top, section, most, outstations):
+    """The entries of a section."""
+    entries = top.get(section, [])
+    if not isinstance(entries, list) or not all(isinstance(it, dict) for it in entries):
+        raise Refusal(f"3 WrongType top 0 {section}")
+    if len(entries) > most:
+        raise Refusal(f"4 OutOfRange {section} 0 count")
+    for position, table in enumerate(entries):
+        judge_table(section, position, table, outstations)
+    return entries
+
+
+def judge_doubles(points, controls):
+    """No two points have one source, and no two points or controls one address."""
+    sources = set()
+    for position, point in enumerate(points):
+        source = point["outstation"], point["kind"], point["index"]
+        if source in sources:
+            raise Refusal(f"6 DoubleSource point {position} index")
+        sources.add(source)
+    addresses = set()
+    for section, entries in (("point", points), ("control", controls)):
+        for position, entry in enumerate(entries):
+            if entry["address"] in addresses:
+                raise Refusal(f"7 DoubleAddress {section} {position} address")
+            addresses.add(entry["address"])
+
+
+def listing(points, controls):
+    """What the settings mean, line by line."""
+    for it in points:
+        show = it.get("show", SHOWN[it["kind"]][0])
+        yield f"point {it['address']} {show} {it['outstation']} {it['kind']} {it['index']}"
+    for it in controls:
+        yield f"control {it['address']} {it['show']} {it['outstation']} {it['index']} {it.get('mode', 'direct')}"
+    yield f"rows {len(points)} {len(controls)}"
+
+
+def judge_top(top):
+    unknown = sorted(it.encode() for it in top if it not in KEYS)
+    if unknown:
+        raise Refusal(f"5 UnknownKey top 0 {unknown[0].decode()}")
+    if "station" not in top:
+        raise Refusal("2 Missing top 0 station")
+    if not isinstance(top["station"], dict):
+        raise Refusal("3 WrongType top 0 station")
+    judge_table("station", 0, top["station"], 0)
+    count = len(judge_section(top, "outstation", OUTSTATIONS, 0))
+    points = judge_section(top, "point", ROWS, count)
+    controls = judge_section(top, "control", ROWS - len(points), count)
+    judge_doubles(points, controls)
+    return list(listing(points, controls))
+
+
+def has_large_number(value):
+    """Whether a number of more than 64 bits stands anywhere, which isn't TOML to most."""
+    if isinstance(value, dict):
+        return any(map(has_large_number, value.values()))
+    if isinstance(value, list):
+        return any(map(has_large_number, value))
+    return isinstance(value, int) and not -(2**63) <= value < 2**63
+
+
+def answer_to_settings(octets):
+    """What `gateway check` writes of a file: `refused ..`, or the listing."""
+    if len(octets) > LARGEST_FILE:
+        return ["refused file"]
+    try:
+        top = tomllib.loads(octets.decode().removeprefix("\N{BOM}"))
+    except (UnicodeDecodeError, tomllib.TOMLDecodeError):
+        return ["refused 1 Toml"]
+    if has_large_number(top):
+        return ["refused 1 Toml"]
+    try:
+        return judge_top(top)
+    except Refusal as why:
+        return [f"refused {why}"]
