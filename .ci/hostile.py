@@ -177,19 +177,21 @@ def wrong_apdu(rng, sent, got, asdu):
 
 # ---- requests to the status
 
-METHODS = ["GET", "GET", "GET", "HEAD", "POST", "PUT", "DELETE", "OPTIONS", "get", "X" * 300, ""]
+RIGHT_METHODS, METHODS = ["GET", "GET", "GET", "HEAD", "POST", "PUT", "DELETE"], ["OPTIONS", "get", "X" * 300, ""]
 TARGETS = ["/", "/metrics", "/other", "/?a=b", "/metrics?x", "http://host/metrics", "http://host", "*", "", "//"]
 TARGETS += ["/%00", "/" + "a" * 5000, "/../metrics"]
-VERSIONS = ["HTTP/1.1", "HTTP/1.1", "HTTP/1.0", "HTTP/2", "HTTP/9.9", "http/1.1", ""]
+RIGHT_VERSIONS, VERSIONS = ["HTTP/1.1", "HTTP/1.0"], ["HTTP/2", "HTTP/9.9", "http/1.1", ""]
 FIELDS = ["Host: a", "A:b", "Accept: */*", "Content-Length: 5", "Transfer-Encoding: chunked"]
 WRONG_FIELDS = [": no name", "No colon", "A" * 5000 + ": b", "Tab\t: c", " folded", "A: \x00", "A: \u00e9"]
 
 
 def random_request(rng):
     """A request, and the codes that may answer it; nothing in their place where any may, or none."""
-    method, target, version = rng.choice(METHODS), rng.choice(TARGETS), rng.choice(VERSIONS)
+    method, version = (rng.choice(right if rng.random() < 0.85 else others)
+                       for right, others in ((RIGHT_METHODS, METHODS), (RIGHT_VERSIONS, VERSIONS)))
+    target = rng.choice(TARGETS)
     fields = [rng.choice(FIELDS) for _ in range(rng.choice([0, 1, 3, 64, 65, 200]))]
-    is_right = method in METHODS[:7] and target.isprintable() and target and version in VERSIONS[:3]
+    is_right = method in RIGHT_METHODS and version in RIGHT_VERSIONS and target not in ("", "*")
     path = target.removeprefix("http://host").split("?")[0] or "/"
     if len(fields) > 64 or len(target) > 1000:
         wanted = {431}
@@ -197,14 +199,14 @@ def random_request(rng):
         wanted = {404}
     else:
         wanted = {200} if method in ("GET", "HEAD") else {405}
-    if rng.random() < 0.4:
+    if rng.random() < 0.3:
         fields.insert(rng.randrange(len(fields) + 1), rng.choice(WRONG_FIELDS))
         is_right = False
     octets = "\r\n".join([f"{method} {target} {version}", *fields, "", ""]).encode("latin-1")
-    if rng.random() < 0.4:
+    if rng.random() < 0.3:
         ways = [lambda: changed(rng, octets), lambda: cut(rng, octets), lambda: filled(rng, octets), lambda: noise(rng)]
         octets, is_right = rng.choice(ways)(), False
-    return octets, wanted if is_right and target != "*" else None
+    return octets, wanted if is_right else None
 
 
 # ---- settings
