@@ -8,7 +8,7 @@ use crate::gateway::{Station, T1_MS};
 use crate::histogram::Histogram;
 use crate::random::Random;
 use crate::scene::Scene;
-use crate::session::{before_start, Session};
+use crate::session::{before, Session};
 use crate::system::{end_by_reset, is_readable, narrow, now_us, sleep_us};
 use crate::verdict::{Ended, Grave};
 use std::collections::VecDeque;
@@ -184,7 +184,8 @@ struct Connection<'a> {
     leaving: Leaving,
     /// It began in calm.
     is_calm: bool,
-    /// It sends nothing more.
+    /// It sent its last interrogation; it sends nothing more.
+    asked_last: bool,
     has_gone: bool,
     /// When it began, and the last that was done.
     began_us: u64,
@@ -231,6 +232,7 @@ impl<'a> Connection<'a> {
             leave_us: if is_calm { u64::MAX } else { leave_us },
             leaving,
             is_calm,
+            asked_last: false,
             has_gone: false,
             began_us: now,
             done: VecDeque::new(),
@@ -381,7 +383,7 @@ impl<'a> Connection<'a> {
 
     fn start(&mut self, now: u64) -> Result<(), End> {
         self.note("STARTDT");
-        self.starting = Some((before_start(&self.house.scene.sites), now));
+        self.starting = Some((before(&self.house.scene.sites), now));
         self.put(&START)
     }
 
@@ -449,12 +451,7 @@ impl<'a> Connection<'a> {
     fn leave_if_due(&mut self, now: u64) -> Result<(), End> {
         let phase = self.house.scene.board.phase();
         if phase == Phase::Quiet {
-            let is_silent = now > self.last_i_us + SILENT_US && now > self.hold_us.max(self.deaf_us) + SILENT_US;
-            let is_asking = self.session.as_ref().is_some_and(|it| it.is_asking());
-            if is_silent && !is_asking && self.acknowledged == self.received {
-                return self.go(self.session.is_some());
-            }
-            return Ok(());
+            return self.leave_quietly(now);
         }
         if phase == Phase::Calm && !self.is_calm {
             return self.go(false);
@@ -479,6 +476,23 @@ impl<'a> Connection<'a> {
                 self.put(&s_format(self.received.wrapping_add(2 * self.house.scene.station.k) & 0x7FFF))
             }
             _ => Err(End::Fault("the gateway doesn't end a connection that gave it cause to".to_string())),
+        }
+    }
+
+    /// Interrogates once nothing more comes, and leaves once that is answered, since all that waited goes before the answer.
+    fn leave_quietly(&mut self, now: u64) -> Result<(), End> {
+        let is_silent = now > self.last_i_us + SILENT_US && now > self.hold_us.max(self.deaf_us) + SILENT_US;
+        let Some(session) = &self.session else { return if is_silent { self.go(false) } else { Ok(()) } };
+        if session.is_asking() {
+            return Ok(());
+        }
+        match self.asked_last {
+            true => self.go(true),
+            false if is_silent => {
+                self.asked_last = true;
+                self.interrogate(GENERAL, now)
+            }
+            false => Ok(()),
         }
     }
 

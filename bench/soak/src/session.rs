@@ -27,6 +27,14 @@ struct Front {
     points: Vec<u32>,
 }
 
+impl Front {
+    /// What is due behind the last, and in front of an object.
+    fn advance(&self, site: usize, end: u32) -> Option<Gap> {
+        let serials = (self.last + 1).max(self.first_due)..end;
+        (!serials.is_empty()).then_some(Gap { site, serials })
+    }
+}
+
 /// A value was told or shown as not topical, which the end of a connection within a time has to explain.
 pub struct Doubt {
     pub site: usize,
@@ -39,7 +47,8 @@ struct Asked {
     kind: u8,
     at_us: u64,
     is_confirmed: bool,
-    /// What was confirmed to each outstation before the interrogation.
+    /// Of each outstation, the last object that was confirmed before the interrogation, and that of each point.
+    confirmed: Vec<u32>,
     floor: Vec<Vec<u32>>,
     /// Since when all points of each outstation were told as topical.
     topical_since: Vec<Option<u64>>,
@@ -61,8 +70,8 @@ pub struct Session {
     pub answers: u64,
 }
 
-/// What was confirmed to each outstation before a STARTDT act.
-pub fn before_start(sites: &[Site]) -> Vec<u32> {
+/// Of each outstation, the last object that was confirmed.
+pub fn before(sites: &[Site]) -> Vec<u32> {
     sites.iter().map(|it| it.ledger().last_confirmed()).collect()
 }
 
@@ -104,6 +113,7 @@ impl Session {
             kind,
             at_us: now,
             is_confirmed: false,
+            confirmed: before(sites),
             floor: sites.iter().map(|it| it.ledger().confirmed_values()).collect(),
             topical_since: sites.iter().map(|it| it.ledger().topical_since()).collect(),
             shown: sites.iter().map(|it| vec![false; usize::from(it.points())]).collect(),
@@ -147,7 +157,14 @@ impl Session {
     fn take_answer(&mut self, sites: &[Site], kind: u8, cause: u8, now: u64) -> Result<(), String> {
         let asked = self.asked.as_mut().filter(|it| it.kind == kind);
         match (asked, cause) {
-            (Some(asked), CONFIRMATION) if !asked.is_confirmed => asked.is_confirmed = true,
+            (Some(asked), CONFIRMATION) if !asked.is_confirmed => {
+                asked.is_confirmed = true;
+                // All news that were confirmed before the act went before its answer.
+                for (site, last) in asked.confirmed.iter().enumerate() {
+                    self.gaps.extend(self.fronts[site].advance(site, *last + 1));
+                    self.fronts[site].last = self.fronts[site].last.max(*last);
+                }
+            }
             (Some(asked), TERMINATION) if asked.is_confirmed => {
                 for (site, shown) in sites.iter().zip(&asked.shown) {
                     let points =
@@ -201,11 +218,8 @@ impl Session {
         self.observations += 1;
         self.unsure -= u64::from(serial < front.first_due);
         *known = serial;
-        let missed = (front.last + 1).max(front.first_due)..serial;
+        self.gaps.extend(front.advance(site, serial));
         front.last = serial;
-        if !missed.is_empty() {
-            self.gaps.push(Gap { site, serials: missed });
-        }
         Ok((serial >= front.first_due).then(|| (site, ledger.sent_us(serial))))
     }
 
@@ -236,11 +250,8 @@ impl Session {
         }
         self.rows += 1;
         front.points[usize::from(point)] = serial;
-        let missed = (front.last + 1).max(front.first_due)..serial + 1;
+        self.gaps.extend(front.advance(site, serial + 1));
         front.last = front.last.max(serial);
-        if !missed.is_empty() {
-            self.gaps.push(Gap { site, serials: missed });
-        }
         Ok(())
     }
 
@@ -292,7 +303,7 @@ mod tests {
 
     /// A session that begins behind the first fragment, and two fragments more.
     fn session(sites: &[Site; 1]) -> Session {
-        let session = Session::new(sites, &before_start(sites));
+        let session = Session::new(sites, &before(sites));
         send(&sites[0], &[0, 1]);
         send(&sites[0], &[0]);
         session

@@ -18,9 +18,9 @@ const OBJECTS: u64 = 127;
 /// A data transfer that has ended.
 pub struct Ended {
     pub session: Session,
-    /// Of each outstation, the objects that hadn't come, and were sent by then.
+    /// Of each outstation, the objects behind the last that came, and sent by then.
     pub rest: Vec<Range<u32>>,
-    /// It took all that was for it.
+    /// It ended in quiet, behind the answer to an interrogation.
     pub is_whole: bool,
 }
 
@@ -56,7 +56,7 @@ pub struct Totals {
     pub losses: u64,
     pub answers: u64,
     pub rows: u64,
-    /// Of each outstation, the confirmed objects that didn't come, of sessions that took all or later ones.
+    /// Of each outstation, the confirmed objects that didn't come though they had to, if they weren't dropped.
     pub missing: Vec<u64>,
     pub dropped: u64,
     pub left_waiting: u64,
@@ -64,7 +64,7 @@ pub struct Totals {
 
 /// What is missing in a connection, though it was confirmed to outstations.
 struct Missing {
-    /// Of each outstation, what didn't come though later news did, or though all was waited for.
+    /// Of each outstation, what didn't come though later news did, or an answer in front of which it had to come.
     lost: Vec<u64>,
     first: Option<(usize, u32)>,
     /// What was behind the last that came, and may have waited when data transfer ended.
@@ -74,16 +74,12 @@ struct Missing {
 impl Missing {
     fn of(sites: &[Site], ended: &[Ended]) -> Missing {
         let mut missing = Missing { lost: vec![0; sites.len()], first: None, behind: 0 };
-        for Ended { session, rest, is_whole } in ended {
+        for Ended { session, rest, .. } in ended {
             for gap in &session.gaps {
                 missing.lose(sites, gap.site, gap.serials.clone());
             }
-            for (site, serials) in rest.iter().enumerate() {
-                if *is_whole {
-                    missing.lose(sites, site, serials.clone());
-                } else {
-                    missing.behind += sites[site].ledger().confirmed_within(serials.clone()).0;
-                }
+            for (site, serials) in sites.iter().zip(rest) {
+                missing.behind += site.ledger().confirmed_within(serials.clone()).0;
             }
         }
         missing
@@ -131,7 +127,7 @@ impl Totals {
         }
         if let Some(unsure) = unsure_of_whole(grave, sites) {
             self.exact += 1;
-            if dropped > lost + unsure {
+            if dropped > lost + unsure + missing.behind {
                 return Err(format!("{dropped} observations were told as dropped, though only {lost} are missing"));
             }
         }
@@ -161,8 +157,8 @@ impl Totals {
     }
 }
 
-/// Where all that was for a connection is known, how many objects may or may not have been: it had one data transfer, took
-/// all, and no outstation was lost.
+/// Where all that was for a connection is known, how many objects may or may not have been for it: it had one data transfer,
+/// which ended in quiet, and no outstation was lost.
 fn unsure_of_whole(grave: &Grave, sites: &[Site]) -> Option<u64> {
     let [Ended { session, is_whole: true, .. }] = &grave.ended[..] else { return None };
     let have_stood = sites.iter().all(|it| it.ledger().topical_since().is_some_and(|since| since < session.began_us));
@@ -172,17 +168,19 @@ fn unsure_of_whole(grave: &Grave, sites: &[Site]) -> Option<u64> {
 #[cfg(test)]
 mod tests {
     use super::*;
+    use crate::apdu::{CONFIRMATION, GENERAL};
     use crate::outstation::{Flood, Manner};
-    use crate::session::before_start;
+    use crate::session::before;
 
-    /// An outstation that sent three objects in a fragment, which was confirmed while a session stood that got none.
-    fn unheard(is_whole: bool) -> ([Site; 1], Ended) {
+    /// An outstation that sent three objects in a fragment, which was confirmed while a session stood that got none of them,
+    /// and may have got the answer to an interrogation.
+    fn unheard(is_answered: bool) -> ([Site; 1], Ended) {
         let (events_a_second, together, flood) = (1.0, 1, Flood::Never);
         let manner =
             Manner { is_unsolicited: true, analogs: 1, counters: 0, events_a_second, together, is_wild: false, flood };
         let sites = [Site::new(0, manner)];
         sites[0].ledger().told_all(0);
-        let mut session = Session::new(&sites, &before_start(&sites));
+        let mut session = Session::new(&sites, &before(&sites));
         session.began_us = 1;
         let mut ledger = sites[0].ledger();
         let place = ledger.begin(2);
@@ -191,12 +189,17 @@ mod tests {
         }
         ledger.confirm(place);
         drop(ledger);
+        if is_answered {
+            session.ask(&sites, GENERAL, 3);
+            let confirmation = [GENERAL, 1, CONFIRMATION, 0, 1, 0, 0, 0, 0, 20];
+            session.take(&sites, &confirmation, 4, &mut None).unwrap();
+        }
         let rest = session.rest(&sites);
-        (sites, Ended { session, rest, is_whole })
+        (sites, Ended { session, rest, is_whole: is_answered })
     }
 
-    fn judged(queue: u32, is_whole: bool, dropped: u64) -> Result<(), String> {
-        let (sites, ended) = unheard(is_whole);
+    fn judged(queue: u32, is_answered: bool, dropped: u64) -> Result<(), String> {
+        let (sites, ended) = unheard(is_answered);
         let grave = Grave { client: 0, address: ([127, 0, 0, 1], 1).into(), ended: vec![ended], at_us: 3 };
         Totals::default().judge_one(&grave, &sites, &Station { queue, k: 0, w: 0 }, dropped)
     }
