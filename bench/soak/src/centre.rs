@@ -352,9 +352,11 @@ impl<'a> Connection<'a> {
         let is_free = self.starting.is_none() && self.stopping_us.is_none();
         if self.session.is_none() {
             let is_due = self.ended.is_empty() || self.random.percent(5);
-            return if is_free && is_due && !self.house.scene.board.is_quiet() { self.start(now) } else { Ok(()) };
+            let may_start = is_free && is_due && now < self.leave_us && !self.house.scene.board.is_quiet();
+            return if may_start { self.start(now) } else { Ok(()) };
         }
-        if now < self.act_us || !is_free {
+        // Who is about to leave does nothing else, since an I format acknowledges.
+        if now < self.act_us || now >= self.leave_us || !is_free {
             return Ok(());
         }
         self.act_us = now + self.random.pause(ACT_US);
@@ -471,6 +473,7 @@ impl<'a> Connection<'a> {
                 self.put(&apdu[..front])?;
                 Err(End::Wanted { is_whole: false })
             }
+            Leaving::Mute if self.session.is_none() => self.go(false),
             Leaving::Mute if now < self.leave_us + 2 * PATIENCE_US => Ok(()),
             Leaving::WrongNumber if now < self.leave_us + PATIENCE_US => {
                 self.put(&s_format(self.received.wrapping_add(2 * self.house.scene.station.k) & 0x7FFF))

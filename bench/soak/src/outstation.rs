@@ -175,6 +175,8 @@ struct Connection {
     deferred: Option<(u8, bool)>,
     /// The next fragment is cut off.
     is_to_be_cut: bool,
+    /// More was sent than the master may have read.
+    has_flooded: bool,
 }
 
 pub struct Outstation<'a> {
@@ -232,6 +234,7 @@ impl Outstation<'_> {
             answer: None,
             deferred: None,
             is_to_be_cut: false,
+            has_flooded: false,
         };
         self.next_trouble_us = now_us() + self.random.pause(TROUBLE_US);
         let end = loop {
@@ -250,6 +253,11 @@ impl Outstation<'_> {
     /// What is due, and what comes from the master meanwhile.
     fn turn(&mut self, connection: &mut Connection) -> Result<(), End> {
         if self.board.is_over() {
+            return Err(End::Wanted);
+        }
+        if connection.has_flooded && self.board.is_quiet() {
+            // What wasn't read is taken back.
+            end_by_reset(&connection.socket);
             return Err(End::Wanted);
         }
         let now = now_us();
@@ -346,9 +354,13 @@ impl Outstation<'_> {
         Ok(())
     }
 
-    /// Whether events wait until control centres were told all that was sent.
+    /// Whether events wait: until control centres were told all that was sent, or for good.
     fn is_held(&self) -> bool {
-        self.site.manner.flood == Flood::Paced && !self.board.have_all_seen(self.site.ledger().next() - 1)
+        match self.site.manner.flood {
+            Flood::Paced => !self.board.have_all_seen(self.site.ledger().next() - 1),
+            Flood::Blind => self.board.is_quiet(),
+            _ => false,
+        }
     }
 
     /// Events go unsolicited, where that is enabled and nothing else is under way.
@@ -363,6 +375,7 @@ impl Outstation<'_> {
         self.indicate(&mut fragment, events);
         if self.site.manner.flood == Flood::Blind {
             connection.unsolicited_number = (number + 1) & 0x0F;
+            connection.has_flooded = true;
         } else {
             connection.flight = Some(Flight::new(true, number, place, events, &fragment));
         }

@@ -17,8 +17,11 @@ const WILD_US: u64 = 60 * SECOND_US;
 const CALM_US: u64 = 8 * SECOND_US;
 const QUIET_US: u64 = 60 * SECOND_US;
 const LOOK_US: u64 = 100_000;
-/// How much memory may grow from the first third of the time to the last.
+/// How much memory may grow from the first third of the time to the last, the first minute left out, where there are so
+/// many samples.
 const GROWTH_KB: u64 = 512;
+const WARM: usize = 60;
+const SAMPLES: usize = 240;
 const ANALOGS: u16 = 60;
 const COUNTERS: u16 = 30;
 
@@ -107,10 +110,10 @@ impl Soak<'_> {
         Ok(())
     }
 
-    /// The memory in the first and in the last third of the time, the first minute left out.
+    /// The memory in the first and in the last third of the time.
     fn memory(&self) -> (u64, u64) {
         let count = self.samples.len();
-        let begin = if count > 180 { 60 } else { 0 };
+        let begin = if count >= SAMPLES { WARM } else { 0 };
         let third = (count - begin) / 3;
         (median(&self.samples, begin..begin + third), median(&self.samples, count - third..count))
     }
@@ -120,7 +123,7 @@ impl Soak<'_> {
         if (after.threads, after.descriptors) != (before.threads, before.descriptors) {
             return Err(format!("threads or descriptors are left over: {before:?} before, {after:?} after"));
         }
-        if last > first + GROWTH_KB {
+        if self.samples.len() >= SAMPLES && last > first + GROWTH_KB {
             return Err(format!("memory grows: {first} kB in the first third, {last} kB in the last"));
         }
         Ok(())
