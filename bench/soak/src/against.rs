@@ -99,9 +99,7 @@ fn report(scene: &Scene, totals: &Totals, seconds: f64, flood_rate: f64) {
     }
     let quiet: u64 = totals.missing.iter().skip(1).sum();
     let of_first = totals.missing.first().copied().unwrap_or(0);
-    println!(
-        "  missing               {quiet} of quiet outstations, {of_first} of outstation 0; dropped {}",
-        totals.dropped
-    );
+    println!("  missing               {quiet} of quiet outstations, {of_first} of outstation 0");
+    println!("  dropped of each       {:?}", totals.dropped_of);
     println!("  data transfers        {}, balanced exactly {}", totals.sessions, totals.exact);
 }

@@ -59,6 +59,8 @@ pub struct Totals {
     /// Of each outstation, the confirmed objects that didn't come though they had to, if they weren't dropped.
     pub missing: Vec<u64>,
     pub dropped: u64,
+    /// What was told as dropped for each client.
+    pub dropped_of: Vec<u64>,
     pub left_waiting: u64,
 }
 
@@ -146,6 +148,8 @@ impl Totals {
         self.missing.iter_mut().zip(&missing.lost).for_each(|(all, more)| *all += more);
         self.left_waiting += missing.behind;
         self.dropped += dropped;
+        self.dropped_of.resize(self.dropped_of.len().max(grave.client + 1), 0);
+        self.dropped_of[grave.client] += dropped;
         for Ended { session, is_whole, .. } in &grave.ended {
             self.sessions += 1;
             self.whole += u64::from(*is_whole);
