@@ -18,8 +18,8 @@ const POINTS: u16 = 40;
 /// How many events a quiet outstation has a second.
 const QUIET_RATE: f64 = 5.0;
 
-/// One outstation at line rate beside 31: first without it, then with one that obeys confirmations, with one that doesn't,
-/// and with one that waits for all control centres too.
+/// One outstation at line rate beside 31: first without it, then with one that obeys confirmations, with one that
+/// doesn't, and with one that waits for all control centres too.
 pub fn outstation(options: &Options) -> Result<(), String> {
     measure("all quiet", options, Flood::Never, false)?;
     measure("one outstation obeys confirmations", options, Flood::Confirmed, false)?;

@@ -1,8 +1,9 @@
-//! Plays outstations and control centres round `gateway run`, and judges what it makes of them. README.md tells more.
+//! Plays outstations and control centres round `gateway run`, and judges what it makes of them (README.md).
 mod against;
 mod apdu;
 mod board;
 mod centre;
+mod connection;
 mod gateway;
 mod histogram;
 mod ledger;
@@ -18,8 +19,8 @@ mod verdict;
 use std::process::ExitCode;
 
 const HELP: &str = "soak WHAT [OPTIONS]
-WHAT is `soak`, `outstation` or `client`: peers that make trouble, an outstation at line rate beside 31 others, a control
-centre at line rate beside 7 others.
+WHAT is `soak`, `outstation` or `client`: peers that make trouble, an outstation at line rate beside 31 others, a
+control centre at line rate beside 7 others.
   --gateway WORDS       the program and further options of `gateway run` (the one that is built in this repository)
   --seconds S           how long, or how long each part (60)
   --seed N              of what is done by chance (1)

@@ -36,8 +36,8 @@ const RANGE: u8 = 0x01;
 const ON_LINE: u8 = 0x01;
 /// How many events the outstation keeps.
 const BUFFER: usize = 400;
-/// After how long without a confirmation an unsolicited response is repeated, and an answer is given up; and how long it
-/// may take until the confirmation has come.
+/// After how long without a confirmation an unsolicited response is repeated, and an answer is given up; and how long
+/// it may take until the confirmation has come.
 const REPEAT_US: u64 = 400_000;
 const GIVEN_UP_US: u64 = 1_500_000;
 const CONFIRMED_US: u64 = 8_000_000;

@@ -68,8 +68,8 @@ impl Scene {
         Ok(())
     }
 
-    /// Starts a gateway and its outstations, waits until all were polled, and plays; `play` is given what lets the control
-    /// centres come. Gives what the gateway printed.
+    /// Starts a gateway and its outstations, waits until all were polled, and plays; `play` is given what lets the
+    /// control centres come. Gives what the gateway printed.
     pub fn run(
         &self,
         options: &Options,

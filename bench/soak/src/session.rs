@@ -192,8 +192,8 @@ impl Session {
         }
     }
 
-    /// News of a point: a new object, or the loss of the outstation. Gives the outstation and when the object was sent, where
-    /// that was since STARTDT.
+    /// News of a point: a new object, or the loss of the outstation. Gives the outstation and when the object was sent,
+    /// where that was since STARTDT.
     fn take_news(&mut self, sites: &[Site], object: &Object, now: u64) -> Result<Option<(usize, u64)>, String> {
         let (site, point) = point_at(sites, object)?;
         let (front, ledger, serial) = (&mut self.fronts[site], sites[site].ledger(), object.value);

@@ -161,8 +161,8 @@ impl Totals {
     }
 }
 
-/// Where all that was for a connection is known, how many objects may or may not have been for it: it had one data transfer,
-/// which ended in quiet, and no outstation was lost.
+/// Where all that was for a connection is known, how many objects may or may not have been for it: it had one data
+/// transfer, which ended in quiet, and no outstation was lost.
 fn unsure_of_whole(grave: &Grave, sites: &[Site]) -> Option<u64> {
     let [Ended { session, is_whole: true, .. }] = &grave.ended[..] else { return None };
     let have_stood = sites.iter().all(|it| it.ledger().topical_since().is_some_and(|since| since < session.began_us));
@@ -176,8 +176,8 @@ mod tests {
     use crate::outstation::{Flood, Manner};
     use crate::session::before;
 
-    /// An outstation that sent three objects in a fragment, which was confirmed while a session stood that got none of them,
-    /// and may have got the answer to an interrogation.
+    /// An outstation that sent three objects in a fragment, which was confirmed while a session stood that got none of
+    /// them, and may have got the answer to an interrogation.
     fn unheard(is_answered: bool) -> ([Site; 1], Ended) {
         let (events_a_second, together, flood) = (1.0, 1, Flood::Never);
         let manner =
