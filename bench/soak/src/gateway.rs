@@ -24,7 +24,7 @@ const POLL_MS: u64 = 400;
 const RESPONSE_MS: u64 = 1000;
 /// How many of the last lines are kept, and how long it may take to start and to end.
 const LINES: usize = 12;
-const PATIENCE_US: u64 = 20_000_000;
+const PATIENCE_US: u64 = 60_000_000;
 
 /// The settings of a gateway between these outstations, which are reached at these ports.
 pub fn settings(station: &Station, sites: &[Site], ports: &[u16]) -> String {
