@@ -45,6 +45,8 @@ enum End {
     },
     /// The gateway ended it, for it was given cause to.
     Expected,
+    /// The gateway ended it while data transfer was stopped, which it may do for a newer connection.
+    GaveWay,
     Fault(String),
 }
 
@@ -180,7 +182,7 @@ impl<'a> Connection<'a> {
                 break end;
             }
         };
-        let is_whole = matches!(end, End::Wanted { is_whole: true });
+        let (is_whole, gave_way) = (matches!(end, End::Wanted { is_whole: true }), matches!(end, End::GaveWay));
         if let End::Fault(fault) = end {
             let board = &self.house.scene.board;
             if !board.is_over() {
@@ -191,7 +193,7 @@ impl<'a> Connection<'a> {
         }
         self.end_session(is_whole);
         let (client, address) = (self.desk.number, self.address);
-        self.house.scene.graves.dig(Grave { client, address, ended: self.ended, at_us: now_us() });
+        self.house.scene.graves.dig(Grave { client, address, ended: self.ended, gave_way, at_us: now_us() });
     }
 
     /// Keeps what is done.
@@ -230,6 +232,9 @@ impl<'a> Connection<'a> {
         let has_cause = matches!(self.plan.leaving, Leaving::Mute | Leaving::WrongNumber);
         if has_cause && now_us() >= self.plan.leave_us {
             return End::Expected;
+        }
+        if self.session.is_none() || self.stopping_us.is_some() {
+            return End::GaveWay;
         }
         End::Fault(format!("the gateway ended the connection: {how}"))
     }

@@ -65,8 +65,9 @@ pub fn settings(station: &Station, sites: &[Site], ports: &[u16]) -> String {
 struct Told {
     /// Of each client's address, how many observations were dropped.
     dropped: HashMap<String, u64>,
-    /// How often each cause ended a connection of a client.
+    /// How often each cause ended a connection of a client, and the cause that ended the last one of each address.
     ends: HashMap<String, u64>,
+    causes: HashMap<String, String>,
     port: Option<u16>,
     last: VecDeque<String>,
 }
@@ -79,8 +80,10 @@ impl Told {
             [_, "client", _, address, count, "observation" | "observations", "dropped,", ..] => {
                 *self.dropped.entry(address.to_string()).or_default() += count.parse().unwrap_or(0)
             }
-            [_, "client", _, _, "closed:" | "lost:", ..] => {
-                *self.ends.entry(words[4..].join(" ")).or_default() += 1;
+            [_, "client", _, address, "closed:" | "lost:", ..] => {
+                let cause = words[4..].join(" ");
+                self.causes.insert(address.to_string(), cause.clone());
+                *self.ends.entry(cause).or_default() += 1;
             }
             _ => {}
         }
@@ -148,6 +151,11 @@ impl Gateway {
     /// How many observations it told as dropped for the client at an address, which isn't asked for again.
     pub fn dropped(&self, address: SocketAddr) -> u64 {
         self.told.lock().unwrap().dropped.remove(&address.to_string()).unwrap_or(0)
+    }
+
+    /// What it told as the end of the connection of the client at an address, which isn't asked for again.
+    pub fn cause(&self, address: SocketAddr) -> String {
+        self.told.lock().unwrap().causes.remove(&address.to_string()).unwrap_or_default()
     }
 
     /// Why clients' connections ended, and how often.

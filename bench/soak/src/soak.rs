@@ -52,17 +52,16 @@ pub fn run(options: &Options) -> Result<(), String> {
     let habits: Vec<Habit> = (0..options.clients).map(habit).collect();
     let station = Station { queue: options.queue, k: 12, w: 8 };
     let scene = Scene::new(Phase::Calm, options.seed, station, &manners, &habits);
-    let mut printed = String::new();
     let steps = scene.run(options, |gateway, come| {
         let before = Holds::of(gateway.process());
         come(gateway);
         let mut soak = Soak { scene: &scene, gateway, totals: Totals::default(), samples: Vec::new() };
-        soak.play(options.seconds * SECOND_US)?;
+        let played = soak.play(options.seconds * SECOND_US);
         let after = Holds::of(soak.gateway.process());
-        printed = soak.report(before, after);
-        soak.judge_holds(before, after).inspect_err(|_| print!("{printed}"))
+        print!("{}", soak.report(before, after));
+        played.and_then(|()| soak.judge_holds(before, after))
     })?;
-    println!("{printed}the gateway ended by itself: {steps}");
+    println!("the gateway ended by itself: {steps}");
     Ok(())
 }
 

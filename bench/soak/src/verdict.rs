@@ -12,6 +12,8 @@ use std::sync::Mutex;
 /// How long after its end a connection is judged: by then the gateway has told what it dropped, and outstations have
 /// read the confirmations of what was told.
 pub const REST_US: u64 = 3_000_000;
+/// The one cause for which the gateway may end a connection whose data transfer is stopped.
+const GAVE_WAY: &str = "closed: gave way to a newer connection of its address";
 /// How many objects an APDU has at most.
 const OBJECTS: u64 = 127;
 
@@ -29,6 +31,8 @@ pub struct Grave {
     pub client: usize,
     pub address: SocketAddr,
     pub ended: Vec<Ended>,
+    /// The gateway ended it while data transfer was stopped.
+    pub gave_way: bool,
     pub at_us: u64,
 }
 
@@ -106,7 +110,10 @@ impl Totals {
     /// Judges the connections that ended long enough ago.
     pub fn judge(&mut self, scene: &Scene, gateway: &Gateway) -> Result<(), String> {
         while let Some(grave) = scene.graves.next(now_us().saturating_sub(REST_US)) {
-            let dropped = gateway.dropped(grave.address);
+            let (dropped, cause) = (gateway.dropped(grave.address), gateway.cause(grave.address));
+            if grave.gave_way && cause != GAVE_WAY {
+                return Err(format!("client {} {}: ended while stopped: {cause}", grave.client, grave.address));
+            }
             self.judge_one(&grave, &scene.sites, &scene.station, dropped)
                 .map_err(|it| format!("client {} {}: {it}", grave.client, grave.address))?;
         }
@@ -204,7 +211,8 @@ mod tests {
 
     fn judged(queue: u32, is_answered: bool, dropped: u64) -> Result<(), String> {
         let (sites, ended) = unheard(is_answered);
-        let grave = Grave { client: 0, address: ([127, 0, 0, 1], 1).into(), ended: vec![ended], at_us: 3 };
+        let grave =
+            Grave { client: 0, address: ([127, 0, 0, 1], 1).into(), ended: vec![ended], gave_way: false, at_us: 3 };
         Totals::default().judge_one(&grave, &sites, &Station { queue, k: 0, w: 0 }, dropped)
     }
 
