@@ -85,8 +85,10 @@ impl Soak<'_> {
             if !self.scene.have_all_left() {
                 return Err("a client doesn't come to an end of what waits for it".to_string());
             }
+            // What ended in quiet is judged before outstations are lost again.
+            self.watch(REST_US + LOOK_US, |_| false)?;
         }
-        self.watch(REST_US + LOOK_US, |_| false)
+        Ok(())
     }
 
     /// Judges what has ended, and looks what the gateway holds, for so long or until something is so.
