@@ -160,9 +160,10 @@ fn write_report(rt: &HostRuntime, settings: &Settings, report: CheckReport) -> i
         return Ok(REFUSED);
     }
     let mut warnings = Vec::new(rt.alloc());
-    write_warnings(rt.alloc(), settings, &mut warnings)?;
     // The settings are right, also where nobody can be warned.
-    let _ = rt.stderr().write_all(warnings.as_slice());
+    if write_warnings(rt.alloc(), settings, &mut warnings).is_ok() {
+        let _ = rt.stderr().write_all(warnings.as_slice());
+    }
     Ok(0)
 }
 
