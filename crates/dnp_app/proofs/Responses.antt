@@ -2,7 +2,9 @@
 use Rattle.std.proofs.Common.{◌≡◌, ◌≢◌, ℕ, ◌-◌, ◌≤◌, List, [], ◌∷◌, length, take, drop, ltb, true, false, Option, Result, Ok, Err, refl, sym, ap, subst, ◌∙◌}
 use Rattle.std.specs.Prelude.{IfErr, IsErrOf}
 use Rattle.std.proofs.lemmas.Bool.{le-ltb}
+use Rattle.std.specs.Result.{result_unwrap_or}
 use Rattle.gw_model.specs.declared.point.Report.{Report}
+use Rattle.dnp_objects.specs.declared.fault.ObjectFault.{ObjectFault}
 use Rattle.gw_model.specs.Outcome.{Gives}
 use Rattle.dnp_objects.specs.declared.header.Header.{Header}
 use Rattle.dnp_objects.specs.Headers.{headers_of, IsStoredAt}
@@ -11,7 +13,7 @@ use Rattle.dnp_points.specs.Meaning.{Means, reports_of}
 use Rattle.dnp_points.proofs.ReportLaws.{meaning-again}
 use Rattle.dnp_app.specs.declared.fault.AppFault.{AppFault}
 use Rattle.dnp_app.specs.declared.fault.AppFault.TheVariants.{Short, NotResponse, Object, Memory}
-use Rattle.dnp_app.specs.Response.{Fragment, fragment_of, IsResponse, is_response, StoresHeader, IsRefused, response_of, is_memory}
+use Rattle.dnp_app.specs.Response.{Fragment, fragment_of, fragment_spelt, IsResponse, is_response, StoresHeader, IsRefused, response_of, is_memory}
 use Rattle.dnp_app.specs.declared.echoed.Echo.{Echo}
 use Rattle.dnp_app.specs.Echo.{headers_in, lone_echoes, only_one, echo_of}
 use Rattle.dnp_app.specs.SteppedOver.{stepped_over_count, stepped_over_count_of}
@@ -21,6 +23,12 @@ pub response-again : (f : Fragment) → IsResponse f → response_of f.outstatio
 response-again f is =
     let long : ltb (length f.octets) 4 ≡ false = le-ltb _ _ is.long in
     rw (long, is.function, meaning-again f.outstation _ f.reports is.means) refl
+
+-- what the octets of a response spell is that response
+pub spelt : (f : Fragment) → IsResponse f → fragment_spelt f.outstation f.octets ≡ f
+spelt f is =
+    ap (λ (read : Result (List Report) ObjectFault). fragment_of f.outstation f.octets (result_unwrap_or read []))
+    (meaning-again f.outstation (drop 4 f.octets) f.reports is.means)
 
 pub only : {X : Type 0} (view : X → Fragment) (r : Result X AppFault) (outstation : ℕ) (octets : List ℕ)
     → Gives is_memory view r (response_of outstation octets)

@@ -1,6 +1,7 @@
 -- What a response fragment is (IEEE Std 1815, 4.2.2): application control, function 129 or 130, two octets of
 -- internal indications, and an object part.
-use Rattle.std.specs.Prelude.{◌≡◌, ℕ, ◌≤◌, Bool, true, false, ◌||◌, ◌==◌, List, length, drop, slice_index, Result, Ok, Err, nat_lt, if◌then◌else◌}
+use Rattle.std.specs.Prelude.{◌≡◌, ℕ, ◌≤◌, Bool, true, false, ◌||◌, ◌==◌, List, [], length, drop, slice_index, Result, Ok, Err, nat_lt, if◌then◌else◌}
+use Rattle.std.specs.Result.{result_unwrap_or}
 use Rattle.gw_model.specs.declared.point.Report.{Report}
 use Rattle.dnp_objects.specs.declared.fault.ObjectFault.{ObjectFault}
 use Rattle.dnp_objects.specs.Headers.{IsStoredAt}
@@ -30,6 +31,11 @@ pub record IsResponse (f : Fragment) : Type 0 where
   pub long : 4 ≤ length f.octets
   pub function : is_response f.octets ≡ true
   pub means : Means f.outstation (drop 4 f.octets) f.reports
+
+-- the response that octets spell; without reports where they spell none
+abbrev pub fragment_spelt : ℕ → List ℕ → Fragment
+fragment_spelt outstation octets =
+    fragment_of outstation octets (result_unwrap_or (meaning_of outstation (drop 4 octets)) [])
 
 -- octets of a response with a header in its object part that is read and stored
 pub record StoresHeader (octets : List ℕ) : Type 0 where

@@ -6,6 +6,7 @@ mod confirmation;
 mod echoed;
 mod examples;
 mod fault;
+mod kept;
 mod law;
 mod operation;
 mod request;
@@ -19,6 +20,7 @@ pub use examples::{
     requests_by_example, stepped_over_by_example,
 };
 pub use fault::AppFault;
+pub use kept::KeptResponse;
 pub use law::{controls_apart, one_echo, taken_as_sent};
 pub use operation::{Operation, control_request};
 pub use request::{Request, clear_restart, disable, enable, read_poll, record_time, write_time};

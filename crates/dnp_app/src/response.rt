@@ -75,6 +75,15 @@ impl Response {
         self.octets.as_slice()
     }
 
+    /// The octets alone.
+    pub(crate) fn into_octets(self) -> Vec<u8>
+        ensures octets { result.items ≡ self.octets }
+        ensures response { IsResponse self }
+        ensures short { length result.items ≤ 2048 }
+    {
+        self.octets
+    }
+
     /// What the fragment reports, in order.
     pub fn reports(&self) -> &[Report]
         ensures { result.now ≡ self.now.reports }

@@ -1,6 +1,7 @@
 //! A call that was recorded.
 
-use gw_hub::{Reply, Step, StepFault};
+use crate::kept::KeptStep;
+use gw_hub::{Reply, StepFault};
 
 /// A step that an actor asked for, and what it was answered.
 #[derive(Debug, Drop)]
@@ -9,6 +10,6 @@ pub struct Entry {
     pub actor: usize,
     /// The how-manieth call of this actor it was, from 1.
     pub ordinal: u64,
-    pub step: Step,
+    pub step: KeptStep,
     pub reply: Result<Reply, StepFault>,
 }

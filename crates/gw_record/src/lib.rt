@@ -3,9 +3,13 @@
 #![tactic(auto)]
 
 mod entry;
+mod kept;
 mod recorder;
 mod tape;
 
 pub use entry::Entry;
-pub use gw_hub::{Accepted, Apdu, ApduBuf, Hub, Outgoing, Reply, Step, StepFault, Verdict, Why};
+pub use gw_hub::{
+    Accepted, Apdu, ApduBuf, Hub, Outgoing, Reply, Step, StepFault, Verdict, Why,
+};
+pub use kept::{Kept, KeptStep};
 pub use recorder::{Dump, NoRoom, Recorder};

@@ -4,6 +4,7 @@ ghost use Rattle.gw_record.specs.Recorded.{IsNumbered};
 ghost use Rattle.gw_record.specs.Recording.{is_tape_full, noted, recording_off, rolled, tape_on, tape_with, HasRoom};
 
 use crate::entry::Entry;
+use crate::kept::KeptStep;
 use crate::tape::Tape;
 use gw_hub::{Hub, Reply, Step, StepFault};
 use gw_model::Memory;
@@ -83,7 +84,7 @@ impl Recorder {
             Entry {
                 actor,
                 ordinal,
-                step,
+                step: KeptStep::of(step),
                 reply,
             },
         );

@@ -46,13 +46,15 @@ impl Tape {
     pub fn new(alloc: Global, hub: &Hub, counts: &[u64], capacity: usize) -> Result<Tape, Memory>
         ensures { IfOk result (λ tape. tape ≡ tape_on hub.now counts.now capacity) }
     {
+        let before = Vec::from_slice(alloc, counts)?;
+        let slots = Vec::with_capacity(alloc, capacity)?;
         Ok(Tape {
             alloc,
             capacity,
             base: hub.copy()?,
-            before: Vec::from_slice(alloc, counts)?,
+            before,
             spare: None,
-            slots: Vec::with_capacity(alloc, capacity)?,
+            slots,
             used: 0,
         })
     }
@@ -82,11 +84,12 @@ impl Tape {
         ensures ok { OnOk result (self.new ≡ tape_on hub.now counts.now self.old.capacity) }
         ensures err { OnErr result (self.new ≡ self.old) }
     {
+        let before = Vec::from_slice(self.alloc, counts)?;
         let base = match self.spare.take() {
             Some(spare) => hub.copy_over(spare)?,
             None => hub.copy()?,
         };
-        self.before = Vec::from_slice(self.alloc, counts)?;
+        self.before = before;
         self.spare = Some(mem::replace(&mut self.base, base));
         self.used = 0;
         Ok(())

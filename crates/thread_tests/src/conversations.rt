@@ -4,7 +4,7 @@ ghost use Rattle.std.specs.Prelude.{◌≡◌};
 
 use crate::asking::{Answer, Turn, answers_of, check_answers, steps_of};
 use crate::opening::{end, hub_on, open, settings_of};
-use crate::telling::{entries_since, push_call};
+use crate::telling::{entries_since, push_call, push_entry};
 use gw_map::DEFAULT_SETTINGS;
 use gw_threads::{Hub, Recorder};
 use std::marker::Brand;
@@ -310,8 +310,7 @@ fn check_recorder<R: Abort + AllocGlobal>(
 ) {
     let mut kept = String::new(rt.alloc());
     for entry in entries_since(rt, recorder, &recording.counts) {
-        let turn = (entry.actor, entry.ordinal);
-        push_call(rt, &mut kept, turn, &entry.step, &entry.reply);
+        push_entry(rt, &mut kept, entry);
     }
     let made = text_of_calls(rt, recording, lines, answers);
     assert_eq!(rt; kept.as_str(), made.as_str());

@@ -5,7 +5,7 @@ use crate::memory::has_termination;
 use crate::peers::{MASTER, SOURCES, Source};
 use dnp_app::Response;
 use dnp_receive::responses_of;
-use gw_threads::{Entry, Reply, Step};
+use gw_threads::{Entry, Kept, Reply};
 use std::process::Abort;
 use std::sync::{Mutex, Wait};
 
@@ -33,7 +33,7 @@ pub fn check_outstations<R: Abort + AllocGlobal>(rt: &R, entries: &[Entry]) {
 fn are_stepped(entries: &[Entry], actor: usize, responses: &[Response]) -> bool {
     let mut rest = responses;
     for entry in entries {
-        if let (true, Step::Fragment { response, .. }) = (entry.actor == actor, &entry.step) {
+        if let (true, Kept::Fragment { response, .. }) = (entry.actor == actor, entry.step.kept()) {
             match rest.split_first() {
                 Some((first, others))
                     if first.octets() == response.octets()
@@ -77,8 +77,8 @@ fn octets_given<R: Abort + AllocGlobal>(rt: &R, entries: &[Entry], actor: usize)
 /// step.
 pub fn is_answered_first(entries: &[Entry]) -> bool {
     for entry in entries {
-        match (entry.actor, &entry.step, &entry.reply) {
-            (OUTSTATION_0_READER, Step::Fragment { .. }, _) => return false,
+        match (entry.actor, entry.step.kept(), &entry.reply) {
+            (OUTSTATION_0_READER, Kept::Fragment { .. }, _) => return false,
             (CLIENT_1_WRITER, _, Ok(Reply::Apdu(apdu))) if has_termination(apdu.as_slice()) => {
                 return true;
             }

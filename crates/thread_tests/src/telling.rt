@@ -2,7 +2,8 @@
 
 use crate::asking::{Answer, Turn};
 use crate::opening::copy_of;
-use gw_threads::{Entry, Hub, Recorder, Step};
+use dnp_app::KeptResponse;
+use gw_threads::{Entry, Hub, Kept, KeptStep, Recorder, Step};
 use std::fmt::Write;
 use std::process::Abort;
 
@@ -13,14 +14,40 @@ pub fn entries_since<'a, R: Abort>(rt: &R, recorder: &'a Recorder, counts: &[u64
     assert_eq!(rt; dump.counts, counts);
     let mut hub = copy_of(rt, dump.base);
     for entry in dump.entries {
-        assert_eq!(rt; answer_of(&mut hub, &entry.step), entry.reply);
+        assert_eq!(rt; answer_of_kept(rt, &mut hub, &entry.step), entry.reply);
     }
     dump.entries
+}
+
+/// What a hub answers a step that was kept.
+fn answer_of_kept<R: Abort>(rt: &R, hub: &mut Hub, step: &KeptStep) -> Answer {
+    match step.kept() {
+        Kept::Fragment { response, moment } => answer_of(hub, &step_with(rt, response, *moment)),
+        Kept::Other(step) => answer_of(hub, step),
+    }
+}
+
+/// The step of a fragment that was kept.
+fn step_with<R: Abort>(rt: &R, response: &KeptResponse, moment: u64) -> Step {
+    let response = response.response().expect(rt, "memory");
+    Step::Fragment { response, moment }
 }
 
 /// What a hub answers a step.
 pub fn answer_of(hub: &mut Hub, step: &Step) -> Answer {
     hub.step(step)
+}
+
+/// Adds the line of a call that was kept to a text.
+pub fn push_entry<R: Abort>(rt: &R, text: &mut String, entry: &Entry) {
+    let turn = (entry.actor, entry.ordinal);
+    match entry.step.kept() {
+        Kept::Fragment { response, moment } => {
+            let step = step_with(rt, response, *moment);
+            push_call(rt, text, turn, &step, &entry.reply);
+        }
+        Kept::Other(step) => push_call(rt, text, turn, step, &entry.reply),
+    }
 }
 
 /// Adds the line of a call to a text: whose turn it was, all of the step, and all of the answer.

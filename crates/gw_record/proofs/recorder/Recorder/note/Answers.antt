@@ -1,6 +1,8 @@
-use Rattle.std.proofs.Common.{◌≡◌, ◌∙◌, ℕ, ◌+◌, ◌<◌, length, refl, ap, rules}
+use Rattle.std.proofs.Common.{◌≡◌, ◌∙◌, ℕ, ◌+◌, ◌<◌, length, refl, ap, rules, subst, sym}
 use Rattle.std.specs.Prelude.{slice_index}
 use Rattle.std.proofs.lemmas.Grind.{get_or_default_zero}
+use Rattle.gw_steps.specs.declared.step.Step.{Step}
+use Rattle.gw_steps.specs.Carried.{IsMeant}
 use Rattle.gw_record.specs.Recording.{Recording, is_tape_full}
 use Rattle.gw_record.proofs.Numbering.{has_room, taped-noted}
 use Rattle.gw_record.proofs.recorder.Recorder.note.Goals as goal
@@ -17,5 +19,6 @@ invariant_of-self c =
     let next : c.index.result.now + 1 ≡ slice_index c.self.inside.counts.items c.args.actor + 1 =
     ap (λ (n : ℕ). n + 1)
     (c.index.ensures ∙ get_or_default_zero c.self.inside.counts.items c.args.actor c.index.result.now within) in
-    taped-noted c.self.inside.counts.items _ _ _ _ _ _ _ c.self.invariant room within c.attest.ensures next
+    taped-noted c.self.inside.counts.items _ _ _ _ _ _ _ c.self.invariant room within
+    (subst (λ (step : Step). IsMeant step) (sym c.of.ensures) c.attest.ensures) next
     refl c.keep.ensures
