@@ -16,7 +16,7 @@ use Rattle.gw_control.specs.declared.selection.Selection.{Selection}
 use Rattle.gw_control.specs.Intents.{control_for}
 use Rattle.gw_control.specs.Selections.{is_own, is_select}
 use Rattle.gw_control.specs.Orders.{Outgoing, is_named, is_of_others, nothing_outgoing, outcome_by, outcome_lost, outcome_of, outgoing_after_end, outgoing_after_ended, outgoing_after_lost, outgoing_after_taking, outgoing_with, places}
-use Rattle.gw_control.specs.Controls.{Controls, accepted_by, act_accepted, answer_at, answer_of, answer_to_act, confirmed_if, controls_after_at, controls_after_command, controls_after_end, controls_after_ended, controls_after_lost, controls_after_taking, controls_ordering, controls_selecting, controls_unselecting, is_deactivation, is_full_at, is_order, is_selectable, no_controls, outcome_ended_at, outcome_lost_at, standing_at, AreInOrder}
+use Rattle.gw_control.specs.Controls.{Controls, accepted_by, act_accepted, answer_at, answer_of, answer_to_act, confirmed_if, controls_after_at, controls_after_command, controls_after_end, controls_after_ended, controls_after_lost, controls_after_taking, controls_ordering, controls_selecting, controls_unselecting, is_deactivation, is_full_at, is_order, is_selectable, no_controls_after, outcome_ended_at, outcome_lost_at, standing_at, AreInOrder}
 use Rattle.gw_control.specs.Moves.{one_if, IsSoundControls}
 use Rattle.gw_control.specs.Held.{controls_after_losses, is_of, orders_among, orders_in, orders_of, outcomes_to, under_way_of, waiting_in, waiting_of}
 use Rattle.gw_control.proofs.Keeps.{accepted, confirmed_no_order}
@@ -205,8 +205,8 @@ command setup c a (Some found) v =
 
 -- ---- how many hold places
 
-pub none_held : (setup : Setup) (c : ℕ) → orders_of c (no_controls setup) ≡ 0
-none_held setup c = among_none c (length setup.outstations)
+pub none_held : (setup : Setup) (n c : ℕ) → orders_of c (no_controls_after n setup) ≡ 0
+none_held setup n c = among_none c (length setup.outstations)
 
 pub command_holds : (setup : Setup) (c : ℕ) (a : AskedCommand) (v : Controls)
     → orders_of c (controls_after_command setup a v)

@@ -70,8 +70,8 @@ some_fewer p (x ∷ xs) = kept (some_fewer p xs) (p x)
 
 -- ---- one outstation
 
-pub nothing_in_order : IsInOrder 0 nothing_outgoing
-nothing_in_order = record { few = omega arith; rise = omega arith }
+pub nothing_in_order : (count : ℕ) → IsInOrder count nothing_outgoing
+nothing_in_order count = record { few = omega arith; rise = omega arith }
 
 -- more orders in all
 raised : (count : ℕ) (o : Outgoing) → IsInOrder count o → IsInOrder (count + 1) o
@@ -133,8 +133,8 @@ left count client ws (Some u) k = record {
 
 -- ---- all outstations
 
-pub nothing_keeps : (n : ℕ) → AreInOrder 0 (replicate n nothing_outgoing)
-nothing_keeps n = all_alike (IsInOrder 0) n nothing_outgoing nothing_in_order
+pub nothing_keeps : (count n : ℕ) → AreInOrder count (replicate n nothing_outgoing)
+nothing_keeps count n = all_alike (IsInOrder count) n nothing_outgoing (nothing_in_order count)
 
 pub ordering_keeps : (count n : ℕ) (x : Accepted) (os : List Outgoing) → x.order.number ≡ count + 1
     → is_full_at (slice_get os n) ≡ false → AreInOrder count os → AreInOrder (count + 1) (change n (outgoing_with x) os)

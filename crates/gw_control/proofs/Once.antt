@@ -257,7 +257,7 @@ none_held n (suc count) = omega (arith, none_held n count)
 
 pub outcomes_once : (setup : Setup) (n : ℕ) (moves : List Move) → outcomes_told setup n moves (no_controls setup) ≤ 1
 outcomes_once setup n moves =
-    omega (arith, told_within setup n moves (no_controls setup) (none_sound setup), within (nat_lt 0 n))
+    omega (arith, told_within setup n moves (no_controls setup) (none_sound setup 0), within (nat_lt 0 n))
   where
     within : (b : Bool) → cond b 1 (held n (replicate (length setup.outstations) nothing_outgoing)) ≤ 1
     within true = omega arith

@@ -10,7 +10,7 @@ use Rattle.gw_control.specs.declared.selection.Selection.{Selection}
 use Rattle.gw_control.specs.Intents.{control_for}
 use Rattle.gw_control.specs.Selections.{is_select, selection_by, unselected_by}
 use Rattle.gw_control.specs.Orders.{nothing_outgoing, outgoing_after_end, outgoing_after_ended, outgoing_after_lost, outgoing_after_taking, outgoing_with}
-use Rattle.gw_control.specs.Controls.{Controls, accepted_by, act_accepted, controls_after_at, controls_ordering, controls_selecting, controls_unselecting, is_deactivation, is_selectable, no_controls, standing_at}
+use Rattle.gw_control.specs.Controls.{Controls, accepted_by, act_accepted, controls_after_at, controls_ordering, controls_selecting, controls_unselecting, is_deactivation, is_selectable, no_controls_after, standing_at}
 use Rattle.gw_control.specs.Moves.{Move, Comes, Takes, Ends, Loses, Leaves, after_move, IsSoundControls}
 use Rattle.gw_control.proofs.Keeps.{accepted, end_keeps, ended_keeps, lost_keeps, nothing_keeps, ordering_keeps, taking_keeps}
 
@@ -27,12 +27,12 @@ length-alike : {A : Type 0} (n : ℕ) (x : A) → length (replicate n x) ≡ n
 length-alike zero x = refl
 length-alike (suc n) x = ap suc (length-alike n x)
 
-pub none_sound : (setup : Setup) → IsSoundControls setup (no_controls setup)
-none_sound setup = record {
+pub none_sound : (setup : Setup) (n : ℕ) → IsSoundControls setup (no_controls_after n setup)
+none_sound setup n = record {
   sessions = refl;
   selections = length-alike (length setup.controls) None;
   outgoing = length-alike (length setup.outstations) nothing_outgoing;
-  orders = nothing_keeps (length setup.outstations);
+  orders = nothing_keeps n (length setup.outstations);
 }
 
 unselecting_sound : (setup : Setup) (a : AskedCommand) (position : ℕ) (v : Controls) → IsSoundControls setup v

@@ -17,7 +17,7 @@ use Rattle.gw_control.specs.declared.accepted.UnderWay.{UnderWay}
 use Rattle.gw_control.specs.Intents.{act_of, control_for}
 use Rattle.gw_control.specs.Selections.{is_select}
 use Rattle.gw_control.specs.Orders.{Outgoing, is_named, is_of_others, nothing_outgoing, outcome_by, outcome_of, outgoing_after_end, outgoing_after_ended, outgoing_after_lost, outgoing_after_taking, outgoing_with}
-use Rattle.gw_control.specs.Controls.{Controls, Refusal, accepted_by, act_accepted, act_unless, controls_after_at, controls_ordering, controls_selecting, controls_unselecting, is_deactivation, is_selectable, no_controls, outcome_ended_at, outcome_lost_at, refusals_of_execute, standing_at}
+use Rattle.gw_control.specs.Controls.{Controls, Refusal, accepted_by, act_accepted, act_unless, controls_after_at, controls_ordering, controls_selecting, controls_unselecting, is_deactivation, is_selectable, no_controls_after, outcome_ended_at, outcome_lost_at, refusals_of_execute, standing_at}
 use Rattle.gw_control.specs.Moves.{Move, Comes, Takes, Ends, Loses, Leaves, after_move, is_operating, HasWholeCommands, IsWholeMove, IsWholeOrder, IsWholeOutgoing, IsWholeUnderWay}
 use Rattle.gw_control.proofs.Places.{all_alike, all_changed, all_mapped}
 
@@ -67,8 +67,8 @@ left client ws (Some u) k = record { waiting = some_whole (is_of_others client) 
 
 -- ---- all of them
 
-pub none_whole : (setup : Setup) → HasWholeCommands (no_controls setup)
-none_whole setup = all_alike IsWholeOutgoing (length setup.outstations) nothing_outgoing
+pub none_whole : (setup : Setup) (n : ℕ) → HasWholeCommands (no_controls_after n setup)
+none_whole setup n = all_alike IsWholeOutgoing (length setup.outstations) nothing_outgoing
     (record { waiting = tt; under_way = tt })
 
 -- what is accepted has a type that operates controls

@@ -36,14 +36,18 @@ pub record Controls : Type 0 where
 abbrev pub clients : ℕ
 clients = 8
 
--- no selection, no order
-abbrev pub no_controls : Setup → Controls
-no_controls setup = record {
+-- no selection, and no order that waits, after so many orders
+abbrev pub no_controls_after : ℕ → Setup → Controls
+no_controls_after ordered setup = record {
   sessions = replicate clients None;
   selections = replicate (length setup.controls) None;
   outgoing = replicate (length setup.outstations) nothing_outgoing;
-  ordered = 0;
+  ordered = ordered;
 }
+
+-- no selection, no order
+abbrev pub no_controls : Setup → Controls
+no_controls setup = no_controls_after 0 setup
 
 -- the selection of a control that stands at a moment
 abbrev pub standing_at : Setup → ℕ → ℕ → Controls → Option Selection

@@ -22,6 +22,7 @@ ghost use Rattle.gw_control.specs.Controls.{
   is_order,
   is_selectable,
   no_controls,
+  no_controls_after,
   order_at,
   outcome_ended_at,
   outcome_lost_at,
@@ -81,13 +82,20 @@ impl Controls {
     pub fn new(alloc: Global, settings: &Settings) -> Result<Controls, Memory>
         ensures { IfOk result (λ controls. controls ≡ no_controls settings.now) }
     {
+        Controls::after(alloc, settings, 0)
+    }
+
+    /// No selection, and no order that waits, after so many orders.
+    pub fn after(alloc: Global, settings: &Settings, ordered: u64) -> Result<Controls, Memory>
+        ensures { IfOk result (λ controls. controls ≡ no_controls_after ordered settings.now) }
+    {
         let selections = no_selections(alloc, settings.controls().len())?;
         let outgoing = nothing_outgoing(alloc, settings.outstations().len())?;
         Ok(Controls {
             sessions: [None; CLIENTS],
             selections,
             outgoing,
-            ordered: 0,
+            ordered,
         })
     }
 

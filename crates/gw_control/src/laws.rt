@@ -7,7 +7,7 @@ ghost use Rattle.gw_map.specs.Settings.{Setup};
 ghost use Rattle.gw_control.specs.declared.asked.AskedCommand.{AskedCommand};
 ghost use Rattle.gw_control.specs.declared.selection.Selection.{Selection};
 ghost use Rattle.gw_control.specs.Orders.{places};
-ghost use Rattle.gw_control.specs.Controls.{act_accepted, answer_of, controls_after_command, controls_after_end, controls_after_ended, controls_after_lost, controls_after_taking, is_order, no_controls, outcome_ended_at, outcome_lost_at, standing_at, Controls, IsAccepted};
+ghost use Rattle.gw_control.specs.Controls.{act_accepted, answer_of, controls_after_command, controls_after_end, controls_after_ended, controls_after_lost, controls_after_taking, is_order, no_controls, no_controls_after, outcome_ended_at, outcome_lost_at, standing_at, Controls, IsAccepted};
 ghost use Rattle.gw_control.specs.Held.{controls_after_losses, orders_of, outcomes_to};
 ghost use Rattle.gw_control.specs.Moves.{after_move, one_if, outcomes_told, HasWholeCommands, IsSoundControls, IsWholeMove, IsWholeOrder, Move, Spares};
 
@@ -33,7 +33,7 @@ pub fn outcomes_come_once()
 
 /// There is always a place for each client, control and outstation, and the orders stay in order.
 pub fn controls_stay_sound()
-    ensures first { (setup : Setup) → IsSoundControls setup (no_controls setup) }
+    ensures first { (setup : Setup) (n : ℕ) → IsSoundControls setup (no_controls_after n setup) }
     ensures kept { (setup : Setup) (move : Move) (v : Controls)
         → IsSoundControls setup v → IsSoundControls setup (after_move setup move v) }
 {}
@@ -41,7 +41,7 @@ pub fn controls_stay_sound()
 /// The commands of orders, and so of outcomes, have the bits of their places, where all that came had, and types that
 /// operate controls.
 pub fn commands_stay_whole()
-    ensures first { (setup : Setup) → HasWholeCommands (no_controls setup) }
+    ensures first { (setup : Setup) (n : ℕ) → HasWholeCommands (no_controls_after n setup) }
     ensures kept { (setup : Setup) (move : Move) (v : Controls)
         → IsWholeMove move → HasWholeCommands v → HasWholeCommands (after_move setup move v) }
     ensures ended { (outstation : ℕ) (ended : Ended) (v : Controls)
@@ -54,7 +54,7 @@ pub fn commands_stay_whole()
 
 /// What is accepted holds its places until its outcome, or until its session ends.
 pub fn places_are_held()
-    ensures first { (setup : Setup) (c : ℕ) → orders_of c (no_controls setup) ≡ 0 }
+    ensures first { (setup : Setup) (n c : ℕ) → orders_of c (no_controls_after n setup) ≡ 0 }
     // One more where a command of the client is an order.
     ensures command { (setup : Setup) (c : ℕ) (a : AskedCommand) (v : Controls)
         → orders_of c (controls_after_command setup a v)

@@ -29,8 +29,13 @@ use Rattle.gw_steps.specs.Controls.{controls_after_taken, is_control_up, order_d
 use Rattle.gw_steps.specs.Sound.{IsSoundState}
 use Rattle.gw_hub.specs.declared.orders.Sender.{Sender}
 use Rattle.gw_hub.specs.Queries.{is_due}
-use Rattle.gw_steps.specs.State.{Hub, State, Counts}
+use Rattle.gw_hub.specs.declared.tally.Counts.{Counts}
+use Rattle.gw_steps.specs.State.{Hub, State, Counts as Tally}
 use Rattle.gw_steps.specs.Steps.{Allowed, can_rise, raised, latest, parts_after_fragment}
+
+-- the counts that a hub begins with, but for its orders
+abbrev pub tally_of : Counts → Tally
+tally_of counts = record { steps = counts.steps; news = counts.news; sessions = counts.sessions }
 
 -- outside of a session no news wait, and none were dropped
 pub record KeepsToSession (k : Client) : Type 0 where
@@ -52,7 +57,7 @@ abbrev pub Answers : Hub → Step → Result Reply StepFault → Hub → Type 0
 Answers old step reply new = Allowed old.setup old.state step reply new.state
 
 -- a step with so many news and sessions that begin
-abbrev pub step_with : ℕ → ℕ → Counts
+abbrev pub step_with : ℕ → ℕ → Tally
 step_with news sessions = record { steps = 1; news = news; sessions = sessions }
 
 -- the news that a report is after a picture: none or one; and those that reports taken in turn are

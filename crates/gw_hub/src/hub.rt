@@ -6,7 +6,7 @@ ghost use Rattle.gw_map.specs.Settings.{HasSingleAddresses};
 ghost use Rattle.gw_station.specs.Client.{limits_of};
 ghost use Rattle.gw_steps.specs.declared.step.Step.TheVariants as steps;
 ghost use Rattle.gw_steps.specs.declared.step.StepFault.TheVariants.{Spent};
-ghost use Rattle.gw_steps.specs.State.{at_first};
+ghost use Rattle.gw_steps.specs.State.{at_first, first_after};
 ghost use Rattle.gw_model.specs.Places.{change};
 ghost use Rattle.gw_steps.specs.Controls.{order_due};
 ghost use Rattle.gw_steps.specs.Steps.{can_order, can_rise, client_up, command_of, is_beginning, is_ordering, latest, one_if, order_ended, reply_of_event, Allowed};
@@ -20,12 +20,12 @@ ghost use Rattle.gw_orders.specs.ToldOnce.{TellsOnce};
 ghost use Rattle.gw_orders.specs.Outcomes.{TellsDue};
 ghost use Rattle.gw_orders.specs.Commands.{AnswersCommands};
 ghost use Rattle.gw_orders.specs.Requests.{Requests};
-ghost use Rattle.gw_hub.specs.Hub.{can_count, can_take, controls_polled, state_counting, state_with_response, step_with, Answers, IsCounted};
+ghost use Rattle.gw_hub.specs.Hub.{can_count, can_take, controls_polled, state_counting, state_with_response, step_with, tally_of, Answers, IsCounted};
 
 use crate::common::Common;
-use crate::counts::Counts;
 use crate::news::{lose_rows, take_reports};
 use crate::orders::{Sender, end_order, lose_orders, pass_time, settle};
+use crate::tally::{Counts, Tally};
 use dnp_app::Response;
 use dnp_master::Verdict;
 use gw_control::Controls;
@@ -58,7 +58,7 @@ pub struct Hub {
     sessions: [u64; CLIENTS as usize],
     /// The clients' selections of controls, and their orders.
     controls: Controls,
-    counts: Counts,
+    counts: Tally,
     /// The largest moment of a step that was made.
     moment: u64,
 }
@@ -84,16 +84,38 @@ impl Hub {
         ensures settings { HasSingleAddresses settings.rows settings.controls × IsStation settings.station }
         ensures indices { AllByRecursion HasShortIndex settings.controls }
     {
+        let none = Counts {
+            news: 0,
+            sessions: 0,
+            orders: 0,
+            steps: 0,
+        };
+        Hub::with_counts(alloc, settings, none)
+    }
+
+    /// The same, where these counts stand already: so it can be tried what comes where one of them can't rise.
+    pub fn with_counts(alloc: Global, settings: Settings, counts: Counts) -> Result<Hub, Memory>
+        ensures setup { IfOk result (λ hub. hub.setup ≡ settings) }
+        ensures state { IfOk result (λ hub. hub.state ≡ first_after settings (tally_of counts) counts.orders) }
+        ensures settings { HasSingleAddresses settings.rows settings.controls × IsStation settings.station }
+        ensures indices { AllByRecursion HasShortIndex settings.controls }
+    {
         // The contracts of `rows` and `station` tell what all settings keep.
         let _rows = settings.rows();
         attest_indices(settings.controls());
         let station = settings.station();
         let outstations = Outstations::new(alloc, settings.outstations())?;
         let picture = Picture::new(alloc, &settings)?;
-        let clients = Clients::new(alloc, CLIENTS, &limits_of(station), station.queue)?;
-        let controls = Controls::new(alloc, &settings)?;
+        let clients = Clients::new(
+            alloc,
+            CLIENTS,
+            &limits_of(station),
+            station.queue,
+            counts.news,
+        )?;
+        let controls = Controls::after(alloc, &settings, counts.orders)?;
         let common = Common::new(alloc, settings)?;
-        let counts = Counts::new();
+        let counts = Tally::new(&counts);
         Ok(Hub {
             alloc,
             settings: common,

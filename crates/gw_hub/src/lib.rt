@@ -4,11 +4,11 @@
 #![tactic(auto)]
 
 mod common;
-mod counts;
 mod hub;
 pub mod laws;
 mod news;
 mod orders;
+mod tally;
 
 pub use dnp_master::{Ignored, Verdict};
 pub use gw_control::{Accepted, Outgoing};
@@ -16,3 +16,4 @@ pub use gw_station::Why;
 pub use gw_steps::{Reply, Step, StepFault};
 pub use hub::Hub;
 pub use iec_apci::{Apdu, ApduBuf, Signal};
+pub use tally::Counts;

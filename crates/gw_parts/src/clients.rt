@@ -46,14 +46,21 @@ impl Model for Clients {
 }
 
 impl Clients {
-    /// So many clients, all down, with the parameters of their connections; `queue` news may wait for each.
-    pub fn new(alloc: Global, count: u8, limits: &Limits, queue: u32) -> Result<Clients, Memory>
+    /// So many clients, all down, with the parameters of their connections; `queue` news may wait for each. There were
+    /// so many news already.
+    pub fn new(
+        alloc: Global,
+        count: u8,
+        limits: &Limits,
+        queue: u32,
+        news: u64,
+    ) -> Result<Clients, Memory>
         requires { (count ≤ 8) × (limits.now.k < 32768) }
         ensures clients { IfOk result (λ clients.
             clients.each ≡ replicate count (client_down limits.now queue)) }
-        ensures news { IfOk result (λ clients. clients.news ≡ 0) }
+        ensures news { IfOk result (λ clients. clients.news ≡ news) }
     {
-        let news = NewsRing::new(alloc, queue)?;
+        let news = NewsRing::new(alloc, queue, news)?;
         let mut stations = Vec::with_capacity(alloc, usize::from(count))?;
         for _ in 0..count {
             stations.push(Station::new(alloc, limits)?)?;

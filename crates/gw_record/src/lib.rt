@@ -9,7 +9,7 @@ mod tape;
 
 pub use entry::Entry;
 pub use gw_hub::{
-    Accepted, Apdu, ApduBuf, Hub, Outgoing, Reply, Step, StepFault, Verdict, Why,
+    Accepted, Apdu, ApduBuf, Counts, Hub, Outgoing, Reply, Step, StepFault, Verdict, Why,
 };
 pub use kept::{Kept, KeptStep};
 pub use recorder::{Dump, NoRoom, Recorder};

@@ -21,7 +21,7 @@ pub use batch::{Batch, LONGEST_APDU};
 pub use close::{CloseFault, Closed};
 pub use figures::Figures;
 pub use gw_bell::Bell;
-pub use gw_record::{Apdu, ApduBuf, Entry, Hub, Kept, KeptStep, Recorder, Reply, Step, StepFault, Verdict, Why};
+pub use gw_record::{Apdu, ApduBuf, Counts, Entry, Hub, Kept, KeptStep, Recorder, Reply, Step, StepFault, Verdict, Why};
 pub use locked::Core;
 pub use orders::Orders;
 pub use pass::Pass;

@@ -22,9 +22,13 @@ pub record Ring : Type 0 where
   -- how many there were: the number of the next
   pub next : ℕ
 
+-- none are kept, after so many
+abbrev pub empty_ring_after : ℕ → ℕ → Ring
+empty_ring_after next limit = record { items = []; limit = limit; next = next }
+
 -- there were none yet
 abbrev pub empty_ring : ℕ → Ring
-empty_ring limit = record { items = []; limit = limit; next = 0 }
+empty_ring limit = empty_ring_after 0 limit
 
 abbrev pub ring_with : Observation → Ring → Ring
 ring_with x r = record r { items = keep_last r.limit (r.items ++ x ∷ []); next = r.next + 1 }

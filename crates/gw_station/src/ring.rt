@@ -1,7 +1,7 @@
 //! The last news, kept once for all clients.
 ghost use Rattle.std.specs.Prelude.{◌≡◌, ◌+◌, ◌-◌, ◌<◌, ◌≤◌, ◌^◌, [], ◌++◌, length, slice_get, IfOk};
 ghost use Rattle.circular_buffer.specs.Buffer.{buffer};
-ghost use Rattle.gw_station.specs.Ring.{empty_ring, news_from, oldest, ring_with};
+ghost use Rattle.gw_station.specs.Ring.{empty_ring_after, news_from, oldest, ring_with};
 
 use circular_buffer::HeapCircularBuffer;
 use gw_model::{Memory, Observation};
@@ -29,12 +29,12 @@ impl Model for NewsRing {
 }
 
 impl NewsRing {
-    /// A ring without news, which keeps so many.
-    pub fn new(alloc: Global, limit: u32) -> Result<NewsRing, Memory>
-        ensures { IfOk result (λ ring. ring ≡ empty_ring limit) }
+    /// A ring without news, which keeps so many, after so many that it didn't keep.
+    pub fn new(alloc: Global, limit: u32, next: u64) -> Result<NewsRing, Memory>
+        ensures { IfOk result (λ ring. ring ≡ empty_ring_after next limit) }
     {
         let news = HeapCircularBuffer::with_capacity(alloc, limit as usize)?;
-        Ok(NewsRing { news, next: 0 })
+        Ok(NewsRing { news, next })
     }
 
     /// An equal value.

@@ -5,7 +5,7 @@ use Rattle.std.specs.List.{AllByRecursion}
 use Rattle.std.proofs.lemmas.List.{length-map, length-take, take_more, take_all}
 use Rattle.gw_entries.specs.Setup.{StationSetup}
 use Rattle.gw_map.specs.Settings.{Setup}
-use Rattle.gw_control.specs.Controls.{Controls, no_controls}
+use Rattle.gw_control.specs.Controls.{Controls, no_controls_after}
 use Rattle.gw_control.specs.Held.{orders_of}
 use Rattle.gw_control.proofs.Held.{none_held}
 use Rattle.gw_control.proofs.Sounds.{none_sound}
@@ -17,7 +17,7 @@ use Rattle.gw_station.specs.Sound.{IsSoundClient}
 use Rattle.gw_steps.specs.declared.step.Step.{Step}
 use Rattle.gw_steps.specs.declared.step.Reply.{Reply}
 use Rattle.gw_steps.specs.declared.step.StepFault.{StepFault}
-use Rattle.gw_steps.specs.State.{State, at_first, client_limit}
+use Rattle.gw_steps.specs.State.{Counts, State, at_first, client_limit, first_after}
 use Rattle.gw_steps.specs.Steps.{Allowed}
 use Rattle.gw_steps.specs.Runs.{Entry, history, state_after, IsRun, AtEach}
 use Rattle.gw_steps.specs.Sound.{IsSoundState, LeavesSound}
@@ -33,10 +33,10 @@ pub record Ran (setup : Setup) (past : List Entry) (s : State) : Type 0 where
 
 -- ---- at first
 
-all_down : (station : StationSetup) (n : ℕ)
-    → AllByRecursion (IsSoundClient station 0 0) (replicate n (client_down (limits_of station) station.queue))
-all_down station zero = tt
-all_down station (suc n) = (
+all_down : (station : StationSetup) (steps news n : ℕ)
+    → AllByRecursion (IsSoundClient station steps news) (replicate n (client_down (limits_of station) station.queue))
+all_down station steps news zero = tt
+all_down station steps news (suc n) = (
   record {
     window = record { limits = refl; waiting = omega arith; received = omega arith; sent = omega arith };
     confirmations = omega arith;
@@ -49,7 +49,7 @@ all_down station (suc n) = (
     dropped = omega arith;
     rest = tt;
   },
-  all_down station n,
+  all_down station steps news n,
 )
 
 -- no order holds a place
@@ -67,22 +67,22 @@ if_some : {A : Type 0} (P Q : A → Type 0) (x : Option A) → ((y : A) → P y 
 if_some P Q None step all = tt
 if_some P Q (Some y) step all = step y all
 
-pub sound_first : (setup : Setup) → IsSoundState setup (at_first setup)
-sound_first setup = record {
+pub sound_after : (setup : Setup) (counts : Counts) (orders : ℕ) → IsSoundState setup (first_after setup counts orders)
+sound_after setup counts orders = record {
   picture = opening_shown setup.rows _ refl;
   rows = opening_rows setup.rows;
   masters = length-map setup.outstations _;
-  clients = all_down setup.station client_limit;
-  controls = none_sound setup;
-  commands = none_whole setup;
-  held = λ c. if_some (λ (k : Client). k.held ≡ 0) (λ (k : Client). k.held ≡ 2 * orders_of c (no_controls setup))
+  clients = all_down setup.station counts.steps counts.news client_limit;
+  controls = none_sound setup orders;
+  commands = none_whole setup orders;
+  held = λ c. if_some (λ (k : Client). k.held ≡ 0) (λ (k : Client). k.held ≡ 2 * orders_of c (no_controls_after orders setup))
       (slice_get (at_first setup).clients c)
-      (λ k none. none_held_by setup c (no_controls setup) k.held (none_held setup c) none)
+      (λ k none. none_held_by setup c (no_controls_after orders setup) k.held (none_held setup orders c) none)
       (down_held (client_down (limits_of setup.station) setup.station.queue) client_limit c refl);
 }
 
 pub ran_first : (setup : Setup) → Ran setup [] (at_first setup)
-ran_first setup = record { run = tt; state = refl; sound = sound_first setup }
+ran_first setup = record { run = tt; state = refl; sound = sound_after setup (at_first setup).counts 0 }
 
 -- ---- one step more
 

@@ -4,7 +4,7 @@ use Rattle.gw_model.specs.declared.observation.Observation.{Observation}
 use Rattle.gw_map.specs.Settings.{Setup}
 use Rattle.gw_picture.specs.Opening.{opening}
 use Rattle.dnp_master.specs.Master.{Master, master_down}
-use Rattle.gw_control.specs.Controls.{Controls, no_controls}
+use Rattle.gw_control.specs.Controls.{Controls, no_controls, no_controls_after}
 use Rattle.gw_station.specs.Client.{Client, client_down, limits_of}
 
 -- what is counted in 64 bits: the steps without a fault, the news, and the sessions of all clients
@@ -50,3 +50,8 @@ at_first setup = record {
   counts = record { steps = 0; news = 0; sessions = 0 };
   moment = 0;
 }
+
+-- the same, where these counts stand already, and so many orders were accepted
+abbrev pub first_after : Setup → Counts → ℕ → State
+first_after setup counts orders =
+    record (at_first setup) { controls = no_controls_after orders setup; counts = counts }

@@ -22,6 +22,8 @@ mod putting;
 #[cfg(test)]
 mod reading_ends;
 #[cfg(test)]
+mod spent;
+#[cfg(test)]
 mod telling;
 #[cfg(test)]
 mod workers;

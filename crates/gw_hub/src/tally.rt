@@ -1,19 +1,32 @@
 //! What is counted in 64 bits.
 ghost use Rattle.std.specs.Prelude.{◌≡◌, IsTrue};
 ghost use Rattle.gw_steps.specs.Steps.{can_rise, raised};
-ghost use Rattle.gw_hub.specs.Hub.{step_with};
+ghost use Rattle.gw_hub.specs.Hub.{step_with, tally_of};
 
 use std::marker::Model;
 
+/// Counts that a hub begins with.
+#[derive(Clone, Copy, Debug, PartialEq, Eq)]
+pub struct Counts {
+    /// The news that there were.
+    pub news: u64,
+    /// The sessions of all clients.
+    pub sessions: u64,
+    /// The orders, which are executes of commands that were accepted.
+    pub orders: u64,
+    /// The steps that were made without a fault.
+    pub steps: u64,
+}
+
 /// The steps that were made without a fault, the news, and the sessions of all clients.
 #[derive(Debug, Drop)]
-pub struct Counts {
+pub struct Tally {
     steps: u64,
     news: u64,
     sessions: u64,
 }
 
-impl Model for Counts {
+impl Model for Tally {
     ghost use Rattle.gw_steps.specs.State.{Counts as Seen};
 
     ghost Value = { Seen };
@@ -21,23 +34,23 @@ impl Model for Counts {
     ghost view = { λ c. record { steps = c.steps; news = c.news; sessions = c.sessions } };
 }
 
-impl Counts {
-    /// Nothing is counted yet.
-    pub fn new() -> Counts
-        ensures { result ≡ record { steps = 0; news = 0; sessions = 0 } }
+impl Tally {
+    /// So much is counted already.
+    pub fn new(counts: &Counts) -> Tally
+        ensures { result ≡ tally_of counts.now }
     {
-        Counts {
-            steps: 0,
-            news: 0,
-            sessions: 0,
+        Tally {
+            steps: counts.steps,
+            news: counts.news,
+            sessions: counts.sessions,
         }
     }
 
-    /// Equal counts.
-    pub fn copy(&self) -> Counts
+    /// An equal tally.
+    pub fn copy(&self) -> Tally
         ensures { result ≡ self.now }
     {
-        Counts {
+        Tally {
             steps: self.steps,
             news: self.news,
             sessions: self.sessions,
