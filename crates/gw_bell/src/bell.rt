@@ -31,6 +31,13 @@ impl Bell {
         self.rings.notify_all();
     }
 
+    /// Waits until it was rung more often than this, or for so long.
+    pub fn wait_for(&self, rt: &impl Wait, rung: u64, time: Duration) {
+        if self.rung() == rung {
+            self.rings.sleep(rt, rung, time);
+        }
+    }
+
     /// Waits until it was rung more often than this.
     pub fn wait(&self, rt: &impl Wait, rung: u64) {
         for _ in rt.forever() {

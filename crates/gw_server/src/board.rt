@@ -40,7 +40,7 @@ impl ClientCard {
 
     /// The client asks for data transfer: it keeps its place from now on.
     pub fn keeps_place<R: Wait>(&self, rt: &R) {
-        self.hold.lock(rt).transfers(true);
+        self.hold.lock(rt).start();
     }
 
     /// Whether the client was made to leave.
@@ -76,9 +76,20 @@ impl ClientCard {
         Some((address, count))
     }
 
-    /// The client has started or stopped data transfer; where it connects from, if it hadn't before.
-    pub fn transfers<R: Wait>(&self, rt: &R, starts: bool) -> Option<SocketAddr> {
-        self.hold.lock(rt).transfers(starts);
+    /// The client has started data transfer; where it connects from, if it hadn't before.
+    pub fn starts<R: Wait>(&self, rt: &R) -> Option<SocketAddr> {
+        self.hold.lock(rt).start();
+        self.transfers(rt, true)
+    }
+
+    /// The client has stopped data transfer at a moment; where it connects from, if it hadn't before.
+    pub fn stops<R: Wait>(&self, rt: &R, moment: u64) -> Option<SocketAddr> {
+        self.hold.lock(rt).stop(moment);
+        self.transfers(rt, false)
+    }
+
+    /// The client transfers data from now on, or doesn't any more; where it connects from, if that is new.
+    fn transfers<R: Wait>(&self, rt: &R, starts: bool) -> Option<SocketAddr> {
         let mut figures = self.figures.lock(rt);
         if figures.started == starts {
             return None;
@@ -137,7 +148,7 @@ impl Board {
         }
     }
 
-    /// Of the clients from an address that don't transfer data though they connected a second before a moment or
+    /// Of the clients from an address that don't transfer data, and connected or stopped it a second before a moment or
     /// earlier, but for the newcomer, the one that connected first is made to leave its place.
     pub fn make_room<R: Wait>(&self, rt: &R, address: IpAddr, newcomer: u8, moment: u64) {
         let mut oldest: Option<(u64, &ClientCard)> = None;

@@ -44,6 +44,8 @@ pub struct Link<'a, 'b> {
     pub own: u16,
     /// The link address of the outstation.
     pub peer: u16,
+    /// How long its reader waits for clients at most, in milliseconds.
+    pub patience_ms: u64,
     pub socket: OutstationSocket<'b>,
     pub line: &'a Line<OutstationSocket<'b>>,
 }
@@ -126,6 +128,7 @@ fn read<L: Ledger, R: Wait, C: Clock, G: Gate>(
                 link.line,
                 desk.clock,
                 gate,
+                link.patience_ms,
             )
         }
     };

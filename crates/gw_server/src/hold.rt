@@ -3,7 +3,7 @@
 use crate::sockets::shut;
 use std::net::{IpAddr, SocketAddr, TcpStream};
 
-/// The milliseconds in which a client that has connected may still be about to start data transfer.
+/// The milliseconds in which a client that has connected, or has stopped data transfer, may be about to start it.
 const GRACE_MS: u64 = 1000;
 
 /// How a client holds its place.
@@ -13,7 +13,7 @@ pub struct Hold {
     address: Option<SocketAddr>,
     /// How many clients had connected before.
     order: u64,
-    /// The moment at which it connected.
+    /// The moment at which it connected, or last stopped data transfer.
     since: u64,
     /// A second handle of its connection.
     stream: Option<TcpStream>,
@@ -48,13 +48,21 @@ impl Hold {
         }
     }
 
-    /// The client asks for data transfer, or has stopped it.
-    pub fn transfers(&mut self, starts: bool) {
-        self.has_started = starts;
+    /// The client asks for data transfer.
+    pub fn start(&mut self) {
+        self.has_started = true;
     }
 
-    /// How many had connected before a client from this address that doesn't transfer data, and connected a second
-    /// before this moment or earlier.
+    /// The client has stopped data transfer at a moment, if it had asked for it.
+    pub fn stop(&mut self, moment: u64) {
+        if self.has_started {
+            self.has_started = false;
+            self.since = moment;
+        }
+    }
+
+    /// How many had connected before a client from this address that doesn't transfer data, and connected or stopped a
+    /// second before this moment or earlier.
     pub fn idle_since(&self, address: IpAddr, moment: u64) -> Option<u64> {
         if self.is_from(address) && !self.has_started && self.is_old(moment) {
             Some(self.order)
@@ -63,7 +71,7 @@ impl Hold {
         }
     }
 
-    /// Whether the client connected a second before this moment, or earlier.
+    /// Whether the client connected a second before this moment or earlier, and hasn't stopped data transfer since then.
     fn is_old(&self, moment: u64) -> bool {
         moment.saturating_sub(self.since) >= GRACE_MS
     }

@@ -143,6 +143,7 @@ fn serve_stream<L: Ledger + Send + Sync, R: Host, C: Clock + Sync, G: Gate + Syn
         outstation,
         own: plan.own,
         peer: plan.peer,
+        patience_ms: plan.patience_ms(),
         socket,
         line: &line,
     };

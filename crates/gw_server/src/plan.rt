@@ -9,6 +9,9 @@ use std::time::Duration;
 /// The milliseconds that connecting may take at most.
 const LONGEST_CONNECTING_MS: u64 = 5000;
 
+/// The milliseconds that an outstation is held back at most behind a fragment.
+const LONGEST_PATIENCE_MS: u64 = 250;
+
 /// The way to an outstation.
 #[derive(Drop)]
 pub struct Plan {
@@ -29,6 +32,15 @@ impl Plan {
     pub fn connecting(&self) -> Duration {
         self.response
             .min(Duration::from_millis(LONGEST_CONNECTING_MS))
+    }
+
+    /// How long its reader waits at most for clients that don't keep up, in milliseconds: so short that an answer which
+    /// waits meanwhile still comes in time.
+    pub fn patience_ms(&self) -> u64 {
+        let quarter = self.response / 4;
+        u64::try_from(quarter.as_millis())
+            .unwrap_or(LONGEST_PATIENCE_MS)
+            .min(LONGEST_PATIENCE_MS)
     }
 
     /// Why a connection ended: where a wait took too long, how long it was.

@@ -79,12 +79,12 @@ impl<'a, R: Wait, C: Clock> Desk<'a, R, C> {
         };
         match signal {
             Signal::StartAct => {
-                if let Some(address) = card.transfers(self.rt, true) {
+                if let Some(address) = card.starts(self.rt) {
                     self.tell(JournalEvent::TransferStarted { client, address });
                 }
             }
             Signal::StopAct => {
-                if let Some(address) = card.transfers(self.rt, false) {
+                if let Some(address) = card.stops(self.rt, self.clock.moment()) {
                     self.tell(JournalEvent::TransferStopped { client, address });
                 }
             }

@@ -11,6 +11,7 @@ mod fates;
 mod figures;
 mod locked;
 mod orders;
+mod pace;
 mod pass;
 mod pumped;
 mod roused;
@@ -21,9 +22,13 @@ pub use batch::{Batch, LONGEST_APDU};
 pub use close::{CloseFault, Closed};
 pub use figures::Figures;
 pub use gw_bell::Bell;
-pub use gw_record::{Apdu, ApduBuf, Counts, Entry, Hub, Kept, KeptStep, Recorder, Reply, Step, StepFault, Verdict, Why};
+pub use gw_record::{
+    Apdu, ApduBuf, Counts, Entry, Hub, Kept, KeptStep, Recorder, Reply, Step, StepFault, Verdict,
+    Why,
+};
 pub use locked::Core;
 pub use orders::Orders;
+pub use pace::Load;
 pub use pass::Pass;
 pub use pumped::{Pumped, apdu_in};
 pub use settled::{Fate, OrderCounts, Settled};

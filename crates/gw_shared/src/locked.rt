@@ -11,6 +11,7 @@ use crate::batch::{Batch, LONGEST_APDU};
 use crate::dropped::{Dropped, Watch};
 use crate::fates::Fates;
 use crate::figures::Figures;
+use crate::pace::{Load, Pace};
 use crate::pass::Pass;
 use crate::pumped::{Pumped, apdu_in};
 use crate::roused::{Roused, Topic};
@@ -24,7 +25,7 @@ use std::sync::ledger::{Book, Ledger, Share};
 const MOST_PUMPS: u32 = 64;
 
 /// A hub with its recorder, the count of calls, and the book of all passes' counts; what was dropped for clients, which
-/// writers are awake, and what became of orders, which no contract sees.
+/// writers are awake, how clients keep up, and what became of orders, which no contract sees.
 #[derive(Drop)]
 pub struct Core<L: Ledger> {
     hub: Hub,
@@ -33,6 +34,7 @@ pub struct Core<L: Ledger> {
     book: Book<L>,
     dropped: Dropped,
     awake: Awake,
+    pace: Pace,
     fates: Fates,
 }
 
@@ -74,6 +76,7 @@ impl<L: Ledger> Core<L> {
             book,
             dropped: Dropped::new(),
             awake: Awake::nobody(),
+            pace: Pace::new(),
             fates,
         })
     }
@@ -183,6 +186,7 @@ impl<L: Ledger> Core<L> {
         match apdu_in(answer) {
             Some(apdu) => {
                 batch.add(apdu.as_slice());
+                self.pace.note(client, moment);
                 None
             }
             None => Some(Pumped::Ended(answer)),
@@ -229,6 +233,22 @@ impl<L: Ledger> Core<L> {
         self.hub.stands(client)
     }
 
+    /// What a fragment with so many observations brought, which was taken last, where a client that reads doesn't keep
+    /// up with it.
+    pub fn load(&self, size: u64, moment: u64) -> Option<Load> {
+        let load = Load::of(size, &self.hub);
+        if self.is_outrun(load, moment) {
+            Some(load)
+        } else {
+            None
+        }
+    }
+
+    /// Whether a client that reads still doesn't keep up with a fragment.
+    pub fn is_outrun(&self, load: Load, moment: u64) -> bool {
+        self.pace.is_outrun(load, &self.hub, moment)
+    }
+
     /// What is counted.
     pub fn figures(&self) -> Figures {
         Figures::of(self.made, &self.hub, &self.dropped, &self.fates)
@@ -255,6 +275,7 @@ impl<L: Ledger> Core<L> {
             book: _,
             dropped: _,
             awake: _,
+            pace: _,
             fates: _,
         } = self;
         (hub, recorder)

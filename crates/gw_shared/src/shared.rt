@@ -9,6 +9,7 @@ use crate::bells::Bells;
 use crate::figures::Figures;
 use crate::locked::Core;
 use crate::orders::Orders;
+use crate::pace::Load;
 use crate::pass::Pass;
 use crate::pumped::Pumped;
 use crate::roused::Roused;
@@ -140,6 +141,17 @@ impl<L: Ledger> Shared<L> {
     /// Whether a client is up.
     pub fn stands<R: Wait>(&self, rt: &R, client: u8) -> bool {
         self.core.lock(rt).stands(client)
+    }
+
+    /// What a fragment with so many observations brought, which was taken last, where a client that was given something
+    /// within the last second has more than half of its queue waiting, or would have with as much again.
+    pub fn load<R: Wait>(&self, rt: &R, size: u64, moment: u64) -> Option<Load> {
+        self.core.lock(rt).load(size, moment)
+    }
+
+    /// Whether such a client still waits for some of it.
+    pub fn is_outrun<R: Wait>(&self, rt: &R, load: Load, moment: u64) -> bool {
+        self.core.lock(rt).is_outrun(load, moment)
     }
 
     /// What is counted.

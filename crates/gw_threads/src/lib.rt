@@ -27,8 +27,9 @@ pub use client_writing::client_writer;
 pub use ends::{Arrival, Incoming, Outgoing, Unwritten};
 pub use gate::{Gate, OpenGate, Place};
 pub use gw_shared::{
-    Batch, Bell, CloseFault, Closed, Core, Counts, Entry, Fate, Figures, Hub, Kept, KeptStep, OrderCounts, Orders, Pass,
-    Pumped, Recorder, Reply, Shared, Step, StepFault, Verdict, Why, apdu_in,
+    Batch, Bell, CloseFault, Closed, Core, Counts, Entry, Fate, Figures, Hub, Kept, KeptStep,
+    OrderCounts, Orders, Pass, Pumped, Recorder, Reply, Shared, Step, StepFault, Verdict, Why,
+    apdu_in,
 };
 pub use line::Line;
 pub use outstation_reading::outstation_reader;

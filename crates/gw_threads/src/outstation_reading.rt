@@ -12,16 +12,20 @@ use crate::worker_end::WorkerEnd;
 use dnp_app::{AppFault, Response, read_response};
 use dnp_link::{Frame, LinkEvent, LinkFeed};
 use dnp_receive::Receiver;
-use gw_shared::{Pass, Reply, Shared, Step, StepFault, Verdict};
+use gw_shared::{Bell, Pass, Reply, Shared, Step, StepFault, Verdict};
 use std::alloc::Global;
 use std::sync::Wait;
 use std::sync::ledger::Ledger;
+use std::time::Duration;
 
 /// How many octets are read at once.
 const PIECE: usize = 4096;
 
 /// The most octets of a fragment.
 const LONGEST_FRAGMENT: usize = 2048;
+
+/// The milliseconds behind which a reader that waits for clients looks at them again.
+const NAP_MS: u64 = 5;
 
 /// What the reader of an outstation works with.
 #[derive(Drop)]
@@ -34,14 +38,16 @@ struct Reading<'a, 'b, L: Ledger, R: Wait, W: Outgoing, C: Clock, G: Gate> {
     line: &'b Line<W>,
     clock: &'a C,
     gate: &'a G,
+    /// How often it naps at most before it reads on.
+    naps: u64,
     /// The octets of the last fragment, at the front.
     recent: [u8; LONGEST_FRAGMENT],
 }
 
 /// Makes a step of each response that comes from an outstation, and sends what is owed for it: the replies of the
 /// link, and confirmations. It ends where its octets end, reading or writing fails, memory runs out, or the
-/// outstation isn't up any more; that is told to the core. `own` and `peer` are the link addresses of the master and
-/// of the outstation.
+/// outstation isn't up any more; that is told to the core. Where a client that reads doesn't keep up with a fragment, it
+/// waits before it reads on, so that the outstation is held back; but no longer than `patience_ms` milliseconds.
 pub fn outstation_reader<'a, 'b, L: Ledger, R: Wait, I: Incoming, W: Outgoing, C: Clock, G: Gate>(
     alloc: Global,
     rt: &'a R,
@@ -53,6 +59,7 @@ pub fn outstation_reader<'a, 'b, L: Ledger, R: Wait, I: Incoming, W: Outgoing, C
     line: &'b Line<W>,
     clock: &'a C,
     gate: &'a G,
+    patience_ms: u64,
 ) -> (Pass<L>, WorkerEnd)
     ensures own { result.0.actor ≡ pass.actor }
     ensures end { MayEndBetween I.can_fail W.can_fail result.1 }
@@ -66,6 +73,7 @@ pub fn outstation_reader<'a, 'b, L: Ledger, R: Wait, I: Incoming, W: Outgoing, C
         line,
         clock,
         gate,
+        naps: patience_ms / NAP_MS,
         recent: [0; LONGEST_FRAGMENT],
     };
     let mut feed = LinkFeed::new(alloc);
@@ -189,6 +197,7 @@ impl<'a, 'b, L: Ledger, R: Wait, W: Outgoing, C: Clock, G: Gate> Reading<'a, 'b,
     {
         let actor = self.pass.actor();
         let asks = response.control().con;
+        let size = response.reports().len() as u64;
         self.gate.at(actor, Place::Decoded);
         if asks {
             self.line.owe(self.rt);
@@ -201,7 +210,26 @@ impl<'a, 'b, L: Ledger, R: Wait, W: Outgoing, C: Clock, G: Gate> Reading<'a, 'b,
         if asks {
             self.line.settle(self.rt);
         }
+        if end.is_none() && size > 0 {
+            self.wait_for_clients(size);
+        }
         end
+    }
+
+    /// Waits until the clients that read keep up with the last fragment, which told of so many observations.
+    fn wait_for_clients(&self, size: u64) {
+        let Some(load) = self.shared.load(self.rt, size, self.clock.moment()) else {
+            return;
+        };
+        let bell = Bell::new();
+        for _nap in 0..self.naps {
+            bell.wait_for(self.rt, 0, Duration::from_millis(NAP_MS));
+            if self.shared.stopping()
+                || !self.shared.is_outrun(self.rt, load, self.clock.moment())
+            {
+                return;
+            }
+        }
     }
 
     /// Sends the confirmation that a reply of the core owes, if it owes one. How the worker ends, if it does.

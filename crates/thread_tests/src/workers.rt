@@ -221,6 +221,7 @@ fn read_outstation<L: Ledger, R: Host>(
         line_of(scene, outstation),
         &Still,
         scene.gate,
+        0,
     )
 }
 

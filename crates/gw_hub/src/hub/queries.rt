@@ -28,6 +28,13 @@ impl Hub {
         self.clients.queued(client)
     }
 
+    /// How many news may wait for a client.
+    pub fn queue_limit(&self) -> u32
+        ensures { result ≡ self.now.setup.station.queue }
+    {
+        self.settings.get().station().queue
+    }
+
     /// How many news of a client's session were dropped; 0 where it isn't started, or there is no such client.
     pub fn dropped(&self, client: u8) -> u64
         ensures count { result ≡ dropped_at (slice_get self.now.state.clients client) }
