@@ -1,10 +1,10 @@
 """Judges of what the gateway answers: what may come, what has to come, and that nothing comes twice."""
 import re
-from collections import Counter, deque
+from collections import deque
 
-from peers import CONFIRMATION, ELEMENTS, REQUESTED, Difference, confirmation, each_alone, spelled
+from peers import ELEMENTS, REQUESTED, Difference, confirmation, each_alone, spelled
 from random_steps import LARGEST
-from reading import KNOWN, READ, STATION, TOTALS, Answer, answer_to, refusal_of, refusal_of_frame
+from reading import READ, STATION, TOTALS, answer_to, refusal_of, refusal_of_frame
 
 START_ACT, STOP_ACT, TEST_ACT = 0x07, 0x13, 0x43
 CONFIRMS = {START_ACT: 0x0B, STOP_ACT: 0x23, TEST_ACT: 0x83}
@@ -12,6 +12,14 @@ MOST_WAITING, NUMBERS = 32, 32768
 # The types of information without time, for those with it.
 TIMELESS = {30: 1, 31: 3, 33: 7, 35: 11, 37: 15}
 RIGHT_QUALIFIERS = {STATION: 20, TOTALS: 5}
+
+
+class Found(Exception):
+    """Something is wrong; `saved` is what plays it again."""
+
+    def __init__(self, text, saved):
+        super().__init__(text)
+        self.text, self.saved = text, saved
 
 
 def with_cause(asdu, cause, common=None):

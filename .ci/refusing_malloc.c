@@ -1,25 +1,31 @@
 /* To be preloaded by a program: refuses the one allocation whose number, from 1, the variable REFUSED_ALLOCATION has, and
- * tells at the end, on standard error, how many there were. */
+ * tells at the end, on standard error, how many there were. With the variable REFUSED_BEHIND_ACCEPT they are counted from
+ * the first connection on that the program accepts. Threads may allocate at the same time. */
+#include <errno.h>
+#include <stdatomic.h>
 #include <stdio.h>
 #include <stdlib.h>
 #include <sys/syscall.h>
 #include <unistd.h>
 
 extern void *__libc_malloc(size_t);
+extern void *__libc_calloc(size_t, size_t);
 extern void *__libc_realloc(void *, size_t);
 
-static long refused;
-static long count;
+static atomic_long refused;
+static atomic_long count;
+static atomic_bool counts;
 
 __attribute__((constructor)) static void begin(void)
 {
     const char *number = getenv("REFUSED_ALLOCATION");
     refused = number ? atol(number) : 0;
+    counts = getenv("REFUSED_BEHIND_ACCEPT") == NULL;
 }
 
 __attribute__((destructor)) static void end(void)
 {
-    fprintf(stderr, "allocations %ld\n", count);
+    fprintf(stderr, "allocations %ld\n", atomic_load(&count));
 }
 
 /* So ends a program that may have threads; it runs no destructors. */
@@ -30,12 +36,35 @@ void _exit(int status)
     abort();
 }
 
+/* As sys/socket.h has it, which may declare its second parameter as a union. */
+int accept4(int listener, void *address, unsigned int *length, int flags)
+{
+    int connection = (int)syscall(SYS_accept4, listener, address, length, flags);
+    if (connection >= 0)
+        counts = 1;
+    return connection;
+}
+
+/* One more allocation; whether it is refused. */
+static int is_refused(void)
+{
+    if (!counts || atomic_fetch_add(&count, 1) + 1 != refused)
+        return 0;
+    errno = ENOMEM;
+    return 1;
+}
+
 void *malloc(size_t size)
 {
-    return ++count == refused ? NULL : __libc_malloc(size);
+    return is_refused() ? NULL : __libc_malloc(size);
+}
+
+void *calloc(size_t number, size_t size)
+{
+    return is_refused() ? NULL : __libc_calloc(number, size);
 }
 
 void *realloc(void *block, size_t size)
 {
-    return ++count == refused ? NULL : __libc_realloc(block, size);
+    return is_refused() ? NULL : __libc_realloc(block, size);
 }

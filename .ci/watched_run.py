@@ -1,0 +1,264 @@
+"""A `gateway run` with random settings between hostile and honest peers, as `.ci/fuzz` has it: what it tells, what the
+honest peers are served, and the memory, threads and files that it has."""
+import queue
+import random
+import re
+import subprocess
+import threading
+import time
+from collections import Counter, deque
+from pathlib import Path
+
+from cases import resources
+from judging import shown
+from peers import (
+    ACTIVATION, CONFIRMATION, ELEMENTS, NOTE, PATIENCE, TERMINATION, WITNESSED, Centre, Difference, Outstation, Witness,
+    asdu, free_place, general, same_octets, spelled,
+)
+from random_steps import Setup, random_control, random_outstation, random_point, random_points, table
+
+# How many hostile outstations there are at a time.
+OUTSTATIONS = 2
+# How many seconds an answer may take, and within how many an event comes.
+ANSWER_LIMIT, EVENT_LIMIT = 5.0, 2.0
+# The setting `queue`.
+QUEUE = 20_000
+# The honest control centre's control, and the seconds between its commands.
+OPERATED, OPERATE_EVERY = 9002, 0.2
+# Threads and files beside those of its peers.
+THREADS, FILES = 16, 16
+
+
+class Picture:
+    """The last values that the honest control centre was told, and the answers to its commands."""
+
+    def __init__(self):
+        self.values, self.count, self.answers = {}, 0, queue.SimpleQueue()
+
+    def put(self, octets):
+        """It is told an observation, or answered."""
+        if octets[0] == 45:
+            self.answers.put(octets)
+            return
+        if octets[0] not in ELEMENTS:
+            raise Difference(f"the honest control centre is told {spelled(octets)}, which it didn't ask for")
+        address, value = shown(octets)
+        self.values[address] = value
+        self.count += 1
+
+
+class HonestCentre(Centre):
+    """A control centre to which S formats may come at any time."""
+
+    def apdu(self):
+        while (apdu := super().apdu())[2] == 1:
+            number = int.from_bytes(apdu[4:6], "little") // 2
+            if not self.acknowledged <= number <= self.sent:
+                raise Difference(f"N(R) of {spelled(apdu)}: wanted {self.acknowledged} to {self.sent}")
+            self.acknowledged = number
+        return apdu
+
+
+class Operator:
+    """Operates a control of the honest outstation, again and again; each command is confirmed and terminated."""
+
+    def __init__(self, centre, answers):
+        self.centre, self.answers, self.delays, self.fault = centre, answers, [], None
+        self.ending, self.thread = threading.Event(), threading.Thread(target=self.work, daemon=True)
+        self.thread.start()
+
+    def work(self):
+        try:
+            while not self.ending.wait(OPERATE_EVERY):
+                self.operate("01" if len(self.delays) % 2 else "00")
+        except (Difference, OSError) as fault:
+            self.fault = fault
+
+    def operate(self, element):
+        began = time.monotonic()
+        self.centre.ask(asdu(45, ACTIVATION, OPERATED, element))
+        for cause in (CONFIRMATION, TERMINATION):
+            try:
+                got = self.answers.get(timeout=EVENT_LIMIT)
+            except queue.Empty:
+                raise Difference(f"a command isn't answered within {EVENT_LIMIT} s") from None
+            same_octets("the answer to a command", got, asdu(45, cause, OPERATED, element))
+        self.delays.append(time.monotonic() - began)
+
+    def end(self):
+        self.ending.set()
+        self.thread.join(PATIENCE)
+        if self.fault:
+            raise self.fault
+
+
+class Log:
+    """What the gateway tells on standard error: whole lines, and of each order at most one end and one OPERATE."""
+
+    ORDER = re.compile(r"outstation \d+ \S+ order (\d+) (given: .. (..)|done|failed|let go)")
+    ACCEPTED = re.compile(r"client \d \S+ asks: .*: order (\d+)")
+
+    def __init__(self, stream):
+        self.stream, self.fault, self.left_out, self.last = stream, None, False, deque(maxlen=12)
+        self.accepted, self.ended, self.operated, self.connected = set(), Counter(), Counter(), set()
+        self.thread = threading.Thread(target=self.read, daemon=True)
+        self.thread.start()
+
+    def read(self):
+        for line in self.stream:
+            self.take(line)
+
+    def take(self, line):
+        self.last.append(line)
+        match = NOTE.fullmatch(line.removesuffix("\n"))
+        if match and match[3].isprintable():
+            self.note(match[3])
+        else:
+            self.fault = self.fault or f"standard error: {line[:300]!r}"
+
+    def note(self, text):
+        self.left_out |= "left out" in text
+        if match := re.fullmatch(r"outstation (\d+) \S+ connected", text):
+            self.connected.add(int(match[1]))
+        elif match := self.ACCEPTED.fullmatch(text):
+            self.accepted.add(int(match[1]))
+        elif match := self.ORDER.match(text):
+            self.operated[int(match[1])] += match[3] in ("04", "05")
+            self.ended[int(match[1])] += match[3] is None
+
+    def judge(self):
+        self.thread.join(PATIENCE)
+        if self.fault:
+            raise Difference(self.fault)
+        wrong = [it for it in self.ended if self.ended[it] > 1 or self.operated[it] > 1]
+        if not self.left_out:
+            wrong += [it for it in self.accepted | set(self.ended) if self.ended[it] != 1 or it not in self.accepted]
+        if wrong:
+            raise Difference(f"orders {wrong[:5]} have no end or several, or were operated more than once")
+
+
+class House:
+    """A gateway with random settings between an honest and some hostile outstations, and an honest control centre."""
+
+    def __init__(self, program, seed, number, folder):
+        self.program, self.number, self.rng = program, number, random.Random(f"{seed} house {number}")
+        self.outstations = [Outstation(it) for it in range(1 + OUTSTATIONS)]
+        self.listen, self.status = free_place(), free_place()
+        self.port, self.setup = int(self.listen.split(":")[1]), self.random_setup()
+        self.file, self.record = f"{folder}/house.toml", f"{folder}/run" if self.rng.random() < 0.5 else None
+        self.picture, self.most = Picture(), 0
+        self.process = self.log = self.witness = None
+
+    def random_setup(self):
+        """Settings whose first outstation is the honest one, with a point, and a control that nobody else knows of."""
+        rng, k = self.rng, self.rng.choice([8, 12, 100])
+        self.recorder = rng.choice([1, 16, 1024])
+        texts = [table("[station]", common_address=1, k=k, w=rng.randint(1, 8), queue=QUEUE, recorder=self.recorder,
+                       select_ms=rng.choice([30, 10000]), listen=self.listen)]
+        for it in self.outstations:
+            keys = random_outstation(rng, it.address)[0].split("\n", 1)[1] if it.number else "poll_ms = 60000\n"
+            keys = re.sub(r"(?m)^(address|response_ms|poll_ms = 1$).*\n", "", keys)
+            texts.append(table("[[outstation]]", address=it.address, connect=it.place) + keys)
+        free = iter(rng.sample([1, 255, 256, 65536, 16777215, *range(4101, 4161)], 60))
+        points = [(*it, next(free)) for it in random_points(rng, 1 + OUTSTATIONS) if it[0]]
+        shows = ["single", "double", "setpoint"]
+        controls = [(1 + rng.randrange(OUTSTATIONS), it, next(free)) for it in shows for _ in range(2)]
+        texts += [random_point(rng, *it) for it in points] + [random_control(rng, *it) for it in controls]
+        texts.append(table("[[point]]", outstation=0, kind="analog", index=9, address=WITNESSED, show="word"))
+        texts.append(table("[[control]]", outstation=0, show="single", index=3, address=OPERATED))
+        points.append((0, "analog", 9, WITNESSED))
+        return Setup("\n".join(texts), 1, k, 1 + OUTSTATIONS, points, controls, [])
+
+    @property
+    def memory_bound(self):
+        """How many kB the process may have.
+
+        Beside 24 MB for the program and its threads: what waits for clients, in the core and two copies of the
+        recorder's; each step that the recorder keeps, of which the largest has the octets of a fragment; and eight
+        fragments of 16,296 packed inputs that are taken. An observation and a report have up to 96 octets.
+        """
+        queue, steps, taken = 3 * QUEUE * 96, self.recorder * 4096, 8 * 2**14 * 96
+        return (24 * 2**20 + queue + steps + taken) // 1024
+
+    def start(self):
+        """Starts the gateway and the honest peers, and waits until all outstations are connected."""
+        Path(self.file).write_text(self.setup.text)
+        words = [self.program, "run", self.file, "--until-eof", "--status", self.status]
+        words += ["--record", self.record, "--record-size", "500"] if self.record else []
+        pipes = dict.fromkeys(("stdin", "stdout", "stderr"), subprocess.PIPE)
+        self.process = subprocess.Popen(words, text=True, errors="replace", **pipes)
+        self.log = Log(self.process.stderr)
+        link = self.outstations[0].accept()
+        self.within(lambda: len(self.log.connected) > OUTSTATIONS, "all outstations are connected")
+        self.centre = HonestCentre(self.port)
+        self.centre.start()
+        for row in self.rows():
+            self.picture.put(row)
+        self.witness = Witness(link, self.centre, self.picture)
+        self.operator = Operator(self.centre, self.picture.answers)
+        self.others = resources(self.process.pid)[1]
+
+    def within(self, is_so, what):
+        """Waits until something is so."""
+        end = time.monotonic() + ANSWER_LIMIT
+        while not is_so():
+            if time.monotonic() > end:
+                raise Difference(f"wanted within {ANSWER_LIMIT} s: {what}")
+            time.sleep(0.02)
+
+    def rows(self):
+        """What interrogations of the station and of its counters are answered."""
+        for asked in (general, lambda cause: asdu(101, cause, 0, "05")):
+            self.centre.ask(asked(ACTIVATION))
+            while (octets := self.centre.asdu())[0] < 100 or octets[2] != 10:
+                self.centre.acknowledge()
+                if octets[2] in (20, 37):
+                    yield octets
+                elif octets[0] < 100:
+                    self.picture.put(octets)
+            self.centre.acknowledge()
+
+    def look(self):
+        """Judges the process as it is now."""
+        if self.process.poll() is not None:
+            raise Difference(f"the gateway has ended with status {self.process.returncode}")
+        if fault := self.witness.fault or self.operator.fault:
+            raise fault
+        memory, (threads, files, _) = resources(self.process.pid)
+        self.most = max(self.most, memory)
+        if memory > self.memory_bound:
+            raise Difference(f"memory: {memory} kB, the bound is {self.memory_bound} kB")
+        if threads > 12 + 2 * (1 + OUTSTATIONS) + THREADS or files > FILES + 1 + OUTSTATIONS + 9:
+            raise Difference(f"{threads} threads, {files} files")
+
+    def judge_rows(self):
+        """The honest control centre's last values are the gateway's."""
+        for row in self.rows():
+            address, value = shown(row)
+            if address != WITNESSED and self.picture.values.get(address) != value:
+                raise Difference(f"the last value at {address}: told {self.picture.values.get(address)}, shown {value}")
+
+    def finish(self):
+        """The honest peers were served, the gateway ends in order, and its record replays."""
+        self.operator.end()
+        self.witness.end(EVENT_LIMIT)
+        self.judge_rows()
+        self.look()
+        self.within(lambda: resources(self.process.pid)[1] == self.others, f"threads, files, children: {self.others}")
+        self.process.stdin.close()
+        status = self.process.wait(2 * PATIENCE)
+        written = self.process.stdout.read()
+        self.log.judge()
+        if status or not re.fullmatch(r"steps \d+\n", written):
+            raise Difference(f"the end: status {status}, {written!r}")
+        if self.record:
+            ran = subprocess.run([self.program, "replay", self.file], stdin=open(self.record), capture_output=True)
+            if ran.stdout != Path(f"{self.record}.answers").read_bytes():
+                raise Difference("the record isn't replayed with the same answers")
+
+    def close(self):
+        if self.process:
+            self.process.kill()
+            self.process.wait()
+        for it in self.outstations:
+            it.listener.close()
