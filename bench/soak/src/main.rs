@@ -27,6 +27,8 @@ control centre at line rate beside 7 others.
   --queue Q             observations that may wait for a client (200)
   --outstations N       of the soak, 1 to 32 (8)       --clients N     1 to 8 (6)
   --slow N              of them read slowly (2)        --rate EVENTS   a second of each outstation (150)
+  --goal MS             of one against all, the most that 99 of 100 events of quiet outstations may take to a control
+                        centre that doesn't flood, which none of them may miss (nothing is wanted)
 The status is 0, 1 where something isn't as it has to be, or 2.";
 
 pub struct Options {
@@ -38,6 +40,8 @@ pub struct Options {
     pub clients: usize,
     pub slow: usize,
     pub rate: f64,
+    /// In milliseconds, what one against all may make of others.
+    pub goal: Option<f64>,
 }
 
 fn options(words: &mut dyn Iterator<Item = String>) -> Option<Options> {
@@ -50,6 +54,7 @@ fn options(words: &mut dyn Iterator<Item = String>) -> Option<Options> {
         clients: 6,
         slow: 2,
         rate: 150.0,
+        goal: None,
     };
     while let Some(name) = words.next() {
         let value = words.next()?;
@@ -62,6 +67,7 @@ fn options(words: &mut dyn Iterator<Item = String>) -> Option<Options> {
             "--clients" => options.clients = value.parse().ok().filter(|it| (1..=8).contains(it))?,
             "--slow" => options.slow = value.parse().ok()?,
             "--rate" => options.rate = value.parse().ok().filter(|it| *it > 0.0)?,
+            "--goal" => options.goal = Some(value.parse().ok().filter(|it| *it > 0.0)?),
             _ => return None,
         }
     }

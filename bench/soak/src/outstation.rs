@@ -54,7 +54,7 @@ pub enum Flood {
     Never,
     /// The next fragment once the last was confirmed.
     Confirmed,
-    /// The next fragment once all control centres were told all of the last: as if readers held it back.
+    /// The next fragment once all control centres were told all of the last: what no outstation can know, to compare.
     Paced,
     /// Fragment after fragment, whatever is confirmed.
     Blind,

@@ -170,7 +170,7 @@ impl Soak<'_> {
         let connections = self.scene.of_desks(|it| &it.connections);
         let ends: Vec<String> = self.gateway.ends().iter().map(|it| format!("{} {}", it.1, it.0)).collect();
         let Totals { sessions, whole, exact, dropped, left_waiting, .. } = totals;
-        let missing: u64 = totals.missing.iter().sum();
+        let missing: u64 = totals.missing.iter().flatten().sum();
         [
             ("clients' connections", format!("{connections}, judged {}", totals.connections)),
             ("why they ended", ends.join("; ")),

@@ -60,8 +60,8 @@ pub struct Totals {
     pub losses: u64,
     pub answers: u64,
     pub rows: u64,
-    /// Of each outstation, the confirmed objects that didn't come though they had to, if they weren't dropped.
-    pub missing: Vec<u64>,
+    /// Of each client and outstation, the confirmed objects that didn't come though they had to, if they weren't dropped.
+    pub missing: Vec<Vec<u64>>,
     pub dropped: u64,
     /// What was told as dropped for each client.
     pub dropped_of: Vec<u64>,
@@ -151,11 +151,12 @@ impl Totals {
 
     fn add(&mut self, grave: &Grave, missing: &Missing, dropped: u64) {
         self.connections += 1;
-        self.missing.resize(missing.lost.len(), 0);
-        self.missing.iter_mut().zip(&missing.lost).for_each(|(all, more)| *all += more);
+        let clients = self.missing.len().max(grave.client + 1);
+        self.missing.resize(clients, vec![0; missing.lost.len()]);
+        self.missing[grave.client].iter_mut().zip(&missing.lost).for_each(|(all, more)| *all += more);
         self.left_waiting += missing.behind;
         self.dropped += dropped;
-        self.dropped_of.resize(self.dropped_of.len().max(grave.client + 1), 0);
+        self.dropped_of.resize(clients, 0);
         self.dropped_of[grave.client] += dropped;
         for Ended { session, is_whole, .. } in &grave.ended {
             self.sessions += 1;
