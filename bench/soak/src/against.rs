@@ -4,6 +4,7 @@ use crate::centre::Habit;
 use crate::gateway::{Gateway, Station};
 use crate::histogram::Histogram;
 use crate::outstation::{Flood, Manner};
+use crate::rhythm::Rhythm;
 use crate::scene::Scene;
 use crate::system::{now_us, processor_seconds, sleep_us};
 use crate::verdict::{Totals, REST_US};
@@ -69,8 +70,8 @@ fn measure(options: &Options, (title, flood, client_floods): Part) -> Result<Opt
     let habit = |number: usize| Habit { is_slow: false, is_wild: false, floods: client_floods && number == 0 };
     let manners: Vec<Manner> = (0..OUTSTATIONS).map(manner).collect();
     let habits: Vec<Habit> = (0..CLIENTS).map(habit).collect();
-    let station = Station { queue: options.queue, k: 12, w: 8 };
-    let scene = Scene::new(Phase::Calm, options.seed, station, &manners, &habits);
+    let station = Station { queue: options.queue, k: 12, w: 8, controls: 0 };
+    let scene = Scene::new(options.seed, Rhythm::of_system(), station, &manners, &habits);
     println!("{title}");
     let mut totals = Totals::default();
     scene.run(options, |gateway, come| {

@@ -9,7 +9,8 @@ pub const START_CON_FUNCTION: u8 = 0x0B;
 pub const STOP_CON_FUNCTION: u8 = 0x23;
 pub const TEST_FUNCTION: u8 = 0x43;
 pub const TEST_CON_FUNCTION: u8 = 0x83;
-/// Types of the two interrogations, and their qualifiers.
+/// Types of single commands, and of the two interrogations, and the qualifiers of these.
+pub const COMMAND: u8 = 45;
 pub const GENERAL: u8 = 100;
 pub const COUNTERS: u8 = 101;
 const GENERAL_QUALIFIER: u8 = 20;
@@ -21,6 +22,11 @@ pub const CONFIRMATION: u8 = 7;
 pub const TERMINATION: u8 = 10;
 pub const INTERROGATED: u8 = 20;
 pub const COUNTERS_REQUESTED: u8 = 37;
+/// The bit of a cause that refuses.
+pub const NEGATIVE: u8 = 0x40;
+/// Bits of a single command: on, and a select.
+const ON: u8 = 0x01;
+const SELECT: u8 = 0x80;
 /// Bits of a quality: invalid, not topical.
 pub const IV: u8 = 0x80;
 pub const NT: u8 = 0x40;
@@ -35,11 +41,23 @@ pub fn s_format(received: u16) -> [u8; 6] {
     [0x68, 4, 1, 0, low, high]
 }
 
-/// An interrogation of station 1, in an I format.
-pub fn interrogation(kind: u8, sent: u16, received: u16) -> [u8; 16] {
+pub fn i_format(asdu: &[u8], sent: u16, received: u16) -> Vec<u8> {
     let ([sent_low, sent_high], [low, high]) = ((sent << 1).to_le_bytes(), (received << 1).to_le_bytes());
+    let mut apdu = vec![0x68, 4 + asdu.len() as u8, sent_low, sent_high, low, high];
+    apdu.extend_from_slice(asdu);
+    apdu
+}
+
+/// The ASDU of an interrogation of station 1.
+pub fn interrogation(kind: u8) -> [u8; 10] {
     let qualifier = if kind == GENERAL { GENERAL_QUALIFIER } else { COUNTERS_QUALIFIER };
-    [0x68, 14, sent_low, sent_high, low, high, kind, 1, ACTIVATION, 0, 1, 0, 0, 0, 0, qualifier]
+    [kind, 1, ACTIVATION, 0, 1, 0, 0, 0, 0, qualifier]
+}
+
+/// The ASDU of a single command, on, at station 1.
+pub fn command(address: u32, is_select: bool) -> [u8; 10] {
+    let [low, middle, high, _] = address.to_le_bytes();
+    [COMMAND, 1, ACTIVATION, 0, 1, 0, low, middle, high, if is_select { ON | SELECT } else { ON }]
 }
 
 /// An APDU that came.
@@ -74,6 +92,8 @@ pub struct Object {
     pub address: u32,
     pub value: u32,
     pub quality: u8,
+    /// Its time tag, where it has one.
+    pub time: Option<[u8; 7]>,
 }
 
 /// The objects of an ASDU, in their order: bit strings and integrated totals, with or without time.
@@ -100,7 +120,7 @@ pub fn objects(asdu: &[u8]) -> Result<Vec<Object>, String> {
         let value = u32::from_le_bytes([asdu[at], asdu[at + 1], asdu[at + 2], asdu[at + 3]]);
         // A total has its sequence number, carry and adjustment beside IV.
         let quality = if is_total { asdu[at + 4] & IV } else { asdu[at + 4] };
-        Object { address, value, quality }
+        Object { address, value, quality, time: asdu[at + 5..at + element].try_into().ok() }
     };
     Ok((0..count).map(object).collect())
 }

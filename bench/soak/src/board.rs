@@ -1,4 +1,5 @@
 //! What all threads look at: how far the run is, and the first fault.
+use crate::rhythm::Rhythm;
 use std::sync::atomic::{AtomicBool, AtomicU32, AtomicU8, Ordering::SeqCst};
 use std::sync::Mutex;
 
@@ -9,12 +10,15 @@ pub enum Phase {
     Wild,
     /// They don't. Each control centre begins anew.
     Calm,
+    /// Nothing happens in outstations, and control centres do nothing: what comes, comes by the gateway's clock.
+    Still,
     /// Nothing happens any more in outstations, and control centres take what waits for them and leave.
     Quiet,
 }
 
 pub struct Board {
     pub seed: u64,
+    pub rhythm: Rhythm,
     /// Of each control centre, the last object of outstation 0 that it was told.
     seen: Vec<AtomicU32>,
     phase: AtomicU8,
@@ -23,11 +27,12 @@ pub struct Board {
 }
 
 impl Board {
-    pub fn new(seed: u64, phase: Phase, clients: usize) -> Board {
+    pub fn new(seed: u64, rhythm: Rhythm, clients: usize) -> Board {
         Board {
             seed,
+            rhythm,
             seen: (0..clients).map(|_| AtomicU32::new(0)).collect(),
-            phase: AtomicU8::new(phase as u8),
+            phase: AtomicU8::new(Phase::Calm as u8),
             over: AtomicBool::new(false),
             fault: Mutex::new(None),
         }
@@ -43,7 +48,7 @@ impl Board {
     }
 
     pub fn phase(&self) -> Phase {
-        [Phase::Wild, Phase::Calm, Phase::Quiet][usize::from(self.phase.load(SeqCst))]
+        [Phase::Wild, Phase::Calm, Phase::Still, Phase::Quiet][usize::from(self.phase.load(SeqCst))]
     }
 
     pub fn enter(&self, phase: Phase) {
@@ -56,6 +61,11 @@ impl Board {
 
     pub fn is_quiet(&self) -> bool {
         self.phase() == Phase::Quiet
+    }
+
+    /// Whether nothing happens in outstations.
+    pub fn is_uneventful(&self) -> bool {
+        matches!(self.phase(), Phase::Still | Phase::Quiet)
     }
 
     pub fn is_over(&self) -> bool {

@@ -32,6 +32,15 @@ pub struct Counts {
     pub tests: AtomicU64,
     pub s_formats: AtomicU64,
     pub apdus: AtomicU64,
+    /// What came by the gateway's clock: ends by t1, S formats, tests, and those tests whose period was over.
+    pub ended_by_t1: AtomicU64,
+    pub s_formats_came: AtomicU64,
+    pub tests_came: AtomicU64,
+    pub tests_by_period: AtomicU64,
+    /// Commands that were executed, those that were refused since their selection was over, and other refused ones.
+    pub executed: AtomicU64,
+    pub expired: AtomicU64,
+    pub refused: AtomicU64,
 }
 
 /// What others see of a control centre.

@@ -1,14 +1,17 @@
 //! One connection of a control centre.
 use crate::apdu::{
-    interrogation, read, s_format, Apdu, COUNTERS, GENERAL, START, START_CON_FUNCTION, STOP, STOP_CON_FUNCTION, TEST,
-    TEST_CON, TEST_CON_FUNCTION, TEST_FUNCTION,
+    i_format, interrogation, read, s_format, Apdu, COMMAND, COUNTERS, GENERAL, START, START_CON_FUNCTION, STOP,
+    STOP_CON_FUNCTION, TEST, TEST_CON, TEST_CON_FUNCTION, TEST_FUNCTION,
 };
 use crate::board::Phase;
 use crate::centre::{Desk, House};
-use crate::gateway::{Station, T1_MS};
+use crate::gateway::Station;
 use crate::random::Random;
+use crate::rhythm::Rhythm;
+use crate::selection::Selection;
 use crate::session::{before, Session};
 use crate::system::{end_by_reset, is_readable, narrow, now_us, sleep_us};
+use crate::timers::Timers;
 use crate::verdict::{Ended, Grave};
 use std::collections::VecDeque;
 use std::io::{Read, Write};
@@ -22,13 +25,10 @@ const SLOW_PATIENCE_US: u64 = 40_000_000;
 /// How long the loop sleeps at most, and after how long without an I format all are acknowledged.
 const LOOK_US: u64 = 20_000;
 const IDLE_US: u64 = 200_000;
-/// How long a connection lasts, and from one act of a control centre to the next, on average.
-const STAY_US: u64 = 4_000_000;
-const ACT_US: u64 = 900_000;
 /// The receive buffer of one that reads slowly.
 const NARROW: i32 = 4096;
 /// For how long behind a pause of its own a control centre doesn't measure how late news come.
-const HELD_US: u64 = 1_000_000;
+const UNMEASURED_US: u64 = 1_000_000;
 /// How many things that were done are kept.
 const DONE: usize = 12;
 /// What a flooding control centre writes at once: tests, fewer than may wait for their confirmation, and S formats.
@@ -84,12 +84,13 @@ struct Plan {
 }
 
 impl Plan {
-    fn new(is_calm: bool, now: u64, random: &mut Random) -> Plan {
+    fn new(is_calm: bool, rhythm: &Rhythm, now: u64, random: &mut Random) -> Plan {
         let leaving = Leaving::by_chance(random);
         if is_calm {
             return Plan { act_us: u64::MAX, leave_us: u64::MAX, leaving, is_calm };
         }
-        let (act_us, leave_us) = (now + random.pause(ACT_US), now + 200_000 + random.pause(STAY_US));
+        let act_us = now + random.pause(rhythm.act_us);
+        let leave_us = now + 200_000 + random.pause(rhythm.stay_us);
         Plan { act_us, leave_us, leaving, is_calm }
     }
 }
@@ -107,6 +108,7 @@ struct Numbers {
 pub struct Connection<'a> {
     house: &'a House<'a>,
     desk: &'a Desk,
+    rhythm: &'a Rhythm,
     random: &'a mut Random,
     socket: TcpStream,
     address: SocketAddr,
@@ -122,8 +124,10 @@ pub struct Connection<'a> {
     tests: usize,
     tested_us: u64,
     asked_us: u64,
+    selection: Selection,
     last_i_us: u64,
     acknowledge_us: Option<u64>,
+    timers: Timers,
     /// Nothing is acknowledged, or nothing read, before.
     hold_us: u64,
     deaf_us: u64,
@@ -135,22 +139,30 @@ pub struct Connection<'a> {
     done: VecDeque<(u64, &'static str)>,
 }
 
+/// A socket of a new connection, and its own address.
+fn connect(house: &House, desk: &Desk) -> std::io::Result<(TcpStream, SocketAddr)> {
+    let socket = TcpStream::connect_timeout(&house.gateway, Duration::from_secs(5))?;
+    let _ = socket.set_nodelay(true);
+    let _ = socket.set_write_timeout(Some(Duration::from_secs(10)));
+    if desk.habit.is_slow {
+        narrow(&socket, NARROW);
+    }
+    desk.counts.connections.fetch_add(1, Relaxed);
+    let address = socket.local_addr()?;
+    Ok((socket, address))
+}
+
 impl<'a> Connection<'a> {
     pub fn open(house: &'a House, desk: &'a Desk, random: &'a mut Random) -> Result<Connection<'a>, String> {
-        let fault = |it: std::io::Error| format!("can't connect: {it}");
-        let socket = TcpStream::connect_timeout(&house.gateway, Duration::from_secs(5)).map_err(fault)?;
-        let _ = socket.set_nodelay(true);
-        let _ = socket.set_write_timeout(Some(Duration::from_secs(10)));
-        if desk.habit.is_slow {
-            narrow(&socket, NARROW);
-        }
-        desk.counts.connections.fetch_add(1, Relaxed);
-        let is_calm = !desk.habit.is_wild || !house.scene.board.is_wild();
-        let (now, address) = (now_us(), socket.local_addr().map_err(fault)?);
-        let plan = Plan::new(is_calm, now, random);
+        let (socket, address) = connect(house, desk).map_err(|it| format!("can't connect: {it}"))?;
+        let board = &house.scene.board;
+        let is_calm = !desk.habit.is_wild || !board.is_wild();
+        let (rhythm, now) = (&board.rhythm, now_us());
+        let plan = Plan::new(is_calm, rhythm, now, random);
         Ok(Connection {
             house,
             desk,
+            rhythm,
             random,
             socket,
             address,
@@ -164,8 +176,10 @@ impl<'a> Connection<'a> {
             tests: 0,
             tested_us: 0,
             asked_us: 0,
+            selection: Selection::new(desk.number, rhythm.us(rhythm.select_ms), now),
             last_i_us: now,
             acknowledge_us: None,
+            timers: Timers::new(rhythm, now),
             hold_us: 0,
             deaf_us: 0,
             asked_last: false,
@@ -224,14 +238,37 @@ impl<'a> Connection<'a> {
     }
 
     fn put(&mut self, octets: &[u8]) -> Result<(), End> {
+        self.timers.send(now_us());
         self.socket.write_all(octets).map_err(|it| self.cut_off(&format!("{it}")))
+    }
+
+    /// An I format, which acknowledges what came, where nothing keeps that back.
+    fn put_i(&mut self, asdu: &[u8], now: u64) -> Result<(), End> {
+        if now >= self.hold_us {
+            self.note_acknowledged();
+        }
+        let apdu = i_format(asdu, self.numbers.sent, self.numbers.acknowledged);
+        self.numbers.sent = (self.numbers.sent + 1) & 0x7FFF;
+        self.timers.send_i(now);
+        self.put(&apdu)
+    }
+
+    fn note_acknowledged(&mut self) {
+        self.numbers.acknowledged = self.numbers.received;
+        self.acknowledge_us = None;
+        self.timers.acknowledge();
     }
 
     /// The gateway ended the connection: as it has to where nothing was acknowledged for t1, or a number was wrong.
     fn cut_off(&self, how: &str) -> End {
-        let has_cause = matches!(self.plan.leaving, Leaving::Mute | Leaving::WrongNumber);
-        if has_cause && now_us() >= self.plan.leave_us {
-            return End::Expected;
+        let (now, counts) = (now_us(), &self.desk.counts);
+        match self.plan.leaving {
+            Leaving::WrongNumber if now >= self.plan.leave_us => return End::Expected,
+            Leaving::Mute if now >= self.plan.leave_us && self.timers.may_have_expired(now) => {
+                counts.ended_by_t1.fetch_add(1, Relaxed);
+                return End::Expected;
+            }
+            _ => {}
         }
         if self.session.is_none() || self.stopping_us.is_some() {
             return End::GaveWay;
@@ -245,12 +282,15 @@ impl<'a> Connection<'a> {
         if self.house.scene.board.is_over() {
             return Err(End::Wanted { is_whole: false });
         }
+        self.look(now);
+        self.timers.judge(now).map_err(End::Fault)?;
         self.be_patient(now)?;
         if self.desk.habit.floods && self.session.is_some() && !self.house.scene.board.is_quiet() {
             self.flood(now)?;
         } else {
             self.act(now)?;
         }
+        self.command(now)?;
         self.leave_if_due(now)?;
         self.acknowledge_if_due(now)?;
         if now < self.deaf_us {
@@ -261,6 +301,11 @@ impl<'a> Connection<'a> {
             self.hear()?;
         }
         Ok(())
+    }
+
+    fn look(&mut self, now: u64) {
+        let awaits_u_format = self.starting.is_some() || self.stopping_us.is_some() || self.tests > 0;
+        self.timers.look(now, awaits_u_format || now < self.deaf_us);
     }
 
     fn wait(&self, now: u64) -> u64 {
@@ -281,6 +326,7 @@ impl<'a> Connection<'a> {
             (self.starting.as_ref().map(|it| it.1), "STARTDT isn't confirmed"),
             (self.stopping_us, "STOPDT isn't confirmed"),
             (tested, "TESTFR isn't confirmed"),
+            (self.selection.asked_us(), "a command isn't answered"),
             (asked, "an interrogation isn't answered"),
         ];
         match waits.into_iter().find(|it| it.0.is_some_and(late)) {
@@ -303,18 +349,21 @@ impl<'a> Connection<'a> {
         if now < self.plan.act_us || now >= self.plan.leave_us || !is_free {
             return Ok(());
         }
-        self.plan.act_us = now + self.random.pause(ACT_US);
+        self.plan.act_us = now + self.random.pause(self.rhythm.act_us);
+        let t1_us = self.rhythm.us(self.rhythm.t1_ms);
+        let has_rested = now > self.hold_us.max(self.deaf_us) + t1_us / 4;
         match self.random.within(0, 100) {
             0..=29 => self.interrogate(GENERAL, now),
             30..=49 => self.interrogate(COUNTERS, now),
             50..=64 => self.test(now, 1),
+            65..=88 if !has_rested => Ok(()),
             65..=76 => {
-                self.hold_us = now + self.random.within(100_000, T1_MS * 400);
+                self.hold_us = now + self.random.within(100_000, t1_us * 2 / 5);
                 self.note("acknowledges nothing for a while");
                 Ok(())
             }
             77..=88 => {
-                self.deaf_us = now + self.random.within(50_000, T1_MS * 300);
+                self.deaf_us = now + self.random.within(50_000, t1_us * 3 / 10);
                 self.note("reads nothing for a while");
                 Ok(())
             }
@@ -338,10 +387,23 @@ impl<'a> Connection<'a> {
         session.ask(&self.house.scene.sites, kind, now);
         self.note(if kind == GENERAL { "station interrogation" } else { "counter interrogation" });
         self.asked_us = now;
-        let apdu = interrogation(kind, self.numbers.sent, self.numbers.received);
-        self.numbers.sent = (self.numbers.sent + 1) & 0x7FFF;
-        self.numbers.acknowledged = self.numbers.received;
-        self.put(&apdu)
+        self.put_i(&interrogation(kind), now)
+    }
+
+    /// Selects and executes, where no trouble is made.
+    fn command(&mut self, now: u64) -> Result<(), End> {
+        let scene = self.house.scene;
+        let may_begin = scene.station.controls > 0 && self.plan.is_calm && scene.board.phase() == Phase::Calm;
+        if self.session.is_none() {
+            return Ok(());
+        }
+        match self.selection.next(&scene.sites, may_begin, now, self.random) {
+            Some(asdu) => {
+                self.note("command");
+                self.put_i(&asdu, now)
+            }
+            None => Ok(()),
+        }
     }
 
     fn test(&mut self, now: u64, count: usize) -> Result<(), End> {
@@ -361,18 +423,19 @@ impl<'a> Connection<'a> {
         }
         self.interrogate(GENERAL, now)?;
         self.test(now, TESTS)?;
-        self.numbers.acknowledged = self.numbers.received;
+        self.note_acknowledged();
         self.desk.counts.s_formats.fetch_add(S_FORMATS as u64, Relaxed);
         self.put(&s_format(self.numbers.received).repeat(S_FORMATS))
     }
 
     fn acknowledge(&mut self) -> Result<(), End> {
-        self.acknowledge_us = None;
-        if self.numbers.acknowledged == self.numbers.received {
-            return Ok(());
+        let is_due = self.numbers.acknowledged != self.numbers.received;
+        self.note_acknowledged();
+        if is_due {
+            self.put(&s_format(self.numbers.received))
+        } else {
+            Ok(())
         }
-        self.numbers.acknowledged = self.numbers.received;
-        self.put(&s_format(self.numbers.received))
     }
 
     fn acknowledge_if_due(&mut self, now: u64) -> Result<(), End> {
@@ -399,7 +462,7 @@ impl<'a> Connection<'a> {
         if phase == Phase::Quiet {
             return self.leave_quietly(now);
         }
-        if phase == Phase::Calm && !self.plan.is_calm {
+        if phase != Phase::Wild && !self.plan.is_calm {
             return self.go(false);
         }
         if now < self.plan.leave_us {
@@ -412,13 +475,15 @@ impl<'a> Connection<'a> {
                 Err(End::Wanted { is_whole: false })
             }
             Leaving::WithinApdu => {
-                let apdu = interrogation(GENERAL, self.numbers.sent, self.numbers.received);
+                let apdu = i_format(&interrogation(GENERAL), self.numbers.sent, self.numbers.received);
                 let front = self.random.within(1, apdu.len() as u64) as usize;
                 self.put(&apdu[..front])?;
                 Err(End::Wanted { is_whole: false })
             }
             Leaving::Mute if self.session.is_none() => self.go(false),
-            Leaving::Mute if now < self.plan.leave_us + 2 * PATIENCE_US => Ok(()),
+            Leaving::Mute if !self.timers.has_to_have_expired(now) && now < self.plan.leave_us + 2 * PATIENCE_US => {
+                Ok(())
+            }
             Leaving::WrongNumber if now < self.plan.leave_us + PATIENCE_US => {
                 self.put(&s_format(self.numbers.received.wrapping_add(2 * self.house.scene.station.k) & 0x7FFF))
             }
@@ -430,7 +495,7 @@ impl<'a> Connection<'a> {
     fn leave_quietly(&mut self, now: u64) -> Result<(), End> {
         let is_silent = now > self.last_i_us + SILENT_US && now > self.hold_us.max(self.deaf_us) + SILENT_US;
         let Some(session) = &self.session else { return if is_silent { self.go(false) } else { Ok(()) } };
-        if session.is_asking() {
+        if session.is_asking() || self.selection.is_under_way() {
             return Ok(());
         }
         match self.asked_last {
@@ -470,13 +535,17 @@ impl<'a> Connection<'a> {
             Err(fault) => return Err(self.cut_off(&format!("{fault}"))),
         }
         let (now, mut at) = (now_us(), 0);
+        self.look(now);
         while let Some((length, apdu)) = read(&self.input[at..]).map_err(End::Fault)? {
             at += length;
             self.desk.counts.apdus.fetch_add(1, Relaxed);
             match apdu {
                 Apdu::I { sent, received, asdu } => self.take_i(sent, received, &asdu, now)?,
-                Apdu::S { received } => self.take_number(received)?,
-                Apdu::U { function } => self.take_u(function)?,
+                Apdu::S { received } => {
+                    self.desk.counts.s_formats_came.fetch_add(1, Relaxed);
+                    self.take_number(received)?;
+                }
+                Apdu::U { function } => self.take_u(function, now)?,
             }
         }
         self.input.drain(..at);
@@ -492,6 +561,7 @@ impl<'a> Connection<'a> {
             return Err(End::Fault(format!("N(R) {number}, though {} I formats were sent", self.numbers.sent)));
         }
         self.numbers.sent_acknowledged = number;
+        self.timers.take_number(new & 0x7FFF);
         Ok(())
     }
 
@@ -502,6 +572,7 @@ impl<'a> Connection<'a> {
         }
         self.numbers.received = (self.numbers.received + 1) & 0x7FFF;
         self.last_i_us = now;
+        self.timers.take_i(now);
         let Station { k, w, .. } = self.house.scene.station;
         if self.numbers.received.wrapping_sub(self.numbers.acknowledged) & 0x7FFF > k {
             return Err(End::Fault("more than k I formats that weren't acknowledged".to_string()));
@@ -509,8 +580,13 @@ impl<'a> Connection<'a> {
         let Some(session) = &mut self.session else {
             return Err(End::Fault(format!("an I format while data transfer is stopped: {asdu:02X?}")));
         };
+        if asdu[0] == COMMAND {
+            let site = &self.house.scene.sites[self.selection.site()];
+            let counts = &self.desk.counts;
+            return self.selection.take(asdu, site, now, self.random, counts).map_err(End::Fault);
+        }
         // What came late by the control centre's own doing isn't measured.
-        let is_measured = now > self.hold_us.max(self.deaf_us) + HELD_US;
+        let is_measured = now > self.hold_us.max(self.deaf_us) + UNMEASURED_US;
         let mut latency = self.desk.latency.lock().unwrap();
         let mut measured = is_measured.then_some(&mut *latency);
         session.take(&self.house.scene.sites, asdu, now, &mut measured).map_err(End::Fault)?;
@@ -528,7 +604,10 @@ impl<'a> Connection<'a> {
         Ok(())
     }
 
-    fn take_u(&mut self, function: u8) -> Result<(), End> {
+    fn take_u(&mut self, function: u8, now: u64) -> Result<(), End> {
+        if matches!(function, START_CON_FUNCTION | STOP_CON_FUNCTION | TEST_CON_FUNCTION) {
+            self.timers.take_confirmation(now);
+        }
         match function {
             START_CON_FUNCTION => {
                 let Some((before, _)) = self.starting.take() else {
@@ -538,7 +617,7 @@ impl<'a> Connection<'a> {
                 self.desk.counts.sessions.fetch_add(1, Relaxed);
                 self.note("STARTDT con");
                 if self.plan.is_calm || self.random.percent(70) {
-                    return self.interrogate(GENERAL, now_us());
+                    return self.interrogate(GENERAL, now);
                 }
             }
             STOP_CON_FUNCTION if self.stopping_us.take().is_some() => {
@@ -547,6 +626,9 @@ impl<'a> Connection<'a> {
                 return self.acknowledge();
             }
             TEST_FUNCTION => {
+                let is_over = self.timers.take_test(now).map_err(End::Fault)?;
+                self.desk.counts.tests_came.fetch_add(1, Relaxed);
+                self.desk.counts.tests_by_period.fetch_add(u64::from(is_over), Relaxed);
                 self.note("TESTFR con");
                 return self.put(&TEST_CON);
             }

@@ -1,5 +1,8 @@
 //! The gateway's process, and what it tells on standard error.
+use crate::calendar::OFFSET_MINUTES;
+use crate::clock::Clock;
 use crate::outstation::Site;
+use crate::rhythm::Rhythm;
 use crate::system::{now_us, sleep_us};
 use std::collections::{HashMap, VecDeque};
 use std::fmt::Write as _;
@@ -9,55 +12,69 @@ use std::process::{Child, ChildStderr, Command, Stdio};
 use std::sync::{Arc, Mutex};
 use std::thread::JoinHandle;
 
-/// What is in the settings beside the outstations.
+/// What is in the settings beside the outstations and the times.
 pub struct Station {
     pub queue: u32,
     pub k: u16,
     pub w: u16,
+    /// Of each outstation, the controls: one for each control centre, or none.
+    pub controls: usize,
 }
 
-/// The timers of the station, and how often outstations are polled, in milliseconds.
-pub const T1_MS: u64 = 6000;
-const T2_MS: u64 = 2000;
-const T3_MS: u64 = 3000;
-const POLL_MS: u64 = 400;
-const RESPONSE_MS: u64 = 1000;
 /// How many of the last lines are kept, and how long it may take to start and to end.
 const LINES: usize = 12;
 const PATIENCE_US: u64 = 60_000_000;
+/// How far the time of a line may be from that at which it is read, by the system's clock.
+const LINE_US: u64 = 2_000_000;
 
 /// The settings of a gateway between these outstations, which are reached at these ports.
-pub fn settings(station: &Station, sites: &[Site], ports: &[u16]) -> String {
-    let Station { queue, k, w } = station;
+pub fn settings(station: &Station, rhythm: &Rhythm, sites: &[Site], ports: &[u16]) -> String {
+    let Station { queue, k, w, .. } = station;
+    let Rhythm { t1_ms, t2_ms, t3_ms, select_ms, poll_ms, integrity_ms, response_ms, .. } = rhythm;
     let mut text = format!(
         "[station]\ncommon_address = 1\nlisten = \"127.0.0.1:0\"\nqueue = {queue}\nk = {k}\nw = {w}\n\
-         t1_ms = {T1_MS}\nt2_ms = {T2_MS}\nt3_ms = {T3_MS}\n"
+         t1_ms = {t1_ms}\nt2_ms = {t2_ms}\nt3_ms = {t3_ms}\nselect_ms = {select_ms}\n\
+         offset_minutes = {OFFSET_MINUTES}\n"
     );
     for (site, port) in sites.iter().zip(ports) {
         let _ = write!(
             text,
-            "[[outstation]]\naddress = {}\nconnect = \"127.0.0.1:{port}\"\npoll_ms = {POLL_MS}\n\
-             response_ms = {RESPONSE_MS}\nunsolicited = {}\n",
+            "[[outstation]]\naddress = {}\nconnect = \"127.0.0.1:{port}\"\npoll_ms = {poll_ms}\n\
+             integrity_ms = {integrity_ms}\nresponse_ms = {response_ms}\nunsolicited = {}\nlan_time = {}\n",
             site.link_address(),
-            site.manner.is_unsolicited
+            site.manner.is_unsolicited,
+            rhythm.need_time_ms > 0
         );
     }
     for site in sites {
-        for point in 0..site.points() {
-            let (kind, show, index) = if point < site.manner.analogs {
-                ("analog", "word", point)
-            } else {
-                ("counter", "total", point - site.manner.analogs)
-            };
-            let (number, address) = (site.number, site.address_of(point));
+        add_points(site, &mut text);
+        for control in 0..station.controls {
+            let (number, address) = (site.number, site.control_address(control));
+            let mode = ["direct", "sbo"][site.number % 2];
             let _ = write!(
                 text,
-                "[[point]]\noutstation = {number}\nkind = \"{kind}\"\nindex = {index}\naddress = {address}\n\
-                 show = \"{show}\"\n"
+                "[[control]]\noutstation = {number}\nshow = \"single\"\nindex = {control}\naddress = {address}\n\
+                 select = true\nmode = \"{mode}\"\n"
             );
         }
     }
     text
+}
+
+fn add_points(site: &Site, text: &mut String) {
+    for point in 0..site.points() {
+        let (kind, show, index) = if point < site.manner.analogs {
+            ("analog", "word", point)
+        } else {
+            ("counter", "total", point - site.manner.analogs)
+        };
+        let (number, address) = (site.number, site.address_of(point));
+        let _ = write!(
+            text,
+            "[[point]]\noutstation = {number}\nkind = \"{kind}\"\nindex = {index}\naddress = {address}\n\
+                 show = \"{show}\"\n"
+        );
+    }
 }
 
 /// What the gateway told.
@@ -70,11 +87,18 @@ struct Told {
     causes: HashMap<String, String>,
     port: Option<u16>,
     last: VecDeque<String>,
+    /// The first line with a time that it can't have.
+    wrong: Option<String>,
 }
 
 impl Told {
-    fn take(&mut self, line: String) {
+    fn take(&mut self, line: String, clock: &Clock) {
+        let now = now_us();
+        let [first, last] = [now.saturating_sub(LINE_US), now + LINE_US].map(|it| clock.civil(it).to_string());
         let words: Vec<&str> = line.split(' ').collect();
+        if !(first..=last).contains(&words[0].to_string()) && self.wrong.is_none() {
+            self.wrong = Some(format!("a line came at {} whose time is wrong: {line}", clock.civil(now)));
+        }
         match words[..] {
             [_, "listening", "on", place] => self.port = place.rsplit(':').next().and_then(|it| it.parse().ok()),
             [_, "client", _, address, count, "observation" | "observations", "dropped,", ..] => {
@@ -101,30 +125,24 @@ pub struct Gateway {
     pub address: SocketAddr,
 }
 
-fn hear(errors: ChildStderr, told: &Mutex<Told>) {
+fn hear(errors: ChildStderr, clock: Clock, told: &Mutex<Told>) {
     for line in BufReader::new(errors).lines().map_while(Result::ok) {
-        told.lock().unwrap().take(line);
+        told.lock().unwrap().take(line, &clock);
     }
 }
 
 impl Gateway {
-    /// Starts a gateway by these words, and waits until it listens.
-    pub fn start(words: &[String], file: &std::path::Path) -> Result<Gateway, String> {
+    /// Starts a gateway by these words, shows it a clock, and waits until it listens.
+    pub fn start(words: &[String], file: &std::path::Path, clock: Clock) -> Result<Gateway, String> {
         let (program, options) = words.split_first().ok_or("no program")?;
-        let child = Command::new(program)
-            .arg("run")
-            .arg(file)
-            .arg("--until-eof")
-            .args(options)
-            .env_remove("JOURNAL_STREAM")
-            .stdin(Stdio::piped())
-            .stdout(Stdio::piped())
-            .stderr(Stdio::piped())
-            .spawn();
-        let mut child = child.map_err(|it| format!("{program}: {it}"))?;
+        let mut command = Command::new(program);
+        command.arg("run").arg(file).arg("--until-eof").args(options).env_remove("JOURNAL_STREAM");
+        command.stdin(Stdio::piped()).stdout(Stdio::piped()).stderr(Stdio::piped());
+        let library = clock.show(&mut command)?;
+        let mut child = command.spawn().map_err(|it| format!("{program}: {it}"))?;
         let told = Arc::new(Mutex::new(Told::default()));
         let (errors, told_here) = (child.stderr.take().ok_or("no standard error")?, told.clone());
-        let hearing = Some(std::thread::spawn(move || hear(errors, &told_here)));
+        let hearing = Some(std::thread::spawn(move || hear(errors, clock, &told_here)));
         let mut gateway = Gateway { child, told, hearing, address: SocketAddr::from(([127, 0, 0, 1], 0)) };
         let end = now_us() + PATIENCE_US;
         while now_us() < end && !gateway.has_ended() {
@@ -134,6 +152,7 @@ impl Gateway {
             }
             sleep_us(5000);
         }
+        library.map(std::fs::remove_file);
         match gateway.address.port() {
             0 => Err(format!("the gateway doesn't listen\n{}", gateway.last_lines())),
             _ => Ok(gateway),
@@ -163,6 +182,11 @@ impl Gateway {
         let mut ends: Vec<_> = self.told.lock().unwrap().ends.clone().into_iter().collect();
         ends.sort();
         ends
+    }
+
+    /// The first line with a wrong time.
+    pub fn wrong_line(&self) -> Option<String> {
+        self.told.lock().unwrap().wrong.clone()
     }
 
     pub fn last_lines(&self) -> String {

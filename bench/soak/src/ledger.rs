@@ -3,6 +3,14 @@
 //! that is sent anew, since its confirmation was lost with a connection, has another number than before.
 use std::ops::Range;
 
+struct Object {
+    point: u16,
+    /// The place of its fragment.
+    fragment: u32,
+    /// The time that it has with it, where it has one: milliseconds since 1970.
+    stamp_ms: Option<u64>,
+}
+
 /// A fragment with objects, which have the serial numbers from `first` on.
 struct Sent {
     first: u32,
@@ -11,8 +19,8 @@ struct Sent {
 }
 
 pub struct Ledger {
-    /// Of each serial number, the point, and the place of its fragment. Number 0 is of nothing.
-    objects: Vec<(u16, u32)>,
+    /// Of each serial number. Number 0 is of nothing.
+    objects: Vec<Object>,
     fragments: Vec<Sent>,
     /// Of each point, the last object of a fragment that was confirmed.
     confirmed: Vec<u32>,
@@ -28,7 +36,7 @@ pub struct Ledger {
 impl Ledger {
     pub fn new(points: u16) -> Ledger {
         Ledger {
-            objects: vec![(u16::MAX, 0)],
+            objects: vec![Object { point: u16::MAX, fragment: 0, stamp_ms: None }],
             fragments: Vec::new(),
             confirmed: vec![0; usize::from(points)],
             last_confirmed: 0,
@@ -50,8 +58,8 @@ impl Ledger {
     }
 
     /// One more object in the fragment that was begun last; gives its serial number.
-    pub fn add(&mut self, point: u16) -> u32 {
-        self.objects.push((point, self.fragments.len() as u32 - 1));
+    pub fn add(&mut self, point: u16, stamp_ms: Option<u64>) -> u32 {
+        self.objects.push(Object { point, fragment: self.fragments.len() as u32 - 1, stamp_ms });
         self.next() - 1
     }
 
@@ -66,7 +74,7 @@ impl Ledger {
             return;
         }
         for serial in self.objects_of(fragment) {
-            let point = usize::from(self.objects[serial as usize].0);
+            let point = usize::from(self.objects[serial as usize].point);
             self.confirmed[point] = self.confirmed[point].max(serial);
             self.last_confirmed = self.last_confirmed.max(serial);
             self.confirmed_count += 1;
@@ -83,16 +91,25 @@ impl Ledger {
 
     /// Whether the object of this number was sent, and is of that point.
     pub fn is_of(&self, serial: u32, point: u16) -> bool {
-        self.objects.get(serial as usize).is_some_and(|it| it.0 == point)
+        self.objects.get(serial as usize).is_some_and(|it| it.point == point)
+    }
+
+    fn fragment_of(&self, serial: u32) -> &Sent {
+        &self.fragments[self.objects[serial as usize].fragment as usize]
     }
 
     /// When the fragment with an object was sent.
     pub fn sent_us(&self, serial: u32) -> u64 {
-        self.fragments[self.objects[serial as usize].1 as usize].at_us
+        self.fragment_of(serial).at_us
+    }
+
+    /// The time that an object has with it: milliseconds since 1970.
+    pub fn stamp_ms(&self, serial: u32) -> Option<u64> {
+        self.objects[serial as usize].stamp_ms
     }
 
     fn is_confirmed(&self, serial: u32) -> bool {
-        self.fragments[self.objects[serial as usize].1 as usize].is_confirmed
+        self.fragment_of(serial).is_confirmed
     }
 
     /// How many of these objects were confirmed, and the first of them.

@@ -2,7 +2,9 @@
 mod against;
 mod apdu;
 mod board;
+mod calendar;
 mod centre;
+mod clock;
 mod connection;
 mod gateway;
 mod histogram;
@@ -10,26 +12,34 @@ mod ledger;
 mod link;
 mod outstation;
 mod random;
+mod rhythm;
+mod round;
 mod scene;
+mod selection;
 mod session;
 mod soak;
 mod system;
+mod timers;
 mod verdict;
+mod watch;
 
 use std::process::ExitCode;
 
 const HELP: &str = "soak WHAT [OPTIONS]
-WHAT is `soak`, `outstation` or `client`: peers that make trouble, an outstation at line rate beside 31 others, a
-control centre at line rate beside 7 others.
+WHAT is `soak`, `day`, `outstation` or `client`: peers that make trouble, the same for a day by a clock that is many
+times as fast, an outstation at line rate beside 31 others, a control centre at line rate beside 7 others.
   --gateway WORDS       the program and further options of `gateway run` (the one that is built in this repository)
-  --seconds S           how long, or how long each part (60)
+  --seconds S           how long, or how long each part (60; of a day as long as it takes)
   --seed N              of what is done by chance (1)
-  --queue Q             observations that may wait for a client (200)
+  --queue Q             observations that may wait for a client (200; of a day 2000)
+  --speed N             of a day, how many times as fast the gateway's clock is, 24 to 60 (48)
   --outstations N       of the soak, 1 to 32 (8)       --clients N     1 to 8 (6)
-  --slow N              of them read slowly (2)        --rate EVENTS   a second of each outstation (150)
+  --slow N              of them read slowly (2)        --rate EVENTS   a second of each outstation (150; of a day 4)
   --goal MS             of one against all, the most that 99 of 100 events of quiet outstations may take to a control
                         centre that doesn't flood, which none of them may miss (nothing is wanted)
 The status is 0, 1 where something isn't as it has to be, or 2.";
+
+const DAY_SECONDS: u64 = 86_400;
 
 pub struct Options {
     pub gateway: Vec<String>,
@@ -40,22 +50,28 @@ pub struct Options {
     pub clients: usize,
     pub slow: usize,
     pub rate: f64,
+    pub speed: u64,
     /// In milliseconds, what one against all may make of others.
     pub goal: Option<f64>,
 }
 
-fn options(words: &mut dyn Iterator<Item = String>) -> Option<Options> {
-    let mut options = Options {
+fn defaults(is_day: bool) -> Options {
+    Options {
         gateway: vec![concat!(env!("CARGO_MANIFEST_DIR"), "/../../crates/gw_program/out/gw_program").to_string()],
-        seconds: 60,
+        seconds: if is_day { 0 } else { 60 },
         seed: 1,
-        queue: 200,
+        queue: if is_day { 2000 } else { 200 },
         outstations: 8,
         clients: 6,
         slow: 2,
-        rate: 150.0,
+        rate: if is_day { 4.0 } else { 150.0 },
+        speed: 48,
         goal: None,
-    };
+    }
+}
+
+fn options(is_day: bool, words: &mut dyn Iterator<Item = String>) -> Option<Options> {
+    let mut options = defaults(is_day);
     while let Some(name) = words.next() {
         let value = words.next()?;
         match name.as_str() {
@@ -67,9 +83,13 @@ fn options(words: &mut dyn Iterator<Item = String>) -> Option<Options> {
             "--clients" => options.clients = value.parse().ok().filter(|it| (1..=8).contains(it))?,
             "--slow" => options.slow = value.parse().ok()?,
             "--rate" => options.rate = value.parse().ok().filter(|it| *it > 0.0)?,
+            "--speed" => options.speed = value.parse().ok().filter(|it| (24..=60).contains(it))?,
             "--goal" => options.goal = Some(value.parse().ok().filter(|it| *it > 0.0)?),
             _ => return None,
         }
+    }
+    if options.seconds == 0 {
+        options.seconds = DAY_SECONDS / options.speed;
     }
     Some(options)
 }
@@ -77,8 +97,9 @@ fn options(words: &mut dyn Iterator<Item = String>) -> Option<Options> {
 fn main() -> ExitCode {
     let mut words = std::env::args().skip(1);
     let what = words.next().unwrap_or_default();
-    let result = match (what.as_str(), options(&mut words)) {
+    let result = match (what.as_str(), options(what == "day", &mut words)) {
         ("soak", Some(options)) => soak::run(&options),
+        ("day", Some(options)) => soak::day(&options),
         ("outstation", Some(options)) => against::outstation(&options),
         ("client", Some(options)) => against::client(&options),
         _ => {

@@ -4,19 +4,24 @@ use crate::ledger::Ledger;
 use crate::link::{Link, FRAGMENT};
 use crate::random::Random;
 use crate::system::{end_by_reset, is_readable, now_us, sleep_us};
+use crate::watch::Watch;
 use std::collections::VecDeque;
 use std::io::{Read, Write};
 use std::net::{TcpListener, TcpStream};
 use std::sync::atomic::{AtomicU64, Ordering::Relaxed};
 use std::sync::{Mutex, MutexGuard};
-use std::time::{Duration, SystemTime, UNIX_EPOCH};
+use std::time::Duration;
 
 /// The function codes of requests and responses.
 const CONFIRM: u8 = 0;
 const READ: u8 = 1;
 const WRITE: u8 = 2;
+const SELECT: u8 = 3;
+const OPERATE: u8 = 4;
+const DIRECT_OPERATE: u8 = 5;
 const ENABLE: u8 = 20;
 const DISABLE: u8 = 21;
+const RECORD_TIME: u8 = 24;
 const RESPONSE: u8 = 129;
 const UNSOLICITED: u8 = 130;
 /// Bits of a fragment's control octet.
@@ -24,12 +29,18 @@ const FIR: u8 = 0x80;
 const FIN: u8 = 0x40;
 const CON: u8 = 0x20;
 const UNS: u8 = 0x10;
-/// Internal indications: events of class 1 wait; the outstation has restarted; its event buffer overflowed.
-const CLASS_1: u8 = 0x02;
-const RESTARTED: u8 = 0x80;
-const OVERFLOWED: u8 = 0x08;
+/// Internal indications: events of class 1 wait; the outstation wants the time; it has restarted; its event buffer
+/// overflowed.
+pub const CLASS_1: u8 = 0x02;
+pub const NEED_TIME: u8 = 0x10;
+pub const RESTARTED: u8 = 0x80;
+pub const OVERFLOWED: u8 = 0x08;
 const CLASS_0: [u8; 3] = [60, 1, 6];
 const RESTART_CLEARED: [u8; 6] = [80, 1, 0, 7, 7, 0];
+/// What stands in front of the last recorded time, and of a control relay output block: group, variation and qualifier,
+/// and a count of one.
+const RECORDED: [u8; 4] = [50, 3, 7, 1];
+const CONTROL: [u8; 5] = [12, 1, INDICES, 1, 0];
 /// Qualifiers: a count and indices in 16 bits, a range in 16 bits.
 const INDICES: u8 = 0x28;
 const RANGE: u8 = 0x01;
@@ -45,8 +56,8 @@ const CONFIRMED_US: u64 = 8_000_000;
 const LOOK_US: u64 = 10_000;
 /// How long it sleeps where it looks for control centres to be told all.
 const PACE_US: u64 = 50;
-/// From one trouble that an outstation makes to the next, on average.
-const TROUBLE_US: u64 = 6_000_000;
+/// How far the clock of an outstation may be wrong at first.
+const WRONG_MS: u64 = 600_000;
 
 /// How an outstation goes about sending events without a pause.
 #[derive(Clone, Copy, PartialEq)]
@@ -86,6 +97,13 @@ pub struct Counts {
     pub withheld: AtomicU64,
     pub given_up: AtomicU64,
     pub overflowed: AtomicU64,
+    /// Polls for events, and integrity polls, and those of each whose period was over.
+    pub polls: [AtomicU64; 2],
+    pub polls_by_period: [AtomicU64; 2],
+    /// How often the clock was set, how many of its milliseconds it was behind then at most, and commands.
+    pub times_set: AtomicU64,
+    pub most_behind_ms: AtomicU64,
+    pub commands: AtomicU64,
 }
 
 fn count(counter: &AtomicU64) {
@@ -117,6 +135,11 @@ impl Site {
     /// The information object address of a point.
     pub fn address_of(&self, point: u16) -> u32 {
         (self.number as u32 + 1) << 16 | u32::from(point)
+    }
+
+    /// The information object address of a control.
+    pub fn control_address(&self, control: usize) -> u32 {
+        self.address_of(0xFF00 + control as u16)
     }
 
     pub fn ledger(&self) -> MutexGuard<'_, Ledger> {
@@ -177,29 +200,43 @@ struct Connection {
     is_to_be_cut: bool,
     /// More was sent than the master may have read.
     has_flooded: bool,
+    watch: Watch,
+}
+
+/// An event that wasn't confirmed.
+struct Event {
+    point: u16,
+    /// When it happened by the outstation's clock, in milliseconds since 1970.
+    stamp_ms: u64,
 }
 
 pub struct Outstation<'a> {
     board: &'a Board,
     site: &'a Site,
     random: Random,
-    /// The points of events that weren't confirmed, the oldest first.
-    events: VecDeque<u16>,
+    /// The oldest first.
+    events: VecDeque<Event>,
     next_event_us: u64,
     next_trouble_us: u64,
+    /// How far the outstation's clock is ahead of the true one, and when it wants to be set again.
+    ahead_ms: i64,
+    need_time_us: u64,
     has_restarted: bool,
     has_overflowed: bool,
 }
 
 /// Serves one connection of the master after the other, until the run is over.
 pub fn run(board: &Board, site: &Site, listener: &TcpListener) {
+    let mut random = Random::new(board.seed, site.number as u64);
     let mut outstation = Outstation {
         board,
         site,
-        random: Random::new(board.seed, site.number as u64),
+        ahead_ms: random.within(0, 2 * WRONG_MS) as i64 - WRONG_MS as i64,
+        random,
         events: VecDeque::new(),
         next_event_us: now_us(),
         next_trouble_us: 0,
+        need_time_us: if board.rhythm.need_time_ms > 0 { 0 } else { u64::MAX },
         has_restarted: true,
         has_overflowed: false,
     };
@@ -235,8 +272,9 @@ impl Outstation<'_> {
             deferred: None,
             is_to_be_cut: false,
             has_flooded: false,
+            watch: Watch::new(&self.board.rhythm, now_us()),
         };
-        self.next_trouble_us = now_us() + self.random.pause(TROUBLE_US);
+        self.next_trouble_us = now_us() + self.random.pause(self.board.rhythm.trouble_us);
         let end = loop {
             if let Err(end) = self.turn(&mut connection) {
                 break end;
@@ -262,9 +300,11 @@ impl Outstation<'_> {
         }
         let now = now_us();
         self.grow(now);
+        connection.watch.judge(now).map_err(End::Fault)?;
         if self.is_troubling() && now >= self.next_trouble_us {
-            self.next_trouble_us = now + self.random.pause(TROUBLE_US);
+            self.next_trouble_us = now + self.random.pause(self.board.rhythm.trouble_us);
             self.make_trouble(connection)?;
+            connection.watch.disturb(now_us());
         }
         self.repeat(connection, now)?;
         self.report(connection)?;
@@ -293,21 +333,22 @@ impl Outstation<'_> {
 
     /// Events happen.
     fn grow(&mut self, now: u64) {
-        if self.board.is_quiet() {
+        if self.board.is_uneventful() {
             self.next_event_us = now + LOOK_US;
             return;
         }
-        let manner = self.site.manner;
+        let (manner, points) = (self.site.manner, u64::from(self.site.points()));
         if manner.flood != Flood::Never {
-            while self.events.len() < BUFFER {
-                self.events.push_back(self.events.len() as u16 % self.site.points());
-            }
+            let stamp_ms = self.stamp_ms(now);
+            let missing = self.events.len() as u64..BUFFER as u64;
+            self.events.extend(missing.map(|it| Event { point: (it % points) as u16, stamp_ms }));
             return;
         }
         while self.next_event_us <= now {
             let together = self.random.within(1, manner.together + 1);
-            let first = self.random.within(0, u64::from(self.site.points()));
-            self.events.extend((first..first + together).map(|it| (it % u64::from(self.site.points())) as u16));
+            let (first, stamp_ms) = (self.random.within(0, points), self.stamp_ms(self.next_event_us));
+            let all = first..first + together;
+            self.events.extend(all.map(|it| Event { point: (it % points) as u16, stamp_ms }));
             self.next_event_us += self.random.pause((1e6 * together as f64 / manner.events_a_second) as u64);
         }
         if self.events.len() > BUFFER {
@@ -315,6 +356,11 @@ impl Outstation<'_> {
             count(&self.site.counts.overflowed);
             self.events.truncate(BUFFER);
         }
+    }
+
+    /// What the outstation's clock shows at a time.
+    fn stamp_ms(&self, at_us: u64) -> u64 {
+        self.board.rhythm.clock.wall_ms(at_us).saturating_add_signed(self.ahead_ms)
     }
 
     /// Ends the connection, is silent for a while, sends noise, or seems to have restarted.
@@ -340,8 +386,7 @@ impl Outstation<'_> {
     fn repeat(&mut self, connection: &mut Connection, now: u64) -> Result<(), End> {
         let Some(flight) = &mut connection.flight else { return Ok(()) };
         if !flight.is_unsolicited && now >= flight.began_us + GIVEN_UP_US {
-            (connection.flight, connection.answer) = (None, None);
-            count(&self.site.counts.given_up);
+            self.give_up(connection);
         } else if flight.is_unsolicited && now >= flight.repeat_us {
             if now >= flight.began_us + CONFIRMED_US {
                 return Err(End::Fault("an unsolicited response wasn't confirmed in 8 s".to_string()));
@@ -352,6 +397,13 @@ impl Outstation<'_> {
             self.send(connection, &octets)?;
         }
         Ok(())
+    }
+
+    /// Lets an answer go that isn't confirmed, or is asked for anew.
+    fn give_up(&self, connection: &mut Connection) {
+        (connection.flight, connection.answer) = (None, None);
+        connection.watch.disturb(now_us());
+        count(&self.site.counts.given_up);
     }
 
     /// Whether events wait: until control centres were told all that was sent, or for good.
@@ -372,7 +424,7 @@ impl Outstation<'_> {
         let number = connection.unsolicited_number;
         let mut fragment = vec![FIR | FIN | CON | UNS | number, UNSOLICITED, 0, 0];
         let (place, events) = self.put_events(&mut fragment, self.events.len());
-        self.indicate(&mut fragment, events);
+        self.indicate(connection, &mut fragment, events);
         if self.site.manner.flood == Flood::Blind {
             connection.unsolicited_number = (number + 1) & 0x0F;
             connection.has_flooded = true;
@@ -392,25 +444,54 @@ impl Outstation<'_> {
             return self.take_confirmation(connection, number, control & UNS != 0);
         }
         if connection.flight.as_ref().is_some_and(|it| !it.is_unsolicited) {
-            (connection.flight, connection.answer) = (None, None);
-            count(&self.site.counts.given_up);
+            self.give_up(connection);
         }
+        let mut echo = &[][..];
         match *function {
-            READ => {
-                let has_statics = objects.chunks(3).any(|it| it == CLASS_0);
-                if connection.flight.is_some() {
-                    connection.deferred = Some((number, has_statics));
-                    return Ok(());
-                }
-                return self.begin_answer(connection, number, has_statics);
-            }
+            READ => return self.take_read(connection, number, objects),
             WRITE if objects == RESTART_CLEARED => self.has_restarted = false,
+            WRITE if objects.starts_with(&RECORDED) => self.take_time(connection, &objects[RECORDED.len()..])?,
+            RECORD_TIME if objects.is_empty() => connection.watch.record(now_us()),
+            SELECT | OPERATE | DIRECT_OPERATE if objects.starts_with(&CONTROL) => {
+                count(&self.site.counts.commands);
+                echo = objects;
+            }
             ENABLE | DISABLE => connection.is_enabled = *function == ENABLE,
             _ => return Err(End::Fault(format!("a request that nobody makes: {fragment:02X?}"))),
         }
         let mut answer = vec![FIR | FIN | number, RESPONSE, 0, 0];
-        self.indicate(&mut answer, 0);
+        self.indicate(connection, &mut answer, 0);
+        answer.extend_from_slice(echo);
         self.send(connection, &answer)
+    }
+
+    /// A poll, which is answered at once, or once an unsolicited response is confirmed.
+    fn take_read(&mut self, connection: &mut Connection, number: u8, objects: &[u8]) -> Result<(), End> {
+        let has_statics = objects.chunks(3).any(|it| it == CLASS_0);
+        let is_over = connection.watch.polled(has_statics, now_us()).map_err(End::Fault)?;
+        count(&self.site.counts.polls[usize::from(has_statics)]);
+        if is_over {
+            count(&self.site.counts.polls_by_period[usize::from(has_statics)]);
+        }
+        if connection.flight.is_some() {
+            connection.deferred = Some((number, has_statics));
+            return Ok(());
+        }
+        self.begin_answer(connection, number, has_statics)
+    }
+
+    /// The clock is set, which was recorded before.
+    fn take_time(&mut self, connection: &mut Connection, time: &[u8]) -> Result<(), End> {
+        let [first, second, third, fourth, fifth, sixth] = *time else {
+            return Err(End::Fault(format!("a time of {} octets", time.len())));
+        };
+        let written_ms = u64::from_le_bytes([first, second, third, fourth, fifth, sixth, 0, 0]);
+        let behind = connection.watch.take_time(written_ms).map_err(End::Fault)?;
+        self.ahead_ms = -(behind as i64);
+        self.need_time_us = now_us() + self.board.rhythm.us(self.board.rhythm.need_time_ms);
+        count(&self.site.counts.times_set);
+        self.site.counts.most_behind_ms.fetch_max(behind, Relaxed);
+        Ok(())
     }
 
     /// A fragment was confirmed. Now and then the confirmation is taken as one that didn't come.
@@ -419,6 +500,7 @@ impl Outstation<'_> {
         let Some(flight) = connection.flight.take_if(is_of) else { return Ok(()) };
         self.site.ledger().confirm(flight.place);
         if self.is_troubling() && self.random.percent(3) {
+            connection.watch.disturb(now_us());
             count(&self.site.counts.withheld);
             if is_uns {
                 connection.flight = Some(Flight { began_us: now_us(), ..flight });
@@ -459,7 +541,6 @@ impl Outstation<'_> {
         }
         let is_last = answer.events == 0 && (!answer.has_statics || answer.next_point == self.site.points());
         fragment[0] |= if is_last { FIN } else { 0 } | if fragment.len() > 4 { CON } else { 0 };
-        self.indicate(&mut fragment, events);
         if fragment[0] & CON != 0 {
             let mut flight = Flight::new(false, answer.number, place, events, &fragment);
             flight.tells_all = is_last && answer.has_statics;
@@ -469,19 +550,19 @@ impl Outstation<'_> {
         if is_last {
             connection.answer = None;
         }
+        self.indicate(connection, &mut fragment, events);
         self.send(connection, &fragment)
     }
 
     /// Puts events into a fragment, the oldest first, at most so many; gives the fragment's place and their number.
     fn put_events(&mut self, fragment: &mut Vec<u8>, most: usize) -> (u32, usize) {
         let is_timed = self.random.percent(50) && self.site.manner.flood == Flood::Never;
-        let wall = SystemTime::now().duration_since(UNIX_EPOCH).map_or(0, |it| it.as_millis() as u64).to_le_bytes();
         let most = if self.is_troubling() { most.min(self.random.within(1, 120) as usize) } else { most };
         let mut ledger = self.site.ledger();
         let place = ledger.begin(now_us());
         let (mut events, mut header) = (0, None);
         while events < most && fragment.len() + 18 <= FRAGMENT {
-            let point = self.events[events];
+            let Event { point, stamp_ms } = self.events[events];
             let is_analog = point < self.site.manner.analogs;
             let count_at = match header {
                 Some((at, kind)) if kind == is_analog => at,
@@ -498,8 +579,8 @@ impl Outstation<'_> {
             let index = if is_analog { point } else { point - self.site.manner.analogs };
             fragment.extend_from_slice(&index.to_le_bytes());
             fragment.push(ON_LINE);
-            fragment.extend_from_slice(&ledger.add(point).to_le_bytes());
-            fragment.extend_from_slice(if is_timed { &wall[..6] } else { &[] });
+            fragment.extend_from_slice(&ledger.add(point, is_timed.then_some(stamp_ms)).to_le_bytes());
+            fragment.extend(stamp_ms.to_le_bytes().iter().take(if is_timed { 6 } else { 0 }));
             events += 1;
         }
         self.site.counts.events.fetch_add(events as u64, Relaxed);
@@ -524,7 +605,7 @@ impl Outstation<'_> {
             fragment.extend_from_slice(&[group, 1, RANGE, first_low, first_high, last_low, last_high]);
             for point in *next..last {
                 fragment.push(ON_LINE);
-                fragment.extend_from_slice(&ledger.add(point).to_le_bytes());
+                fragment.extend_from_slice(&ledger.add(point, None).to_le_bytes());
             }
             room -= usize::from(last - *next) + 2;
             self.site.counts.statics.fetch_add(u64::from(last - *next), Relaxed);
@@ -532,13 +613,16 @@ impl Outstation<'_> {
         }
     }
 
-    /// Sets the internal indications of a fragment that has so many events.
-    fn indicate(&self, fragment: &mut [u8], events: usize) {
+    /// Sets the internal indications of a fragment that has so many events and is about to be sent.
+    fn indicate(&self, connection: &mut Connection, fragment: &mut [u8], events: usize) {
+        let now = now_us();
         fragment[2] |= if self.has_restarted { RESTARTED } else { 0 };
+        fragment[2] |= if now >= self.need_time_us { NEED_TIME } else { 0 };
         // One that floods isn't asked for events.
         let has_more = self.events.len() > events && self.site.manner.flood == Flood::Never;
         fragment[2] |= if has_more { CLASS_1 } else { 0 };
         fragment[3] |= if self.has_overflowed { OVERFLOWED } else { 0 };
+        connection.watch.indicate(fragment[2], fragment[3], now);
     }
 
     /// Sends a fragment: at once, in pieces, or the front of it, and then the connection ends.

@@ -1,8 +1,9 @@
 //! A gateway between outstations and control centres, each with a thread of its own.
-use crate::board::{Board, Phase};
+use crate::board::Board;
 use crate::centre::{self, Desk, Habit, House};
 use crate::gateway::{settings, Gateway, Station};
 use crate::outstation::{self, Manner, Site};
+use crate::rhythm::Rhythm;
 use crate::system::{now_us, sleep_us};
 use crate::verdict::Graves;
 use crate::Options;
@@ -24,10 +25,10 @@ pub struct Scene {
 }
 
 impl Scene {
-    pub fn new(phase: Phase, seed: u64, station: Station, manners: &[Manner], habits: &[Habit]) -> Scene {
+    pub fn new(seed: u64, rhythm: Rhythm, station: Station, manners: &[Manner], habits: &[Habit]) -> Scene {
         let count = manners.len();
         Scene {
-            board: Board::new(seed, phase, habits.len()),
+            board: Board::new(seed, rhythm, habits.len()),
             sites: manners.iter().enumerate().map(|(number, it)| Site::new(number, *it)).collect(),
             desks: habits.iter().enumerate().map(|(number, it)| Desk::new(number, *it, count)).collect(),
             graves: Graves::default(),
@@ -80,8 +81,9 @@ impl Scene {
         let listeners = bound.map_err(fault)?;
         let ports: Result<Vec<_>, _> = listeners.iter().map(|it| it.local_addr().map(|it| it.port())).collect();
         let file = std::env::temp_dir().join(format!("soak-{}.toml", std::process::id()));
-        std::fs::write(&file, settings(&self.station, &self.sites, &ports.map_err(fault)?)).map_err(fault)?;
-        let mut gateway = Gateway::start(&options.gateway, &file)?;
+        let text = settings(&self.station, &self.board.rhythm, &self.sites, &ports.map_err(fault)?);
+        std::fs::write(&file, text).map_err(fault)?;
+        let mut gateway = Gateway::start(&options.gateway, &file, self.board.rhythm.clock)?;
         let played = thread::scope(|scope| {
             for (site, listener) in self.sites.iter().zip(&listeners) {
                 scope.spawn(move || outstation::run(&self.board, site, listener));

@@ -3,9 +3,11 @@ use crate::apdu::{
     objects, Object, CONFIRMATION, COUNTERS, COUNTERS_REQUESTED, GENERAL, INTERROGATED, IV, NT, SPONTANEOUS,
     TERMINATION,
 };
+use crate::calendar::Civil;
 use crate::histogram::Histogram;
 use crate::outstation::Site;
 use crate::system::now_us;
+use std::collections::BTreeMap;
 use std::ops::Range;
 
 /// How long it takes at most until a loss is noticed.
@@ -66,9 +68,14 @@ pub struct Session {
     pub doubts: Vec<Doubt>,
     pub observations: u64,
     pub losses: u64,
+    /// How many time tags came of each day.
+    pub days: Days,
     pub rows: u64,
     pub answers: u64,
 }
+
+/// How many time tags came, by their years, months and days.
+pub type Days = BTreeMap<[u8; 3], u64>;
 
 /// Of each outstation, the last object that was confirmed.
 pub fn before(sites: &[Site]) -> Vec<u32> {
@@ -93,6 +100,7 @@ impl Session {
             doubts: Vec::new(),
             observations: 0,
             losses: 0,
+            days: Days::new(),
             rows: 0,
             answers: 0,
         }
@@ -203,6 +211,9 @@ impl Session {
             if serial < *known || serial != 0 && !ledger.is_of(serial, point) {
                 return Err(wrong(object, "the loss of another value", *known));
             }
+            if object.time.is_some() {
+                return Err(wrong(object, "a loss with a time", *known));
+            }
             if self.doubts.last().is_none_or(|it| it.site != site) {
                 let times = self.began_us.saturating_sub(NOTICED_US)..now;
                 self.doubts.push(Doubt { site, times, address: object.address });
@@ -215,6 +226,7 @@ impl Session {
         if serial <= front.last {
             return Err(wrong(object, "news that are told again, late, or from before STARTDT", front.last));
         }
+        count_day(&mut self.days, object, ledger.stamp_ms(serial))?;
         self.observations += 1;
         self.unsure -= u64::from(serial < front.first_due);
         *known = serial;
@@ -230,6 +242,9 @@ impl Session {
         let Some(asked) = self.asked.as_mut().filter(|it| it.is_confirmed && cause == wanted) else {
             return Err(wrong(object, "a row that wasn't asked for", 0));
         };
+        if object.time.is_some() {
+            return Err(wrong(object, "a row with a time", 0));
+        }
         let (front, serial) = (&mut self.fronts[site], object.value);
         let (known, floor) = (front.points[usize::from(point)], asked.floor[site][usize::from(point)]);
         if serial != 0 && !sites[site].ledger().is_of(serial, point) {
@@ -262,6 +277,19 @@ impl Session {
     }
 }
 
+/// News have the time with which their object was sent, as the station's clocks show it, or none.
+fn count_day(days: &mut Days, object: &Object, stamp_ms: Option<u64>) -> Result<(), String> {
+    let wanted = stamp_ms.map(|it| Civil::at_station(it).tag());
+    if object.time != wanted {
+        let sent = stamp_ms.map_or("without a time".to_string(), |it| format!("with {}", Civil::at(it)));
+        return Err(wrong(object, &format!("news with the time tag {:02X?} that were sent {sent}", object.time), 0));
+    }
+    if let Some([.., day, month, year]) = object.time {
+        *days.entry([year, month, day]).or_default() += 1;
+    }
+    Ok(())
+}
+
 /// The place of the outstation and the point that an object is of.
 fn point_at(sites: &[Site], object: &Object) -> Result<(usize, u16), String> {
     let place = ((object.address >> 16) as usize).wrapping_sub(1);
@@ -273,7 +301,7 @@ fn point_at(sites: &[Site], object: &Object) -> Result<(usize, u16), String> {
 }
 
 fn wrong(object: &Object, what: &str, than: u32) -> String {
-    let Object { address, value, quality } = object;
+    let Object { address, value, quality, .. } = object;
     format!("{what}: address {address}, value {value}, quality {quality:02X}; {than} was known")
 }
 
@@ -297,7 +325,7 @@ mod tests {
         let mut ledger = site.ledger();
         ledger.begin(now_us());
         for point in points {
-            ledger.add(*point);
+            ledger.add(*point, None);
         }
     }
 
@@ -391,6 +419,31 @@ mod tests {
             vec![term.clone()],
         ] {
             assert!(interrogation(&wrong).is_err(), "{wrong:02X?}");
+        }
+    }
+
+    #[test]
+    fn times_are_those_that_were_given() {
+        let evening = 1_709_231_399_999;
+        let news = |time: &[u8]| {
+            let kind = if time.is_empty() { 7 } else { 33 };
+            let mut octets = asdu(kind, SPONTANEOUS, 0, 3, 0);
+            octets.extend_from_slice(time);
+            octets
+        };
+        let (right, wrong) = ([0x5F, 0xEA, 59, 23, 29, 2, 24], [0x5F, 0xEA, 59, 23, 1, 3, 24]);
+        for (stamp_ms, time, is_right) in [
+            (Some(evening), &right[..], true),
+            (Some(evening), &wrong[..], false),
+            (Some(evening), &[][..], false),
+            (None, &right[..], false),
+        ] {
+            let sites = site();
+            let mut session = Session::new(&sites, &before(&sites));
+            sites[0].ledger().begin(now_us());
+            sites[0].ledger().add(0, stamp_ms);
+            let taken = takes(&mut session, &sites, &[news(time)]);
+            assert_eq!(taken.is_ok() && session.days == Days::from([([24, 2, 29], 1)]), is_right, "{time:02X?}");
         }
     }
 

@@ -1,20 +1,24 @@
-//! The soak: peers that make trouble for a long time, in cycles that end in quiet.
+//! The soak: peers that make trouble for a long time, in cycles that end in quiet; and a day that takes less.
 use crate::board::Phase;
+use crate::calendar::date;
 use crate::centre::Habit;
 use crate::gateway::{Gateway, Station};
 use crate::histogram::Histogram;
-use crate::outstation::{self, Flood, Manner};
+use crate::outstation::{Flood, Manner};
+use crate::rhythm::Rhythm;
 use crate::scene::Scene;
 use crate::system::{now_us, processor_seconds, sleep_us, Holds};
 use crate::verdict::{Totals, REST_US};
 use crate::Options;
 use std::ops::Range;
-use std::sync::atomic::AtomicU64;
+use std::sync::atomic::Ordering::Relaxed;
 
 const SECOND_US: u64 = 1_000_000;
-/// How long the peers of a cycle make trouble and are calm, and how long it may take until all was taken then.
+/// How long the peers of a cycle make trouble, are calm, and in a day do nothing; and how long it may take until all was
+/// taken then.
 const WILD_US: u64 = 60 * SECOND_US;
 const CALM_US: u64 = 8 * SECOND_US;
+const STILL_US: u64 = 15 * SECOND_US;
 const QUIET_US: u64 = 60 * SECOND_US;
 const LOOK_US: u64 = 100_000;
 /// How much memory may grow from the first third of the time to the last, the first minute left out, where there are so
@@ -31,35 +35,47 @@ type Row = (&'static str, String);
 struct Soak<'a> {
     scene: &'a Scene,
     gateway: &'a mut Gateway,
+    is_day: bool,
     totals: Totals,
     /// What the gateway held each second.
     samples: Vec<Holds>,
 }
 
-/// Plays for so many seconds; prints what was seen.
+/// Peers make as much trouble as they can.
 pub fn run(options: &Options) -> Result<(), String> {
+    play(options, Rhythm::of_system(), false)
+}
+
+/// A day by a clock that is many times as fast.
+pub fn day(options: &Options) -> Result<(), String> {
+    play(options, Rhythm::of_day(options.speed, options.seed), true)
+}
+
+/// Plays for so many seconds; prints what was seen.
+fn play(options: &Options, rhythm: Rhythm, is_day: bool) -> Result<(), String> {
     let manner = |number: usize| Manner {
         is_unsolicited: number.is_multiple_of(2),
         analogs: ANALOGS,
         counters: COUNTERS,
         events_a_second: options.rate,
-        together: 10,
+        together: if is_day { 3 } else { 10 },
         is_wild: true,
         flood: Flood::Never,
     };
     let habit = |number: usize| Habit { is_slow: number < options.slow, is_wild: true, floods: false };
     let manners: Vec<Manner> = (0..options.outstations).map(manner).collect();
     let habits: Vec<Habit> = (0..options.clients).map(habit).collect();
-    let station = Station { queue: options.queue, k: 12, w: 8 };
-    let scene = Scene::new(Phase::Calm, options.seed, station, &manners, &habits);
+    let station = Station { queue: options.queue, k: 12, w: 8, controls: if is_day { options.clients } else { 0 } };
+    let scene = Scene::new(options.seed, rhythm, station, &manners, &habits);
     let steps = scene.run(options, |gateway, come| {
         let before = Holds::of(gateway.process());
         come(gateway);
-        let mut soak = Soak { scene: &scene, gateway, totals: Totals::default(), samples: Vec::new() };
+        let (totals, samples) = (Totals::default(), Vec::new());
+        let mut soak = Soak { scene: &scene, gateway, is_day, totals, samples };
         let played = soak.play(options.seconds * SECOND_US);
         let after = Holds::of(soak.gateway.process());
         print!("{}", soak.report(before, after));
-        played.and_then(|()| soak.judge_holds(before, after))
+        played.and_then(|()| soak.judge_holds(before, after)).and_then(|()| soak.judge_counts())
     })?;
     println!("the gateway ended by itself: {steps}");
     Ok(())
@@ -80,6 +96,10 @@ impl Soak<'_> {
             self.watch(wild, |_| false)?;
             self.scene.board.enter(Phase::Calm);
             self.watch(CALM_US, |_| false)?;
+            if self.is_day {
+                self.scene.board.enter(Phase::Still);
+                self.watch(STILL_US, |_| false)?;
+            }
             self.scene.board.enter(Phase::Quiet);
             self.watch(QUIET_US, Scene::have_all_left)?;
             if !self.scene.have_all_left() {
@@ -97,6 +117,9 @@ impl Soak<'_> {
         while now_us() < end && !is_over(self.scene) {
             if let Some(fault) = self.scene.board.first_fault() {
                 return Err(fault);
+            }
+            if let Some(line) = self.gateway.wrong_line() {
+                return Err(line);
             }
             if self.gateway.has_ended() {
                 return Err("the gateway has ended".to_string());
@@ -135,28 +158,34 @@ impl Soak<'_> {
             ("seed, queue", format!("{}, {}", self.scene.board.seed, self.scene.station.queue)),
             ("seconds", format!("{}", now_us() / SECOND_US)),
         ];
+        if self.is_day {
+            let clock = &self.scene.board.rhythm.clock;
+            rows.push(("the gateway's clock", format!("from {} to {}", clock.civil(0), clock.civil(now_us()))));
+        }
         rows.extend(self.report_outstations());
         rows.extend(self.report_clients());
+        rows.extend(self.report_times());
         rows.extend(self.report_gateway(before, after));
         rows.iter().map(|(name, text)| format!("{name:26}{text}\n")).collect()
     }
 
     fn report_outstations(&self) -> [Row; 3] {
-        let of = |count: fn(&outstation::Counts) -> &AtomicU64| self.scene.of_sites(count);
+        let scene = self.scene;
         let confirmed: u64 = self.scene.sites.iter().map(|it| it.ledger().confirmed_count).sum();
-        let connections = format!("{}, ended by them {}", of(|it| &it.connections), of(|it| &it.ended_here));
+        let connections =
+            format!("{}, ended by them {}", scene.of_sites(|it| &it.connections), scene.of_sites(|it| &it.ended_here));
         let fragments = format!(
             "{}, unsolicited repeated {}, answers given up {}, confirmations taken as lost {}",
-            of(|it| &it.fragments),
-            of(|it| &it.repeated),
-            of(|it| &it.given_up),
-            of(|it| &it.withheld)
+            scene.of_sites(|it| &it.fragments),
+            scene.of_sites(|it| &it.repeated),
+            scene.of_sites(|it| &it.given_up),
+            scene.of_sites(|it| &it.withheld)
         );
         let objects = format!(
             "{} events, {} static values; confirmed {confirmed}; buffers overflowed {} times",
-            of(|it| &it.events),
-            of(|it| &it.statics),
-            of(|it| &it.overflowed)
+            scene.of_sites(|it| &it.events),
+            scene.of_sites(|it| &it.statics),
+            scene.of_sites(|it| &it.overflowed)
         );
         [("outstations' connections", connections), ("fragments", fragments), ("objects sent", objects)]
     }
@@ -180,6 +209,58 @@ impl Soak<'_> {
             ("missing", format!("{missing}, told as dropped {dropped}; waiting at an end {left_waiting}")),
             ("latency", format!("{latency}")),
         ]
+    }
+
+    /// What came by the gateway's clock.
+    fn report_times(&self) -> [Row; 5] {
+        let scene = self.scene;
+        let behind = scene.sites.iter().map(|it| it.counts.most_behind_ms.load(Relaxed)).max().unwrap_or(0);
+        let polls = format!(
+            "{} for events, of these {} a period behind the last; {} for all, of these {}",
+            scene.of_sites(|it| &it.polls[0]),
+            scene.of_sites(|it| &it.polls_by_period[0]),
+            scene.of_sites(|it| &it.polls[1]),
+            scene.of_sites(|it| &it.polls_by_period[1])
+        );
+        let timers = format!(
+            "{} ends by t1; {} S formats; {} tests, of these {} by t3",
+            scene.of_desks(|it| &it.ended_by_t1),
+            scene.of_desks(|it| &it.s_formats_came),
+            scene.of_desks(|it| &it.tests_came),
+            scene.of_desks(|it| &it.tests_by_period)
+        );
+        let commands = format!(
+            "{} executed, {} refused behind their selection, {} refused by outstations",
+            scene.of_desks(|it| &it.executed),
+            scene.of_desks(|it| &it.expired),
+            scene.of_desks(|it| &it.refused)
+        );
+        let days: Vec<String> = self.totals.days.iter().map(|it| format!("{} of {}", it.1, date(*it.0))).collect();
+        [
+            ("polls", polls),
+            ("clocks set", format!("{}, {behind} ms behind at most", scene.of_sites(|it| &it.times_set))),
+            ("by the gateway's clock", timers),
+            ("commands", commands),
+            ("time tags", days.join(", ")),
+        ]
+    }
+
+    /// In a day all that comes by the clock has to have come.
+    fn judge_counts(&self) -> Result<(), String> {
+        let scene = self.scene;
+        let counts = [
+            ("poll for events", scene.of_sites(|it| &it.polls_by_period[0])),
+            ("integrity poll", scene.of_sites(|it| &it.polls_by_period[1])),
+            ("setting of a clock", scene.of_sites(|it| &it.times_set)),
+            ("test by t3", scene.of_desks(|it| &it.tests_by_period)),
+            ("executed command", scene.of_desks(|it| &it.executed)),
+            ("command behind its selection", scene.of_desks(|it| &it.expired)),
+            ("second date", (self.totals.days.len() as u64).saturating_sub(1)),
+        ];
+        match counts.iter().find(|it| self.is_day && it.1 == 0) {
+            Some((what, _)) => Err(format!("no {what} came in a day")),
+            None => Ok(()),
+        }
     }
 
     fn report_gateway(&self, before: Holds, after: Holds) -> [Row; 3] {

@@ -1,8 +1,8 @@
 //! What the standard library lacks of the system: waiting for a socket, its options, figures of a process.
 use std::os::fd::AsRawFd;
 use std::sync::OnceLock;
-use std::time::Instant;
 
+const CLOCK_MONOTONIC: i32 = 1;
 const POLLIN: i16 = 1;
 const SOL_SOCKET: i32 = 1;
 const SO_RCVBUF: i32 = 8;
@@ -22,14 +22,29 @@ struct Time {
 }
 
 extern "C" {
+    fn clock_gettime(clock: i32, time: *mut Time) -> i32;
     fn ppoll(polls: *mut Poll, count: u64, wait: *const Time, signals: *const u8) -> i32;
     fn setsockopt(descriptor: i32, level: i32, name: i32, value: *const i32, length: u32) -> i32;
 }
 
-/// Microseconds since the first call.
+/// What the system's monotonic clock shows, in nanoseconds.
+fn monotonic_ns() -> u64 {
+    let mut time = Time { seconds: 0, nanoseconds: 0 };
+    // SAFETY: one time, alive during the call.
+    unsafe { clock_gettime(CLOCK_MONOTONIC, &mut time) };
+    time.seconds as u64 * 1_000_000_000 + time.nanoseconds as u64
+}
+
+/// What it showed when this program first looked.
+pub fn began_ns() -> u64 {
+    static BEGAN: OnceLock<u64> = OnceLock::new();
+    *BEGAN.get_or_init(monotonic_ns)
+}
+
+/// Microseconds since then.
 pub fn now_us() -> u64 {
-    static BEGAN: OnceLock<Instant> = OnceLock::new();
-    BEGAN.get_or_init(Instant::now).elapsed().as_micros() as u64
+    let began = began_ns();
+    (monotonic_ns() - began) / 1000
 }
 
 pub fn sleep_us(duration: u64) {

@@ -2,7 +2,7 @@
 use crate::gateway::{Gateway, Station};
 use crate::outstation::Site;
 use crate::scene::Scene;
-use crate::session::Session;
+use crate::session::{Days, Session};
 use crate::system::now_us;
 use std::collections::VecDeque;
 use std::net::SocketAddr;
@@ -58,6 +58,7 @@ pub struct Totals {
     pub exact: u64,
     pub observations: u64,
     pub losses: u64,
+    pub days: Days,
     pub answers: u64,
     pub rows: u64,
     /// Of each client and outstation, the confirmed objects that didn't come though they had to, if they weren't dropped.
@@ -163,6 +164,7 @@ impl Totals {
             self.whole += u64::from(*is_whole);
             self.observations += session.observations;
             self.losses += session.losses;
+            session.days.iter().for_each(|it| *self.days.entry(*it.0).or_default() += it.1);
             self.answers += session.answers;
             self.rows += session.rows;
         }
@@ -197,7 +199,7 @@ mod tests {
         let mut ledger = sites[0].ledger();
         let place = ledger.begin(2);
         for _ in 0..3 {
-            ledger.add(0);
+            ledger.add(0, None);
         }
         ledger.confirm(place);
         drop(ledger);
@@ -214,7 +216,7 @@ mod tests {
         let (sites, ended) = unheard(is_answered);
         let grave =
             Grave { client: 0, address: ([127, 0, 0, 1], 1).into(), ended: vec![ended], gave_way: false, at_us: 3 };
-        Totals::default().judge_one(&grave, &sites, &Station { queue, k: 0, w: 0 }, dropped)
+        Totals::default().judge_one(&grave, &sites, &Station { queue, k: 0, w: 0, controls: 0 }, dropped)
     }
 
     #[test]
