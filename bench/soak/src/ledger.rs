@@ -3,14 +3,6 @@
 //! that is sent anew, since its confirmation was lost with a connection, has another number than before.
 use std::ops::Range;
 
-struct Object {
-    point: u16,
-    /// The place of its fragment.
-    fragment: u32,
-    /// The time that it has with it, where it has one: milliseconds since 1970.
-    stamp_ms: Option<u64>,
-}
-
 /// A fragment with objects, which have the serial numbers from `first` on.
 struct Sent {
     first: u32,
@@ -19,8 +11,10 @@ struct Sent {
 }
 
 pub struct Ledger {
-    /// Of each serial number. Number 0 is of nothing.
-    objects: Vec<Object>,
+    /// Of each serial number, the point, and the place of its fragment. Number 0 is of nothing.
+    objects: Vec<(u16, u32)>,
+    /// Of each object that was sent with a time, its serial number and the time in milliseconds since 1970.
+    stamps: Vec<(u32, u64)>,
     fragments: Vec<Sent>,
     /// Of each point, the last object of a fragment that was confirmed.
     confirmed: Vec<u32>,
@@ -36,7 +30,8 @@ pub struct Ledger {
 impl Ledger {
     pub fn new(points: u16) -> Ledger {
         Ledger {
-            objects: vec![Object { point: u16::MAX, fragment: 0, stamp_ms: None }],
+            objects: vec![(u16::MAX, 0)],
+            stamps: Vec::new(),
             fragments: Vec::new(),
             confirmed: vec![0; usize::from(points)],
             last_confirmed: 0,
@@ -57,10 +52,17 @@ impl Ledger {
         self.fragments.len() as u32 - 1
     }
 
-    /// One more object in the fragment that was begun last; gives its serial number.
+    /// One more object in the fragment that was begun last, with a time where it has one; gives its serial number.
     pub fn add(&mut self, point: u16, stamp_ms: Option<u64>) -> u32 {
-        self.objects.push(Object { point, fragment: self.fragments.len() as u32 - 1, stamp_ms });
-        self.next() - 1
+        let serial = self.next();
+        self.objects.push((point, self.fragments.len() as u32 - 1));
+        self.stamps.extend(stamp_ms.map(|it| (serial, it)));
+        serial
+    }
+
+    /// The time that an object was sent with.
+    pub fn stamp_ms(&self, serial: u32) -> Option<u64> {
+        self.stamps.binary_search_by_key(&serial, |it| it.0).ok().map(|it| self.stamps[it].1)
     }
 
     fn objects_of(&self, fragment: u32) -> Range<u32> {
@@ -74,7 +76,7 @@ impl Ledger {
             return;
         }
         for serial in self.objects_of(fragment) {
-            let point = usize::from(self.objects[serial as usize].point);
+            let point = usize::from(self.objects[serial as usize].0);
             self.confirmed[point] = self.confirmed[point].max(serial);
             self.last_confirmed = self.last_confirmed.max(serial);
             self.confirmed_count += 1;
@@ -91,25 +93,16 @@ impl Ledger {
 
     /// Whether the object of this number was sent, and is of that point.
     pub fn is_of(&self, serial: u32, point: u16) -> bool {
-        self.objects.get(serial as usize).is_some_and(|it| it.point == point)
-    }
-
-    fn fragment_of(&self, serial: u32) -> &Sent {
-        &self.fragments[self.objects[serial as usize].fragment as usize]
+        self.objects.get(serial as usize).is_some_and(|it| it.0 == point)
     }
 
     /// When the fragment with an object was sent.
     pub fn sent_us(&self, serial: u32) -> u64 {
-        self.fragment_of(serial).at_us
-    }
-
-    /// The time that an object has with it: milliseconds since 1970.
-    pub fn stamp_ms(&self, serial: u32) -> Option<u64> {
-        self.objects[serial as usize].stamp_ms
+        self.fragments[self.objects[serial as usize].1 as usize].at_us
     }
 
     fn is_confirmed(&self, serial: u32) -> bool {
-        self.fragment_of(serial).is_confirmed
+        self.fragments[self.objects[serial as usize].1 as usize].is_confirmed
     }
 
     /// How many of these objects were confirmed, and the first of them.

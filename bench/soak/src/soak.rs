@@ -158,13 +158,12 @@ impl Soak<'_> {
             ("seed, queue", format!("{}, {}", self.scene.board.seed, self.scene.station.queue)),
             ("seconds", format!("{}", now_us() / SECOND_US)),
         ];
-        if self.is_day {
-            let clock = &self.scene.board.rhythm.clock;
-            rows.push(("the gateway's clock", format!("from {} to {}", clock.civil(0), clock.civil(now_us()))));
-        }
         rows.extend(self.report_outstations());
         rows.extend(self.report_clients());
         rows.extend(self.report_times());
+        if self.is_day {
+            rows.extend(self.report_day());
+        }
         rows.extend(self.report_gateway(before, after));
         rows.iter().map(|(name, text)| format!("{name:26}{text}\n")).collect()
     }
@@ -212,36 +211,40 @@ impl Soak<'_> {
     }
 
     /// What came by the gateway's clock.
-    fn report_times(&self) -> [Row; 5] {
+    fn report_times(&self) -> [Row; 3] {
         let scene = self.scene;
-        let behind = scene.sites.iter().map(|it| it.counts.most_behind_ms.load(Relaxed)).max().unwrap_or(0);
-        let polls = format!(
-            "{} for events, of these {} a period behind the last; {} for all, of these {}",
-            scene.of_sites(|it| &it.polls[0]),
-            scene.of_sites(|it| &it.polls_by_period[0]),
-            scene.of_sites(|it| &it.polls[1]),
-            scene.of_sites(|it| &it.polls_by_period[1])
-        );
+        let [events, all] = [0, 1].map(|kind| scene.of_sites(|it| &it.polls[kind]));
         let timers = format!(
-            "{} ends by t1; {} S formats; {} tests, of these {} by t3",
+            "{} ends by t1, {} S formats, {} tests",
             scene.of_desks(|it| &it.ended_by_t1),
             scene.of_desks(|it| &it.s_formats_came),
-            scene.of_desks(|it| &it.tests_came),
-            scene.of_desks(|it| &it.tests_by_period)
+            scene.of_desks(|it| &it.tests_came)
         );
+        let days: Vec<String> = self.totals.days.iter().map(|it| format!("{} of {}", it.1, date(*it.0))).collect();
+        [
+            ("polls", format!("{events} for events, {all} for all")),
+            ("by the gateway's timers", timers),
+            ("time tags", days.join(", ")),
+        ]
+    }
+
+    /// What a day has besides.
+    fn report_day(&self) -> [Row; 4] {
+        let (scene, clock) = (self.scene, &self.scene.board.rhythm.clock);
+        let behind = scene.sites.iter().map(|it| it.counts.most_behind_ms.load(Relaxed)).max().unwrap_or(0);
+        let [events, all] = [0, 1].map(|kind| scene.of_sites(|it| &it.polls_by_period[kind]));
+        let tests = scene.of_desks(|it| &it.tests_by_period);
         let commands = format!(
             "{} executed, {} refused behind their selection, {} refused by outstations",
             scene.of_desks(|it| &it.executed),
             scene.of_desks(|it| &it.expired),
             scene.of_desks(|it| &it.refused)
         );
-        let days: Vec<String> = self.totals.days.iter().map(|it| format!("{} of {}", it.1, date(*it.0))).collect();
         [
-            ("polls", polls),
+            ("the gateway's clock", format!("from {} to {}", clock.civil(0), clock.civil(now_us()))),
+            ("a period behind the last", format!("{events} polls for events, {all} for all, {tests} tests")),
             ("clocks set", format!("{}, {behind} ms behind at most", scene.of_sites(|it| &it.times_set))),
-            ("by the gateway's clock", timers),
             ("commands", commands),
-            ("time tags", days.join(", ")),
         ]
     }
 

@@ -16,10 +16,10 @@ pub struct Watch {
 }
 
 impl Watch {
-    /// A connection begins.
+    /// A connection is accepted, which may have stood for a while.
     pub fn new(rhythm: &Rhythm, now: u64) -> Watch {
         let round = |what, period_ms| Round::new(what, rhythm.us(period_ms), rhythm.slack_us, now);
-        Watch {
+        let mut watch = Watch {
             rhythm: *rhythm,
             polls: round("a poll for events", rhythm.poll_ms),
             integrity: round("an integrity poll", rhythm.integrity_ms),
@@ -27,7 +27,9 @@ impl Watch {
             recorded_us: None,
             excused_us: 0,
             looked_us: now,
-        }
+        };
+        watch.excuse(now, now);
+        watch
     }
 
     /// Whether nothing is late.
