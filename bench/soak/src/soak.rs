@@ -21,6 +21,8 @@ const CALM_US: u64 = 8 * SECOND_US;
 const STILL_US: u64 = 15 * SECOND_US;
 const QUIET_US: u64 = 60 * SECOND_US;
 const LOOK_US: u64 = 100_000;
+/// After how long all has come that a day has.
+const LONG_US: u64 = 120 * SECOND_US;
 /// How much memory may grow from the first third of the time to the last, the first minute left out, where there are so
 /// many samples.
 const GROWTH_KB: u64 = 512;
@@ -248,7 +250,7 @@ impl Soak<'_> {
         ]
     }
 
-    /// In a day all that comes by the clock has to have come.
+    /// All that a day has by the clock has to have come, where it was long enough.
     fn judge_counts(&self) -> Result<(), String> {
         let scene = self.scene;
         let counts = [
@@ -260,7 +262,8 @@ impl Soak<'_> {
             ("command behind its selection", scene.of_desks(|it| &it.expired)),
             ("second date", (self.totals.days.len() as u64).saturating_sub(1)),
         ];
-        match counts.iter().find(|it| self.is_day && it.1 == 0) {
+        let is_judged = self.is_day && now_us() >= LONG_US;
+        match counts.iter().find(|it| is_judged && it.1 == 0) {
             Some((what, _)) => Err(format!("no {what} came in a day")),
             None => Ok(()),
         }
