@@ -34,8 +34,6 @@ const DONE: usize = 12;
 /// What a flooding control centre writes at once: tests, fewer than may wait for their confirmation, and S formats.
 const TESTS: usize = 24;
 const S_FORMATS: usize = 600;
-/// How long nothing comes when all was taken.
-const SILENT_US: u64 = 1_500_000;
 
 /// Why a connection ends.
 enum End {
@@ -493,7 +491,7 @@ impl<'a> Connection<'a> {
 
     /// Interrogates once nothing more comes, and leaves once that is answered: all that waited goes before the answer.
     fn leave_quietly(&mut self, now: u64) -> Result<(), End> {
-        let is_silent = now > self.last_i_us + SILENT_US && now > self.hold_us.max(self.deaf_us) + SILENT_US;
+        let is_silent = now > self.last_i_us.max(self.hold_us).max(self.deaf_us) + self.rhythm.silent_us;
         let Some(session) = &self.session else { return if is_silent { self.go(false) } else { Ok(()) } };
         if session.is_asking() || self.selection.is_under_way() {
             return Ok(());

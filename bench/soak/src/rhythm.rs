@@ -34,6 +34,8 @@ pub struct Rhythm {
     pub trouble_us: u64,
     pub stay_us: u64,
     pub act_us: u64,
+    /// How long nothing comes when all was taken, with integrity polls as often as they are.
+    pub silent_us: u64,
 }
 
 impl Rhythm {
@@ -53,6 +55,7 @@ impl Rhythm {
             trouble_us: 6 * SECOND_US,
             stay_us: 4 * SECOND_US,
             act_us: 900_000,
+            silent_us: 1_500_000,
         }
     }
 
@@ -73,6 +76,7 @@ impl Rhythm {
             trouble_us: 20 * SECOND_US,
             stay_us: 20 * SECOND_US,
             act_us: 2 * SECOND_US,
+            silent_us: 700_000,
         }
     }
 
