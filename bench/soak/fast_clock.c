@@ -1,5 +1,6 @@
-/* To be preloaded by a program: a clock that is many times as fast. What the program is shown as the time, monotonic or
- * since 1970, goes on from the moment at which the fast clock began; sleeps and time-outs of the system stay as they are.
+/* To be preloaded by a program: a clock that is many times as fast. What the program is shown as the time, monotonic
+ * or since 1970, goes on from the moment at which the fast clock began; sleeps and time-outs of the system stay as
+ * they are.
  *
  * FAST_CLOCK_TIMES: how many times as fast it is.
  * FAST_CLOCK_BEGAN: what the system's monotonic clock showed when it began, in nanoseconds; so it shows then, too.

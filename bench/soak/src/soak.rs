@@ -14,8 +14,8 @@ use std::ops::Range;
 use std::sync::atomic::Ordering::Relaxed;
 
 const SECOND_US: u64 = 1_000_000;
-/// How long the peers of a cycle make trouble, are calm, and in a day do nothing; and how long it may take until all was
-/// taken then.
+/// How long the peers of a cycle make trouble, are calm, and in a day do nothing; and how long it may take until all
+/// was taken then.
 const WILD_US: u64 = 60 * SECOND_US;
 const CALM_US: u64 = 8 * SECOND_US;
 const STILL_US: u64 = 15 * SECOND_US;

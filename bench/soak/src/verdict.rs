@@ -61,7 +61,8 @@ pub struct Totals {
     pub days: Days,
     pub answers: u64,
     pub rows: u64,
-    /// Of each client and outstation, the confirmed objects that didn't come though they had to, if they weren't dropped.
+    /// Of each client and outstation, the confirmed objects that didn't come though they had to, if they weren't
+    /// dropped.
     pub missing: Vec<Vec<u64>>,
     pub dropped: u64,
     /// What was told as dropped for each client.

@@ -86,8 +86,8 @@ impl Watch {
         self.time_due_us = Some(now);
     }
 
-    /// The master writes the time at which it let the outstation record it, in milliseconds since 1970. Gives how many of
-    /// these it is behind.
+    /// The master writes the time at which it let the outstation record it, in milliseconds since 1970. Gives how many
+    /// of these it is behind.
     pub fn take_time(&mut self, written_ms: u64) -> Result<u64, String> {
         let recorded = self.recorded_us.take().ok_or("a time is written that wasn't recorded")?;
         self.time_due_us = None;
