@@ -9,6 +9,8 @@ use std::sync::atomic::{AtomicU64, Ordering::Relaxed};
 /// milliseconds.
 const PAUSE_US: u64 = 500_000;
 const EXACT_US: u64 = 1000;
+/// The cause of a confirmation that refuses.
+const REFUSED: u8 = CONFIRMATION | NEGATIVE;
 
 #[derive(Clone, Copy, Debug, PartialEq)]
 enum Stage {
@@ -36,6 +38,11 @@ impl Selection {
     pub fn new(client: usize, select_us: u64, now: u64) -> Selection {
         let (asked_us, selected_us, next_us) = (0, 0, now);
         Selection { client, select_us, stage: Stage::Idle, site: 0, asked_us, selected_us, next_us, sent: [0; 10] }
+    }
+
+    /// The outstation that is asked.
+    pub fn site(&self) -> usize {
+        self.site
     }
 
     pub fn is_under_way(&self) -> bool {
@@ -111,20 +118,12 @@ impl Selection {
         (self.stage, self.next_us) = (Stage::Idle, now + random.pause(PAUSE_US));
         Ok(())
     }
-
-    /// The outstation that is asked.
-    pub fn site(&self) -> usize {
-        self.site
-    }
 }
-
-const REFUSED: u8 = CONFIRMATION | NEGATIVE;
 
 #[cfg(test)]
 mod tests {
     use super::*;
     use crate::outstation::{Flood, Manner};
-    use std::sync::atomic::Ordering::Relaxed;
 
     /// A command that is selected at 10 and confirmed at 20, executed at a time, and answered so behind 5 more.
     fn executed(at_us: u64, cause: u8) -> Result<[u64; 2], String> {
