@@ -144,6 +144,11 @@ impl Soak<'_> {
         (median(&self.samples, begin..begin + third), median(&self.samples, count - third..count))
     }
 
+    fn tenths(&self) -> [u64; 10] {
+        let count = self.samples.len();
+        std::array::from_fn(|it| median(&self.samples, count * it / 10..count * (it + 1) / 10))
+    }
+
     fn judge_holds(&self, before: Holds, after: Holds) -> Result<(), String> {
         let (first, last) = self.memory();
         if (after.threads, after.descriptors) != (before.threads, before.descriptors) {
@@ -269,7 +274,7 @@ impl Soak<'_> {
         }
     }
 
-    fn report_gateway(&self, before: Holds, after: Holds) -> [Row; 3] {
+    fn report_gateway(&self, before: Holds, after: Holds) -> [Row; 4] {
         let most = |of: fn(&Holds) -> u64| self.samples.iter().map(of).max().unwrap_or(0);
         let [gateway, own] = [self.gateway.process(), std::process::id()].map(processor_seconds);
         let (first, last) = self.memory();
@@ -279,6 +284,7 @@ impl Soak<'_> {
         [
             ("processor", format!("gateway {gateway:.1} s, this program {own:.1} s")),
             ("memory", format!("{first} kB in the first third, {last} kB in the last, at most {highest} kB")),
+            ("memory of each tenth", format!("{:?} kB", self.tenths())),
             (
                 "threads, descriptors",
                 format!("{} before; {} after; at most {highest_holds}", holds(before), holds(after)),
