@@ -189,7 +189,16 @@ impl Gateway {
         self.told.lock().unwrap().wrong.clone()
     }
 
-    pub fn last_lines(&self) -> String {
+    /// A fault with how the gateway is, and its last lines.
+    pub fn tell(&mut self, fault: &str) -> String {
+        let state = match self.child.try_wait() {
+            Ok(Some(status)) => format!("has ended ({status})"),
+            _ => "runs".to_string(),
+        };
+        format!("{fault}\nThe gateway {state}. Its last lines:\n{}", self.last_lines())
+    }
+
+    fn last_lines(&self) -> String {
         let told = self.told.lock().unwrap();
         told.last.iter().map(|it| format!("  {it}\n")).collect()
     }

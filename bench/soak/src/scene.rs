@@ -100,8 +100,7 @@ impl Scene {
             self.board.end();
             played
         });
-        let told = |it| format!("{it}\nThe gateway's last lines:\n{}", gateway.last_lines());
-        played.and(self.board.first_fault().map_or(Ok(()), Err)).map_err(told)?;
+        played.and(self.board.first_fault().map_or(Ok(()), Err)).map_err(|it| gateway.tell(&it))?;
         let printed = gateway.finish()?;
         let _ = std::fs::remove_file(&file);
         Ok(printed)
