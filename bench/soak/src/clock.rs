@@ -1,11 +1,9 @@
 //! The clock of a run: the system's, or one that is many times as fast, which the gateway is shown by a library.
 use crate::calendar::Civil;
+use crate::preload::Libraries;
 use crate::system::{began_ns, now_us};
-use std::path::{Path, PathBuf};
 use std::process::Command;
 use std::time::{SystemTime, UNIX_EPOCH};
-
-const SOURCE: &str = concat!(env!("CARGO_MANIFEST_DIR"), "/fast_clock.c");
 
 #[derive(Clone, Copy)]
 pub struct Clock {
@@ -48,25 +46,15 @@ impl Clock {
         us * self.times / 1000
     }
 
-    /// Shows it to a program that is about to start, by a library where it isn't the system's; gives its file.
-    pub fn show(&self, command: &mut Command) -> Result<Option<PathBuf>, String> {
+    /// Shows it to a program that is about to start, by a library where it isn't the system's.
+    pub fn show(&self, libraries: &mut Libraries, command: &mut Command) -> Result<(), String> {
         if !self.is_fast() {
-            return Ok(None);
+            return Ok(());
         }
-        let file = std::env::temp_dir().join(format!("soak-{}.so", std::process::id()));
-        compile(&file)?;
-        command.env("LD_PRELOAD", &file);
+        libraries.add("fast_clock")?;
         for (name, number) in [("TIMES", self.times), ("BEGAN", began_ns()), ("WALL", self.began_ms * 1_000_000)] {
             command.env(format!("FAST_CLOCK_{name}"), number.to_string());
         }
-        Ok(Some(file))
-    }
-}
-
-fn compile(file: &Path) -> Result<(), String> {
-    let status = Command::new("cc").args(["-shared", "-fPIC", "-O2", "-o"]).arg(file).arg(SOURCE).status();
-    match status {
-        Ok(status) if status.success() => Ok(()),
-        status => Err(format!("cc {SOURCE}: {status:?}")),
+        Ok(())
     }
 }

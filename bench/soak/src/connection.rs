@@ -368,6 +368,9 @@ impl<'a> Connection<'a> {
             _ => {
                 self.acknowledge()?;
                 self.stopping_us = Some(now);
+                if let Some(session) = &mut self.session {
+                    session.stop(&self.house.scene.sites);
+                }
                 self.note("STOPDT");
                 self.put(&STOP)
             }

@@ -1,13 +1,16 @@
 //! The gateway's process, and what it tells on standard error.
 use crate::calendar::OFFSET_MINUTES;
 use crate::clock::Clock;
+use crate::heap::HeapCount;
 use crate::outstation::Site;
+use crate::preload::Libraries;
 use crate::rhythm::Rhythm;
-use crate::system::{now_us, sleep_us};
+use crate::system::{now_us, sleep_us, Holds};
 use std::collections::{HashMap, VecDeque};
 use std::fmt::Write as _;
 use std::io::{BufRead, BufReader, Read};
 use std::net::SocketAddr;
+use std::path::Path;
 use std::process::{Child, ChildStderr, Command, Stdio};
 use std::sync::{Arc, Mutex};
 use std::thread::JoinHandle;
@@ -21,6 +24,8 @@ pub struct Station {
     pub controls: usize,
 }
 
+/// What `examples/gateway.service` gives the C library: no blocks kept for each thread.
+const TUNABLES: (&str, &str) = ("GLIBC_TUNABLES", "glibc.malloc.tcache_count=0");
 /// How many of the last lines are kept, and how long it may take to start and to end.
 const LINES: usize = 12;
 const PATIENCE_US: u64 = 60_000_000;
@@ -122,6 +127,8 @@ pub struct Gateway {
     child: Child,
     told: Arc<Mutex<Told>>,
     hearing: Option<JoinHandle<()>>,
+    /// What it has of the heap, where that is counted.
+    heap: Option<HeapCount>,
     pub address: SocketAddr,
 }
 
@@ -132,18 +139,23 @@ fn hear(errors: ChildStderr, clock: Clock, told: &Mutex<Told>) {
 }
 
 impl Gateway {
-    /// Starts a gateway by these words, shows it a clock, and waits until it listens.
-    pub fn start(words: &[String], file: &std::path::Path, clock: Clock) -> Result<Gateway, String> {
+    /// Starts a gateway by these words, shows it a clock, and waits until it listens. Where it is asked for, it counts
+    /// what it has of the heap.
+    pub fn start(words: &[String], file: &Path, clock: Clock, counts: bool) -> Result<Gateway, String> {
         let (program, options) = words.split_first().ok_or("no program")?;
         let mut command = Command::new(program);
         command.arg("run").arg(file).arg("--until-eof").args(options).env_remove("JOURNAL_STREAM");
+        command.env(TUNABLES.0, TUNABLES.1);
         command.stdin(Stdio::piped()).stdout(Stdio::piped()).stderr(Stdio::piped());
-        let library = clock.show(&mut command)?;
+        let mut libraries = Libraries::default();
+        clock.show(&mut libraries, &mut command)?;
+        let heap = if counts { Some(HeapCount::show(&mut libraries, &mut command)?) } else { None };
+        libraries.show(&mut command);
         let mut child = command.spawn().map_err(|it| format!("{program}: {it}"))?;
         let told = Arc::new(Mutex::new(Told::default()));
         let (errors, told_here) = (child.stderr.take().ok_or("no standard error")?, told.clone());
         let hearing = Some(std::thread::spawn(move || hear(errors, clock, &told_here)));
-        let mut gateway = Gateway { child, told, hearing, address: SocketAddr::from(([127, 0, 0, 1], 0)) };
+        let mut gateway = Gateway { child, told, hearing, heap, address: SocketAddr::from(([127, 0, 0, 1], 0)) };
         let end = now_us() + PATIENCE_US;
         while now_us() < end && !gateway.has_ended() {
             if let Some(port) = gateway.told.lock().unwrap().port {
@@ -152,7 +164,6 @@ impl Gateway {
             }
             sleep_us(5000);
         }
-        library.map(std::fs::remove_file);
         match gateway.address.port() {
             0 => Err(format!("the gateway doesn't listen\n{}", gateway.last_lines())),
             _ => Ok(gateway),
@@ -161,6 +172,12 @@ impl Gateway {
 
     pub fn process(&self) -> u32 {
         self.child.id()
+    }
+
+    /// What its process holds now.
+    pub fn holds(&self) -> Holds {
+        let heap_kb = self.heap.as_ref().map_or(0, HeapCount::kb);
+        Holds { heap_kb, ..Holds::of(self.process()) }
     }
 
     pub fn has_ended(&mut self) -> bool {
@@ -175,6 +192,11 @@ impl Gateway {
     /// What it told as the end of the connection of the client at an address, which isn't asked for again.
     pub fn cause(&self, address: SocketAddr) -> String {
         self.told.lock().unwrap().causes.remove(&address.to_string()).unwrap_or_default()
+    }
+
+    /// Whether it told the end of the connection of the client at an address.
+    pub fn has_told_end(&self, address: SocketAddr) -> bool {
+        self.told.lock().unwrap().causes.contains_key(&address.to_string())
     }
 
     /// Why clients' connections ended, and how often.

@@ -7,10 +7,12 @@ mod centre;
 mod clock;
 mod connection;
 mod gateway;
+mod heap;
 mod histogram;
 mod ledger;
 mod link;
 mod outstation;
+mod preload;
 mod random;
 mod rhythm;
 mod round;
@@ -51,11 +53,13 @@ pub struct Options {
     pub slow: usize,
     pub rate: f64,
     pub speed: u64,
+    /// Whether the gateway counts what it has of the heap.
+    pub counts: bool,
     /// In milliseconds, what one against all may make of others.
     pub goal: Option<f64>,
 }
 
-fn defaults(is_day: bool) -> Options {
+fn defaults(is_day: bool, counts: bool) -> Options {
     Options {
         gateway: vec![concat!(env!("CARGO_MANIFEST_DIR"), "/../../crates/gw_program/out/gw_program").to_string()],
         seconds: if is_day { 0 } else { 60 },
@@ -66,12 +70,13 @@ fn defaults(is_day: bool) -> Options {
         slow: 2,
         rate: if is_day { 4.0 } else { 150.0 },
         speed: 48,
+        counts,
         goal: None,
     }
 }
 
-fn options(is_day: bool, words: &mut dyn Iterator<Item = String>) -> Option<Options> {
-    let mut options = defaults(is_day);
+fn options(what: &str, words: &mut dyn Iterator<Item = String>) -> Option<Options> {
+    let mut options = defaults(what == "day", matches!(what, "soak" | "day"));
     while let Some(name) = words.next() {
         let value = words.next()?;
         match name.as_str() {
@@ -97,7 +102,7 @@ fn options(is_day: bool, words: &mut dyn Iterator<Item = String>) -> Option<Opti
 fn main() -> ExitCode {
     let mut words = std::env::args().skip(1);
     let what = words.next().unwrap_or_default();
-    let result = match (what.as_str(), options(what == "day", &mut words)) {
+    let result = match (what.as_str(), options(&what, &mut words)) {
         ("soak", Some(options)) => soak::run(&options),
         ("day", Some(options)) => soak::day(&options),
         ("outstation", Some(options)) => against::outstation(&options),

@@ -83,7 +83,7 @@ impl Scene {
         let file = std::env::temp_dir().join(format!("soak-{}.toml", std::process::id()));
         let text = settings(&self.station, &self.board.rhythm, &self.sites, &ports.map_err(fault)?);
         std::fs::write(&file, text).map_err(fault)?;
-        let mut gateway = Gateway::start(&options.gateway, &file, self.board.rhythm.clock)?;
+        let mut gateway = Gateway::start(&options.gateway, &file, self.board.rhythm.clock, options.counts)?;
         let played = thread::scope(|scope| {
             for (site, listener) in self.sites.iter().zip(&listeners) {
                 scope.spawn(move || outstation::run(&self.board, site, listener));

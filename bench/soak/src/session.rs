@@ -72,6 +72,8 @@ pub struct Session {
     pub days: Days,
     pub rows: u64,
     pub answers: u64,
+    /// Of each outstation, the object that was to come next as STOPDT was sent: it and later ones needn't come.
+    stopped_at: Option<Vec<u32>>,
 }
 
 /// How many time tags came, by their years, months and days.
@@ -103,7 +105,13 @@ impl Session {
             days: Days::new(),
             rows: 0,
             answers: 0,
+            stopped_at: None,
         }
+    }
+
+    /// STOPDT is sent: the gateway stops as it reads that, and its confirmation may be read much later.
+    pub fn stop(&mut self, sites: &[Site]) {
+        self.stopped_at = Some(sites.iter().map(|it| it.ledger().next()).collect());
     }
 
     /// The last object of an outstation that was told or shown.
@@ -270,10 +278,12 @@ impl Session {
         Ok(())
     }
 
-    /// The objects behind the last that came, up to those sent by now.
+    /// The objects behind the last that came, up to those sent by now, or by STOPDT.
     pub fn rest(&self, sites: &[Site]) -> Vec<Range<u32>> {
-        let rest = |(front, site): (&Front, &Site)| (front.last + 1).max(front.first_due)..site.ledger().next();
-        self.fronts.iter().zip(sites).map(rest).collect()
+        let end =
+            |number: usize| self.stopped_at.as_ref().map_or_else(|| sites[number].ledger().next(), |it| it[number]);
+        let rest = |(number, front): (usize, &Front)| (front.last + 1).max(front.first_due)..end(number);
+        self.fronts.iter().enumerate().map(rest).collect()
     }
 }
 
@@ -384,6 +394,9 @@ mod tests {
         let mut session = session(&sites);
         assert!(takes(&mut session, &sites, &[news(1, 4)]).is_ok());
         assert_eq!(session.gaps[0].serials, 3..4);
+        assert_eq!(session.rest(&sites)[0], 5..6);
+        session.stop(&sites);
+        sites[0].ledger().add(0, None);
         assert_eq!(session.rest(&sites)[0], 5..6);
         assert_eq!(sites[0].ledger().confirmed_within(3..6), (0, None));
         sites[0].ledger().confirm(1);

@@ -23,13 +23,18 @@ const QUIET_US: u64 = 60 * SECOND_US;
 const LOOK_US: u64 = 100_000;
 /// After how long all has come that a day has.
 const LONG_US: u64 = 120 * SECOND_US;
-/// How much memory may grow from the first third of the time to the last, the first minute left out, where there are so
-/// many samples.
-const GROWTH_KB: u64 = 512;
+/// How much the process's own memory, and what it has of the heap, may grow from the first third of the time to the
+/// last, the first minute left out, where there are so many samples.
+const GROWTH_KB: u64 = 256;
+const HEAP_GROWTH_KB: u64 = 128;
 const WARM: usize = 60;
 const SAMPLES: usize = 240;
 const ANALOGS: u16 = 60;
 const COUNTERS: u16 = 30;
+
+/// The process's memory that isn't of files, and what it has of the heap.
+const OWN: fn(&Holds) -> u64 = |it| it.own_kb;
+const HEAP: fn(&Holds) -> u64 = |it| it.heap_kb;
 
 /// A name and what is told of it.
 type Row = (&'static str, String);
@@ -70,12 +75,12 @@ fn play(options: &Options, rhythm: Rhythm, is_day: bool) -> Result<(), String> {
     let station = Station { queue: options.queue, k: 12, w: 8, controls: if is_day { options.clients } else { 0 } };
     let scene = Scene::new(options.seed, rhythm, station, &manners, &habits);
     let steps = scene.run(options, |gateway, come| {
-        let before = Holds::of(gateway.process());
+        let before = gateway.holds();
         come(gateway);
         let (totals, samples) = (Totals::default(), Vec::new());
         let mut soak = Soak { scene: &scene, gateway, is_day, totals, samples };
         let played = soak.play(options.seconds * SECOND_US);
-        let after = Holds::of(soak.gateway.process());
+        let after = soak.gateway.holds();
         print!("{}", soak.report(before, after));
         played.and_then(|()| soak.judge_holds(before, after)).and_then(|()| soak.judge_counts())
     })?;
@@ -83,8 +88,8 @@ fn play(options: &Options, rhythm: Rhythm, is_day: bool) -> Result<(), String> {
     Ok(())
 }
 
-fn median(samples: &[Holds], range: Range<usize>) -> u64 {
-    let mut memory: Vec<u64> = samples[range].iter().map(|it| it.memory_kb).collect();
+fn median(samples: &[Holds], range: Range<usize>, of: fn(&Holds) -> u64) -> u64 {
+    let mut memory: Vec<u64> = samples[range].iter().map(of).collect();
     memory.sort();
     memory.get(memory.len() / 2).copied().unwrap_or(0)
 }
@@ -129,33 +134,36 @@ impl Soak<'_> {
             self.totals.judge(self.scene, self.gateway)?;
             if self.scene.board.is_wild() && now_us() >= sample_us {
                 sample_us = now_us() + SECOND_US;
-                self.samples.push(Holds::of(self.gateway.process()));
+                self.samples.push(self.gateway.holds());
             }
             sleep_us(LOOK_US);
         }
         Ok(())
     }
 
-    /// The memory in the first and in the last third of the time.
-    fn memory(&self) -> (u64, u64) {
+    /// Of memory, what it was in the first and in the last third of the time.
+    fn thirds(&self, of: fn(&Holds) -> u64) -> (u64, u64) {
         let count = self.samples.len();
         let begin = if count >= SAMPLES { WARM } else { 0 };
         let third = (count - begin) / 3;
-        (median(&self.samples, begin..begin + third), median(&self.samples, count - third..count))
+        (median(&self.samples, begin..begin + third, of), median(&self.samples, count - third..count, of))
     }
 
-    fn tenths(&self) -> [u64; 10] {
+    fn tenths(&self, of: fn(&Holds) -> u64) -> [u64; 10] {
         let count = self.samples.len();
-        std::array::from_fn(|it| median(&self.samples, count * it / 10..count * (it + 1) / 10))
+        std::array::from_fn(|it| median(&self.samples, count * it / 10..count * (it + 1) / 10, of))
     }
 
     fn judge_holds(&self, before: Holds, after: Holds) -> Result<(), String> {
-        let (first, last) = self.memory();
         if (after.threads, after.descriptors) != (before.threads, before.descriptors) {
             return Err(format!("threads or descriptors are left over: {before:?} before, {after:?} after"));
         }
-        if self.samples.len() >= SAMPLES && last > first + GROWTH_KB {
-            return Err(format!("memory grows: {first} kB in the first third, {last} kB in the last"));
+        for (what, (first, last), most) in
+            [("memory", self.thirds(OWN), GROWTH_KB), ("the heap", self.thirds(HEAP), HEAP_GROWTH_KB)]
+        {
+            if self.samples.len() >= SAMPLES && last > first + most {
+                return Err(format!("{what} grows: {first} kB in the first third, {last} kB in the last"));
+            }
         }
         Ok(())
     }
@@ -274,17 +282,22 @@ impl Soak<'_> {
         }
     }
 
-    fn report_gateway(&self, before: Holds, after: Holds) -> [Row; 4] {
+    fn report_gateway(&self, before: Holds, after: Holds) -> [Row; 7] {
         let most = |of: fn(&Holds) -> u64| self.samples.iter().map(of).max().unwrap_or(0);
         let [gateway, own] = [self.gateway.process(), std::process::id()].map(processor_seconds);
-        let (first, last) = self.memory();
-        let highest = most(|it| it.memory_kb);
+        let memory = |of: fn(&Holds) -> u64| {
+            let (first, last) = self.thirds(of);
+            format!("{first} kB in the first third, {last} kB in the last, at most {} kB", most(of))
+        };
         let holds = |it: Holds| format!("{}, {}", it.threads, it.descriptors);
         let highest_holds = format!("{}, {}", most(|it| it.threads), most(|it| it.descriptors));
         [
             ("processor", format!("gateway {gateway:.1} s, this program {own:.1} s")),
-            ("memory", format!("{first} kB in the first third, {last} kB in the last, at most {highest} kB")),
-            ("memory of each tenth", format!("{:?} kB", self.tenths())),
+            ("memory", memory(|it| it.memory_kb)),
+            ("without files", memory(OWN)),
+            ("in each tenth", format!("{:?} kB", self.tenths(OWN))),
+            ("of the heap", memory(HEAP)),
+            ("in each tenth", format!("{:?} kB", self.tenths(HEAP))),
             (
                 "threads, descriptors",
                 format!("{} before; {} after; at most {highest_holds}", holds(before), holds(after)),

@@ -75,7 +75,11 @@ pub fn narrow(socket: &impl AsRawFd, octets: i32) {
 /// What a process holds of the system.
 #[derive(Clone, Copy, Debug, Default, PartialEq)]
 pub struct Holds {
+    /// Its memory: all, and what isn't of files, which the system may take from it and give back at any time.
     pub memory_kb: u64,
+    pub own_kb: u64,
+    /// What it has taken of the heap and not given back, where that is counted.
+    pub heap_kb: u64,
     pub threads: u64,
     pub descriptors: u64,
 }
@@ -88,7 +92,8 @@ impl Holds {
             line.split_whitespace().next().and_then(|it| it.parse().ok()).unwrap_or(0)
         };
         let descriptors = std::fs::read_dir(format!("/proc/{process}/fd")).map_or(0, |it| it.count() as u64);
-        Holds { memory_kb: field("VmRSS:"), threads: field("Threads:"), descriptors }
+        let [memory_kb, own_kb] = ["VmRSS:", "RssAnon:"].map(field);
+        Holds { memory_kb, own_kb, heap_kb: 0, threads: field("Threads:"), descriptors }
     }
 }
 

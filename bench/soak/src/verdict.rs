@@ -9,9 +9,10 @@ use std::net::SocketAddr;
 use std::ops::Range;
 use std::sync::Mutex;
 
-/// How long after its end a connection is judged: by then the gateway has told what it dropped, and outstations have
-/// read the confirmations of what was told.
+/// How long after its end a connection is judged: by then outstations have read the confirmations of what was told.
 pub const REST_US: u64 = 3_000_000;
+/// How long it may take besides until the gateway has told its end, and in front of that what it dropped.
+const LATE_US: u64 = 10_000_000;
 /// The one cause for which the gateway may end a connection whose data transfer is stopped.
 const GAVE_WAY: &str = "closed: gave way to a newer connection of its address";
 /// How many objects an APDU has at most.
@@ -44,8 +45,11 @@ impl Graves {
         self.0.lock().unwrap().push_back(grave);
     }
 
-    fn next(&self, until_us: u64) -> Option<Grave> {
-        self.0.lock().unwrap().pop_front_if(|it| it.at_us <= until_us)
+    /// The first that may be judged: its end was told, or that is late.
+    fn next(&self, now: u64, is_told: impl Fn(SocketAddr) -> bool) -> Option<Grave> {
+        let rested = |it: &Grave| it.at_us + REST_US <= now;
+        let told = |it: &Grave| it.at_us + REST_US + LATE_US <= now || is_told(it.address);
+        self.0.lock().unwrap().pop_front_if(|it| rested(it) && told(it))
     }
 }
 
@@ -111,8 +115,12 @@ impl Missing {
 impl Totals {
     /// Judges the connections that ended long enough ago.
     pub fn judge(&mut self, scene: &Scene, gateway: &Gateway) -> Result<(), String> {
-        while let Some(grave) = scene.graves.next(now_us().saturating_sub(REST_US)) {
+        while let Some(grave) = scene.graves.next(now_us(), |it| gateway.has_told_end(it)) {
             let (dropped, cause) = (gateway.dropped(grave.address), gateway.cause(grave.address));
+            if cause.is_empty() {
+                let late = (REST_US + LATE_US) / 1_000_000;
+                return Err(format!("client {} {}: its end isn't told in {late} s", grave.client, grave.address));
+            }
             if grave.gave_way && cause != GAVE_WAY {
                 return Err(format!("client {} {}: ended while stopped: {cause}", grave.client, grave.address));
             }
@@ -133,8 +141,11 @@ impl Totals {
         }
         let waiting = (u64::from(station.queue) + u64::from(station.k) * OBJECTS) * grave.ended.len() as u64;
         if missing.behind > waiting + dropped - lost {
-            let (behind, queue) = (missing.behind, station.queue);
-            return Err(format!("{behind} confirmed observations are missing at the end, where {queue} may wait"));
+            let (behind, ends) = (missing.behind, grave.ended.len());
+            return Err(format!(
+                "{behind} confirmed observations are missing at the ends of {ends} data transfers, where {waiting} may \
+                 wait; {dropped} were told as dropped, {lost} of them in front"
+            ));
         }
         if let Some(unsure) = unsure_of_whole(grave, sites) {
             self.exact += 1;
