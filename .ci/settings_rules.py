@@ -32,6 +32,7 @@ OUTSTATION = {
     "response_ms": ((1, 600_000), 5000),
     "unsolicited": (bool, False),
     "lan_time": (bool, False),
+    "common_address": ((1, 65_534), None),
 }
 POINT = {
     "outstation": ("position", REQUIRED),
@@ -106,8 +107,8 @@ def judge_table(section, position, table, outstations):
         values[key] = table.get(key, default)
         if values[key] is REQUIRED:
             raise Refusal(f"2 Missing {place} {key}")
-        is_by_kind = default is None and key not in table
-        fault = None if is_by_kind else fault_of_value(allowed, values[key], values, outstations)
+        is_by_others = default is None and key not in table
+        fault = None if is_by_others else fault_of_value(allowed, values[key], values, outstations)
         if fault:
             raise Refusal(f"{fault} {place} {key}")
     unfit = mismatch_of(section, table)
@@ -127,8 +128,8 @@ def judge_section(top, section, most, outstations):
     return entries
 
 
-def judge_doubles(points, controls):
-    """No two points have one source, and no two points or controls one address."""
+def judge_doubles(points, controls, common):
+    """No two points have one source, and no two points or controls one address under one common address."""
     sources = set()
     for position, point in enumerate(points):
         source = point["outstation"], point["kind"], point["index"]
@@ -138,18 +139,21 @@ def judge_doubles(points, controls):
     addresses = set()
     for section, entries in (("point", points), ("control", controls)):
         for position, entry in enumerate(entries):
-            if entry["address"] in addresses:
+            pair = common[entry["outstation"]], entry["address"]
+            if pair in addresses:
                 raise Refusal(f"7 DoubleAddress {section} {position} address")
-            addresses.add(entry["address"])
+            addresses.add(pair)
 
 
-def listing(points, controls):
-    """What the settings mean, line by line."""
+def listing(points, controls, common):
+    """What the settings mean, line by line, where the outstations have these common addresses."""
     for it in points:
         show = it.get("show", SHOWN[it["kind"]][0])
-        yield f"point {it['address']} {show} {it['outstation']} {it['kind']} {it['index']}"
+        addresses = f"{common[it['outstation']]} {it['address']}"
+        yield f"point {addresses} {show} {it['outstation']} {it['kind']} {it['index']}"
     for it in controls:
-        yield f"control {it['address']} {it['show']} {it['outstation']} {it['index']} {it.get('mode', 'direct')}"
+        addresses = f"{common[it['outstation']]} {it['address']}"
+        yield f"control {addresses} {it['show']} {it['outstation']} {it['index']} {it.get('mode', 'direct')}"
     yield f"rows {len(points)} {len(controls)}"
 
 
@@ -162,11 +166,13 @@ def judge_top(top):
     if not isinstance(top["station"], dict):
         raise Refusal("3 WrongType top 0 station")
     judge_table("station", 0, top["station"], 0)
-    count = len(judge_section(top, "outstation", OUTSTATIONS, 0))
+    outstations = judge_section(top, "outstation", OUTSTATIONS, 0)
+    count = len(outstations)
+    common = [it.get("common_address", top["station"]["common_address"]) for it in outstations]
     points = judge_section(top, "point", ROWS, count)
     controls = judge_section(top, "control", ROWS - len(points), count)
-    judge_doubles(points, controls)
-    return list(listing(points, controls))
+    judge_doubles(points, controls, common)
+    return list(listing(points, controls, common))
 
 
 def has_large_number(value):

@@ -15,7 +15,7 @@ from datetime import datetime, timezone
 
 # Control functions of the U format (IEC 60870-5-104, 5.2 and 5.3).
 STARTDT, STARTDT_CON, TESTFR, TESTFR_CON = 0x07, 0x0B, 0x43, 0x83
-# The common address of all stations (IEC 60870-5-101, 7.2.4): the answers have the station's own.
+# The common address of all stations (IEC 60870-5-101, 7.2.4): the answers have those of the outstations.
 ALL_STATIONS = 65535
 # Type identifications (7.2.1), causes, and what asks for all: QOI 20, QCC 5.
 SINGLE_COMMAND, INTERROGATION, COUNTERS, ACTIVATION, CONFIRMATION, TERMINATION = 45, 100, 101, 6, 7, 10

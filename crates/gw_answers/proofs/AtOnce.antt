@@ -1,12 +1,12 @@
 -- What an ASDU gets at once is what the definitions apart from the code say.
-use Rattle.std.proofs.Common.{◌≡◌, ◌↔◌, ℕ, ◌+◌, ◌==◌, Bool, true, false, not, ◌&&◌, ◌⊎◌, inl, inr, List, [], map, slice_get, Option, Some, None, Ok, refl, sym, ap, subst, ◌∙◌, arith}
+use Rattle.std.proofs.Common.{◌≡◌, ◌↔◌, ℕ, ◌+◌, ◌==◌, Bool, true, false, not, ◌&&◌, ◌⊎◌, inl, inr, List, [], ◌∷◌, map, slice_get, Option, Some, None, Ok, refl, sym, ap, subst, ◌∙◌, arith}
 use Rattle.std.proofs.lemmas.Bool.{cases_Bool, true≢false, eqb-true, eq-eqb, and_parts, and_from, not-true, not_from_false}
 use Rattle.std.proofs.lemmas.Option.{same_Some}
 use Rattle.std.specs.Prelude.{option_map}
 use Rattle.gw_model.specs.declared.observation.Observation.{Observation}
 use Rattle.gw_entries.specs.declared.row.Row.{Row}
-use Rattle.gw_entries.specs.declared.control.Control.{Control}
-use Rattle.gw_map.specs.Settings.{Setup, row_at_from, HasSingleAddresses}
+use Rattle.gw_map.specs.Settings.{Setup, row_object, control_object, known_addresses, row_at_from, HasSingleAddresses}
+use Rattle.gw_answers.proofs.Distinct.{some_known}
 use Rattle.iec_apci.specs.declared.apdu.Asdu.{Asdu}
 use Rattle.iec_command.specs.declared.command.Command.{Command}
 use Rattle.iec_command.specs.declared.command.Action.{Action}
@@ -15,18 +15,18 @@ use Rattle.iec_command.specs.Commands.{command_of}
 use Rattle.gw_judge.specs.declared.judging.Judged.{Judged}
 use Rattle.gw_judge.specs.declared.judging.Judged.TheVariants.{Malformed, Refuse, Accepted}
 use Rattle.gw_judge.specs.Judging.{judged}
-use Rattle.gw_judge.specs.Acceptable.{IsCauseOf, IsAcceptable}
+use Rattle.gw_judge.specs.Acceptable.{IsCauseOf, IsAcceptable, object_for}
 use Rattle.gw_judge.proofs.Accepted.{accepted_exactly}
 use Rattle.gw_judge.proofs.Found.{first-at, place-first}
 use Rattle.gw_judge.proofs.Refusals.{comes_back, back_comes}
 use Rattle.gw_answers.specs.declared.outgoing.AsduAnswer.{AsduAnswer}
 use Rattle.gw_answers.specs.declared.outgoing.AsduAnswer.TheVariants.{Returned, Made}
 use Rattle.gw_answers.specs.declared.outgoing.OwnAsdu.TheVariants as outgoing
-use Rattle.gw_answers.specs.Outgoing.{confirmation_cause, confirmed}
-use Rattle.gw_answers.specs.Interrogations.{is_general, is_accepted_act}
-use Rattle.gw_answers.specs.Answers.{shown_by, refused_act, answered_action, answered}
+use Rattle.gw_answers.specs.Outgoing.{confirmation_cause, confirmed, under}
+use Rattle.gw_answers.specs.Interrogations.{asked_addresses, is_general, is_accepted_act}
+use Rattle.gw_answers.specs.Answers.{shown_by, first_asked, refused_act, answered_action, answered}
 use Rattle.gw_answers.specs.Octets.{octets_in}
-use Rattle.gw_answers.specs.AtOnce.{IsInterrogation, IsGeneral, BeginsAnswer, IsConfirmedWith, IsRefusedAct, IsShownAt, IsRead, Gets}
+use Rattle.gw_answers.specs.AtOnce.{IsInterrogation, IsGeneral, BeginsAnswer, IsConfirmedWith, IsRefusedBy, IsRefusedAct, IsShownAt, IsRead, Gets}
 
 -- ---- interrogations
 
@@ -81,16 +81,40 @@ with_cause cause confirmation h = elim h [
   | inr off ↦ rw off.0 off.1
 ]
 
+-- ---- by which common address what is refused is answered
+
+first_is : (asked : List ℕ) (common : ℕ) → (asked ≡ [] → ⊥)
+    → (more : List ℕ) × (asked ≡ first_asked asked common ∷ more)
+first_is [] common some = absurd (some refl)
+first_is (first ∷ more) common some = (more, refl)
+
+refused_by : (setup : Setup) (common : ℕ)
+    → IsRefusedBy setup common (first_asked (asked_addresses setup common) common)
+refused_by setup common = elim (cases_Bool (common == 65535)) [
+  | inl all ↦ rw all (inr (eqb-true common 65535 all, first_is (known_addresses setup) common (some_known setup)))
+  | inr one ↦ rw one (inl ((λ e. so_not _ one (eq-eqb common 65535 e)), refl))
+]
+
+by_refused : (setup : Setup) (common by : ℕ) → IsRefusedBy setup common by
+    → by ≡ first_asked (asked_addresses setup common) common
+by_refused setup common by h = elim h [
+  | inl one ↦ rw (not_so (common == 65535) (λ e. one.0 (eqb-true common 65535 e))) one.1
+  | inr all ↦
+      rw (eq-eqb common 65535 all.0)
+      (ap (λ (known : List ℕ). first_asked known common) (sym all.1.1))
+]
+
 -- ---- what is given, by what is spelled
 
 module _ (setup : Setup) (picture : List Observation) (pending : Bool) (asdu : Asdu) (c : Command)
     (spelled : command_of (octets_in asdu) ≡ Ok c) (acceptable : IsAcceptable setup c) where
-  refused_gets : (answer : AsduAnswer) → IsInterrogation c.action → refused_act pending c ≡ Some answer
+  refused_gets : (answer : AsduAnswer) → IsInterrogation c.action → refused_act setup pending c ≡ Some answer
       → Gets setup picture pending asdu answer
   refused_gets answer is e = elim (cases_Bool (is_accepted_act pending c)) [
     | inl accepted ↦ absurd (none_is (rw accepted at e))
     | inr refused ↦
-        let answer_is : Some (Made (confirmed true c)) ≡ Some answer = rw refused at e in
+        let first : ℕ = first_asked (asked_addresses setup c.common_address) c.common_address in
+        let answer_is : Some (Made (confirmed true (under first c))) ≡ Some answer = rw refused at e in
         subst (Gets setup picture pending asdu) (same_Some _ _ answer_is) (record {
           act = c;
           spelled = spelled;
@@ -98,6 +122,7 @@ module _ (setup : Setup) (picture : List Observation) (pending : Bool) (asdu : A
           interrogation = is;
           refused = λ begins. so_not _ refused (answer_begins pending c begins);
           cause = confirmed_with c.cause (acts c.action c.cause is acceptable.cause.cause);
+          by = refused_by setup c.common_address;
           else_as_it_came = refl;
         })
   ]
@@ -106,7 +131,7 @@ module _ (setup : Setup) (picture : List Observation) (pending : Bool) (asdu : A
       none_is e = cc
 
   shown_gets : (answer : AsduAnswer) (found : Option (ℕ × Row)) → c.action ≡ actions.Read
-      → row_at_from 0 c.address setup.rows ≡ found
+      → row_at_from 0 c.common_address c.address setup.rows ≡ found
       → option_map (λ x. Made (outgoing.Observation 5 c.originator x)) (shown_by picture found) ≡ Some answer
       → Gets setup picture pending asdu answer
   shown_gets answer None is e h = absurd cc
@@ -117,7 +142,7 @@ module _ (setup : Setup) (picture : List Observation) (pending : Bool) (asdu : A
           → Gets setup picture pending asdu answer
       by_shown None there h = absurd cc
       by_shown (Some x) there h =
-          let at = first-at (λ (row : Row). row.address) (λ _. Unit {0}) c.address 0 setup.rows found e in
+          let at = first-at row_object (λ _. Unit {0}) (object_for c) 0 setup.rows found e in
           let place : found.0 ≡ at.0 = omega (arith, at.1) in
           subst (Gets setup picture pending asdu) (same_Some _ _ h) (record {
             read = c;
@@ -130,7 +155,7 @@ module _ (setup : Setup) (picture : List Observation) (pending : Bool) (asdu : A
               place = at.0;
               row = found.1;
               there = at.2;
-              has_address = at.3;
+              has_object = at.3;
               shown = ap (λ (n : ℕ). slice_get picture n) (sym place) ∙ there;
             };
           })
@@ -141,7 +166,7 @@ module _ (setup : Setup) (picture : List Observation) (pending : Bool) (asdu : A
       refused_gets answer (subst IsInterrogation (sym is) tt) e
   action_gets (actions.CounterInterrogation qualifier) answer is e =
       refused_gets answer (subst IsInterrogation (sym is) tt) e
-  action_gets actions.Read answer is e = shown_gets answer (row_at_from 0 c.address setup.rows) is refl e
+  action_gets actions.Read answer is e = shown_gets answer (row_at_from 0 c.common_address c.address setup.rows) is refl e
   action_gets (actions.Single x) answer is e = absurd cc
   action_gets (actions.Double x) answer is e = absurd cc
   action_gets (actions.Setpoint x) answer is e = absurd cc
@@ -171,7 +196,8 @@ by_judgement setup picture pending asdu j answer is e = ap (answered setup pictu
 
 refusing : (setup : Setup) (picture : List Observation) (pending : Bool) (c : Command) (action : Action)
     → IsInterrogation action → (BeginsAnswer pending c → ⊥)
-    → answered_action setup picture pending c action ≡ Some (Made (confirmed true c))
+    → answered_action setup picture pending c action
+    ≡ Some (Made (confirmed true (under (first_asked (asked_addresses setup c.common_address) c.common_address) c)))
 refusing setup picture pending c (actions.Interrogation qualifier) is refused =
     rw (not_so (is_accepted_act pending c) (λ accepted. refused (begins_answer pending c accepted)))
 refusing setup picture pending c (actions.CounterInterrogation qualifier) is refused =
@@ -187,21 +213,26 @@ gets_refused : (setup : Setup) (picture : List Observation) (pending : Bool) (as
 gets_refused setup picture pending asdu told single h =
     let is = (accepted_exactly setup (octets_in asdu) h.act single).1 (h.spelled, h.acceptable) in
     let cause = with_cause h.act.cause told.cause h.cause in
-    let same : told ≡ record h.act { cause = confirmation_cause h.act.cause; negative = true } =
-    h.else_as_it_came ∙ ap (λ (n : ℕ). record h.act { cause = n; negative = true }) cause in
+    let by : told.common_address ≡ first_asked (asked_addresses setup h.act.common_address) h.act.common_address =
+    by_refused setup h.act.common_address told.common_address h.by in
+    let same : told ≡ record h.act {
+      cause = confirmation_cause h.act.cause;
+      negative = true;
+      common_address = first_asked (asked_addresses setup h.act.common_address) h.act.common_address;
+    } = h.else_as_it_came ∙ λ i. record h.act { cause = cause i; negative = true; common_address = by i } in
     by_judgement setup picture pending asdu (Accepted h.act) (Made (outgoing.Command told)) is
     (refusing setup picture pending h.act h.act.action h.interrogation h.refused
     ∙ ap (λ (d : Command). Some (Made (outgoing.Command d))) (sym same))
 
 reading : (setup : Setup) (picture : List Observation) (pending : Bool) (c : Command) (x : Observation)
     (action : Action) → c.action ≡ action → action ≡ actions.Read → HasSingleAddresses setup.rows setup.controls
-    → IsShownAt setup picture c.address x
+    → IsShownAt setup picture (object_for c) x
     → answered_action setup picture pending c action ≡ Some (Made (outgoing.Observation 5 c.originator x))
 reading setup picture pending c x actions.Read is _ single h =
-    let rest = map (λ (control : Control). control.address) setup.controls in
-    let found : row_at_from 0 c.address setup.rows ≡ Some (0 + h.place, h.row) =
-    place-first (λ (row : Row). row.address) (λ _. Unit {0}) c.address 0 0 h.place [] setup.rows rest h.row single
-    h.there h.has_address tt in
+    let rest = map control_object setup.controls in
+    let found : row_at_from 0 c.common_address c.address setup.rows ≡ Some (0 + h.place, h.row) =
+    place-first row_object (λ _. Unit {0}) (object_for c) 0 0 h.place [] setup.rows rest h.row single
+    h.there h.has_object tt in
     let at : 0 + h.place ≡ h.place = omega arith in
     ap (λ (f : Option (ℕ × Row)). option_map (λ y. Made (outgoing.Observation 5 c.originator y)) (shown_by picture f))
     found

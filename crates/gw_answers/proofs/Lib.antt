@@ -1,3 +1,5 @@
 pub mod Meant
 pub mod Sendable
 pub mod AtOnce
+pub mod Distinct
+pub mod Arranged

@@ -29,7 +29,6 @@ use Rattle.gw_answers.specs.declared.outgoing.AsduAnswer.{AsduAnswer}
 use Rattle.gw_answers.specs.declared.outgoing.AsduAnswer.TheVariants.{Returned, Made}
 use Rattle.gw_answers.specs.declared.outgoing.OwnAsdu.{OwnAsdu}
 use Rattle.gw_answers.specs.declared.outgoing.OwnAsdu.TheVariants as outgoing
-use Rattle.gw_answers.specs.Outgoing.{at_station}
 use Rattle.gw_answers.specs.Octets.{octets_in, answer_octets, outgoing_octets, packed_octets}
 use Rattle.gw_answers.specs.Meaning.{Meant, Tells, Commands, meant_by, meaning_of, meant_outgoing, asdu_of, packed_asdu, IsSendable, HasCause, IsSentBack, ComesBack, IsRefusedWith, Means, CanSendOutgoing, CanSendAnswer}
 
@@ -51,15 +50,6 @@ commands_mean offset c whole =
     let octets : List ℕ = command_spelling c in
     ap (λ (m : Option Asdu). meant_by octets m (command_of octets)) (tells_nothing offset c c.action)
     ∙ ap (λ (r : Result Command CommandFault). meant_by octets None r) (command_of-spelling c whole)
-
-whole_here : (common : ℕ) (c : Command) → common < 65536 → IsWhole c → IsWhole (at_station common c)
-whole_here common c small whole = record {
-  cause = whole.cause;
-  originator = whole.originator;
-  common_address = small;
-  address = whole.address;
-  action = whole.action;
-}
 
 -- ---- observations
 
@@ -91,21 +81,21 @@ originator_apart types t v cause o (low ∷ high ∷ objects) = by_layout (layou
     by_objects (Some xs) = refl
 
     by_layout : (layout : Option Layout)
-        → (layout >>= λ l. (objects_of l (is_set 7 v) (v % 128) objects >>= λ ys. Some (one t cause o common ys)))
+        → (layout >>= λ l. (objects_of common l (is_set 7 v) (v % 128) objects >>= λ ys. Some (one t cause o common ys)))
         ≡ option_map (λ (a : Asdu). record a { originator = o })
-        (layout >>= λ l. (objects_of l (is_set 7 v) (v % 128) objects >>= λ ys. Some (one t cause 0 common ys)))
+        (layout >>= λ l. (objects_of common l (is_set 7 v) (v % 128) objects >>= λ ys. Some (one t cause 0 common ys)))
     by_layout None = refl
-    by_layout (Some l) = by_objects (objects_of l (is_set 7 v) (v % 128) objects)
+    by_layout (Some l) = by_objects (objects_of common l (is_set 7 v) (v % 128) objects)
 
-observations_mean : (offset : ℤ) (common cause originator : ℕ) (x : Observation) → common < 65536 → HasWidth x.value
+observations_mean : (offset : ℤ) (cause originator : ℕ) (x : Observation) → HasWidth x.value
     → IsFit offset x
-    → meaning_of offset (slice_set (spelling offset common cause x) 3 originator)
-    ≡ Tells (asdu_of offset common cause originator x)
-observations_mean offset common cause originator x small width fit =
-    let octets : List ℕ = slice_set (spelling offset common cause x) 3 originator in
+    → meaning_of offset (slice_set (spelling offset cause x) 3 originator)
+    ≡ Tells (asdu_of offset cause originator x)
+observations_mean offset cause originator x width fit =
+    let octets : List ℕ = slice_set (spelling offset cause x) 3 originator in
     ap (λ (m : Option Asdu). meant_by octets m (command_of octets))
     (originator_apart (monitor_types offset) _ 1 cause originator _ ∙ ap
-    (option_map (λ (a : Asdu). record a { originator = originator })) (meant offset common cause x small width fit))
+    (option_map (λ (a : Asdu). record a { originator = originator })) (meant offset cause x width fit))
 
 -- as many as one ASDU carries
 all_fit : (offset : ℤ) (xs : List Observation) → AllByRecursion (IsSendable offset) xs
@@ -118,53 +108,53 @@ all_fit offset (x ∷ xs) all =
     )
 
 -- a list that isn't empty has its header first
-originator_changed : (offset : ℤ) (sequence : Bool) (common cause originator : ℕ) (x : Observation)
+originator_changed : (offset : ℤ) (sequence : Bool) (cause originator : ℕ) (x : Observation)
     (xs : List Observation) → asdu_meaning (monitor_types offset)
-    (slice_set (list_spelling offset sequence common cause (x ∷ xs)) 3 originator)
+    (slice_set (list_spelling offset sequence cause (x ∷ xs)) 3 originator)
     ≡ option_map (λ (a : Asdu). record a { originator = originator })
-    (asdu_meaning (monitor_types offset) (list_spelling offset sequence common cause (x ∷ xs)))
+    (asdu_meaning (monitor_types offset) (list_spelling offset sequence cause (x ∷ xs)))
 unfolding list_spelling
-originator_changed offset sequence common cause originator x xs =
+originator_changed offset sequence cause originator x xs =
     originator_apart (monitor_types offset) _ _ cause originator _
 
-packed_changed : (offset : ℤ) (common cause originator : ℕ) (x : Observation) (xs : List Observation)
-    → asdu_meaning (monitor_types offset) (packed_octets offset common cause originator (x ∷ xs))
+packed_changed : (offset : ℤ) (cause originator : ℕ) (x : Observation) (xs : List Observation)
+    → asdu_meaning (monitor_types offset) (packed_octets offset cause originator (x ∷ xs))
     ≡ option_map (λ (a : Asdu). record a { originator = originator })
-    (asdu_meaning (monitor_types offset) (packed_spelling offset common cause (x ∷ xs)))
+    (asdu_meaning (monitor_types offset) (packed_spelling offset cause (x ∷ xs)))
 unfolding packed_spelling
-packed_changed offset common cause originator x xs =
+packed_changed offset cause originator x xs =
     go (taken_of offset (x ∷ xs)) (taken_of_some offset (x ∷ xs) (omega arith))
   where
     sequence : Bool
     sequence = is_in_sequence offset (x ∷ xs)
 
     go : (n : ℕ) → 0 < n → asdu_meaning (monitor_types offset)
-        (slice_set (list_spelling offset sequence common cause (take n (x ∷ xs))) 3 originator)
+        (slice_set (list_spelling offset sequence cause (take n (x ∷ xs))) 3 originator)
         ≡ option_map (λ (a : Asdu). record a { originator = originator })
-        (asdu_meaning (monitor_types offset) (list_spelling offset sequence common cause (take n (x ∷ xs))))
+        (asdu_meaning (monitor_types offset) (list_spelling offset sequence cause (take n (x ∷ xs))))
     go zero some = absurd (omega arith)
-    go (suc n) some = originator_changed offset sequence common cause originator x (take n xs)
+    go (suc n) some = originator_changed offset sequence cause originator x (take n xs)
 
-pub packed_mean : (offset : ℤ) (common cause originator : ℕ) (x : Observation) (xs : List Observation)
-    → common < 65536 → AllByRecursion (IsSendable offset) (take (taken_of offset (x ∷ xs)) (x ∷ xs))
-    → meaning_of offset (packed_octets offset common cause originator (x ∷ xs))
-    ≡ Tells (packed_asdu offset common cause originator x xs)
-packed_mean offset common cause originator x xs small all =
-    let octets : List ℕ = packed_octets offset common cause originator (x ∷ xs) in
+pub packed_mean : (offset : ℤ) (cause originator : ℕ) (x : Observation) (xs : List Observation)
+    → AllByRecursion (IsSendable offset) (take (taken_of offset (x ∷ xs)) (x ∷ xs))
+    → meaning_of offset (packed_octets offset cause originator (x ∷ xs))
+    ≡ Tells (packed_asdu offset cause originator x xs)
+packed_mean offset cause originator x xs all =
+    let octets : List ℕ = packed_octets offset cause originator (x ∷ xs) in
     let fit = all_fit offset (take (taken_of offset (x ∷ xs)) (x ∷ xs)) all in
     ap (λ (m : Option Asdu). meant_by octets m (command_of octets))
-    (packed_changed offset common cause originator x xs
+    (packed_changed offset cause originator x xs
     ∙ ap (option_map (λ (a : Asdu). record a { originator = originator }))
-    (packed_is_meant offset common cause x xs small fit.0 fit.1))
+    (packed_is_meant offset cause x xs fit.0 fit.1))
 
 -- no more octets than an ASDU may have
-pub packed_octets_short : (offset : ℤ) (common cause originator : ℕ) (xs : List Observation)
-    → length (packed_octets offset common cause originator xs) ≤ 249
-packed_octets_short offset common cause originator xs =
+pub packed_octets_short : (offset : ℤ) (cause originator : ℕ) (xs : List Observation)
+    → length (packed_octets offset cause originator xs) ≤ 249
+packed_octets_short offset cause originator xs =
     omega (
       arith,
-      length-set (packed_spelling offset common cause xs) 3 originator,
-      packed_short offset common cause xs,
+      length-set (packed_spelling offset cause xs) 3 originator,
+      packed_short offset cause xs,
     )
 
 -- ---- what comes back
@@ -190,10 +180,10 @@ cause_told types t v cause (o ∷ low ∷ high ∷ objects) a e = by_layout (lay
         cause_in None = cause
         cause_in (Some b) = b.cause
 
-    by_layout : (layout : Option Layout) → (layout >>= λ l. (objects_of l (is_set 7 v) (v % 128) objects
+    by_layout : (layout : Option Layout) → (layout >>= λ l. (objects_of common l (is_set 7 v) (v % 128) objects
         >>= λ ys. Some (one t cause o common ys))) ≡ Some a → a.cause ≡ cause
     by_layout None e = absurd cc
-    by_layout (Some l) e = by_objects (objects_of l (is_set 7 v) (v % 128) objects) e
+    by_layout (Some l) e = by_objects (objects_of common l (is_set 7 v) (v % 128) objects) e
 
 -- so it is in a command
 command_told : (octets : List ℕ) (c : Command) → command_of octets ≡ Ok c → c ≡ command_in octets
@@ -324,18 +314,18 @@ command_back offset cause (t ∷ v ∷ old ∷ rest) back c e sent =
 
 -- ---- what goes out
 
-pub outgoing_means : (offset : ℤ) (common : ℕ) (x : OwnAsdu) → common < 65536 → CanSendOutgoing offset x
-    → meaning_of offset (outgoing_octets offset common x) ≡ meant_outgoing offset common x
-outgoing_means offset common (outgoing.Command c) small can =
-    commands_mean offset (at_station common c) (whole_here common c small can.1)
-outgoing_means offset common (outgoing.Observation cause originator x) small can =
-    observations_mean offset common cause originator x small can.width can.fit
+pub outgoing_means : (offset : ℤ) (x : OwnAsdu) → CanSendOutgoing offset x
+    → meaning_of offset (outgoing_octets offset x) ≡ meant_outgoing offset x
+outgoing_means offset (outgoing.Command c) can =
+    commands_mean offset c can.1
+outgoing_means offset (outgoing.Observation cause originator x) can =
+    observations_mean offset cause originator x can.width can.fit
 
-pub answer_means : (offset : ℤ) (common : ℕ) (answer : AsduAnswer) → common < 65536 → CanSendAnswer offset answer
-    → Means offset common answer (meaning_of offset (answer_octets offset common answer))
-answer_means offset common (Returned asdu cause) small can =
+pub answer_means : (offset : ℤ) (answer : AsduAnswer) → CanSendAnswer offset answer
+    → Means offset answer (meaning_of offset (answer_octets offset answer))
+answer_means offset (Returned asdu cause) can =
     comes_back offset cause (octets_in asdu) (omega (arith, can.2))
-answer_means offset common (Made (outgoing.Command c)) small can =
-    outgoing_means offset common (outgoing.Command c) small can
-answer_means offset common (Made (outgoing.Observation cause originator x)) small can =
-    outgoing_means offset common (outgoing.Observation cause originator x) small can.1
+answer_means offset (Made (outgoing.Command c)) can =
+    outgoing_means offset (outgoing.Command c) can
+answer_means offset (Made (outgoing.Observation cause originator x)) can =
+    outgoing_means offset (outgoing.Observation cause originator x) can.1

@@ -1,5 +1,5 @@
 -- Answers can be sent, where the picture's observations can, and a command has the bits of its places.
-use Rattle.std.proofs.Common.{◌≡◌, ℕ, zero, suc, ℤ, ◌<◌, Bool, true, false, ◌==◌, List, [], ◌∷◌, ◌++◌, Option, Some, None, refl, arith, inl, inr}
+use Rattle.std.proofs.Common.{◌≡◌, ℕ, zero, suc, ℤ, ◌<◌, Bool, true, false, ◌==◌, ◌&&◌, List, [], ◌∷◌, ◌++◌, map, filter, Option, Some, None, refl, arith, inl, inr}
 use Rattle.std.specs.Prelude.{option_map, slice_get, IfSome, IsTrue}
 use Rattle.std.specs.List.{AllByRecursion}
 use Rattle.std.proofs.lemmas.Bool.{cases_Bool}
@@ -17,11 +17,11 @@ use Rattle.gw_judge.specs.Judging.{judged, IsWholeJudged}
 use Rattle.gw_judge.proofs.Refused.{header_whole, cause_within}
 use Rattle.gw_answers.specs.declared.outgoing.AsduAnswer.TheVariants.{Made}
 use Rattle.gw_answers.specs.declared.outgoing.OwnAsdu.TheVariants as outgoing
-use Rattle.gw_answers.specs.Outgoing.{command_with, confirmed}
-use Rattle.gw_answers.specs.Interrogations.{is_accepted_act, is_asked_by, rows_of, answer_to}
-use Rattle.gw_answers.specs.Answers.{shown_by, refused_act, answered_action, answered}
+use Rattle.gw_answers.specs.Outgoing.{command_with, confirmed, under}
+use Rattle.gw_answers.specs.Interrogations.{asked_addresses, is_accepted_act, is_asked_by, rows_under, answer_under, answer_to, cause_for}
+use Rattle.gw_answers.specs.Answers.{shown_by, first_asked, refused_act, answered_action, answered}
 use Rattle.gw_answers.specs.Octets.{octets_in}
-use Rattle.gw_answers.specs.Meaning.{IsSendable, is_answering, CanSendOutgoing, CanSendAnswer}
+use Rattle.gw_answers.specs.Meaning.{AreShort, HasShortAddresses, IsSendable, is_answering, CanSendOutgoing, CanSendAnswer}
 
 -- ---- commands
 
@@ -69,49 +69,101 @@ shown_can offset originator picture (Some found) all =
     go None can = tt
     go (Some x) can = (refl, can)
 
-refused_can : (offset : ℤ) (pending : Bool) (c : Command) → IsWhole c
-    → IfSome (refused_act pending c) (CanSendAnswer offset)
-refused_can offset pending c whole = elim (cases_Bool (is_accepted_act pending c)) [
+-- a common address of 16 bits, as those are that are asked
+pub asked_short : (setup : Setup) (common : ℕ) → HasShortAddresses setup → common < 65536
+    → AreShort (asked_addresses setup common)
+asked_short setup common known short = elim (cases_Bool (common == 65535)) [
+  | inl all ↦ rw all known
+  | inr one ↦ rw one (short, tt)
+]
+
+first_short : (asked : List ℕ) (common : ℕ) → AreShort asked → common < 65536 → first_asked asked common < 65536
+first_short [] common all short = short
+first_short (first ∷ more) common all short = all.0
+
+under_whole : (common : ℕ) (c : Command) → common < 65536 → IsWhole c → IsWhole (under common c)
+under_whole common c short whole = record {
+  cause = whole.cause;
+  originator = whole.originator;
+  common_address = short;
+  address = whole.address;
+  action = whole.action;
+}
+
+refused_can : (offset : ℤ) (setup : Setup) (pending : Bool) (c : Command) → HasShortAddresses setup → IsWhole c
+    → IfSome (refused_act setup pending c) (CanSendAnswer offset)
+refused_can offset setup pending c known whole = elim (cases_Bool (is_accepted_act pending c)) [
   | inl accepted ↦ rw accepted tt
-  | inr refused ↦ rw refused (confirmed_can offset true c whole)
+  | inr refused ↦
+      let asked : List ℕ = asked_addresses setup c.common_address in
+      let short = first_short asked c.common_address (asked_short setup c.common_address known whole.common_address)
+      whole.common_address in
+      let by : Command = under (first_asked asked c.common_address) c in
+      rw refused (confirmed_can offset true by (under_whole (first_asked asked c.common_address) c short whole))
 ]
 
 action_can : (offset : ℤ) (setup : Setup) (picture : List Observation) (pending : Bool) (c : Command) (action : Action)
-    → IsWhole c → AllByRecursion (IsSendable offset) picture
+    → HasShortAddresses setup → IsWhole c → AllByRecursion (IsSendable offset) picture
     → IfSome (answered_action setup picture pending c action) (CanSendAnswer offset)
-action_can offset setup picture pending c (actions.Interrogation qualifier) whole all =
-    refused_can offset pending c whole
-action_can offset setup picture pending c (actions.CounterInterrogation qualifier) whole all =
-    refused_can offset pending c whole
-action_can offset setup picture pending c actions.Read whole all =
-    shown_can offset c.originator picture (row_at_from 0 c.address setup.rows) all
-action_can offset setup picture pending c (actions.Single x) whole all = tt
-action_can offset setup picture pending c (actions.Double x) whole all = tt
-action_can offset setup picture pending c (actions.Setpoint x) whole all = tt
+action_can offset setup picture pending c (actions.Interrogation qualifier) known whole all =
+    refused_can offset setup pending c known whole
+action_can offset setup picture pending c (actions.CounterInterrogation qualifier) known whole all =
+    refused_can offset setup pending c known whole
+action_can offset setup picture pending c actions.Read known whole all =
+    shown_can offset c.originator picture (row_at_from 0 c.common_address c.address setup.rows) all
+action_can offset setup picture pending c (actions.Single x) known whole all = tt
+action_can offset setup picture pending c (actions.Double x) known whole all = tt
+action_can offset setup picture pending c (actions.Setpoint x) known whole all = tt
 
 -- what an ASDU that was judged so gets for an answer
 pub answered_can : (offset : ℤ) (setup : Setup) (picture : List Observation) (pending : Bool) (asdu : Asdu) (j : Judged)
-    → judged setup (octets_in asdu) ≡ j → IsWholeJudged j → AllByRecursion (IsSendable offset) picture
+    → judged setup (octets_in asdu) ≡ j → HasShortAddresses setup → IsWholeJudged j
+    → AllByRecursion (IsSendable offset) picture
     → IfSome (answered setup picture pending asdu j) (CanSendAnswer offset)
-answered_can offset setup picture pending asdu Malformed e whole all = tt
-answered_can offset setup picture pending asdu (Refuse cause execute) e whole all =
+answered_can offset setup picture pending asdu Malformed e known whole all = tt
+answered_can offset setup picture pending asdu (Refuse cause execute) e known whole all =
     let within = cause_within setup (octets_in asdu) cause execute e in
     (header_whole setup (octets_in asdu) cause execute e, within.0, within.1)
-answered_can offset setup picture pending asdu (Accepted c) e whole all =
-    action_can offset setup picture pending c c.action whole all
+answered_can offset setup picture pending asdu (Accepted c) e known whole all =
+    action_can offset setup picture pending c c.action known whole all
 
 -- ---- the answer to an interrogation
 
-rows_can : (offset : ℤ) (c : Command) (action : Action) (picture : List Observation) → IsWhole c
-    → AllByRecursion (IsSendable offset) picture
-    → AllByRecursion (CanSendOutgoing offset) (rows_of action picture ++ command_with 10 false c ∷ [])
-rows_can offset c action [] whole all = (answering_can offset 10 false c (omega arith) refl whole, tt)
-rows_can offset c action (x ∷ xs) whole all = elim (cases_Bool (is_asked_by action x)) [
-  | inl asked ↦ rw asked (all.0, rows_can offset c action xs whole all.1)
-  | inr other ↦ rw other (rows_can offset c action xs whole all.1)
+rows_can : (offset : ℤ) (c : Command) (cause : ℕ) (rows : List Observation) → IsWhole c
+    → AllByRecursion (IsSendable offset) rows
+    → AllByRecursion (CanSendOutgoing offset) (map (outgoing.Observation cause 0) rows ++ command_with 10 false c ∷ [])
+rows_can offset c cause [] whole all = (answering_can offset 10 false c (omega arith) refl whole, tt)
+rows_can offset c cause (x ∷ xs) whole all = (all.0, rows_can offset c cause xs whole all.1)
+
+-- so can what is left of it
+filter_can : (offset : ℤ) (p : Observation → Bool) (xs : List Observation) → AllByRecursion (IsSendable offset) xs
+    → AllByRecursion (IsSendable offset) (filter p xs)
+filter_can offset p [] all = tt
+filter_can offset p (x ∷ xs) all = elim (cases_Bool (p x)) [
+  | inl is ↦ rw is (all.0, filter_can offset p xs all.1)
+  | inr other ↦ rw other (filter_can offset p xs all.1)
 ]
 
-pub answer_to_can : (offset : ℤ) (c : Command) (picture : List Observation) → IsWhole c
-    → AllByRecursion (IsSendable offset) picture → AllByRecursion (CanSendOutgoing offset) (answer_to c picture)
-answer_to_can offset c picture whole all =
-    (answering_can offset 7 false c (omega arith) refl whole, rows_can offset c c.action picture whole all)
+answer_under_can : (offset : ℤ) (c : Command) (picture : List Observation) (common : ℕ) → common < 65536 → IsWhole c
+    → AllByRecursion (IsSendable offset) picture
+    → AllByRecursion (CanSendOutgoing offset) (answer_under c picture common)
+answer_under_can offset c picture common short whole all =
+    let here = under_whole common c short whole in (
+      answering_can offset 7 false (under common c) (omega arith) refl here,
+      rows_can offset (under common c) (cause_for c.action) (rows_under c.action picture common) here
+          (filter_can offset (λ x. x.common == common && is_asked_by c.action x) picture all),
+    )
+
+all_joined : {A : Type 0} (P : A → Type 0) (xs ys : List A) → AllByRecursion P xs → AllByRecursion P ys
+    → AllByRecursion P (xs ++ ys)
+all_joined P [] ys all more = more
+all_joined P (x ∷ xs) ys all more = (all.0, all_joined P xs ys all.1 more)
+
+pub answer_to_can : (offset : ℤ) (asked : List ℕ) (c : Command) (picture : List Observation) → AreShort asked
+    → IsWhole c → AllByRecursion (IsSendable offset) picture
+    → AllByRecursion (CanSendOutgoing offset) (answer_to asked c picture)
+answer_to_can offset [] c picture short whole all = tt
+answer_to_can offset (common ∷ asked) c picture short whole all =
+    all_joined (CanSendOutgoing offset) (answer_under c picture common) (answer_to asked c picture)
+    (answer_under_can offset c picture common short.0 whole all)
+    (answer_to_can offset asked c picture short.1 whole all)

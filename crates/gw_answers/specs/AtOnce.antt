@@ -1,15 +1,16 @@
 -- What an ASDU of a client gets for an answer at once (IEC 60870-5-101, 7.2.3 and 7.4), while a picture is shown, and an
 -- interrogation is pending or not: by what it spells, apart from the code's look-ups.
-use Rattle.std.specs.Prelude.{◌≡◌, ℕ, Bool, true, false, ◌⊎◌, List, slice_get, Some, Ok}
+use Rattle.std.specs.Prelude.{◌≡◌, ◌≢◌, ℕ, Bool, true, false, ◌⊎◌, List, ◌∷◌, slice_get, Some, Ok}
 use Rattle.gw_model.specs.declared.observation.Observation.{Observation}
 use Rattle.gw_entries.specs.declared.row.Row.{Row}
-use Rattle.gw_map.specs.Settings.{Setup}
+use Rattle.gw_model.specs.declared.point.ObjectKey.{ObjectKey}
+use Rattle.gw_map.specs.Settings.{Setup, row_object, known_addresses}
 use Rattle.iec_apci.specs.declared.apdu.Asdu.{Asdu}
 use Rattle.iec_command.specs.declared.command.Command.{Command}
 use Rattle.iec_command.specs.declared.command.Action.{Action}
 use Rattle.iec_command.specs.declared.command.Action.TheVariants.{Interrogation, CounterInterrogation, Read}
 use Rattle.iec_command.specs.Commands.{command_of}
-use Rattle.gw_judge.specs.Acceptable.{IsAcceptable}
+use Rattle.gw_judge.specs.Acceptable.{IsAcceptable, object_for}
 use Rattle.gw_judge.specs.Refusals.{ComesBackWith}
 use Rattle.gw_answers.specs.declared.outgoing.AsduAnswer.{AsduAnswer}
 use Rattle.gw_answers.specs.declared.outgoing.AsduAnswer.TheVariants.{Returned, Made}
@@ -40,6 +41,12 @@ abbrev pub IsConfirmedWith : ℕ → ℕ → Type 0
 IsConfirmedWith cause confirmation =
     ((cause ≡ 6) × (confirmation ≡ 7)) ⊎ ((cause ≡ 8) × (confirmation ≡ 9))
 
+-- by which common address what is for one, or for all stations (65535), is refused: by that one, or the first known one
+abbrev pub IsRefusedBy : Setup → ℕ → ℕ → Type 0
+IsRefusedBy setup common by =
+    ((common ≢ 65535) × (by ≡ common))
+    ⊎ ((common ≡ 65535) × ((more : List ℕ) × (known_addresses setup ≡ by ∷ more)))
+
 -- an interrogation that begins no answer is confirmed negatively, and else as it came
 pub record IsRefusedAct (setup : Setup) (pending : Bool) (octets : List ℕ) (told : Command) : Type 0 where
   pub act : Command
@@ -48,16 +55,18 @@ pub record IsRefusedAct (setup : Setup) (pending : Bool) (octets : List ℕ) (to
   pub interrogation : IsInterrogation act.action
   pub refused : BeginsAnswer pending act → ⊥
   pub cause : IsConfirmedWith act.cause told.cause
-  pub else_as_it_came : told ≡ record act { cause = told.cause; negative = true }
+  pub by : IsRefusedBy setup act.common_address told.common_address
+  pub else_as_it_came :
+      told ≡ record act { cause = told.cause; negative = true; common_address = told.common_address }
 
 -- ---- reads
 
--- the picture shows this of the row with an address
-pub record IsShownAt (setup : Setup) (picture : List Observation) (address : ℕ) (x : Observation) : Type 0 where
+-- the picture shows this of the row with an object
+pub record IsShownAt (setup : Setup) (picture : List Observation) (object : ObjectKey) (x : Observation) : Type 0 where
   pub place : ℕ
   pub row : Row
   pub there : slice_get setup.rows place ≡ Some row
-  pub has_address : row.address ≡ address
+  pub has_object : row_object row ≡ object
   pub shown : slice_get picture place ≡ Some x
 
 -- a row that is read is told with cause 5, and the originator of the request
@@ -69,7 +78,7 @@ pub record IsRead (setup : Setup) (picture : List Observation) (octets : List �
   pub is_read : read.action ≡ Read
   pub requested : cause ≡ 5
   pub answered : originator ≡ read.originator
-  pub shown : IsShownAt setup picture read.address x
+  pub shown : IsShownAt setup picture (object_for read) x
 
 -- ---- all answers
 

@@ -10,7 +10,7 @@ use Rattle.iec_command.specs.declared.command.Command.{Command}
 use Rattle.iec_command.specs.declared.command.Action.{Action}
 use Rattle.gw_judge.specs.Example.{setup}
 use Rattle.gw_judge.specs.Judging.{judged}
-use Rattle.gw_answers.specs.Interrogations.{answer_to}
+use Rattle.gw_answers.specs.Interrogations.{answer_to, asked_addresses}
 use Rattle.gw_answers.specs.Answers.{answered}
 use Rattle.gw_answers.specs.Octets.{answer_octets, outgoing_octets}
 
@@ -18,13 +18,23 @@ use Rattle.gw_answers.specs.Octets.{answer_octets, outgoing_octets}
 abbrev pub invalid : Bool → Quality
 invalid nt = record { iv = true; nt = nt; sb = false; bl = false; ov = false; cy = false; ca = false }
 
+abbrev pub shown_under : ℕ → ℕ → Value → Quality → Observation
+shown_under common address value quality =
+    record { common = common; address = address; value = value; quality = quality; stamp = Untimed }
+
 abbrev pub shown : ℕ → Value → Quality → Observation
-shown address value quality = record { address = address; value = value; quality = quality; stamp = Untimed }
+shown address value quality = shown_under 1 address value quality
 
 abbrev pub picture : List Observation
 picture =
     shown 4101 (Single false) (invalid true) ∷ shown 4201 (Scaled (pos 0)) (invalid true)
     ∷ shown 4301 (Total 0) (invalid false) ∷ []
+
+-- single-point 4101 of addresses 258, 1 and 258 again, where it has another number
+abbrev pub picture_of_two : List Observation
+picture_of_two =
+    shown_under 258 4101 (Single false) (invalid true) ∷ shown 4101 (Single false) (invalid true)
+    ∷ shown_under 258 4102 (Single true) (invalid true) ∷ []
 
 -- octets at the front of an ASDU's
 abbrev pub asdu_with : (octets : List ℕ) → length octets ≤ 249 → Asdu
@@ -34,7 +44,7 @@ asdu_with octets fits =
 -- what an ASDU gets at once, where an interrogation is pending or not
 abbrev pub reply : Bool → (octets : List ℕ) → length octets ≤ 249 → Option (List ℕ)
 reply pending octets fits =
-    option_map (answer_octets (pos 0) setup.station.common_address)
+    option_map (answer_octets (pos 0))
     (answered setup picture pending (asdu_with octets fits) (judged setup octets))
 
 -- an act of an interrogation
@@ -51,4 +61,8 @@ act action = record {
 
 -- the ASDUs that answer it
 abbrev pub replies : Command → List (List ℕ)
-replies c = map (outgoing_octets (pos 0) setup.station.common_address) (answer_to c picture)
+replies c = map (outgoing_octets (pos 0)) (answer_to (asked_addresses setup c.common_address) c picture)
+
+-- and where these addresses are asked
+abbrev pub replies_of_two : List ℕ → Command → List (List ℕ)
+replies_of_two asked c = map (outgoing_octets (pos 0)) (answer_to asked c picture_of_two)

@@ -1,13 +1,15 @@
 -- The answer to an interrogation (IEC 60870-5-101, 7.4.5 and 7.4.8).
-use Rattle.std.specs.Prelude.{ℕ, Bool, false, not, ◌&&◌, ◌==◌, List, [], ◌∷◌, ◌++◌, map, filter}
+use Rattle.std.specs.Prelude.{ℕ, Bool, false, not, ◌&&◌, ◌==◌, List, [], ◌∷◌, ◌++◌, map, filter, if◌then◌else◌}
+use Rattle.std.specs.List.{flat_map}
 use Rattle.gw_model.specs.declared.observation.Observation.{Observation}
 use Rattle.gw_model.specs.Values.{is_total}
+use Rattle.gw_map.specs.Settings.{Setup, known_addresses}
 use Rattle.iec_command.specs.declared.command.Command.{Command}
 use Rattle.iec_command.specs.declared.command.Action.{Action}
 use Rattle.iec_command.specs.declared.command.Action.TheVariants.{Interrogation, CounterInterrogation}
 use Rattle.gw_answers.specs.declared.outgoing.OwnAsdu.{OwnAsdu}
 use Rattle.gw_answers.specs.declared.outgoing.OwnAsdu.TheVariants as outgoing
-use Rattle.gw_answers.specs.Outgoing.{command_with}
+use Rattle.gw_answers.specs.Outgoing.{command_with, under}
 
 -- the station interrogation (QOI 20), and the general request of counters without freeze (QCC 5)
 abbrev pub is_general : Action → Bool
@@ -29,15 +31,23 @@ abbrev pub cause_for : Action → ℕ
 cause_for (CounterInterrogation qualifier) = 37
 cause_for _ = 20
 
--- what the picture shows of what is asked, in the order of its rows
-abbrev pub rows_of : Action → List Observation → List OwnAsdu
-rows_of action picture = map (outgoing.Observation (cause_for action) 0) (filter (is_asked_by action) picture)
+-- the common addresses that are asked: one, or for all stations (65535) those that are known
+abbrev pub asked_addresses : Setup → ℕ → List ℕ
+asked_addresses setup common = if common == 65535 then known_addresses setup else common ∷ []
 
--- the confirmation (7), these rows, and the termination (10)
+-- what the picture shows of what is asked under a common address, in the order of its rows
+abbrev pub rows_under : Action → List Observation → ℕ → List Observation
+rows_under action picture common = filter (λ x. x.common == common && is_asked_by action x) picture
+
+-- the answer under the act's common address: the confirmation (7), these rows, and the termination (10)
 abbrev pub answer_with : Command → List Observation → List OwnAsdu
 answer_with c rows =
     command_with 7 false c
     ∷ (map (outgoing.Observation (cause_for c.action) 0) rows ++ command_with 10 false c ∷ [])
 
-abbrev pub answer_to : Command → List Observation → List OwnAsdu
-answer_to c picture = answer_with c (filter (is_asked_by c.action) picture)
+abbrev pub answer_under : Command → List Observation → ℕ → List OwnAsdu
+answer_under c picture common = answer_with (under common c) (rows_under c.action picture common)
+
+-- an answer under each common address that is asked, in their order, all from one picture
+abbrev pub answer_to : List ℕ → Command → List Observation → List OwnAsdu
+answer_to asked c picture = flat_map (answer_under c picture) asked

@@ -1,5 +1,6 @@
 pub mod Outgoing
 pub mod Interrogations
+pub mod Sections
 pub mod Answers
 pub mod AtOnce
 pub mod Octets

@@ -1,8 +1,10 @@
 -- What an ASDU means, whether it carries process information or a command.
-use Rattle.std.specs.Prelude.{◌≡◌, ℕ, ℤ, ◌%◌, Bool, true, ◌==◌, ◌||◌, IsTrue, List, [], ◌∷◌, Option, Some, None, Result, Ok, Err, is_some, slice_index, slice_set, take}
+use Rattle.std.specs.Prelude.{◌≡◌, ◌<◌, ℕ, ℤ, ◌%◌, Bool, true, ◌==◌, ◌||◌, IsTrue, List, [], ◌∷◌, Option, Some, None, Result, Ok, Err, is_some, slice_index, slice_set, take}
+use Rattle.std.specs.List.{AllByRecursion}
 use Rattle.gw_model.specs.Bits.{is_set}
 use Rattle.gw_model.specs.Fit.{HasWidth, IsFit}
 use Rattle.gw_model.specs.declared.observation.Observation.{Observation}
+use Rattle.gw_map.specs.Settings.{Setup, known_addresses}
 use Rattle.gw_time.specs.Spelling.{tag_of}
 use Rattle.iec_asdu.specs.Asdu.{Asdu, asdu_meaning, monitor_types}
 use Rattle.iec_asdu.specs.Packing.{taken_of}
@@ -14,7 +16,6 @@ use Rattle.gw_answers.specs.declared.outgoing.AsduAnswer.{AsduAnswer}
 use Rattle.gw_answers.specs.declared.outgoing.AsduAnswer.TheVariants.{Returned, Made}
 use Rattle.gw_answers.specs.declared.outgoing.OwnAsdu.{OwnAsdu}
 use Rattle.gw_answers.specs.declared.outgoing.OwnAsdu.TheVariants as outgoing
-use Rattle.gw_answers.specs.Outgoing.{at_station}
 use Rattle.gw_answers.specs.Octets.{octets_in, IsReturnable}
 
 pub data Meant : Type 0 where
@@ -35,18 +36,18 @@ abbrev pub meaning_of : ℤ → List ℕ → Meant
 meaning_of offset octets = meant_by octets (asdu_meaning (monitor_types offset) octets) (command_of octets)
 
 -- the ASDU of one observation
-abbrev pub asdu_of : ℤ → ℕ → ℕ → ℕ → Observation → Asdu
-asdu_of offset common cause originator x = record {
+abbrev pub asdu_of : ℤ → ℕ → ℕ → Observation → Asdu
+asdu_of offset cause originator x = record {
   identification = type_of x.value (is_some (tag_of offset x.stamp));
   cause = cause;
   originator = originator;
-  common_address = common;
+  common_address = x.common;
   observations = x ∷ [];
 }
 
 -- the ASDU of as many observations from the front of a list as one carries, of which this is the first
-abbrev pub packed_asdu : ℤ → ℕ → ℕ → ℕ → Observation → List Observation → Asdu
-packed_asdu offset common cause originator x xs = record (asdu_of offset common cause originator x) {
+abbrev pub packed_asdu : ℤ → ℕ → ℕ → Observation → List Observation → Asdu
+packed_asdu offset cause originator x xs = record (asdu_of offset cause originator x) {
   observations = take (taken_of offset (x ∷ xs)) (x ∷ xs);
 }
 
@@ -75,16 +76,22 @@ IsRefusedWith cause (Commands c) = (c.cause ≡ cause) × (c.negative ≡ true)
 IsRefusedWith cause (Unread octets) = HasCause cause (slice_index octets 2)
 
 -- what goes out means what it is
-abbrev pub meant_outgoing : ℤ → ℕ → OwnAsdu → Meant
-meant_outgoing offset common (outgoing.Command c) = Commands (at_station common c)
-meant_outgoing offset common (outgoing.Observation cause originator x) =
-    Tells (asdu_of offset common cause originator x)
+abbrev pub meant_outgoing : ℤ → OwnAsdu → Meant
+meant_outgoing offset (outgoing.Command c) = Commands c
+meant_outgoing offset (outgoing.Observation cause originator x) = Tells (asdu_of offset cause originator x)
 
-abbrev pub Means : ℤ → ℕ → AsduAnswer → Meant → Type 0
-Means offset common (Returned asdu cause) meant = ComesBack offset cause (octets_in asdu) meant
-Means offset common (Made x) meant = meant ≡ meant_outgoing offset common x
+abbrev pub Means : ℤ → AsduAnswer → Meant → Type 0
+Means offset (Returned asdu cause) meant = ComesBack offset cause (octets_in asdu) meant
+Means offset (Made x) meant = meant ≡ meant_outgoing offset x
 
 -- ---- what can be sent
+
+-- common addresses of 16 bits
+abbrev pub AreShort : List ℕ → Type 0
+AreShort addresses = AllByRecursion (λ n. n < 65536) addresses
+
+abbrev pub HasShortAddresses : Setup → Type 0
+HasShortAddresses setup = AreShort (known_addresses setup)
 
 -- an ASDU can carry the observation: it is fit, and its number has its element's width
 pub record IsSendable (offset : ℤ) (x : Observation) : Type 0 where

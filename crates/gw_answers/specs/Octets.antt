@@ -1,5 +1,4 @@
--- How what goes out is spelled (IEC 60870-5-101, 7.2 and 7.3), where clocks are offset minutes ahead of UTC, by the
--- station that has this common address.
+-- How what goes out is spelled (IEC 60870-5-101, 7.2 and 7.3), where clocks are offset minutes ahead of UTC.
 use Rattle.std.specs.Prelude.{ℕ, ℤ, ◌≤◌, true, List, length, take, slice_set}
 use Rattle.iec_apci.specs.declared.apdu.Asdu.{Asdu}
 use Rattle.gw_model.specs.declared.observation.Observation.{Observation}
@@ -10,26 +9,24 @@ use Rattle.gw_answers.specs.declared.outgoing.AsduAnswer.{AsduAnswer}
 use Rattle.gw_answers.specs.declared.outgoing.AsduAnswer.TheVariants.{Returned, Made}
 use Rattle.gw_answers.specs.declared.outgoing.OwnAsdu.{OwnAsdu}
 use Rattle.gw_answers.specs.declared.outgoing.OwnAsdu.TheVariants as outgoing
-use Rattle.gw_answers.specs.Outgoing.{at_station}
 
 -- the octets of an ASDU
 abbrev pub octets_in : Asdu → List ℕ
 octets_in asdu = take asdu.len asdu.octets
 
 -- the originator is the fourth octet
-abbrev pub outgoing_octets : ℤ → ℕ → OwnAsdu → List ℕ
-outgoing_octets offset common (outgoing.Command c) = command_spelling (at_station common c)
-outgoing_octets offset common (outgoing.Observation cause originator x) =
-    slice_set (spelling offset common cause x) 3 originator
+abbrev pub outgoing_octets : ℤ → OwnAsdu → List ℕ
+outgoing_octets offset (outgoing.Command c) = command_spelling c
+outgoing_octets offset (outgoing.Observation cause originator x) = slice_set (spelling offset cause x) 3 originator
 
 -- as many observations from the front of a list as one ASDU carries
-abbrev pub packed_octets : ℤ → ℕ → ℕ → ℕ → List Observation → List ℕ
-packed_octets offset common cause originator xs = slice_set (packed_spelling offset common cause xs) 3 originator
+abbrev pub packed_octets : ℤ → ℕ → ℕ → List Observation → List ℕ
+packed_octets offset cause originator xs = slice_set (packed_spelling offset cause xs) 3 originator
 
 -- what is unknown comes back as it came, with its cause and P/N set
-abbrev pub answer_octets : ℤ → ℕ → AsduAnswer → List ℕ
-answer_octets offset common (Returned asdu cause) = mirrored cause true (octets_in asdu)
-answer_octets offset common (Made x) = outgoing_octets offset common x
+abbrev pub answer_octets : ℤ → AsduAnswer → List ℕ
+answer_octets offset (Returned asdu cause) = mirrored cause true (octets_in asdu)
+answer_octets offset (Made x) = outgoing_octets offset x
 
 -- an ASDU comes back with a whole header, and a cause from 44 to 47
 abbrev pub IsReturnable : AsduAnswer → Type 0

@@ -1,5 +1,4 @@
--- What goes out of the station's own, whole when it is made but for the common address, which is the station's in all
--- of it (IEC 60870-5-101, 7.2.3 and 7.2.4).
+-- What goes out of the station's own, whole when it is made (IEC 60870-5-101, 7.2.3 and 7.2.4).
 use Rattle.std.specs.Prelude.{ℕ, Bool, ◌==◌, if◌then◌else◌}
 use Rattle.gw_model.specs.declared.observation.Observation.{Observation}
 use Rattle.iec_command.specs.declared.command.Command.{Command}
@@ -17,9 +16,9 @@ confirmation_cause cause = if cause == 8 then 9 else 7
 abbrev pub confirmed : Bool → Command → OwnAsdu
 confirmed negative c = command_with (confirmation_cause c.cause) negative c
 
--- a command as it goes out, by the station with this common address
-abbrev pub at_station : ℕ → Command → Command
-at_station common c = record c { common_address = common }
+-- a command under a common address
+abbrev pub under : ℕ → Command → Command
+under common c = record c { common_address = common }
 
 -- news: cause 3, spontaneous
 abbrev pub news : Observation → OwnAsdu

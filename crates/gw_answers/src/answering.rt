@@ -1,9 +1,10 @@
 //! What an ASDU gets for an answer at once.
 ghost use Rattle.std.specs.Prelude.{◌≡◌};
 ghost use Rattle.gw_answers.specs.Answers.{answered, answered_action, command_by, places_for, shown_at};
-ghost use Rattle.gw_answers.specs.Outgoing.{command_with, confirmed};
+ghost use Rattle.gw_answers.specs.Outgoing.{command_with, confirmed, under};
+ghost use Rattle.gw_judge.specs.Acceptable.{object_for};
 
-use crate::interrogation::is_accepted_act;
+use crate::interrogation::{first_asked, is_accepted_act};
 use crate::outgoing::{AsduAnswer, OwnAsdu};
 use gw_judge::{Judged, is_execute};
 use gw_map::Settings;
@@ -23,6 +24,16 @@ pub fn command_with(cause: u8, negative: bool, command: &Command) -> OwnAsdu
         negative,
         ..*command
     })
+}
+
+/// A command under a common address.
+pub fn under(common_address: u16, command: &Command) -> Command
+    ensures { result ≡ under common_address command.now }
+{
+    Command {
+        common_address,
+        ..*command
+    }
 }
 
 /// The confirmation of a command's activation or deactivation.
@@ -91,10 +102,11 @@ fn answered_action(
             if is_accepted_act(pending, command) {
                 None
             } else {
-                Some(AsduAnswer::Made(confirmed(true, command)))
+                let first = first_asked(settings, command.common_address);
+                Some(AsduAnswer::Made(confirmed(true, &under(first, command))))
             }
         }
-        Action::Read => shown_at(settings, picture, command.address).map(|observation| {
+        Action::Read => shown_at(settings, picture, command).map(|observation| {
             AsduAnswer::Made(OwnAsdu::Observation {
                 cause: REQUEST,
                 originator: command.originator,
@@ -105,11 +117,11 @@ fn answered_action(
     }
 }
 
-/// What the picture shows of the row with an address, if there is one.
-fn shown_at(settings: &Settings, picture: &[Observation], address: u32) -> Option<Observation>
-    ensures { result ≡ shown_at settings.now picture.now address }
+/// What the picture shows of the row that a command is for, if there is one.
+fn shown_at(settings: &Settings, picture: &[Observation], command: &Command) -> Option<Observation>
+    ensures { result ≡ shown_at settings.now picture.now (object_for command.now) }
 {
-    let (position, _) = settings.row_at(address)?;
+    let (position, _) = settings.row_at(command.common_address, command.address)?;
     picture.get(position).copied()
 }
 

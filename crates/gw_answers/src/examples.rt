@@ -6,9 +6,7 @@ ghost use Rattle.iec_command.specs.declared.command.Action.TheVariants.{CounterI
 ghost use Rattle.iec_command.specs.Example.{double, setpoint, single};
 ghost use Rattle.gw_judge.specs.declared.judging.Judged.TheVariants.{Accepted};
 ghost use Rattle.gw_answers.specs.Answers.{command_by};
-ghost use Rattle.gw_answers.specs.Interrogations.{answer_to};
-ghost use Rattle.gw_answers.specs.Octets.{outgoing_octets};
-ghost use Rattle.gw_answers.specs.Example.{act, picture, replies, reply};
+ghost use Rattle.gw_answers.specs.Example.{act, replies, replies_of_two, reply};
 
 /// The answer to an interrogation: confirmation, rows, termination.
 pub fn interrogations()
@@ -21,18 +19,28 @@ pub fn interrogations()
         (0x65 ∷ 1 ∷ 7 ∷ 0 ∷ 1 ∷ 0 ∷ 0 ∷ 0 ∷ 0 ∷ 5 ∷ [])
         ∷ (0x0F ∷ 1 ∷ 0x25 ∷ 0 ∷ 1 ∷ 0 ∷ 0xCD ∷ 0x10 ∷ 0 ∷ 0 ∷ 0 ∷ 0 ∷ 0 ∷ 0x80 ∷ [])
         ∷ (0x65 ∷ 1 ∷ 0x0A ∷ 0 ∷ 1 ∷ 0 ∷ 0 ∷ 0 ∷ 0 ∷ 5 ∷ []) ∷ [] }
-    // The originator of the request, and the station's own address where the request was for all stations.
+    // The originator of the request, and the one known address where the request was for all stations.
     ensures all_stations { replies (record (act (CounterInterrogation 5)) { originator = 9; common_address = 65535 }) ≡
         (0x65 ∷ 1 ∷ 7 ∷ 9 ∷ 1 ∷ 0 ∷ 0 ∷ 0 ∷ 0 ∷ 5 ∷ [])
         ∷ (0x0F ∷ 1 ∷ 0x25 ∷ 0 ∷ 1 ∷ 0 ∷ 0xCD ∷ 0x10 ∷ 0 ∷ 0 ∷ 0 ∷ 0 ∷ 0 ∷ 0x80 ∷ [])
         ∷ (0x65 ∷ 1 ∷ 0x0A ∷ 9 ∷ 1 ∷ 0 ∷ 0 ∷ 0 ∷ 0 ∷ 5 ∷ []) ∷ [] }
-    // Station 258, of whose address the low octet comes first.
-    ensures of_258 { map (outgoing_octets (pos 0) 258) (answer_to (record (act (CounterInterrogation 5)) {
-      common_address = 65535;
-    }) picture) ≡
-        (0x65 ∷ 1 ∷ 7 ∷ 0 ∷ 2 ∷ 1 ∷ 0 ∷ 0 ∷ 0 ∷ 5 ∷ [])
-        ∷ (0x0F ∷ 1 ∷ 0x25 ∷ 0 ∷ 2 ∷ 1 ∷ 0xCD ∷ 0x10 ∷ 0 ∷ 0 ∷ 0 ∷ 0 ∷ 0 ∷ 0x80 ∷ [])
-        ∷ (0x65 ∷ 1 ∷ 0x0A ∷ 0 ∷ 2 ∷ 1 ∷ 0 ∷ 0 ∷ 0 ∷ 5 ∷ []) ∷ [] }
+    // Address 258, of which the low octet comes first, alone.
+    ensures of_258 { replies_of_two (258 ∷ []) (act (Interrogation 20)) ≡
+        (0x64 ∷ 1 ∷ 7 ∷ 0 ∷ 2 ∷ 1 ∷ 0 ∷ 0 ∷ 0 ∷ 0x14 ∷ [])
+        ∷ (1 ∷ 1 ∷ 0x14 ∷ 0 ∷ 2 ∷ 1 ∷ 5 ∷ 0x10 ∷ 0 ∷ 0xC0 ∷ [])
+        ∷ (1 ∷ 1 ∷ 0x14 ∷ 0 ∷ 2 ∷ 1 ∷ 6 ∷ 0x10 ∷ 0 ∷ 0xC1 ∷ [])
+        ∷ (0x64 ∷ 1 ∷ 0x0A ∷ 0 ∷ 2 ∷ 1 ∷ 0 ∷ 0 ∷ 0 ∷ 0x14 ∷ []) ∷ [] }
+    // Each address has its confirmation, its rows and its termination, also the one that has no rows.
+    ensures of_three { replies_of_two (1 ∷ 3 ∷ 258 ∷ []) (act (Interrogation 20)) ≡
+        (0x64 ∷ 1 ∷ 7 ∷ 0 ∷ 1 ∷ 0 ∷ 0 ∷ 0 ∷ 0 ∷ 0x14 ∷ [])
+        ∷ (1 ∷ 1 ∷ 0x14 ∷ 0 ∷ 1 ∷ 0 ∷ 5 ∷ 0x10 ∷ 0 ∷ 0xC0 ∷ [])
+        ∷ (0x64 ∷ 1 ∷ 0x0A ∷ 0 ∷ 1 ∷ 0 ∷ 0 ∷ 0 ∷ 0 ∷ 0x14 ∷ [])
+        ∷ (0x64 ∷ 1 ∷ 7 ∷ 0 ∷ 3 ∷ 0 ∷ 0 ∷ 0 ∷ 0 ∷ 0x14 ∷ [])
+        ∷ (0x64 ∷ 1 ∷ 0x0A ∷ 0 ∷ 3 ∷ 0 ∷ 0 ∷ 0 ∷ 0 ∷ 0x14 ∷ [])
+        ∷ (0x64 ∷ 1 ∷ 7 ∷ 0 ∷ 2 ∷ 1 ∷ 0 ∷ 0 ∷ 0 ∷ 0x14 ∷ [])
+        ∷ (1 ∷ 1 ∷ 0x14 ∷ 0 ∷ 2 ∷ 1 ∷ 5 ∷ 0x10 ∷ 0 ∷ 0xC0 ∷ [])
+        ∷ (1 ∷ 1 ∷ 0x14 ∷ 0 ∷ 2 ∷ 1 ∷ 6 ∷ 0x10 ∷ 0 ∷ 0xC1 ∷ [])
+        ∷ (0x64 ∷ 1 ∷ 0x0A ∷ 0 ∷ 2 ∷ 1 ∷ 0 ∷ 0 ∷ 0 ∷ 0x14 ∷ []) ∷ [] }
 {}
 
 /// What isn't accepted is confirmed negatively.
@@ -56,7 +64,7 @@ pub fn refused_acts()
         ≡ Some (0x65 ∷ 1 ∷ 0x47 ∷ 0 ∷ 1 ∷ 0 ∷ 0 ∷ 0 ∷ 0 ∷ 4 ∷ []) }
     ensures no_counter { reply false (0x65 ∷ 1 ∷ 6 ∷ 0 ∷ 1 ∷ 0 ∷ 0 ∷ 0 ∷ 0 ∷ 0 ∷ []) (lit≤ tt)
         ≡ Some (0x65 ∷ 1 ∷ 0x47 ∷ 0 ∷ 1 ∷ 0 ∷ 0 ∷ 0 ∷ 0 ∷ 0 ∷ []) }
-    // For all stations, by the station's own address.
+    // For all stations, by the first known address.
     ensures all_stations { reply true (0x65 ∷ 1 ∷ 6 ∷ 7 ∷ 0xFF ∷ 0xFF ∷ 0 ∷ 0 ∷ 0 ∷ 5 ∷ []) (lit≤ tt)
         ≡ Some (0x65 ∷ 1 ∷ 0x47 ∷ 7 ∷ 1 ∷ 0 ∷ 0 ∷ 0 ∷ 0 ∷ 5 ∷ []) }
 {}

@@ -17,16 +17,16 @@ ghost use Rattle.gw_answers.specs.Octets.{answer_octets, octets_in, packed_octet
 /// What is written of an answer means what it was made of: the command or the observation that goes out, or the octets
 /// of an ASDU that comes back as it came, but for its cause, and P/N, which is set.
 pub fn answers_mean_what_they_were()
-    ensures { (offset : ℤ) (common : ℕ) (answer : AnyAnswer) → common < 65536 → CanSendAnswer offset answer
-        → Means offset common answer (meaning_of offset (answer_octets offset common answer)) }
+    ensures { (offset : ℤ) (answer : AnyAnswer) → CanSendAnswer offset answer
+        → Means offset answer (meaning_of offset (answer_octets offset answer)) }
 {}
 
 /// What is packed means as many observations from the front of its list as one ASDU carries.
 pub fn packed_asdus_mean_their_observations()
-    ensures { (offset : ℤ) (common cause originator : ℕ) (x : Observed) (xs : List Observed) → common < 65536
+    ensures { (offset : ℤ) (cause originator : ℕ) (x : Observed) (xs : List Observed)
         → AllByRecursion (IsSendable offset) (take (taken_of offset (x ∷ xs)) (x ∷ xs))
-        → meaning_of offset (packed_octets offset common cause originator (x ∷ xs))
-        ≡ Tells (packed_asdu offset common cause originator x xs) }
+        → meaning_of offset (packed_octets offset cause originator (x ∷ xs))
+        ≡ Tells (packed_asdu offset cause originator x xs) }
 {}
 
 /// A command that comes back means the command that came, with that cause and P/N: type, qualifier, T, originator,

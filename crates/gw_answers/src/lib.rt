@@ -8,7 +8,7 @@ pub mod laws;
 mod octets;
 mod outgoing;
 
-pub use answering::{answered, command_by, command_with, confirmed, places_for};
-pub use interrogation::{cause_for, is_accepted_act, rows_asked};
+pub use answering::{answered, command_by, command_with, confirmed, places_for, under};
+pub use interrogation::{AnswerSection, cause_for, is_accepted_act, sections_of};
 pub use octets::{PackedAsdu, answer_asdu, pack};
 pub use outgoing::{AsduAnswer, OwnAsdu};

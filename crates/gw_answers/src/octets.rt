@@ -4,7 +4,6 @@ ghost use Rattle.iec_asdu.specs.Packing.{taken_of};
 ghost use Rattle.iec_asdu.specs.Spelling.{spelling};
 ghost use Rattle.iec_command.specs.Commands.{mirrored, spelling as command_spelling};
 ghost use Rattle.gw_answers.specs.Octets.{IsReturnable, answer_octets, octets_in, outgoing_octets, packed_octets};
-ghost use Rattle.gw_answers.specs.Outgoing.{at_station};
 
 use crate::outgoing::{AsduAnswer, OwnAsdu};
 use gw_model::Observation;
@@ -25,20 +24,14 @@ pub struct PackedAsdu {
 }
 
 /// The ASDU of as many observations from the front as one carries, with their cause of transmission and originator.
-pub fn pack(
-    common: u16,
-    cause: u8,
-    originator: u8,
-    zone: &Zone,
-    observations: &[Observation],
-) -> PackedAsdu
+pub fn pack(cause: u8, originator: u8, zone: &Zone, observations: &[Observation]) -> PackedAsdu
     requires { 0 < length observations.now }
     ensures octets { octets_in result.asdu
-        ≡ packed_octets zone.now.offset_minutes common cause originator observations.now }
+        ≡ packed_octets zone.now.offset_minutes cause originator observations.now }
     ensures taken { result.taken ≡ taken_of zone.now.offset_minutes observations.now }
 {
     let mut octets = [0; 249];
-    let written = write_monitor(observations, common, cause, zone, &mut octets);
+    let written = write_monitor(observations, cause, zone, &mut octets);
     octets[ORIGINATOR] = originator;
     PackedAsdu {
         asdu: Asdu {
@@ -50,27 +43,16 @@ pub fn pack(
 }
 
 /// The ASDU of an observation with its cause of transmission and originator.
-fn observation_asdu(
-    common: u16,
-    cause: u8,
-    originator: u8,
-    zone: &Zone,
-    observation: &Observation,
-) -> Asdu
-    ensures { octets_in result
-        ≡ slice_set (spelling zone.now.offset_minutes common cause observation.now) 3 originator }
+fn observation_asdu(cause: u8, originator: u8, zone: &Zone, observation: &Observation) -> Asdu
+    ensures { octets_in result ≡ slice_set (spelling zone.now.offset_minutes cause observation.now) 3 originator }
 {
-    pack(common, cause, originator, zone, &[*observation]).asdu
+    pack(cause, originator, zone, &[*observation]).asdu
 }
 
-/// The ASDU of a command, by the station that has a common address.
-fn command_asdu(common: u16, command: &Command) -> Asdu
-    ensures { octets_in result ≡ command_spelling (at_station common command.now) }
+/// The ASDU of a command.
+fn command_asdu(command: &Command) -> Asdu
+    ensures { octets_in result ≡ command_spelling command.now }
 {
-    let command = Command {
-        common_address: common,
-        ..*command
-    };
     let mut octets = [0; 249];
     let len = command.write(&mut octets);
     Asdu {
@@ -93,26 +75,26 @@ fn returned_asdu(asdu: &Asdu, cause: u8) -> Asdu
     }
 }
 
-fn outgoing_asdu(common: u16, zone: &Zone, outgoing: &OwnAsdu) -> Asdu
-    ensures { octets_in result ≡ outgoing_octets zone.now.offset_minutes common outgoing.now }
+fn outgoing_asdu(zone: &Zone, outgoing: &OwnAsdu) -> Asdu
+    ensures { octets_in result ≡ outgoing_octets zone.now.offset_minutes outgoing.now }
 {
     match outgoing {
-        OwnAsdu::Command(command) => command_asdu(common, command),
+        OwnAsdu::Command(command) => command_asdu(command),
         OwnAsdu::Observation {
             cause,
             originator,
             observation,
-        } => observation_asdu(common, *cause, *originator, zone, observation),
+        } => observation_asdu(*cause, *originator, zone, observation),
     }
 }
 
-/// The ASDU of an answer, by the station that has a common address.
-pub fn answer_asdu(common: u16, zone: &Zone, answer: &AsduAnswer) -> Asdu
+/// The ASDU of an answer.
+pub fn answer_asdu(zone: &Zone, answer: &AsduAnswer) -> Asdu
     requires { IsReturnable answer.now }
-    ensures { octets_in result ≡ answer_octets zone.now.offset_minutes common answer.now }
+    ensures { octets_in result ≡ answer_octets zone.now.offset_minutes answer.now }
 {
     match answer {
         AsduAnswer::Returned { asdu, cause } => returned_asdu(asdu, *cause),
-        AsduAnswer::Made(outgoing) => outgoing_asdu(common, zone, outgoing),
+        AsduAnswer::Made(outgoing) => outgoing_asdu(zone, outgoing),
     }
 }

@@ -8,8 +8,7 @@ use iec_apci::Asdu;
 use iec_asdu::SPONTANEOUS;
 use iec_command::Command;
 
-/// An ASDU of the station's own: whole when it is made, but for the common address, which is the station's in all of
-/// it.
+/// An ASDU of the station's own, whole when it is made.
 #[derive(Clone, Copy, Debug, PartialEq, Eq)]
 pub enum OwnAsdu {
     /// A command with the cause of transmission and P/N of its confirmation or termination.

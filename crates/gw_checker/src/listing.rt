@@ -18,15 +18,20 @@ pub(crate) fn write_listing<W: Write>(settings: &Settings, writer: &mut W) -> io
 }
 
 fn write_row<W: Write>(row: &Row, writer: &mut W) -> io::Result<()> {
+    let common_address = row.common_address;
     let address = row.address;
     let show = show_word(row.show);
     let outstation = row.key.outstation;
     let kind = kind_word(row.key.kind);
     let index = row.key.index;
-    writeln!(writer, "point {address} {show} {outstation} {kind} {index}")
+    writeln!(
+        writer,
+        "point {common_address} {address} {show} {outstation} {kind} {index}"
+    )
 }
 
 fn write_control<W: Write>(control: &Control, writer: &mut W) -> io::Result<()> {
+    let common_address = control.common_address;
     let address = control.address;
     let show = control_word(control.operates);
     let outstation = control.outstation;
@@ -34,7 +39,7 @@ fn write_control<W: Write>(control: &Control, writer: &mut W) -> io::Result<()> 
     let mode = mode_word(control.mode);
     writeln!(
         writer,
-        "control {address} {show} {outstation} {index} {mode}"
+        "control {common_address} {address} {show} {outstation} {index} {mode}"
     )
 }
 

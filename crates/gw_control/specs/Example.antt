@@ -62,10 +62,13 @@ abbrev pub switch : Control
 switch = record {
   outstation = 0;
   index = 3;
+  common_address = 1;
   address = 5001;
   select = true;
   mode = Direct;
   operates = operated.Single pulses;
+  common_from = lit≤ tt;
+  common_to = lit≤ tt;
   from = lit≤ tt;
   to = lit≤ tt;
 }
@@ -120,6 +123,10 @@ two_outstations = record setup {
 abbrev pub of_client : ℕ → ℕ → ℕ → Action → ℕ → AskedCommand
 of_client client cause address action moment =
     asked client (10 + client) (command cause 1 address action) true moment
+
+-- the same under common address 2
+abbrev pub under_2 : AskedCommand → AskedCommand
+under_2 a = record a { command = record a.command { common_address = 2 } }
 
 -- a client selects and executes 5001 with this state and QU, and takes the selection back
 abbrev pub selects : ℕ → Bool → ℕ → ℕ → AskedCommand

@@ -31,9 +31,9 @@ abbrev pub if_of_type : Action → Option (ℕ × Control) → Option (ℕ × Co
 if_of_type action None = None
 if_of_type action (Some found) = if is_of_type action found.1.operates then Some found else None
 
--- the control that a command is for, with its position: it has the address, and is operated by the type
+-- the control that a command is for, with its position: it has the addresses, and is operated by the type
 abbrev pub control_for : Setup → Command → Option (ℕ × Control)
-control_for setup c = if_of_type c.action (control_at_from 0 c.address setup.controls)
+control_for setup c = if_of_type c.action (control_at_from 0 c.common_address c.address setup.controls)
 
 -- ---- the act
 

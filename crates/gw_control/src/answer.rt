@@ -9,7 +9,7 @@ pub enum Answer {
     Confirm,
     /// It is confirmed negatively.
     Negative,
-    /// No control of its type has the address.
+    /// No control of its type has the addresses.
     Unknown,
     /// It is an order with this number; what is said of it is what becomes of the order.
     Ordered(u64),

@@ -36,6 +36,7 @@ ghost use Rattle.gw_control.specs.Example.{
   two_outstations,
   two_thirds,
   while_down,
+  under_2,
 };
 ghost use Rattle.gw_control.specs.Held.{orders_of};
 ghost use Rattle.gw_control.specs.Selections.{asks_same};
@@ -125,9 +126,10 @@ pub fn refusals_by_example()
     ensures sixteenth { answered (sets 0 (pos 1) ∷ []) (sets 1 (pos 1)) ≡ Ordered 2 }
     ensures seventeenth { answered sixteen (sets 1 (pos 1)) ≡ Negative }
     ensures one_taken { answer_of setup (sets 1 (pos 1)) (sent (after sixteen)) ≡ Ordered 17 }
-    // No control of its type has the address.
+    // No control of its type has the address, or it has another common address.
     ensures other_type { answered [] (of_client 0 6 5001 (double 1 0 false) 0) ≡ Unknown }
     ensures other_address { answered [] (of_client 0 6 5004 (double 1 0 false) 0) ≡ Unknown }
+    ensures other_common_address { answered [] (under_2 (of_client 0 6 5003 (double 1 0 false) 0)) ≡ Unknown }
     ensures no_command { answered [] (of_client 0 5 5001 Read 0) ≡ Unknown }
     ensures unknown_changes_nothing { answered (selects 0 true 0 0 ∷ of_client 0 6 5001 (double 1 0 false) 0 ∷ [])
         (executes 0 true 0 0) ≡ Ordered 1 }

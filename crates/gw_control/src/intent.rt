@@ -6,11 +6,11 @@ use gw_map::{Control, Operates, Pulses, Rest, Scale, Settings};
 use gw_model::{Act, Shape};
 use iec_command::{Action, Command};
 
-/// The control that a command is for, with its position: it has the address, and is operated by the type.
+/// The control that a command is for, with its position: it has the addresses, and is operated by the type.
 pub fn control_for(command: &Command, settings: &Settings) -> Option<(usize, Control)>
     ensures { result ≡ control_for settings.now command.now }
 {
-    let (position, control) = settings.control_at(command.address)?;
+    let (position, control) = settings.control_at(command.common_address, command.address)?;
     if is_of_type(&command.action, &control.operates) {
         Some((position, *control))
     } else {

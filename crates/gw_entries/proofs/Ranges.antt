@@ -1,10 +1,11 @@
 -- Where nothing is wrong with a table, its numbers are in their ranges.
 use Prim.Native.String.{String as Name}
-use Rattle.std.proofs.Common.{◌≡◌, ℕ, pos, negsuc, nat_abs, ◌<◌, ◌≤◌, ◌≤ℤ◌, ◌&&◌, arith, List, [], ◌∷◌, ◌++◌, map, min, filter_map, find, codes, bytes_eq, Option, Some, None, option_map, Bool, true, false, refl, rules, Fits, w8}
+use Rattle.std.proofs.Common.{◌≡◌, cond, is_some, sym, ℕ, pos, negsuc, nat_abs, ◌<◌, ◌≤◌, ◌≤ℤ◌, ◌&&◌, arith, List, [], ◌∷◌, ◌++◌, map, min, filter_map, find, codes, bytes_eq, Option, Some, None, option_map, Bool, true, false, refl, rules, Fits, w8}
 use Rattle.std.specs.Prelude.{ℤ, int_le, int_lt}
 use Rattle.std.proofs.lemmas.Int.{ints, to_z-of_z}
 use mir.Val.{SFits, to_z, of_z}
 use mir.Syntax.{w16, w64}
+use Rattle.std.proofs.lemmas.Bool.{true≢false}
 use Rattle.std.proofs.lemmas.Option.{same_Some}
 use Rattle.toml.specs.Data.{Data, Members, get_member}
 use Rattle.gw_entries.specs.declared.fault.Fault.TheVariants.{Missing}
@@ -12,7 +13,7 @@ use Rattle.gw_entries.specs.declared.fault.Section.{Section}
 use Rattle.gw_entries.specs.declared.fault.Section.TheVariants.{Station, Outstation, Point, Control}
 use Rattle.gw_entries.specs.Complaints.{complaint, placed, is_allowed, fault_of, fault_there, wrong_by, rules_wrongs, key_wrongs}
 use Rattle.gw_entries.specs.Ranges.{IsWithin, IsStation, IsOutstation}
-use Rattle.gw_entries.specs.Tables.{KeyRule, Absence, required, default, usual_type, whole, whole_to, whole_below, outstation_position, rule, number, station_keys, outstation_keys, point_keys, control_keys}
+use Rattle.gw_entries.specs.Tables.{KeyRule, Absence, required, default, usual_type, of_station, whole, whole_to, whole_below, outstation_position, rule, number, station_keys, outstation_keys, point_keys, control_keys}
 use Rattle.gw_entries.specs.Values.{value_or, rule_named, value_at, as_signed, number_in, station_of, outstation_of}
 
 -- ---- one key
@@ -34,6 +35,7 @@ none_of {A} {B} f p (y ∷ ys) x none found = by (f y) (p y) refl refl (none_of 
 -- a key that is left out means something
 abbrev pub is_meant : Absence → Bool
 is_meant usual_type = false
+is_meant of_station = false
 is_meant _ = true
 
 meant : (absence : Absence) (key : List ℕ) (ms : Members) → is_meant absence ≡ true → value_or absence key ms ≡ None
@@ -41,6 +43,7 @@ meant : (absence : Absence) (key : List ℕ) (ms : Members) → is_meant absence
 unfolding value_or
 meant required key ms is none = refl
 meant usual_type key ms is none = absurd cc
+meant of_station key ms is none = absurd cc
 meant (default d) key ms is none = by (get_member key ms) refl
   where
     by : (o : Option Data) → get_member key ms ≡ o → default d ≡ required
@@ -48,6 +51,19 @@ meant (default d) key ms is none = by (get_member key ms) refl
       where
         impossible : Some d ≡ None → ⊥
         impossible h = cc
+    by (Some x) e = absurd (impossible (rw e at none))
+      where
+        impossible : Some x ≡ None → ⊥
+        impossible h = cc
+
+-- so does one that stands there
+there : (absence : Absence) (key : List ℕ) (ms : Members) → is_some (get_member key ms) ≡ true
+    → value_or absence key ms ≡ None → absence ≡ required
+unfolding value_or
+there absence key ms is none = by (get_member key ms) refl
+  where
+    by : (o : Option Data) → get_member key ms ≡ o → absence ≡ required
+    by None e = absurd (true≢false (sym (rw e at is)))
     by (Some x) e = absurd (impossible (rw e at none))
       where
         impossible : Some x ≡ None → ⊥
@@ -62,7 +78,8 @@ nothing_mapped : {A B : Type 0} (f : A → B) (o : Option A) → option_map f o 
 nothing_mapped f None e = refl
 nothing_mapped f (Some x) e = absurd cc
 
-allowed : (outstations : ℕ) (rules : List KeyRule) (ms : Members) (rule : KeyRule) → is_meant rule.absence ≡ true
+allowed : (outstations : ℕ) (rules : List KeyRule) (ms : Members) (rule : KeyRule)
+    → (value_or rule.absence rule.key ms ≡ None → rule.absence ≡ required)
     → wrong_by outstations rules ms rule ≡ None
     → is_allowed outstations rules ms rule.content (value_or rule.absence rule.key ms) ≡ true
 unfolding wrong_by
@@ -71,7 +88,7 @@ allowed outstations rules ms rule is fine = by (value_or rule.absence rule.key m
   where
     by : (o : Option Data) → value_or rule.absence rule.key ms ≡ o → fault_of outstations rules ms rule o ≡ None
         → is_allowed outstations rules ms rule.content o ≡ true
-    by None e none = absurd (missing (rw (meant rule.absence rule.key ms is e) at none))
+    by None e none = absurd (missing (rw (is e) at none))
       where
         missing : Some Missing ≡ None → ⊥
         missing h = cc
@@ -80,7 +97,7 @@ allowed outstations rules ms rule is fine = by (value_or rule.absence rule.key m
 -- what stands at a key where nothing is wrong may stand there
 allowed_at : (outstations : ℕ) (rules : List KeyRule) (ms : Members) (key : List ℕ) (rule : KeyRule)
     → rules_wrongs outstations rules ms ≡ []
-    → rule_named rules key ≡ Some rule → is_meant rule.absence ≡ true
+    → rule_named rules key ≡ Some rule → (value_or rule.absence rule.key ms ≡ None → rule.absence ≡ required)
     → is_allowed outstations rules ms rule.content (value_or rule.absence rule.key ms) ≡ true
 unfolding rules_wrongs
 allowed_at outstations rules ms key rule none named is =
@@ -117,14 +134,24 @@ module _ (outstations : ℕ) (rules : List KeyRule) (ms : Members) (none : rules
       → (first ≤ℤ as_signed (value_at rules (codes name) ms)) × (as_signed (value_at rules (codes name) ms) ≤ℤ last)
   signed_within name first last absence named is =
       rw named (between first last (as_signed (value_or absence (codes name) ms))
-      (allowed_at outstations rules ms (codes name) (rule name (whole first last) absence) none named is))
+      (allowed_at outstations rules ms (codes name) (rule name (whole first last) absence) none named
+      (meant absence (codes name) ms is)))
 
   pub number_within : (name : Name) (first last : ℕ) (absence : Absence)
       → rule_named rules (codes name) ≡ Some (rule name (number first last) absence) → is_meant absence ≡ true
       → IsWithin first last (number_in rules name ms)
   number_within name first last absence named is =
       rw named (within first last (as_signed (value_or absence (codes name) ms))
-      (allowed_at outstations rules ms (codes name) (rule name (number first last) absence) none named is))
+      (allowed_at outstations rules ms (codes name) (rule name (number first last) absence) none named
+      (meant absence (codes name) ms is)))
+
+  pub number_within_there : (name : Name) (first last : ℕ) (absence : Absence)
+      → rule_named rules (codes name) ≡ Some (rule name (number first last) absence)
+      → is_some (get_member (codes name) ms) ≡ true → IsWithin first last (number_in rules name ms)
+  number_within_there name first last absence named is =
+      rw named (within first last (as_signed (value_or absence (codes name) ms))
+      (allowed_at outstations rules ms (codes name) (rule name (number first last) absence) none named
+      (there absence (codes name) ms is)))
 
   pub number_within_to : (name key : Name) (absence : Absence)
       → rule_named rules (codes name) ≡ Some (rule name (whole_to (pos 1) (codes key)) absence)
@@ -132,7 +159,8 @@ module _ (outstations : ℕ) (rules : List KeyRule) (ms : Members) (none : rules
       → IsWithin 1 (number_in rules key ms) (number_in rules name ms)
   number_within_to name key absence named is =
       rw named (within_to (as_signed (value_at rules (codes key) ms)) (as_signed (value_or absence (codes name) ms))
-      (allowed_at outstations rules ms (codes name) (rule name (whole_to (pos 1) (codes key)) absence) none named is))
+      (allowed_at outstations rules ms (codes name) (rule name (whole_to (pos 1) (codes key)) absence) none named
+      (meant absence (codes name) ms is)))
 
   pub number_below : (name key : Name) (absence : Absence)
       → rule_named rules (codes name) ≡ Some (rule name (whole_below (pos 1) (codes key)) absence)
@@ -141,13 +169,13 @@ module _ (outstations : ℕ) (rules : List KeyRule) (ms : Members) (none : rules
   number_below name key absence named is =
       rw named (below (as_signed (value_at rules (codes key) ms)) (as_signed (value_or absence (codes name) ms))
       (allowed_at outstations rules ms (codes name)
-      (rule name (whole_below (pos 1) (codes key)) absence) none named is))
+      (rule name (whole_below (pos 1) (codes key)) absence) none named (meant absence (codes name) ms is)))
 
   pub position_below : (name : Name) → rule_named rules (codes name) ≡ Some (rule name outstation_position required)
       → number_in rules name ms < outstations
   position_below name named =
       rw named (position outstations (as_signed (value_or required (codes name) ms))
-      (allowed_at outstations rules ms (codes name) (rule name outstation_position required) none named refl))
+      (allowed_at outstations rules ms (codes name) (rule name outstation_position required) none named (λ _. refl)))
 
 -- ---- the tables
 
@@ -165,15 +193,29 @@ unfolding key_wrongs
 no_wrongs section position outstations known rules ms e =
     nothing_after _ _ (nothing_of (complaint section position) _ e)
 
-pub outstation_within : (position : ℕ) (known : List (List ℕ)) (ms : Members)
-    → placed Outstation position (key_wrongs 0 known outstation_keys ms) ≡ [] → IsOutstation (outstation_of ms)
+own_within : (own : Bool) (n common : ℕ) → IsWithin 1 65534 common → (own ≡ true → IsWithin 1 65534 n)
+    → IsWithin 1 65534 (cond own n common)
+own_within true n common within there = there refl
+own_within false n common within there = within
+
+pub own_fits : (own : Bool) (n m common : ℕ) → n ≡ cond own (min m 65535) common → cond own m common ≤ 65534
+    → n ≡ cond own m common
+own_fits true n m common e h = grind arith
+own_fits false n m common e h = e
+
+pub outstation_within : (common position : ℕ) (known : List (List ℕ)) (ms : Members) → IsWithin 1 65534 common
+    → placed Outstation position (key_wrongs 0 known outstation_keys ms) ≡ []
+    → IsOutstation (outstation_of common ms)
 unfolding outstation_of
-outstation_within position known ms fine =
+outstation_within common position known ms within fine =
     let none = no_wrongs Outstation position 0 known outstation_keys ms fine in record {
       address = (number_within 0 outstation_keys ms none "address" _ _ _ refl refl).1;
       poll_ms = number_within 0 outstation_keys ms none "poll_ms" _ _ _ refl refl;
       integrity_ms = (number_within 0 outstation_keys ms none "integrity_ms" _ _ _ refl refl).1;
       response_ms = number_within 0 outstation_keys ms none "response_ms" _ _ _ refl refl;
+      common_address = own_within (is_some (get_member (codes "common_address") ms))
+          (number_in outstation_keys "common_address" ms) common within
+          (number_within_there 0 outstation_keys ms none "common_address" _ _ _ refl);
     }
 
 pub station_within : (position : ℕ) (known : List (List ℕ)) (ms : Members)
@@ -244,15 +286,15 @@ fits_within n m first last limit e h k = grind arith
 pub fits_min : (n m last limit : ℕ) → n ≡ min m limit → m ≤ last → last ≤ limit → n ≡ m
 fits_min n m last limit e h k = grind arith
 
--- the position of an outstation
-pub position_cast : (n m outstations : ℕ) → n ≡ min m 65535 → m < outstations → Fits w8 outstations → Fits w8 n
-position_cast n m outstations e h k =
-    let below : outstations < 256 = search rules in
-    let fits : n < 256 = grind arith in
-    search rules
+-- the position of an outstation, among so many
+pub position_cast : (n m outstations : ℕ) → n ≡ min m 65535 → m < min outstations 255 → Fits w8 n
+position_cast n m outstations e h = let fits : n < 256 = grind arith in search rules
 
-pub position_fits : (n m outstations : ℕ) → n ≡ min m 65535 → m < outstations → Fits w8 outstations → n ≡ m
-position_fits n m outstations e h k = let below : outstations < 256 = search rules in grind arith
+pub position_fits : (n m outstations : ℕ) → n ≡ min m 65535 → m < min outstations 255 → n ≡ m
+position_fits n m outstations e h = grind arith
+
+pub position_within : (n m outstations : ℕ) → n ≡ min m 65535 → m < min outstations 255 → n < outstations
+position_within n m outstations e h = grind arith
 
 pub up_to : (a b last : ℕ) → a ≤ b → b ≤ last → a ≤ last
 up_to a b last h k = omega arith

@@ -23,4 +23,5 @@ outstation = record {
   address = 1;
   connect = codes "127.0.0.1:20000";
   poll = record { poll_ms = 2000; integrity_ms = 3600000; response_ms = 5000; unsolicited = false; lan_time = false };
+  common_address = 1;
 }

@@ -10,7 +10,14 @@ use Rattle.gw_entries.specs.declared.row.Scale.{Scale}
 use Rattle.gw_entries.specs.Setup.{RowFields, ControlFields, Operation, single, double, setpoint}
 
 abbrev pub row_fields : Row → RowFields
-row_fields r = record { key = r.key; address = r.address; show = r.show; num = r.scale.num; den = r.scale.den }
+row_fields r = record {
+  key = r.key;
+  common_address = r.common_address;
+  address = r.address;
+  show = r.show;
+  num = r.scale.num;
+  den = r.scale.den;
+}
 
 abbrev pub operation_of : Operates → Operation
 operation_of (Single pulses) = single pulses.rest pulses.short_ms pulses.long_ms
@@ -27,6 +34,7 @@ abbrev pub control_fields : Control → ControlFields
 control_fields c = record {
   outstation = c.outstation;
   index = c.index;
+  common_address = c.common_address;
   address = c.address;
   select = c.select;
   mode = c.mode;

@@ -25,3 +25,4 @@ pub record IsOutstation (s : OutstationSetup) : Type 0 where
   pub poll_ms : IsWithin 1 86400000 s.poll.poll_ms
   pub integrity_ms : s.poll.integrity_ms ≤ 86400000
   pub response_ms : IsWithin 1 600000 s.poll.response_ms
+  pub common_address : IsWithin 1 65534 s.common_address

@@ -21,4 +21,9 @@ station_seen s = record {
 }
 
 abbrev pub outstation_seen : OutstationInside → OutstationSetup
-outstation_seen s = record { address = s.address; connect = string_bytes s.connect; poll = s.poll }
+outstation_seen s = record {
+  address = s.address;
+  connect = string_bytes s.connect;
+  poll = s.poll;
+  common_address = s.common_address;
+}

@@ -1,5 +1,5 @@
 -- What settings are, seen as plain values.
-use Rattle.std.specs.Prelude.{ℕ, ℤ, Bool, List}
+use Rattle.std.specs.Prelude.{ℕ, ℤ, Bool, List, option_map, slice_get, unwrap_or}
 use Rattle.gw_model.specs.declared.poll.Poll.{Poll}
 use Rattle.gw_model.specs.declared.point.PointKey.{PointKey}
 use Rattle.gw_entries.specs.declared.row.Show.{Show}
@@ -28,10 +28,18 @@ pub record OutstationSetup : Type 0 where
   pub address : ℕ
   pub connect : List ℕ
   pub poll : Poll
+  -- that of its points and controls
+  pub common_address : ℕ
+
+-- the common address of the outstation at a position, from 0; 0 where there is none
+abbrev pub common_at : ℕ → List OutstationSetup → ℕ
+common_at position outstations =
+    unwrap_or (option_map (λ outstation. outstation.common_address) (slice_get outstations position)) 0
 
 -- a row of the point map
 pub record RowFields : Type 0 where
   pub key : PointKey
+  pub common_address : ℕ
   pub address : ℕ
   pub show : Show
   pub num : ℕ
@@ -47,6 +55,7 @@ pub data Operation : Type 0 where
 pub record ControlFields : Type 0 where
   pub outstation : ℕ
   pub index : ℕ
+  pub common_address : ℕ
   pub address : ℕ
   pub select : Bool
   pub mode : Mode

@@ -37,6 +37,8 @@ pub data Absence : Type 0 where
   default : Data → Absence
   -- the type by which points of the kind are usually shown
   usual_type : Absence
+  -- what the station has at the key
+  of_station : Absence
 
 pub record KeyRule : Type 0 where
   pub key : List ℕ
@@ -113,6 +115,7 @@ outstation_keys =
     ∷ rule "response_ms" (number 1 600000) (or_number 5000)
     ∷ rule "unsolicited" yes_or_no or_no
     ∷ rule "lan_time" yes_or_no or_no
+    ∷ rule "common_address" (number 1 65534) of_station
     ∷ []
 
 abbrev pub point_keys : List KeyRule

@@ -1,6 +1,6 @@
 -- What the tables of a settings file mean that break no rule.
 use Prim.Native.String.{String as Name}
-use Rattle.std.specs.Prelude.{ℕ, ℤ, pos, nat_abs, Bool, false, List, [], codes, Option, Some, None, unwrap_or, find, bytes_eq}
+use Rattle.std.specs.Prelude.{ℕ, ℤ, pos, nat_abs, Bool, false, List, [], codes, Option, Some, None, is_some, unwrap_or, find, bytes_eq, if◌then◌else◌}
 use Rattle.std.specs.Option.{option_or}
 use Rattle.toml.specs.Data.{Data, Members, get_member, as_integer, as_str, as_bool}
 use Rattle.gw_model.specs.declared.point.Kind.{Kind}
@@ -16,8 +16,8 @@ use Rattle.gw_entries.specs.declared.control.Rest.{Rest}
 use Rattle.gw_entries.specs.declared.control.Rest.TheVariants.{Latch}
 use Rattle.gw_entries.specs.Texts.{among}
 use Rattle.gw_entries.specs.Shown.{usual_show}
-use Rattle.gw_entries.specs.Tables.{KeyRule, Absence, default, required, usual_type, station_keys, outstation_keys, point_keys, control_keys, kinds, shows, control_shows, modes, rests}
-use Rattle.gw_entries.specs.Setup.{StationSetup, OutstationSetup, RowFields, Operation, single, double, setpoint, ControlFields}
+use Rattle.gw_entries.specs.Tables.{KeyRule, Absence, default, required, usual_type, of_station, station_keys, outstation_keys, point_keys, control_keys, kinds, shows, control_shows, modes, rests}
+use Rattle.gw_entries.specs.Setup.{StationSetup, OutstationSetup, common_at, RowFields, Operation, single, double, setpoint, ControlFields}
 
 -- ---- what stands at a key
 
@@ -25,6 +25,7 @@ abbrev pub default_of : Absence → Option Data
 default_of required = None
 default_of (default d) = Some d
 default_of usual_type = None
+default_of of_station = None
 
 -- the value at a key of a table, or what is meant where it's left out
 unfoldable pub value_or : Absence → List ℕ → Members → Option Data
@@ -100,11 +101,19 @@ poll_of table = record {
   lan_time = as_flag (value_at outstation_keys (codes "lan_time") table);
 }
 
-unfoldable pub outstation_of : Members → OutstationSetup
-outstation_of table = record {
+-- a common address of its own, or the station's
+abbrev pub own_or : ℕ → Members → ℕ
+own_or common table =
+    if is_some (get_member (codes "common_address") table) then number_in outstation_keys "common_address" table
+    else common
+
+-- where the station has this common address
+unfoldable pub outstation_of : ℕ → Members → OutstationSetup
+outstation_of common table = record {
   address = number_in outstation_keys "address" table;
   connect = as_text (value_at outstation_keys (codes "connect") table);
   poll = poll_of table;
+  common_address = own_or common table;
 }
 
 unfoldable pub kind_in : Members → Kind
@@ -121,9 +130,11 @@ source_of table = record {
   index = number_in point_keys "index" table;
 }
 
-unfoldable pub row_of : Members → RowFields
-row_of table = record {
+-- a point of one of these outstations
+unfoldable pub row_of : List OutstationSetup → Members → RowFields
+row_of outstations table = record {
   key = source_of table;
+  common_address = common_at (number_in point_keys "outstation" table) outstations;
   address = number_in point_keys "address" table;
   show = show_in table;
   num = number_in point_keys "num" table;
@@ -146,10 +157,12 @@ operation control.Double table =
     double (rest_in table) (number_in control_keys "short_ms" table) (number_in control_keys "long_ms" table)
 operation control.Setpoint table = setpoint (number_in control_keys "num" table) (number_in control_keys "den" table)
 
-unfoldable pub control_of : Members → ControlFields
-control_of table = record {
+-- a control of one of these outstations
+unfoldable pub control_of : List OutstationSetup → Members → ControlFields
+control_of outstations table = record {
   outstation = number_in control_keys "outstation" table;
   index = number_in control_keys "index" table;
+  common_address = common_at (number_in control_keys "outstation" table) outstations;
   address = number_in control_keys "address" table;
   select = as_flag (value_at control_keys (codes "select") table);
   mode = mode_in table;

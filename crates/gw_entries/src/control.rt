@@ -53,12 +53,16 @@ pub struct Control {
     pub outstation: u8,
     /// The index of the control point.
     pub index: u16,
+    /// The common address of its outstation, from 1 to 65534.
+    pub common_address: u16,
     /// The information object address, from 1 to 16777215.
     pub address: u32,
     /// Clients must select before they execute.
     pub select: bool,
     pub mode: Mode,
     pub operates: Operates,
+    pub ghost common_from: { 1 ≤ common_address },
+    pub ghost common_to: { common_address ≤ 65534 },
     pub ghost from: { 1 ≤ address },
     pub ghost to: { address ≤ 16777215 },
 }

@@ -1,5 +1,5 @@
 //! Controls of the settings.
-ghost use Rattle.std.specs.Prelude.{◌≡◌, option_map};
+ghost use Rattle.std.specs.Prelude.{◌≡◌, length, min, option_map};
 ghost use Rattle.toml.specs.View.{table_view};
 ghost use Rattle.gw_entries.specs.Answers.{Tells, first};
 ghost use Rattle.gw_entries.specs.Complaints.{table_wrongs, placed, mismatches_of, control_mismatches};
@@ -11,6 +11,7 @@ ghost use Rattle.gw_entries.specs.Values.{control_of};
 use crate::control::{Control, ControlShow, Mode, Operates, Pulses, Rest};
 use crate::entry::Entry;
 use crate::fault::{Section, SettingsFault};
+use crate::outstation::{Outstation, common_at, count_of};
 use crate::row::Scale;
 use std::alloc::Global;
 use toml::Table;
@@ -50,23 +51,23 @@ fn operates(show: ControlShow, pulses: Pulses, scale: Scale) -> Operates
 }
 
 impl Control {
-    /// The control of a table, where there are so many outstations.
+    /// The control of a table, where these outstations stand before it.
     pub fn read(
         alloc: Global,
         table: &Table,
         position: usize,
-        outstations: u8,
+        outstations: &[Outstation],
     ) -> Result<Control, SettingsFault>
         ensures { Tells control_fields result
             (placed of.Control position
-            (table_wrongs outstations control_keys control_mismatches (table_view table.now)))
-            (control_of (table_view table.now)) }
+            (table_wrongs (min (length outstations.now) 255) control_keys control_mismatches (table_view table.now)))
+            (control_of outstations.now (table_view table.now)) }
     {
         let entry = Entry {
             table,
             section: Section::Control,
         };
-        entry.check(alloc, position, outstations)?;
+        entry.check(alloc, position, count_of(outstations))?;
         let show = entry.word("show", &SHOWS, ControlShow::Single);
         if let Some(key) = mismatch(entry, show) {
             return Err(entry.mismatched(key, position));
@@ -80,9 +81,11 @@ impl Control {
             num: entry.number_u16("num"),
             den: entry.number_u16("den"),
         };
+        let outstation = entry.number_u16("outstation") as u8;
         Ok(Control {
-            outstation: entry.number_u16("outstation") as u8,
+            outstation,
             index: entry.number_u16("index"),
+            common_address: common_at(outstations, outstation),
             address: entry.number_u32("address"),
             select: entry.flag("select"),
             mode: entry.word("mode", &MODES, Mode::Direct),

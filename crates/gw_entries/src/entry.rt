@@ -79,7 +79,7 @@ fn value_meant<'a>(table: &'a Table, key: &Key) -> Datum<'a>
         return Datum::There(value);
     }
     match key.absence {
-        Absence::Required | Absence::UsualType => Datum::Nothing,
+        Absence::Required | Absence::UsualType | Absence::OfStation => Datum::Nothing,
         Absence::Number(number) => Datum::Number(number),
         Absence::Text(text) => Datum::Text(text),
         Absence::No => Datum::No,

@@ -46,6 +46,8 @@ pub enum Absence {
     No,
     /// The type by which points of the kind are usually shown.
     UsualType,
+    /// What the station has at the key.
+    OfStation,
 }
 
 /// A key of a table.

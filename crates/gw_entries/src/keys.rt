@@ -45,7 +45,7 @@ static STATION_KEYS: [Key; 12] = keys! {
     "listen": Text, Text("127.0.0.1:2404");
 };
 
-static OUTSTATION_KEYS: [Key; 7] = keys! {
+static OUTSTATION_KEYS: [Key; 8] = keys! {
     "address": Number(0, 65_519), Required;
     "connect": Text, Text("127.0.0.1:20000");
     "poll_ms": Number(1, 86_400_000), Number(2000);
@@ -53,6 +53,7 @@ static OUTSTATION_KEYS: [Key; 7] = keys! {
     "response_ms": Number(1, 600_000), Number(5000);
     "unsolicited": Flag, No;
     "lan_time": Flag, No;
+    "common_address": Number(1, 65_534), OfStation;
 };
 
 static POINT_KEYS: [Key; 7] = keys! {

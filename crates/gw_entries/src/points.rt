@@ -1,5 +1,5 @@
 //! Points of the settings, each a row of the point map.
-ghost use Rattle.std.specs.Prelude.{◌≡◌, option_map};
+ghost use Rattle.std.specs.Prelude.{◌≡◌, length, min, option_map};
 ghost use Rattle.toml.specs.View.{table_view};
 ghost use Rattle.gw_entries.specs.Answers.{Tells, first};
 ghost use Rattle.gw_entries.specs.Complaints.{table_wrongs, placed, mismatches_with, point_mismatches};
@@ -11,6 +11,7 @@ ghost use Rattle.gw_entries.specs.Values.{row_of};
 
 use crate::entry::Entry;
 use crate::fault::{Section, SettingsFault};
+use crate::outstation::{Outstation, common_at, count_of};
 use crate::row::{Row, Scale, Show};
 use gw_model::{Kind, PointKey};
 use std::alloc::Global;
@@ -74,33 +75,36 @@ fn mismatch(entry: Entry, kind: Kind, show: Show) -> Option<&'static str>
 }
 
 impl Row {
-    /// The row of a table, where there are so many outstations.
+    /// The row of a table, where these outstations stand before it.
     pub fn read(
         alloc: Global,
         table: &Table,
         position: usize,
-        outstations: u8,
+        outstations: &[Outstation],
     ) -> Result<Row, SettingsFault>
         ensures { Tells row_fields result
-            (placed of.Point position (table_wrongs outstations point_keys point_mismatches (table_view table.now)))
-            (row_of (table_view table.now)) }
+            (placed of.Point position (table_wrongs (min (length outstations.now) 255) point_keys point_mismatches
+            (table_view table.now)))
+            (row_of outstations.now (table_view table.now)) }
     {
         let entry = Entry {
             table,
             section: Section::Point,
         };
-        entry.check(alloc, position, outstations)?;
+        entry.check(alloc, position, count_of(outstations))?;
         let kind = entry.word("kind", &KINDS, Kind::Binary);
         let show = entry.word("show", &SHOWS, usual_show(kind));
         if let Some(key) = mismatch(entry, kind, show) {
             return Err(entry.mismatched(key, position));
         }
+        let outstation = entry.number_u16("outstation") as u8;
         Ok(Row {
             key: PointKey {
-                outstation: entry.number_u16("outstation") as u8,
+                outstation,
                 kind,
                 index: entry.number_u16("index"),
             },
+            common_address: common_at(outstations, outstation),
             address: entry.number_u32("address"),
             show,
             scale: Scale {

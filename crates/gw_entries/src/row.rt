@@ -36,11 +36,15 @@ pub struct Scale {
 #[derive(Clone, Copy)]
 pub struct Row {
     pub key: PointKey,
+    /// The common address of its outstation, from 1 to 65534.
+    pub common_address: u16,
     /// The information object address, from 1 to 16777215.
     pub address: u32,
     pub show: Show,
     /// What a scaled value is multiplied by; 1 for every other type.
     pub scale: Scale,
+    pub ghost common_from: { 1 ≤ common_address },
+    pub ghost common_to: { common_address ≤ 65534 },
     pub ghost from: { 1 ≤ address },
     pub ghost to: { address ≤ 16777215 },
     pub ghost shown: { IsTrue (is_shown_by key.kind show) },

@@ -260,12 +260,12 @@ pump_own : (setup : Setup) (past : List Entry) (c m moment : ℕ) (k : Client) (
     → length k.queue ≤ k.limit → offered moment k ≡ x
     → IfSome x (CanSend setup.station.offset_minutes) → AllByRecursion (CanSend setup.station.offset_minutes) (line k)
     → let e : Entry = entry (steps.Pump c m) (Ok (reply_giving
-    (option_map (content_of setup.station.offset_minutes setup.station.common_address k) x))) in
+    (option_map (content_of setup.station.offset_minutes k) x))) in
     Goes setup (turn_of setup c past e) k (client_by_offer setup.station.offset_minutes moment x k)
 pump_own setup past c m moment k None few first can all = rw (eq-eqb c c refl) (still k few)
 pump_own setup past c m moment k (Some sending) few first can all =
-    let content : ApduContent = content_of setup.station.offset_minutes setup.station.common_address k sending in
-    let fits = content_fits setup.station.offset_minutes setup.station.common_address k sending in
+    let content : ApduContent = content_of setup.station.offset_minutes k sending in
+    let fits = content_fits setup.station.offset_minutes k sending in
     rw (eq-eqb c c refl, said-content setup.station.offset_minutes content fits)
     (record { moment = moment; sending = sending; first = first; can = can; all = all; says = refl; becomes = refl })
 
@@ -282,9 +282,9 @@ pump setup past c m r s sound e =
     let moment : ℕ = latest s m in
     let told = answered (fault_of s step) (can_be_counted s (needs setup s step)) (reply_to setup s step) r e in
     let up = who_is_up (λ (k : Client). is_up k.stage) NoClient (slice_get s.clients c) told.0 in
-    let content : Option ApduContent = given setup.station.offset_minutes setup.station.common_address moment up.0 in
+    let content : Option ApduContent = given setup.station.offset_minutes moment up.0 in
     let reply : reply_giving content ≡ r = sym (ap (client_reply (λ (k : Client). reply_giving
-    (given setup.station.offset_minutes setup.station.common_address moment k))) up.1) ∙ told.2 in
+    (given setup.station.offset_minutes moment k))) up.1) ∙ told.2 in
     let mine = sound_at setup.station s.counts.steps s.counts.news s.clients c up.0 up.1 sound.clients in
     let can = offered_can setup.station s.counts.steps s.counts.news moment up.0 mine in
     subst (λ (x : Reply). AllGo setup past (entry step (Ok x)) s (after setup s step)) reply

@@ -104,7 +104,7 @@ confirms setup past step r s e tied =
         rw up.1 (record { verdict = none; confirmation = ap confirmation_in none })
     by (steps.Pump c m) e =
         let up = who_is_up (λ (k : Client). is_up k.stage) NoClient (slice_get s.clients c) e in
-        let none = of_given (given setup.station.offset_minutes setup.station.common_address (latest s m) up.0) in
+        let none = of_given (given setup.station.offset_minutes (latest s m) up.0) in
         rw up.1 (record { verdict = none; confirmation = ap confirmation_in none })
 
 -- ---- the law

@@ -41,7 +41,7 @@ pub record Gave (setup : Setup) (said : ApduMeaning) (k new : Client) : Type 0 w
   pub can : CanSend setup.station.offset_minutes sending
   pub all : AllByRecursion (CanSend setup.station.offset_minutes) (line k)
   pub says : said ≡ said_by setup.station.offset_minutes
-      (content_of setup.station.offset_minutes setup.station.common_address k sending)
+      (content_of setup.station.offset_minutes k sending)
   pub becomes : new ≡ client_with_sent setup.station.offset_minutes moment sending k
 
 abbrev pub Becomes : Setup → Turn → Client → Client → Type 0

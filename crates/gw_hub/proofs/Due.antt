@@ -100,16 +100,16 @@ gave : (content : Sending → ApduContent) (offer : Option Sending)
 gave content None = refl
 gave content (Some sending) = refl
 
-by_client : (offset : ℤ) (common : ℕ) (found : Option Client) (moment : ℕ)
+by_client : (offset : ℤ) (found : Option Client) (moment : ℕ)
     → option_map (λ k. is_up k.stage) found ≡ Some true
-    → has_offer moment found ≡ gives_apdu (client_reply (λ k. reply_giving (given offset common moment k)) found)
-by_client offset common None moment e = absurd cc
-by_client offset common (Some k) moment e =
+    → has_offer moment found ≡ gives_apdu (client_reply (λ k. reply_giving (given offset moment k)) found)
+by_client offset None moment e = absurd cc
+by_client offset (Some k) moment e =
     let up : is_up k.stage ≡ true = cc in
-    ap (λ (b : Bool). b && is_some (offered moment k)) up ∙ gave (content_of offset common k) (offered moment k)
+    ap (λ (b : Bool). b && is_some (offered moment k)) up ∙ gave (content_of offset k) (offered moment k)
 
 pub pumped : (setup : Setup) (s : State) (client : ℕ) → client_up s client ≡ Some true
     → has_offer s.moment (slice_get s.clients client) ≡ gives_apdu (reply_to setup s (steps.Pump client s.moment))
 pumped setup s c up =
     ap (λ (moment : ℕ). has_offer moment (slice_get s.clients c)) (same s.moment)
-    ∙ by_client setup.station.offset_minutes setup.station.common_address (slice_get s.clients c) (latest s s.moment) up
+    ∙ by_client setup.station.offset_minutes (slice_get s.clients c) (latest s s.moment) up

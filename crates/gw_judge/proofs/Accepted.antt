@@ -2,7 +2,7 @@
 use Rattle.std.proofs.Common.{◌≡◌, ◌↔◌, ℕ, ◌==◌, Bool, true, false, not, ◌&&◌, ◌||◌, ◌⊎◌, inl, inr, List, [], ◌∷◌, Option, Some, None, Result, Ok, Err, refl, sym, ap, ◌∙◌}
 use Rattle.std.proofs.lemmas.Bool.{eqb-true, eq-eqb, and_parts, and_from, or_cases, or_left, or_right, not-true, not_from_false}
 use Rattle.gw_model.specs.First.{when, first_of}
-use Rattle.gw_map.specs.Settings.{Setup, HasSingleAddresses}
+use Rattle.gw_map.specs.Settings.{Setup, is_known, HasSingleAddresses}
 use Rattle.iec_command.specs.declared.command.Command.{Command}
 use Rattle.iec_command.specs.declared.command.Action.{Action}
 use Rattle.iec_command.specs.declared.command.Action.TheVariants.{Interrogation, CounterInterrogation, Read}
@@ -11,7 +11,8 @@ use Rattle.iec_command.specs.declared.fault.CommandFault.TheVariants.{UnknownTyp
 use Rattle.iec_command.specs.Commands.{command_of}
 use Rattle.gw_judge.specs.declared.judging.Judged.TheVariants.{Accepted}
 use Rattle.gw_judge.specs.Judging.{is_known_cause, has_known_cause, is_for_all, is_addressed, has_object, refusal_of, judged_by, judged_reading, judged}
-use Rattle.gw_judge.specs.Acceptable.{IsCauseOf, HasKnownCause, IsFor, IsAcceptable}
+use Rattle.gw_judge.specs.Acceptable.{HasAddress, IsCauseOf, HasKnownCause, IsFor, IsAcceptable, object_for}
+use Rattle.gw_judge.proofs.Addresses.{address_there, address_known}
 use Rattle.gw_judge.proofs.Objects.{object_there, object_found}
 
 -- ---- one of two numbers
@@ -41,17 +42,33 @@ or_never : (x y : Bool) → (x || (false && y)) ≡ true → x ≡ true
 or_never true y h = refl
 or_never false y h = absurd cc
 
-address_right : (action : Action) (own address : ℕ)
-    → (address == own || (is_for_all action && address == 65535)) ≡ true → IsFor action own address
-address_right (Interrogation qualifier) own address h = one_of address own 65535 h
-address_right (CounterInterrogation qualifier) own address h = one_of address own 65535 h
-address_right _ own address h = eqb-true address own (or_never (address == own) (address == 65535) h)
+known_or_all : (setup : Setup) (common : ℕ) → (is_known setup common || common == 65535) ≡ true
+    → HasAddress setup common ⊎ (common ≡ 65535)
+known_or_all setup common h = elim (or_cases (is_known setup common) (common == 65535) h) [
+  | inl known ↦ inl (address_there setup common known)
+  | inr all ↦ inr (eqb-true common 65535 all)
+]
 
-right_address : (action : Action) (own address : ℕ) → IsFor action own address
-    → (address == own || (is_for_all action && address == 65535)) ≡ true
-right_address (Interrogation qualifier) own address h = of_one address own 65535 h
-right_address (CounterInterrogation qualifier) own address h = of_one address own 65535 h
-right_address _ own address h = or_left (address == own) (false && address == 65535) (eq-eqb address own h)
+all_or_known : (setup : Setup) (common : ℕ) → HasAddress setup common ⊎ (common ≡ 65535)
+    → (is_known setup common || common == 65535) ≡ true
+all_or_known setup common h = elim h [
+  | inl known ↦ or_left (is_known setup common) (common == 65535) (address_known setup common known)
+  | inr all ↦ or_right (is_known setup common) (common == 65535) (eq-eqb common 65535 all)
+]
+
+address_right : (setup : Setup) (action : Action) (common : ℕ)
+    → (is_known setup common || (is_for_all action && common == 65535)) ≡ true → IsFor setup action common
+address_right setup (Interrogation qualifier) common h = known_or_all setup common h
+address_right setup (CounterInterrogation qualifier) common h = known_or_all setup common h
+address_right setup _ common h =
+    address_there setup common (or_never (is_known setup common) (common == 65535) h)
+
+right_address : (setup : Setup) (action : Action) (common : ℕ) → IsFor setup action common
+    → (is_known setup common || (is_for_all action && common == 65535)) ≡ true
+right_address setup (Interrogation qualifier) common h = all_or_known setup common h
+right_address setup (CounterInterrogation qualifier) common h = all_or_known setup common h
+right_address setup _ common h =
+    or_left (is_known setup common) (false && common == 65535) (address_known setup common h)
 
 -- ---- the refusals
 
@@ -84,12 +101,12 @@ is_cause c h =
     (known_cause c.action c.cause h.cause)
 
 pub station_is : (setup : Setup) (c : Command) → is_addressed setup c ≡ true
-    → IsFor c.action setup.station.common_address c.common_address
-station_is setup c e = address_right c.action setup.station.common_address c.common_address e
+    → IsFor setup c.action c.common_address
+station_is setup c e = address_right setup c.action c.common_address e
 
-pub is_station : (setup : Setup) (c : Command) → IsFor c.action setup.station.common_address c.common_address
+pub is_station : (setup : Setup) (c : Command) → IsFor setup c.action c.common_address
     → is_addressed setup c ≡ true
-is_station setup c h = right_address c.action setup.station.common_address c.common_address h
+is_station setup c h = right_address setup c.action c.common_address h
 
 pub acceptable : (setup : Setup) (c : Command) → refusal_of setup c ≡ None → IsAcceptable setup c
 acceptable setup c e =
@@ -97,14 +114,14 @@ acceptable setup c e =
     record {
       cause = cause_is c r.0;
       station = station_is setup c r.1;
-      object = object_there setup c.action c.address r.2;
+      object = object_there setup c.action (object_for c) r.2;
     }
 
 pub unrefused : (setup : Setup) (c : Command) → HasSingleAddresses setup.rows setup.controls → IsAcceptable setup c
     → refusal_of setup c ≡ None
 unrefused setup c single h =
     refused_not (has_known_cause c) (is_addressed setup c) (has_object setup c)
-    (is_cause c h.cause) (is_station setup c h.station) (object_found setup c.action c.address single h.object)
+    (is_cause c h.cause) (is_station setup c h.station) (object_found setup c.action (object_for c) single h.object)
 
 -- ---- the judgement
 

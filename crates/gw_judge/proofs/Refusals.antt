@@ -14,7 +14,7 @@ use Rattle.iec_command.specs.Commands.{action_of, command_in, command_of, elemen
 use Rattle.gw_judge.specs.declared.judging.Judged.{Judged}
 use Rattle.gw_judge.specs.declared.judging.Judged.TheVariants.{Malformed, Refuse}
 use Rattle.gw_judge.specs.Judging.{has_known_cause, is_addressed, has_object, is_execute, refusal_of, judged_by, judged_reading, judged}
-use Rattle.gw_judge.specs.Acceptable.{HasKnownCause, IsFor, HasObject}
+use Rattle.gw_judge.specs.Acceptable.{HasKnownCause, IsFor, HasObject, object_for}
 use Rattle.gw_judge.specs.Refusals.{HasKnownType, IsMalformed, HasUnknownType, HasUnknownCause, HasUnknownStation, HasUnknownObject, ComesBackWith}
 use Rattle.gw_judge.proofs.Accepted.{cause_is, is_cause, station_is, is_station, first_refusal}
 use Rattle.gw_judge.proofs.Objects.{object_there, object_found}
@@ -235,13 +235,13 @@ unknown_cause setup octets execute = (
 
 -- 46
 station_fails : (setup : Setup) (c : Command) → refusal_of setup c ≡ Some 46
-    → HasKnownCause c × (IsFor c.action setup.station.common_address c.common_address → ⊥)
+    → HasKnownCause c × (IsFor setup c.action c.common_address → ⊥)
 station_fails setup c e =
     let fails = second_fails (has_known_cause c) (is_addressed setup c) (has_object setup c) e in
     (cause_is c fails.0, λ known. so_not _ fails.1 (is_station setup c known))
 
 fails_by_station : (setup : Setup) (c : Command) → HasKnownCause c
-    → (IsFor c.action setup.station.common_address c.common_address → ⊥) → refusal_of setup c ≡ Some 46
+    → (IsFor setup c.action c.common_address → ⊥) → refusal_of setup c ≡ Some 46
 fails_by_station setup c cause unknown =
     fails_second (has_known_cause c) (is_addressed setup c) (has_object setup c) (is_cause c cause)
     (not_so (is_addressed setup c) (λ is. unknown (station_is setup c is)))
@@ -265,22 +265,22 @@ unknown_station setup octets execute = (
 -- 47
 object_fails : (setup : Setup) (c : Command) → HasSingleAddresses setup.rows setup.controls
     → refusal_of setup c ≡ Some 47
-    → HasKnownCause c × IsFor c.action setup.station.common_address c.common_address
-    × (HasObject setup c.action c.address → ⊥)
+    → HasKnownCause c × IsFor setup c.action c.common_address
+    × (HasObject setup c.action (object_for c) → ⊥)
 object_fails setup c single e =
     let fails = third_fails (has_known_cause c) (is_addressed setup c) (has_object setup c) e in (
       cause_is c fails.0,
       station_is setup c fails.1,
-      λ there. so_not _ fails.2 (object_found setup c.action c.address single there),
+      λ there. so_not _ fails.2 (object_found setup c.action (object_for c) single there),
     )
 
 fails_by_object : (setup : Setup) (c : Command) → HasKnownCause c
-    → IsFor c.action setup.station.common_address c.common_address → (HasObject setup c.action c.address → ⊥)
+    → IsFor setup c.action c.common_address → (HasObject setup c.action (object_for c) → ⊥)
     → refusal_of setup c ≡ Some 47
 fails_by_object setup c cause station unknown =
     fails_third (has_known_cause c) (is_addressed setup c) (has_object setup c) (is_cause c cause)
     (is_station setup c station)
-    (not_so (has_object setup c) (λ is. unknown (object_there setup c.action c.address is)))
+    (not_so (has_object setup c) (λ is. unknown (object_there setup c.action (object_for c) is)))
 
 object_refuses : (setup : Setup) (octets : List ℕ) (c : Command) (execute : Bool)
     → HasUnknownObject setup octets c → execute ≡ is_execute c → judged setup octets ≡ Refuse 47 execute

@@ -23,9 +23,12 @@ one_to_one = record { num = 1; den = 1; num_from = lit≤ tt; num_to = lit≤ tt
 abbrev pub binary_row : Row
 binary_row = record {
   key = record { outstation = 0; kind = kinds.Binary; index = 5 };
+  common_address = 1;
   address = 4101;
   show = shows.Single;
   scale = one_to_one;
+  common_from = lit≤ tt;
+  common_to = lit≤ tt;
   from = lit≤ tt;
   to = lit≤ tt;
   shown = refl;
@@ -69,10 +72,13 @@ abbrev pub switch : Control
 switch = record {
   outstation = 0;
   index = 3;
+  common_address = 1;
   address = 5001;
   select = true;
   mode = Direct;
   operates = operated.Single pulses;
+  common_from = lit≤ tt;
+  common_to = lit≤ tt;
   from = lit≤ tt;
   to = lit≤ tt;
 }
@@ -104,6 +110,28 @@ by_double = record setup { controls = record switch { operates = operated.Double
 abbrev pub judgements : List (List ℕ) → List Judged
 judgements asdus = map (judged setup) asdus
 
--- station 258
+-- outstation 0 has common address 258
 abbrev pub at_258 : Setup
-at_258 = record setup { station = record station { common_address = 258 } }
+at_258 = record setup {
+  outstations = record outstation { common_address = 258 } ∷ [];
+  rows = record binary_row { common_address = 258; common_from = lit≤ tt; common_to = lit≤ tt } ∷ [];
+}
+
+-- a second outstation with common address 2, whose binary input 5 has the address of the first one's
+abbrev pub of_two : Setup
+of_two = record setup {
+  outstations = outstation ∷ record outstation { address = 2; common_address = 2 } ∷ [];
+  rows =
+      binary_row
+      ∷ record binary_row {
+        key = record { outstation = 1; kind = kinds.Binary; index = 5 };
+        common_address = 2;
+        common_from = lit≤ tt;
+        common_to = lit≤ tt;
+      }
+      ∷ [];
+}
+
+-- no outstation: the station's common address is known
+abbrev pub of_none : Setup
+of_none = record setup { outstations = []; rows = []; controls = [] }

@@ -6,13 +6,15 @@ use Rattle.gw_entries.specs.declared.control.Control.{Control}
 use Rattle.gw_entries.specs.declared.control.Operates.{Operates}
 use Rattle.gw_entries.specs.declared.control.Operates.TheVariants as operated
 use Rattle.gw_entries.specs.Shown.{is_total}
-use Rattle.gw_map.specs.Settings.{Setup, row_at_from, control_at_from}
+use Rattle.gw_map.specs.Settings.{Setup, is_known, row_at_from, control_at_from}
 use Rattle.iec_command.specs.declared.command.Command.{Command}
 use Rattle.iec_command.specs.declared.command.Action.{Action}
 use Rattle.iec_command.specs.declared.command.Action.TheVariants.{Single, Double, Setpoint, Interrogation, CounterInterrogation, Read}
 use Rattle.iec_command.specs.declared.fault.CommandFault.{CommandFault}
 use Rattle.iec_command.specs.declared.fault.CommandFault.TheVariants.{UnknownType}
 use Rattle.iec_command.specs.Commands.{command_of, IsWhole}
+use Rattle.gw_judge.specs.Acceptable.{object_for}
+use Rattle.gw_model.specs.declared.point.ObjectKey.{ObjectKey}
 use Rattle.gw_judge.specs.declared.judging.Judged.{Judged}
 use Rattle.gw_judge.specs.declared.judging.Judged.TheVariants.{Malformed, Refuse, Accepted}
 
@@ -35,10 +37,9 @@ is_for_all (Interrogation qualifier) = true
 is_for_all (CounterInterrogation qualifier) = true
 is_for_all _ = false
 
--- the station's own, or that of all stations
+-- a known one, or that of all stations
 abbrev pub is_addressed : Setup → Command → Bool
-is_addressed setup c =
-    c.common_address == setup.station.common_address || (is_for_all c.action && c.common_address == 65535)
+is_addressed setup c = is_known setup c.common_address || (is_for_all c.action && c.common_address == 65535)
 
 -- ---- the information object
 
@@ -59,14 +60,14 @@ is_operated action None = false
 is_operated action (Some found) = is_operated_by action found.1.operates
 
 -- interrogations are for the whole station, a read for a row, a command for a control
-abbrev pub is_object_of : Setup → Action → ℕ → Bool
-is_object_of setup (Interrogation qualifier) address = address == 0
-is_object_of setup (CounterInterrogation qualifier) address = address == 0
-is_object_of setup Read address = is_readable (row_at_from 0 address setup.rows)
-is_object_of setup action address = is_operated action (control_at_from 0 address setup.controls)
+abbrev pub is_object_of : Setup → Action → ObjectKey → Bool
+is_object_of setup (Interrogation qualifier) object = object.address == 0
+is_object_of setup (CounterInterrogation qualifier) object = object.address == 0
+is_object_of setup Read object = is_readable (row_at_from 0 object.common_address object.address setup.rows)
+is_object_of setup action object = is_operated action (control_at_from 0 object.common_address object.address setup.controls)
 
 abbrev pub has_object : Setup → Command → Bool
-has_object setup c = is_object_of setup c.action c.address
+has_object setup c = is_object_of setup c.action (object_for c)
 
 -- ---- an execute
 

@@ -5,7 +5,7 @@ use Rattle.gw_map.specs.Settings.{Setup}
 use Rattle.iec_command.specs.declared.command.Command.{Command}
 use Rattle.iec_command.specs.declared.command.Action.{Action}
 use Rattle.iec_command.specs.Commands.{command_of, type_of}
-use Rattle.gw_judge.specs.Acceptable.{HasKnownCause, IsFor, HasObject}
+use Rattle.gw_judge.specs.Acceptable.{HasKnownCause, IsFor, HasObject, object_for}
 
 -- its type is that of a command
 abbrev pub HasKnownType : List ℕ → Type 0
@@ -26,18 +26,18 @@ pub record HasUnknownCause (octets : List ℕ) (c : Command) : Type 0 where
   pub spelled : command_of octets ≡ Ok c
   pub unknown : HasKnownCause c → ⊥
 
--- 46: it spells a command with a known cause, which is for another station
+-- 46: it spells a command with a known cause, whose common address isn't known
 pub record HasUnknownStation (setup : Setup) (octets : List ℕ) (c : Command) : Type 0 where
   pub spelled : command_of octets ≡ Ok c
   pub cause : HasKnownCause c
-  pub unknown : IsFor c.action setup.station.common_address c.common_address → ⊥
+  pub unknown : IsFor setup c.action c.common_address → ⊥
 
--- 47: it spells a command with a known cause for this station, whose object isn't there
+-- 47: it spells a command with a known cause and a known common address, whose object isn't there
 pub record HasUnknownObject (setup : Setup) (octets : List ℕ) (c : Command) : Type 0 where
   pub spelled : command_of octets ≡ Ok c
   pub cause : HasKnownCause c
-  pub station : IsFor c.action setup.station.common_address c.common_address
-  pub unknown : HasObject setup c.action c.address → ⊥
+  pub station : IsFor setup c.action c.common_address
+  pub unknown : HasObject setup c.action (object_for c) → ⊥
 
 -- an ASDU comes back with a cause
 abbrev pub ComesBackWith : Setup → List ℕ → ℕ → Type 0

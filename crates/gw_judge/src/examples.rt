@@ -6,14 +6,14 @@ ghost use Rattle.iec_command.specs.declared.command.Action.TheVariants.{Interrog
 ghost use Rattle.iec_command.specs.Example.{command, single, double, setpoint};
 ghost use Rattle.gw_judge.specs.declared.judging.Judged.TheVariants.{Accepted, Malformed, Refuse};
 ghost use Rattle.gw_judge.specs.Judging.{is_execute, judged};
-ghost use Rattle.gw_judge.specs.Example.{at_258, by_double, judgements, setup};
+ghost use Rattle.gw_judge.specs.Example.{at_258, by_double, judgements, of_none, of_two, setup};
 
 /// What is sent back: the first cause counts.
 pub fn refusals_by_example()
     // To station 9, with cause 3: an unknown type; a single command for object 1.
     ensures unknown_type { judged setup (0x67 ∷ 1 ∷ 3 ∷ 0 ∷ 9 ∷ 0 ∷ 1 ∷ 0 ∷ 0 ∷ 1 ∷ []) ≡ Refuse 44 false }
     ensures cause { judged setup (0x2D ∷ 1 ∷ 3 ∷ 0 ∷ 9 ∷ 0 ∷ 1 ∷ 0 ∷ 0 ∷ 1 ∷ []) ≡ Refuse 45 false }
-    // Activated; then for this station; then as a selection, and as a deactivation.
+    // Activated; then for a known address; then as a selection, and as a deactivation.
     ensures station { judged setup (0x2D ∷ 1 ∷ 6 ∷ 0 ∷ 9 ∷ 0 ∷ 1 ∷ 0 ∷ 0 ∷ 1 ∷ []) ≡ Refuse 46 false }
     ensures object { judged setup (0x2D ∷ 1 ∷ 6 ∷ 0 ∷ 1 ∷ 0 ∷ 1 ∷ 0 ∷ 0 ∷ 1 ∷ []) ≡ Refuse 47 true }
     ensures select { judged setup (0x2D ∷ 1 ∷ 6 ∷ 0 ∷ 1 ∷ 0 ∷ 1 ∷ 0 ∷ 0 ∷ 0x81 ∷ []) ≡ Refuse 47 false }
@@ -49,7 +49,21 @@ pub fn requests_by_example()
         (0x66 ∷ 1 ∷ 5 ∷ 0 ∷ 0xFF ∷ 0xFF ∷ 0x05 ∷ 0x10 ∷ 0 ∷ [])
         ∷ (0x2D ∷ 1 ∷ 6 ∷ 0 ∷ 0xFF ∷ 0xFF ∷ 0x89 ∷ 0x13 ∷ 0 ∷ 1 ∷ []) ∷ [])
         ≡ Refuse 46 false ∷ Refuse 46 false ∷ [] }
-    // A common address has two octets: a read and an interrogation of station 258, and of others with one of them.
+    // Of two outstations each has its own objects: what one has alone isn't there under the other's address.
+    ensures of_two { map (judged of_two) (
+        (0x66 ∷ 1 ∷ 5 ∷ 0 ∷ 2 ∷ 0 ∷ 0x05 ∷ 0x10 ∷ 0 ∷ [])
+        ∷ (0x64 ∷ 1 ∷ 6 ∷ 0 ∷ 2 ∷ 0 ∷ 0 ∷ 0 ∷ 0 ∷ 0x14 ∷ [])
+        ∷ (0x2D ∷ 1 ∷ 6 ∷ 0 ∷ 1 ∷ 0 ∷ 0x89 ∷ 0x13 ∷ 0 ∷ 1 ∷ [])
+        ∷ (0x2D ∷ 1 ∷ 6 ∷ 0 ∷ 2 ∷ 0 ∷ 0x89 ∷ 0x13 ∷ 0 ∷ 1 ∷ [])
+        ∷ (0x66 ∷ 1 ∷ 5 ∷ 0 ∷ 3 ∷ 0 ∷ 0x05 ∷ 0x10 ∷ 0 ∷ []) ∷ [])
+        ≡ Accepted (command 5 2 4101 Read) ∷ Accepted (command 6 2 0 (Interrogation 20))
+        ∷ Accepted (command 6 1 5001 (single true false 0 false)) ∷ Refuse 47 true ∷ Refuse 46 false ∷ [] }
+    // Without an outstation the station's own address is known.
+    ensures of_none { map (judged of_none) (
+        (0x66 ∷ 1 ∷ 5 ∷ 0 ∷ 1 ∷ 0 ∷ 0x05 ∷ 0x10 ∷ 0 ∷ [])
+        ∷ (0x66 ∷ 1 ∷ 5 ∷ 0 ∷ 2 ∷ 0 ∷ 0x05 ∷ 0x10 ∷ 0 ∷ []) ∷ [])
+        ≡ Refuse 47 false ∷ Refuse 46 false ∷ [] }
+    // A common address has two octets: a read and an interrogation of outstation 258, and of others with one of them.
     ensures two_octets { map (judged at_258) (
         (0x66 ∷ 1 ∷ 5 ∷ 0 ∷ 2 ∷ 1 ∷ 0x05 ∷ 0x10 ∷ 0 ∷ [])
         ∷ (0x65 ∷ 1 ∷ 6 ∷ 0 ∷ 2 ∷ 1 ∷ 0 ∷ 0 ∷ 0 ∷ 0x05 ∷ []) ∷ [])

@@ -23,8 +23,8 @@ pub fn refused_asdus()
 {}
 
 /// What is sent back, each cause apart: 44 exactly where the header is whole and the type is no command's; 45 where a
-/// command is spelled whose cause of transmission isn't known; 46 where its cause is known, and it is for another station;
-/// 47 where it is for this station, and its object isn't there. An execute is told apart under 47 alone.
+/// command is spelled whose cause of transmission isn't known; 46 where its cause is known, and its common address isn't;
+/// 47 where both are known, and its object isn't there. An execute is told apart under 47 alone.
 pub fn refusals_are_due()
     ensures unknown_type { (setup : Setup) (octets : List ℕ) (execute : Bool)
         → (judged setup octets ≡ Refuse 44 execute) ↔ (HasUnknownType octets × (execute ≡ false)) }

@@ -7,4 +7,4 @@ pub mod laws;
 mod rules;
 
 pub use judging::{Judged, judge};
-pub use rules::is_execute;
+pub use rules::{ALL_STATIONS, is_execute};

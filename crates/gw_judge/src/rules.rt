@@ -8,7 +8,7 @@ use iec_command::causes::{ACTIVATION, DEACTIVATION, REQUEST};
 use iec_command::{Action, Command};
 
 /// The common address of all stations (IEC 60870-5-101, 7.2.4).
-const ALL_STATIONS: u16 = 65535;
+pub const ALL_STATIONS: u16 = 65535;
 
 /// The object address of what concerns a whole station (IEC 60870-5-101, 7.2.5).
 const WHOLE_STATION: u32 = 0;
@@ -30,12 +30,12 @@ fn is_known_cause(action: &Action, cause: u8) -> bool
     }
 }
 
-/// Whether the common address is the station's, or that of all stations where the type may have it
+/// Whether the common address is a known one, or that of all stations where the type may have it
 /// (IEC 60870-5-101, 7.2.4).
 pub(crate) fn is_addressed(command: &Command, settings: &Settings) -> bool
     ensures { result ≡ is_addressed settings.now command.now }
 {
-    command.common_address == settings.station().common_address
+    settings.is_known(command.common_address)
         || (is_for_all(&command.action) && command.common_address == ALL_STATIONS)
 }
 
@@ -56,28 +56,29 @@ pub(crate) fn has_object(command: &Command, settings: &Settings) -> bool
     match command.action {
         Action::Interrogation { .. } => command.address == WHOLE_STATION,
         Action::CounterInterrogation { .. } => command.address == WHOLE_STATION,
-        Action::Read => is_readable(command.address, settings),
-        action => is_operated(&action, command.address, settings),
+        Action::Read => is_readable(command, settings),
+        _ => is_operated(command, settings),
     }
 }
 
-/// Whether a row has the address, and isn't shown as a total.
-fn is_readable(address: u32, settings: &Settings) -> bool
-    ensures { result ≡ is_readable (row_at_from 0 address settings.now.rows) }
+/// Whether a row has the addresses of a command, and isn't shown as a total.
+fn is_readable(command: &Command, settings: &Settings) -> bool
+    ensures { result ≡ is_readable (row_at_from 0 command.now.common_address command.now.address settings.now.rows) }
 {
-    match settings.row_at(address) {
+    match settings.row_at(command.common_address, command.address) {
         None => false,
         Some((_, row)) => !matches!(row.show, Show::Total),
     }
 }
 
-/// Whether a control has the address, and is operated by the type.
-fn is_operated(action: &Action, address: u32, settings: &Settings) -> bool
-    ensures { result ≡ is_operated action.now (control_at_from 0 address settings.now.controls) }
+/// Whether a control has the addresses of a command, and is operated by its type.
+fn is_operated(command: &Command, settings: &Settings) -> bool
+    ensures { result ≡ is_operated command.now.action
+        (control_at_from 0 command.now.common_address command.now.address settings.now.controls) }
 {
-    match settings.control_at(address) {
+    match settings.control_at(command.common_address, command.address) {
         None => false,
-        Some((_, control)) => is_operated_by(action, &control.operates),
+        Some((_, control)) => is_operated_by(&command.action, &control.operates),
     }
 }
 

@@ -74,7 +74,7 @@ same_places : (setup : Setup) (s : Option (List Turn)) (k : Client) (j : Judged)
 same_places setup None k j news tied holds = rw (news.answers, news.rest, holds) refl
 same_places setup (Some hs) k j news tied holds =
     ap (λ (b : Bool). length (owed setup hs) + held setup hs + places_for b j)
-    (pending_told setup.station.common_address (owed setup hs) (interrogation setup hs)
+    (pending_told (owed setup hs) (interrogation setup hs)
     (length (fates setup.station hs)) k tied)
     ∙ ap (λ (n : ℕ). n + places_for (is_asked k.rest) j) (omega (arith, ap length tied.answers, holds))
 
@@ -130,9 +130,9 @@ ties setup ts x k fit same lives linked =
     let mine : Lives setup (turns x) k = subst (λ (zs : List Turn). Lives setup zs k) (sym same) lives in
     record {
       window = (counts_tied setup (turns x) k mine).window;
-      news = news_tied setup fit.queue fit.station (turns x) k mine;
-      line = line_tied setup fit.queue fit.station (turns x) k mine;
-      held = held_tied setup fit.queue fit.station (turns x) k mine;
+      news = news_tied setup fit.queue (turns x) k mine;
+      line = line_tied setup fit.queue (turns x) k mine;
+      held = held_tied setup fit.queue (turns x) k mine;
       acknowledged = acknowledged_tied setup x.began fit.window x.timed k linked.1;
       waiting = waiting_is x.timed k (signals_tied setup x.began x.timed k linked.1);
     }

@@ -59,7 +59,7 @@ same_places : (setup : Setup) (s : Option (List Turn)) (k : Client) (j : Judged)
 same_places setup None k j news tied holds = rw (news.answers, news.rest, holds) refl
 same_places setup (Some hs) k j news tied holds =
     ap (λ (b : Bool). length (owed setup hs) + held setup hs + places_for b j)
-    (pending_told setup.station.common_address (owed setup hs) (interrogation setup hs)
+    (pending_told (owed setup hs) (interrogation setup hs)
     (length (fates setup.station hs)) k tied)
     ∙ ap (λ (n : ℕ). n + places_for (is_asked k.rest) j) (omega (arith, ap length tied.answers, holds))
 
@@ -140,9 +140,9 @@ judges setup past (steps.Frame c a m) r fit e known =
     let lives : Lives setup ts up.0 = subst (SlotLives setup c ts) up.1 (known.lives c) in
     let mine : Ties setup ts up.0 = record {
       counts = counts_tied setup ts up.0 lives;
-      news = news_tied setup fit.queue fit.station ts up.0 lives;
-      line = line_tied setup fit.queue fit.station ts up.0 lives;
-      held = held_tied setup fit.queue fit.station ts up.0 lives;
+      news = news_tied setup fit.queue ts up.0 lives;
+      line = line_tied setup fit.queue ts up.0 lives;
+      held = held_tied setup fit.queue ts up.0 lives;
     } in
     subst (λ (x : Reply). JudgesBy setup past step (Ok x)) reply
     (judged setup past c m a up.0 (close_of setup a up.0) (command_in setup a) fit.window mine refl)

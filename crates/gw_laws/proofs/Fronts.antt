@@ -1,5 +1,5 @@
 -- What goes out together: what it means, and what it leaves.
-use Rattle.std.proofs.Common.{◌≡◌, ℕ, zero, suc, ℤ, ◌<◌, ◌≤◌, ◌==◌, ◌&&◌, Bool, true, false, List, [], ◌∷◌, ◌++◌, map, length, take, drop, Option, Some, refl, sym, ap, subst, ◌∙◌, arith, inl, inr, if◌then◌else◌}
+use Rattle.std.proofs.Common.{◌≡◌, ℕ, zero, suc, ℤ, ◌≤◌, ◌==◌, ◌&&◌, Bool, true, false, List, [], ◌∷◌, ◌++◌, map, length, take, drop, Option, Some, refl, sym, ap, subst, ◌∙◌, arith, inl, inr, if◌then◌else◌}
 use Rattle.std.specs.Prelude.{◌⊎◌, slice_get}
 use Rattle.std.specs.List.{AllByRecursion}
 use Rattle.std.proofs.lemmas.Bool.{eq-eqb, eqb-true, and_parts}
@@ -23,7 +23,7 @@ use Rattle.gw_station.specs.Sound.{CanSend}
 use Rattle.gw_station.proofs.All.{all-take}
 use Rattle.gw_station.proofs.Front.{news_sendable, rows_sendable, news_together, news_first, part_first, rows_run, parts_same, next_front, next_within}
 use Rattle.gw_laws.specs.Fates.{spontaneous_of}
-use Rattle.gw_laws.specs.Interrogations.{parts_in, as_told}
+use Rattle.gw_laws.specs.Interrogations.{parts_in}
 use Rattle.gw_laws.specs.Line.{MeansFront, SaysFirst}
 use Rattle.gw_laws.proofs.Numbers.{says}
 use Rattle.gw_laws.proofs.Offered.{IsOffered}
@@ -31,109 +31,109 @@ use Rattle.gw_laws.proofs.Parts.{IsRequested, IsOfInterrogation, part_told, part
 
 -- ---- an ASDU means the front of the line
 
-packed_so : (offset : ℤ) (common cause originator : ℕ) (x : Observation) (xs : List Observation) → common < 65536
+packed_so : (offset : ℤ) (cause originator : ℕ) (x : Observation) (xs : List Observation)
     → IsSendable offset x → AllByRecursion (IsSendable offset) xs
-    → meaning_of offset (packed_octets offset common cause originator (x ∷ xs))
-    ≡ Tells (packed_asdu offset common cause originator x xs)
-packed_so offset common cause originator x xs small can all =
-    packed_mean offset common cause originator x xs small
+    → meaning_of offset (packed_octets offset cause originator (x ∷ xs))
+    ≡ Tells (packed_asdu offset cause originator x xs)
+packed_so offset cause originator x xs can all =
+    packed_mean offset cause originator x xs
     (all-take (IsSendable offset) (taken_of offset (x ∷ xs)) (x ∷ xs) (can, all))
 
-answer_front : (offset : ℤ) (common : ℕ) (l : List Sending) (answer : AsduAnswer) (meant : Meant)
-    → slice_get l 0 ≡ Some (sendings.Answer answer) → MeansFront offset common (sendings.Answer answer ∷ []) meant
-    → MeansFront offset common l meant
-answer_front offset common [] answer meant e means = absurd cc
-answer_front offset common (s ∷ l) answer meant e means =
-    subst (λ (t : Sending). MeansFront offset common (t ∷ l) meant) (sym (same_Some _ _ e)) means
+answer_front : (offset : ℤ) (l : List Sending) (answer : AsduAnswer) (meant : Meant)
+    → slice_get l 0 ≡ Some (sendings.Answer answer) → MeansFront offset (sendings.Answer answer ∷ []) meant
+    → MeansFront offset l meant
+answer_front offset [] answer meant e means = absurd cc
+answer_front offset (s ∷ l) answer meant e means =
+    subst (λ (t : Sending). MeansFront offset (t ∷ l) meant) (sym (same_Some _ _ e)) means
 
-news_means : (offset : ℤ) (common : ℕ) (l : List Sending) (x : Observation) → common < 65536
+news_means : (offset : ℤ) (l : List Sending) (x : Observation)
     → slice_get l 0 ≡ Some (sendings.News x) → AllByRecursion (CanSend offset) l
-    → MeansFront offset common l (meaning_of offset (packed_octets offset common 3 0 (news_front l)))
-news_means offset common [] x small e all = absurd cc
-news_means offset common (sendings.News y ∷ l) x small e all =
-    packed_so offset common 3 0 y (news_front l) small all.0 (news_sendable offset l all.1)
-news_means offset common (sendings.Confirm signal ∷ l) x small e all = absurd cc
-news_means offset common (sendings.Test ∷ l) x small e all = absurd cc
-news_means offset common (sendings.Answer answer ∷ l) x small e all = absurd cc
-news_means offset common (sendings.Part part ∷ l) x small e all = absurd cc
-news_means offset common (sendings.SFormat ∷ l) x small e all = absurd cc
+    → MeansFront offset l (meaning_of offset (packed_octets offset 3 0 (news_front l)))
+news_means offset [] x e all = absurd cc
+news_means offset (sendings.News y ∷ l) x e all =
+    packed_so offset 3 0 y (news_front l) all.0 (news_sendable offset l all.1)
+news_means offset (sendings.Confirm signal ∷ l) x e all = absurd cc
+news_means offset (sendings.Test ∷ l) x e all = absurd cc
+news_means offset (sendings.Answer answer ∷ l) x e all = absurd cc
+news_means offset (sendings.Part part ∷ l) x e all = absurd cc
+news_means offset (sendings.SFormat ∷ l) x e all = absurd cc
 
 part_read : OwnAsdu → Option Sending → OwnAsdu
 part_read d (Some (sendings.Part part)) = part
 part_read d _ = d
 
-part_means : (offset : ℤ) (common : ℕ) (l : List Sending) (part : OwnAsdu) → common < 65536
+part_means : (offset : ℤ) (l : List Sending) (part : OwnAsdu)
     → slice_get l 0 ≡ Some (sendings.Part part) → AllByRecursion (CanSend offset) l
-    → MeansFront offset common l (meaning_of offset (part_octets offset common l part))
+    → MeansFront offset l (meaning_of offset (part_octets offset l part))
 unfolding part_read
-part_means offset common [] part small e all = absurd cc
-part_means offset common (sendings.Part (outgoing.Command command) ∷ l) part small e all =
+part_means offset [] part e all = absurd cc
+part_means offset (sendings.Part (outgoing.Command command) ∷ l) part e all =
     let same : outgoing.Command command ≡ part = ap (part_read part) e in
-    subst (λ (p : OwnAsdu). MeansFront offset common (sendings.Part (outgoing.Command command) ∷ l)
-    (meaning_of offset (part_octets offset common (sendings.Part (outgoing.Command command) ∷ l) p))) same
-    (outgoing_means offset common (outgoing.Command command) small all.0)
-part_means offset common (sendings.Part (outgoing.Observation cause originator x) ∷ l) part small e all =
+    subst (λ (p : OwnAsdu). MeansFront offset (sendings.Part (outgoing.Command command) ∷ l)
+    (meaning_of offset (part_octets offset (sendings.Part (outgoing.Command command) ∷ l) p))) same
+    (outgoing_means offset (outgoing.Command command) all.0)
+part_means offset (sendings.Part (outgoing.Observation cause originator x) ∷ l) part e all =
     let row : OwnAsdu = outgoing.Observation cause originator x in
     let same : row ≡ part = ap (part_read part) e in
-    subst (λ (p : OwnAsdu). MeansFront offset common (sendings.Part row ∷ l)
-    (meaning_of offset (part_octets offset common (sendings.Part row ∷ l) p))) same
-    (ap (λ (xs : List Observation). meaning_of offset (packed_octets offset common cause originator xs)) front
-    ∙ packed_so offset common cause originator x (rows_front cause originator l) small all.0
+    subst (λ (p : OwnAsdu). MeansFront offset (sendings.Part row ∷ l)
+    (meaning_of offset (part_octets offset (sendings.Part row ∷ l) p))) same
+    (ap (λ (xs : List Observation). meaning_of offset (packed_octets offset cause originator xs)) front
+    ∙ packed_so offset cause originator x (rows_front cause originator l) all.0
     (rows_sendable offset cause originator l all.1))
   where
     front : rows_front cause originator (sendings.Part (outgoing.Observation cause originator x) ∷ l)
         ≡ x ∷ rows_front cause originator l
     front = rw (eq-eqb cause cause refl, eq-eqb originator originator refl) refl
-part_means offset common (sendings.Confirm signal ∷ l) part small e all = absurd cc
-part_means offset common (sendings.Test ∷ l) part small e all = absurd cc
-part_means offset common (sendings.Answer answer ∷ l) part small e all = absurd cc
-part_means offset common (sendings.News x ∷ l) part small e all = absurd cc
-part_means offset common (sendings.SFormat ∷ l) part small e all = absurd cc
+part_means offset (sendings.Confirm signal ∷ l) part e all = absurd cc
+part_means offset (sendings.Test ∷ l) part e all = absurd cc
+part_means offset (sendings.Answer answer ∷ l) part e all = absurd cc
+part_means offset (sendings.News x ∷ l) part e all = absurd cc
+part_means offset (sendings.SFormat ∷ l) part e all = absurd cc
 
 -- what is offered says the front of the line
-pub says_front : (setup : Setup) (x : Sending) (k : Client) → setup.station.common_address < 65536 → IsOffered k x
+pub says_front : (setup : Setup) (x : Sending) (k : Client) → IsOffered k x
     → CanSend setup.station.offset_minutes x → AllByRecursion (CanSend setup.station.offset_minutes) (line k)
     → SaysFirst setup (line k) (says setup k x)
-says_front setup (sendings.Confirm signal) k small is can all = tt
-says_front setup sendings.Test k small is can all = tt
-says_front setup sendings.SFormat k small is can all = tt
-says_front setup (sendings.Answer answer) k small is can all =
-    answer_front setup.station.offset_minutes setup.station.common_address (line k) answer _ is.first
-    (answer_means setup.station.offset_minutes setup.station.common_address answer small can)
-says_front setup (sendings.News x) k small is can all =
-    news_means setup.station.offset_minutes setup.station.common_address (line k) x small is.first all
-says_front setup (sendings.Part part) k small is can all =
-    part_means setup.station.offset_minutes setup.station.common_address (line k) part small is.first all
+says_front setup (sendings.Confirm signal) k is can all = tt
+says_front setup sendings.Test k is can all = tt
+says_front setup sendings.SFormat k is can all = tt
+says_front setup (sendings.Answer answer) k is can all =
+    answer_front setup.station.offset_minutes (line k) answer _ is.first
+    (answer_means setup.station.offset_minutes answer can)
+says_front setup (sendings.News x) k is can all =
+    news_means setup.station.offset_minutes (line k) x is.first all
+says_front setup (sendings.Part part) k is can all =
+    part_means setup.station.offset_minutes (line k) part is.first all
 
 -- ---- news that go
 
 -- as many as one ASDU carries, from the front of the queue
-pub record NewsGo (offset : ℤ) (common : ℕ) (k : Client) (meant : Meant) : Type 0 where
+pub record NewsGo (offset : ℤ) (k : Client) (meant : Meant) : Type 0 where
   pub first : Observation
   pub others : List Observation
-  pub means : meant ≡ Tells (packed_asdu offset common 3 0 first others)
+  pub means : meant ≡ Tells (packed_asdu offset 3 0 first others)
   pub told : take (taken_of offset (first ∷ others)) (first ∷ others) ≡ take (together offset (line k)) k.queue
   pub within : together offset (line k) ≤ length k.queue
   pub answers : k.answers ≡ []
 
-news_meant : (offset : ℤ) (common : ℕ) (l : List Sending) (x : Observation) (meant : Meant)
-    → slice_get l 0 ≡ Some (sendings.News x) → MeansFront offset common l meant
+news_meant : (offset : ℤ) (l : List Sending) (x : Observation) (meant : Meant)
+    → slice_get l 0 ≡ Some (sendings.News x) → MeansFront offset l meant
     → (y : Observation) × (ys : List Observation) × (news_front l ≡ y ∷ ys)
-    × (meant ≡ Tells (packed_asdu offset common 3 0 y ys))
-news_meant offset common [] x meant e means = absurd cc
-news_meant offset common (sendings.News y ∷ l) x meant e means = (y, news_front l, refl, means)
-news_meant offset common (sendings.Confirm signal ∷ l) x meant e means = absurd cc
-news_meant offset common (sendings.Test ∷ l) x meant e means = absurd cc
-news_meant offset common (sendings.Answer answer ∷ l) x meant e means = absurd cc
-news_meant offset common (sendings.Part part ∷ l) x meant e means = absurd cc
-news_meant offset common (sendings.SFormat ∷ l) x meant e means = absurd cc
+    × (meant ≡ Tells (packed_asdu offset 3 0 y ys))
+news_meant offset [] x meant e means = absurd cc
+news_meant offset (sendings.News y ∷ l) x meant e means = (y, news_front l, refl, means)
+news_meant offset (sendings.Confirm signal ∷ l) x meant e means = absurd cc
+news_meant offset (sendings.Test ∷ l) x meant e means = absurd cc
+news_meant offset (sendings.Answer answer ∷ l) x meant e means = absurd cc
+news_meant offset (sendings.Part part ∷ l) x meant e means = absurd cc
+news_meant offset (sendings.SFormat ∷ l) x meant e means = absurd cc
 
-pub news_go : (offset : ℤ) (common : ℕ) (k : Client) (x : Observation) (meant : Meant)
-    → slice_get (line k) 0 ≡ Some (sendings.News x) → MeansFront offset common (line k) meant
-    → NewsGo offset common k meant
-news_go offset common k x meant e means =
+pub news_go : (offset : ℤ) (k : Client) (x : Observation) (meant : Meant)
+    → slice_get (line k) 0 ≡ Some (sendings.News x) → MeansFront offset (line k) meant
+    → NewsGo offset k meant
+news_go offset k x meant e means =
     let first = news_first k x e in
-    let is = news_meant offset common (line k) x meant e means in
+    let is = news_meant offset (line k) x meant e means in
     let n : ℕ = together offset (line k) in
     let front : List Observation = news_front (line k) in
     let size : n ≡ taken_of offset front = news_together offset (line k) x e in
@@ -181,37 +181,28 @@ parts_run cause originator (suc n) (outgoing.Observation c o x ∷ rest) few =
         ∙ ap (λ (parts : List OwnAsdu). outgoing.Observation cause originator x ∷ parts)
         (run n (omega (arith, few))))
 
--- a row is told as it is
-rows_as_told : (common cause originator : ℕ) (xs : List Observation)
-    → map (as_told common) (map (outgoing.Observation cause originator) xs)
-    ≡ map (outgoing.Observation cause originator) xs
-rows_as_told common cause originator [] = refl
-rows_as_told common cause originator (x ∷ xs) =
-    ap (λ (parts : List OwnAsdu). outgoing.Observation cause originator x ∷ parts)
-    (rows_as_told common cause originator xs)
-
 -- what an ASDU of rows says of the answer to an interrogation, and no news
-rows_go : (offset : ℤ) (common cause originator : ℕ) (x : Observation) (xs : List Observation)
+rows_go : (offset : ℤ) (cause originator : ℕ) (x : Observation) (xs : List Observation)
     → (cause ≡ 20) ⊎ (cause ≡ 37)
-    → (parts_in (Tells (packed_asdu offset common cause originator x xs))
+    → (parts_in (Tells (packed_asdu offset cause originator x xs))
     ≡ map (outgoing.Observation cause originator) (take (taken_of offset (x ∷ xs)) (x ∷ xs)))
-    × (spontaneous_of common (Tells (packed_asdu offset common cause originator x xs)) ≡ [])
-rows_go offset common cause originator x xs (inl is) = (rw is refl, rw is refl)
-rows_go offset common cause originator x xs (inr is) = (rw is refl, rw is refl)
+    × (spontaneous_of (Tells (packed_asdu offset cause originator x xs)) ≡ [])
+rows_go offset cause originator x xs (inl is) = (rw is refl, rw is refl)
+rows_go offset cause originator x xs (inr is) = (rw is refl, rw is refl)
 
-parts_meant : (offset : ℤ) (common : ℕ) (rest : List OwnAsdu) (news : List Observation) (part : OwnAsdu) (meant : Meant)
+parts_meant : (offset : ℤ) (rest : List OwnAsdu) (news : List Observation) (part : OwnAsdu) (meant : Meant)
     → slice_get rest 0 ≡ Some part → AllByRecursion IsRequested rest → AllByRecursion IsOfInterrogation rest
-    → MeansFront offset common (map sendings.Part rest ++ map sendings.News news) meant
-    → parts_in meant ≡ map (as_told common) (take (parts_together offset part rest) rest)
-parts_meant offset common [] news part meant e requested of_it means = absurd cc
-parts_meant offset common (outgoing.Command command ∷ rest) news part meant e requested of_it means =
+    → MeansFront offset (map sendings.Part rest ++ map sendings.News news) meant
+    → parts_in meant ≡ take (parts_together offset part rest) rest
+parts_meant offset [] news part meant e requested of_it means = absurd cc
+parts_meant offset (outgoing.Command command ∷ rest) news part meant e requested of_it means =
     let all : List OwnAsdu = outgoing.Command command ∷ rest in
-    subst (λ (p : OwnAsdu). parts_in meant ≡ map (as_told common) (take (parts_together offset p all) all))
-    (same_Some _ _ e) (part_told offset common (outgoing.Command command) meant of_it.0 requested.0 means)
-parts_meant offset common (outgoing.Observation cause originator x ∷ rest) news part meant e requested of_it means =
-    subst (λ (p : OwnAsdu). parts_in meant ≡ map (as_told common) (take (parts_together offset p all) all))
+    subst (λ (p : OwnAsdu). parts_in meant ≡ take (parts_together offset p all) all)
+    (same_Some _ _ e) (part_told offset (outgoing.Command command) meant of_it.0 requested.0 means)
+parts_meant offset (outgoing.Observation cause originator x ∷ rest) news part meant e requested of_it means =
+    subst (λ (p : OwnAsdu). parts_in meant ≡ take (parts_together offset p all) all)
     (same_Some _ _ e)
-    (ap parts_in is ∙ (goes.0 ∙ (sym run ∙ (ap (λ (m : ℕ). take m all) (sym size) ∙ sym as_they_are))))
+    (ap parts_in is ∙ (goes.0 ∙ (sym run ∙ ap (λ (m : ℕ). take m all) (sym size))))
   where
     all : List OwnAsdu
     all = outgoing.Observation cause originator x ∷ rest
@@ -222,14 +213,14 @@ parts_meant offset common (outgoing.Observation cause originator x ∷ rest) new
     n : ℕ
     n = taken_of offset (x ∷ xs)
 
-    is : meant ≡ Tells (packed_asdu offset common cause originator x xs)
-    is = means ∙ ap (λ (ys : List Observation). Tells (packed_asdu offset common cause originator x ys))
+    is : meant ≡ Tells (packed_asdu offset cause originator x xs)
+    is = means ∙ ap (λ (ys : List Observation). Tells (packed_asdu offset cause originator x ys))
         (rows_run cause originator rest news)
 
-    goes : (parts_in (Tells (packed_asdu offset common cause originator x xs))
+    goes : (parts_in (Tells (packed_asdu offset cause originator x xs))
         ≡ map (outgoing.Observation cause originator) (take n (x ∷ xs)))
-        × (spontaneous_of common (Tells (packed_asdu offset common cause originator x xs)) ≡ [])
-    goes = rows_go offset common cause originator x xs requested.0
+        × (spontaneous_of (Tells (packed_asdu offset cause originator x xs)) ≡ [])
+    goes = rows_go offset cause originator x xs requested.0
 
     front : parts_front cause originator all ≡ x ∷ xs
     front = rw (eq-eqb cause cause refl, eq-eqb originator originator refl) refl
@@ -241,42 +232,34 @@ parts_meant offset common (outgoing.Observation cause originator x ∷ rest) new
     run = parts_run cause originator n all (omega (arith, taken_of_within offset (x ∷ xs), ap length front))
         ∙ ap (λ (ys : List Observation). map (outgoing.Observation cause originator) (take n ys)) front
 
-    as_they_are : map (as_told common) (take (parts_together offset (outgoing.Observation cause originator x) all) all)
-        ≡ take (parts_together offset (outgoing.Observation cause originator x) all) all
-    as_they_are =
-        ap (λ (m : ℕ). map (as_told common) (take m all)) size
-        ∙ (ap (map (as_told common)) run
-        ∙ (rows_as_told common cause originator (take n (x ∷ xs))
-        ∙ (sym run ∙ ap (λ (m : ℕ). take m all) (sym size))))
-
-pub parts_go : (offset : ℤ) (common : ℕ) (k : Client) (part : OwnAsdu) (meant : Meant)
+pub parts_go : (offset : ℤ) (k : Client) (part : OwnAsdu) (meant : Meant)
     → slice_get (line k) 0 ≡ Some (sendings.Part part) → AllByRecursion IsRequested k.rest
-    → AllByRecursion IsOfInterrogation k.rest → MeansFront offset common (line k) meant
-    → parts_in meant ≡ map (as_told common) (take (together offset (line k)) k.rest)
-parts_go offset common k part meant e requested of_it means =
+    → AllByRecursion IsOfInterrogation k.rest → MeansFront offset (line k) meant
+    → parts_in meant ≡ take (together offset (line k)) k.rest
+parts_go offset k part meant e requested of_it means =
     let first = part_first k part e in
-    subst (λ (n : ℕ). parts_in meant ≡ map (as_told common) (take n k.rest)) (sym (parts_same offset k part first))
-    (parts_meant offset common k.rest (drop k.older k.queue) part meant first.first requested of_it
-    (subst (λ (l : List Sending). MeansFront offset common l meant) first.line means))
+    subst (λ (n : ℕ). parts_in meant ≡ take n k.rest) (sym (parts_same offset k part first))
+    (parts_meant offset k.rest (drop k.older k.queue) part meant first.first requested of_it
+    (subst (λ (l : List Sending). MeansFront offset l meant) first.line means))
 
 -- and no news, whatever is of it
-parts_no_news_by : (offset : ℤ) (common : ℕ) (rest : List OwnAsdu) (news : List Observation) (part : OwnAsdu)
+parts_no_news_by : (offset : ℤ) (rest : List OwnAsdu) (news : List Observation) (part : OwnAsdu)
     (meant : Meant)
     → slice_get rest 0 ≡ Some part → AllByRecursion IsRequested rest
-    → MeansFront offset common (map sendings.Part rest ++ map sendings.News news) meant
-    → spontaneous_of common meant ≡ []
-parts_no_news_by offset common [] news part meant e requested means = absurd cc
-parts_no_news_by offset common (outgoing.Command command ∷ rest) news part meant e requested means =
-    part_no_news offset common (outgoing.Command command) meant requested.0 means
-parts_no_news_by offset common (outgoing.Observation cause originator x ∷ rest) news part meant e requested means =
-    ap (spontaneous_of common) means
-    ∙ (rows_go offset common cause originator x
+    → MeansFront offset (map sendings.Part rest ++ map sendings.News news) meant
+    → spontaneous_of meant ≡ []
+parts_no_news_by offset [] news part meant e requested means = absurd cc
+parts_no_news_by offset (outgoing.Command command ∷ rest) news part meant e requested means =
+    part_no_news offset (outgoing.Command command) meant requested.0 means
+parts_no_news_by offset (outgoing.Observation cause originator x ∷ rest) news part meant e requested means =
+    ap spontaneous_of means
+    ∙ (rows_go offset cause originator x
     (rows_front cause originator (map sendings.Part rest ++ map sendings.News news)) requested.0).1
 
-pub parts_no_news : (offset : ℤ) (common : ℕ) (k : Client) (part : OwnAsdu) (meant : Meant)
+pub parts_no_news : (offset : ℤ) (k : Client) (part : OwnAsdu) (meant : Meant)
     → slice_get (line k) 0 ≡ Some (sendings.Part part) → AllByRecursion IsRequested k.rest
-    → MeansFront offset common (line k) meant → spontaneous_of common meant ≡ []
-parts_no_news offset common k part meant e requested means =
+    → MeansFront offset (line k) meant → spontaneous_of meant ≡ []
+parts_no_news offset k part meant e requested means =
     let first = part_first k part e in
-    parts_no_news_by offset common k.rest (drop k.older k.queue) part meant first.first requested
-    (subst (λ (l : List Sending). MeansFront offset common l meant) first.line means)
+    parts_no_news_by offset k.rest (drop k.older k.queue) part meant first.first requested
+    (subst (λ (l : List Sending). MeansFront offset l meant) first.line means)

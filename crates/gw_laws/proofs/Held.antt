@@ -93,19 +93,19 @@ put_out setup said (Some hs) = refl
 
 -- ---- lives
 
-held_more : (setup : Setup) → 0 < setup.station.queue → setup.station.common_address < 65536
+held_more : (setup : Setup) → 0 < setup.station.queue
     → (t : Turn) (ts : List Turn) (k new : Client) → Lives setup ts k → Becomes setup t k new
     → HeldTied setup (session ts) k → HeldTied setup (session (t ∷ ts)) new
-held_more setup some small (Idle brought) ts k new lives is tied = came setup brought (session ts) k new is tied
-held_more setup some small Ends ts k new lives is tied = ap (λ (x : Client). x.held) is
-held_more setup some small (Takes a taking) ts k new lives is tied =
+held_more setup some (Idle brought) ts k new lives is tied = came setup brought (session ts) k new is tied
+held_more setup some Ends ts k new lives is tied = ap (λ (x : Client). x.held) is
+held_more setup some (Takes a taking) ts k new lives is tied =
     subst (HeldTied setup (session (Takes a taking ∷ ts))) (sym is.becomes)
-    (took setup a taking is.moment (session ts) k is.opens (news_tied setup some small ts k lives) tied)
-held_more setup some small (PutsOut said) ts k new lives is tied =
+    (took setup a taking is.moment (session ts) k is.opens (news_tied setup some ts k lives) tied)
+held_more setup some (PutsOut said) ts k new lives is tied =
     ap (λ (x : Client). x.held) is.becomes
     ∙ (sent_holds setup.station.offset_minutes is.moment is.sending k ∙ (tied ∙ sym (put_out setup said (session ts))))
 
-pub held_tied : (setup : Setup) → 0 < setup.station.queue → setup.station.common_address < 65536
+pub held_tied : (setup : Setup) → 0 < setup.station.queue
     → (ts : List Turn) (k : Client) → Lives setup ts k → HeldTied setup (session ts) k
-held_tied setup some small = lives_all setup (λ ts k. HeldTied setup (session ts) k) (λ k is. is.held)
-    (held_more setup some small)
+held_tied setup some = lives_all setup (λ ts k. HeldTied setup (session ts) k) (λ k is. is.held)
+    (held_more setup some)

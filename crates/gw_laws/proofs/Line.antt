@@ -4,7 +4,7 @@ use Rattle.std.specs.Prelude.{◌&&◌, option_map, slice_get, IfSome}
 use Rattle.std.specs.Option.{option_to_list}
 use Rattle.std.specs.List.{AllByRecursion}
 use Rattle.std.proofs.lemmas.Bool.{cases_Bool, true≢false}
-use Rattle.std.proofs.lemmas.List.{append-nil, length-append, length-drop, length-map, length-take-le}
+use Rattle.std.proofs.lemmas.List.{append-nil, length-append, length-drop, length-take-le}
 use Rattle.gw_model.specs.declared.observation.Observation.{Observation}
 use Rattle.gw_map.specs.Settings.{Setup}
 use Rattle.iec_apci.specs.declared.apdu.Asdu.{Asdu as AsduOctets}
@@ -18,11 +18,12 @@ use Rattle.iec_command.specs.declared.command.Action.TheVariants as actions
 use Rattle.gw_control.specs.declared.answer.Outcome.{Outcome}
 use Rattle.gw_judge.specs.declared.judging.Judged.{Judged}
 use Rattle.gw_judge.specs.declared.judging.Judged.TheVariants as judgements
+use Rattle.gw_judge.specs.Acceptable.{object_for}
 use Rattle.gw_answers.specs.declared.outgoing.AsduAnswer.{AsduAnswer}
 use Rattle.gw_answers.specs.declared.outgoing.AsduAnswer.TheVariants.{Made}
 use Rattle.gw_answers.specs.declared.outgoing.OwnAsdu.TheVariants as outgoing
 use Rattle.gw_answers.specs.declared.outgoing.OwnAsdu.{OwnAsdu}
-use Rattle.gw_answers.specs.Interrogations.{is_accepted_act, answer_to}
+use Rattle.gw_answers.specs.Interrogations.{asked_addresses, is_accepted_act}
 use Rattle.gw_answers.specs.Answers.{answered, answered_action, refused_act, shown_at, command_by}
 use Rattle.gw_answers.specs.Octets.{answer_octets, packed_octets}
 use Rattle.gw_answers.specs.Meaning.{Meant, meaning_of, Means}
@@ -45,7 +46,7 @@ use Rattle.gw_steps.specs.Said.{ApduMeaning}
 use Rattle.gw_history.specs.Life.{Brought, Taking, Turn, Idle, Takes, PutsOut, Ends, session_with, session, turns_in}
 use Rattle.gw_history.proofs.Lives.{Becomes, Came, IsOperating, Lives, lives_all}
 use Rattle.gw_laws.specs.Fates.{spontaneous_of, Element, is_queued, items_of, fates, fates_with_put_out}
-use Rattle.gw_laws.specs.Interrogations.{Interrogation, parts_in, is_pending, as_told, answer_told, interrogation_telling, IsAnsweredInOrder, begun, interrogation, AnswersInterrogation}
+use Rattle.gw_laws.specs.Interrogations.{Interrogation, parts_in, is_pending, answer_told, interrogation_telling, IsAnsweredInOrder, begun, interrogation, AnswersInterrogation}
 use Rattle.gw_laws.specs.Line.{answers_to, told_of, told_outcomes, since_of, left_of, SaysFirst, owed, line, KeepsLine}
 use Rattle.gw_laws.proofs.Offered.{IsOffered, offered_is}
 use Rattle.gw_laws.proofs.Fronts.{says_front, news_go, parts_go}
@@ -58,28 +59,28 @@ use Rattle.gw_laws.proofs.News.{InSession, NewsTied, news_tied}
 -- ---- the tie
 
 -- what waits for a client where these answers are owed, this is the interrogation, and so many news came
-pub record LineIs (common : ℕ) (owes : List AsduAnswer) (q : Option Interrogation) (n : ℕ) (k : Client) : Type 0 where
+pub record LineIs (owes : List AsduAnswer) (q : Option Interrogation) (n : ℕ) (k : Client) : Type 0 where
   pub answers : k.answers ≡ owes
   pub apart : AllByRecursion IsApart k.answers
   pub rest : k.rest ≡ left_of q
   pub asked : AllByRecursion IsOfInterrogation k.rest
   -- what was said and what is left are the answer
-  pub said : IfSome q (λ i. i.said ++ map (as_told common) k.rest ≡ answer_told common i)
+  pub said : IfSome q (λ i. i.said ++ k.rest ≡ answer_told i)
   -- the news of the session are no fewer than came before the interrogation
   pub since : since_of q ≤ n
   pub older : is_asked k.rest ≡ true → k.older ≡ since_of q - (n - length k.queue)
 
 abbrev pub LineTied : Setup → Option (List Turn) → Client → Type 0
 LineTied setup None k = Unit {0}
-LineTied setup (Some hs) k = LineIs setup.station.common_address (owed setup hs) (interrogation setup hs)
+LineTied setup (Some hs) k = LineIs (owed setup hs) (interrogation setup hs)
     (length (fates setup.station hs)) k
 
 -- ---- what it tells
 
-pub pending_told : (common : ℕ) (owes : List AsduAnswer) (q : Option Interrogation) (n : ℕ) (k : Client)
-    → LineIs common owes q n k → is_pending q ≡ is_asked k.rest
-pending_told common owes None n k tied = ap is_asked (sym tied.rest)
-pending_told common owes (Some q) n k tied = pending_is common q k.rest tied.said
+pub pending_told : (owes : List AsduAnswer) (q : Option Interrogation) (n : ℕ) (k : Client)
+    → LineIs owes q n k → is_pending q ≡ is_asked k.rest
+pending_told owes None n k tied = ap is_asked (sym tied.rest)
+pending_told owes (Some q) n k tied = pending_is q k.rest tied.said
 
 same_split : (pending : Bool) (n m : ℕ) (queue : List Observation) (rest : List OwnAsdu) → is_asked rest ≡ pending
     → (pending ≡ true → n ≡ m)
@@ -126,35 +127,35 @@ record Waits (k new : Client) : Type 0 where
   older : new.older ≡ k.older
   queue : new.queue ≡ k.queue
 
-waits_with : (common : ℕ) (owes more : List AsduAnswer) (q : Option Interrogation) (n : ℕ) (k new : Client)
-    → Waits k new → new.answers ≡ more → AllByRecursion IsApart new.answers → LineIs common owes q n k
-    → LineIs common more q n new
-waits_with common owes more q n k new same answers apart tied = record {
+waits_with : (owes more : List AsduAnswer) (q : Option Interrogation) (n : ℕ) (k new : Client)
+    → Waits k new → new.answers ≡ more → AllByRecursion IsApart new.answers → LineIs owes q n k
+    → LineIs more q n new
+waits_with owes more q n k new same answers apart tied = record {
   answers = answers;
   apart = apart;
   rest = same.rest ∙ tied.rest;
   asked = subst (AllByRecursion IsOfInterrogation) (sym same.rest) tied.asked;
-  said = subst (λ (rest : List OwnAsdu). IfSome q (λ i. i.said ++ map (as_told common) rest ≡ answer_told common i))
+  said = subst (λ (rest : List OwnAsdu). IfSome q (λ i. i.said ++ rest ≡ answer_told i))
       (sym same.rest) tied.said;
   since = tied.since;
   older = λ is. omega (arith, same.older, tied.older (ap is_asked (sym same.rest) ∙ is), ap length same.queue);
 }
 
 -- and the answers are the same
-waits_on : (common : ℕ) (owes : List AsduAnswer) (q : Option Interrogation) (n : ℕ) (k new : Client) → Waits k new
-    → new.answers ≡ k.answers → LineIs common owes q n k → LineIs common owes q n new
-waits_on common owes q n k new same answers tied =
-    waits_with common owes owes q n k new same (answers ∙ tied.answers)
+waits_on : (owes : List AsduAnswer) (q : Option Interrogation) (n : ℕ) (k new : Client) → Waits k new
+    → new.answers ≡ k.answers → LineIs owes q n k → LineIs owes q n new
+waits_on owes q n k new same answers tied =
+    waits_with owes owes q n k new same (answers ∙ tied.answers)
     (subst (AllByRecursion IsApart) (sym answers) tied.apart) tied
 
 -- what becomes of orders joins the answers
-outcomes_wait : (common : ℕ) (owes : List AsduAnswer) (q : Option Interrogation) (n : ℕ) (k : Client)
-    (xs : List Outcome) → AllByRecursion IsOperating xs → LineIs common owes q n k
-    → LineIs common (owes ++ told_outcomes xs) q n (client_told_all xs k)
-outcomes_wait common owes q n k xs operating tied =
+outcomes_wait : (owes : List AsduAnswer) (q : Option Interrogation) (n : ℕ) (k : Client)
+    (xs : List Outcome) → AllByRecursion IsOperating xs → LineIs owes q n k
+    → LineIs (owes ++ told_outcomes xs) q n (client_told_all xs k)
+outcomes_wait owes q n k xs operating tied =
     let same = same_beside xs k in
     let answers : (client_told_all xs k).answers ≡ k.answers ++ told_outcomes xs = answers_told xs k in
-    waits_with common owes (owes ++ told_outcomes xs) q n k (client_told_all xs k)
+    waits_with owes (owes ++ told_outcomes xs) q n k (client_told_all xs k)
     (record { rest = same.rest; older = same.older; queue = same.queue })
     (answers ∙ ap (λ (waiting : List AsduAnswer). waiting ++ told_outcomes xs) tied.answers)
     (subst (AllByRecursion IsApart) (sym answers)
@@ -164,7 +165,7 @@ outcomes_wait common owes q n k xs operating tied =
 -- news come
 news_wait : (setup : Setup) (brought : Brought) (hs : List Turn) (k : Client) → InSession setup hs k
     → LineTied setup (Some hs) k
-    → LineIs setup.station.common_address (owed setup hs) (interrogation setup hs)
+    → LineIs (owed setup hs) (interrogation setup hs)
     (length (fates setup.station (Idle brought ∷ hs))) (client_with_news brought.news k)
 news_wait setup brought hs k news tied =
     let xs : List Observation = brought.news in
@@ -189,7 +190,7 @@ came : (setup : Setup) (brought : Brought) (s : Option (List Turn)) (k new : Cli
 came setup brought None k new is news tied = tt
 came setup brought (Some hs) k new is news tied =
     subst (LineTied setup (Some (Idle brought ∷ hs))) (sym is.becomes)
-    (outcomes_wait setup.station.common_address (owed setup hs) (interrogation setup hs)
+    (outcomes_wait (owed setup hs) (interrogation setup hs)
     (length (fates setup.station (Idle brought ∷ hs))) (client_with_news brought.news k) brought.outcomes is.operating
     (news_wait setup brought hs k news tied))
 
@@ -207,7 +208,7 @@ signal_taken setup taking moment StartAct None k news tied = record {
   older = λ is. rw news.stopped refl;
 }
 signal_taken setup taking moment StartAct (Some hs) k news tied =
-    waits_on _ _ _ _ k (client_with_signal moment StartAct k)
+    waits_on _ _ _ k (client_with_signal moment StartAct k)
     (record { rest = rw news.started refl; older = rw news.started refl; queue = rw news.started refl })
     (rw news.started refl) tied
 signal_taken setup taking moment StopAct s k news tied = tt
@@ -216,16 +217,16 @@ signal_taken setup taking moment TestCon None k news tied = tt
 signal_taken setup taking moment StartCon None k news tied = tt
 signal_taken setup taking moment StopCon None k news tied = tt
 signal_taken setup taking moment TestAct (Some hs) k news tied =
-    waits_on _ _ _ _ k (client_with_signal moment TestAct k)
+    waits_on _ _ _ k (client_with_signal moment TestAct k)
     (record { rest = refl; older = refl; queue = refl }) refl tied
 signal_taken setup taking moment TestCon (Some hs) k news tied =
-    waits_on _ _ _ _ k (client_with_signal moment TestCon k)
+    waits_on _ _ _ k (client_with_signal moment TestCon k)
     (record { rest = refl; older = refl; queue = refl }) refl tied
 signal_taken setup taking moment StartCon (Some hs) k news tied =
-    waits_on _ _ _ _ k (client_with_signal moment StartCon k)
+    waits_on _ _ _ k (client_with_signal moment StartCon k)
     (record { rest = refl; older = refl; queue = refl }) refl tied
 signal_taken setup taking moment StopCon (Some hs) k news tied =
-    waits_on _ _ _ _ k (client_with_signal moment StopCon k)
+    waits_on _ _ _ k (client_with_signal moment StopCon k)
     (record { rest = refl; older = refl; queue = refl }) refl tied
 
 -- ---- an ASDU is taken
@@ -235,9 +236,9 @@ and_false : (b : Bool) → b && false ≡ false
 and_false true = refl
 and_false false = refl
 
-refused_apart : (pending : Bool) (command : Command)
-    → AllByRecursion IsApart (option_to_list (refused_act pending command))
-refused_apart pending command = elim (cases_Bool (is_accepted_act pending command))
+refused_apart : (setup : Setup) (pending : Bool) (command : Command)
+    → AllByRecursion IsApart (option_to_list (refused_act setup pending command))
+refused_apart setup pending command = elim (cases_Bool (is_accepted_act pending command))
     [ inl is ↦ rw is tt | inr isnt ↦ rw isnt (and_false _, tt) ]
 
 shown_apart : (x : Option Observation) (originator : ℕ)
@@ -247,10 +248,11 @@ shown_apart (Some x) originator = (refl, tt)
 
 action_apart : (setup : Setup) (picture : List Observation) (pending : Bool) (command : Command) (action : Action)
     → AllByRecursion IsApart (option_to_list (answered_action setup picture pending command action))
-action_apart setup picture pending command (actions.Interrogation qualifier) = refused_apart pending command
-action_apart setup picture pending command (actions.CounterInterrogation qualifier) = refused_apart pending command
+action_apart setup picture pending command (actions.Interrogation qualifier) = refused_apart setup pending command
+action_apart setup picture pending command (actions.CounterInterrogation qualifier) =
+    refused_apart setup pending command
 action_apart setup picture pending command actions.Read =
-    shown_apart (shown_at setup picture command.address) command.originator
+    shown_apart (shown_at setup picture (object_for command)) command.originator
 action_apart setup picture pending command (actions.Single x) = tt
 action_apart setup picture pending command (actions.Double x) = tt
 action_apart setup picture pending command (actions.Setpoint x) = tt
@@ -280,17 +282,17 @@ answered_waits said (events.Command command) k = (refl, refl, refl)
 answered_waits said (events.Closed why) k = (refl, refl, refl)
 
 -- the rest of an answer, and the mark of the queue, where this is the interrogation
-record Asks (common : ℕ) (q : Option Interrogation) (n : ℕ) (queue : List Observation) (rest : List OwnAsdu)
+record Asks (q : Option Interrogation) (n : ℕ) (queue : List Observation) (rest : List OwnAsdu)
     (mark : ℕ) : Type 0 where
   is : rest ≡ left_of q
   asked : AllByRecursion IsOfInterrogation rest
-  said : IfSome q (λ i. i.said ++ map (as_told common) rest ≡ answer_told common i)
+  said : IfSome q (λ i. i.said ++ rest ≡ answer_told i)
   since : since_of q ≤ n
   older : is_asked rest ≡ true → mark ≡ since_of q - (n - length queue)
 
-as_before : (common : ℕ) (owes : List AsduAnswer) (q : Option Interrogation) (n : ℕ) (k : Client)
-    → LineIs common owes q n k → Asks common q n k.queue k.rest k.older
-as_before common owes q n k tied = record {
+as_before : (owes : List AsduAnswer) (q : Option Interrogation) (n : ℕ) (k : Client)
+    → LineIs owes q n k → Asks q n k.queue k.rest k.older
+as_before owes q n k tied = record {
   is = tied.rest;
   asked = tied.asked;
   said = tied.said;
@@ -298,23 +300,24 @@ as_before common owes q n k tied = record {
   older = tied.older;
 }
 
-asks : (common : ℕ) (picture : List Observation) (owes : List AsduAnswer) (q : Option Interrogation)
+asks : (setup : Setup) (picture : List Observation) (owes : List AsduAnswer) (q : Option Interrogation)
     (n : ℕ) (k : Client)
-    (j : Judged) → length k.queue ≤ n → LineIs common owes q n k
-    → Asks common (begun n picture j q) n k.queue (rest_with picture j (is_asking j k) k)
+    (j : Judged) → length k.queue ≤ n → LineIs owes q n k
+    → Asks (begun setup n picture j q) n k.queue (rest_with setup picture j (is_asking j k) k)
     (older_with j (is_asking j k) k)
-asks common picture owes q n k judgements.Malformed few tied = as_before common owes q n k tied
-asks common picture owes q n k (judgements.Refuse cause execute) few tied = as_before common owes q n k tied
-asks common picture owes q n k (judgements.Accepted command) few tied =
+asks setup picture owes q n k judgements.Malformed few tied = as_before owes q n k tied
+asks setup picture owes q n k (judgements.Refuse cause execute) few tied = as_before owes q n k tied
+asks setup picture owes q n k (judgements.Accepted command) few tied =
     elim (cases_Bool (is_accepted_act (is_asked k.rest) command)) [
-      | inl accepted ↦ rw (pending_told common owes q n k tied, accepted) (record {
+      | inl accepted ↦ rw (pending_told owes q n k tied, accepted) (record {
         is = refl;
-        asked = answer_is command picture (accepted_is (is_asked k.rest) command accepted);
+        asked = answer_is (asked_addresses setup command.common_address) command picture
+            (accepted_is (is_asked k.rest) command accepted);
         said = refl;
         since = omega arith;
         older = λ is. omega (arith, few);
       })
-      | inr refused ↦ rw (pending_told common owes q n k tied, refused) (as_before common owes q n k tied)
+      | inr refused ↦ rw (pending_told owes q n k tied, refused) (as_before owes q n k tied)
     ]
 
 asdu_taken : (setup : Setup) (taking : Taking) (moment ns nr : ℕ) (asdu : AsduOctets) (hs : List Turn) (k : Client)
@@ -324,15 +327,14 @@ asdu_taken : (setup : Setup) (taking : Taking) (moment ns nr : ℕ) (asdu : Asdu
     (client_taking setup taking.picture moment (I ns nr asdu) k))
 asdu_taken setup taking moment ns nr asdu hs k news tied =
     let picture : List Observation = taking.picture in
-    let common : ℕ = setup.station.common_address in
     let j : Judged = judged_asdu setup asdu in
     let between : Client = client_taking setup picture moment (I ns nr asdu) k in
     let event : Event = event_taking (command_by j) in
     let q : Option Interrogation = interrogation setup hs in
     let n : ℕ = length (fates setup.station hs) in
     let few : length k.queue ≤ n = omega (arith, settled_is setup hs k news) in
-    let is : Asks common (begun n picture j q) n k.queue between.rest between.older =
-    asks common picture (owed setup hs) q n k j few tied in
+    let is : Asks (begun setup n picture j q) n k.queue between.rest between.older =
+    asks setup picture (owed setup hs) q n k j few tied in
     let waits = answered_waits taking.said event between in
     let answers : (client_answered taking.said event between).answers ≡ k.answers
     ++ answers_to setup taking (is_asked k.rest) asdu j =
@@ -341,7 +343,7 @@ asdu_taken setup taking moment ns nr asdu hs k news tied =
       answers = answers ∙ (ap (λ (xs : List AsduAnswer). xs ++ answers_to setup taking (is_asked k.rest) asdu j)
           tied.answers
           ∙ ap (λ (b : Bool). owed setup hs ++ answers_to setup taking b asdu j)
-          (sym (pending_told common (owed setup hs) q n k tied)));
+          (sym (pending_told (owed setup hs) q n k tied)));
       apart = subst (AllByRecursion IsApart) (sym answers)
           (all_joined k.answers (answers_to setup taking (is_asked k.rest) asdu j) tied.apart
           (all_joined (option_to_list (answered setup picture (is_asked k.rest) asdu j))
@@ -349,8 +351,8 @@ asdu_taken setup taking moment ns nr asdu hs k news tied =
           (command_apart taking.said j)));
       rest = waits.0 ∙ is.is;
       asked = subst (AllByRecursion IsOfInterrogation) (sym waits.0) is.asked;
-      said = subst (λ (rest : List OwnAsdu). IfSome (begun n picture j q)
-          (λ i. i.said ++ map (as_told common) rest ≡ answer_told common i)) (sym waits.0) is.said;
+      said = subst (λ (rest : List OwnAsdu). IfSome (begun setup n picture j q)
+          (λ i. i.said ++ rest ≡ answer_told i)) (sym waits.0) is.said;
       since = is.since;
       older = λ asked. omega (arith, waits.1, is.older (ap is_asked (sym waits.0) ∙ asked), ap length waits.2);
     }
@@ -364,7 +366,7 @@ took setup (I ns nr asdu) taking moment (Some hs) k opens news tied =
     asdu_taken setup taking moment ns nr asdu hs k news tied
 took setup (S nr) taking moment None k opens news tied = tt
 took setup (S nr) taking moment (Some hs) k opens news tied =
-    waits_on _ _ _ _ k (client_taking setup taking.picture moment (S nr) k)
+    waits_on _ _ _ k (client_taking setup taking.picture moment (S nr) k)
     (record { rest = refl; older = refl; queue = refl }) refl tied
 took setup (U signal) taking moment s k opens news tied = signal_taken setup taking moment signal s k news tied
 
@@ -407,40 +409,39 @@ answer_first k answer e = go k.answers e
     go (a ∷ answers) e = (answers, ap (λ (x : AsduAnswer). x ∷ answers) (answer_is_first a answer e))
 
 -- so many parts more were said
-record More (common n : ℕ) (k : Client) (q next : Option Interrogation) : Type 0 where
+record More (n : ℕ) (k : Client) (q next : Option Interrogation) : Type 0 where
   rest : drop n k.rest ≡ left_of next
-  said : IfSome next (λ i. i.said ++ map (as_told common) (drop n k.rest) ≡ answer_told common i)
+  said : IfSome next (λ i. i.said ++ drop n k.rest ≡ answer_told i)
   since : since_of next ≡ since_of q
 
-told_more : (common n : ℕ) (k : Client) (q : Option Interrogation) (meant : Meant) → n ≤ length k.rest
-    → parts_in meant ≡ map (as_told common) (take n k.rest) → k.rest ≡ left_of q
-    → IfSome q (λ i. i.said ++ map (as_told common) k.rest ≡ answer_told common i)
-    → More common n k q (option_map (interrogation_telling meant) q)
-told_more common n k None meant few told left said =
+told_more : (n : ℕ) (k : Client) (q : Option Interrogation) (meant : Meant) → n ≤ length k.rest
+    → parts_in meant ≡ take n k.rest → k.rest ≡ left_of q
+    → IfSome q (λ i. i.said ++ k.rest ≡ answer_told i)
+    → More n k q (option_map (interrogation_telling meant) q)
+told_more n k None meant few told left said =
     record { rest = ap (drop n) left ∙ drop_none n; said = tt; since = refl }
-told_more common n k (Some q) meant few told left said =
+told_more n k (Some q) meant few told left said =
     let more : length (q.said ++ parts_in meant) ≡ length q.said + n =
     omega (
       arith,
       length-append q.said (parts_in meant),
       ap length told,
-      length-map (take n k.rest) (as_told common),
       length-take-le n k.rest few,
     ) in
     record {
-      rest = left_more (length q.said) n k.rest (answer_to q.command q.rows) left
-          ∙ ap (λ (m : ℕ). drop m (answer_to q.command q.rows)) (sym more);
-      said = rw told (said_more common n q.said k.rest ∙ said);
+      rest = left_more (length q.said) n k.rest (answer_told q) left
+          ∙ ap (λ (m : ℕ). drop m (answer_told q)) (sym more);
+      said = rw told (said_more n q.said k.rest ∙ said);
       since = refl;
     }
 
 -- an answer, or older news: nothing was put out of an interrogation
-same_asked : (common : ℕ) (owes : List AsduAnswer) (q : Option Interrogation) (n m : ℕ) (meant : Meant) (k : Client)
-    → parts_in meant ≡ [] → n ≡ m → LineIs common owes q n k
-    → LineIs common owes (option_map (interrogation_telling meant) q) m k
-same_asked common owes q n m meant k none same tied =
-    subst (λ (x : Option Interrogation). LineIs common owes x m k) (sym (told_nothing meant q none))
-    (subst (λ (i : ℕ). LineIs common owes q i k) same tied)
+same_asked : (owes : List AsduAnswer) (q : Option Interrogation) (n m : ℕ) (meant : Meant) (k : Client)
+    → parts_in meant ≡ [] → n ≡ m → LineIs owes q n k
+    → LineIs owes (option_map (interrogation_telling meant) q) m k
+same_asked owes q n m meant k none same tied =
+    subst (λ (x : Option Interrogation). LineIs owes x m k) (sym (told_nothing meant q none))
+    (subst (λ (i : ℕ). LineIs owes q i k) same tied)
 
 -- what is asked still was asked before
 asked_before : (n : ℕ) (rest : List OwnAsdu) → is_asked (drop n rest) ≡ true → is_asked rest ≡ true
@@ -449,31 +450,30 @@ asked_before (suc n) [] e = absurd (true≢false (sym e))
 asked_before (suc n) (part ∷ rest) e = refl
 
 gave : (setup : Setup) (moment : ℕ) (x : Sending) (s : Option (List Turn)) (k : Client)
-    → setup.station.common_address < 65536 → IsOffered k x → CanSend setup.station.offset_minutes x
+    → IsOffered k x → CanSend setup.station.offset_minutes x
     → AllByRecursion (CanSend setup.station.offset_minutes) (line_in k)
     → NewsTied setup s k → LineTied setup s k → LineTied setup (session_with (PutsOut (says setup k x)) s)
     (client_with_sent setup.station.offset_minutes moment x k)
-gave setup moment x None k small is can all news tied = tt
-gave setup moment (sendings.Confirm signal) (Some hs) k small is can all news tied =
-    waits_on _ _ _ _ k (client_with_sent setup.station.offset_minutes moment (sendings.Confirm signal) k)
+gave setup moment x None k is can all news tied = tt
+gave setup moment (sendings.Confirm signal) (Some hs) k is can all news tied =
+    waits_on _ _ _ k (client_with_sent setup.station.offset_minutes moment (sendings.Confirm signal) k)
     (record { rest = refl; older = refl; queue = refl }) refl tied
-gave setup moment sendings.Test (Some hs) k small is can all news tied =
-    waits_on _ _ _ _ k (client_with_sent setup.station.offset_minutes moment sendings.Test k)
+gave setup moment sendings.Test (Some hs) k is can all news tied =
+    waits_on _ _ _ k (client_with_sent setup.station.offset_minutes moment sendings.Test k)
     (record { rest = refl; older = refl; queue = refl }) refl tied
-gave setup moment sendings.SFormat (Some hs) k small is can all news tied =
-    waits_on _ _ _ _ k (client_with_sent setup.station.offset_minutes moment sendings.SFormat k)
+gave setup moment sendings.SFormat (Some hs) k is can all news tied =
+    waits_on _ _ _ k (client_with_sent setup.station.offset_minutes moment sendings.SFormat k)
     (record { rest = refl; older = refl; queue = refl }) refl tied
-gave setup moment (sendings.Answer answer) (Some hs) k small is can all news tied =
+gave setup moment (sendings.Answer answer) (Some hs) k is can all news tied =
     let offset : ℤ = setup.station.offset_minutes in
-    let common : ℕ = setup.station.common_address in
-    let meant : Meant = meaning_of offset (answer_octets offset common answer) in
-    let means : Means offset common answer meant = answer_means offset common answer small can in
+    let meant : Meant = meaning_of offset (answer_octets offset answer) in
+    let means : Means offset answer meant = answer_means offset answer can in
     let front = answer_first k answer is.first in
     let apart : IsApart answer = (subst (AllByRecursion IsApart) front.1 tied.apart).0 in
-    let none : spontaneous_of common meant ≡ [] = answer_no_news offset common answer meant can means in
-    same_asked common (drop 1 (owed setup hs)) (interrogation setup hs) (length (fates setup.station hs)) _ meant
+    let none : spontaneous_of meant ≡ [] = answer_no_news offset answer meant can means in
+    same_asked (drop 1 (owed setup hs)) (interrogation setup hs) (length (fates setup.station hs)) _ meant
     (client_with_sent setup.station.offset_minutes moment (sendings.Answer answer) k)
-    (answer_apart offset common answer meant can apart means)
+    (answer_apart offset answer meant can apart means)
     (sym (ap (λ (xs : List Observation). length (fates_with_put_out (fates setup.station hs) xs)) none))
     (record {
       answers = ap (drop 1) tied.answers;
@@ -484,17 +484,16 @@ gave setup moment (sendings.Answer answer) (Some hs) k small is can all news tie
       since = tied.since;
       older = tied.older;
     })
-gave setup moment (sendings.News x) (Some hs) k small is can all news tied =
+gave setup moment (sendings.News x) (Some hs) k is can all news tied =
     let offset : ℤ = setup.station.offset_minutes in
-    let common : ℕ = setup.station.common_address in
-    let goes = news_go offset common k x _ is.first (says_front setup (sendings.News x) k small is can all) in
+    let goes = news_go offset k x _ is.first (says_front setup (sendings.News x) k is can all) in
     let n : ℕ = together offset (line_in k) in
-    let meant : Meant = meaning_of offset (packed_octets offset common 3 0 (news_front (line_in k))) in
+    let meant : Meant = meaning_of offset (packed_octets offset 3 0 (news_front (line_in k))) in
     let none : owed setup hs ≡ [] = sym tied.answers ∙ goes.answers in
-    same_asked common (drop 1 (owed setup hs)) (interrogation setup hs) (length (fates setup.station hs)) _ meant
+    same_asked (drop 1 (owed setup hs)) (interrogation setup hs) (length (fates setup.station hs)) _ meant
     (client_with_sent setup.station.offset_minutes moment (sendings.News x) k)
-    (news_apart offset common goes.first goes.others meant goes.means)
-    (sym (length-gone (fates setup.station hs) (spontaneous_of common meant)))
+    (news_apart offset goes.first goes.others meant goes.means)
+    (sym (length-gone (fates setup.station hs) (spontaneous_of meant)))
     (record {
       answers = tied.answers ∙ (none ∙ sym (ap (drop 1) none));
       apart = tied.apart;
@@ -510,22 +509,21 @@ gave setup moment (sendings.News x) (Some hs) k small is can all news tied =
         length-drop n k.queue,
       );
     })
-gave setup moment (sendings.Part part) (Some hs) k small is can all news tied =
+gave setup moment (sendings.Part part) (Some hs) k is can all news tied =
     let offset : ℤ = setup.station.offset_minutes in
-    let common : ℕ = setup.station.common_address in
     let n : ℕ = together offset (line_in k) in
-    let meant : Meant = meaning_of offset (part_octets offset common (line_in k) part) in
+    let meant : Meant = meaning_of offset (part_octets offset (line_in k) part) in
     let first = part_first k part is.first in
     let few : n ≤ length k.rest =
     omega (arith, parts_same offset k part first, parts_within offset k.rest part first.first) in
-    let told : parts_in meant ≡ map (as_told common) (take n k.rest) =
-    parts_go offset common k part meant is.first news.parts tied.asked
-    (says_front setup (sendings.Part part) k small is can all) in
+    let told : parts_in meant ≡ take n k.rest =
+    parts_go offset k part meant is.first news.parts tied.asked
+    (says_front setup (sendings.Part part) k is can all) in
     let none : owed setup hs ≡ [] = sym tied.answers ∙ first.answers in
     let size : length (fates setup.station (PutsOut (says setup k (sendings.Part part)) ∷ hs))
     ≡ length (fates setup.station hs) =
-    length-gone (fates setup.station hs) (spontaneous_of common meant) in
-    let more = told_more common n k (interrogation setup hs) meant few told tied.rest tied.said in
+    length-gone (fates setup.station hs) (spontaneous_of meant) in
+    let more = told_more n k (interrogation setup hs) meant few told tied.rest tied.said in
     record {
       answers = tied.answers ∙ (none ∙ sym (ap (drop 1) none));
       apart = tied.apart;
@@ -538,76 +536,75 @@ gave setup moment (sendings.Part part) (Some hs) k small is can all news tied =
 
 -- ---- lives
 
-line_more : (setup : Setup) → 0 < setup.station.queue → setup.station.common_address < 65536
+line_more : (setup : Setup) → 0 < setup.station.queue
     → (t : Turn) (ts : List Turn) (k new : Client) → Lives setup ts k → Becomes setup t k new
     → LineTied setup (session ts) k → LineTied setup (session (t ∷ ts)) new
-line_more setup some small (Idle brought) ts k new lives is tied =
-    came setup brought (session ts) k new is (news_tied setup some small ts k lives) tied
-line_more setup some small Ends ts k new lives is tied = tt
-line_more setup some small (Takes a taking) ts k new lives is tied =
+line_more setup some (Idle brought) ts k new lives is tied =
+    came setup brought (session ts) k new is (news_tied setup some ts k lives) tied
+line_more setup some Ends ts k new lives is tied = tt
+line_more setup some (Takes a taking) ts k new lives is tied =
     subst (LineTied setup (session (Takes a taking ∷ ts))) (sym is.becomes)
-    (took setup a taking is.moment (session ts) k is.opens (news_tied setup some small ts k lives) tied)
-line_more setup some small (PutsOut said) ts k new lives is tied =
+    (took setup a taking is.moment (session ts) k is.opens (news_tied setup some ts k lives) tied)
+line_more setup some (PutsOut said) ts k new lives is tied =
     subst (LineTied setup (session (PutsOut said ∷ ts))) (sym is.becomes)
     (subst (λ (x : ApduMeaning). LineTied setup (session (PutsOut x ∷ ts)) (client_with_sent setup.station.offset_minutes is.moment is.sending k))
     (sym is.says)
-    (gave setup is.moment is.sending (session ts) k small (offered_is is.moment k is.sending is.first) is.can is.all
-    (news_tied setup some small ts k lives) tied))
+    (gave setup is.moment is.sending (session ts) k (offered_is is.moment k is.sending is.first) is.can is.all
+    (news_tied setup some ts k lives) tied))
 
-pub line_tied : (setup : Setup) → 0 < setup.station.queue → setup.station.common_address < 65536
+pub line_tied : (setup : Setup) → 0 < setup.station.queue
     → (ts : List Turn) (k : Client) → Lives setup ts k → LineTied setup (session ts) k
-line_tied setup some small = lives_all setup (λ ts k. LineTied setup (session ts) k) (λ k is. tt)
-    (line_more setup some small)
+line_tied setup some = lives_all setup (λ ts k. LineTied setup (session ts) k) (λ k is. tt)
+    (line_more setup some)
 
 -- ---- the laws
 
 -- what is put out in an I format is the front of the line
 says_first : (setup : Setup) (x : Sending) (s : Option (List Turn)) (k : Client)
-    → setup.station.common_address < 65536 → IsOffered k x → CanSend setup.station.offset_minutes x
+    → IsOffered k x → CanSend setup.station.offset_minutes x
     → AllByRecursion (CanSend setup.station.offset_minutes) (line_in k)
     → NewsTied setup s k → LineTied setup s k → SaysFirst setup (line setup (turns_in s)) (says setup k x)
-says_first setup x (Some hs) k small is can all news tied =
+says_first setup x (Some hs) k is can all news tied =
     subst (λ (l : List Sending). SaysFirst setup l (says setup k x)) (line_is setup hs k news tied)
-    (says_front setup x k small is can all)
-says_first setup (sendings.Confirm signal) None k small is can all news tied = tt
-says_first setup sendings.Test None k small is can all news tied = tt
-says_first setup sendings.SFormat None k small is can all news tied = tt
-says_first setup (sendings.Answer answer) None k small is can all news tied =
+    (says_front setup x k is can all)
+says_first setup (sendings.Confirm signal) None k is can all news tied = tt
+says_first setup sendings.Test None k is can all news tied = tt
+says_first setup sendings.SFormat None k is can all news tied = tt
+says_first setup (sendings.Answer answer) None k is can all news tied =
     absurd (true≢false (sym is.in_session ∙ news.stopped))
-says_first setup (sendings.News x) None k small is can all news tied =
+says_first setup (sendings.News x) None k is can all news tied =
     absurd (true≢false (sym is.in_session ∙ news.stopped))
-says_first setup (sendings.Part part) None k small is can all news tied =
+says_first setup (sendings.Part part) None k is can all news tied =
     absurd (true≢false (sym is.in_session ∙ news.stopped))
 
-pub keeps_line : (setup : Setup) → 0 < setup.station.queue → setup.station.common_address < 65536
+pub keeps_line : (setup : Setup) → 0 < setup.station.queue
     → (ts : List Turn) (k : Client) → Lives setup ts k → KeepsLine setup ts
-keeps_line setup some small [] k lives = tt
-keeps_line setup some small (Idle brought ∷ ts) k lives = tt
-keeps_line setup some small (Takes a taking ∷ ts) k lives = tt
-keeps_line setup some small (Ends ∷ ts) k lives = tt
-keeps_line setup some small (PutsOut said ∷ ts) k lives =
+keeps_line setup some [] k lives = tt
+keeps_line setup some (Idle brought ∷ ts) k lives = tt
+keeps_line setup some (Takes a taking ∷ ts) k lives = tt
+keeps_line setup some (Ends ∷ ts) k lives = tt
+keeps_line setup some (PutsOut said ∷ ts) k lives =
     let gave = lives.2 in
     subst (SaysFirst setup (line setup (turns_in (session ts)))) (sym gave.says)
-    (says_first setup gave.sending (session ts) lives.0 small
+    (says_first setup gave.sending (session ts) lives.0
     (offered_is gave.moment lives.0 gave.sending gave.first) gave.can gave.all
-    (news_tied setup some small ts lives.0 lives.1) (line_tied setup some small ts lives.0 lives.1))
+    (news_tied setup some ts lives.0 lives.1) (line_tied setup some ts lives.0 lives.1))
 
 answered_so : (setup : Setup) (s : Option (List Turn)) (k : Client) → LineTied setup s k
-    → IfSome (interrogation setup (turns_in s)) (IsAnsweredInOrder setup)
+    → IfSome (interrogation setup (turns_in s)) IsAnsweredInOrder
 answered_so setup None k tied = tt
 answered_so setup (Some hs) k tied = by (interrogation setup hs) (owed setup hs) (length (fates setup.station hs)) tied
   where
-    by : (q : Option Interrogation) (owes : List AsduAnswer) (n : ℕ) → LineIs setup.station.common_address owes q n k
-        → IfSome q (IsAnsweredInOrder setup)
+    by : (q : Option Interrogation) (owes : List AsduAnswer) (n : ℕ) → LineIs owes q n k
+        → IfSome q IsAnsweredInOrder
     by None owes n is = tt
     by (Some q) owes n is = record {
-      rest = map (as_told setup.station.common_address) k.rest;
+      rest = k.rest;
       in_order = is.said;
-      whole = λ over. ap (map (as_told setup.station.common_address))
-          (nothing_asked k.rest (sym (pending_told setup.station.common_address owes (Some q) n k is) ∙ over));
+      whole = λ over. nothing_asked k.rest (sym (pending_told owes (Some q) n k is) ∙ over);
     }
 
-pub answers_interrogation : (setup : Setup) → 0 < setup.station.queue → setup.station.common_address < 65536
+pub answers_interrogation : (setup : Setup) → 0 < setup.station.queue
     → (ts : List Turn) (k : Client) → Lives setup ts k → AnswersInterrogation setup ts
-answers_interrogation setup some small ts k lives = answered_so setup (session ts) k
-    (line_tied setup some small ts k lives)
+answers_interrogation setup some ts k lives = answered_so setup (session ts) k
+    (line_tied setup some ts k lives)

@@ -51,7 +51,7 @@ pub record GivesAt (setup : Setup) (moment : ℕ) (said : ApduMeaning) (k new : 
   pub sending : Sending
   pub first : offered moment k ≡ Some sending
   pub says : said ≡ said_by setup.station.offset_minutes
-      (content_of setup.station.offset_minutes setup.station.common_address k sending)
+      (content_of setup.station.offset_minutes k sending)
   pub becomes : new ≡ client_with_sent setup.station.offset_minutes moment sending k
 
 abbrev pub BecomesAt : Setup → ℕ → Turn → Client → Client → Type 0

@@ -81,7 +81,7 @@ begins_told setup (U TestCon) x k small tied = refl
 asked : (setup : Setup) (s : Option (List Turn)) (k : Client) → NewsTied setup s k → LineTied setup s k
     → is_asked k.rest ≡ is_pending (interrogation setup (turns_in s))
 asked setup None k news tied = ap is_asked news.rest
-asked setup (Some hs) k news tied = sym (pending_told _ _ (interrogation setup hs) _ k tied)
+asked setup (Some hs) k news tied = sym (pending_told _ (interrogation setup hs) _ k tied)
 
 act_told : (j : Judged) (k : Client) (pending : Bool) → is_asked k.rest ≡ pending → is_asking j k ≡ is_act pending j
 act_told (judgements.Accepted command) k pending is = ap (λ (b : Bool). is_accepted_act b command) is

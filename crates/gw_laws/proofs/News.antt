@@ -2,14 +2,16 @@
 use Rattle.std.proofs.Common.{◌≡◌, ℕ, ℤ, ◌-◌, ◌<◌, ◌≤◌, Bool, true, false, List, [], ◌∷◌, ◌++◌, map, length, take, drop, Option, Some, None, refl, sym, ap, subst, ◌∙◌, arith, inl, inr}
 use Rattle.std.specs.Prelude.{◌⊎◌, ◌==◌, ◌||◌, is_some, IfSome, IsTrue}
 use Rattle.std.specs.List.{AllByRecursion}
-use Rattle.std.proofs.lemmas.Bool.{cases_Bool, eq-eqb, true≢false}
+use Rattle.std.proofs.lemmas.Bool.{true≢false}
 use Rattle.std.proofs.lemmas.List.{append-nil, length-drop, take-append-drop}
 use Rattle.circular_buffer.specs.Buffer.{keep_last}
 use Rattle.gw_model.specs.declared.observation.Observation.{Observation}
 use Rattle.gw_model.specs.Fit.{IsFit}
 use Rattle.gw_entries.specs.Setup.{StationSetup}
 use Rattle.gw_map.specs.Settings.{Setup}
+use Rattle.iec_asdu.specs.Fitting.{AreAlike}
 use Rattle.iec_asdu.specs.Packing.{taken_of}
+use Rattle.iec_asdu.proofs.Carried.{taken_fits}
 use Rattle.iec_apci.specs.declared.apdu.Apdu.{Apdu}
 use Rattle.iec_apci.specs.declared.apdu.Apdu.TheVariants.{I, S, U}
 use Rattle.iec_apci.specs.declared.apdu.Signal.{Signal}
@@ -24,8 +26,8 @@ use Rattle.gw_answers.specs.declared.outgoing.AsduAnswer.{AsduAnswer}
 use Rattle.gw_answers.specs.declared.outgoing.AsduAnswer.TheVariants.{Returned, Made}
 use Rattle.gw_answers.specs.declared.outgoing.OwnAsdu.{OwnAsdu}
 use Rattle.gw_answers.specs.declared.outgoing.OwnAsdu.TheVariants as outgoing
-use Rattle.gw_answers.specs.Interrogations.{is_asked_by, cause_for, rows_of}
-use Rattle.gw_answers.specs.Outgoing.{command_with}
+use Rattle.gw_answers.specs.Interrogations.{asked_addresses, cause_for, rows_under, answer_with, answer_under, answer_to}
+use Rattle.gw_answers.specs.Outgoing.{command_with, under}
 use Rattle.gw_answers.specs.Octets.{answer_octets, octets_in, packed_octets}
 use Rattle.gw_answers.specs.Meaning.{Meant, Tells, Commands, Unread, meaning_of, asdu_of, packed_asdu, IsSendable, Means, CanSendAnswer}
 use Rattle.gw_answers.proofs.Meant.{answer_means, refused_with}
@@ -39,7 +41,7 @@ use Rattle.gw_station.specs.Answers.{rest_with, is_asking}
 use Rattle.gw_station.specs.Frames.{close_of, judged_asdu, client_taking, client_with_signal, command_in, event_taking}
 use Rattle.gw_station.specs.Pump.{line, news_front, rows_front, together, client_with_sent}
 use Rattle.gw_station.specs.Sound.{CanSend}
-use Rattle.gw_station.proofs.All.{all-take, all-drop, all-given}
+use Rattle.gw_station.proofs.All.{all-append, all-take, all-drop, all-given}
 use Rattle.gw_station.proofs.Front.{news_sendable, rows_sendable}
 use Rattle.gw_station.proofs.Line.{line_so}
 use Rattle.gw_steps.specs.Controls.{client_told_all}
@@ -91,29 +93,35 @@ NewsTied setup (Some hs) k = InSession setup hs k
 -- observations of the station
 informs : (station : StationSetup) (cause originator : ℕ) (x : Observation)
     → IsTrue (cause == 3 || cause == 5 || cause == 20 || cause == 37) → IsFit station.offset_minutes x
-    → IsOfStation station (Tells (asdu_of station.offset_minutes station.common_address cause originator x))
-informs station cause originator x is fit = inl (record { cause = is; common = refl; fit = (fit, tt) })
+    → IsOfStation station (Tells (asdu_of station.offset_minutes cause originator x))
+informs station cause originator x is fit = inl (record { cause = is; common = (refl, tt); fit = (fit, tt) })
 
 all_fit : (offset : ℤ) (xs : List Observation) → AllByRecursion (IsSendable offset) xs
     → AllByRecursion (IsFit offset) xs
 all_fit offset [] all = tt
 all_fit offset (x ∷ xs) all = (all.0.fit, all_fit offset xs all.1)
 
+-- an ASDU carries observations of one common address
+one_common : (offset : ℤ) (x : Observation) (xs : List Observation) → AreAlike offset x xs
+    → AllByRecursion (λ y. y.common ≡ x.common) xs
+one_common offset x [] alike = tt
+one_common offset x (y ∷ xs) alike = (alike.0.1, one_common offset x xs alike.1)
+
 pack_informs : (station : StationSetup) (cause originator : ℕ) (x : Observation) (xs : List Observation)
     → IsTrue (cause == 3 || cause == 5 || cause == 20 || cause == 37)
     → AllByRecursion (IsSendable station.offset_minutes) (x ∷ xs)
-    → IsOfStation station (Tells (packed_asdu station.offset_minutes station.common_address cause originator x xs))
+    → IsOfStation station (Tells (packed_asdu station.offset_minutes cause originator x xs))
 pack_informs station cause originator x xs is all =
     let n : ℕ = taken_of station.offset_minutes (x ∷ xs) in
     inl (record {
       cause = is;
-      common = refl;
+      common = one_common station.offset_minutes x (take n (x ∷ xs)) (taken_fits station.offset_minutes x xs).alike;
       fit = all_fit station.offset_minutes (take n (x ∷ xs))
           (all-take (IsSendable station.offset_minutes) n (x ∷ xs) all);
     })
 
 answer_of_station : (station : StationSetup) (answer : AsduAnswer) (meant : Meant)
-    → CanSendAnswer station.offset_minutes answer → Means station.offset_minutes station.common_address answer meant
+    → CanSendAnswer station.offset_minutes answer → Means station.offset_minutes answer meant
     → IsOfStation station meant
 answer_of_station station (Returned asdu cause) (Tells told) can means =
     inr (cause, can.1, can.2, refused_with station.offset_minutes cause (octets_in asdu) (Tells told) can.0 means)
@@ -122,7 +130,7 @@ answer_of_station station (Returned asdu cause) (Commands c) can means =
 answer_of_station station (Returned asdu cause) (Unread octets) can means =
     (cause, can.1, can.2, refused_with station.offset_minutes cause (octets_in asdu) (Unread octets) can.0 means)
 answer_of_station station (Made (outgoing.Command c)) meant can means =
-    subst (IsOfStation station) (sym means) (inl (can.0, refl))
+    subst (IsOfStation station) (sym means) (inl can.0)
 answer_of_station station (Made (outgoing.Observation cause originator x)) meant can means =
     subst (IsOfStation station) (sym means) (informs station cause originator x (rw can.0 refl) can.1.fit)
 
@@ -136,7 +144,7 @@ IsRequestedFirst (sendings.Part part ∷ line) = IsRequested part
 IsRequestedFirst _ = Unit {0}
 
 front_of_station : (station : StationSetup) (l : List Sending) (meant : Meant)
-    → MeansFront station.offset_minutes station.common_address l meant
+    → MeansFront station.offset_minutes l meant
     → AllByRecursion (CanSend station.offset_minutes) l → IsRequestedFirst l → IsOfStation station meant
 front_of_station station [] meant means all is = absurd means
 front_of_station station (sendings.Answer answer ∷ l) meant means all is =
@@ -145,7 +153,7 @@ front_of_station station (sendings.News x ∷ l) meant means all is =
     subst (IsOfStation station) (sym means)
     (pack_informs station 3 0 x (news_front l) refl (all.0, news_sendable station.offset_minutes l all.1))
 front_of_station station (sendings.Part (outgoing.Command c) ∷ l) meant means all is =
-    subst (IsOfStation station) (sym means) (inl (all.0.0, refl))
+    subst (IsOfStation station) (sym means) (inl all.0.0)
 front_of_station station (sendings.Part (outgoing.Observation cause originator x) ∷ l) meant means all is =
     subst (IsOfStation station) (sym means)
     (pack_informs station cause originator x (rows_front cause originator l) (asked is)
@@ -158,18 +166,16 @@ front_of_station station (sendings.Confirm signal ∷ l) meant means all is = ab
 front_of_station station (sendings.Test ∷ l) meant means all is = absurd means
 front_of_station station (sendings.SFormat ∷ l) meant means all is = absurd means
 
-own_news : (offset : ℤ) (common : ℕ) (x : Observation) (xs : List Observation)
-    → spontaneous_of common (Tells (packed_asdu offset common 3 0 x xs)) ≡ take (taken_of offset (x ∷ xs)) (x ∷ xs)
-own_news offset common x xs = rw (eq-eqb common common refl) refl
+own_news : (offset : ℤ) (x : Observation) (xs : List Observation)
+    → spontaneous_of (Tells (packed_asdu offset 3 0 x xs)) ≡ take (taken_of offset (x ∷ xs)) (x ∷ xs)
+own_news offset x xs = refl
 
 -- ---- parts of an answer
 
-rows_requested : (action : Action) (xs : List Observation) → AllByRecursion IsRequested (rows_of action xs)
+rows_requested : (action : Action) (xs : List Observation)
+    → AllByRecursion IsRequested (map (outgoing.Observation (cause_for action) 0) xs)
 rows_requested action [] = tt
-rows_requested action (x ∷ xs) = elim (cases_Bool (is_asked_by action x)) [
-  | inl is ↦ rw is (cause_is action, rows_requested action xs)
-  | inr isnt ↦ rw isnt (rows_requested action xs)
-]
+rows_requested action (x ∷ xs) = (cause_is action, rows_requested action xs)
   where
     cause_is : (action : Action) → (cause_for action ≡ 20) ⊎ (cause_for action ≡ 37)
     cause_is (actions.Single c) = inl refl
@@ -184,13 +190,25 @@ and_termination : (parts : List OwnAsdu) (c : Command) → AllByRecursion IsRequ
 and_termination [] c all = (tt, tt)
 and_termination (part ∷ parts) c all = (all.0, and_termination parts c all.1)
 
-parts_with : (picture : List Observation) (j : Judged) (asks : Bool) (k : Client) → AllByRecursion IsRequested k.rest
-    → AllByRecursion IsRequested (rest_with picture j asks k)
-parts_with picture (judgements.Accepted c) true k all =
-    (tt, and_termination (rows_of c.action picture) c (rows_requested c.action picture))
-parts_with picture (judgements.Accepted c) false k all = all
-parts_with picture judgements.Malformed asks k all = all
-parts_with picture (judgements.Refuse cause execute) asks k all = all
+answer_requested : (c : Command) (xs : List Observation) → AllByRecursion IsRequested (answer_with c xs)
+answer_requested c xs =
+    (tt, and_termination (map (outgoing.Observation (cause_for c.action) 0) xs) c (rows_requested c.action xs))
+
+-- under each address that is asked
+all_requested : (asked : List ℕ) (c : Command) (picture : List Observation)
+    → AllByRecursion IsRequested (answer_to asked c picture)
+all_requested [] c picture = tt
+all_requested (common ∷ asked) c picture =
+    all-append IsRequested (answer_under c picture common) (answer_to asked c picture)
+    (answer_requested (under common c) (rows_under c.action picture common)) (all_requested asked c picture)
+
+parts_with : (setup : Setup) (picture : List Observation) (j : Judged) (asks : Bool) (k : Client)
+    → AllByRecursion IsRequested k.rest → AllByRecursion IsRequested (rest_with setup picture j asks k)
+parts_with setup picture (judgements.Accepted c) true k all =
+    all_requested (asked_addresses setup c.common_address) c picture
+parts_with setup picture (judgements.Accepted c) false k all = all
+parts_with setup picture judgements.Malformed asks k all = all
+parts_with setup picture (judgements.Refuse cause execute) asks k all = all
 
 -- ---- one turn more
 
@@ -348,7 +366,8 @@ took setup (I ns nr asdu) taking moment (Some hs) k opens tied =
     let same = answered_alike taking.said (event_taking (command_in setup (I ns nr asdu))) between in
     still setup hs (Takes (I ns nr asdu) taking ∷ hs) k _ refl refl
     (record { stage = same.0.stage; limit = same.0.limit; queue = same.0.queue; dropped = same.0.dropped })
-    (subst (AllByRecursion IsRequested) (sym same.1) (parts_with taking.picture j (is_asking j k) k tied.parts)) tied
+    (subst (AllByRecursion IsRequested) (sym same.1) (parts_with setup taking.picture j (is_asking j k) k tied.parts))
+    tied
 took setup (S nr) taking moment None k opens tied = no_session k _ refl refl refl refl refl tied
 took setup (S nr) taking moment (Some hs) k opens tied =
     still setup hs (Takes (S nr) taking ∷ hs) k _ refl refl
@@ -357,7 +376,7 @@ took setup (U signal) taking moment s k opens tied = signal_taken setup taking m
 
 -- something is put out that is no news
 put_still : (setup : Setup) (said : ApduMeaning) (hs : List Turn) (k new : Client)
-    → spontaneous_in setup.station.common_address said ≡ [] → Alike k new
+    → spontaneous_in said ≡ [] → Alike k new
     → AllByRecursion IsRequested new.rest → InSession setup hs k → InSession setup (PutsOut said ∷ hs) new
 put_still setup said hs k new none alike parts tied =
     still setup hs (PutsOut said ∷ hs) k new (ap (λ (xs : List Observation). fates_with_put_out
@@ -373,21 +392,20 @@ rest_left n k all = all-drop IsRequested n k.rest all
 -- the octets of the ASDU that carries them
 abbrev news_octets : Setup → Client → List ℕ
 news_octets setup k =
-    packed_octets setup.station.offset_minutes setup.station.common_address 3 0 (news_front (line k))
+    packed_octets setup.station.offset_minutes 3 0 (news_front (line k))
 
 news_went : (setup : Setup) (moment : ℕ) (x : Observation) (hs : List Turn) (k : Client)
-    → NewsGo setup.station.offset_minutes setup.station.common_address k
+    → NewsGo setup.station.offset_minutes k
     (meaning_of setup.station.offset_minutes (news_octets setup k)) → InSession setup hs k
     → InSession setup (PutsOut (says setup k (sendings.News x)) ∷ hs)
     (client_with_sent setup.station.offset_minutes moment (sendings.News x) k)
 news_went setup moment x hs k goes tied =
     let offset : ℤ = setup.station.offset_minutes in
-    let common : ℕ = setup.station.common_address in
     let n : ℕ = together offset (line k) in
     let xs : List Observation = take n k.queue in
     let left : List Observation = drop n k.queue in
-    let puts : spontaneous_of common (meaning_of offset (news_octets setup k)) ≡ xs =
-    ap (spontaneous_of common) goes.means ∙ (own_news offset common goes.first goes.others ∙ goes.told) in
+    let puts : spontaneous_of (meaning_of offset (news_octets setup k)) ≡ xs =
+    ap spontaneous_of goes.means ∙ (own_news offset goes.first goes.others ∙ goes.told) in
     record {
       started = tied.started;
       settled = tied.settled ++ map put xs;
@@ -404,47 +422,45 @@ news_went setup moment x hs k goes tied =
     }
 
 gave : (setup : Setup) (moment : ℕ) (x : Sending) (s : Option (List Turn)) (k : Client)
-    → setup.station.common_address < 65536 → IsOffered k x → CanSend setup.station.offset_minutes x
+    → IsOffered k x → CanSend setup.station.offset_minutes x
     → AllByRecursion (CanSend setup.station.offset_minutes) (line k)
     → NewsTied setup s k → NewsTied setup (session_with (PutsOut (says setup k x)) s)
     (client_with_sent setup.station.offset_minutes moment x k)
-gave setup moment (sendings.Confirm signal) None k small is can all tied =
+gave setup moment (sendings.Confirm signal) None k is can all tied =
     no_session k _ refl refl refl refl refl tied
-gave setup moment sendings.Test None k small is can all tied = no_session k _ refl refl refl refl refl tied
-gave setup moment sendings.SFormat None k small is can all tied = no_session k _ refl refl refl refl refl tied
-gave setup moment (sendings.Answer answer) None k small is can all tied =
+gave setup moment sendings.Test None k is can all tied = no_session k _ refl refl refl refl refl tied
+gave setup moment sendings.SFormat None k is can all tied = no_session k _ refl refl refl refl refl tied
+gave setup moment (sendings.Answer answer) None k is can all tied =
     absurd (true≢false (sym is.in_session ∙ tied.stopped))
-gave setup moment (sendings.Part part) None k small is can all tied =
+gave setup moment (sendings.Part part) None k is can all tied =
     absurd (true≢false (sym is.in_session ∙ tied.stopped))
-gave setup moment (sendings.News x) None k small is can all tied =
+gave setup moment (sendings.News x) None k is can all tied =
     absurd (true≢false (sym is.in_session ∙ tied.stopped))
-gave setup moment (sendings.Confirm signal) (Some hs) k small is can all tied =
+gave setup moment (sendings.Confirm signal) (Some hs) k is can all tied =
     put_still setup (says setup k (sendings.Confirm signal)) hs k _ refl
     (record { stage = refl; limit = refl; queue = refl; dropped = refl }) tied.parts tied
-gave setup moment sendings.Test (Some hs) k small is can all tied =
+gave setup moment sendings.Test (Some hs) k is can all tied =
     put_still setup (says setup k sendings.Test) hs k _ refl
     (record { stage = refl; limit = refl; queue = refl; dropped = refl }) tied.parts tied
-gave setup moment sendings.SFormat (Some hs) k small is can all tied =
+gave setup moment sendings.SFormat (Some hs) k is can all tied =
     put_still setup (says setup k sendings.SFormat) hs k _ refl
     (record { stage = refl; limit = refl; queue = refl; dropped = refl }) tied.parts tied
-gave setup moment (sendings.Answer answer) (Some hs) k small is can all tied =
+gave setup moment (sendings.Answer answer) (Some hs) k is can all tied =
     let offset : ℤ = setup.station.offset_minutes in
-    let common : ℕ = setup.station.common_address in
-    let meant : Meant = meaning_of offset (answer_octets offset common answer) in
+    let meant : Meant = meaning_of offset (answer_octets offset answer) in
     put_still setup (says setup k (sendings.Answer answer)) hs k _
-    (answer_no_news offset common answer meant can (answer_means offset common answer small can))
+    (answer_no_news offset answer meant can (answer_means offset answer can))
     (record { stage = refl; limit = refl; queue = refl; dropped = refl }) tied.parts tied
-gave setup moment (sendings.Part part) (Some hs) k small is can all tied =
+gave setup moment (sendings.Part part) (Some hs) k is can all tied =
     let offset : ℤ = setup.station.offset_minutes in
-    let common : ℕ = setup.station.common_address in
     put_still setup (says setup k (sendings.Part part)) hs k _
-    (parts_no_news offset common k part _ is.first tied.parts (says_front setup (sendings.Part part) k small is can all))
+    (parts_no_news offset k part _ is.first tied.parts (says_front setup (sendings.Part part) k is can all))
     (record { stage = refl; limit = refl; queue = refl; dropped = refl })
     (rest_left (together offset (line k)) k tied.parts) tied
-gave setup moment (sendings.News x) (Some hs) k small is can all tied =
+gave setup moment (sendings.News x) (Some hs) k is can all tied =
     news_went setup moment x hs k
-    (news_go setup.station.offset_minutes setup.station.common_address k x _ is.first
-    (says_front setup (sendings.News x) k small is can all)) tied
+    (news_go setup.station.offset_minutes k x _ is.first
+    (says_front setup (sendings.News x) k is can all)) tied
 
 news_first_tied : (setup : Setup) (k : Client) → IsFresh setup k → NewsTied setup None k
 news_first_tied setup k is = record {
@@ -455,26 +471,26 @@ news_first_tied setup k is = record {
   rest = is.rest;
 }
 
-pub news_more : (setup : Setup) → 0 < setup.station.queue → setup.station.common_address < 65536
+pub news_more : (setup : Setup) → 0 < setup.station.queue
     → (t : Turn) (ts : List Turn) (k new : Client) → Lives setup ts k → Becomes setup t k new
     → NewsTied setup (session ts) k → NewsTied setup (session (t ∷ ts)) new
-news_more setup some small (Idle brought) ts k new lives is tied =
+news_more setup some (Idle brought) ts k new lives is tied =
     outcomes_came setup brought (session ts) k new some (counts_tied setup ts k lives).limit is tied
-news_more setup some small Ends ts k new lives is tied =
+news_more setup some Ends ts k new lives is tied =
     subst NoSession (sym is) (record { stopped = refl; queue = refl; dropped = refl; answers = refl; rest = refl })
-news_more setup some small (Takes a taking) ts k new lives is tied =
+news_more setup some (Takes a taking) ts k new lives is tied =
     subst (NewsTied setup (session (Takes a taking ∷ ts))) (sym is.becomes)
     (took setup a taking is.moment (session ts) k is.opens tied)
-news_more setup some small (PutsOut said) ts k new lives is tied =
+news_more setup some (PutsOut said) ts k new lives is tied =
     subst (NewsTied setup (session (PutsOut said ∷ ts))) (sym is.becomes)
     (subst (λ (x : ApduMeaning). NewsTied setup (session (PutsOut x ∷ ts)) (client_with_sent setup.station.offset_minutes is.moment is.sending k))
     (sym is.says)
-    (gave setup is.moment is.sending (session ts) k small (offered_is is.moment k is.sending is.first) is.can is.all tied))
+    (gave setup is.moment is.sending (session ts) k (offered_is is.moment k is.sending is.first) is.can is.all tied))
 
-pub news_tied : (setup : Setup) → 0 < setup.station.queue → setup.station.common_address < 65536
+pub news_tied : (setup : Setup) → 0 < setup.station.queue
     → (ts : List Turn) (k : Client) → Lives setup ts k → NewsTied setup (session ts) k
-news_tied setup some small = lives_all setup (λ ts k. NewsTied setup (session ts) k) (news_first_tied setup)
-    (news_more setup some small)
+news_tied setup some = lives_all setup (λ ts k. NewsTied setup (session ts) k) (news_first_tied setup)
+    (news_more setup some)
 
 -- ---- the law
 
@@ -511,65 +527,62 @@ requested_first setup k all = first (line k)
 -- an I format is offered in a session alone
 says_in_session : (setup : Setup) (s : Option (List Turn)) (k : Client) (meant : Meant)
     → is_started k.stage ≡ true → NewsTied setup s k
-    → MeansFront setup.station.offset_minutes setup.station.common_address (line k) meant
+    → MeansFront setup.station.offset_minutes (line k) meant
     → AllByRecursion (CanSend setup.station.offset_minutes) (line k)
     → (is_some s ≡ true) × IsOfStation setup.station meant
 says_in_session setup None k meant started tied means all = absurd (true≢false (sym started ∙ tied.stopped))
 says_in_session setup (Some hs) k meant started tied means all =
     (refl, front_of_station setup.station (line k) meant means all (requested_first setup k tied.parts))
 
-says_of_station : (setup : Setup) (x : Sending) (ts : List Turn) (k : Client) → setup.station.common_address < 65536
+says_of_station : (setup : Setup) (x : Sending) (ts : List Turn) (k : Client)
     → IsOffered k x → CanSend setup.station.offset_minutes x
     → AllByRecursion (CanSend setup.station.offset_minutes) (line k)
     → NewsTied setup (session ts) k → Speaks setup.station (PutsOut (says setup k x) ∷ ts)
-says_of_station setup (sendings.Confirm signal) ts k small is can all tied = tt
-says_of_station setup sendings.Test ts k small is can all tied = tt
-says_of_station setup sendings.SFormat ts k small is can all tied = tt
-says_of_station setup (sendings.Answer answer) ts k small is can all tied =
+says_of_station setup (sendings.Confirm signal) ts k is can all tied = tt
+says_of_station setup sendings.Test ts k is can all tied = tt
+says_of_station setup sendings.SFormat ts k is can all tied = tt
+says_of_station setup (sendings.Answer answer) ts k is can all tied =
     says_in_session setup (session ts) k _ is.in_session tied
-    (says_front setup (sendings.Answer answer) k small is can all) all
-says_of_station setup (sendings.Part part) ts k small is can all tied =
+    (says_front setup (sendings.Answer answer) k is can all) all
+says_of_station setup (sendings.Part part) ts k is can all tied =
     says_in_session setup (session ts) k _ is.in_session tied
-    (says_front setup (sendings.Part part) k small is can all) all
-says_of_station setup (sendings.News x) ts k small is can all tied =
+    (says_front setup (sendings.Part part) k is can all) all
+says_of_station setup (sendings.News x) ts k is can all tied =
     says_in_session setup (session ts) k _ is.in_session tied
-    (says_front setup (sendings.News x) k small is can all) all
+    (says_front setup (sendings.News x) k is can all) all
 
-speaks : (setup : Setup) → 0 < setup.station.queue → setup.station.common_address < 65536
+speaks : (setup : Setup) → 0 < setup.station.queue
     → (ts : List Turn) (k : Client) → Lives setup ts k → Speaks setup.station ts
-speaks setup some small [] k lives = tt
-speaks setup some small (Idle brought ∷ ts) k lives = tt
-speaks setup some small (Takes a taking ∷ ts) k lives = tt
-speaks setup some small (Ends ∷ ts) k lives = tt
-speaks setup some small (PutsOut said ∷ ts) k lives =
+speaks setup some [] k lives = tt
+speaks setup some (Idle brought ∷ ts) k lives = tt
+speaks setup some (Takes a taking ∷ ts) k lives = tt
+speaks setup some (Ends ∷ ts) k lives = tt
+speaks setup some (PutsOut said ∷ ts) k lives =
     let gave = lives.2 in
     subst (λ (x : ApduMeaning). Speaks setup.station (PutsOut x ∷ ts)) (sym gave.says)
-    (says_of_station setup gave.sending ts lives.0 small
+    (says_of_station setup gave.sending ts lives.0
     (offered_is gave.moment lives.0 gave.sending gave.first) gave.can gave.all
-    (news_tied setup some small ts lives.0 lives.1))
+    (news_tied setup some ts lives.0 lives.1))
 
 pub tells_news : (setup : Setup) (past : List Entry) → Place setup past → News setup past
 tells_news setup past place = record {
   picture = place.known.tied.picture;
   sessions = λ c. begun c (client_at setup c past) (place.known.lives c);
   queues = λ c. news c (client_at setup c past) (place.known.lives c);
-  speaks = of_each setup (Speaks setup.station) (speaks setup some small) past place;
+  speaks = of_each setup (Speaks setup.station) (speaks setup some) past place;
 }
   where
     some : 0 < setup.station.queue
     some = place.given.settings.queue
 
-    small : setup.station.common_address < 65536
-    small = place.given.settings.station
-
     begun : (c : ℕ) (x : Option Client) → SlotLives setup c (life setup c past) x
         → IfSome x (λ k. is_started k.stage ≡ is_some (session (life setup c past)))
     begun c None lives = tt
     begun c (Some k) lives = stands setup (session (life setup c past)) k
-        (news_tied setup some small (life setup c past) k lives)
+        (news_tied setup some (life setup c past) k lives)
 
     news : (c : ℕ) (x : Option Client) → SlotLives setup c (life setup c past) x
         → IfSome x (TellsNews setup.station (turns_in (session (life setup c past))))
     news c None lives = tt
     news c (Some k) lives = tells setup (session (life setup c past)) k
-        (news_tied setup some small (life setup c past) k lives)
+        (news_tied setup some (life setup c past) k lives)

@@ -172,7 +172,7 @@ took setup ts (U signal) taking moment k opens tied =
 
 abbrev pub says : Setup → Client → Sending → ApduMeaning
 says setup k s = said_by setup.station.offset_minutes
-    (content_of setup.station.offset_minutes setup.station.common_address k s)
+    (content_of setup.station.offset_minutes k s)
 
 gave : (setup : Setup) (ts : List Turn) (moment : ℕ) (s : Sending) (k : Client) → IsOffered k s → CountsTied setup ts k
     → CountsTied setup (PutsOut (says setup k s) ∷ ts) (client_with_sent setup.station.offset_minutes moment s k)

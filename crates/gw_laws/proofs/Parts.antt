@@ -1,9 +1,10 @@
 -- What is put out of the answer to an interrogation, and what isn't.
-use Rattle.std.proofs.Common.{◌≡◌, ℕ, ℤ, ◌+◌, ◌%◌, ◌≤◌, Bool, true, false, eqb, List, [], ◌∷◌, ◌++◌, map, drop, Option, Some, None, refl, sym, ap, ◌∙◌, append_assoc, arith, inl, inr, take}
-use Rattle.std.specs.Prelude.{◌&&◌, ◌||◌, not, option_map, ◌⊎◌}
-use Rattle.std.specs.List.{AllByRecursion, list_any}
-use Rattle.std.proofs.lemmas.Bool.{cases_Bool, ne_eqb}
-use Rattle.std.proofs.lemmas.List.{append-nil, map-append, take-append-drop, drop-drop}
+use Rattle.std.proofs.Common.{◌≡◌, ℕ, ℤ, ◌+◌, ◌%◌, ◌<◌, ◌≤◌, Bool, true, false, eqb, List, [], ◌∷◌, ◌++◌, length, map, drop, Option, Some, None, refl, sym, ap, subst, ◌∙◌, append_assoc, length-append, arith, inl, inr, take}
+use Rattle.std.specs.Prelude.{◌&&◌, ◌||◌, not, nat_lt, filter, option_map, ◌⊎◌}
+use Rattle.std.specs.List.{AllByRecursion}
+use Rattle.std.proofs.lemmas.Bool.{lt-ltb, le-ltb, ne_eqb}
+use Rattle.std.proofs.lemmas.List.{append-nil, take-append-drop, drop-drop}
+use Rattle.std.proofs.lemmas.List.Elements.{filter-append}
 use Rattle.gw_model.specs.declared.observation.Observation.{Observation}
 use Rattle.iec_command.specs.declared.command.Command.{Command}
 use Rattle.iec_command.specs.declared.command.Action.{Action}
@@ -12,13 +13,14 @@ use Rattle.gw_answers.specs.declared.outgoing.AsduAnswer.{AsduAnswer}
 use Rattle.gw_answers.specs.declared.outgoing.AsduAnswer.TheVariants.{Returned, Made}
 use Rattle.gw_answers.specs.declared.outgoing.OwnAsdu.{OwnAsdu}
 use Rattle.gw_answers.specs.declared.outgoing.OwnAsdu.TheVariants as outgoing
-use Rattle.gw_answers.specs.Interrogations.{is_asked_by, is_general, is_accepted_act, rows_of, answer_to}
-use Rattle.gw_answers.specs.Outgoing.{command_with, at_station}
+use Rattle.gw_answers.specs.Interrogations.{is_general, is_accepted_act, cause_for, rows_under, answer_with, answer_under, answer_to}
+use Rattle.gw_answers.specs.Outgoing.{command_with, under}
 use Rattle.gw_answers.specs.Octets.{octets_in}
 use Rattle.gw_answers.specs.Meaning.{Meant, Tells, Commands, Unread, asdu_of, packed_asdu, Means, CanSendAnswer}
 use Rattle.gw_answers.proofs.Meant.{refused_with}
 use Rattle.gw_station.specs.Answers.{is_pending as is_asked}
-use Rattle.gw_laws.specs.Interrogations.{Interrogation, is_interrogation, parts_of_command, parts_in, is_termination, is_pending, as_told, answer_told, interrogation_telling}
+use Rattle.gw_station.proofs.All.{all-append}
+use Rattle.gw_laws.specs.Interrogations.{Interrogation, is_interrogation, parts_of_command, parts_in, is_termination, is_pending, answer_told, interrogation_telling}
 use Rattle.gw_laws.specs.Fates.{spontaneous_of}
 
 -- ---- kinds of answers and parts
@@ -46,27 +48,27 @@ IsOfInterrogation (outgoing.Observation cause originator x) = Unit {0}
 not_spontaneous : (cause octet : ℕ) → octet % 64 ≡ cause → 44 ≤ cause → eqb octet 3 ≡ false
 not_spontaneous cause octet e from = ne_eqb octet 3 (λ (is : octet ≡ 3). omega (arith, e, from, is))
 
-pub answer_no_news : (offset : ℤ) (common : ℕ) (answer : AsduAnswer) (meant : Meant) → CanSendAnswer offset answer
-    → Means offset common answer meant → spontaneous_of common meant ≡ []
-answer_no_news offset common (Returned asdu cause) (Tells told) can means =
+pub answer_no_news : (offset : ℤ) (answer : AsduAnswer) (meant : Meant) → CanSendAnswer offset answer
+    → Means offset answer meant → spontaneous_of meant ≡ []
+answer_no_news offset (Returned asdu cause) (Tells told) can means =
     let refused = refused_with offset cause (octets_in asdu) (Tells told) can.0 means in
     rw (not_spontaneous cause told.cause refused.0 can.1) refl
-answer_no_news offset common (Returned asdu cause) (Commands c) can means = refl
-answer_no_news offset common (Returned asdu cause) (Unread octets) can means = refl
-answer_no_news offset common (Made (outgoing.Command c)) meant can means = ap (spontaneous_of common) means
-answer_no_news offset common (Made (outgoing.Observation cause originator x)) meant can means =
-    ap (spontaneous_of common) means
-    ∙ ap (λ (n : ℕ). spontaneous_of common (Tells (asdu_of offset common n originator x))) can.0
+answer_no_news offset (Returned asdu cause) (Commands c) can means = refl
+answer_no_news offset (Returned asdu cause) (Unread octets) can means = refl
+answer_no_news offset (Made (outgoing.Command c)) meant can means = ap spontaneous_of means
+answer_no_news offset (Made (outgoing.Observation cause originator x)) meant can means =
+    ap spontaneous_of means
+    ∙ ap (λ (n : ℕ). spontaneous_of (Tells (asdu_of offset n originator x))) can.0
 
-pub part_no_news : (offset : ℤ) (common : ℕ) (part : OwnAsdu) (meant : Meant) → IsRequested part
-    → Means offset common (Made part) meant → spontaneous_of common meant ≡ []
-part_no_news offset common (outgoing.Command c) meant is means = ap (spontaneous_of common) means
-part_no_news offset common (outgoing.Observation cause originator x) meant (inl is) means =
-    ap (spontaneous_of common) means
-    ∙ ap (λ (n : ℕ). spontaneous_of common (Tells (asdu_of offset common n originator x))) is
-part_no_news offset common (outgoing.Observation cause originator x) meant (inr is) means =
-    ap (spontaneous_of common) means
-    ∙ ap (λ (n : ℕ). spontaneous_of common (Tells (asdu_of offset common n originator x))) is
+pub part_no_news : (offset : ℤ) (part : OwnAsdu) (meant : Meant) → IsRequested part
+    → Means offset (Made part) meant → spontaneous_of meant ≡ []
+part_no_news offset (outgoing.Command c) meant is means = ap spontaneous_of means
+part_no_news offset (outgoing.Observation cause originator x) meant (inl is) means =
+    ap spontaneous_of means
+    ∙ ap (λ (n : ℕ). spontaneous_of (Tells (asdu_of offset n originator x))) is
+part_no_news offset (outgoing.Observation cause originator x) meant (inr is) means =
+    ap spontaneous_of means
+    ∙ ap (λ (n : ℕ). spontaneous_of (Tells (asdu_of offset n originator x))) is
 
 -- ---- what isn't of it
 
@@ -90,22 +92,22 @@ neither cause octet e from =
           37 (λ (is : octet ≡ 37). omega (arith, e, from, is)),
     ) refl
 
-pub answer_apart : (offset : ℤ) (common : ℕ) (answer : AsduAnswer) (meant : Meant) → CanSendAnswer offset answer
-    → IsApart answer → Means offset common answer meant → parts_in meant ≡ []
-answer_apart offset common (Returned asdu cause) (Tells told) can is means =
+pub answer_apart : (offset : ℤ) (answer : AsduAnswer) (meant : Meant) → CanSendAnswer offset answer
+    → IsApart answer → Means offset answer meant → parts_in meant ≡ []
+answer_apart offset (Returned asdu cause) (Tells told) can is means =
     let refused = refused_with offset cause (octets_in asdu) (Tells told) can.0 means in
     rw (neither cause told.cause refused.0 can.1) refl
-answer_apart offset common (Returned asdu cause) (Commands c) can is means =
+answer_apart offset (Returned asdu cause) (Commands c) can is means =
     negative_apart c (refused_with offset cause (octets_in asdu) (Commands c) can.0 means).1
-answer_apart offset common (Returned asdu cause) (Unread octets) can is means = refl
-answer_apart offset common (Made (outgoing.Command c)) meant can is means =
-    ap parts_in means ∙ no_parts (at_station common c) is
-answer_apart offset common (Made (outgoing.Observation cause originator x)) meant can is means =
-    ap parts_in means ∙ ap (λ (n : ℕ). parts_in (Tells (asdu_of offset common n originator x))) is
+answer_apart offset (Returned asdu cause) (Unread octets) can is means = refl
+answer_apart offset (Made (outgoing.Command c)) meant can is means =
+    ap parts_in means ∙ no_parts c is
+answer_apart offset (Made (outgoing.Observation cause originator x)) meant can is means =
+    ap parts_in means ∙ ap (λ (n : ℕ). parts_in (Tells (asdu_of offset n originator x))) is
 
-pub news_apart : (offset : ℤ) (common : ℕ) (x : Observation) (xs : List Observation) (meant : Meant)
-    → meant ≡ Tells (packed_asdu offset common 3 0 x xs) → parts_in meant ≡ []
-news_apart offset common x xs meant means = ap parts_in means
+pub news_apart : (offset : ℤ) (x : Observation) (xs : List Observation) (meant : Meant)
+    → meant ≡ Tells (packed_asdu offset 3 0 x xs) → parts_in meant ≡ []
+news_apart offset x xs meant means = ap parts_in means
 
 -- nothing of it was put out
 pub told_nothing : (meant : Meant) (q : Option Interrogation) → parts_in meant ≡ []
@@ -116,13 +118,13 @@ told_nothing meant (Some q) none = ap (λ (parts : List OwnAsdu). Some (record q
 
 -- ---- what is of it
 
-pub part_told : (offset : ℤ) (common : ℕ) (part : OwnAsdu) (meant : Meant) → IsOfInterrogation part → IsRequested part
-    → Means offset common (Made part) meant
-    → parts_in meant ≡ as_told common part ∷ []
-part_told offset common (outgoing.Command c) meant is requested means = ap parts_in means ∙ rw is refl
-part_told offset common (outgoing.Observation cause originator x) meant is (inl asked) means =
+pub part_told : (offset : ℤ) (part : OwnAsdu) (meant : Meant) → IsOfInterrogation part → IsRequested part
+    → Means offset (Made part) meant
+    → parts_in meant ≡ part ∷ []
+part_told offset (outgoing.Command c) meant is requested means = ap parts_in means ∙ rw is refl
+part_told offset (outgoing.Observation cause originator x) meant is (inl asked) means =
     ap parts_in means ∙ rw asked refl
-part_told offset common (outgoing.Observation cause originator x) meant is (inr asked) means =
+part_told offset (outgoing.Observation cause originator x) meant is (inr asked) means =
     ap parts_in means ∙ rw asked refl
 
 -- ---- an act that is accepted
@@ -143,92 +145,119 @@ accepted_is pending c e = general c.action (middle (eqb c.cause 6) (is_general c
     general (actions.CounterInterrogation qualifier) e = refl
     general actions.Read e = absurd cc
 
-rows_are : (action : Action) (xs : List Observation) (rest : List OwnAsdu) → AllByRecursion IsOfInterrogation rest
-    → AllByRecursion IsOfInterrogation (rows_of action xs ++ rest)
-rows_are action [] rest all = all
-rows_are action (x ∷ xs) rest all = elim (cases_Bool (is_asked_by action x)) [
-  | inl is ↦ rw is (tt, rows_are action xs rest all)
-  | inr isnt ↦ rw isnt (rows_are action xs rest all)
-]
+rows_are : (cause originator : ℕ) (xs : List Observation) (rest : List OwnAsdu)
+    → AllByRecursion IsOfInterrogation rest
+    → AllByRecursion IsOfInterrogation (map (outgoing.Observation cause originator) xs ++ rest)
+rows_are cause originator [] rest all = all
+rows_are cause originator (x ∷ xs) rest all = (tt, rows_are cause originator xs rest all)
 
-pub answer_is : (c : Command) (picture : List Observation) → is_interrogation c.action ≡ true
-    → AllByRecursion IsOfInterrogation (answer_to c picture)
-answer_is c picture e = (rw e refl, rows_are c.action picture (command_with 10 false c ∷ []) (rw e refl, tt))
+answer_with_is : (c : Command) (xs : List Observation) → is_interrogation c.action ≡ true
+    → AllByRecursion IsOfInterrogation (answer_with c xs)
+answer_with_is c xs e =
+    (rw e refl, rows_are (cause_for c.action) 0 xs (command_with 10 false c ∷ []) (rw e refl, tt))
 
--- ---- the termination is the last
+-- so is each part of the answer to one, under each address
+pub answer_is : (asked : List ℕ) (c : Command) (picture : List Observation) → is_interrogation c.action ≡ true
+    → AllByRecursion IsOfInterrogation (answer_to asked c picture)
+answer_is [] c picture e = tt
+answer_is (common ∷ asked) c picture e =
+    all-append IsOfInterrogation (answer_under c picture common) (answer_to asked c picture)
+    (answer_with_is (under common c) (rows_under c.action picture common) e) (answer_is asked c picture e)
 
-rows_go_on : (common : ℕ) (action : Action) (xs : List Observation)
-    → list_any is_termination (map (as_told common) (rows_of action xs)) ≡ false
-rows_go_on common action [] = refl
-rows_go_on common action (x ∷ xs) = elim (cases_Bool (is_asked_by action x)) [
-  | inl is ↦ rw is (rows_go_on common action xs)
-  | inr isnt ↦ rw isnt (rows_go_on common action xs)
-]
+-- ---- terminations
 
--- of parts that end with the only termination, something is left exactly while it wasn't said
-last_said : (xs said rest : List OwnAsdu) (t : OwnAsdu) → list_any is_termination xs ≡ false → is_termination t ≡ true
-    → said ++ rest ≡ xs ++ t ∷ []
-    → not (list_any is_termination said) ≡ is_asked rest
-last_said [] [] [] t none is e = absurd cc
-last_said (x ∷ xs) [] [] t none is e = absurd cc
-last_said xs [] (r ∷ rest) t none is e = refl
-last_said [] (s ∷ said) rest t none is e =
-    let same : s ≡ t = ap (first t) e in
-    let others : said ++ rest ≡ [] = ap (drop 1) e in
-    rw (same, is) (nothing_left said rest others)
-  where
-    first : OwnAsdu → List OwnAsdu → OwnAsdu
-    first d [] = d
-    first d (p ∷ ps) = p
+-- how many are among parts
+abbrev pub terminations : List OwnAsdu → ℕ
+terminations parts = length (filter is_termination parts)
 
-    nothing_left : (said rest : List OwnAsdu) → said ++ rest ≡ [] → false ≡ is_asked rest
-    nothing_left [] [] e = refl
-    nothing_left [] (r ∷ rest) e = absurd cc
-    nothing_left (s ∷ said) rest e = absurd cc
-last_said (x ∷ xs) (s ∷ said) rest t none is e =
-    let same : s ≡ x = ap (first t) e in
-    let others : said ++ rest ≡ xs ++ t ∷ [] = ap (drop 1) e in
-    let parts = neither_of (is_termination x) (list_any is_termination xs) none in
-    rw (same, parts.0) (last_said xs said rest t parts.1 is others)
-  where
-    first : OwnAsdu → List OwnAsdu → OwnAsdu
-    first d [] = d
-    first d (p ∷ ps) = p
+terminations-append : (xs ys : List OwnAsdu) → terminations (xs ++ ys) ≡ terminations xs + terminations ys
+terminations-append xs ys =
+    ap length (filter-append is_termination xs ys)
+    ∙ length-append (filter is_termination xs) (filter is_termination ys)
 
-    neither_of : (a b : Bool) → a || b ≡ false → (a ≡ false) × (b ≡ false)
-    neither_of true b e = absurd cc
-    neither_of false b e = (refl, e)
+rows_go_on : (cause originator : ℕ) (xs : List Observation) (more : List OwnAsdu)
+    → terminations (map (outgoing.Observation cause originator) xs ++ more) ≡ terminations more
+rows_go_on cause originator [] more = refl
+rows_go_on cause originator (x ∷ xs) more = rows_go_on cause originator xs more
 
-map-end : (f : OwnAsdu → OwnAsdu) (xs : List OwnAsdu) (t : OwnAsdu) → map f (xs ++ t ∷ []) ≡ map f xs ++ f t ∷ []
-map-end f [] t = refl
-map-end f (x ∷ xs) t = ap (λ (ys : List OwnAsdu). f x ∷ ys) (map-end f xs t)
+-- an answer has one
+answer_ends : (c : Command) (xs : List Observation) → terminations (answer_with c xs) ≡ 1
+answer_ends c xs = rows_go_on (cause_for c.action) 0 xs (command_with 10 false c ∷ [])
 
-told_asked : (common : ℕ) (rest : List OwnAsdu) → is_asked (map (as_told common) rest) ≡ is_asked rest
-told_asked common [] = refl
-told_asked common (part ∷ rest) = refl
+-- as many as addresses are asked
+all_end : (asked : List ℕ) (c : Command) (picture : List Observation)
+    → terminations (answer_to asked c picture) ≡ length asked
+all_end [] c picture = refl
+all_end (common ∷ asked) c picture =
+    terminations-append (answer_under c picture common) (answer_to asked c picture)
+    ∙ omega (
+      arith,
+      answer_ends (under common c) (rows_under c.action picture common),
+      all_end asked c picture,
+    )
+
+-- ---- the last part is a termination
+
+-- whatever is left of parts has one, if it is something
+abbrev AreEnded : List OwnAsdu → Type 0
+AreEnded [] = Unit {0}
+AreEnded (part ∷ parts) = (0 < terminations (part ∷ parts)) × AreEnded parts
+
+-- a part more, in front of parts that have one
+one_more : (part : OwnAsdu) (parts : List OwnAsdu) → 0 < terminations parts → AreEnded parts → AreEnded (part ∷ parts)
+one_more part parts some ended =
+    (omega (arith, terminations-append (part ∷ []) parts), ended)
+
+rows_ended : (cause originator : ℕ) (xs : List Observation) (more : List OwnAsdu) → 0 < terminations more
+    → AreEnded more → AreEnded (map (outgoing.Observation cause originator) xs ++ more)
+rows_ended cause originator [] more some ended = ended
+rows_ended cause originator (x ∷ xs) more some ended =
+    let rest : List OwnAsdu = map (outgoing.Observation cause originator) xs ++ more in
+    one_more (outgoing.Observation cause originator x) rest (omega (arith, some, rows_go_on cause originator xs more))
+    (rows_ended cause originator xs more some ended)
+
+answer_ended : (c : Command) (xs : List Observation) (more : List OwnAsdu) → AreEnded more
+    → AreEnded (answer_with c xs ++ more)
+answer_ended c xs more ended =
+    let rows : List OwnAsdu = map (outgoing.Observation (cause_for c.action) 0) xs in
+    let behind : List OwnAsdu = command_with 10 false c ∷ more in
+    let some : 0 < terminations behind = omega arith in
+    let same : (rows ++ command_with 10 false c ∷ []) ++ more ≡ rows ++ behind =
+    append_assoc rows (command_with 10 false c ∷ []) more in
+    subst (λ (parts : List OwnAsdu). AreEnded (command_with 7 false c ∷ parts)) (sym same)
+    (one_more (command_with 7 false c) (rows ++ behind)
+    (omega (arith, some, rows_go_on (cause_for c.action) 0 xs behind))
+    (rows_ended (cause_for c.action) 0 xs behind some (some, ended)))
+
+all_ended : (asked : List ℕ) (c : Command) (picture : List Observation) → AreEnded (answer_to asked c picture)
+all_ended [] c picture = tt
+all_ended (common ∷ asked) c picture =
+    answer_ended (under common c) (rows_under c.action picture common) (answer_to asked c picture)
+    (all_ended asked c picture)
+
+ended_behind : (said rest : List OwnAsdu) → AreEnded (said ++ rest) → AreEnded rest
+ended_behind [] rest ended = ended
+ended_behind (part ∷ said) rest ended = ended_behind said rest ended.1
+
+-- fewer are out than addresses are asked while something is left
+pending_while : (out : ℕ) (asked : ℕ) (rest : List OwnAsdu) → out + terminations rest ≡ asked → AreEnded rest
+    → nat_lt out asked ≡ is_asked rest
+pending_while out asked [] e ended = le-ltb out asked (omega (arith, e))
+pending_while out asked (part ∷ rest) e ended = lt-ltb out asked (omega (arith, e, ended.0))
 
 -- an interrogation is pending while something is left of its answer
-pub pending_is : (common : ℕ) (q : Interrogation) (rest : List OwnAsdu)
-    → q.said ++ map (as_told common) rest ≡ answer_told common q → is_pending (Some q) ≡ is_asked rest
-pending_is common q rest e =
-    let c : Command = q.command in
-    let confirmation : OwnAsdu = as_told common (command_with 7 false c) in
-    let termination : OwnAsdu = as_told common (command_with 10 false c) in
-    let front : List OwnAsdu = confirmation ∷ map (as_told common) (rows_of c.action q.rows) in
-    let whole : answer_told common q ≡ front ++ termination ∷ [] =
-    ap (λ (parts : List OwnAsdu). confirmation ∷ parts)
-    (map-end (as_told common) (rows_of c.action q.rows) (command_with 10 false c)) in
-    last_said front q.said (map (as_told common) rest) termination (rows_go_on common c.action q.rows) refl (e ∙ whole)
-    ∙ told_asked common rest
+pub pending_is : (q : Interrogation) (rest : List OwnAsdu) → q.said ++ rest ≡ answer_told q
+    → is_pending (Some q) ≡ is_asked rest
+pending_is q rest e =
+    pending_while (terminations q.said) (length q.asked) rest
+    (sym (terminations-append q.said rest) ∙ (ap terminations e ∙ all_end q.asked q.command q.rows))
+    (ended_behind q.said rest (subst AreEnded (sym e) (all_ended q.asked q.command q.rows)))
 
 -- more parts were said
-pub said_more : (common n : ℕ) (said rest : List OwnAsdu)
-    → (said ++ map (as_told common) (take n rest)) ++ map (as_told common) (drop n rest)
-    ≡ said ++ map (as_told common) rest
-said_more common n said rest =
-    append_assoc said (map (as_told common) (take n rest)) (map (as_told common) (drop n rest))
-    ∙ ap (λ (parts : List OwnAsdu). said ++ parts) (sym (map-append (as_told common) (take n rest) (drop n rest))
-    ∙ ap (map (as_told common)) (take-append-drop n rest))
+pub said_more : (n : ℕ) (said rest : List OwnAsdu) → (said ++ take n rest) ++ drop n rest ≡ said ++ rest
+said_more n said rest =
+    append_assoc said (take n rest) (drop n rest)
+    ∙ ap (λ (parts : List OwnAsdu). said ++ parts) (take-append-drop n rest)
 
 -- what is left is what is behind as many as were said
 pub left_more : (said n : ℕ) (rest answer : List OwnAsdu) → rest ≡ drop said answer

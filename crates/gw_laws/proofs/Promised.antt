@@ -20,9 +20,9 @@ promised : (setup : Setup) (past : List Entry) → Place setup past → Promises
 promised setup past place = record {
   news = tells_news setup past place;
   interrogations = of_each setup (AnswersInterrogation setup)
-      (answers_interrogation setup place.given.settings.queue place.given.settings.station) past place;
+      (answers_interrogation setup place.given.settings.queue) past place;
   line = of_each setup (KeepsLine setup)
-      (keeps_line setup place.given.settings.queue place.given.settings.station) past place;
+      (keeps_line setup place.given.settings.queue) past place;
   mirror = mirrors setup past place;
   numbers = of_each setup (HasRightNumbers setup.station.k)
       (right_numbers setup place.given.settings.window) past place;

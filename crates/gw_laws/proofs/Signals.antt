@@ -93,7 +93,7 @@ took setup moment (U signal) taking ts k new takes tied = record {
 
 abbrev pub says : Setup → Client → Sending → ApduMeaning
 says setup k s = said_by setup.station.offset_minutes
-    (content_of setup.station.offset_minutes setup.station.common_address k s)
+    (content_of setup.station.offset_minutes k s)
 
 -- a con that is put out is one of those given
 given_more : (signal : Signal) (ts : List Turn) → IsCon signal

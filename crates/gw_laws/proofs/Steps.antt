@@ -189,14 +189,14 @@ pumped : (setup : Setup) (now : ℕ) (x : Option Connection) (k : Client) (offer
     → offered now k ≡ offer → IfSome offer (CanSend setup.station.offset_minutes)
     → IfSome x (λ y. WindowTied setup (turns y) k.window) → ClientLinked setup x k
     → ClientLinked setup (connection_with now (Some (turn_giving setup (reply_giving
-    (option_map (content_of setup.station.offset_minutes setup.station.common_address k) offer)))) x)
+    (option_map (content_of setup.station.offset_minutes k) offer)))) x)
     (client_by_offer setup.station.offset_minutes now offer k)
 pumped setup now x k None first can counted linked =
     stays_linked setup now nothing x k k
     (record { stage = refl; window = refl; confirmations = refl }) counted linked
 pumped setup now x k (Some sending) first can counted linked =
-    let content : ApduContent = content_of setup.station.offset_minutes setup.station.common_address k sending in
-    let fits = content_fits setup.station.offset_minutes setup.station.common_address k sending in
+    let content : ApduContent = content_of setup.station.offset_minutes k sending in
+    let fits = content_fits setup.station.offset_minutes k sending in
     rw (said-content setup.station.offset_minutes content fits)
     (one_more setup now (PutsOut _) x k (client_with_sent setup.station.offset_minutes now sending k)
     (λ down. ap is_up (sent_up setup.station.offset_minutes now sending k) ∙ down)
@@ -342,9 +342,9 @@ pump_own setup past c m r e before =
     let told = answered (fault_of s step) (can_be_counted s (needs setup s step)) (reply_to setup s step) r e in
     let up = who_is_up (λ (k : Client). is_up k.stage) NoClient (slice_get s.clients c) told.0 in
     let k : Client = up.0 in
-    let content : Option ApduContent = given setup.station.offset_minutes setup.station.common_address now k in
+    let content : Option ApduContent = given setup.station.offset_minutes now k in
     let reply : reply_giving content ≡ r = sym (ap (client_reply (λ (x : Client). reply_giving
-    (given setup.station.offset_minutes setup.station.common_address now x))) up.1) ∙ told.2 in
+    (given setup.station.offset_minutes now x))) up.1) ∙ told.2 in
     let mine = sound_at setup.station s.counts.steps s.counts.news s.clients c k up.1 before.known.sound.clients in
     subst (λ (x : Reply). LinksTo setup past (entry step (Ok x)) (after setup s step) c) reply
     (led setup past (entry step (Ok (reply_giving content))) (after setup s step) c now

@@ -166,11 +166,11 @@ same_due setup now x k tied =
 
 offers_due : (setup : Setup) (k : Client) (offer : Option Sending)
     → GivesDue setup (option_map owed_by offer) (reply_giving (option_map
-    (content_of setup.station.offset_minutes setup.station.common_address k) offer))
+    (content_of setup.station.offset_minutes k) offer))
 offers_due setup k None = refl
 offers_due setup k (Some s) =
-    let content : ApduContent = content_of setup.station.offset_minutes setup.station.common_address k s in
-    let fits = content_fits setup.station.offset_minutes setup.station.common_address k s in
+    let content : ApduContent = content_of setup.station.offset_minutes k s in
+    let fits = content_fits setup.station.offset_minutes k s in
     ap (option_map was_due) (said-content setup.station.offset_minutes content fits)
     ∙ ap Some (says_due setup k s)
 
@@ -185,19 +185,19 @@ ties setup ts x k fit limits same lives linked =
       limits = limits;
       waiting = waiting_is x.timed k (signals_tied setup x.began x.timed k linked.1);
       timers = timers_tied setup x.began fit.window x.timed k linked.1;
-      news = news_tied setup fit.queue fit.station (turns x) k mine;
-      line = line_tied setup fit.queue fit.station (turns x) k mine;
+      news = news_tied setup fit.queue (turns x) k mine;
+      line = line_tied setup fit.queue (turns x) k mine;
     }
 
 pumped_slot : (setup : Setup) (now : ℕ) (ts : List Turn) (x : Option Connection) (k : Client) → IsSoundSetup setup
     → k.window.limits ≡ limits_of setup.station → IfSome x (λ y. turns y ≡ ts) → Lives setup ts k
     → is_up k.stage ≡ true → ClientLinked setup x k
     → OfStanding (λ y. GivesDue setup (due setup now y) (reply_giving
-    (given setup.station.offset_minutes setup.station.common_address now k))) x
+    (given setup.station.offset_minutes now k))) x
 pumped_slot setup now ts None k fit limits same lives up linked = absurd (true≢false (sym up ∙ linked))
 pumped_slot setup now ts (Some x) k fit limits same lives up linked =
     subst (λ (d : Option Due). GivesDue setup d (reply_giving
-    (given setup.station.offset_minutes setup.station.common_address now k)))
+    (given setup.station.offset_minutes now k)))
     (sym (same_due setup now x k (ties setup ts x k fit limits same lives linked)))
     (offers_due setup k (offered now k))
 
@@ -219,13 +219,13 @@ pump setup past c m r fit e known linked =
     let now : ℕ = latest s m in
     let told = answered (fault_of s step) (can_be_counted s (needs setup s step)) (reply_to setup s step) r e in
     let up = who_is_up (λ (k : Client). is_up k.stage) NoClient (slice_get s.clients c) told.0 in
-    let reply : reply_giving (given setup.station.offset_minutes setup.station.common_address now up.0) ≡ r =
+    let reply : reply_giving (given setup.station.offset_minutes now up.0) ≡ r =
     sym (ap (client_reply (λ (x : Client). reply_giving
-    (given setup.station.offset_minutes setup.station.common_address now x))) up.1) ∙ told.2 in
+    (given setup.station.offset_minutes now x))) up.1) ∙ told.2 in
     let mine = sound_at setup.station s.counts.steps s.counts.news s.clients c up.0 up.1 known.sound.clients in
     subst (λ (x : Reply). TimesBy setup past step (Ok x)) reply
     (subst (λ (n : ℕ). OfStanding (λ y. GivesDue setup (due setup n y) (reply_giving
-    (given setup.station.offset_minutes setup.station.common_address now up.0))) (connection setup c past))
+    (given setup.station.offset_minutes now up.0))) (connection setup c past))
     (told_moment setup past s m known.tied)
     (pumped_slot setup now (life setup c past) (connection setup c past) up.0 fit mine.window.limits
     (same_turns setup c past) (subst (SlotLives setup c (life setup c past)) up.1 (known.lives c)) up.2

@@ -1,7 +1,7 @@
 -- What waits in a line, and what is meant by the first of it.
 use Rattle.std.proofs.Common.{◌≡◌, ℕ, zero, suc, ℤ, ◌+◌, ◌%◌, ◌<◌, ◌≤◌, Bool, true, false, cond, eqb, List, [], ◌∷◌, ◌++◌, map, length, take, drop, Option, refl, sym, ap, ◌∙◌, append_assoc, arith, inl, inr}
-use Rattle.std.specs.Prelude.{◌⊎◌, ◌==◌, ◌&&◌, filter, if◌then◌else◌}
-use Rattle.std.specs.List.{AllByRecursion}
+use Rattle.std.specs.Prelude.{◌⊎◌, ◌==◌, ◌&&◌, if◌then◌else◌}
+use Rattle.std.specs.List.{AllByRecursion, flat_map}
 use Rattle.std.proofs.lemmas.Bool.{cases_Bool, ne_eqb}
 use Rattle.std.proofs.lemmas.List.{take-append-le, drop-append-le}
 use Rattle.gw_model.specs.declared.observation.Observation.{Observation}
@@ -12,8 +12,8 @@ use Rattle.gw_answers.specs.declared.outgoing.AsduAnswer.{AsduAnswer}
 use Rattle.gw_answers.specs.declared.outgoing.AsduAnswer.TheVariants.{Returned, Made}
 use Rattle.gw_answers.specs.declared.outgoing.OwnAsdu.{OwnAsdu}
 use Rattle.gw_answers.specs.declared.outgoing.OwnAsdu.TheVariants as outgoing
-use Rattle.gw_answers.specs.Outgoing.{command_with}
-use Rattle.gw_answers.specs.Interrogations.{is_asked_by, cause_for, answer_to}
+use Rattle.gw_answers.specs.Outgoing.{command_with, under}
+use Rattle.gw_answers.specs.Interrogations.{cause_for, rows_under, answer_to}
 use Rattle.gw_answers.specs.Octets.{octets_in}
 use Rattle.gw_answers.specs.Meaning.{Meant, Tells, Commands, Unread, asdu_of, packed_asdu, Means, CanSendAnswer}
 use Rattle.gw_answers.proofs.Meant.{refused_with}
@@ -40,15 +40,24 @@ pub waiting_news : (xs : List Observation) → waiting_in (map sendings.News xs)
 waiting_news [] = refl
 waiting_news (x ∷ xs) = ap (λ (ys : List Observation). x ∷ ys) (waiting_news xs)
 
-waiting_rows : (cause : ℕ) (c : Command) (xs : List Observation)
-    → waiting_in (map sendings.Part (map (outgoing.Observation cause 0) xs ++ command_with 10 false c ∷ [])) ≡ xs
-waiting_rows cause c [] = refl
-waiting_rows cause c (x ∷ xs) = ap (λ (ys : List Observation). x ∷ ys) (waiting_rows cause c xs)
+waiting_rows : (cause : ℕ) (xs : List Observation) (more : List OwnAsdu)
+    → waiting_in (map sendings.Part (map (outgoing.Observation cause 0) xs ++ more))
+    ≡ xs ++ waiting_in (map sendings.Part more)
+waiting_rows cause [] more = refl
+waiting_rows cause (x ∷ xs) more = ap (λ (ys : List Observation). x ∷ ys) (waiting_rows cause xs more)
 
--- of an answer to an interrogation its rows
-pub waiting_answer : (c : Command) (picture : List Observation)
-    → waiting_in (map sendings.Part (answer_to c picture)) ≡ filter (is_asked_by c.action) picture
-waiting_answer c picture = waiting_rows (cause_for c.action) c (filter (is_asked_by c.action) picture)
+-- of an answer to an interrogation its rows under each address that is asked
+pub waiting_answer : (asked : List ℕ) (c : Command) (picture : List Observation)
+    → waiting_in (map sendings.Part (answer_to asked c picture)) ≡ flat_map (rows_under c.action picture) asked
+waiting_answer [] c picture = refl
+waiting_answer (common ∷ asked) c picture =
+    let xs : List Observation = rows_under c.action picture common in
+    let end : OwnAsdu = command_with 10 false (under common c) in
+    let more : List OwnAsdu = answer_to asked c picture in
+    ap (λ (parts : List OwnAsdu). waiting_in (map sendings.Part parts))
+    (append_assoc (map (outgoing.Observation (cause_for c.action) 0) xs) (end ∷ []) more)
+    ∙ (waiting_rows (cause_for c.action) xs (end ∷ more)
+    ∙ ap (λ (ys : List Observation). xs ++ ys) (waiting_answer asked c picture))
 
 -- the line from the answer to the interrogation on
 abbrev pub from_answer : Option Interrogation → List Element → List Sending
@@ -140,18 +149,18 @@ other_causes cause octet is low high = (
     other n few = ne_eqb octet n (λ e. omega (arith, is, low, few, ap (λ (m : ℕ). m % 64) e))
 
 -- the observations that an answer tells
-answer_tells : (offset : ℤ) (common : ℕ) (answer : AsduAnswer) (meant : Meant) → IsApart answer
-    → CanSendAnswer offset answer → Means offset common answer meant
+answer_tells : (offset : ℤ) (answer : AsduAnswer) (meant : Meant) → IsApart answer
+    → CanSendAnswer offset answer → Means offset answer meant
     → observations_in meant ≡ observations_of (sendings.Answer answer)
-answer_tells offset common (Returned asdu cause) (Tells a) plain can means =
+answer_tells offset (Returned asdu cause) (Tells a) plain can means =
     let refused = refused_with offset cause (octets_in asdu) (Tells a) can.0 means in
     let others = other_causes cause a.cause refused.0 can.1 can.2 in
     rw (others.0, others.1, others.2, others.3) refl
-answer_tells offset common (Returned asdu cause) (Commands c) plain can means = refl
-answer_tells offset common (Returned asdu cause) (Unread octets) plain can means = refl
-answer_tells offset common (Made (outgoing.Command c)) meant plain can means = ap observations_in means
-answer_tells offset common (Made (outgoing.Observation cause originator x)) meant plain can means =
-    ap observations_in means ∙ ap (λ (n : ℕ). observations_in (Tells (asdu_of offset common n originator x))) plain
+answer_tells offset (Returned asdu cause) (Commands c) plain can means = refl
+answer_tells offset (Returned asdu cause) (Unread octets) plain can means = refl
+answer_tells offset (Made (outgoing.Command c)) meant plain can means = ap observations_in means
+answer_tells offset (Made (outgoing.Observation cause originator x)) meant plain can means =
+    ap observations_in means ∙ ap (λ (n : ℕ). observations_in (Tells (asdu_of offset n originator x))) plain
 
 -- news at the front of a line wait first
 news_wait : (n : ℕ) (l : List Sending) → n ≤ length (news_front l)
@@ -197,21 +206,21 @@ with_first zero x xs l some few each = absurd (omega (arith, some))
 with_first (suc n) x xs l some few each = ap (λ (ys : List Observation). x ∷ ys) (each n (omega (arith, few)))
 
 -- what an ASDU tells waited first
-pub told_first : (offset : ℤ) (common : ℕ) (l : List Sending) (meant : Meant) → MeansFront offset common l meant
+pub told_first : (offset : ℤ) (l : List Sending) (meant : Meant) → MeansFront offset l meant
     → AllByRecursion IsPlain l → AllByRecursion (CanSend offset) l
     → waiting_in l ≡ observations_in meant ++ waiting_in (drop (together offset l) l)
-told_first offset common [] meant means plain can = absurd means
-told_first offset common (sendings.Answer answer ∷ l) meant means plain can =
-    ap (λ (xs : List Observation). xs ++ waiting_in l) (sym (answer_tells offset common answer meant plain.0 can.0 means))
-told_first offset common (sendings.News x ∷ l) meant means plain can =
+told_first offset [] meant means plain can = absurd means
+told_first offset (sendings.Answer answer ∷ l) meant means plain can =
+    ap (λ (xs : List Observation). xs ++ waiting_in l) (sym (answer_tells offset answer meant plain.0 can.0 means))
+told_first offset (sendings.News x ∷ l) meant means plain can =
     let xs : List Observation = news_front l in
     let n : ℕ = taken_of offset (x ∷ xs) in
     with_first n x xs l (taken_of_some offset (x ∷ xs) (omega arith)) (omega (arith, taken_of_within offset (x ∷ xs)))
     (λ m few. news_wait m l few)
     ∙ ap (λ (ys : List Observation). ys ++ waiting_in (drop n (sendings.News x ∷ l))) (sym (ap observations_in means))
-told_first offset common (sendings.Part (outgoing.Command command) ∷ l) meant means plain can =
+told_first offset (sendings.Part (outgoing.Command command) ∷ l) meant means plain can =
     ap (λ (xs : List Observation). xs ++ waiting_in l) (sym (ap observations_in means))
-told_first offset common (sendings.Part (outgoing.Observation cause originator x) ∷ l) meant means plain can =
+told_first offset (sendings.Part (outgoing.Observation cause originator x) ∷ l) meant means plain can =
     let xs : List Observation = rows_front cause originator l in
     let n : ℕ = taken_of offset (x ∷ xs) in
     rows_first n (taken_of_some offset (x ∷ xs) (omega arith)) (omega (arith, taken_of_within offset (x ∷ xs)))
@@ -229,13 +238,13 @@ told_first offset common (sendings.Part (outgoing.Observation cause originator x
         ap (λ (ys : List Observation). x ∷ ys) (rows_wait cause originator n l (omega (arith, few)))
 
     rows_told : (cause ≡ 20) ⊎ (cause ≡ 37)
-        → observations_in (Tells (packed_asdu offset common cause originator x front))
+        → observations_in (Tells (packed_asdu offset cause originator x front))
         ≡ take (taken_of offset (x ∷ front)) (x ∷ front)
     rows_told (inl is) = rw is refl
     rows_told (inr is) = rw is refl
-told_first offset common (sendings.Confirm signal ∷ l) meant means plain can = absurd means
-told_first offset common (sendings.Test ∷ l) meant means plain can = absurd means
-told_first offset common (sendings.SFormat ∷ l) meant means plain can = absurd means
+told_first offset (sendings.Confirm signal ∷ l) meant means plain can = absurd means
+told_first offset (sendings.Test ∷ l) meant means plain can = absurd means
+told_first offset (sendings.SFormat ∷ l) meant means plain can = absurd means
 
 -- ---- only parts are taken for parts
 
@@ -243,13 +252,13 @@ abbrev pub begins_with_part : List Sending → Bool
 begins_with_part [] = false
 begins_with_part (s ∷ l) = is_part s
 
-answer_apart : (offset : ℤ) (common : ℕ) (answer : AsduAnswer) (meant : Meant) → IsApart answer
-    → CanSendAnswer offset answer → Means offset common answer meant → parts_in meant ≡ []
-answer_apart offset common (Returned asdu cause) (Tells a) plain can means =
+answer_apart : (offset : ℤ) (answer : AsduAnswer) (meant : Meant) → IsApart answer
+    → CanSendAnswer offset answer → Means offset answer meant → parts_in meant ≡ []
+answer_apart offset (Returned asdu cause) (Tells a) plain can means =
     let refused = refused_with offset cause (octets_in asdu) (Tells a) can.0 means in
     let others = other_causes cause a.cause refused.0 can.1 can.2 in
     rw (others.2, others.3) refl
-answer_apart offset common (Returned asdu cause) (Commands c) plain can means =
+answer_apart offset (Returned asdu cause) (Commands c) plain can means =
     negative_apart c (refused_with offset cause (octets_in asdu) (Commands c) can.0 means).1
   where
     negative_apart : (c : Command) → c.negative ≡ true → parts_in (Commands c) ≡ []
@@ -257,22 +266,22 @@ answer_apart offset common (Returned asdu cause) (Commands c) plain can means =
       | inl one ↦ rw (one, is) refl
       | inr none ↦ rw none refl
     ]
-answer_apart offset common (Returned asdu cause) (Unread octets) plain can means = refl
-answer_apart offset common (Made (outgoing.Command c)) meant plain can means = ap parts_in means ∙ rw plain refl
-answer_apart offset common (Made (outgoing.Observation cause originator x)) meant plain can means =
-    ap parts_in means ∙ ap (λ (n : ℕ). parts_in (Tells (asdu_of offset common n originator x))) plain
+answer_apart offset (Returned asdu cause) (Unread octets) plain can means = refl
+answer_apart offset (Made (outgoing.Command c)) meant plain can means = ap parts_in means ∙ rw plain refl
+answer_apart offset (Made (outgoing.Observation cause originator x)) meant plain can means =
+    ap parts_in means ∙ ap (λ (n : ℕ). parts_in (Tells (asdu_of offset n originator x))) plain
 
-pub apart : (offset : ℤ) (common : ℕ) (l : List Sending) (meant : Meant) → begins_with_part l ≡ false
-    → MeansFront offset common l meant → AllByRecursion IsPlain l → AllByRecursion (CanSend offset) l
+pub apart : (offset : ℤ) (l : List Sending) (meant : Meant) → begins_with_part l ≡ false
+    → MeansFront offset l meant → AllByRecursion IsPlain l → AllByRecursion (CanSend offset) l
     → parts_in meant ≡ []
-apart offset common [] meant other means plain can = absurd means
-apart offset common (sendings.Answer answer ∷ l) meant other means plain can =
-    answer_apart offset common answer meant plain.0 can.0 means
-apart offset common (sendings.News x ∷ l) meant other means plain can = ap parts_in means
-apart offset common (sendings.Part part ∷ l) meant other means plain can = absurd cc
-apart offset common (sendings.Confirm signal ∷ l) meant other means plain can = absurd means
-apart offset common (sendings.Test ∷ l) meant other means plain can = absurd means
-apart offset common (sendings.SFormat ∷ l) meant other means plain can = absurd means
+apart offset [] meant other means plain can = absurd means
+apart offset (sendings.Answer answer ∷ l) meant other means plain can =
+    answer_apart offset answer meant plain.0 can.0 means
+apart offset (sendings.News x ∷ l) meant other means plain can = ap parts_in means
+apart offset (sendings.Part part ∷ l) meant other means plain can = absurd cc
+apart offset (sendings.Confirm signal ∷ l) meant other means plain can = absurd means
+apart offset (sendings.Test ∷ l) meant other means plain can = absurd means
+apart offset (sendings.SFormat ∷ l) meant other means plain can = absurd means
 
 -- a part is first where no answer and no older news wait
 pub part_first : (owed : List AsduAnswer) (xs : List Observation) (rest : List Sending)

@@ -1,7 +1,7 @@
 -- What is kept of an interrogation that is watched, by what the history tells of a client, and how each turn keeps it.
 use Rattle.std.proofs.Common.{◌≡◌, ℕ, ℤ, ◌≤◌, true, false, List, [], ◌∷◌, ◌++◌, map, length, take, drop, Option, Some, None, refl, sym, ap, subst, ◌∙◌, append_assoc, arith, inl, inr}
-use Rattle.std.specs.Prelude.{not, filter, option_map}
-use Rattle.std.specs.List.{AllByRecursion}
+use Rattle.std.specs.Prelude.{not, option_map}
+use Rattle.std.specs.List.{AllByRecursion, flat_map}
 use Rattle.std.proofs.lemmas.Bool.{cases_Bool}
 use Rattle.std.proofs.lemmas.List.{append-nil, map-append, take-append-drop}
 use Rattle.std.proofs.Math.Seq.{take-length, drop-length}
@@ -15,19 +15,19 @@ use Rattle.iec_command.specs.declared.command.Action.{Action}
 use Rattle.iec_command.specs.declared.command.Action.TheVariants as actions
 use Rattle.gw_answers.specs.declared.outgoing.AsduAnswer.{AsduAnswer}
 use Rattle.gw_answers.specs.declared.outgoing.OwnAsdu.{OwnAsdu}
-use Rattle.gw_answers.specs.Interrogations.{is_asked_by, rows_of, answer_to}
+use Rattle.gw_answers.specs.Interrogations.{is_asked_by, rows_under, answer_to}
 use Rattle.gw_answers.specs.Meaning.{Meant}
-use Rattle.gw_answers.specs.Outgoing.{command_with}
+use Rattle.gw_answers.specs.Outgoing.{command_with, under}
 use Rattle.gw_station.specs.declared.sending.Sending.{Sending}
 use Rattle.gw_station.specs.declared.sending.Sending.TheVariants as sendings
 use Rattle.gw_station.specs.Pump.{together}
 use Rattle.gw_station.specs.Sound.{CanSend}
 use Rattle.gw_laws.specs.Fates.{Element, is_queued, items_of, fates_with_news, fates_with_put_out}
-use Rattle.gw_laws.specs.Interrogations.{Interrogation, is_interrogation, parts_in, as_told, interrogation_telling}
+use Rattle.gw_laws.specs.Interrogations.{Interrogation, is_interrogation, parts_in, answer_told, interrogation_telling}
 use Rattle.gw_laws.specs.Line.{since_of, left_of, line_with, MeansFront}
 use Rattle.gw_laws.specs.Mirror.{observations_in, waiting_in, is_station_interrogation, told_with, NoneDropped}
 use Rattle.gw_laws.proofs.Settled.{queued, items_of-append}
-use Rattle.gw_laws.proofs.Known.{IsShown, Knows, filtered_shown, shown_last, knows_news, knows_inserted}
+use Rattle.gw_laws.proofs.Known.{IsShown, Knows, asked_shown, asked_last, knows_news, knows_inserted}
 use Rattle.gw_laws.proofs.Joined.{joins_behind, none_before, joins, came_front, gone_dropped, gone_front}
 use Rattle.gw_laws.proofs.Waits.{waiting_in-append, waiting_answer, from_answer, waiting_from, waiting_line, from_answer_joined, line_joined, IsPlain, begins_with_part, told_first, apart, part_first, from_part, from_part_of, from_part_next}
 
@@ -45,38 +45,41 @@ line_in v = line_with v.owed v.asked v.elements
 
 -- ---- what is kept
 
--- the interrogation that is pending is the watched one, and nothing was said of it
+-- the interrogation that is pending is the watched one, asks some address, and nothing was said of it
 pub record IsWatched (asked : Option Interrogation) (since : ℕ) : Type 0 where
   pub q : Interrogation
   pub is : asked ≡ Some q
+  pub first : ℕ
+  pub more : List ℕ
+  pub some : q.asked ≡ first ∷ more
   pub mark : q.since ≡ since
   pub said : q.said ≡ []
   pub kind : is_interrogation q.command.action ≡ true
 
--- before the confirmation was put out
-pub record Unheard (rows : List Row) (v : View) (since : ℕ) : Type 0 where
+-- before its first confirmation was put out, where its act asked these addresses
+pub record Unheard (rows : List Row) (addresses : List ℕ) (v : View) (since : ℕ) : Type 0 where
   pub watched : IsWatched v.asked since
-  pub knows : NoneDropped since v.elements → Knows rows v.log (waiting_in (from_answer v.asked v.elements))
+  pub knows : NoneDropped since v.elements → Knows rows addresses v.log (waiting_in (from_answer v.asked v.elements))
 
 -- from then on: of the news that came before the act none waits
-pub record Heard (rows : List Row) (v : View) (since : ℕ) (told : List Observation) : Type 0 where
+pub record Heard (rows : List Row) (addresses : List ℕ) (v : View) (since : ℕ) (told : List Observation) : Type 0 where
   pub mark : since ≤ since_of v.asked
   pub settled : items_of is_queued (take since v.elements) ≡ []
-  pub knows : NoneDropped since v.elements → Knows rows v.log (told ++ waiting_in (line_in v))
+  pub knows : NoneDropped since v.elements → Knows rows addresses v.log (told ++ waiting_in (line_in v))
 
-abbrev pub IsKept : List Row → View → ℕ → Option (List Observation) → Type 0
-IsKept rows v since None = Unheard rows v since
-IsKept rows v since (Some told) = Heard rows v since told
+abbrev pub IsKept : List Row → List ℕ → View → ℕ → Option (List Observation) → Type 0
+IsKept rows addresses v since None = Unheard rows addresses v since
+IsKept rows addresses v since (Some told) = Heard rows addresses v since told
 
 -- ---- news come
 
 abbrev pub came : ℕ → List Observation → View → View
 came limit xs v = record v { log = v.log ++ xs; elements = fates_with_news limit v.elements xs }
 
-unheard_came : (rows : List Row) (limit since : ℕ) (xs : List Observation) (v : View)
+unheard_came : (rows : List Row) (addresses : List ℕ) (limit since : ℕ) (xs : List Observation) (v : View)
     → since_of v.asked ≤ length v.elements
-    → Unheard rows v since → Unheard rows (came limit xs v) since
-unheard_came rows limit since xs v within kept =
+    → Unheard rows addresses v since → Unheard rows addresses (came limit xs v) since
+unheard_came rows addresses limit since xs v within kept =
     let es : List Element = v.elements in
     let fs : List Element = fates_with_news limit es xs in
     let mark : since_of v.asked ≡ since = ap since_of kept.watched.is ∙ kept.watched.mark in
@@ -87,16 +90,16 @@ unheard_came rows limit since xs v within kept =
           let joined : drop (since_of v.asked) fs ≡ drop (since_of v.asked) es ++ map queued xs =
           subst (λ (n : ℕ). drop n fs ≡ drop n es ++ map queued xs) (sym mark)
           (joins_behind limit since es xs few none) in
-          subst (λ (ys : List Observation). Knows rows (v.log ++ xs) ys)
+          subst (λ (ys : List Observation). Knows rows addresses (v.log ++ xs) ys)
           (sym (from_answer_joined v.asked es fs xs joined))
-          (knows_news rows v.log (waiting_in (from_answer v.asked es)) xs
+          (knows_news rows addresses v.log (waiting_in (from_answer v.asked es)) xs
           (kept.knows (none_before limit since es xs few none)));
     }
 
-heard_came : (rows : List Row) (limit since : ℕ) (told xs : List Observation) (v : View)
+heard_came : (rows : List Row) (addresses : List ℕ) (limit since : ℕ) (told xs : List Observation) (v : View)
     → since_of v.asked ≤ length v.elements
-    → Heard rows v since told → Heard rows (came limit xs v) since told
-heard_came rows limit since told xs v within kept =
+    → Heard rows addresses v since told → Heard rows addresses (came limit xs v) since told
+heard_came rows addresses limit since told xs v within kept =
     let es : List Element = v.elements in
     let fs : List Element = fates_with_news limit es xs in
     let few : since ≤ length es = omega (arith, kept.mark, within) in
@@ -110,16 +113,20 @@ heard_came rows limit since told xs v within kept =
           ∙ line_joined v.owed v.asked es xs within in
           let all : (told ++ waiting_in (line_in v)) ++ xs ≡ told ++ waiting_in (line_with v.owed v.asked fs) =
           append_assoc told (waiting_in (line_in v)) xs ∙ ap (λ (ys : List Observation). told ++ ys) (sym waits) in
-          subst (λ (ys : List Observation). Knows rows (v.log ++ xs) ys) all
-          (knows_news rows v.log (told ++ waiting_in (line_in v)) xs
+          subst (λ (ys : List Observation). Knows rows addresses (v.log ++ xs) ys) all
+          (knows_news rows addresses v.log (told ++ waiting_in (line_in v)) xs
           (kept.knows (none_before limit since es xs few none)));
     }
 
-pub kept_came : (rows : List Row) (limit since : ℕ) (told : Option (List Observation)) (xs : List Observation)
+pub kept_came : (rows : List Row) (addresses : List ℕ) (limit since : ℕ) (told : Option (List Observation))
+    (xs : List Observation)
     (v : View)
-    → since_of v.asked ≤ length v.elements → IsKept rows v since told → IsKept rows (came limit xs v) since told
-kept_came rows limit since None xs v within kept = unheard_came rows limit since xs v within kept
-kept_came rows limit since (Some told) xs v within kept = heard_came rows limit since told xs v within kept
+    → since_of v.asked ≤ length v.elements → IsKept rows addresses v since told
+    → IsKept rows addresses (came limit xs v) since told
+kept_came rows addresses limit since None xs v within kept =
+    unheard_came rows addresses limit since xs v within kept
+kept_came rows addresses limit since (Some told) xs v within kept =
+    heard_came rows addresses limit since told xs v within kept
 
 -- ---- the first of the line is put out
 
@@ -131,8 +138,8 @@ put_out meant ys v = record v {
 }
 
 -- it means the front of the line, and the others wait then
-pub record PutsFirst (offset : ℤ) (common : ℕ) (v new : View) (meant : Meant) : Type 0 where
-  pub means : MeansFront offset common (line_in v) meant
+pub record PutsFirst (offset : ℤ) (v new : View) (meant : Meant) : Type 0 where
+  pub means : MeansFront offset (line_in v) meant
   pub plain : AllByRecursion IsPlain (line_in v)
   pub can : AllByRecursion (CanSend offset) (line_in v)
   pub line : line_in new ≡ drop (together offset (line_in v)) (line_in v)
@@ -142,62 +149,74 @@ same_since : (meant : Meant) (q : Option Interrogation)
 same_since meant None = refl
 same_since meant (Some q) = refl
 
-heard_put_out : (rows : List Row) (offset : ℤ) (common since : ℕ) (told : List Observation) (meant : Meant)
-    (ys : List Observation) (v : View)
-    → PutsFirst offset common v (put_out meant ys v) meant → Heard rows v since told
-    → Heard rows (put_out meant ys v) since (told ++ observations_in meant)
-heard_put_out rows offset common since told meant ys v puts kept =
+heard_put_out : (rows : List Row) (addresses : List ℕ) (offset : ℤ) (since : ℕ) (told : List Observation)
+    (meant : Meant) (ys : List Observation) (v : View)
+    → PutsFirst offset v (put_out meant ys v) meant → Heard rows addresses v since told
+    → Heard rows addresses (put_out meant ys v) since (told ++ observations_in meant)
+heard_put_out rows addresses offset since told meant ys v puts kept =
     let new : View = put_out meant ys v in
     let rest : List Observation = waiting_in (line_in new) in
     let first : waiting_in (line_in v) ≡ observations_in meant ++ rest =
-    told_first offset common (line_in v) meant puts.means puts.plain puts.can
+    told_first offset (line_in v) meant puts.means puts.plain puts.can
     ∙ ap (λ (l : List Sending). observations_in meant ++ waiting_in l) (sym puts.line) in
     record {
       mark = omega (arith, kept.mark, same_since meant v.asked);
       settled = gone_front since v.elements ys kept.settled;
       knows = λ none.
-          subst (λ (xs : List Observation). Knows rows v.log xs)
+          subst (λ (xs : List Observation). Knows rows addresses v.log xs)
           (ap (λ (xs : List Observation). told ++ xs) first ∙ sym (append_assoc told (observations_in meant) rest))
           (kept.knows (sym (gone_dropped since v.elements ys) ∙ none));
     }
 
 -- before the confirmation the answer is whole
 watched_left : (asked : Option Interrogation) (since : ℕ) (is : IsWatched asked since)
-    → left_of asked ≡ answer_to is.q.command is.q.rows
+    → left_of asked ≡ answer_told is.q
 watched_left asked since is =
-    ap left_of is.is ∙ ap (λ (said : List OwnAsdu). drop (length said) (answer_to is.q.command is.q.rows)) is.said
+    ap left_of is.is ∙ ap (λ (said : List OwnAsdu). drop (length said) (answer_told is.q)) is.said
+
+-- its first part is a confirmation
+confirmed_first : (q : Interrogation) (first : ℕ) (more : List ℕ) → q.asked ≡ first ∷ more
+    → answer_told q ≡ command_with 7 false (under first q.command) ∷ drop 1 (answer_told q)
+confirmed_first q first more some =
+    subst (λ (asked : List ℕ). answer_to asked q.command q.rows
+    ≡ command_with 7 false (under first q.command) ∷ drop 1 (answer_to asked q.command q.rows)) (sym some) refl
 
 -- what is behind its first part
 abbrev behind : Interrogation → List Element → List Sending
 behind q es =
-    map sendings.Part (rows_of q.command.action q.rows ++ command_with 10 false q.command ∷ [])
-    ++ map sendings.News (items_of is_queued (drop q.since es))
+    map sendings.Part (drop 1 (answer_told q)) ++ map sendings.News (items_of is_queued (drop q.since es))
 
 watched_from : (asked : Option Interrogation) (es : List Element) (since : ℕ) (is : IsWatched asked since)
-    → from_answer asked es ≡ sendings.Part (command_with 7 false is.q.command) ∷ behind is.q es
+    → from_answer asked es ≡ sendings.Part (command_with 7 false (under is.first is.q.command)) ∷ behind is.q es
 watched_from asked es since is =
     let news : Option Interrogation → List Sending =
     λ q. map sendings.News (items_of is_queued (drop (since_of q) es)) in
-    ap (λ (parts : List OwnAsdu). map sendings.Part parts ++ news asked) (watched_left asked since is)
-    ∙ ap (λ (q : Option Interrogation). map sendings.Part (answer_to is.q.command is.q.rows) ++ news q) is.is
+    ap (λ (parts : List OwnAsdu). map sendings.Part parts ++ news asked)
+    (watched_left asked since is ∙ confirmed_first is.q is.first is.more is.some)
+    ∙ ap (λ (q : Option Interrogation). sendings.Part (command_with 7 false (under is.first is.q.command))
+    ∷ (map sendings.Part (drop 1 (answer_told is.q)) ++ news q)) is.is
 
 -- something else than a part
-unheard_put_out : (rows : List Row) (offset : ℤ) (common since : ℕ) (meant : Meant) (ys : List Observation) (v : View)
-    → (puts : PutsFirst offset common v (put_out meant ys v) meant) → begins_with_part (line_in v) ≡ false
-    → Unheard rows v since
-    → IsKept rows (put_out meant ys v) since (told_with meant None)
-unheard_put_out rows offset common since meant ys v puts other kept = rw none_said kept_on
+unheard_put_out : (rows : List Row) (addresses : List ℕ) (offset : ℤ) (since : ℕ) (meant : Meant)
+    (ys : List Observation) (v : View)
+    → (puts : PutsFirst offset v (put_out meant ys v) meant) → begins_with_part (line_in v) ≡ false
+    → Unheard rows addresses v since
+    → IsKept rows addresses (put_out meant ys v) since (told_with meant None)
+unheard_put_out rows addresses offset since meant ys v puts other kept = rw none_said kept_on
   where
     new : View
     new = put_out meant ys v
 
     none_said : parts_in meant ≡ []
-    none_said = apart offset common (line_in v) meant other puts.means puts.plain puts.can
+    none_said = apart offset (line_in v) meant other puts.means puts.plain puts.can
 
     watched : IsWatched new.asked since
     watched = record {
       q = interrogation_telling meant kept.watched.q;
       is = ap (option_map (interrogation_telling meant)) kept.watched.is;
+      first = kept.watched.first;
+      more = kept.watched.more;
+      some = kept.watched.some;
       mark = kept.watched.mark;
       said = ap (λ (parts : List OwnAsdu). parts ++ parts_in meant) kept.watched.said ∙ none_said;
       kind = kept.watched.kind;
@@ -208,7 +227,8 @@ unheard_put_out rows offset common since meant ys v puts other kept = rw none_sa
         let older : List Observation = items_of is_queued (take (since_of w.asked) w.elements) in
         let from = watched_from w.asked w.elements since is in
         ap (λ (l : List Sending). from_part (map sendings.Answer w.owed ++ (map sendings.News older ++ l))) from
-        ∙ (from_part_of w.owed older (command_with 7 false is.q.command) (behind is.q w.elements) ∙ sym from)
+        ∙ (from_part_of w.owed older (command_with 7 false (under is.first is.q.command)) (behind is.q w.elements)
+        ∙ sym from)
 
     same : from_answer v.asked v.elements ≡ from_answer new.asked new.elements
     same =
@@ -216,20 +236,21 @@ unheard_put_out rows offset common since meant ys v puts other kept = rw none_sa
         ∙ (sym (from_part_next offset (line_in v) other)
         ∙ (ap from_part (sym puts.line) ∙ front new watched))
 
-    kept_on : Unheard rows new since
+    kept_on : Unheard rows addresses new since
     kept_on = record {
       watched = watched;
       knows = λ none.
-          subst (λ (l : List Sending). Knows rows v.log (waiting_in l)) same
+          subst (λ (l : List Sending). Knows rows addresses v.log (waiting_in l)) same
           (kept.knows (sym (gone_dropped since v.elements ys) ∙ none));
     }
 
 -- its confirmation
-confirmed : (rows : List Row) (offset : ℤ) (common since : ℕ) (meant : Meant) (ys : List Observation) (v : View)
-    → begins_with_part (line_in v) ≡ true → MeansFront offset common (line_in v) meant
-    → line_in (put_out meant ys v) ≡ drop (together offset (line_in v)) (line_in v) → Unheard rows v since
-    → IsKept rows (put_out meant ys v) since (told_with meant None)
-confirmed rows offset common since meant ys v first means moved kept = rw is_said heard
+confirmed : (rows : List Row) (addresses : List ℕ) (offset : ℤ) (since : ℕ) (meant : Meant) (ys : List Observation)
+    (v : View)
+    → begins_with_part (line_in v) ≡ true → MeansFront offset (line_in v) meant
+    → line_in (put_out meant ys v) ≡ drop (together offset (line_in v)) (line_in v) → Unheard rows addresses v since
+    → IsKept rows addresses (put_out meant ys v) since (told_with meant None)
+confirmed rows addresses offset since meant ys v first means moved kept = rw is_said heard
   where
     new : View
     new = put_out meant ys v
@@ -237,23 +258,26 @@ confirmed rows offset common since meant ys v first means moved kept = rw is_sai
     q : Interrogation
     q = kept.watched.q
 
+    begins : OwnAsdu
+    begins = command_with 7 false (under kept.watched.first q.command)
+
     older : List Observation
     older = items_of is_queued (take (since_of v.asked) v.elements)
 
-    from : from_answer v.asked v.elements ≡ sendings.Part (command_with 7 false q.command) ∷ behind q v.elements
+    from : from_answer v.asked v.elements ≡ sendings.Part begins ∷ behind q v.elements
     from = watched_from v.asked v.elements since kept.watched
 
     none : (v.owed ≡ []) × (older ≡ [])
     none = part_first v.owed older (from_answer v.asked v.elements) first
 
-    whole : line_in v ≡ sendings.Part (command_with 7 false q.command) ∷ behind q v.elements
+    whole : line_in v ≡ sendings.Part begins ∷ behind q v.elements
     whole =
         ap (λ (owed : List AsduAnswer). map sendings.Answer owed
         ++ (map sendings.News older ++ from_answer v.asked v.elements)) none.0
         ∙ (ap (λ (xs : List Observation). map sendings.News xs ++ from_answer v.asked v.elements) none.1 ∙ from)
 
-    is_said : parts_in meant ≡ as_told common (command_with 7 false q.command) ∷ []
-    is_said = ap parts_in (subst (λ (l : List Sending). MeansFront offset common l meant) whole means)
+    is_said : parts_in meant ≡ begins ∷ []
+    is_said = ap parts_in (subst (λ (l : List Sending). MeansFront offset l meant) whole means)
         ∙ rw kept.watched.kind refl
 
     left : drop (together offset (line_in v)) (line_in v) ≡ behind q v.elements
@@ -262,26 +286,27 @@ confirmed rows offset common since meant ys v first means moved kept = rw is_sai
     mark : since_of v.asked ≡ since
     mark = ap since_of kept.watched.is ∙ kept.watched.mark
 
-    heard : Heard rows new since []
+    heard : Heard rows addresses new since []
     heard = record {
       mark = omega (arith, mark, same_since meant v.asked);
       settled = gone_front since v.elements ys (subst (λ (n : ℕ). items_of is_queued (take n v.elements) ≡ []) mark
           none.1);
       knows = λ kept_all.
-          subst (λ (xs : List Observation). Knows rows v.log xs)
+          subst (λ (xs : List Observation). Knows rows addresses v.log xs)
           (ap waiting_in from ∙ sym (ap waiting_in (moved ∙ left)))
           (kept.knows (sym (gone_dropped since v.elements ys) ∙ kept_all));
     }
 
-pub kept_put_out : (rows : List Row) (offset : ℤ) (common since : ℕ) (told : Option (List Observation)) (meant : Meant)
-    (ys : List Observation) (v : View) → PutsFirst offset common v (put_out meant ys v) meant → IsKept rows v since told
-    → IsKept rows (put_out meant ys v) since (told_with meant told)
-kept_put_out rows offset common since (Some told) meant ys v puts kept =
-    heard_put_out rows offset common since told meant ys v puts kept
-kept_put_out rows offset common since None meant ys v puts kept =
+pub kept_put_out : (rows : List Row) (addresses : List ℕ) (offset : ℤ) (since : ℕ) (told : Option (List Observation))
+    (meant : Meant) (ys : List Observation) (v : View)
+    → PutsFirst offset v (put_out meant ys v) meant → IsKept rows addresses v since told
+    → IsKept rows addresses (put_out meant ys v) since (told_with meant told)
+kept_put_out rows addresses offset since (Some told) meant ys v puts kept =
+    heard_put_out rows addresses offset since told meant ys v puts kept
+kept_put_out rows addresses offset since None meant ys v puts kept =
     elim (cases_Bool (begins_with_part (line_in v))) [
-      | inl part ↦ confirmed rows offset common since meant ys v part puts.means puts.line kept
-      | inr other ↦ unheard_put_out rows offset common since meant ys v puts other kept
+      | inl part ↦ confirmed rows addresses offset since meant ys v part puts.means puts.line kept
+      | inr other ↦ unheard_put_out rows addresses offset since meant ys v puts other kept
     ]
 
 -- ---- an ASDU is taken
@@ -294,17 +319,18 @@ taken more v = record v { owed = v.owed ++ more }
 abbrev pub begun : Interrogation → View → View
 begun q v = record v { asked = Some q }
 
-pub kept_taken : (rows : List Row) (since : ℕ) (told : Option (List Observation)) (more : List AsduAnswer) (v : View)
-    → AllByRecursion (IsShown rows v.log) (waiting_in (map sendings.Answer more)) → IsKept rows v since told
-    → IsKept rows (taken more v) since told
-kept_taken rows since None more v shown kept = record { watched = kept.watched; knows = kept.knows }
-kept_taken rows since (Some told) more v shown kept = record {
+pub kept_taken : (rows : List Row) (addresses : List ℕ) (since : ℕ) (told : Option (List Observation))
+    (more : List AsduAnswer) (v : View)
+    → AllByRecursion (IsShown rows v.log) (waiting_in (map sendings.Answer more)) → IsKept rows addresses v since told
+    → IsKept rows addresses (taken more v) since told
+kept_taken rows addresses since None more v shown kept = record { watched = kept.watched; knows = kept.knows }
+kept_taken rows addresses since (Some told) more v shown kept = record {
   mark = kept.mark;
   settled = kept.settled;
   knows = λ none.
-      subst (λ (xs : List Observation). Knows rows v.log xs) after
-      (knows_inserted rows v.log (told ++ answers) news rest shown
-      (subst (λ (xs : List Observation). Knows rows v.log xs) before (kept.knows none)));
+      subst (λ (xs : List Observation). Knows rows addresses v.log xs) after
+      (knows_inserted rows addresses v.log (told ++ answers) news rest shown
+      (subst (λ (xs : List Observation). Knows rows addresses v.log xs) before (kept.knows none)));
 }
   where
     answers : List Observation
@@ -333,27 +359,33 @@ kept_taken rows since (Some told) more v shown kept = record {
         ∙ (ap (λ (xs : List Observation). xs ++ rest) (sym joined)
         ∙ sym (waiting_line (v.owed ++ more) v.asked v.elements)))
 
--- an interrogation that begins with the picture of now, when so many news came
+-- an interrogation of some address that begins with the picture of now, when so many news came
 pub record IsNew (rows : List Row) (v : View) (q : Interrogation) : Type 0 where
+  pub first : ℕ
+  pub more : List ℕ
+  pub some : q.asked ≡ first ∷ more
   pub since : q.since ≡ length v.elements
   pub rows_are : q.rows ≡ picture_of rows v.log
   pub said : q.said ≡ []
 
+-- what it asks of the picture
+abbrev asked_of : List Row → View → Interrogation → List Observation
+asked_of rows v q = flat_map (rows_under q.command.action (picture_of rows v.log)) q.asked
+
 -- what waits of its answer, and behind it
 new_left : (rows : List Row) (v : View) (q : Interrogation) → IsNew rows v q
-    → waiting_in (map sendings.Part (left_of (Some q))) ≡ filter (is_asked_by q.command.action) (picture_of rows v.log)
+    → waiting_in (map sendings.Part (left_of (Some q))) ≡ asked_of rows v q
 new_left rows v q is =
-    ap (λ (said : List OwnAsdu). waiting_in (map sendings.Part (drop (length said) (answer_to q.command q.rows))))
-    is.said
-    ∙ (waiting_answer q.command q.rows ∙ ap (filter (is_asked_by q.command.action)) is.rows_are)
+    ap (λ (said : List OwnAsdu). waiting_in (map sendings.Part (drop (length said) (answer_told q)))) is.said
+    ∙ (waiting_answer q.asked q.command q.rows
+    ∙ ap (λ (picture : List Observation). flat_map (rows_under q.command.action picture) q.asked) is.rows_are)
 
 new_from : (rows : List Row) (v : View) (q : Interrogation) → IsNew rows v q
-    → waiting_in (from_answer (Some q) v.elements) ≡ filter (is_asked_by q.command.action) (picture_of rows v.log) ++ []
+    → waiting_in (from_answer (Some q) v.elements) ≡ asked_of rows v q ++ []
 new_from rows v q is =
-    let shown : List Observation = filter (is_asked_by q.command.action) (picture_of rows v.log) in
     waiting_from (Some q) v.elements
     ∙ (ap (λ (xs : List Observation). xs ++ items_of is_queued (drop q.since v.elements)) (new_left rows v q is)
-    ∙ ap (λ (es : List Element). shown ++ items_of is_queued es)
+    ∙ ap (λ (es : List Element). asked_of rows v q ++ items_of is_queued es)
     (ap (λ (n : ℕ). drop n v.elements) is.since ∙ drop-length v.elements))
 
 asks_all : (action : Action) (x : Observation) → is_station_interrogation action ≡ true → is_total x.value ≡ false
@@ -375,19 +407,25 @@ station_kind actions.Read station = absurd cc
 
 -- the watched one begins
 pub unheard_begun : (rows : List Row) (v : View) (q : Interrogation) → is_single rows ≡ true → IsNew rows v q
-    → is_station_interrogation q.command.action ≡ true → Unheard rows (begun q v) q.since
+    → is_station_interrogation q.command.action ≡ true → Unheard rows q.asked (begun q v) q.since
 unheard_begun rows v q single is station = record {
-  watched = record { q = q; is = refl; mark = refl; said = is.said; kind = station_kind q.command.action station };
+  watched = record {
+    q = q;
+    is = refl;
+    first = is.first;
+    more = is.more;
+    some = is.some;
+    mark = refl;
+    said = is.said;
+    kind = station_kind q.command.action station;
+  };
   knows = λ none.
-      subst (λ (xs : List Observation). Knows rows v.log xs) (sym (append-nil asked) ∙ sym (new_from rows v q is))
-      (λ n row get whole.
-      let is_asked : is_asked_by q.command.action (shown_by v.log row) ≡ true =
-      asks_all q.command.action (shown_by v.log row) station whole in
-      shown_last rows v.log (is_asked_by q.command.action) n row None single get is_asked);
+      subst (λ (xs : List Observation). Knows rows q.asked v.log xs)
+      (sym (append-nil (asked_of rows v q)) ∙ sym (new_from rows v q is))
+      (λ n row get among whole.
+      asked_last q.asked q.command.action rows v.log n row None single get among
+      (asks_all q.command.action (shown_by v.log row) station whole));
 }
-  where
-    asked : List Observation
-    asked = filter (is_asked_by q.command.action) (picture_of rows v.log)
 
 -- the news that wait, where nothing is left of an answer
 whole_line : (v : View) → left_of v.asked ≡ []
@@ -405,18 +443,19 @@ whole_line v none =
     ∙ ap (items_of is_queued) (take-append-drop s v.elements))))
 
 -- another begins
-pub heard_begun : (rows : List Row) (since : ℕ) (told : List Observation) (v : View) (q : Interrogation)
+pub heard_begun : (rows : List Row) (addresses : List ℕ) (since : ℕ) (told : List Observation) (v : View)
+    (q : Interrogation)
     → is_single rows ≡ true
-    → since_of v.asked ≤ length v.elements → left_of v.asked ≡ [] → IsNew rows v q → Heard rows v since told
-    → Heard rows (begun q v) since told
-heard_begun rows since told v q single within left is kept = record {
+    → since_of v.asked ≤ length v.elements → left_of v.asked ≡ [] → IsNew rows v q → Heard rows addresses v since told
+    → Heard rows addresses (begun q v) since told
+heard_begun rows addresses since told v q single within left is kept = record {
   mark = omega (arith, kept.mark, within, is.since);
   settled = kept.settled;
   knows = λ none.
-      subst (λ (xs : List Observation). Knows rows v.log xs) after
-      (knows_inserted rows v.log (told ++ (answers ++ news)) asked []
-      (filtered_shown rows v.log (is_asked_by q.command.action) single)
-      (subst (λ (xs : List Observation). Knows rows v.log xs) before (kept.knows none)));
+      subst (λ (xs : List Observation). Knows rows addresses v.log xs) after
+      (knows_inserted rows addresses v.log (told ++ (answers ++ news)) asked []
+      (asked_shown q.asked q.command.action rows v.log single)
+      (subst (λ (xs : List Observation). Knows rows addresses v.log xs) before (kept.knows none)));
 }
   where
     answers : List Observation
@@ -426,7 +465,7 @@ heard_begun rows since told v q single within left is kept = record {
     news = items_of is_queued v.elements
 
     asked : List Observation
-    asked = filter (is_asked_by q.command.action) (picture_of rows v.log)
+    asked = asked_of rows v q
 
     before : told ++ waiting_in (line_in v) ≡ (told ++ (answers ++ news)) ++ []
     before = ap (λ (xs : List Observation). told ++ xs) (whole_line v left)

@@ -1,5 +1,5 @@
 -- The fate of each observation that came in a session, where so many may wait, apart from any queue.
-use Rattle.std.specs.Prelude.{ℕ, zero, suc, ◌+◌, ◌-◌, Bool, true, false, ◌&&◌, ◌==◌, List, [], ◌∷◌, ◌++◌, length, if◌then◌else◌}
+use Rattle.std.specs.Prelude.{ℕ, zero, suc, ◌+◌, ◌-◌, Bool, true, false, ◌==◌, List, [], ◌∷◌, ◌++◌, length, if◌then◌else◌}
 use Rattle.gw_model.specs.declared.observation.Observation.{Observation}
 use Rattle.gw_entries.specs.Setup.{StationSetup}
 use Rattle.gw_answers.specs.Meaning.{Meant, Tells, Commands, Unread}
@@ -8,17 +8,16 @@ use Rattle.gw_history.specs.Life.{Turn, Idle, PutsOut}
 
 -- ---- news that are put out
 
--- the observations of an ASDU of cause 3 (spontaneous) with the station's common address
-abbrev pub spontaneous_of : ℕ → Meant → List Observation
-spontaneous_of common (Tells asdu) =
-    if (asdu.cause == 3) && (asdu.common_address == common) then asdu.observations else []
-spontaneous_of common (Commands command) = []
-spontaneous_of common (Unread octets) = []
+-- the observations of an ASDU of cause 3 (spontaneous)
+abbrev pub spontaneous_of : Meant → List Observation
+spontaneous_of (Tells asdu) = if asdu.cause == 3 then asdu.observations else []
+spontaneous_of (Commands command) = []
+spontaneous_of (Unread octets) = []
 
-abbrev pub spontaneous_in : ℕ → ApduMeaning → List Observation
-spontaneous_in common (IFormat ns nr meant) = spontaneous_of common meant
-spontaneous_in common (SFormat nr) = []
-spontaneous_in common (UFormat signal) = []
+abbrev pub spontaneous_in : ApduMeaning → List Observation
+spontaneous_in (IFormat ns nr meant) = spontaneous_of meant
+spontaneous_in (SFormat nr) = []
+spontaneous_in (UFormat signal) = []
 
 -- ---- fates
 
@@ -93,11 +92,11 @@ items_of p (e ∷ es) = if p e.fate then e.item ∷ items_of p es else items_of 
 abbrev pub fates : StationSetup → List Turn → List Element
 fates station [] = []
 fates station (Idle brought ∷ ts) = fates_with_news station.queue (fates station ts) brought.news
-fates station (PutsOut said ∷ ts) = fates_with_put_out (fates station ts) (spontaneous_in station.common_address said)
+fates station (PutsOut said ∷ ts) = fates_with_put_out (fates station ts) (spontaneous_in said)
 fates station (_ ∷ ts) = fates station ts
 
 -- the observations that were put out, in order
 abbrev pub gone : StationSetup → List Turn → List Observation
 gone station [] = []
-gone station (PutsOut said ∷ ts) = gone station ts ++ spontaneous_in station.common_address said
+gone station (PutsOut said ∷ ts) = gone station ts ++ spontaneous_in said
 gone station (_ ∷ ts) = gone station ts

@@ -1,8 +1,7 @@
 -- Interrogations (IEC 60870-5-101, 7.4.5 and 7.4.8): what was put out of the answer to the interrogation of a session
--- is the front of it, and all of it once its termination is out: the confirmation, what the picture showed at its act,
--- and the termination.
-use Rattle.std.specs.Prelude.{◌≡◌, ℕ, ◌==◌, Bool, true, false, not, ◌&&◌, ◌||◌, List, [], ◌∷◌, ◌++◌, length, map, Option, Some, None, option_map, IfSome, if◌then◌else◌}
-use Rattle.std.specs.List.{list_any}
+-- is the front of it, and all of it once its last termination is out: for each common address that it asks the
+-- confirmation, what the picture showed at its act, and the termination.
+use Rattle.std.specs.Prelude.{◌≡◌, ℕ, ◌==◌, Bool, true, false, not, nat_lt, ◌&&◌, ◌||◌, List, [], ◌∷◌, ◌++◌, length, map, filter, Option, Some, None, option_map, IfSome, if◌then◌else◌}
 use Rattle.gw_model.specs.declared.observation.Observation.{Observation}
 use Rattle.gw_map.specs.Settings.{Setup}
 use Rattle.iec_apci.specs.declared.apdu.Apdu.TheVariants.{I}
@@ -13,8 +12,7 @@ use Rattle.gw_judge.specs.declared.judging.Judged.{Judged}
 use Rattle.gw_judge.specs.declared.judging.Judged.TheVariants.{Accepted}
 use Rattle.gw_answers.specs.declared.outgoing.OwnAsdu.{OwnAsdu}
 use Rattle.gw_answers.specs.declared.outgoing.OwnAsdu.TheVariants as outgoing
-use Rattle.gw_answers.specs.Outgoing.{at_station}
-use Rattle.gw_answers.specs.Interrogations.{is_accepted_act, answer_to}
+use Rattle.gw_answers.specs.Interrogations.{asked_addresses, is_accepted_act, answer_to}
 use Rattle.gw_answers.specs.Meaning.{Meant, Tells, Commands, Unread}
 use Rattle.gw_station.specs.Frames.{judged_asdu}
 use Rattle.gw_steps.specs.Runs.{Entry}
@@ -23,8 +21,9 @@ use Rattle.gw_history.specs.Life.{Turn, Takes, PutsOut, session, turns_in, OfEac
 use Rattle.gw_laws.specs.Fates.{fates}
 
 pub record Interrogation : Type 0 where
-  -- the act
+  -- the act, and the common addresses that it asks
   pub command : Command
+  pub asked : List ℕ
   -- how many news of the session came before it, and what the picture showed
   pub since : ℕ
   pub rows : List Observation
@@ -57,32 +56,34 @@ abbrev pub is_termination : OwnAsdu → Bool
 is_termination (outgoing.Command c) = c.cause == 10
 is_termination (outgoing.Observation cause originator x) = false
 
--- it is pending until its termination is put out
+-- it is pending until as many terminations are put out as it asks common addresses
 abbrev pub is_pending : Option Interrogation → Bool
 is_pending None = false
-is_pending (Some q) = not (list_any is_termination q.said)
+is_pending (Some q) = nat_lt (length (filter is_termination q.said)) (length q.asked)
 
 -- ---- the answer that it gets
 
--- a part as it is put out, by the station with this common address
-abbrev pub as_told : ℕ → OwnAsdu → OwnAsdu
-as_told common (outgoing.Command c) = outgoing.Command (at_station common c)
-as_told common (outgoing.Observation cause originator x) = outgoing.Observation cause originator x
-
--- the confirmation, what the picture showed of what is asked, and the termination
-abbrev pub answer_told : ℕ → Interrogation → List OwnAsdu
-answer_told common q = map (as_told common) (answer_to q.command q.rows)
+-- for each common address the confirmation, what the picture showed of what is asked, and the termination
+abbrev pub answer_told : Interrogation → List OwnAsdu
+answer_told q = answer_to q.asked q.command q.rows
 
 -- ---- the interrogation of a session
 
 -- an act that is accepted, which is one while none is pending, begins one: so many news of the session came before it,
 -- and the picture showed this
-abbrev pub begun : ℕ → List Observation → Judged → Option Interrogation → Option Interrogation
-begun since picture (Accepted command) q =
-    if is_accepted_act (is_pending q) command then
-    Some (record { command = command; since = since; rows = picture; said = [] })
-    else q
-begun since picture _ q = q
+abbrev pub interrogation_of : Setup → ℕ → List Observation → Command → Interrogation
+interrogation_of setup since picture command = record {
+  command = command;
+  asked = asked_addresses setup command.common_address;
+  since = since;
+  rows = picture;
+  said = [];
+}
+
+abbrev pub begun : Setup → ℕ → List Observation → Judged → Option Interrogation → Option Interrogation
+begun setup since picture (Accepted command) q =
+    if is_accepted_act (is_pending q) command then Some (interrogation_of setup since picture command) else q
+begun setup since picture _ q = q
 
 abbrev pub interrogation_telling : Meant → Interrogation → Interrogation
 interrogation_telling meant q = record q { said = q.said ++ parts_in meant }
@@ -91,7 +92,7 @@ interrogation_telling meant q = record q { said = q.said ++ parts_in meant }
 abbrev pub interrogation : Setup → List Turn → Option Interrogation
 interrogation setup [] = None
 interrogation setup (Takes (I ns nr asdu) taking ∷ ts) =
-    begun (length (fates setup.station ts)) taking.picture (judged_asdu setup asdu) (interrogation setup ts)
+    begun setup (length (fates setup.station ts)) taking.picture (judged_asdu setup asdu) (interrogation setup ts)
 interrogation setup (PutsOut (IFormat ns nr meant) ∷ ts) =
     option_map (interrogation_telling meant) (interrogation setup ts)
 interrogation setup (_ ∷ ts) = interrogation setup ts
@@ -99,13 +100,13 @@ interrogation setup (_ ∷ ts) = interrogation setup ts
 -- ---- the law
 
 -- what was put out is the front of its answer, and all of it once it isn't pending
-pub record IsAnsweredInOrder (setup : Setup) (q : Interrogation) : Type 0 where
+pub record IsAnsweredInOrder (q : Interrogation) : Type 0 where
   pub rest : List OwnAsdu
-  pub in_order : q.said ++ rest ≡ answer_told setup.station.common_address q
+  pub in_order : q.said ++ rest ≡ answer_told q
   pub whole : is_pending (Some q) ≡ false → rest ≡ []
 
 abbrev pub AnswersInterrogation : Setup → List Turn → Type 0
-AnswersInterrogation setup ts = IfSome (interrogation setup (turns_in (session ts))) (IsAnsweredInOrder setup)
+AnswersInterrogation setup ts = IfSome (interrogation setup (turns_in (session ts))) IsAnsweredInOrder
 
 abbrev pub Interrogations : Setup → List Entry → Type 0
 Interrogations setup past = OfEachLife (AnswersInterrogation setup) setup past

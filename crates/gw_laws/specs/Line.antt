@@ -14,7 +14,6 @@ use Rattle.gw_answers.specs.declared.outgoing.AsduAnswer.TheVariants.{Made}
 use Rattle.gw_answers.specs.declared.outgoing.OwnAsdu.{OwnAsdu}
 use Rattle.gw_answers.specs.declared.outgoing.OwnAsdu.TheVariants as outgoing
 use Rattle.gw_answers.specs.Outgoing.{command_with, confirmed}
-use Rattle.gw_answers.specs.Interrogations.{answer_to}
 use Rattle.gw_answers.specs.Answers.{answered, command_by}
 use Rattle.gw_answers.specs.Meaning.{Meant, Tells, packed_asdu, Means}
 use Rattle.gw_station.specs.declared.sending.Sending.{Sending}
@@ -27,7 +26,7 @@ use Rattle.gw_steps.specs.Runs.{Entry}
 use Rattle.gw_steps.specs.Said.{ApduMeaning, IFormat, SFormat, UFormat}
 use Rattle.gw_history.specs.Life.{Taking, Turn, Idle, Takes, PutsOut, session, turns_in, OfEachLife}
 use Rattle.gw_laws.specs.Fates.{Element, items_of, is_queued, fates}
-use Rattle.gw_laws.specs.Interrogations.{Interrogation, is_pending, interrogation}
+use Rattle.gw_laws.specs.Interrogations.{Interrogation, answer_told, is_pending, interrogation}
 
 -- ---- the answers to ASDUs, and what becomes of orders
 
@@ -70,7 +69,7 @@ since_of (Some q) = q.since
 
 abbrev pub left_of : Option Interrogation → List OwnAsdu
 left_of None = []
-left_of (Some q) = drop (length q.said) (answer_to q.command q.rows)
+left_of (Some q) = drop (length q.said) (answer_told q)
 
 abbrev pub line_with : List AsduAnswer → Option Interrogation → List Element → List Sending
 line_with owed q elements =
@@ -85,19 +84,17 @@ line setup hs = line_with (owed setup hs) (interrogation setup hs) (fates setup.
 
 -- an ASDU means what is at the front of a line: an answer, a command of the answer to an interrogation, or as many news,
 -- or as many rows of that answer, as one ASDU carries
-abbrev pub MeansFront : ℤ → ℕ → List Sending → Meant → Type 0
-MeansFront offset common (sendings.Answer answer ∷ line) meant = Means offset common answer meant
-MeansFront offset common (sendings.News x ∷ line) meant =
-    meant ≡ Tells (packed_asdu offset common 3 0 x (news_front line))
-MeansFront offset common (sendings.Part (outgoing.Command command) ∷ line) meant =
-    Means offset common (Made (outgoing.Command command)) meant
-MeansFront offset common (sendings.Part (outgoing.Observation cause originator x) ∷ line) meant =
-    meant ≡ Tells (packed_asdu offset common cause originator x (rows_front cause originator line))
-MeansFront offset common _ meant = ⊥
+abbrev pub MeansFront : ℤ → List Sending → Meant → Type 0
+MeansFront offset (sendings.Answer answer ∷ line) meant = Means offset answer meant
+MeansFront offset (sendings.News x ∷ line) meant = meant ≡ Tells (packed_asdu offset 3 0 x (news_front line))
+MeansFront offset (sendings.Part (outgoing.Command command) ∷ line) meant =
+    Means offset (Made (outgoing.Command command)) meant
+MeansFront offset (sendings.Part (outgoing.Observation cause originator x) ∷ line) meant =
+    meant ≡ Tells (packed_asdu offset cause originator x (rows_front cause originator line))
+MeansFront offset _ meant = ⊥
 
 abbrev pub SaysFirst : Setup → List Sending → ApduMeaning → Type 0
-SaysFirst setup line (IFormat ns nr meant) =
-    MeansFront setup.station.offset_minutes setup.station.common_address line meant
+SaysFirst setup line (IFormat ns nr meant) = MeansFront setup.station.offset_minutes line meant
 SaysFirst setup line (SFormat nr) = Unit {0}
 SaysFirst setup line (UFormat signal) = Unit {0}
 

@@ -1,13 +1,17 @@
--- Mirror: once the confirmation of a station interrogation was put out, and while no news since its act was dropped,
--- the observations put out from then on, followed by those that wait, have as their last values what the picture shows,
--- for each row that isn't shown as a total.
+-- Mirror: once the first confirmation of a station interrogation was put out, and while no news since its act was
+-- dropped, the observations put out from then on, followed by those that wait, have as their last values what the
+-- picture shows, for each row under a common address that was asked which isn't shown as a total.
+use Rattle.std.specs.List.{list_any}
 use Rattle.std.specs.Prelude.{◌≡◌, ℕ, ◌==◌, Bool, true, false, ◌&&◌, ◌||◌, List, [], ◌∷◌, ◌++◌, length, drop, slice_get, Option, Some, None, IfSome, if◌then◌else◌}
 use Rattle.gw_model.specs.declared.observation.Value.{Value}
 use Rattle.gw_model.specs.declared.observation.Quality.{Quality}
 use Rattle.gw_model.specs.declared.observation.Observation.{Observation}
+use Rattle.gw_model.specs.First.{when}
+use Rattle.gw_model.specs.declared.point.ObjectKey.{ObjectKey}
+use Rattle.gw_model.specs.Keys.{object_of, same_object}
 use Rattle.gw_model.specs.Values.{is_total}
 use Rattle.gw_entries.specs.declared.row.Row.{Row}
-use Rattle.gw_map.specs.Settings.{Setup}
+use Rattle.gw_map.specs.Settings.{Setup, row_object}
 use Rattle.gw_picture.specs.Log.{picture_of}
 use Rattle.iec_apci.specs.declared.apdu.Apdu.TheVariants.{I}
 use Rattle.iec_command.specs.declared.command.Action.{Action}
@@ -17,7 +21,7 @@ use Rattle.gw_judge.specs.declared.judging.Judged.TheVariants.{Accepted}
 use Rattle.gw_answers.specs.declared.outgoing.AsduAnswer.TheVariants.{Made}
 use Rattle.gw_answers.specs.declared.outgoing.OwnAsdu.{OwnAsdu}
 use Rattle.gw_answers.specs.declared.outgoing.OwnAsdu.TheVariants as outgoing
-use Rattle.gw_answers.specs.Interrogations.{is_accepted_act}
+use Rattle.gw_answers.specs.Interrogations.{asked_addresses, is_accepted_act}
 use Rattle.gw_answers.specs.Meaning.{Meant, Tells, Commands, Unread}
 use Rattle.gw_station.specs.declared.sending.Sending.{Sending}
 use Rattle.gw_station.specs.declared.sending.Sending.TheVariants as sendings
@@ -40,14 +44,15 @@ pub record Known : Type 0 where
 abbrev pub known_of : Observation → Known
 known_of x = record { value = x.value; quality = x.quality }
 
--- what is known of an address after observations, where this was known before
-abbrev pub last_known : ℕ → Option Known → List Observation → Option Known
-last_known address known [] = known
-last_known address known (x ∷ xs) = last_known address (if x.address == address then Some (known_of x) else known) xs
+-- what is known of an object after observations, where this was known before
+abbrev pub last_known : ObjectKey → Option Known → List Observation → Option Known
+last_known object known [] = known
+last_known object known (x ∷ xs) =
+    last_known object (if same_object (object_of x) object then Some (known_of x) else known) xs
 
 -- the last value and quality in a list of observations, or none
-abbrev pub last_value : ℕ → List Observation → Option Known
-last_value address xs = last_known address None xs
+abbrev pub last_value : ObjectKey → List Observation → Option Known
+last_value object xs = last_known object None xs
 
 -- ---- what is put out, and what waits
 
@@ -92,15 +97,17 @@ abbrev pub is_station_interrogation : Action → Bool
 is_station_interrogation (actions.Interrogation qualifier) = true
 is_station_interrogation _ = false
 
--- a turn after others of its session is the act of a station interrogation
-abbrev pub is_station_act : Bool → Judged → Bool
-is_station_act pending (Accepted command) = is_accepted_act pending command && is_station_interrogation command.action
-is_station_act pending _ = false
+-- the common addresses that a turn after others of its session asks, where it is the act of a station interrogation
+abbrev pub asked_by : Setup → Bool → Judged → Option (List ℕ)
+asked_by setup pending (Accepted command) =
+    when (is_accepted_act pending command && is_station_interrogation command.action)
+    (asked_addresses setup command.common_address)
+asked_by setup pending _ = None
 
-abbrev pub is_act : Setup → Turn → List Turn → Bool
-is_act setup (Takes (I ns nr asdu) taking) ts =
-    is_station_act (is_pending (interrogation setup ts)) (judged_asdu setup asdu)
-is_act setup _ ts = false
+abbrev pub asked_in : Setup → Turn → List Turn → Option (List ℕ)
+asked_in setup (Takes (I ns nr asdu) taking) ts =
+    asked_by setup (is_pending (interrogation setup ts)) (judged_asdu setup asdu)
+asked_in setup _ ts = None
 
 -- ---- the law
 
@@ -108,23 +115,26 @@ is_act setup _ ts = false
 abbrev pub NoneDropped : ℕ → List Element → Type 0
 NoneDropped since elements = items_of is_dropped (drop since elements) ≡ []
 
--- for each row that isn't shown as a total, the last value of a list is what the picture shows
-abbrev pub KnowsPicture : Setup → List Observation → List Observation → Type 0
-KnowsPicture setup picture known =
+-- for each row under one of these common addresses that isn't shown as a total, the last value of a list is what the
+-- picture shows
+abbrev pub KnowsPicture : Setup → List ℕ → List Observation → List Observation → Type 0
+KnowsPicture setup asked picture known =
     (n : ℕ) (row : Row) (x : Observation) → slice_get setup.rows n ≡ Some row → slice_get picture n ≡ Some x
-    → is_total x.value ≡ false → last_value row.address known ≡ Some (known_of x)
+    → list_any (λ common. common == row.common_address) asked ≡ true → is_total x.value ≡ false
+    → last_value (row_object row) known ≡ Some (known_of x)
 
 -- of the news since so many none was dropped: what was told and what waits is what the picture shows
-pub record MirrorsPicture (setup : Setup) (log : List Observation) (hs : List Turn) (since : ℕ)
+pub record MirrorsPicture (setup : Setup) (asked : List ℕ) (log : List Observation) (hs : List Turn) (since : ℕ)
     (told : List Observation) : Type 0 where
   pub knows : NoneDropped since (fates setup.station hs)
-      → KnowsPicture setup (picture_of setup.rows log) (told ++ waiting_in (line setup hs))
+      → KnowsPicture setup asked (picture_of setup.rows log) (told ++ waiting_in (line setup hs))
 
--- after each act of a session, once its confirmation was put out
+-- after each act of a session, once its first confirmation was put out
 abbrev pub Mirrors : Setup → List Observation → List Turn → Type 0
 Mirrors setup log hs =
-    (newer older : List Turn) (act : Turn) → hs ≡ newer ++ act ∷ older → is_act setup act older ≡ true
-    → IfSome (told newer) (MirrorsPicture setup log hs (length (fates setup.station older)))
+    (newer older : List Turn) (act : Turn) (asked : List ℕ) → hs ≡ newer ++ act ∷ older
+    → asked_in setup act older ≡ Some asked
+    → IfSome (told newer) (MirrorsPicture setup asked log hs (length (fates setup.station older)))
 
 abbrev pub Mirror : Setup → List Entry → Type 0
 Mirror setup past = OfEachLife (λ ts. IfSome (session ts) (Mirrors setup (log_of setup past))) setup past

@@ -20,16 +20,16 @@ use Rattle.gw_laws.specs.Fates.{items_of, is_queued, is_dropped, is_kept, fates,
 
 -- ---- what a station may say
 
--- process information of the station: spontaneous (3), requested (5), or interrogated (20, 37), of observations that are
--- fit
+-- process information: spontaneous (3), requested (5), or interrogated (20, 37), of observations that are fit, all under
+-- one common address
 pub record IsInformation (station : StationSetup) (asdu : Asdu) : Type 0 where
   pub cause : IsTrue (asdu.cause == 3 || asdu.cause == 5 || asdu.cause == 20 || asdu.cause == 37)
-  pub common : asdu.common_address ≡ station.common_address
+  pub common : AllByRecursion (λ x. x.common ≡ asdu.common_address) asdu.observations
   pub fit : AllByRecursion (IsFit station.offset_minutes) asdu.observations
 
--- the station's confirmation of an activation (7) or a deactivation (9), or a termination (10)
-abbrev pub IsConfirmation : ℕ → Command → Type 0
-IsConfirmation common c = IsTrue (c.cause == 7 || c.cause == 9 || c.cause == 10) × (c.common_address ≡ common)
+-- the confirmation of an activation (7) or a deactivation (9), or a termination (10)
+abbrev pub IsConfirmation : Command → Type 0
+IsConfirmation c = IsTrue (c.cause == 7 || c.cause == 9 || c.cause == 10)
 
 -- what is unknown comes back: P/N is set, and the cause is one from 44 to 47
 abbrev pub IsUnknown : Meant → Type 0
@@ -38,7 +38,7 @@ IsUnknown meant = (cause : ℕ) × (44 ≤ cause) × (cause ≤ 47) × IsRefused
 -- an I format carries one of these
 abbrev pub IsOfStation : StationSetup → Meant → Type 0
 IsOfStation station (Tells asdu) = IsInformation station asdu ⊎ IsUnknown (Tells asdu)
-IsOfStation station (Commands c) = IsConfirmation station.common_address c ⊎ IsUnknown (Commands c)
+IsOfStation station (Commands c) = IsConfirmation c ⊎ IsUnknown (Commands c)
 IsOfStation station (Unread octets) = IsUnknown (Unread octets)
 
 -- ---- the law

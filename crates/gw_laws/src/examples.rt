@@ -1,9 +1,10 @@
 //! Worked runs, told by the definitions.
-ghost use Rattle.std.specs.Prelude.{◌≡◌, [], ◌∷◌, map, true, false, Some, None};
-ghost use Rattle.gw_judge.specs.Example.{setup as with_controls};
+ghost use Rattle.std.specs.Prelude.{◌≡◌, [], ◌∷◌, ◌++◌, map, true, false, Some, None};
+ghost use Rattle.gw_model.specs.Keys.{object_of};
+ghost use Rattle.gw_judge.specs.Example.{of_two, setup as with_controls};
 ghost use Rattle.gw_answers.specs.declared.outgoing.AsduAnswer.TheVariants.{Made};
-ghost use Rattle.gw_answers.specs.declared.outgoing.OwnAsdu.TheVariants.{Observation as Told};
-ghost use Rattle.gw_answers.specs.Outgoing.{at_station, command_with};
+ghost use Rattle.gw_answers.specs.declared.outgoing.OwnAsdu.TheVariants.{Command as Commanded, Observation as Told};
+ghost use Rattle.gw_answers.specs.Outgoing.{command_with, under};
 ghost use Rattle.gw_station.specs.declared.sending.Sending.TheVariants.{News, Part};
 ghost use Rattle.gw_station.specs.Example.{switched_on};
 ghost use Rattle.gw_steps.specs.Example.{setup};
@@ -13,8 +14,8 @@ ghost use Rattle.gw_laws.specs.Numbers.{sent, taken, last_receive_number};
 ghost use Rattle.gw_laws.specs.Interrogations.{interrogation, is_pending};
 ghost use Rattle.gw_laws.specs.Frames.{held};
 ghost use Rattle.gw_laws.specs.Line.{line, owed};
-ghost use Rattle.gw_laws.specs.Mirror.{known_of, last_value};
-ghost use Rattle.gw_laws.specs.Example.{analog_at_first, analog_read, command, ended, executed, known_after, ordered, said_of, session_after, told_after};
+ghost use Rattle.gw_laws.specs.Mirror.{asked_in, known_of, last_value, told};
+ghost use Rattle.gw_laws.specs.Example.{all_asked, analog_at_first, analog_read, answered_all, answered_with, command, ended, executed, known_after, ordered, row_under, said_of, session_after, told_after};
 
 /// News wait, a client interrogates the station, and other news come.
 #[tactic(auto, unfolding(iec_command::specs::Commands::command_of, iec_apci::specs::Stream::reading, iec_apci::specs::Stream::answer_at_front, iec_apci::specs::Stream::content_of, iec_asdu::specs::Asdu::asdu_meaning, iec_asdu::specs::Asdu::objects_of, iec_asdu::specs::Asdu::objects_apart, iec_asdu::specs::Spelling::list_spelling, iec_asdu::specs::Packing::packed_spelling, iec_asdu::specs::Packing::taken_of, iec_asdu::specs::Packing::is_in_sequence, iec_asdu::specs::Packing::in_sequence_count, iec_asdu::specs::Packing::apart_count, iec_asdu::specs::Packing::alike_count, iec_asdu::specs::Packing::consecutive_count))]
@@ -24,7 +25,7 @@ pub fn promises_by_example()
         ∷ Part (command_with 7 false command) ∷ Part (Told 20 0 switched_on) ∷ Part (Told 20 0 analog_at_first)
         ∷ Part (command_with 10 false command) ∷ News analog_read ∷ [] }
     // What was put out of the answer, and how long it is pending.
-    ensures said { said_of (interrogation setup (session_after 3)) ≡ command_with 7 false (at_station 1 command)
+    ensures said { said_of (interrogation setup (session_after 3)) ≡ command_with 7 false (under 1 command)
         ∷ Told 20 0 switched_on ∷ [] }
     ensures pending { map (λ n. is_pending (interrogation setup (session_after n))) (0 ∷ 4 ∷ 5 ∷ [])
         ≡ true ∷ true ∷ false ∷ [] }
@@ -32,13 +33,31 @@ pub fn promises_by_example()
     ensures sent { map (λ n. sent (life setup 0 (pumped n))) (0 ∷ 3 ∷ []) ≡ 0 ∷ 3 ∷ [] }
     ensures taken { taken (life setup 0 (pumped 3)) ≡ 1 }
     ensures receive { last_receive_number (life setup 0 (pumped 3)) ≡ 0 }
-    // What was told counts from the confirmation on.
+    // What was told counts from the first confirmation on.
     ensures unheard { told_after 1 ≡ None }
     ensures heard { told_after 5 ≡ Some (switched_on ∷ analog_at_first ∷ []) }
     // What was told and what waits agree with the picture.
-    ensures binary { last_value 4101 (known_after 2) ≡ Some (known_of switched_on) }
-    ensures analog { map (λ n. last_value 4201 (known_after n)) (2 ∷ 5 ∷ 6 ∷ [])
+    ensures binary { last_value (object_of switched_on) (known_after 2) ≡ Some (known_of switched_on) }
+    ensures analog { map (λ n. last_value (object_of analog_read) (known_after n)) (2 ∷ 5 ∷ 6 ∷ [])
         ≡ Some (known_of analog_read) ∷ Some (known_of analog_read) ∷ Some (known_of analog_read) ∷ [] }
+{}
+
+/// A client interrogates all stations, which are two common addresses.
+#[tactic(auto, unfolding(iec_command::specs::Commands::command_of))]
+pub fn all_stations_by_example()
+    ensures asked { asked_in of_two all_asked [] ≡ Some (1 ∷ 2 ∷ []) }
+    // Each has its confirmation, its rows and its termination.
+    ensures line { line of_two (all_asked ∷ []) ≡ Part (Commanded (answered_with 7 1)) ∷ Part (Told 20 0 (row_under 1))
+        ∷ Part (Commanded (answered_with 10 1)) ∷ Part (Commanded (answered_with 7 2)) ∷ Part (Told 20 0 (row_under 2))
+        ∷ Part (Commanded (answered_with 10 2)) ∷ [] }
+    ensures left { line of_two (answered_all 4 ++ all_asked ∷ [])
+        ≡ Part (Told 20 0 (row_under 2)) ∷ Part (Commanded (answered_with 10 2)) ∷ [] }
+    // It is pending until both terminations are put out.
+    ensures pending { map (λ n. is_pending (interrogation of_two (answered_all n ++ all_asked ∷ [])))
+        (0 ∷ 3 ∷ 5 ∷ 6 ∷ []) ≡ true ∷ true ∷ true ∷ false ∷ [] }
+    // What was told counts from the first confirmation on, and goes on at the second.
+    ensures told { map (λ n. told (answered_all n)) (0 ∷ 1 ∷ 4 ∷ 6 ∷ [])
+        ≡ None ∷ Some [] ∷ Some (row_under 1 ∷ []) ∷ Some (row_under 1 ∷ row_under 2 ∷ []) ∷ [] }
 {}
 
 /// An execute is an order, which is done or fails.

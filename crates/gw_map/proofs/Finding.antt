@@ -2,10 +2,10 @@
 use Rattle.std.proofs.Common.{◌≡◌, ℕ, zero, suc, ◌+◌, ◌-◌, ◌<◌, ◌≤◌, ◌==◌, add-zero, List, [], ◌∷◌, ◌++◌, length, map, get_or, slice_get, position, Option, Some, None, option_map, Bool, true, false, cond, refl, ap, sym, ◌∙◌, inl, inr, arith}
 use Rattle.std.specs.List.{position_from, list_any}
 use Rattle.std.specs.Map.{keys_of}
-use Rattle.std.proofs.lemmas.Bool.{cases_Bool, true≢false, eqb-true}
+use Rattle.std.proofs.lemmas.Bool.{cases_Bool, true≢false}
 use Rattle.std.proofs.lemmas.Iterator.Adapters.{position_from-zero}
 use Rattle.std.proofs.lemmas.Option.{same_Some}
-use Rattle.gw_map.specs.Sections.{repeated, same_number}
+use Rattle.gw_map.specs.Sections.{repeated}
 use Rattle.gw_map.specs.Settings.{first_from}
 use Rattle.std.proofs.lemmas.List.{append-nil}
 use Rattle.std.proofs.lemmas.Bool.Decides.{nat_tests}
@@ -13,7 +13,9 @@ use Rattle.gw_model.specs.declared.point.Kind.{Kind}
 use Rattle.gw_model.specs.declared.point.Kind.TheVariants.{Binary, Output, Double, Counter, Analog}
 use Rattle.gw_model.specs.declared.point.PointKey.{PointKey}
 use Rattle.gw_model.specs.contracts.point.PointKeyPartialEq.TheImpl.{eq-value}
-use Rattle.gw_model.specs.Keys.{same_key}
+use Rattle.gw_model.specs.declared.point.ObjectKey.{ObjectKey}
+use Rattle.gw_model.specs.Keys.{same_key, same_object}
+use Rattle.gw_model.proofs.Same.{same_object-true}
 use Rattle.gw_entries.specs.declared.row.Row.{Row}
 use Rattle.gw_map.proofs.Repeats.{repeated-append, key_of, key_eq}
 
@@ -85,19 +87,19 @@ none_behind p n (x ∷ xs) ys h = elim (cases_Bool (p x)) [
 ]
 
 -- what is found in a front is one of its elements
-found_in : (a n i : ℕ) (xs ys : List ℕ) → position_from (same_number a) n (xs ++ ys) ≡ Some i → i < n + length xs
-    → list_any (same_number a) xs ≡ true
-found_in a n i [] ys h lt = let le = position_from-le (same_number a) n i ys h in absurd (omega arith)
-found_in a n i (x ∷ xs) ys h lt = elim (cases_Bool (a == x)) [
+found_in : {K : Type 0} (p : K → Bool) (n i : ℕ) (xs ys : List K) → position_from p n (xs ++ ys) ≡ Some i
+    → i < n + length xs → list_any p xs ≡ true
+found_in p n i [] ys h lt = let le = position_from-le p n i ys h in absurd (omega arith)
+found_in p n i (x ∷ xs) ys h lt = elim (cases_Bool (p x)) [
   | inl hit ↦ rw hit
-  | inr miss ↦ rw miss (found_in a (n + 1) i xs ys (rw miss at h) (omega arith))
+  | inr miss ↦ rw miss (found_in p (n + 1) i xs ys (rw miss at h) (omega arith))
 ]
 
-any_more : (a b : ℕ) (xs : List ℕ) → list_any (same_number a) xs ≡ true → list_any (same_number a) (xs ++ b ∷ []) ≡ true
-any_more a b [] h = absurd (true≢false (sym h))
-any_more a b (x ∷ xs) h = elim (cases_Bool (a == x)) [
+any_more : {K : Type 0} (p : K → Bool) (b : K) (xs : List K) → list_any p xs ≡ true → list_any p (xs ++ b ∷ []) ≡ true
+any_more p b [] h = absurd (true≢false (sym h))
+any_more p b (x ∷ xs) h = elim (cases_Bool (p x)) [
   | inl hit ↦ rw hit
-  | inr miss ↦ rw miss (any_more a b xs (rw miss at h))
+  | inr miss ↦ rw miss (any_more p b xs (rw miss at h))
 ]
 
 fresh_head : (again : Bool) (n : ℕ) (more : List ℕ) → cond again (n ∷ []) [] ++ more ≡ []
@@ -105,33 +107,34 @@ fresh_head : (again : Bool) (n : ℕ) (more : List ℕ) → cond again (n ∷ []
 fresh_head true n more h = absurd cc
 fresh_head false n more h = (refl, h)
 
--- an address that stands in the front stands nowhere behind it
-clean : {A : Type 0} (f : A → ℕ) (a n m : ℕ) (old : List ℕ) (ys : List A) → repeated same_number n old (map f ys) ≡ []
-    → list_any (same_number a) old ≡ true
-    → first_from (λ y. a == f y) m ys ≡ None
+-- an information object that stands in the front stands nowhere behind it
+clean : {A : Type 0} (f : A → ObjectKey) (a : ObjectKey) (n m : ℕ) (old : List ObjectKey) (ys : List A)
+    → repeated same_object n old (map f ys) ≡ [] → list_any (same_object a) old ≡ true
+    → first_from (λ y. same_object a (f y)) m ys ≡ None
 unfolding repeated
 clean f a n m old [] h there = refl
 clean f a n m old (y ∷ ys) h there =
     let (fresh, more) =
-    fresh_head (list_any (same_number (f y)) old) n (repeated same_number (n + 1) (old ++ f y ∷ []) (map f ys)) h in
-    elim (cases_Bool (a == f y)) [
+    fresh_head (list_any (same_object (f y)) old) n (repeated same_object (n + 1) (old ++ f y ∷ []) (map f ys)) h in
+    elim (cases_Bool (same_object a (f y))) [
       | inl hit ↦
-          absurd (true≢false (sym there ∙ ap (λ b. list_any (same_number b) old) (eqb-true a (f y) hit) ∙ fresh))
-      | inr miss ↦ rw miss (clean f a (n + 1) (m + 1) (old ++ f y ∷ []) ys more (any_more a (f y) old there))
+          absurd (true≢false (sym there ∙ ap (λ b. list_any (same_object b) old) (same_object-true a (f y) hit) ∙ fresh))
+      | inr miss ↦ rw miss (clean f a (n + 1) (m + 1) (old ++ f y ∷ []) ys more
+          (any_more (same_object a) (f y) old there))
     ]
 
 right_empty : {A : Type 0} (xs ys : List A) → xs ++ ys ≡ [] → ys ≡ []
 right_empty [] ys h = h
 right_empty (x ∷ xs) ys h = absurd cc
 
-pub only_in_front : {A : Type 0} (f : A → ℕ) (a i : ℕ) (front : List ℕ) (ys : List A)
-    → repeated same_number 0 [] (front ++ map f ys) ≡ []
-    → position_from (same_number a) 0 (front ++ map f ys) ≡ Some i → i < length front
-    → first_from (λ y. a == f y) 0 ys ≡ None
+pub only_in_front : {A : Type 0} (f : A → ObjectKey) (a : ObjectKey) (i : ℕ) (front : List ObjectKey) (ys : List A)
+    → repeated same_object 0 [] (front ++ map f ys) ≡ []
+    → position_from (same_object a) 0 (front ++ map f ys) ≡ Some i → i < length front
+    → first_from (λ y. same_object a (f y)) 0 ys ≡ None
 only_in_front f a i front ys single found lt =
     clean f a (0 + length front) 0 front ys
-    (right_empty (repeated same_number 0 [] front) _ (rw (repeated-append same_number 0 [] front (map f ys)) at single))
-    (found_in a 0 i front (map f ys) found (omega arith))
+    (right_empty (repeated same_object 0 [] front) _ (rw (repeated-append same_object 0 [] front (map f ys)) at single))
+    (found_in (same_object a) 0 i front (map f ys) found (omega arith))
 
 -- ---- in terms of positions
 
@@ -176,7 +179,7 @@ none_at_all p t f same front xs h =
     none_front p t f same (0 + length front) 0 xs [] (rw append-nil (none_behind p 0 front (map f xs) h))
 
 -- points by their source
-eq_comm : (a b : ℕ) → (a == b) ≡ (b == a)
+pub eq_comm : (a b : ℕ) → (a == b) ≡ (b == a)
 eq_comm a b = grind (arith, nat_tests)
 
 key_sym_by : (o i p j : ℕ) (k l : Kind)

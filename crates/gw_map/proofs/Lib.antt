@@ -3,3 +3,4 @@ pub mod Loops
 pub mod Repeats
 pub mod Whole
 pub mod Finding
+pub mod Known

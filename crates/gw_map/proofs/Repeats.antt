@@ -8,12 +8,13 @@ use Rattle.gw_model.specs.declared.point.Kind.{Kind}
 use Rattle.gw_model.specs.declared.point.Kind.TheVariants.{Binary, Output, Double, Counter, Analog}
 use Rattle.gw_model.specs.declared.point.PointKey.{PointKey}
 use Rattle.gw_model.specs.contracts.point.PointKeyPartialEq.TheImpl.{eq-value}
-use Rattle.gw_model.specs.Keys.{same_key}
+use Rattle.gw_model.specs.declared.point.ObjectKey.{ObjectKey}
+use Rattle.gw_model.specs.Keys.{same_key, same_object}
 use Rattle.gw_entries.specs.declared.row.Row.{Row}
 use Rattle.gw_entries.specs.Answers.{first}
 use Rattle.gw_entries.specs.declared.fault.Fault.TheVariants.{DoubleAddress}
 use Rattle.gw_entries.specs.declared.fault.Section.TheVariants as of
-use Rattle.gw_map.specs.Sections.{repeated, same_number, double_address, double_addresses}
+use Rattle.gw_map.specs.Sections.{repeated, double_address, double_addresses}
 use Rattle.gw_entries.specs.Complaints.{complaint}
 use Rattle.std.proofs.lemmas.Bool.Decides.{nat_tests}
 use Rattle.gw_map.proofs.Loops.{take_all}
@@ -119,41 +120,41 @@ not-false false h = absurd cc
 
 -- ---- addresses of points and of controls
 
-points_part : (points k : ℕ) (old xs : List ℕ) → k + length xs ≤ points
-    → map (double_address points) (repeated same_number k old xs)
-    ≡ map (λ n. complaint of.Point n (DoubleAddress, codes "address")) (repeated same_number k old xs)
+points_part : (points k : ℕ) (old xs : List ObjectKey) → k + length xs ≤ points
+    → map (double_address points) (repeated same_object k old xs)
+    ≡ map (λ n. complaint of.Point n (DoubleAddress, codes "address")) (repeated same_object k old xs)
 unfolding repeated
 points_part points k old [] h = refl
 points_part points k old (x ∷ xs) h =
     let below : nat_lt k points ≡ true = grind (arith, nat_tests) in
     let more = points_part points (k + 1) (old ++ x ∷ []) xs (omega arith) in
-    elim (cases_Bool (list_any (same_number x) old)) [
+    elim (cases_Bool (list_any (same_object x) old)) [
       | inl again ↦ rw (again, below, more)
       | inr fresh ↦ rw (fresh, more)
     ]
 
-controls_part : (points k m : ℕ) (old xs : List ℕ) → m ≡ points + k
-    → map (double_address points) (repeated same_number m old xs)
-    ≡ map (λ n. complaint of.Control n (DoubleAddress, codes "address")) (repeated same_number k old xs)
+controls_part : (points k m : ℕ) (old xs : List ObjectKey) → m ≡ points + k
+    → map (double_address points) (repeated same_object m old xs)
+    ≡ map (λ n. complaint of.Control n (DoubleAddress, codes "address")) (repeated same_object k old xs)
 unfolding repeated
 controls_part points k m old [] e = refl
 controls_part points k m old (x ∷ xs) e =
     let above : nat_lt m points ≡ false = grind (arith, nat_tests) in
     let place : m - points ≡ k = omega arith in
     let more = controls_part points (k + 1) (m + 1) (old ++ x ∷ []) xs (omega arith) in
-    elim (cases_Bool (list_any (same_number x) old)) [
+    elim (cases_Bool (list_any (same_object x) old)) [
       | inl again ↦ rw (again, above, place, more)
       | inr fresh ↦ rw (fresh, more)
     ]
 
-pub double_split : (points controls : List ℕ) → double_addresses points controls
-    ≡ map (λ n. complaint of.Point n (DoubleAddress, codes "address")) (repeated same_number 0 [] points)
-    ++ map (λ n. complaint of.Control n (DoubleAddress, codes "address")) (repeated same_number 0 points controls)
+pub double_split : (points controls : List ObjectKey) → double_addresses points controls
+    ≡ map (λ n. complaint of.Point n (DoubleAddress, codes "address")) (repeated same_object 0 [] points)
+    ++ map (λ n. complaint of.Control n (DoubleAddress, codes "address")) (repeated same_object 0 points controls)
 double_split points controls =
     rw (
-      repeated-append same_number 0 [] points controls,
-      map-append (double_address (length points)) (repeated same_number 0 [] points)
-          (repeated same_number (0 + length points) points controls),
+      repeated-append same_object 0 [] points controls,
+      map-append (double_address (length points)) (repeated same_object 0 [] points)
+          (repeated same_object (0 + length points) points controls),
       points_part (length points) 0 [] points (omega arith),
       controls_part (length points) 0 (0 + length points) points controls (omega arith),
     )

@@ -9,8 +9,7 @@ use Rattle.gw_entries.specs.declared.fault.Fault.TheVariants.{Missing, WrongType
 use Rattle.gw_entries.specs.declared.fault.Section.TheVariants as of
 use Rattle.gw_entries.specs.Answers.{first}
 use Rattle.gw_entries.specs.Complaints.{complaint, placed, table_wrongs, no_mismatches}
-use Rattle.gw_map.specs.Sections.{station_complaints, tables_of}
-use Rattle.gw_map.specs.Meaning.{table_at}
+use Rattle.gw_map.specs.Sections.{station_complaints, tables_of, table_at}
 use Rattle.gw_entries.specs.Tables.{station_keys}
 
 -- ---- the station

@@ -1,5 +1,5 @@
 -- The settings, put together.
-use Rattle.std.proofs.Common.{◌≡◌, ℕ, List, [], ◌∷◌, length, map, Result, Ok, Err, refl, ap, sym, ◌∙◌}
+use Rattle.std.proofs.Common.{◌≡◌, ℕ, ◌≤◌, arith, codes, min, List, [], ◌∷◌, length, map, Result, Ok, Err, refl, ap, sym, ◌∙◌}
 use Rattle.std.specs.Map.{values_of}
 use Rattle.std.specs.Result.{result_map_both}
 use Rattle.std.proofs.lemmas.List.{length-map}
@@ -7,6 +7,7 @@ use Rattle.std.proofs.lemmas.Option.{same_Some}
 use Rattle.toml.specs.Data.{Members}
 use Rattle.gw_model.specs.Outcome.{Gives}
 use Rattle.gw_model.specs.declared.point.PointKey.{PointKey}
+use Rattle.gw_model.specs.declared.point.ObjectKey.{ObjectKey}
 use Rattle.gw_entries.specs.declared.control.Control.{Control}
 use Rattle.gw_entries.specs.declared.fault.SettingsFault.{SettingsFault}
 use Rattle.gw_entries.specs.declared.fault.SettingsFault.TheVariants.{Toml, Refused, Memory}
@@ -15,10 +16,13 @@ use Rattle.gw_entries.specs.Answers.{first, Tells}
 use Rattle.gw_entries.specs.Complaints.{Complaint}
 use Rattle.gw_entries.specs.Faults.{refusal_of, is_no_memory}
 use Rattle.gw_entries.specs.Fields.{row_fields, control_fields}
+use Rattle.gw_entries.specs.Setup.{StationSetup, OutstationSetup, RowFields, ControlFields}
 use Rattle.gw_entries.specs.Faults.{refused}
 use Rattle.gw_map.specs.Meaning.{answer_to}
+use Rattle.gw_map.specs.Sections.{entries, station_in, outstations_in, object_in}
+use Rattle.gw_map.specs.Settings.{row_object, control_object}
 use Rattle.gw_entries.specs.Tables.{point_keys, control_keys}
-use Rattle.gw_entries.specs.Values.{source_of, number_in, row_of, control_of}
+use Rattle.gw_entries.specs.Values.{outstation_of, source_of, row_of, control_of}
 
 pub same_length : {X Y Z : Type 0} (n : ℕ) (g : X → Z) (f : Y → Z) (items : List X) (ts : List Y) → n ≡ length items
     → map g items ≡ map f ts → n ≡ length ts
@@ -32,28 +36,57 @@ map-map : {X Y Z : Type 0} (f : Y → Z) (g : X → Y) (xs : List X) → map f (
 map-map f g [] = refl
 map-map f g (x ∷ xs) = ap (λ ys. f (g x) ∷ ys) (map-map f g xs)
 
+abbrev pub object : ℕ → ℕ → ObjectKey
+object common address = record { common_address = common; address = address }
+
 part_of : {X Y Z W : Type 0} (h : Z → W) (g : X → Z) (f : Y → Z) (xs : List X) (ys : List Y) → map g xs ≡ map f ys
     → map (λ x. h (g x)) xs ≡ map (λ y. h (f y)) ys
 part_of h g f xs ys e = sym (map-map h g xs) ∙ ap (map h) e ∙ map-map h f ys
 
-pub same_keys : (rows rows' : List Row) (ts : List Members) → rows' ≡ rows → map row_fields rows ≡ map row_of ts
-    → map (λ row. row.key) rows' ≡ map source_of ts
-unfolding row_of
-same_keys rows rows' ts e same =
-    ap (map (λ row. row.key)) e ∙ part_of (λ fields. fields.key) row_fields row_of rows ts same
+module _ (outstations : List OutstationSetup) where
+  pub same_keys : (rows rows' : List Row) (ts : List Members) → rows' ≡ rows
+      → map row_fields rows ≡ map (row_of outstations) ts → map (λ row. row.key) rows' ≡ map source_of ts
+  unfolding row_of
+  same_keys rows rows' ts e same =
+      ap (map (λ row. row.key)) e ∙ part_of (λ fields. fields.key) row_fields (row_of outstations) rows ts same
 
-pub same_addresses : (rows rows' : List Row) (ts : List Members) → rows' ≡ rows → map row_fields rows ≡ map row_of ts
-    → map (λ row. row.address) rows' ≡ map (number_in point_keys "address") ts
-unfolding row_of
-same_addresses rows rows' ts e same =
-    ap (map (λ row. row.address)) e ∙ part_of (λ fields. fields.address) row_fields row_of rows ts same
+  pub same_objects : (rows rows' : List Row) (ts : List Members) → rows' ≡ rows
+      → map row_fields rows ≡ map (row_of outstations) ts
+      → map row_object rows' ≡ map (object_in point_keys outstations) ts
+  unfolding row_of
+  same_objects rows rows' ts e same =
+      ap (map row_object) e
+      ∙ part_of {Z = RowFields} (λ fields. object fields.common_address fields.address)
+      row_fields (row_of outstations) rows ts same
 
-pub same_control_addresses : (controls controls' : List Control) (ts : List Members) → controls' ≡ controls
-    → map control_fields controls ≡ map control_of ts
-    → map (λ control. control.address) controls' ≡ map (number_in control_keys "address") ts
-unfolding control_of
-same_control_addresses controls controls' ts e same = ap (map (λ control. control.address)) e
-    ∙ part_of (λ fields. fields.address) control_fields control_of controls ts same
+  pub same_control_objects : (controls controls' : List Control) (ts : List Members) → controls' ≡ controls
+      → map control_fields controls ≡ map (control_of outstations) ts
+      → map control_object controls' ≡ map (object_in control_keys outstations) ts
+  unfolding control_of
+  same_control_objects controls controls' ts e same =
+      ap (map control_object) e
+      ∙ part_of {Z = ControlFields} (λ fields. object fields.common_address fields.address)
+      control_fields (control_of outstations) controls ts same
+
+-- the outstations that were read are those of the file
+pub outstations_meant : (top : Members) (station : StationSetup) (items found : List OutstationSetup)
+    → station ≡ station_in top → found ≡ items
+    → map (λ outstation. outstation) items
+    ≡ map (λ ms. outstation_of station.common_address ms) (entries (codes "outstation") top)
+    → found ≡ outstations_in top
+outstations_meant top station items found is found_is e =
+    found_is ∙ sym (map_same items) ∙ e
+    ∙ ap (λ (s : StationSetup). map (outstation_of s.common_address) (entries (codes "outstation") top)) is
+
+-- a point or control may name each of them
+pub outstations_counted : (top : Members) (n : ℕ) (items found : List OutstationSetup) → n ≤ 32 → n ≡ length items
+    → found ≡ items → found ≡ outstations_in top → min (length found) 255 ≡ length (outstations_in top)
+outstations_counted top n items found few is found_is meant =
+    let counted : length found ≡ n = ap length found_is ∙ sym is in
+    fewer counted ∙ ap length meant
+  where
+    fewer : length found ≡ n → min (length found) 255 ≡ length found
+    fewer counted = grind arith
 
 values-keyed : (rows : List Row) → values_of (map (λ row. (row.key, row)) rows) ≡ rows
 values-keyed [] = refl

@@ -1,15 +1,17 @@
 -- What is wrong with a settings file: all complaints, in the order in which they are made. The first one is told.
-use Rattle.std.specs.Prelude.{ℕ, ◌+◌, ◌-◌, Bool, nat_lt, nat_le, ◌==◌, List, [], ◌∷◌, ◌++◌, length, map, codes, Option, Some, None, unwrap_or, option_map, if◌then◌else◌}
+use Rattle.std.specs.Prelude.{ℕ, ◌+◌, ◌-◌, Bool, nat_lt, nat_le, List, [], ◌∷◌, ◌++◌, length, map, codes, Option, Some, None, unwrap_or, option_map, if◌then◌else◌}
 use Rattle.std.specs.List.{list_any}
-use Rattle.toml.specs.Data.{Data, array, table, Items, no_items, item, Members, get_member}
+use Rattle.toml.specs.Data.{Data, array, table, Items, no_items, item, Members, no_members, get_member}
 use Rattle.gw_model.specs.declared.point.PointKey.{PointKey}
-use Rattle.gw_model.specs.Keys.{same_key}
+use Rattle.gw_model.specs.declared.point.ObjectKey.{ObjectKey}
+use Rattle.gw_model.specs.Keys.{same_key, same_object}
 use Rattle.gw_entries.specs.declared.fault.Fault.TheVariants.{Missing, WrongType, OutOfRange, UnknownKey, DoubleSource, DoubleAddress}
 use Rattle.gw_entries.specs.declared.fault.Section.{Section}
 use Rattle.gw_entries.specs.declared.fault.Section.TheVariants.{Top, Station, Outstation, Point, Control}
 use Rattle.gw_entries.specs.Complaints.{Wrong, Complaint, complaint, placed, wrong_at, unknown_keys, table_wrongs, no_mismatches, point_mismatches, control_mismatches}
-use Rattle.gw_entries.specs.Tables.{top_keys, station_keys, outstation_keys, point_keys, control_keys, outstation_limit, row_limit}
-use Rattle.gw_entries.specs.Values.{number_in, source_of}
+use Rattle.gw_entries.specs.Setup.{StationSetup, OutstationSetup, common_at}
+use Rattle.gw_entries.specs.Tables.{KeyRule, top_keys, station_keys, outstation_keys, point_keys, control_keys, outstation_limit, row_limit}
+use Rattle.gw_entries.specs.Values.{number_in, station_of, outstation_of, source_of}
 
 -- ---- the sections
 
@@ -27,6 +29,18 @@ listed (Some _) = None
 
 abbrev pub entries : List ℕ → Members → List Members
 entries key ms = unwrap_or (listed (get_member key ms)) []
+
+-- the station's table: an empty one where there is none
+abbrev pub table_at : Option Data → Members
+table_at (Some (table ms)) = ms
+table_at _ = no_members
+
+-- what they mean
+abbrev pub station_in : Members → StationSetup
+station_in ms = station_of (table_at (get_member (codes "station") ms))
+
+abbrev pub outstations_in : Members → List OutstationSetup
+outstations_in ms = map (outstation_of (station_in ms).common_address) (entries (codes "outstation") ms)
 
 -- the complaints of each entry, from a position on
 unfoldable pub each_from : ℕ → (ℕ → Members → List Complaint) → List Members → List Complaint
@@ -76,12 +90,16 @@ repeated same n before [] = []
 repeated same n before (x ∷ xs) =
     (if list_any (same x) before then n ∷ [] else []) ++ repeated same (n + 1) (before ++ x ∷ []) xs
 
-abbrev pub same_number : ℕ → ℕ → Bool
-same_number a b = a == b
-
 -- the points whose source stood before
 abbrev pub double_sources : List PointKey → List Complaint
 double_sources keys = map (λ n. complaint Point n (DoubleSource, codes "index")) (repeated same_key 0 [] keys)
+
+-- the information object of an entry with these rules: its outstation's common address, and its own address
+abbrev pub object_in : List KeyRule → List OutstationSetup → Members → ObjectKey
+object_in rules outstations ms = record {
+  common_address = common_at (number_in rules "outstation" ms) outstations;
+  address = number_in rules "address" ms;
+}
 
 -- the place n among points and controls, of which so many are points
 abbrev pub double_address : ℕ → ℕ → Complaint
@@ -89,16 +107,16 @@ double_address points n =
     if nat_lt n points then complaint Point n (DoubleAddress, codes "address")
     else complaint Control (n - points) (DoubleAddress, codes "address")
 
--- the points and controls whose address stood before: those of the points come first
-abbrev pub double_addresses : List ℕ → List ℕ → List Complaint
+-- the points and controls whose information object stood before: those of the points come first
+abbrev pub double_addresses : List ObjectKey → List ObjectKey → List Complaint
 double_addresses points controls =
-    map (double_address (length points)) (repeated same_number 0 [] (points ++ controls))
+    map (double_address (length points)) (repeated same_object 0 [] (points ++ controls))
 
 -- ---- the whole
 
 abbrev pub complaints_of : Members → List Complaint
 complaints_of ms =
-    let outstations = entries (codes "outstation") ms in
+    let outstations = outstations_in ms in
     let points = entries (codes "point") ms in
     let controls = entries (codes "control") ms in
     placed Top 0 (wrong_at UnknownKey (unknown_keys top_keys ms))
@@ -107,5 +125,5 @@ complaints_of ms =
     ++ (point_complaints (length outstations) ms
     ++ (control_complaints (length outstations) (length points) ms
     ++ (double_sources (map source_of points)
-    ++ double_addresses (map (number_in point_keys "address") points)
-    (map (number_in control_keys "address") controls))))))
+    ++ double_addresses (map (object_in point_keys outstations) points)
+    (map (object_in control_keys outstations) controls))))))

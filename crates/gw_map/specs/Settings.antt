@@ -1,13 +1,16 @@
 -- The settings as the other parts see them, and the look-ups in them.
-use Rattle.std.specs.Prelude.{◌≡◌, ℕ, ◌+◌, Bool, ◌==◌, List, [], ◌∷◌, ◌++◌, map, Option, Some, None, if◌then◌else◌}
+use Rattle.std.specs.Prelude.{◌≡◌, IsTrue, ℕ, ◌+◌, Bool, not, ◌==◌, ◌&&◌, List, [], ◌∷◌, ◌++◌, map, filter, Option, Some, None, if◌then◌else◌}
+use Rattle.std.specs.List.{list_any, AllByRecursion}
 use Rattle.std.specs.Map.{values_of}
 use Rattle.gw_model.specs.declared.point.PointKey.{PointKey}
-use Rattle.gw_model.specs.Keys.{same_key}
+use Rattle.gw_model.specs.declared.point.ObjectKey.{ObjectKey}
+use Rattle.gw_model.specs.Keys.{same_key, same_object}
 use Rattle.gw_entries.specs.declared.row.Row.{Row}
 use Rattle.gw_entries.specs.declared.control.Control.{Control}
-use Rattle.gw_map.specs.Sections.{repeated, same_number}
+use Rattle.gw_map.specs.Sections.{repeated}
 use Rattle.gw_entries.specs.Setup.{StationSetup, OutstationSetup, RowFields, ControlFields}
 use Rattle.gw_entries.specs.Fields.{row_fields, control_fields}
+use Rattle.gw_entries.specs.Ranges.{IsWithin}
 
 -- as plain values, without the facts that the types of rows and controls keep
 pub record SetupFields : Type 0 where
@@ -31,6 +34,28 @@ setup_fields s = record {
   controls = map control_fields s.controls;
 }
 
+-- ---- common addresses
+
+-- the first of each
+abbrev pub distinct : List ℕ → List ℕ
+distinct [] = []
+distinct (n ∷ more) = n ∷ filter (λ m. not (m == n)) (distinct more)
+
+-- those of the outstations; without an outstation, the station's alone
+abbrev pub known_in : StationSetup → List OutstationSetup → List ℕ
+known_in station [] = station.common_address ∷ []
+known_in station outstations = distinct (map (λ outstation. outstation.common_address) outstations)
+
+-- those that clients may use
+abbrev pub known_addresses : Setup → List ℕ
+known_addresses s = known_in s.station s.outstations
+
+abbrev pub is_among : List ℕ → ℕ → Bool
+is_among addresses n = list_any (λ address. address == n) addresses
+
+abbrev pub is_known : Setup → ℕ → Bool
+is_known s n = is_among (known_addresses s) n
+
 -- ---- look-ups
 
 -- the first of some that passes the test, with its position, which is counted from n on
@@ -42,30 +67,48 @@ first_from test n (x ∷ xs) = if test x then Some (n, x) else first_from test (
 abbrev pub row_from : ℕ → PointKey → List Row → Option (ℕ × Row)
 row_from n key rows = first_from (λ row. same_key row.key key) n rows
 
--- the first row, and the first control, with an address
-abbrev pub row_at_from : ℕ → ℕ → List Row → Option (ℕ × Row)
-row_at_from n address rows = first_from (λ row. address == row.address) n rows
+-- the first row, and the first control, with a common address and an address
+abbrev pub row_at_from : ℕ → ℕ → ℕ → List Row → Option (ℕ × Row)
+row_at_from n common address rows =
+    first_from (λ row. (common == row.common_address) && (address == row.address)) n rows
 
-abbrev pub control_at_from : ℕ → ℕ → List Control → Option (ℕ × Control)
-control_at_from n address controls = first_from (λ control. address == control.address) n controls
+abbrev pub control_at_from : ℕ → ℕ → ℕ → List Control → Option (ℕ × Control)
+control_at_from n common address controls =
+    first_from (λ control. (common == control.common_address) && (address == control.address)) n controls
 
 -- ---- what holds of all settings
 
--- the addresses of points, then of controls
-abbrev pub addresses_of : List Row → List Control → List ℕ
-addresses_of rows controls = map (λ row. row.address) rows ++ map (λ control. control.address) controls
+-- the information objects of a row and of a control; those of points, then of controls
+abbrev pub row_object : Row → ObjectKey
+row_object row = record { common_address = row.common_address; address = row.address }
+
+abbrev pub control_object : Control → ObjectKey
+control_object control = record { common_address = control.common_address; address = control.address }
+
+abbrev pub objects_of : List Row → List Control → List ObjectKey
+objects_of rows controls = map row_object rows ++ map control_object controls
 
 -- no two rows have one point
 abbrev pub HasSingleSources : List Row → Type 0
 HasSingleSources rows = repeated same_key 0 [] (map (λ row. row.key) rows) ≡ []
 
--- no two rows or controls have one address
+-- no two rows or controls have one common address and address
 abbrev pub HasSingleAddresses : List Row → List Control → Type 0
-HasSingleAddresses rows controls = repeated same_number 0 [] (addresses_of rows controls) ≡ []
+HasSingleAddresses rows controls = repeated same_object 0 [] (objects_of rows controls) ≡ []
 
--- what the indexes hold: each row at its point, and every address
-pub record IsKept (points : List (PointKey × Row)) (controls : List Control) (addresses : List ℕ) : Type 0 where
+-- what the indexes hold: each row at its point, and every information object
+pub record IsKept (points : List (PointKey × Row)) (controls : List Control) (objects : List ObjectKey) : Type 0 where
   pub keyed : points ≡ map (λ row. (row.key, row)) (values_of points)
-  pub addressed : addresses ≡ addresses_of (values_of points) controls
+  pub addressed : objects ≡ objects_of (values_of points) controls
   pub sources : HasSingleSources (values_of points)
   pub single : HasSingleAddresses (values_of points) controls
+
+-- the known addresses are in their range, and each point's and each control's is one of them
+pub record IsKnowing (station : StationSetup) (outstations : List OutstationSetup) (rows : List Row)
+    (controls : List Control) (addresses : List ℕ) : Type 0 where
+  pub known : addresses ≡ known_in station outstations
+  pub within : AllByRecursion (IsWithin 1 65534) (known_in station outstations)
+  pub each_row : AllByRecursion
+      (λ (row : Row). IsTrue (is_among (known_in station outstations) row.common_address)) rows
+  pub each_control : AllByRecursion
+      (λ (control : Control). IsTrue (is_among (known_in station outstations) control.common_address)) controls

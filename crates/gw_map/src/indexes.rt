@@ -1,4 +1,4 @@
-//! The indexes of the settings: points by their source, and points and controls by their address.
+//! The indexes of the settings: points by their source, and points and controls by their information object.
 ghost use Rattle.std.specs.Prelude.{◌≡◌, length, map, codes};
 ghost use Rattle.gw_entries.specs.Answers.{Tells};
 ghost use Rattle.gw_map.specs.Answers.{Adds};
@@ -6,12 +6,12 @@ ghost use Rattle.gw_entries.specs.Complaints.{complaint};
 ghost use Rattle.gw_map.specs.Sections.{double_sources, double_addresses};
 ghost use Rattle.gw_entries.specs.Faults.{refusal_of};
 ghost use Rattle.gw_entries.specs.Faults.{refused};
-ghost use Rattle.gw_map.specs.Settings.{addresses_of};
+ghost use Rattle.gw_map.specs.Settings.{row_object, control_object, objects_of};
 ghost use Rattle.gw_entries.specs.declared.fault.Fault.TheVariants.{DoubleAddress};
 ghost use Rattle.gw_entries.specs.declared.fault.Section.TheVariants as of;
 
 use gw_entries::{Control, Fault, KeyFault, Row, Section, SettingsFault};
-use gw_model::PointKey;
+use gw_model::{ObjectKey, PointKey};
 use indexmap::{IndexMap, IndexSet};
 use std::alloc::Global;
 
@@ -36,7 +36,7 @@ pub(crate) fn point_map(
     Ok(points)
 }
 
-/// The address is in use before.
+/// The information object is in use before.
 fn double_address(section: Section, position: usize) -> SettingsFault
     ensures { refusal_of result ≡ refused (complaint section position (DoubleAddress, codes "address")) }
 {
@@ -47,42 +47,50 @@ fn double_address(section: Section, position: usize) -> SettingsFault
     fault.at(section, position)
 }
 
-/// Adds addresses, after which so many are in use; the first that stood before is refused.
-fn add_addresses(addresses: &mut IndexSet<u32>, rows: &[Row]) -> Result<(), SettingsFault>
-    ensures { Adds result addresses.old.keys addresses.new.keys (map (λ row. row.address) rows.now) of.Point }
+/// Adds the information objects of points. The first that stood before is refused.
+fn add_addresses(addresses: &mut IndexSet<ObjectKey>, rows: &[Row]) -> Result<(), SettingsFault>
+    ensures { Adds result addresses.old.keys addresses.new.keys (map row_object rows.now) of.Point }
 {
     for (position, row) in rows.iter().enumerate() {
-        if !addresses.insert(row.address)? {
+        let object = ObjectKey {
+            common_address: row.common_address,
+            address: row.address,
+        };
+        if !addresses.insert(object)? {
             return Err(double_address(Section::Point, position));
         }
     }
     Ok(())
 }
 
+/// Adds the information objects of controls. The first that stood before is refused.
 fn add_control_addresses(
-    addresses: &mut IndexSet<u32>,
+    addresses: &mut IndexSet<ObjectKey>,
     controls: &[Control],
 ) -> Result<(), SettingsFault>
-    ensures { Adds result addresses.old.keys addresses.new.keys (map (λ control. control.address) controls.now)
-        of.Control }
+    ensures { Adds result addresses.old.keys addresses.new.keys (map control_object controls.now) of.Control }
 {
     for (position, control) in controls.iter().enumerate() {
-        if !addresses.insert(control.address)? {
+        let object = ObjectKey {
+            common_address: control.common_address,
+            address: control.address,
+        };
+        if !addresses.insert(object)? {
             return Err(double_address(Section::Control, position));
         }
     }
     Ok(())
 }
 
-/// The addresses of the points, then of the controls. The first that stood before is refused.
+/// The information objects of the points, then of the controls. The first that stood before is refused.
 pub(crate) fn address_index(
     alloc: Global,
     rows: &[Row],
     controls: &[Control],
-) -> Result<IndexSet<u32>, SettingsFault>
+) -> Result<IndexSet<ObjectKey>, SettingsFault>
     ensures { Tells (λ addresses. addresses.keys) result
-        (double_addresses (map (λ row. row.address) rows.now) (map (λ control. control.address) controls.now))
-        (addresses_of rows.now controls.now) }
+        (double_addresses (map row_object rows.now) (map control_object controls.now))
+        (objects_of rows.now controls.now) }
 {
     let mut addresses = IndexSet::with_capacity(alloc, rows.len())?;
     add_addresses(&mut addresses, rows)?;

@@ -1,6 +1,7 @@
 //! The settings of the gateway, read from a TOML text: the station, the outstations, the point map and the controls.
 #![tactic(auto)]
 
+mod common_addresses;
 mod defaults;
 pub mod examples;
 mod indexes;

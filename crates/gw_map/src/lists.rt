@@ -1,16 +1,15 @@
 //! The sections of the settings, entry by entry.
-ghost use Rattle.std.specs.Prelude.{◌≡◌, ◌≤◌, ◌++◌, IfOk, length, map, codes, option_map, vec_len};
+ghost use Rattle.std.specs.Prelude.{◌≡◌, ◌≤◌, ◌++◌, IfOk, length, map, min, codes, option_map, vec_len};
 ghost use Rattle.toml.specs.Data.{get_member};
 ghost use Rattle.toml.specs.View.{table_view, items_view};
 ghost use Rattle.gw_entries.specs.Answers.{Tells};
 ghost use Rattle.gw_map.specs.Answers.{seen};
 ghost use Rattle.gw_entries.specs.Complaints.{complaint, placed, table_wrongs, no_mismatches, point_mismatches, control_mismatches};
-ghost use Rattle.gw_map.specs.Sections.{tables_of, listed, entries, each_from, list_complaints, station_complaints};
+ghost use Rattle.gw_map.specs.Sections.{tables_of, listed, entries, each_from, list_complaints, station_complaints, station_in};
 ghost use Rattle.gw_entries.specs.Faults.{refusal_of, refused, section_name};
 ghost use Rattle.gw_entries.specs.Fields.{row_fields, control_fields};
-ghost use Rattle.gw_map.specs.Meaning.{table_at};
 ghost use Rattle.gw_entries.specs.Tables.{outstation_keys, point_keys, control_keys};
-ghost use Rattle.gw_entries.specs.Values.{station_of, outstation_of, row_of, control_of};
+ghost use Rattle.gw_entries.specs.Values.{outstation_of, row_of, control_of};
 ghost use Rattle.gw_entries.specs.declared.fault.Section.TheVariants as of;
 
 use gw_entries::{
@@ -84,7 +83,7 @@ fn tables_in<'a>(
 pub(crate) fn station_in(alloc: Global, top: &Table) -> Result<Station, SettingsFault>
     ensures { Tells (λ station. station) result
         (station_complaints (get_member (codes "station") (table_view top.now)))
-        (station_of (table_at (get_member (codes "station") (table_view top.now)))) }
+        (station_in (table_view top.now)) }
 {
     let Some(value) = value_at(top, "station") else {
         return Err(at_top(Fault::Missing, Section::Station));
@@ -97,31 +96,34 @@ pub(crate) fn station_in(alloc: Global, top: &Table) -> Result<Station, Settings
 
 /// What settings have a list of.
 pub(crate) trait Listed: Sized + Drop {
-    ghost use Rattle.std.specs.Prelude.{ℕ, List};
+    ghost use Rattle.std.specs.Prelude.{ℕ, List, length, min};
     ghost use Rattle.toml.specs.Data.{Members};
     ghost use Rattle.toml.specs.View.{table_view};
     ghost use Rattle.gw_entries.specs.Answers.{Tells};
     ghost use Rattle.gw_entries.specs.Complaints.{Complaint};
+    ghost use Rattle.gw_entries.specs.Setup.{OutstationSetup};
 
     /// As a plain value.
     ghost Fields: { Type 0 };
 
     ghost fields: { Self → Fields };
 
-    /// What is wrong with the table at a position, where there are so many outstations; and what it means.
+    /// What is wrong with the table at a position, where there are so many outstations; and what it means, where the
+    /// station has this common address, with these outstations.
     ghost complaints: { ℕ → ℕ → Members → List Complaint };
 
-    ghost meaning: { Members → Fields };
+    ghost meaning: { ℕ → List OutstationSetup → Members → Fields };
 
-    /// The entry of the table at a position, where there are so many outstations.
+    /// The entry of the table at a position, where the station and these outstations stand before it.
     fn entry(
         alloc: Global,
         table: &Table,
         position: usize,
-        outstations: u8,
+        station: &Station,
+        outstations: &[Outstation],
     ) -> Result<Self, SettingsFault>
-        ensures { Tells fields result (complaints outstations position (table_view table.now))
-            (meaning (table_view table.now)) };
+        ensures { Tells fields result (complaints (min (length outstations.now) 255) position (table_view table.now))
+            (meaning station.now.common_address outstations.now (table_view table.now)) };
 }
 
 impl Listed for Outstation {
@@ -134,15 +136,16 @@ impl Listed for Outstation {
     ghost complaints = { λ _ position ms.
         placed of.Outstation position (table_wrongs 0 outstation_keys no_mismatches ms) };
 
-    ghost meaning = { outstation_of };
+    ghost meaning = { λ common _ ms. outstation_of common ms };
 
     fn entry(
         alloc: Global,
         table: &Table,
         position: usize,
-        _outstations: u8,
+        station: &Station,
+        _outstations: &[Outstation],
     ) -> Result<Outstation, SettingsFault> {
-        Outstation::read(alloc, table, position)
+        Outstation::read(alloc, table, position, station)
     }
 }
 
@@ -156,13 +159,14 @@ impl Listed for Row {
     ghost complaints = { λ outstations position ms.
         placed of.Point position (table_wrongs outstations point_keys point_mismatches ms) };
 
-    ghost meaning = { row_of };
+    ghost meaning = { λ _ outstations ms. row_of outstations ms };
 
     fn entry(
         alloc: Global,
         table: &Table,
         position: usize,
-        outstations: u8,
+        _station: &Station,
+        outstations: &[Outstation],
     ) -> Result<Row, SettingsFault> {
         Row::read(alloc, table, position, outstations)
     }
@@ -178,50 +182,56 @@ impl Listed for Control {
     ghost complaints = { λ outstations position ms.
         placed of.Control position (table_wrongs outstations control_keys control_mismatches ms) };
 
-    ghost meaning = { control_of };
+    ghost meaning = { λ _ outstations ms. control_of outstations ms };
 
     fn entry(
         alloc: Global,
         table: &Table,
         position: usize,
-        outstations: u8,
+        _station: &Station,
+        outstations: &[Outstation],
     ) -> Result<Control, SettingsFault> {
         Control::read(alloc, table, position, outstations)
     }
 }
 
-/// The entries of some tables, where there are so many outstations.
+/// The entries of some tables, where the station and these outstations stand before them.
 fn entries_of<T: Listed>(
     alloc: Global,
     tables: &[&Table],
-    outstations: u8,
+    station: &Station,
+    outstations: &[Outstation],
 ) -> Result<Vec<T>, SettingsFault>
     ensures read { Tells (λ found. map T.fields found.items) result
-        (each_from 0 (T.complaints outstations) (seen tables.now)) (map T.meaning (seen tables.now)) }
+        (each_from 0 (T.complaints (min (length outstations.now) 255)) (seen tables.now))
+        (map (T.meaning station.now.common_address outstations.now) (seen tables.now)) }
     ensures len { IfOk result (λ found. vec_len found ≡ length tables.now) }
 {
     let mut entries = Vec::with_capacity(alloc, tables.len())?;
     for (position, table) in tables.iter().enumerate() {
-        entries.push(T::entry(alloc, table, position, outstations)?)?;
+        entries.push(T::entry(alloc, table, position, station, outstations)?)?;
     }
     Ok(entries)
 }
 
-/// The entries of a section, which has room for so many, where there are so many outstations.
+/// The entries of a section, which has room for so many, where the station and these outstations stand before it.
 pub(crate) fn entries_in<T: Listed>(
     alloc: Global,
     top: &Table,
     section: Section,
     room: usize,
-    outstations: u8,
+    station: &Station,
+    outstations: &[Outstation],
 ) -> Result<Vec<T>, SettingsFault>
     ensures read { Tells (λ found. map T.fields found.items) result
         (list_complaints section (section_name section) room
         (listed (get_member (section_name section) (table_view top.now)))
-        ++ each_from 0 (T.complaints outstations) (entries (section_name section) (table_view top.now)))
-        (map T.meaning (entries (section_name section) (table_view top.now))) }
+        ++ each_from 0 (T.complaints (min (length outstations.now) 255))
+        (entries (section_name section) (table_view top.now)))
+        (map (T.meaning station.now.common_address outstations.now)
+        (entries (section_name section) (table_view top.now))) }
     ensures few { IfOk result (λ found. vec_len found ≤ room) }
 {
     let tables = tables_in(alloc, top, section, room)?;
-    entries_of(alloc, &tables, outstations)
+    entries_of(alloc, &tables, station, outstations)
 }

@@ -1,5 +1,6 @@
 //! The settings as a whole.
-ghost use Rattle.std.specs.Prelude.{◌≡◌, option_map};
+ghost use Rattle.std.specs.Prelude.{◌≡◌, IsTrue, option_map};
+ghost use Rattle.std.specs.List.{AllByRecursion};
 ghost use Rattle.std.specs.Result.{result_map_both};
 ghost use Rattle.toml.specs.View.{table_view};
 ghost use Rattle.gw_model.specs.Outcome.{Gives};
@@ -7,13 +8,14 @@ ghost use Rattle.gw_entries.specs.Answers.{Tells};
 ghost use Rattle.gw_map.specs.Sections.{complaints_of};
 ghost use Rattle.gw_entries.specs.Faults.{refusal_of, is_no_memory};
 ghost use Rattle.gw_map.specs.Meaning.{setup_of, reading_of};
-ghost use Rattle.gw_entries.specs.Ranges.{IsStation};
-ghost use Rattle.gw_map.specs.Settings.{setup_fields, row_from, row_at_from, control_at_from, HasSingleSources, HasSingleAddresses};
+ghost use Rattle.gw_entries.specs.Ranges.{IsStation, IsWithin};
+ghost use Rattle.gw_map.specs.Settings.{setup_fields, known_addresses, is_known, row_from, row_at_from, control_at_from, HasSingleSources, HasSingleAddresses};
 
+use crate::common_addresses::known_addresses;
 use crate::indexes::{address_index, point_map};
 use crate::lists::{OUTSTATIONS, ROWS, entries_in, station_in};
 use gw_entries::{Control, Outstation, Row, Section, SettingsFault, Station, check_keys};
-use gw_model::PointKey;
+use gw_model::{ObjectKey, PointKey};
 use gw_time::Zone;
 use indexmap::{IndexMap, IndexSet};
 use std::alloc::Global;
@@ -22,19 +24,20 @@ use std::marker::Model;
 use toml::Table;
 
 /// The station, its outstations, the point map and the controls. No two points have one source, and no two points
-/// or controls one address.
+/// or controls one common address and address.
 #[derive(Drop)]
 pub struct Settings {
     station: Station,
     outstations: Vec<Outstation>,
     points: IndexMap<PointKey, Row>,
     controls: Vec<Control>,
-    addresses: IndexSet<u32>,
+    addresses: IndexSet<ObjectKey>,
+    known: Vec<u16>,
 }
 
 impl Model for Settings {
     ghost use Rattle.std.specs.Map.{values_of};
-    ghost use Rattle.gw_map.specs.Settings.{Setup, IsKept};
+    ghost use Rattle.gw_map.specs.Settings.{Setup, IsKept, IsKnowing};
 
     ghost Value = { Setup };
 
@@ -45,7 +48,8 @@ impl Model for Settings {
       controls = s.controls.items;
     } };
 
-    ghost invariant = { λ s. IsKept s.points.entries s.controls.items s.addresses.keys };
+    ghost invariant = { λ s. IsKept s.points.entries s.controls.items s.addresses.keys
+        × IsKnowing s.station s.outstations.items (values_of s.points.entries) s.controls.items s.known.items };
 }
 
 impl fmt::Debug for Settings {
@@ -77,20 +81,29 @@ impl Settings {
             top,
             Section::Outstation,
             OUTSTATIONS,
-            0,
+            &station,
+            &[],
         )?;
-        let count = outstations.len() as u8;
-        let rows: Vec<Row> = entries_in(alloc, top, Section::Point, ROWS, count)?;
+        let rows: Vec<Row> = entries_in(alloc, top, Section::Point, ROWS, &station, &outstations)?;
         let room = ROWS.saturating_sub(rows.len());
-        let controls: Vec<Control> = entries_in(alloc, top, Section::Control, room, count)?;
+        let controls: Vec<Control> = entries_in(
+            alloc,
+            top,
+            Section::Control,
+            room,
+            &station,
+            &outstations,
+        )?;
         let points = point_map(alloc, &rows)?;
         let addresses = address_index(alloc, &rows, &controls)?;
+        let known = known_addresses(alloc, &station, &outstations)?;
         Ok(Settings {
             station,
             outstations,
             points,
             controls,
             addresses,
+            known,
         })
     }
 
@@ -120,11 +133,28 @@ impl Settings {
         self.outstations.as_slice()
     }
 
+    /// The common addresses that clients may use: those of the outstations, each once, in the order of their first
+    /// outstation; without an outstation the station's alone.
+    pub fn known_addresses(&self) -> &[u16]
+        ensures known { result.now ≡ known_addresses self.now }
+        ensures within { AllByRecursion (IsWithin 1 65534) (known_addresses self.now) }
+    {
+        self.known.as_slice()
+    }
+
+    /// Whether clients may use a common address.
+    pub fn is_known(&self, common_address: u16) -> bool
+        ensures { result ≡ is_known self.now common_address }
+    {
+        self.known.contains(&common_address)
+    }
+
     /// The rows of the point map, in the order of the file.
     pub fn rows(&self) -> &[Row]
         ensures rows { result.now ≡ self.now.rows }
         ensures sources { HasSingleSources self.now.rows }
         ensures addresses { HasSingleAddresses self.now.rows self.now.controls }
+        ensures known { AllByRecursion (λ (row : Row). IsTrue (is_known self.now row.common_address)) self.now.rows }
     {
         let _known = &self.addresses;
         self.points.values().as_slice()
@@ -132,7 +162,9 @@ impl Settings {
 
     /// The controls, in the order of the file.
     pub fn controls(&self) -> &[Control]
-        ensures { result.now ≡ self.now.controls }
+        ensures controls { result.now ≡ self.now.controls }
+        ensures known { AllByRecursion
+            (λ (control : Control). IsTrue (is_known self.now control.common_address)) self.now.controls }
     {
         self.controls.as_slice()
     }
@@ -145,20 +177,30 @@ impl Settings {
         Some((position, row))
     }
 
-    /// The row with an address, with its position in `rows`.
-    pub fn row_at(&self, address: u32) -> Option<(usize, &Row)>
-        ensures { option_map (λ found. (found.0, found.1.now)) result ≡ row_at_from 0 address self.now.rows }
+    /// The row with a common address and an address, with its position in `rows`.
+    pub fn row_at(&self, common_address: u16, address: u32) -> Option<(usize, &Row)>
+        ensures { option_map (λ found. (found.0, found.1.now)) result
+            ≡ row_at_from 0 common_address address self.now.rows }
     {
-        let position = self.addresses.get_index_of(&address)?;
+        let object = ObjectKey {
+            common_address,
+            address,
+        };
+        let position = self.addresses.get_index_of(&object)?;
         let (_, row) = self.points.get_index(position)?;
         Some((position, row))
     }
 
-    /// The control with an address, with its position in `controls`.
-    pub fn control_at(&self, address: u32) -> Option<(usize, &Control)>
-        ensures { option_map (λ found. (found.0, found.1.now)) result ≡ control_at_from 0 address self.now.controls }
+    /// The control with a common address and an address, with its position in `controls`.
+    pub fn control_at(&self, common_address: u16, address: u32) -> Option<(usize, &Control)>
+        ensures { option_map (λ found. (found.0, found.1.now)) result
+            ≡ control_at_from 0 common_address address self.now.controls }
     {
-        let place = self.addresses.get_index_of(&address)?;
+        let object = ObjectKey {
+            common_address,
+            address,
+        };
+        let place = self.addresses.get_index_of(&object)?;
         let position = place.checked_sub(self.points.len())?;
         Some((position, self.controls.get(position)?))
     }

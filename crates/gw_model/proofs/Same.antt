@@ -1,13 +1,14 @@
 -- The tests of specs/Keys answer true exactly for equal arguments.
-use Rattle.std.proofs.Common.{◌≡◌, ℤ, Bool, true, false, ◌&&◌, refl, ap, arith}
+use Rattle.std.proofs.Common.{◌≡◌, ℕ, ℤ, Bool, true, false, ◌&&◌, ◌==◌, refl, sym, ap, ap₂, ◌∙◌, arith, inl, inr}
 use Rattle.std.proofs.Math.Bool.{beq}
 use Rattle.std.specs.Ordering.{int_eq}
 use Rattle.std.proofs.lemmas.Bool.Decides.{Decides-int_eq}
-use Rattle.std.proofs.lemmas.Bool.{eqb-true, and_parts}
+use Rattle.std.proofs.lemmas.Bool.{cases_Bool, eq-eqb, eqb-true, and_from, and_parts, true≢false}
 use Rattle.gw_model.specs.declared.observation.Value.{Value}
 use Rattle.gw_model.specs.declared.observation.Value.TheVariants.{Single, Double, Scaled, Word, Total}
 use Rattle.gw_model.specs.declared.observation.Quality.{Quality}
-use Rattle.gw_model.specs.Keys.{same_value, same_quality}
+use Rattle.gw_model.specs.declared.point.ObjectKey.{ObjectKey}
+use Rattle.gw_model.specs.Keys.{same_value, same_quality, same_object}
 
 beq-true : (a b : Bool) → beq a b ≡ true → a ≡ b
 beq-true true true e = refl
@@ -47,3 +48,24 @@ same_quality-true a b e =
     qualities_equal a.iv a.nt a.sb a.bl a.ov a.cy a.ca b.iv b.nt b.sb b.bl b.ov b.cy b.ca
     (beq-true _ _ p1.0) (beq-true _ _ p1.1) (beq-true _ _ p2.1) (beq-true _ _ p3.1)
     (beq-true _ _ p4.1) (beq-true _ _ p5.1) (beq-true _ _ p6.1)
+
+abbrev object : ℕ → ℕ → ObjectKey
+object common address = record { common_address = common; address = address }
+
+pub same_object-true : (a b : ObjectKey) → same_object a b ≡ true → a ≡ b
+same_object-true a b e =
+    let parts = and_parts (a.common_address == b.common_address) (a.address == b.address) e in
+    ap₂ object (eqb-true a.common_address b.common_address parts.0) (eqb-true a.address b.address parts.1)
+
+pub eq-same_object : (a b : ObjectKey) → a ≡ b → same_object a b ≡ true
+eq-same_object a b e =
+    and_from (a.common_address == b.common_address) (a.address == b.address)
+    (eq-eqb a.common_address b.common_address (ap (λ (o : ObjectKey). o.common_address) e))
+    (eq-eqb a.address b.address (ap (λ (o : ObjectKey). o.address) e))
+
+-- it doesn't matter which one is asked
+pub other_object : (a b : ObjectKey) → same_object a b ≡ false → same_object b a ≡ false
+other_object a b e = elim (cases_Bool (same_object b a)) [
+  | inl same ↦ absurd (true≢false (sym (eq-same_object a b (sym (same_object-true b a same))) ∙ e))
+  | inr other ↦ other
+]

@@ -29,7 +29,9 @@ IsInWindow offset Untimed = Unit {0}
 IsInWindow offset (At t) = IsIn21stCentury offset t
 IsInWindow offset (Doubtful t) = IsIn21stCentury offset t
 
+-- 0 is not used as a common address, and 65535 is all stations
 pub record IsFit (offset : ℤ) (x : Observation) : Type 0 where
+  pub common : (1 ≤ x.common) × (x.common ≤ 65534)
   pub address : (1 ≤ x.address) × (x.address ≤ 16777215)
   pub element : IsTrue (is_of_element x.value x.quality)
   pub stamp : IsInWindow offset x.stamp

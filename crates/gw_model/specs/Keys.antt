@@ -5,6 +5,7 @@ use Rattle.std.specs.Ordering.{int_eq}
 use Rattle.gw_model.specs.declared.point.Kind.{Kind}
 use Rattle.gw_model.specs.declared.point.Kind.TheVariants as kinds
 use Rattle.gw_model.specs.declared.point.PointKey.{PointKey}
+use Rattle.gw_model.specs.declared.point.ObjectKey.{ObjectKey}
 use Rattle.gw_model.specs.declared.observation.Value.{Value}
 use Rattle.gw_model.specs.declared.observation.Value.TheVariants.{Single, Double, Scaled, Word, Total}
 use Rattle.gw_model.specs.declared.observation.Quality.{Quality}
@@ -20,6 +21,13 @@ same_kind _ _ = false
 
 abbrev pub same_key : PointKey → PointKey → Bool
 same_key a b = (a.outstation == b.outstation) && same_kind a.kind b.kind && (a.index == b.index)
+
+abbrev pub same_object : ObjectKey → ObjectKey → Bool
+same_object a b = (a.common_address == b.common_address) && (a.address == b.address)
+
+-- the information object that an observation is of
+abbrev pub object_of : Observation → ObjectKey
+object_of x = record { common_address = x.common; address = x.address }
 
 abbrev pub same_value : Value → Value → Bool
 same_value (Single a) (Single b) = beq a b

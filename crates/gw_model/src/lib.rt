@@ -13,5 +13,5 @@ pub use control::{Act, Ended, Intent, Order, Shape};
 pub use element::Element;
 pub use memory::Memory;
 pub use observation::{Observation, Quality, Value};
-pub use point::{Kind, PointKey, Raw, Report, Stamp};
+pub use point::{Kind, ObjectKey, PointKey, Raw, Report, Stamp};
 pub use poll::Poll;

@@ -62,9 +62,11 @@ impl Quality {
     };
 }
 
-/// A value with its quality and time, at an information object address.
+/// A value with its quality and time, of an information object.
 #[derive(Clone, Copy, Debug, PartialEq, Eq)]
 pub struct Observation {
+    /// The common address of the object's station (IEC 60870-5-101, 7.2.4).
+    pub common: u16,
     /// The information object address.
     pub address: u32,
     pub value: Value,

@@ -1,4 +1,4 @@
-//! Points of an outstation, and what a fragment reports of them.
+//! Points of an outstation, what a fragment reports of them, and the objects as which clients see them.
 ghost use Rattle.std.specs.Prelude.{IsTrue};
 ghost use Rattle.gw_model.specs.Point.{is_of_kind, is_stamped};
 
@@ -23,6 +23,14 @@ pub struct PointKey {
     pub outstation: u8,
     pub kind: Kind,
     pub index: u16,
+}
+
+/// Which information object: the common address of its station, and its information object address
+/// (IEC 60870-5-101, 7.2.4 and 7.2.5).
+#[derive(Clone, Copy, Debug, PartialEq, Eq, Hash)]
+pub struct ObjectKey {
+    pub common_address: u16,
+    pub address: u32,
 }
 
 /// A point's value as the outstation sends it.

@@ -166,7 +166,7 @@ told_once setup past given =
 
 no_control : (setup : Setup) (c : Command) → setup.controls ≡ [] → control_for setup c ≡ None
 no_control setup c none =
-    ap (λ (controls : List Control). if_of_type c.action (control_at_from 0 c.address controls)) none
+    ap (λ (controls : List Control). if_of_type c.action (control_at_from 0 c.common_address c.address controls)) none
 
 nobody_executes : (setup : Setup) (s : State) (moment c : ℕ) (command : Option Command) → setup.controls ≡ []
     → execute_by setup s moment c command ≡ None

@@ -1,7 +1,7 @@
 -- An I format that is taken gives the command that its ASDU carries, and that is for a control.
 use Rattle.std.proofs.Common.{◌≡◌, ◌↔◌, ℕ, suc, ◌+◌, Bool, true, false, cond, List, [], ◌∷◌, Option, Some, None, option_map, refl, sym, ap, subst, ◌∙◌, arith, true≢false}
-use Rattle.std.specs.Prelude.{◌==◌, slice_get, take, IsSomeAnd}
-use Rattle.std.proofs.lemmas.Bool.{eqb-true}
+use Rattle.std.specs.Prelude.{◌==◌, ◌&&◌, slice_get, take, IsSomeAnd}
+use Rattle.std.proofs.lemmas.Bool.{and_parts, eqb-true}
 use Rattle.std.proofs.lemmas.Option.{same_Some}
 use Rattle.gw_entries.specs.declared.control.Control.{Control}
 use Rattle.gw_entries.specs.declared.control.Operates.{Operates}
@@ -14,6 +14,8 @@ use Rattle.iec_command.specs.declared.command.Action.TheVariants.{Single, Double
 use Rattle.iec_command.specs.declared.command.Command.{Command}
 use Rattle.iec_command.specs.Commands.{type_of}
 use Rattle.gw_control.specs.Intents.{if_of_type, is_of_type}
+use Rattle.gw_model.specs.declared.point.ObjectKey.{ObjectKey}
+use Rattle.gw_judge.specs.Acceptable.{object_for}
 use Rattle.gw_judge.specs.declared.judging.Judged.{Judged}
 use Rattle.gw_judge.specs.declared.judging.Judged.TheVariants.{Accepted}
 use Rattle.gw_judge.specs.Judging.{is_object_of, is_operated, is_operated_by, judged}
@@ -67,27 +69,35 @@ carried setup octets command single =
 
 -- ---- its control
 
--- the first one with an address, which stands so many places behind the first of these
-abbrev StandsAt : ℕ → ℕ → List Control → ℕ × Control → Type 0
-StandsAt address n controls found =
-    (d : ℕ) × (found.0 ≡ n + d) × (slice_get controls d ≡ Some found.1) × (found.1.address ≡ address)
+-- the first one with these addresses, which stands so many places behind the first of these
+abbrev StandsAt : ℕ → ℕ → ℕ → List Control → ℕ × Control → Type 0
+StandsAt common address n controls found =
+    (d : ℕ) × (found.0 ≡ n + d) × (slice_get controls d ≡ Some found.1) × (found.1.common_address ≡ common)
+    × (found.1.address ≡ address)
 
-looked_up : (address n : ℕ) (controls : List Control) (found : ℕ × Control)
-    → control_at_from n address controls ≡ Some found → StandsAt address n controls found
-looked_up address n [] found e = absurd cc
-looked_up address n (control ∷ more) found e =
-    by (λ later. looked_up address (n + 1) more found later) (address == control.address) refl e
+looked_up : (common address n : ℕ) (controls : List Control) (found : ℕ × Control)
+    → control_at_from n common address controls ≡ Some found → StandsAt common address n controls found
+looked_up common address n [] found e = absurd cc
+looked_up common address n (control ∷ more) found e =
+    by (λ later. looked_up common address (n + 1) more found later)
+    ((common == control.common_address) && (address == control.address)) refl e
   where
-    by : (control_at_from (n + 1) address more ≡ Some found → StandsAt address (n + 1) more found)
-        → (b : Bool) → (address == control.address) ≡ b
-        → cond b (Some (n, control)) (control_at_from (n + 1) address more) ≡ Some found
-        → StandsAt address n (control ∷ more) found
+    by : (control_at_from (n + 1) common address more ≡ Some found → StandsAt common address (n + 1) more found)
+        → (b : Bool) → ((common == control.common_address) && (address == control.address)) ≡ b
+        → cond b (Some (n, control)) (control_at_from (n + 1) common address more) ≡ Some found
+        → StandsAt common address n (control ∷ more) found
     by rest true is e =
-        subst (StandsAt address n (control ∷ more)) (same_Some (n, control) found e)
-        (0, omega arith, refl, sym (eqb-true address control.address is))
+        let both = and_parts (common == control.common_address) (address == control.address) is in
+        subst (StandsAt common address n (control ∷ more)) (same_Some (n, control) found e) (
+          0,
+          omega arith,
+          refl,
+          sym (eqb-true common control.common_address both.0),
+          sym (eqb-true address control.address both.1),
+        )
     by rest false is e =
         let r = rest e in
-        let place : found.0 ≡ (n + 1) + r.0 = r.1 in (suc r.0, omega (arith, place), r.2, r.3)
+        let place : found.0 ≡ (n + 1) + r.0 = r.1 in (suc r.0, omega (arith, place), r.2, r.3, r.4)
 
 -- the types that operate it
 same_type : (action : Action) (operates : Operates) → is_operated_by action operates ≡ true
@@ -97,25 +107,28 @@ same_type (Double x) (operated.Double pulses) e = (refl, refl)
 same_type (Setpoint x) (operated.Setpoint scale) e = (refl, refl)
 same_type _ _ e = absurd (true≢false (sym e))
 
-is_there : (setup : Setup) (action : Action) (address : ℕ) → commands_control action ≡ true
-    → is_object_of setup action address ≡ true → is_operated action (control_at_from 0 address setup.controls) ≡ true
-is_there setup (Single x) address c e = e
-is_there setup (Double x) address c e = e
-is_there setup (Setpoint x) address c e = e
-is_there setup _ address c e = absurd (true≢false (sym c))
+is_there : (setup : Setup) (action : Action) (object : ObjectKey) → commands_control action ≡ true
+    → is_object_of setup action object ≡ true
+    → is_operated action (control_at_from 0 object.common_address object.address setup.controls) ≡ true
+is_there setup (Single x) object c e = e
+is_there setup (Double x) object c e = e
+is_there setup (Setpoint x) object c e = e
+is_there setup _ object c e = absurd (true≢false (sym c))
 
 control_is : (setup : Setup) (command : Command) (found : Option (ℕ × Control))
-    → control_at_from 0 command.address setup.controls ≡ found → is_operated command.action found ≡ true
+    → control_at_from 0 command.common_address command.address setup.controls ≡ found
+    → is_operated command.action found ≡ true
     → IsSomeAnd (if_of_type command.action found) (IsControlOf setup command)
 control_is setup command None e there = absurd (true≢false (sym there))
 control_is setup command (Some found) e there =
     let types = same_type command.action found.1.operates there in
-    let r = looked_up command.address 0 setup.controls found e in
+    let r = looked_up command.common_address command.address 0 setup.controls found e in
     let place : found.0 ≡ 0 + r.0 = r.1 in
     let same : r.0 ≡ found.0 = omega (arith, place) in
     subst (λ (b : Bool). IsSomeAnd (cond b (Some found) None) (IsControlOf setup command)) (sym types.0) (record {
       at = subst (λ (p : ℕ). slice_get setup.controls p ≡ Some found.1) same r.2;
-      has_address = r.3;
+      has_common_address = r.3;
+      has_address = r.4;
       has_type = types.1;
     })
 
@@ -125,9 +138,9 @@ for_control : (setup : Setup) (octets : List ℕ) (c : ℕ) → HasSingleAddress
 for_control setup octets c single None e = tt
 for_control setup octets c single (Some command) e =
     let k = (carried setup octets command single).0 e in
-    control_is setup command (control_at_from 0 command.address setup.controls) refl
-    (is_there setup command.action command.address k.control
-    (object_found setup command.action command.address single k.acceptable.object))
+    control_is setup command (control_at_from 0 command.common_address command.address setup.controls) refl
+    (is_there setup command.action (object_for command) k.control
+    (object_found setup command.action (object_for command) single k.acceptable.object))
 
 -- of an APDU that is taken
 pub is_for_control : (setup : Setup) (c : ℕ) → HasSingleAddresses setup.rows setup.controls → (apdu : Apdu)

@@ -1,6 +1,6 @@
 -- What an APDU of a client makes of the selections whose sessions stand.
 use Rattle.std.proofs.Common.{◌≡◌, ℕ, zero, suc, ◌+◌, ◌<◌, ◌≤◌, Bool, true, false, cond, not, List, [], ◌∷◌, length, Option, Some, None, option_map, refl, sym, ap, subst, ◌∙◌, arith}
-use Rattle.std.specs.Prelude.{◌==◌, slice_get, slice_index}
+use Rattle.std.specs.Prelude.{◌==◌, ◌&&◌, slice_get, slice_index}
 use Rattle.gw_model.specs.Places.{change}
 use Rattle.gw_entries.specs.declared.control.Control.{Control}
 use Rattle.gw_map.specs.Settings.{Setup, control_at_from}
@@ -83,14 +83,15 @@ abbrev Within : ℕ → Option (ℕ × Control) → Type 0
 Within n None = Unit {0}
 Within n (Some found) = found.0 < n
 
-first_within : (address n m : ℕ) (controls : List Control) → m ≡ n + length controls
-    → Within m (control_at_from n address controls)
-first_within address n m [] is = tt
-first_within address n m (control ∷ more) is =
-    by (first_within address (n + 1) m more (omega (arith, is))) (address == control.address)
+first_within : (common address n m : ℕ) (controls : List Control) → m ≡ n + length controls
+    → Within m (control_at_from n common address controls)
+first_within common address n m [] is = tt
+first_within common address n m (control ∷ more) is =
+    by (first_within common address (n + 1) m more (omega (arith, is)))
+    ((common == control.common_address) && (address == control.address))
   where
-    by : Within m (control_at_from (n + 1) address more) → (b : Bool)
-        → Within m (cond b (Some (n, control)) (control_at_from (n + 1) address more))
+    by : Within m (control_at_from (n + 1) common address more) → (b : Bool)
+        → Within m (cond b (Some (n, control)) (control_at_from (n + 1) common address more))
     by rest true = omega (arith, is)
     by rest false = rest
 
@@ -107,8 +108,8 @@ pub found_within : (setup : Setup) (c : Command) (found : ℕ × Control) → co
     → found.0 < length setup.controls
 found_within setup c found is =
     subst (Within (length setup.controls)) is
-    (typed_within (length setup.controls) c.action (control_at_from 0 c.address setup.controls)
-    (first_within c.address 0 (length setup.controls) setup.controls (omega arith)))
+    (typed_within (length setup.controls) c.action (control_at_from 0 c.common_address c.address setup.controls)
+    (first_within c.common_address c.address 0 (length setup.controls) setup.controls (omega arith)))
 
 -- ---- an APDU
 

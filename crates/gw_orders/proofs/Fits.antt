@@ -1,6 +1,6 @@
 -- What a command asks of its control can be written as a request, and read again.
 use Rattle.std.proofs.Common.{◌≡◌, ℕ, ℤ, pos, negsuc, ◌+◌, ◌≤◌, Bool, true, false, cond, List, [], ◌∷◌, Option, Some, None, option_map, refl, subst, arith}
-use Rattle.std.specs.Prelude.{◌==◌}
+use Rattle.std.specs.Prelude.{◌==◌, ◌&&◌}
 use Rattle.std.specs.List.{AllByRecursion}
 use Rattle.std.specs.Int.{w16}
 use Rattle.std.specs.Int.RustNames.{FitsSigned}
@@ -78,13 +78,15 @@ abbrev ShortFound : Option (ℕ × Control) → Type 0
 ShortFound None = Unit {0}
 ShortFound (Some found) = HasShortIndex found.1
 
-first_short : (address n : ℕ) (controls : List Control) → AllByRecursion HasShortIndex controls
-    → ShortFound (control_at_from n address controls)
-first_short address n [] all = tt
-first_short address n (control ∷ more) all = by (first_short address (n + 1) more all.1) (address == control.address)
+first_short : (common address n : ℕ) (controls : List Control) → AllByRecursion HasShortIndex controls
+    → ShortFound (control_at_from n common address controls)
+first_short common address n [] all = tt
+first_short common address n (control ∷ more) all =
+    by (first_short common address (n + 1) more all.1)
+    ((common == control.common_address) && (address == control.address))
   where
-    by : ShortFound (control_at_from (n + 1) address more) → (b : Bool)
-        → ShortFound (cond b (Some (n, control)) (control_at_from (n + 1) address more))
+    by : ShortFound (control_at_from (n + 1) common address more) → (b : Bool)
+        → ShortFound (cond b (Some (n, control)) (control_at_from (n + 1) common address more))
     by rest true = all.0
     by rest false = rest
 
@@ -100,5 +102,5 @@ typed_short action (Some found) short = by (is_of_type action found.1.operates)
 pub found_short : (setup : Setup) (c : Command) (found : ℕ × Control) → AllByRecursion HasShortIndex setup.controls
     → control_for setup c ≡ Some found → HasShortIndex found.1
 found_short setup c found all is =
-    subst ShortFound is (typed_short c.action (control_at_from 0 c.address setup.controls)
-    (first_short c.address 0 setup.controls all))
+    subst ShortFound is (typed_short c.action (control_at_from 0 c.common_address c.address setup.controls)
+    (first_short c.common_address c.address 0 setup.controls all))

@@ -347,9 +347,9 @@ step_gives setup past (steps.Pump c m) r e k =
     let s : State = state_after setup past in
     reply_is setup s (steps.Pump c m) r e
     (client_asks
-    (λ (y : Client). reply_giving (given setup.station.offset_minutes setup.station.common_address (latest s m) y))
+    (λ (y : Client). reply_giving (given setup.station.offset_minutes (latest s m) y))
     (slice_get s.clients c)
-    (λ y. giving_asks (given setup.station.offset_minutes setup.station.common_address (latest s m) y)))
+    (λ y. giving_asks (given setup.station.offset_minutes (latest s m) y)))
 step_gives setup past (steps.Tick m) r e k = reply_is setup (state_after setup past) (steps.Tick m) r e refl
 
 pub entry_gives : (setup : Setup) (past : List Entry) (step : Step) (reply : Result Reply StepFault)

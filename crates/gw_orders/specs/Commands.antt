@@ -147,9 +147,10 @@ type_operating (operated.Single pulses) = 45
 type_operating (operated.Double pulses) = 46
 type_operating (operated.Setpoint scale) = 49
 
--- the control at a position is that of a command: it has its address, and its type operates it
+-- the control at a position is that of a command: it has its addresses, and its type operates it
 pub record IsControlOf (setup : Setup) (command : Command) (found : ℕ × Control) : Type 0 where
   pub at : slice_get setup.controls found.0 ≡ Some found.1
+  pub has_common_address : found.1.common_address ≡ command.common_address
   pub has_address : found.1.address ≡ command.address
   pub has_type : type_operating found.1.operates ≡ type_of command.action
 

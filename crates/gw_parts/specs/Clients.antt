@@ -43,7 +43,7 @@ event_at setup apdu (Some k) = event_of setup apdu k
 -- the reply to a pump at a moment
 abbrev pub reply_to_pump : Setup → ℕ → Option Client → Reply
 reply_to_pump setup moment =
-    client_reply (λ k. reply_giving (given setup.station.offset_minutes setup.station.common_address moment k))
+    client_reply (λ k. reply_giving (given setup.station.offset_minutes moment k))
 
 -- one more I format that is received can be counted in 64 bits
 pub record CanCount (k : Client) : Type 0 where

@@ -1,4 +1,4 @@
--- A picture shows each row of the map at its address and by its type: at first, after reports, and after a loss.
+-- A picture shows each row of the map by its object and its type: at first, after reports, and after a loss.
 use Rattle.std.proofs.Common.{◌≡◌, ℕ, ℤ, zero, suc, ◌+◌, Bool, true, false, cond, List, [], ◌∷◌, map, Option, Some, None, refl, sym, subst, inl, inr}
 use Rattle.std.specs.Prelude.{slice_get, IsTrue}
 use Rattle.std.proofs.lemmas.Bool.{and_parts, cases_Bool}
@@ -25,7 +25,8 @@ use Rattle.gw_picture.specs.Opening.{opening, value_at_first}
 use Rattle.gw_picture.specs.Picture.{without_time, picture_by_row, picture_after_report, picture_after}
 use Rattle.gw_picture.specs.Loss.{lost, is_lost_with, shown_after_loss, picture_after_loss}
 use Rattle.gw_picture.specs.Shown.{is_value_of, ShowsRow, ShowsRows}
-use Rattle.gw_picture.proofs.Images.{image_address}
+use Rattle.gw_model.specs.declared.point.ObjectKey.{ObjectKey}
+use Rattle.gw_picture.proofs.Images.{image_object}
 use Rattle.gw_picture.proofs.Logs.{pair, pair_is}
 use Rattle.gw_picture.proofs.Lists.{some_is}
 use Rattle.gw_picture.proofs.Rows.{row_at}
@@ -38,21 +39,21 @@ opening_value _ = refl
 
 pub opening_rows : (rows : List Row) → ShowsRows rows (map opening rows)
 opening_rows [] = tt
-opening_rows (row ∷ rows) = (record { address = refl; value = opening_value row.show }, opening_rows rows)
+opening_rows (row ∷ rows) = (record { object = refl; value = opening_value row.show }, opening_rows rows)
 
 -- ---- after reports
 
 -- an image is of the type by which its row shows points of the report's kind
-image_value : (kind : Kind) (show : Show) (scale : Scale) (raw : Raw) (q : Quality) (address : ℕ) (stamp : Stamp)
+image_value : (kind : Kind) (show : Show) (scale : Scale) (raw : Raw) (q : Quality) (object : ObjectKey) (stamp : Stamp)
     → is_shown_by kind show ≡ true → is_of_kind kind raw ≡ true
-    → is_value_of show (raw_image show scale raw q address stamp).value ≡ true
-image_value kinds.Binary shows.Single scale (Bit on) q address stamp shown of = refl
-image_value kinds.Output shows.Single scale (Bit on) q address stamp shown of = refl
-image_value kinds.Double shows.Double scale (Two state) q address stamp shown of = refl
-image_value kinds.Counter shows.Total scale (Count n) q address stamp shown of = refl
-image_value kinds.Analog shows.Scaled scale (Number z) q address stamp shown of = refl
-image_value kinds.Analog shows.Word scale (Number z) q address stamp shown of = refl
-image_value _ _ scale _ q address stamp shown of = absurd cc
+    → is_value_of show (raw_image show scale raw q object stamp).value ≡ true
+image_value kinds.Binary shows.Single scale (Bit on) q object stamp shown of = refl
+image_value kinds.Output shows.Single scale (Bit on) q object stamp shown of = refl
+image_value kinds.Double shows.Double scale (Two state) q object stamp shown of = refl
+image_value kinds.Counter shows.Total scale (Count n) q object stamp shown of = refl
+image_value kinds.Analog shows.Scaled scale (Number z) q object stamp shown of = refl
+image_value kinds.Analog shows.Word scale (Number z) q object stamp shown of = refl
+image_value _ _ scale _ q object stamp shown of = absurd cc
 
 one_kind : (a b : Kind) → same_kind a b ≡ true → a ≡ b
 one_kind kinds.Binary kinds.Binary e = refl
@@ -79,7 +80,7 @@ found_kind k n key (r ∷ rows) row e =
 image_shows : (offset : ℤ) (row : Row) (r : Report) → row.key.kind ≡ r.key.kind
     → ShowsRow row (without_time (image_of offset row r))
 image_shows offset row r same = record {
-  address = image_address offset row r;
+  object = image_object offset row r;
   value = image_value row.key.kind row.show row.scale r.raw _ _ _ row.shown
       (subst (λ (kind : Kind). is_of_kind kind r.raw ≡ true) (sym same) r.of_kind);
 }
@@ -119,7 +120,7 @@ row_lost : (outstation : ℕ) (row other : Row) (x : Observation) → ShowsRow r
 row_lost outstation row other x shows = go (is_lost_with outstation other x)
   where
     go : (b : Bool) → ShowsRow row (cond b (lost x) x)
-    go true = record { address = shows.address; value = shows.value }
+    go true = record { object = shows.object; value = shows.value }
     go false = shows
 
 pub loss_rows : (outstation : ℕ) (rows : List Row) (picture : List Observation) → ShowsRows rows picture

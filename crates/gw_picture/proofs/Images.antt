@@ -14,42 +14,41 @@ use Rattle.gw_entries.specs.declared.row.Show.TheVariants as shows
 use Rattle.gw_model.specs.declared.observation.Value.{Value}
 use Rattle.gw_model.specs.declared.observation.Quality.{Quality}
 use Rattle.gw_model.specs.declared.observation.Observation.{Observation}
-use Rattle.gw_model.specs.Keys.{same_value, same_quality, same_shown}
+use Rattle.gw_model.specs.declared.point.ObjectKey.{ObjectKey}
+use Rattle.gw_model.specs.Keys.{object_of, same_value, same_quality, same_shown}
+use Rattle.gw_map.specs.Settings.{row_object}
 use Rattle.gw_model.proofs.Same.{same_value-true, same_quality-true}
 use Rattle.gw_translate.specs.Quality.{quality_of}
-use Rattle.gw_translate.specs.Image.{image_of, raw_image, stamp_image}
+use Rattle.gw_translate.specs.Image.{image_of, observation_of, raw_image, stamp_image}
 use Rattle.gw_translate.specs.Image.{is_news_of}
 use Rattle.gw_picture.specs.Picture.{news_after, without_time}
 use Rattle.gw_picture.proofs.Lists.{get_some}
 
--- an image has its row's address
-raw_address : (show : Show) (scale : Scale) (raw : Raw) (q : Quality) (address : ℕ) (stamp : Stamp)
-    → (raw_image show scale raw q address stamp).address ≡ address
-raw_address show scale (Bit on) q address stamp = refl
-raw_address show scale (Two state) q address stamp = refl
-raw_address show scale (Count n) q address stamp = refl
-raw_address shows.Word scale (Number z) q address stamp = refl
-raw_address _ scale (Number z) q address stamp = refl
+-- an image is of its row's object
+raw_object : (show : Show) (scale : Scale) (raw : Raw) (q : Quality) (object : ObjectKey) (stamp : Stamp)
+    → object_of (raw_image show scale raw q object stamp) ≡ object
+raw_object show scale (Bit on) q object stamp = refl
+raw_object show scale (Two state) q object stamp = refl
+raw_object show scale (Count n) q object stamp = refl
+raw_object shows.Word scale (Number z) q object stamp = refl
+raw_object _ scale (Number z) q object stamp = refl
 
-pub image_address : (offset : ℤ) (row : Row) (r : Report) → (image_of offset row r).address ≡ row.address
-image_address offset row r =
-    raw_address row.show row.scale r.raw (quality_of r.key.kind r.flags) row.address (stamp_image offset r.stamp)
+pub image_object : (offset : ℤ) (row : Row) (r : Report) → object_of (image_of offset row r) ≡ row_object row
+image_object offset row r =
+    raw_object row.show row.scale r.raw (quality_of r.key.kind r.flags) (row_object row) (stamp_image offset r.stamp)
 
-abbrev observation : ℕ → Value → Quality → Stamp → Observation
-observation address value quality stamp = record { address = address; value = value; quality = quality; stamp = stamp }
-
-observations_equal : (a b : ℕ) (v w : Value) (q p : Quality) (s t : Stamp) → a ≡ b → v ≡ w → q ≡ p → s ≡ t
-    → observation a v q s ≡ observation b w p t
+observations_equal : (a b : ObjectKey) (v w : Value) (q p : Quality) (s t : Stamp) → a ≡ b → v ≡ w → q ≡ p → s ≡ t
+    → observation_of a v q s ≡ observation_of b w p t
 observations_equal a b v w q p s t ea ev eq es = cc
 
 -- an image that is no news is what was shown before, but for its time
 pub no_news : (r : Report) (before image : Observation) → is_news_of r before image ≡ false
-    → before.address ≡ image.address → before.stamp ≡ Untimed → before ≡ without_time image
+    → object_of before ≡ object_of image → before.stamp ≡ Untimed → before ≡ without_time image
 no_news r before image e ea es =
     let parts = or_parts r.event (not (same_shown before image)) e in
     let same = not-false (same_shown before image) parts.1 in
     let both = and_parts (same_value before.value image.value) (same_quality before.quality image.quality) same in
-    observations_equal before.address image.address before.value image.value before.quality image.quality before.stamp
+    observations_equal (object_of before) (object_of image) before.value image.value before.quality image.quality before.stamp
     Untimed ea (same_value-true _ _ both.0) (same_quality-true _ _ both.1) es
 
 pub news_true : (r : Report) (xs : List Observation) (n : ℕ) (d image : Observation) → n < length xs

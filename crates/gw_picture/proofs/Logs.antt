@@ -1,16 +1,18 @@
 -- The picture that is kept is the picture of the log.
-use Rattle.std.proofs.Common.{◌≡◌, ℕ, ℤ, suc, ◌+◌, ◌-◌, ◌≤◌, Bool, true, false, not, cond, eqb, List, [], ◌∷◌, ◌++◌, Option, Some, None, refl, sym, ap, subst, ◌∙◌, append_assoc, arith, inl, inr}
+use Rattle.std.proofs.Common.{◌≡◌, ℕ, ℤ, suc, ◌+◌, ◌-◌, ◌≤◌, Bool, true, false, not, cond, List, [], ◌∷◌, ◌++◌, Option, Some, None, refl, sym, ap, subst, ◌∙◌, append_assoc, arith, inl, inr}
 use Rattle.std.specs.Prelude.{slice_get}
-use Rattle.std.proofs.lemmas.Bool.{and_parts, cases_Bool, not-true, eqb-true, ne_eqb, eqb-false, eq-eqb}
+use Rattle.std.proofs.lemmas.Bool.{and_parts, cases_Bool, not-true}
 use Rattle.std.proofs.lemmas.List.{append-nil}
 use Rattle.gw_model.specs.declared.point.PointKey.{PointKey}
 use Rattle.gw_model.specs.declared.point.Report.{Report}
 use Rattle.gw_model.specs.declared.point.Stamp.TheVariants.{Untimed}
 use Rattle.gw_entries.specs.declared.row.Row.{Row}
 use Rattle.gw_model.specs.declared.observation.Observation.{Observation}
-use Rattle.gw_model.specs.Keys.{same_key}
+use Rattle.gw_model.specs.declared.point.ObjectKey.{ObjectKey}
+use Rattle.gw_model.specs.Keys.{object_of, same_key, same_object}
+use Rattle.gw_model.proofs.Same.{eq-same_object, other_object, same_object-true}
 use Rattle.gw_entries.specs.declared.control.Control.{Control}
-use Rattle.gw_map.specs.Settings.{row_from, HasSingleAddresses}
+use Rattle.gw_map.specs.Settings.{row_from, row_object, HasSingleAddresses}
 use Rattle.gw_translate.specs.Image.{image_of}
 use Rattle.gw_translate.specs.Image.{is_news_of}
 use Rattle.gw_model.specs.Places.{change}
@@ -19,7 +21,7 @@ use Rattle.gw_picture.specs.Picture.{without_time, news_by_row, news_of_report, 
 use Rattle.gw_picture.specs.Log.{last_observation, picture_of}
 use Rattle.gw_picture.proofs.Addresses.{is_fresh, is_single, is_single-true}
 use Rattle.gw_picture.proofs.Lists.{some_is, change-same}
-use Rattle.gw_picture.proofs.Images.{image_address, no_news}
+use Rattle.gw_picture.proofs.Images.{image_object, no_news}
 
 -- ---- the look-up of a row
 
@@ -46,104 +48,101 @@ row_from-le k n key (r ∷ rows) row e =
           omega (arith, row_from-le (k + 1) n key rows row found))
     ]
 
--- a row that is found has another address than one that is fresh
-fresh_address : (k n : ℕ) (key : PointKey) (first : Row) (rows : List Row) (row : Row)
-    → is_fresh first.address rows ≡ true → row_from k key rows ≡ Some (n, row)
-    → eqb first.address row.address ≡ false
-fresh_address k n key first [] row fresh e = absurd cc
-fresh_address k n key first (r ∷ rows) row fresh e =
-    let parts = and_parts (not (eqb first.address r.address)) (is_fresh first.address rows) fresh in
-    let other : eqb first.address r.address ≡ false = not-true (eqb first.address r.address) parts.0 in
+-- a row that is found has another object than one that is fresh
+fresh_object : (k n : ℕ) (key : PointKey) (first : Row) (rows : List Row) (row : Row)
+    → is_fresh (row_object first) rows ≡ true → row_from k key rows ≡ Some (n, row)
+    → same_object (row_object first) (row_object row) ≡ false
+fresh_object k n key first [] row fresh e = absurd cc
+fresh_object k n key first (r ∷ rows) row fresh e =
+    let parts = and_parts (not (same_object (row_object first) (row_object r))) (is_fresh (row_object first) rows) fresh in
+    let other : same_object (row_object first) (row_object r) ≡ false = not-true (same_object (row_object first) (row_object r)) parts.0 in
     elim (cases_Bool (same_key r.key key)) [
       | inl here ↦ (let found : pair k r ≡ pair n row = rw here at e in
-          subst (λ (x : Row). eqb first.address x.address ≡ false) (pair_is k n r row found).1 other)
+          subst (λ (x : Row). same_object (row_object first) (row_object x) ≡ false) (pair_is k n r row found).1 other)
       | inr there ↦ (let found : row_from (k + 1) key rows ≡ Some (n, row) = rw there at e in
-          fresh_address (k + 1) n key first rows row parts.1 found)
+          fresh_object (k + 1) n key first rows row parts.1 found)
     ]
 
 -- ---- what was shown last
 
-last_observation-push : (address : ℕ) (shown : Observation) (log : List Observation) (x : Observation)
-    → last_observation address shown (log ++ x ∷ [])
-    ≡ cond (eqb x.address address) (without_time x) (last_observation address shown log)
-last_observation-push address shown [] x = refl
-last_observation-push address shown (y ∷ log) x =
-    last_observation-push address (cond (eqb y.address address) (without_time y) shown) log x
+last_observation-push : (object : ObjectKey) (shown : Observation) (log : List Observation) (x : Observation)
+    → last_observation object shown (log ++ x ∷ [])
+    ≡ cond (same_object (object_of x) object) (without_time x) (last_observation object shown log)
+last_observation-push object shown [] x = refl
+last_observation-push object shown (y ∷ log) x =
+    last_observation-push object (cond (same_object (object_of y) object) (without_time y) shown) log x
 
-pick_address : (b : Bool) (y shown : Observation) (address : ℕ) → (b ≡ true → y.address ≡ address)
-    → shown.address ≡ address → (cond b (without_time y) shown).address ≡ address
-pick_address true y shown address here e = here refl
-pick_address false y shown address here e = e
+pick_object : (b : Bool) (y shown : Observation) (object : ObjectKey) → (b ≡ true → object_of y ≡ object)
+    → object_of shown ≡ object → object_of (cond b (without_time y) shown) ≡ object
+pick_object true y shown object here e = here refl
+pick_object false y shown object here e = e
 
-pub last_observation-address : (address : ℕ) (shown : Observation) (log : List Observation) → shown.address ≡ address
-    → (last_observation address shown log).address ≡ address
-last_observation-address address shown [] e = e
-last_observation-address address shown (y ∷ log) e =
-    last_observation-address address (cond (eqb y.address address) (without_time y) shown) log
-    (pick_address (eqb y.address address) y shown address (eqb-true y.address address) e)
+pub last_observation-object : (object : ObjectKey) (shown : Observation) (log : List Observation) → object_of shown ≡ object
+    → object_of (last_observation object shown log) ≡ object
+last_observation-object object shown [] e = e
+last_observation-object object shown (y ∷ log) e =
+    last_observation-object object (cond (same_object (object_of y) object) (without_time y) shown) log
+    (pick_object (same_object (object_of y) object) y shown object (same_object-true (object_of y) object) e)
 
 pick_stamp : (b : Bool) (y shown : Observation) → shown.stamp ≡ Untimed
     → (cond b (without_time y) shown).stamp ≡ Untimed
 pick_stamp true y shown e = refl
 pick_stamp false y shown e = e
 
-last_observation-stamp : (address : ℕ) (shown : Observation) (log : List Observation) → shown.stamp ≡ Untimed
-    → (last_observation address shown log).stamp ≡ Untimed
-last_observation-stamp address shown [] e = e
-last_observation-stamp address shown (y ∷ log) e = last_observation-stamp address
-    (cond (eqb y.address address) (without_time y) shown) log (pick_stamp (eqb y.address address) y shown e)
+last_observation-stamp : (object : ObjectKey) (shown : Observation) (log : List Observation) → shown.stamp ≡ Untimed
+    → (last_observation object shown log).stamp ≡ Untimed
+last_observation-stamp object shown [] e = e
+last_observation-stamp object shown (y ∷ log) e = last_observation-stamp object
+    (cond (same_object (object_of y) object) (without_time y) shown) log (pick_stamp (same_object (object_of y) object) y shown e)
 
 -- ---- one more observation in the log
 
 -- what a row shows by a log
 abbrev pub shown_by : List Observation → Row → Observation
-shown_by log row = last_observation row.address (opening row) log
+shown_by log row = last_observation (row_object row) (opening row) log
 
-same_elsewhere : (log : List Observation) (x : Observation) (row : Row) → eqb x.address row.address ≡ false
+same_elsewhere : (log : List Observation) (x : Observation) (row : Row) → same_object (object_of x) (row_object row) ≡ false
     → shown_by (log ++ x ∷ []) row ≡ shown_by log row
-same_elsewhere log x row e = last_observation-push row.address (opening row) log x ∙ rw e refl
+same_elsewhere log x row e = last_observation-push (row_object row) (opening row) log x ∙ rw e refl
 
-shown_here : (log : List Observation) (x : Observation) (row : Row) → x.address ≡ row.address
+shown_here : (log : List Observation) (x : Observation) (row : Row) → object_of x ≡ row_object row
     → shown_by (log ++ x ∷ []) row ≡ without_time x
 shown_here log x row e =
-    last_observation-push row.address (opening row) log x ∙ rw (eq-eqb x.address row.address e) refl
+    last_observation-push (row_object row) (opening row) log x ∙ rw (eq-same_object (object_of x) (row_object row) e) refl
 
--- rows that a fresh row stands before keep what they show when an observation at its address comes
+-- rows that a fresh row stands before keep what they show when an observation at its object comes
 fresh_same : (log : List Observation) (x : Observation) (first : Row) (rows : List Row)
-    → is_fresh first.address rows ≡ true → x.address ≡ first.address
+    → is_fresh (row_object first) rows ≡ true → object_of x ≡ row_object first
     → picture_of rows (log ++ x ∷ []) ≡ picture_of rows log
 fresh_same log x first [] fresh e = refl
 fresh_same log x first (r ∷ rows) fresh e =
-    let parts = and_parts (not (eqb first.address r.address)) (is_fresh first.address rows) fresh in
-    let other : eqb first.address r.address ≡ false = not-true (eqb first.address r.address) parts.0 in
-    let there : eqb x.address r.address ≡ false = ap (λ (a : ℕ). eqb a r.address) e ∙ other in
+    let parts = and_parts (not (same_object (row_object first) (row_object r))) (is_fresh (row_object first) rows) fresh in
+    let other : same_object (row_object first) (row_object r) ≡ false = not-true (same_object (row_object first) (row_object r)) parts.0 in
+    let there : same_object (object_of x) (row_object r) ≡ false = ap (λ (a : ObjectKey). same_object a (row_object r)) e ∙ other in
     ap (λ (y : Observation). y ∷ picture_of rows (log ++ x ∷ [])) (same_elsewhere log x r there)
     ∙ ap (λ (ys : List Observation). shown_by log r ∷ ys) (fresh_same log x first rows parts.1 e)
-
-pub swap : (a b : ℕ) → eqb a b ≡ false → eqb b a ≡ false
-swap a b e = ne_eqb b a (λ same. eqb-false a b e (sym same))
 
 -- the picture with the observation at its row is the picture of the log with it
 picture_of-push : (k n : ℕ) (key : PointKey) (rows : List Row) (row : Row) (log : List Observation) (x : Observation)
     → is_single rows ≡ true → row_from k key rows ≡ Some (n, row)
-    → x.address ≡ row.address
+    → object_of x ≡ row_object row
     → change (n - k) (λ _. without_time x) (picture_of rows log) ≡ picture_of rows (log ++ x ∷ [])
 picture_of-push k n key [] row log x map_is found e = absurd cc
 picture_of-push k n key (r ∷ rows) row log x map_is found e =
-    let parts = and_parts (is_fresh r.address rows) (is_single rows) map_is in
+    let parts = and_parts (is_fresh (row_object r) rows) (is_single rows) map_is in
     elim (cases_Bool (same_key r.key key)) [
       | inl here ↦
           (let at : pair k r ≡ pair n row = rw here at found in
           let none : n - k ≡ 0 = omega (arith, (pair_is k n r row at).0) in
-          let e' : x.address ≡ r.address = e ∙ ap (λ (y : Row). y.address) (sym (pair_is k n r row at).1) in
+          let e' : object_of x ≡ row_object r = e ∙ ap (λ (y : Row). row_object y) (sym (pair_is k n r row at).1) in
           rw none (ap (λ (ys : List Observation). without_time x ∷ ys) (sym (fresh_same log x r rows parts.0 e'))
           ∙ ap (λ (y : Observation). y ∷ picture_of rows (log ++ x ∷ [])) (sym (shown_here log x r e'))))
       | inr there ↦
           (let at : row_from (k + 1) key rows ≡ Some (n, row) = rw there at found in
           let more : n - k ≡ suc (n - (k + 1)) = omega (arith, row_from-le (k + 1) n key rows row at) in
-          let apart : eqb r.address row.address ≡ false = fresh_address (k + 1) n key r rows row parts.0 at in
-          let elsewhere : eqb x.address r.address ≡ false =
-          ap (λ (a : ℕ). eqb a r.address) e ∙ swap r.address row.address apart in
+          let apart : same_object (row_object r) (row_object row) ≡ false = fresh_object (k + 1) n key r rows row parts.0 at in
+          let elsewhere : same_object (object_of x) (row_object r) ≡ false =
+          ap (λ (a : ObjectKey). same_object a (row_object r)) e ∙ other_object (row_object r) (row_object row) apart in
           rw more (ap (λ (ys : List Observation). shown_by log r ∷ ys)
           (picture_of-push (k + 1) n key rows row log x parts.1 at e)
           ∙ ap (λ (y : Observation). y ∷ picture_of rows (log ++ x ∷ [])) (sym (same_elsewhere log x r elsewhere))))
@@ -182,13 +181,13 @@ one_report offset rows log r (Some p) map_is e =
     elim (cases_Bool (is_news_of r (shown_by log row) image)) [
       | inl news ↦
           (let push : change p.0 (λ _. without_time image) (picture_of rows log) ≡ picture_of rows (log ++ image ∷ []) =
-          rw zero_off at (picture_of-push 0 p.0 r.key rows row log image map_is e (image_address offset row r)) in
+          rw zero_off at (picture_of-push 0 p.0 r.key rows row log image map_is e (image_object offset row r)) in
           let observation : news_by_row offset (picture_of rows log) r (Some p) ≡ image ∷ [] = rw (get, news) refl in
           push ∙ ap (λ (xs : List Observation). picture_of rows (log ++ xs)) (sym observation))
       | inr none ↦
           (let before : shown_by log row ≡ without_time image =
-          no_news r (shown_by log row) image none (last_observation-address row.address (opening row) log refl
-          ∙ sym (image_address offset row r)) (last_observation-stamp row.address (opening row) log refl) in
+          no_news r (shown_by log row) image none (last_observation-object (row_object row) (opening row) log refl
+          ∙ sym (image_object offset row r)) (last_observation-stamp (row_object row) (opening row) log refl) in
           let observation : news_by_row offset (picture_of rows log) r (Some p) ≡ [] = rw (get, none) refl in
           change-same p.0 (without_time image) (picture_of rows log) (get ∙ ap (λ (x : Observation). some x) before)
           ∙ (ap (picture_of rows) (sym (append-nil log))

@@ -12,7 +12,10 @@ use Rattle.gw_model.specs.declared.observation.Value.{Value}
 use Rattle.gw_model.specs.declared.observation.Value.TheVariants.{Total}
 use Rattle.gw_model.specs.declared.observation.Quality.{Quality}
 use Rattle.gw_model.specs.declared.observation.Observation.{Observation}
-use Rattle.gw_map.specs.Settings.{HasSingleAddresses}
+use Rattle.gw_model.specs.declared.point.ObjectKey.{ObjectKey}
+use Rattle.gw_model.specs.Keys.{object_of, same_object}
+use Rattle.gw_model.proofs.Same.{eq-same_object, other_object}
+use Rattle.gw_map.specs.Settings.{HasSingleAddresses, row_object}
 use Rattle.gw_model.specs.Places.{change}
 use Rattle.gw_picture.specs.Opening.{opening}
 use Rattle.gw_picture.specs.Picture.{without_time}
@@ -21,8 +24,8 @@ use Rattle.gw_picture.specs.Rows.{IsPictureOf}
 use Rattle.gw_picture.specs.Loss.{quality_lost, tells_loss, lost, is_lost_with, losses_of_row, shown_after_loss, losses_of, picture_after_loss, losses_of_both, shown_at_loss, losses_at, picture_losing_at}
 use Rattle.gw_picture.proofs.Lists.{some_is, change-still, change-by, change-length, change-behind}
 use Rattle.gw_picture.proofs.Addresses.{is_fresh, is_single, is_single-true}
-use Rattle.gw_picture.proofs.Logs.{shown_by, swap, last_observation-address}
-use Rattle.gw_picture.proofs.Rows.{address_of, IsUntimed}
+use Rattle.gw_picture.proofs.Logs.{shown_by, last_observation-object}
+use Rattle.gw_picture.proofs.Rows.{IsUntimed}
 
 -- ---- nothing is lost where nothing is shown
 
@@ -181,11 +184,11 @@ loss_some outstation rows picture n y e =
 
 -- ---- what a loss leaves
 
-row_keeps_address : (outstation : ℕ) (row : Row) (x : Observation)
-    → (shown_after_loss outstation row x).address ≡ x.address
-row_keeps_address outstation row x = go (is_lost_with outstation row x)
+row_keeps_object : (outstation : ℕ) (row : Row) (x : Observation)
+    → object_of (shown_after_loss outstation row x) ≡ object_of x
+row_keeps_object outstation row x = go (is_lost_with outstation row x)
   where
-    go : (b : Bool) → (cond b (lost x) x).address ≡ x.address
+    go : (b : Bool) → object_of (cond b (lost x) x) ≡ object_of x
     go true = refl
     go false = refl
 
@@ -197,13 +200,13 @@ row_keeps_untimed outstation row x e = go (is_lost_with outstation row x)
     go true = refl
     go false = e
 
-keeps_addresses : (outstation : ℕ) (rows : List Row) (picture : List Observation)
-    → map address_of (picture_after_loss outstation rows picture) ≡ map address_of picture
-keeps_addresses outstation [] picture = refl
-keeps_addresses outstation (row ∷ rows) [] = refl
-keeps_addresses outstation (row ∷ rows) (x ∷ picture) =
-    ap (λ (a : ℕ). a ∷ map address_of (picture_after_loss outstation rows picture)) (row_keeps_address outstation row x)
-    ∙ ap (λ (ns : List ℕ). x.address ∷ ns) (keeps_addresses outstation rows picture)
+keeps_objects : (outstation : ℕ) (rows : List Row) (picture : List Observation)
+    → map object_of (picture_after_loss outstation rows picture) ≡ map object_of picture
+keeps_objects outstation [] picture = refl
+keeps_objects outstation (row ∷ rows) [] = refl
+keeps_objects outstation (row ∷ rows) (x ∷ picture) =
+    ap (λ (a : ObjectKey). a ∷ map object_of (picture_after_loss outstation rows picture)) (row_keeps_object outstation row x)
+    ∙ ap (λ (ns : List ObjectKey). object_of x ∷ ns) (keeps_objects outstation rows picture)
 
 keeps_untimed : (outstation : ℕ) (rows : List Row) (picture : List Observation) → AllByRecursion IsUntimed picture
     → AllByRecursion IsUntimed (picture_after_loss outstation rows picture)
@@ -215,7 +218,7 @@ keeps_untimed outstation (row ∷ rows) (x ∷ picture) all =
 pub loss_keeps_picture : (outstation : ℕ) (rows : List Row) (picture : List Observation) → IsPictureOf rows picture
     → IsPictureOf rows (picture_after_loss outstation rows picture)
 loss_keeps_picture outstation rows picture is = record {
-  addresses = keeps_addresses outstation rows picture ∙ is.addresses;
+  objects = keeps_objects outstation rows picture ∙ is.objects;
   untimed = keeps_untimed outstation rows picture is.untimed;
 }
 
@@ -300,72 +303,72 @@ loss_again outstation (row ∷ rows) (x ∷ picture) =
 
 -- what a row shows by a log and what comes after it
 abbrev shown_then : List Observation → List Observation → Row → Observation
-shown_then log more row = last_observation row.address (shown_by log row) more
+shown_then log more row = last_observation (row_object row) (shown_by log row) more
 
-last-append : (address : ℕ) (shown : Observation) (log more : List Observation)
-    → last_observation address (last_observation address shown log) more ≡ last_observation address shown (log ++ more)
-last-append address shown [] more = refl
-last-append address shown (y ∷ log) more =
-    last-append address (cond (eqb y.address address) (without_time y) shown) log more
+last-append : (object : ObjectKey) (shown : Observation) (log more : List Observation)
+    → last_observation object (last_observation object shown log) more ≡ last_observation object shown (log ++ more)
+last-append object shown [] more = refl
+last-append object shown (y ∷ log) more =
+    last-append object (cond (same_object (object_of y) object) (without_time y) shown) log more
 
 picture_then : (rows : List Row) (log more : List Observation)
     → map (shown_then log more) rows ≡ picture_of rows (log ++ more)
 picture_then [] log more = refl
 picture_then (row ∷ rows) log more =
-    ap (λ (x : Observation). x ∷ map (shown_then log more) rows) (last-append row.address (opening row) log more)
+    ap (λ (x : Observation). x ∷ map (shown_then log more) rows) (last-append (row_object row) (opening row) log more)
     ∙ ap (λ (xs : List Observation). shown_by (log ++ more) row ∷ xs) (picture_then rows log more)
 
-shown_address : (log : List Observation) (row : Row) → (shown_by log row).address ≡ row.address
-shown_address log row = last_observation-address row.address (opening row) log refl
+shown_object : (log : List Observation) (row : Row) → object_of (shown_by log row) ≡ row_object row
+shown_object log row = last_observation-object (row_object row) (opening row) log refl
 
--- the loss of a row isn't shown at another address
-skips_row : (outstation address : ℕ) (shown : Observation) (row : Row) (x : Observation) (more : List Observation)
-    → eqb x.address address ≡ false
-    → last_observation address shown (losses_of_row outstation row x ++ more) ≡ last_observation address shown more
-skips_row outstation address shown row x more apart = go (is_lost_with outstation row x)
+-- the loss of a row isn't shown of another object
+skips_row : (outstation : ℕ) (object : ObjectKey) (shown : Observation) (row : Row) (x : Observation) (more : List Observation)
+    → same_object (object_of x) object ≡ false
+    → last_observation object shown (losses_of_row outstation row x ++ more) ≡ last_observation object shown more
+skips_row outstation object shown row x more apart = go (is_lost_with outstation row x)
   where
     go : (b : Bool)
-        → last_observation address shown (cond b (lost x ∷ []) [] ++ more) ≡ last_observation address shown more
-    go true = ap (λ (t : Bool). last_observation address (cond t (without_time (lost x)) shown) more) apart
+        → last_observation object shown (cond b (lost x ∷ []) [] ++ more) ≡ last_observation object shown more
+    go true = ap (λ (t : Bool). last_observation object (cond t (without_time (lost x)) shown) more) apart
     go false = refl
 
--- nor is that of rows none of which has the address
-skips_rows : (outstation address : ℕ) (shown : Observation) (rows : List Row) (log : List Observation)
-    → is_fresh address rows ≡ true
-    → last_observation address shown (losses_of outstation rows (picture_of rows log)) ≡ shown
-skips_rows outstation address shown [] log fresh = refl
-skips_rows outstation address shown (row ∷ rows) log fresh =
-    let parts = and_parts (not (eqb address row.address)) (is_fresh address rows) fresh in
-    let other : eqb address row.address ≡ false = not-true (eqb address row.address) parts.0 in
-    let apart : eqb (shown_by log row).address address ≡ false =
-    ap (λ (a : ℕ). eqb a address) (shown_address log row) ∙ swap address row.address other in
-    skips_row outstation address shown row (shown_by log row) (losses_of outstation rows (picture_of rows log)) apart
-    ∙ skips_rows outstation address shown rows log parts.1
+-- nor is that of rows none of which is of the object
+skips_rows : (outstation : ℕ) (object : ObjectKey) (shown : Observation) (rows : List Row) (log : List Observation)
+    → is_fresh object rows ≡ true
+    → last_observation object shown (losses_of outstation rows (picture_of rows log)) ≡ shown
+skips_rows outstation object shown [] log fresh = refl
+skips_rows outstation object shown (row ∷ rows) log fresh =
+    let parts = and_parts (not (same_object object (row_object row))) (is_fresh object rows) fresh in
+    let other : same_object object (row_object row) ≡ false = not-true (same_object object (row_object row)) parts.0 in
+    let apart : same_object (object_of (shown_by log row)) object ≡ false =
+    ap (λ (a : ObjectKey). same_object a object) (shown_object log row) ∙ other_object object (row_object row) other in
+    skips_row outstation object shown row (shown_by log row) (losses_of outstation rows (picture_of rows log)) apart
+    ∙ skips_rows outstation object shown rows log parts.1
 
 -- rows that a fresh row stands before don't show its loss
 rows_skip : (outstation : ℕ) (first : Row) (x : Observation) (more : List Observation) (rows : List Row)
-    (log : List Observation) → is_fresh first.address rows ≡ true
-    → x.address ≡ first.address
+    (log : List Observation) → is_fresh (row_object first) rows ≡ true
+    → object_of x ≡ row_object first
     → map (shown_then log (losses_of_row outstation first x ++ more)) rows ≡ map (shown_then log more) rows
 rows_skip outstation first x more [] log fresh e = refl
 rows_skip outstation first x more (row ∷ rows) log fresh e =
-    let parts = and_parts (not (eqb first.address row.address)) (is_fresh first.address rows) fresh in
-    let other : eqb first.address row.address ≡ false = not-true (eqb first.address row.address) parts.0 in
-    let apart : eqb x.address row.address ≡ false = ap (λ (a : ℕ). eqb a row.address) e ∙ other in
+    let parts = and_parts (not (same_object (row_object first) (row_object row))) (is_fresh (row_object first) rows) fresh in
+    let other : same_object (row_object first) (row_object row) ≡ false = not-true (same_object (row_object first) (row_object row)) parts.0 in
+    let apart : same_object (object_of x) (row_object row) ≡ false = ap (λ (a : ObjectKey). same_object a (row_object row)) e ∙ other in
     ap (λ (y : Observation). y ∷ map (shown_then log (losses_of_row outstation first x ++ more)) rows)
-    (skips_row outstation row.address (shown_by log row) first x more apart)
+    (skips_row outstation (row_object row) (shown_by log row) first x more apart)
     ∙ ap (λ (ys : List Observation). shown_then log more row ∷ ys)
     (rows_skip outstation first x more rows log parts.1 e)
 
 -- a row shows its own loss, where what comes after it isn't shown there
-row_shows : (outstation : ℕ) (row : Row) (x : Observation) (more : List Observation) → x.address ≡ row.address
-    → ((shown : Observation) → last_observation row.address shown more ≡ shown)
-    → shown_after_loss outstation row x ≡ last_observation row.address x (losses_of_row outstation row x ++ more)
+row_shows : (outstation : ℕ) (row : Row) (x : Observation) (more : List Observation) → object_of x ≡ row_object row
+    → ((shown : Observation) → last_observation (row_object row) shown more ≡ shown)
+    → shown_after_loss outstation row x ≡ last_observation (row_object row) x (losses_of_row outstation row x ++ more)
 row_shows outstation row x more e none = go (is_lost_with outstation row x)
   where
-    go : (b : Bool) → cond b (lost x) x ≡ last_observation row.address x (cond b (lost x ∷ []) [] ++ more)
-    go true = sym (ap (λ (t : Bool). last_observation row.address (cond t (without_time (lost x)) x) more)
-        (eq-eqb x.address row.address e) ∙ none (lost x))
+    go : (b : Bool) → cond b (lost x) x ≡ last_observation (row_object row) x (cond b (lost x ∷ []) [] ++ more)
+    go true = sym (ap (λ (t : Bool). last_observation (row_object row) (cond t (without_time (lost x)) x) more)
+        (eq-same_object (object_of x) (row_object row) e) ∙ none (lost x))
     go false = sym (none x)
 
 rows_show : (outstation : ℕ) (rows : List Row) (log : List Observation) → is_single rows ≡ true
@@ -373,15 +376,15 @@ rows_show : (outstation : ℕ) (rows : List Row) (log : List Observation) → is
     ≡ map (shown_then log (losses_of outstation rows (picture_of rows log))) rows
 rows_show outstation [] log single = refl
 rows_show outstation (row ∷ rows) log single =
-    let parts = and_parts (is_fresh row.address rows) (is_single rows) single in
+    let parts = and_parts (is_fresh (row_object row) rows) (is_single rows) single in
     let x : Observation = shown_by log row in
     let more : List Observation = losses_of outstation rows (picture_of rows log) in
     ap (λ (y : Observation). y ∷ picture_after_loss outstation rows (picture_of rows log))
-    (row_shows outstation row x more (shown_address log row)
-    (λ (shown : Observation). skips_rows outstation row.address shown rows log parts.0))
-    ∙ ap (λ (ys : List Observation). last_observation row.address x (losses_of_row outstation row x ++ more) ∷ ys)
+    (row_shows outstation row x more (shown_object log row)
+    (λ (shown : Observation). skips_rows outstation (row_object row) shown rows log parts.0))
+    ∙ ap (λ (ys : List Observation). last_observation (row_object row) x (losses_of_row outstation row x ++ more) ∷ ys)
     (rows_show outstation rows log parts.1
-    ∙ sym (rows_skip outstation row x more rows log parts.0 (shown_address log row)))
+    ∙ sym (rows_skip outstation row x more rows log parts.0 (shown_object log row)))
 
 pub loss_in_log : (outstation : ℕ) (rows : List Row) (controls : List Control) (log : List Observation)
     → HasSingleAddresses rows controls

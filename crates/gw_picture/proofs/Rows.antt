@@ -8,8 +8,9 @@ use Rattle.gw_model.specs.declared.point.Report.{Report}
 use Rattle.gw_model.specs.declared.point.Stamp.TheVariants.{Untimed}
 use Rattle.gw_entries.specs.declared.row.Row.{Row}
 use Rattle.gw_model.specs.declared.observation.Observation.{Observation}
-use Rattle.gw_model.specs.Keys.{same_key}
-use Rattle.gw_map.specs.Settings.{row_from}
+use Rattle.gw_model.specs.declared.point.ObjectKey.{ObjectKey}
+use Rattle.gw_model.specs.Keys.{object_of, same_key}
+use Rattle.gw_map.specs.Settings.{row_from, row_object}
 use Rattle.gw_translate.specs.Image.{image_of}
 use Rattle.gw_translate.specs.Image.{is_news_of}
 use Rattle.gw_model.specs.Places.{change}
@@ -17,30 +18,24 @@ use Rattle.gw_picture.specs.Opening.{opening}
 use Rattle.gw_picture.specs.Picture.{without_time, news_by_row, news_of_report, picture_by_row, picture_after_report, picture_after}
 use Rattle.gw_picture.specs.Rows.{IsPictureOf, ShowsImage}
 use Rattle.gw_picture.proofs.Lists.{some_is, change-here, change-there, change-same, change-maps, map-get}
-use Rattle.gw_picture.proofs.Images.{image_address, no_news}
+use Rattle.gw_picture.proofs.Images.{image_object, no_news}
 use Rattle.gw_picture.proofs.Logs.{row_from-le, pair, pair_is}
-
-abbrev pub address_of : Observation → ℕ
-address_of x = x.address
-
-abbrev row_address : Row → ℕ
-row_address row = row.address
 
 abbrev pub IsUntimed : Observation → Type 0
 IsUntimed x = x.stamp ≡ Untimed
 
 -- ---- at first
 
-opening_addresses : (rows : List Row) → map address_of (map opening rows) ≡ map row_address rows
-opening_addresses [] = refl
-opening_addresses (row ∷ rows) = ap (λ (ns : List ℕ). row.address ∷ ns) (opening_addresses rows)
+opening_objects : (rows : List Row) → map object_of (map opening rows) ≡ map row_object rows
+opening_objects [] = refl
+opening_objects (row ∷ rows) = ap (λ (ns : List ObjectKey). row_object row ∷ ns) (opening_objects rows)
 
 opening_untimed : (rows : List Row) → AllByRecursion IsUntimed (map opening rows)
 opening_untimed [] = tt
 opening_untimed (row ∷ rows) = (refl, opening_untimed rows)
 
 pub opening_is_picture : (rows : List Row) → IsPictureOf rows (map opening rows)
-opening_is_picture rows = record { addresses = opening_addresses rows; untimed = opening_untimed rows }
+opening_is_picture rows = record { objects = opening_objects rows; untimed = opening_untimed rows }
 
 -- ---- what is at a row's place
 
@@ -77,35 +72,35 @@ all_change P n x [] p all = tt
 all_change P zero x (y ∷ xs) p all = (p, all.1)
 all_change P (suc n) x (y ∷ xs) p all = (all.0, all_change P n x xs p all.1)
 
--- the picture's address at a row's place, if it has one
-place_address : (rows : List Row) (picture : List Observation) (n : ℕ) (row : Row) → IsPictureOf rows picture
+-- the object of what the picture shows at a row's place, if it shows something
+place_object : (rows : List Row) (picture : List Observation) (n : ℕ) (row : Row) → IsPictureOf rows picture
     → slice_get rows n ≡ Some row
-    → option_map address_of (slice_get picture n) ≡ Some row.address
-place_address rows picture n row is e =
-    sym (map-get address_of picture n)
-    ∙ (ap (λ (ns : List ℕ). slice_get ns n) is.addresses ∙ (map-get row_address rows n ∙ ap (option_map row_address) e))
+    → option_map object_of (slice_get picture n) ≡ Some (row_object row)
+place_object rows picture n row is e =
+    sym (map-get object_of picture n)
+    ∙ (ap (λ (ns : List ObjectKey). slice_get ns n) is.objects ∙ (map-get row_object rows n ∙ ap (option_map row_object) e))
 
 pub record Shown (picture : List Observation) (n : ℕ) (row : Row) : Type 0 where
   pub last : Observation
   pub at : slice_get picture n ≡ Some last
-  pub address : last.address ≡ row.address
+  pub object : object_of last ≡ row_object row
   pub stamp : last.stamp ≡ Untimed
 
 shown_of : (rows : List Row) (picture : List Observation) (n : ℕ) (row : Row) (last : Option Observation)
     → IsPictureOf rows picture → slice_get picture n ≡ last
-    → option_map address_of last ≡ Some row.address → Shown picture n row
+    → option_map object_of last ≡ Some (row_object row) → Shown picture n row
 shown_of rows picture n row None is at e = absurd cc
 shown_of rows picture n row (Some x) is at e = record {
   last = x;
   at = at;
-  address = some_is x.address row.address e;
+  object = some_is (object_of x) (row_object row) e;
   stamp = all_get IsUntimed picture n x is.untimed at;
 }
 
 shown : (rows : List Row) (picture : List Observation) (r : Report) (n : ℕ) (row : Row) → IsPictureOf rows picture
     → row_from 0 r.key rows ≡ Some (n, row) → Shown picture n row
 shown rows picture r n row is found = shown_of rows picture n row (slice_get picture n) is refl
-    (place_address rows picture n row is (row_at r.key rows n row found))
+    (place_object rows picture n row is (row_at r.key rows n row found))
 
 -- ---- a report
 
@@ -117,10 +112,10 @@ keeps_at offset rows picture r (Some p) is e =
     let x : Observation = without_time (image_of offset p.1 r) in
     let here : Shown picture p.0 p.1 = shown rows picture r p.0 p.1 is e in
     record {
-      addresses =
-          change-maps address_of p.0 x picture (λ (y : Observation) at. image_address offset p.1 r ∙ (sym here.address
-          ∙ ap address_of (some_is here.last y (sym here.at ∙ at))))
-          ∙ is.addresses;
+      objects =
+          change-maps object_of p.0 x picture (λ (y : Observation) at. image_object offset p.1 r ∙ (sym here.object
+          ∙ ap object_of (some_is here.last y (sym here.at ∙ at))))
+          ∙ is.objects;
       untimed = all_change IsUntimed p.0 x picture refl is.untimed;
     }
 
@@ -145,7 +140,7 @@ none_at offset rows picture r (Some p) is e none =
       | inl news ↦ (let some : image ∷ [] ≡ [] = rw (here.at, news) at none in absurd cc)
       | inr old ↦
           (let before : here.last ≡ without_time image =
-          no_news r here.last image old (here.address ∙ sym (image_address offset p.1 r)) here.stamp in
+          no_news r here.last image old (here.object ∙ sym (image_object offset p.1 r)) here.stamp in
           change-same p.0 (without_time image) picture (here.at ∙ ap (λ (x : Observation). Some x) before))
     ]
 

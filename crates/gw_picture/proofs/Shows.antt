@@ -38,6 +38,7 @@ all_opening : (rows : List Row) → AllByRecursion IsShown (map opening rows)
 all_opening [] = tt
 all_opening (row ∷ rows) = (
   record {
+    common = (row.common_from, row.common_to);
     address = (row.from, row.to);
     element = opening_element row.show;
     width = opening_width row.show;
@@ -57,7 +58,7 @@ pub image_shown : (offset : ℤ) (n : ℕ) (image : Observation) (picture : List
     → AllByRecursion IsShown (change n (λ _. without_time image) picture)
 image_shown offset n image picture fit width all =
     all_change IsShown n (without_time image) picture
-    (record { address = fit.address; element = fit.element; width = width; untimed = refl }) all
+    (record { common = fit.common; address = fit.address; element = fit.element; width = width; untimed = refl }) all
 
 -- ---- after a loss
 
@@ -68,6 +69,7 @@ lost_element _ q e = e
 
 lost_shown : (x : Observation) → IsShown x → IsShown (lost x)
 lost_shown x is = record {
+  common = is.common;
   address = is.address;
   element = lost_element x.value x.quality is.element;
   width = is.width;
@@ -132,7 +134,7 @@ losses_shown outstation rows picture n all = both_losses outstation (slice_get r
 
 pub shown_fit : (offset : ℤ) (x : Observation) → IsShown x → IsFit offset x
 shown_fit offset x is =
-    record { address = is.address; element = is.element; stamp = subst (IsInWindow offset) (sym is.untimed) tt }
+    record { common = is.common; address = is.address; element = is.element; stamp = subst (IsInWindow offset) (sym is.untimed) tt }
 
 option_fit : (offset : ℤ) (result : Option Observation) (xs : List Observation) → option_to_list result ≡ xs
     → AllByRecursion IsShown xs → IfSome result (IsFit offset)

@@ -59,7 +59,8 @@ counter_value flags n = record {
 }
 
 abbrev pub observation_at : ℕ → Value → Quality → Observation
-observation_at address value quality = record { address = address; value = value; quality = quality; stamp = Untimed }
+observation_at address value quality =
+    record { common = 1; address = address; value = value; quality = quality; stamp = Untimed }
 
 -- what is known of nothing: invalid and not topical
 abbrev pub unknown : Quality

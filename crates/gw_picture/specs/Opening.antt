@@ -31,6 +31,7 @@ value_at_first shows.Total = Total 0
 
 abbrev pub opening : Row → Observation
 opening row = record {
+  common = row.common_address;
   address = row.address;
   value = value_at_first row.show;
   quality = quality_at_first row.show;

@@ -5,13 +5,14 @@ use Rattle.gw_model.specs.declared.point.Report.{Report}
 use Rattle.gw_model.specs.declared.point.Stamp.TheVariants.{Untimed}
 use Rattle.gw_entries.specs.declared.row.Row.{Row}
 use Rattle.gw_model.specs.declared.observation.Observation.{Observation}
-use Rattle.gw_map.specs.Settings.{row_from}
+use Rattle.gw_model.specs.Keys.{object_of}
+use Rattle.gw_map.specs.Settings.{row_from, row_object}
 use Rattle.gw_translate.specs.Image.{image_of}
 use Rattle.gw_picture.specs.Picture.{without_time}
 
--- at each row's place an observation with the row's address, without time
+-- at each row's place an observation of the row's object, without time
 pub record IsPictureOf (rows : List Row) (picture : List Observation) : Type 0 where
-  pub addresses : map (λ (x : Observation). x.address) picture ≡ map (λ (row : Row). row.address) rows
+  pub objects : map object_of picture ≡ map row_object rows
   pub untimed : AllByRecursion (λ (x : Observation). x.stamp ≡ Untimed) picture
 
 -- x is the image of a report by the row of its point. At that row's place the second picture shows x without its time,

@@ -11,7 +11,7 @@ ghost use Rattle.gw_picture.specs.Picture.{news_of, news_of_report, picture_afte
 ghost use Rattle.gw_picture.specs.Opening.{opening};
 ghost use Rattle.gw_picture.specs.Rows.{IsPictureOf, ShowsImage};
 
-/// A picture has at each row's place an observation with the row's address and without time: at first,
+/// A picture has at each row's place an observation of the row's object and without time: at first,
 /// after reports of whatever points, and after the loss of an outstation.
 pub fn picture_keeps_rows()
     ensures opening { (rows : List Row) → IsPictureOf rows (map opening rows) }

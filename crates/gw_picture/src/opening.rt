@@ -23,6 +23,7 @@ fn opening_row(row: &Row) -> Observation
         Show::Total => Value::Total(0),
     };
     Observation {
+        common: row.common_address,
         address: row.address,
         value,
         quality,

@@ -28,11 +28,11 @@ none_offered : (f : Sending → ApduContent) (x : Option Sending) → option_map
 none_offered f None e = refl
 none_offered f (Some x) e = absurd cc
 
-pub quiet : (offset : ℤ) (common moment : ℕ) (c : Client) → given offset common moment c ≡ None → IsQuiet moment c
-quiet offset common moment c e =
+pub quiet : (offset : ℤ) (moment : ℕ) (c : Client) → given offset moment c ≡ None → IsQuiet moment c
+quiet offset moment c e =
     by (owes_test moment c.window) (is_started c.stage) (has_room c.window) (owes_ack moment c.window) c.confirmations
     (line c) refl refl refl refl refl refl
-    (none_offered (content_of offset common c) (offered moment c) e)
+    (none_offered (content_of offset c) (offered moment c) e)
   where
     by : (test started room ack : Bool) (confirmations : List Signal) (l : List Sending)
         → owes_test moment c.window ≡ test → is_started c.stage ≡ started → has_room c.window ≡ room

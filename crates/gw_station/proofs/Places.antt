@@ -13,6 +13,7 @@ use Rattle.iec_apci.specs.Apdu.{confirmation_of}
 use Rattle.iec_command.specs.declared.command.Command.{Command}
 use Rattle.iec_command.specs.declared.command.Action.{Action}
 use Rattle.iec_command.specs.declared.command.Action.TheVariants as actions
+use Rattle.gw_judge.specs.Acceptable.{object_for}
 use Rattle.gw_judge.specs.Judging.{is_execute}
 use Rattle.gw_judge.specs.declared.judging.Judged.{Judged}
 use Rattle.gw_judge.specs.declared.judging.Judged.TheVariants.{Malformed, Refuse, Accepted}
@@ -58,9 +59,9 @@ at_least_one true = omega arith
 at_least_one false = omega arith
 
 -- an interrogation that isn't accepted, and so gets an answer
-refused_needs : (pending : Bool) (c : Command)
-    → IfSome (refused_act pending c) (λ _. 1 ≤ places_for pending (Accepted c))
-refused_needs pending c = elim (cases_Bool (is_accepted_act pending c)) [
+refused_needs : (setup : Setup) (pending : Bool) (c : Command)
+    → IfSome (refused_act setup pending c) (λ _. 1 ≤ places_for pending (Accepted c))
+refused_needs setup pending c = elim (cases_Bool (is_accepted_act pending c)) [
   | inl accepted ↦ rw accepted tt
   | inr refused ↦ rw refused (at_least_one (is_execute c))
 ]
@@ -81,9 +82,9 @@ read_needs pending c (Some x) e = rw (read_is_none pending c e) (at_least_one (i
 action_needs : (setup : Setup) (picture : List Observation) (pending : Bool) (c : Command) (action : Action)
     → c.action ≡ action
     → IfSome (answered_action setup picture pending c action) (λ _. 1 ≤ places_for pending (Accepted c))
-action_needs setup picture pending c (actions.Interrogation qualifier) e = refused_needs pending c
-action_needs setup picture pending c (actions.CounterInterrogation qualifier) e = refused_needs pending c
-action_needs setup picture pending c actions.Read e = read_needs pending c (shown_at setup picture c.address) e
+action_needs setup picture pending c (actions.Interrogation qualifier) e = refused_needs setup pending c
+action_needs setup picture pending c (actions.CounterInterrogation qualifier) e = refused_needs setup pending c
+action_needs setup picture pending c actions.Read e = read_needs pending c (shown_at setup picture (object_for c)) e
 action_needs setup picture pending c (actions.Single x) e = tt
 action_needs setup picture pending c (actions.Double x) e = tt
 action_needs setup picture pending c (actions.Setpoint x) e = tt

@@ -1,50 +1,57 @@
--- What is left of an answer, behind the parts that were put out.
-use Rattle.std.proofs.Common.{◌≡◌, ◌+◌, ◌-◌, ◌<◌, ◌≤◌, ℕ, zero, suc, true, false, List, [], ◌∷◌, ◌++◌, length, map, drop, Option, Some, None, refl, sym, ap, subst, ◌∙◌, arith}
-use Rattle.std.specs.Prelude.{is_some, option_map, slice_get, IfSome}
+-- What is left of an answer in sections, behind the parts that were put out.
+use Rattle.std.proofs.Common.{◌≡◌, ◌+◌, ◌-◌, ◌<◌, ◌≤◌, ℕ, zero, suc, true, false, List, [], ◌∷◌, ◌++◌, length, map, drop, Option, Some, None, refl, sym, ap, subst, ◌∙◌, append_assoc, arith}
+use Rattle.std.specs.Prelude.{is_some, option_map, slice_get, IfSome, IsSomeAnd}
+use Rattle.std.proofs.Math.Seq.{drop-append-add}
 use Rattle.std.proofs.lemmas.Bool.{eq-eqb}
-use Rattle.std.proofs.lemmas.List.{drop-drop, drop_all, length-append, length-map}
+use Rattle.std.proofs.lemmas.List.{drop-drop, length-append, length-map}
+use Rattle.std.proofs.lemmas.Option.{same_Some, slice_get-map}
 use Rattle.gw_model.specs.declared.observation.Observation.{Observation}
 use Rattle.iec_command.specs.declared.command.Command.{Command}
+use Rattle.gw_answers.specs.declared.interrogation.AnswerSection.{AnswerSection}
 use Rattle.gw_answers.specs.declared.outgoing.OwnAsdu.{OwnAsdu}
 use Rattle.gw_answers.specs.declared.outgoing.OwnAsdu.TheVariants as outgoing
 use Rattle.gw_answers.specs.Outgoing.{command_with}
 use Rattle.gw_answers.specs.Interrogations.{cause_for, answer_with}
+use Rattle.gw_answers.specs.Sections.{joined, parts_of}
 use Rattle.gw_station.specs.Answers.{is_pending}
-use Rattle.gw_station.specs.Kept.{parts_front, parts_left}
+use Rattle.gw_station.specs.Kept.{parts_front, parts_left, rows_at, HasPart}
 
--- the rows, and the termination behind them
-abbrev pub behind_confirmation : Command → List Observation → List OwnAsdu
-behind_confirmation c rows =
-    map (outgoing.Observation (cause_for c.action) 0) rows ++ command_with 10 false c ∷ []
+-- ---- one section, and more behind it
 
--- an answer has a confirmation and a termination more than it has rows
-pub answer_long : (c : Command) (rows : List Observation) → length (answer_with c rows) ≡ length rows + 2
+-- a section has a confirmation and a termination more than it has rows
+answer_long : (c : Command) (rows : List Observation) → length (answer_with c rows) ≡ length rows + 2
 answer_long c rows =
     let row : Observation → OwnAsdu = outgoing.Observation (cause_for c.action) 0 in
     let last : List OwnAsdu = command_with 10 false c ∷ [] in
     omega (arith, length-append (map row rows) last, length-map rows row)
 
 -- where not all parts were put out, one is left
-pub pending_before_last : (done : ℕ) (parts : List OwnAsdu) → done < length parts → is_pending (drop done parts) ≡ true
+pending_before_last : (done : ℕ) (parts : List OwnAsdu) → done < length parts → is_pending (drop done parts) ≡ true
 pending_before_last done [] more = absurd (omega (arith, more))
 pending_before_last zero (part ∷ parts) more = refl
 pending_before_last (suc done) (part ∷ parts) more = pending_before_last done parts (omega (arith, more))
 
-pub answer_pending : (done : ℕ) (c : Command) (rows : List Observation) → done < length rows + 2
-    → is_pending (drop done (answer_with c rows)) ≡ true
-answer_pending done c rows more =
-    pending_before_last done (answer_with c rows) (omega (arith, more, answer_long c rows))
+-- a part that stands at a place is first behind those before it
+first_behind : (done : ℕ) (parts more : List OwnAsdu) (part : OwnAsdu) → Some part ≡ slice_get parts done
+    → Some part ≡ slice_get (drop done (parts ++ more)) 0
+first_behind done [] more part e = absurd cc
+first_behind zero (p ∷ parts) more part e = e
+first_behind (suc done) (p ∷ parts) more part e = first_behind done parts more part e
+
+-- so many more go
+left_behind : (done count : ℕ) (parts : List OwnAsdu) → drop (done + count) parts ≡ drop count (drop done parts)
+left_behind done count parts = sym (drop-drop count done parts)
+
+-- all that is left of a section goes, and some behind it
+all_go : (done count : ℕ) (parts more : List OwnAsdu) → done ≤ length parts → length parts - done ≤ count
+    → drop (count - (length parts - done)) more ≡ drop count (drop done (parts ++ more))
+all_go done count parts more within past =
+    let n : ℕ = count - (length parts - done) in
+    let all : length parts + n ≡ done + count = omega (arith, within, past) in
+    sym (drop-append-add parts more n)
+    ∙ (ap (λ (m : ℕ). drop m (parts ++ more)) all ∙ left_behind done count (parts ++ more))
 
 -- ---- the part at a place
-
-first_left : {A : Type 0} (done : ℕ) (parts : List A) → slice_get (drop done parts) 0 ≡ slice_get parts done
-first_left zero parts = refl
-first_left (suc done) [] = refl
-first_left (suc done) (part ∷ parts) = first_left done parts
-
-pub first_of_answer : (done : ℕ) (c : Command) (rows : List Observation) (part : OwnAsdu)
-    → Some part ≡ slice_get (answer_with c rows) done → Some part ≡ slice_get (drop done (answer_with c rows)) 0
-first_of_answer done c rows part e = e ∙ sym (first_left done (answer_with c rows))
 
 row_at : (f : Observation → OwnAsdu) (last : OwnAsdu) (rows : List Observation) (n : ℕ) (x : Observation)
     → slice_get rows n ≡ Some x → Some (f x) ≡ slice_get (map f rows ++ last ∷ []) n
@@ -79,137 +86,182 @@ last_of_answer c rows (suc n) some few e =
 
 -- ---- the rows that are left
 
--- the rows among parts
-abbrev pub rows_in : List OwnAsdu → List Observation
-rows_in [] = []
-rows_in (outgoing.Command command ∷ parts) = rows_in parts
-rows_in (outgoing.Observation cause originator x ∷ parts) = x ∷ rows_in parts
+-- before a command, all rows are at the front
+rows_front : (f : ℕ) (k : Command) (rows : List Observation) (more : List OwnAsdu)
+    → rows ≡ parts_front f 0 (map (outgoing.Observation f 0) rows ++ outgoing.Command k ∷ more)
+rows_front f k [] more = refl
+rows_front f k (x ∷ rows) more =
+    rw (eq-eqb f f refl) (ap (λ (xs : List Observation). x ∷ xs) (rows_front f k rows more))
 
-rows_between : (f : ℕ) (c : Command) (rows : List Observation) (n : ℕ)
-    → rows_in (drop n (map (outgoing.Observation f 0) rows ++ command_with 10 false c ∷ [])) ≡ drop n rows
-rows_between f c [] zero = refl
-rows_between f c [] (suc n) = none n
-  where
-    none : (n : ℕ) → rows_in (drop n []) ≡ []
-    none zero = refl
-    none (suc n) = refl
-rows_between f c (x ∷ rows) zero = ap (λ (xs : List Observation). x ∷ xs) (rows_between f c rows zero)
-rows_between f c (x ∷ rows) (suc n) = rows_between f c rows n
-
-pub rows_left : (done : ℕ) (c : Command) (rows : List Observation)
-    → rows_in (drop done (answer_with c rows)) ≡ drop (done - 1) rows
-rows_left zero c rows = rows_between (cause_for c.action) c rows 0
-rows_left (suc n) c rows =
-    let same : suc n - 1 ≡ n = omega arith in
-    rows_between (cause_for c.action) c rows n ∙ ap (λ (m : ℕ). drop m rows) (sym same)
-
--- where a row is first, all that are left have its cause and originator
-front_between : (f : ℕ) (c : Command) (rows : List Observation)
-    → parts_front f 0 (map (outgoing.Observation f 0) rows ++ command_with 10 false c ∷ []) ≡ rows
-front_between f c [] = refl
-front_between f c (x ∷ rows) =
-    rw (eq-eqb f f refl) (ap (λ (xs : List Observation). x ∷ xs) (front_between f c rows))
-
-drop_none : {A : Type 0} (n : ℕ) (xs : List A) → xs ≡ [] → drop n xs ≡ []
-drop_none zero xs e = e
-drop_none (suc n) [] e = refl
-drop_none (suc n) (x ∷ xs) e = absurd cc
-
-row_first : (f : ℕ) (c : Command) (rows : List Observation) (n cause originator : ℕ) (x : Observation)
-    → slice_get (drop n (map (outgoing.Observation f 0) rows ++ command_with 10 false c ∷ [])) 0
+row_first : (f : ℕ) (k : Command) (rows : List Observation) (more : List OwnAsdu) (n cause originator : ℕ)
+    (x : Observation) → n ≤ length rows
+    → slice_get (drop n (map (outgoing.Observation f 0) rows ++ outgoing.Command k ∷ more)) 0
     ≡ Some (outgoing.Observation cause originator x)
-    → parts_front cause originator (drop n (map (outgoing.Observation f 0) rows ++ command_with 10 false c ∷ []))
-    ≡ rows_in (drop n (map (outgoing.Observation f 0) rows ++ command_with 10 false c ∷ []))
-row_first f c [] zero cause originator x e = absurd cc
-row_first f c [] (suc n) cause originator x e =
-    absurd (never (ap (λ (parts : List OwnAsdu). slice_get parts 0) (sym (drop_none n [] refl)) ∙ e))
-  where
-    never : None ≡ Some (outgoing.Observation cause originator x) → ⊥
-    never e = cc
-row_first f c (y ∷ rows) zero cause originator x e =
+    → (drop n rows
+    ≡ parts_front cause originator (drop n (map (outgoing.Observation f 0) rows ++ outgoing.Command k ∷ more)))
+    × (0 < length (drop n rows))
+row_first f k [] more zero cause originator x within e = absurd cc
+row_first f k [] more (suc n) cause originator x within e = absurd (omega (arith, within))
+row_first f k (y ∷ rows) more zero cause originator x within e =
     let same_cause : f ≡ cause = cc in
     let same_originator : 0 ≡ originator = cc in
-    let whole : List OwnAsdu = map (outgoing.Observation f 0) (y ∷ rows) ++ command_with 10 false c ∷ [] in
-    ap (λ (n : ℕ). parts_front n originator whole) (sym same_cause)
-    ∙ (ap (λ (n : ℕ). parts_front f n whole) (sym same_originator)
-    ∙ (front_between f c (y ∷ rows) ∙ sym (rows_between f c (y ∷ rows) 0)))
-row_first f c (y ∷ rows) (suc n) cause originator x e = row_first f c rows n cause originator x e
+    let whole : List OwnAsdu = map (outgoing.Observation f 0) (y ∷ rows) ++ outgoing.Command k ∷ more in (
+      rows_front f k (y ∷ rows) more
+          ∙ (ap (λ (n : ℕ). parts_front f n whole) same_originator
+          ∙ ap (λ (n : ℕ). parts_front n originator whole) same_cause),
+      omega arith,
+    )
+row_first f k (y ∷ rows) more (suc n) cause originator x within e =
+    row_first f k rows more n cause originator x (omega (arith, within)) e
 
-pub rows_first : (done : ℕ) (c : Command) (rows : List Observation) (cause originator : ℕ) (x : Observation)
-    → slice_get (drop done (answer_with c rows)) 0 ≡ Some (outgoing.Observation cause originator x)
-    → parts_front cause originator (drop done (answer_with c rows)) ≡ rows_in (drop done (answer_with c rows))
-rows_first zero c rows cause originator x e = absurd cc
-rows_first (suc n) c rows cause originator x e = row_first (cause_for c.action) c rows n cause originator x e
+-- where a row is first, the rows behind it have its cause and originator
+rows_behind : (done : ℕ) (c : Command) (rows : List Observation) (more : List OwnAsdu) (cause originator : ℕ)
+    (x : Observation) → done < length rows + 2
+    → slice_get (drop done (answer_with c rows ++ more)) 0 ≡ Some (outgoing.Observation cause originator x)
+    → (drop (done - 1) rows ≡ parts_front cause originator (drop done (answer_with c rows ++ more)))
+    × (0 < length (drop (done - 1) rows))
+rows_behind zero c rows more cause originator x within e = absurd cc
+rows_behind (suc n) c rows more cause originator x within e =
+    let f : ℕ = cause_for c.action in
+    let same : suc n - 1 ≡ n = omega arith in
+    let whole = append_assoc (map (outgoing.Observation f 0) rows) (command_with 10 false c ∷ []) more in
+    rw (same, whole) (row_first f (record c { cause = 10; negative = false }) rows more n cause originator x
+    (omega (arith, within)) (rw whole at e))
 
--- where a row is first, one is left
-pub row_is_left : (done : ℕ) (c : Command) (rows : List Observation) (cause originator : ℕ) (x : Observation)
-    → slice_get (drop done (answer_with c rows)) 0 ≡ Some (outgoing.Observation cause originator x)
-    → 0 < length (rows_in (drop done (answer_with c rows)))
-row_is_left done c rows cause originator x e = some (drop done (answer_with c rows)) e
+-- ---- the sections of an answer
+
+-- the parts of a section come before those of the sections behind it
+section_first : (n : ℕ) (sections : List (List OwnAsdu)) (parts : List OwnAsdu) → slice_get sections n ≡ Some parts
+    → joined (drop n sections) ≡ parts ++ joined (drop (suc n) sections)
+section_first n [] parts e = absurd cc
+section_first zero (p ∷ sections) parts e = ap (λ (ps : List OwnAsdu). ps ++ joined sections) (same_Some p parts e)
+section_first (suc n) (p ∷ sections) parts e = section_first n sections parts e
+
+-- the section of which parts are left
+record IsNext (section done : ℕ) (answer : List AnswerSection) : Type 0 where
+  next : AnswerSection
+  there : slice_get answer section ≡ Some next
+  within : done < length next.rows.items + 2
+
+abbrev parts_in : AnswerSection → List OwnAsdu
+parts_in section = answer_with section.command section.rows.items
+
+next_section : (section done : ℕ) (answer : List AnswerSection) → HasPart section done (parts_of answer)
+    → IsNext section done answer
+next_section section done answer has =
+    by (slice_get answer section) refl
+    (subst (λ (o : Option (List OwnAsdu)). IsSomeAnd o (λ parts. done < length parts))
+    (slice_get-map parts_in answer section) has)
   where
-    some : (parts : List OwnAsdu) → slice_get parts 0 ≡ Some (outgoing.Observation cause originator x)
-        → 0 < length (rows_in parts)
-    some [] e = absurd cc
-    some (outgoing.Command k ∷ parts) e = absurd cc
-    some (outgoing.Observation n m y ∷ parts) e = omega arith
+    by : (found : Option AnswerSection) → slice_get answer section ≡ found
+        → IsSomeAnd (option_map parts_in found) (λ parts. done < length parts) → IsNext section done answer
+    by None there few = absurd few
+    by (Some next) there few = record {
+      next = next;
+      there = there;
+      within = omega (arith, few, answer_long next.command next.rows.items);
+    }
 
--- ---- some are put out
+-- its parts
+section_at : (section : ℕ) (answer : List AnswerSection) (next : AnswerSection) → slice_get answer section ≡ Some next
+    → slice_get (parts_of answer) section ≡ Some (parts_in next)
+section_at section answer next there = slice_get-map parts_in answer section ∙ ap (option_map parts_in) there
 
-pub left_behind : {A : Type 0} (done count : ℕ) (parts : List A) → drop (done + count) parts ≡ drop count (drop done parts)
-left_behind done count parts = sym (drop-drop count done parts)
+-- the parts of the sections behind it
+abbrev behind : ℕ → List AnswerSection → List OwnAsdu
+behind section answer = joined (drop (suc section) (parts_of answer))
 
--- nothing is left behind the last
-pub none_left : (done count : ℕ) (c : Command) (rows : List Observation) → length rows + 2 ≤ done + count
-    → [] ≡ drop count (drop done (answer_with c rows))
-none_left done count c rows last =
-    sym (drop_all (done + count) (answer_with c rows) (omega (arith, last, answer_long c rows)))
-    ∙ left_behind done count (answer_with c rows)
+-- what is left is of that section, and of those behind it
+left_is : (section done : ℕ) (answer : List AnswerSection) (next : AnswerSection)
+    → slice_get answer section ≡ Some next
+    → parts_left section done (Some (parts_of answer)) ≡ drop done (parts_in next ++ behind section answer)
+left_is section done answer next there =
+    ap (drop done) (section_first section (parts_of answer) (parts_in next) (section_at section answer next there))
 
 -- ---- as the station keeps it
 
 -- an answer of which a part is left is pending
-pub pending_of : {A : Type 0} (command : A → Command) (rows : A → List Observation) (done : ℕ) (answer : Option A)
-    → IfSome answer (λ a. done < length (rows a) + 2)
-    → is_pending (parts_left done (option_map (λ a. answer_with (command a) (rows a)) answer)) ≡ is_some answer
-pending_of command rows done None within = refl
-pending_of command rows done (Some a) within = answer_pending done (command a) (rows a) within
+pub pending_of : {A : Type 0} (items : A → List AnswerSection) (section done : ℕ) (answer : Option A)
+    → IfSome answer (λ a. HasPart section done (parts_of (items a)))
+    → is_pending (parts_left section done (option_map (λ a. parts_of (items a)) answer)) ≡ is_some answer
+pending_of items section done None has = refl
+pending_of items section done (Some a) has =
+    let n = next_section section done (items a) has in
+    ap is_pending (left_is section done (items a) n.next n.there)
+    ∙ pending_before_last done (parts_in n.next ++ behind section (items a)) (omega (
+      arith,
+      n.within,
+      answer_long n.next.command n.next.rows.items,
+      length-append (parts_in n.next) (behind section (items a)),
+    ))
 
--- where a row is first, the rows behind it have its cause and originator
-pub rows_of_left : (done : ℕ) (c : Command) (rows behind : List Observation) (cause originator : ℕ) (x : Observation)
-    → behind ≡ drop (done - 1) rows
-    → slice_get (drop done (answer_with c rows)) 0 ≡ Some (outgoing.Observation cause originator x)
-    → (behind ≡ parts_front cause originator (drop done (answer_with c rows))) × (0 < length behind)
-rows_of_left done c rows behind cause originator x is first =
-    let same = is ∙ sym (rows_left done c rows) in (
-      same ∙ sym (rows_first done c rows cause originator x first),
-      subst (λ (xs : List Observation). 0 < length xs) (sym same)
-          (row_is_left done c rows cause originator x first),
-    )
+-- the part at a place of the next section is first
+pub first_of : (section done : ℕ) (answer : List AnswerSection) (next : AnswerSection) (part : OwnAsdu)
+    → slice_get answer section ≡ Some next
+    → Some part ≡ slice_get (answer_with next.command next.rows.items) done
+    → Some part ≡ slice_get (parts_left section done (Some (parts_of answer))) 0
+first_of section done answer next part there e =
+    first_behind done (parts_in next) (behind section answer) part e
+    ∙ ap (λ (parts : List OwnAsdu). slice_get parts 0) (sym (left_is section done answer next there))
 
--- so many more were put out, where some are left
-pub forgotten : {A : Type 0} (command : A → Command) (rows : A → List Observation) (done count : ℕ) (answer : Option A)
-    → parts_left (done + count) (option_map (λ a. answer_with (command a) (rows a)) answer)
-    ≡ drop count (parts_left done (option_map (λ a. answer_with (command a) (rows a)) answer))
-forgotten command rows done count None = sym (drop_none count [] refl)
-forgotten command rows done count (Some a) = left_behind done count (answer_with (command a) (rows a))
+-- where a row is first, the rows that are left of the section have its cause and originator
+rows_of : (section done : ℕ) (answer : List AnswerSection) → HasPart section done (parts_of answer)
+    → (cause originator : ℕ) (x : Observation)
+    → slice_get (parts_left section done (Some (parts_of answer))) 0 ≡ Some (outgoing.Observation cause originator x)
+    → (rows_at section done answer ≡ parts_front cause originator (parts_left section done (Some (parts_of answer))))
+    × (0 < length (rows_at section done answer))
+rows_of section done answer has cause originator x e =
+    let n = next_section section done answer has in
+    let left = left_is section done answer n.next n.there in
+    rw (left, n.there) (rows_behind done n.next.command n.next.rows.items (behind section answer) cause originator x n.within
+    (ap (λ (parts : List OwnAsdu). slice_get parts 0) (sym left) ∙ e))
 
--- and where none is left
-pub forgotten_all : {A : Type 0} (command : A → Command) (rows : A → List Observation) (done count : ℕ)
-    (answer : Option A) (a : A) → answer ≡ Some a → length (rows a) + 2 ≤ done + count
-    → [] ≡ drop count (parts_left done (option_map (λ a. answer_with (command a) (rows a)) answer))
-forgotten_all command rows done count answer a is last =
-    none_left done count (command a) (rows a) last
-    ∙ ap (λ o. drop count (parts_left done (option_map (λ a. answer_with (command a) (rows a)) o))) (sym is)
-
--- where a row is first of an answer that is kept
-pub rows_of_answer : {A : Type 0} (command : A → Command) (rows : A → List Observation) (done : ℕ) (answer : Option A)
-    (a : A) (behind : List Observation) (parts : List OwnAsdu) → answer ≡ Some a → behind ≡ drop (done - 1) (rows a)
-    → parts_left done (option_map (λ a. answer_with (command a) (rows a)) answer) ≡ parts
+pub rows_of_answer : {A : Type 0} (items : A → List AnswerSection) (section done : ℕ) (answer : Option A) (a : A)
+    (behind : List Observation) (parts : List OwnAsdu) → answer ≡ Some a
+    → IfSome answer (λ a. HasPart section done (parts_of (items a))) → behind ≡ rows_at section done (items a)
+    → parts_left section done (option_map (λ a. parts_of (items a)) answer) ≡ parts
     → (cause originator : ℕ) (x : Observation) → slice_get parts 0 ≡ Some (outgoing.Observation cause originator x)
     → (behind ≡ parts_front cause originator parts) × (0 < length behind)
-rows_of_answer command rows done answer a behind parts is so shown cause originator x first =
-    let same : drop done (answer_with (command a) (rows a)) ≡ parts =
-    ap (λ o. parts_left done (option_map (λ a. answer_with (command a) (rows a)) o)) (sym is) ∙ shown in
-    let r = rows_of_left done (command a) (rows a) behind cause originator x so
-    (ap (λ (ps : List OwnAsdu). slice_get ps 0) same ∙ first) in
-    (r.0 ∙ ap (parts_front cause originator) same, r.1)
+rows_of_answer items section done None a behind parts is has so shown cause originator x first = absurd cc
+rows_of_answer items section done (Some b) a behind parts is has so shown cause originator x first =
+    let rows : behind ≡ rows_at section done (items b) =
+    so ∙ ap (λ y. rows_at section done (items y)) (sym (same_Some b a is)) in
+    let r = rows_of section done (items b) has cause originator x
+    (ap (λ (ps : List OwnAsdu). slice_get ps 0) shown ∙ first) in (
+      rows ∙ (r.0 ∙ ap (parts_front cause originator) shown),
+      subst (λ (xs : List Observation). 0 < length xs) (sym rows) r.1,
+    )
+
+-- ---- some are put out
+
+-- a section of which not all parts were put out goes
+pub section_goes : (section done count rows : ℕ) (answer : List AnswerSection) (next : AnswerSection)
+    → slice_get answer section ≡ Some next → rows ≡ length next.rows.items
+    → IfSome (slice_get (parts_of answer) section) (λ parts. done < length parts) → rows + 2 - done ≤ count
+    → drop (count - (rows + 2 - done)) (parts_left (section + 1) 0 (Some (parts_of answer)))
+    ≡ drop count (parts_left section done (Some (parts_of answer)))
+section_goes section done count rows answer next there is within past =
+    let long = answer_long next.command next.rows.items in
+    let few : done < length (parts_in next) =
+    subst (λ (o : Option (List OwnAsdu)). IfSome o (λ parts. done < length parts)) (section_at section answer next there)
+    within in
+    let same : count - (rows + 2 - done) ≡ count - (length (parts_in next) - done) = omega (arith, long, is) in
+    let behind_it : section + 1 ≡ suc section = omega arith in
+    rw (behind_it, same) (all_go done count (parts_in next) (behind section answer) (omega (arith, few))
+    (omega (arith, long, is, past))
+    ∙ ap (drop count) (sym (left_is section done answer next there)))
+
+-- of each section the confirmation is first
+pub starts : (section : ℕ) (answer : List AnswerSection)
+    → IfSome (slice_get (parts_of answer) section) (λ parts. 0 < length parts)
+starts section answer =
+    subst (λ (o : Option (List OwnAsdu)). IfSome o (λ parts. 0 < length parts))
+    (sym (slice_get-map parts_in answer section)) (by (slice_get answer section))
+  where
+    by : (found : Option AnswerSection) → IfSome (option_map parts_in found) (λ parts. 0 < length parts)
+    by None = tt
+    by (Some next) = omega arith
+
+pub begins : (answer : List AnswerSection) → 0 < length answer → HasPart 0 0 (parts_of answer)
+begins [] some = absurd (omega (arith, some))
+begins (next ∷ answer) some = omega arith

@@ -16,7 +16,6 @@ use Rattle.gw_answers.specs.declared.outgoing.AsduAnswer.{AsduAnswer}
 use Rattle.gw_answers.specs.declared.outgoing.AsduAnswer.TheVariants.{Returned, Made}
 use Rattle.gw_answers.specs.declared.outgoing.OwnAsdu.{OwnAsdu}
 use Rattle.gw_answers.specs.declared.outgoing.OwnAsdu.TheVariants as outgoing
-use Rattle.gw_answers.specs.Outgoing.{at_station}
 use Rattle.gw_answers.specs.Octets.{octets_in, answer_octets, outgoing_octets}
 use Rattle.gw_answers.proofs.Meant.{packed_octets_short}
 use Rattle.gw_station.specs.declared.sending.Sending.{Sending}
@@ -51,30 +50,30 @@ command_short c (actions.Interrogation qualifier) = omega arith
 command_short c (actions.CounterInterrogation qualifier) = omega arith
 command_short c actions.Read = omega arith
 
-outgoing_short : (offset : ℤ) (common : ℕ) (x : OwnAsdu) → length (outgoing_octets offset common x) ≤ 249
-outgoing_short offset common (outgoing.Command c) = omega (arith, command_short (at_station common c) c.action)
-outgoing_short offset common (outgoing.Observation cause originator x) =
-    omega (arith, length-set (spelling offset common cause x) 3 originator, spelling_short offset common cause x)
+outgoing_short : (offset : ℤ) (x : OwnAsdu) → length (outgoing_octets offset x) ≤ 249
+outgoing_short offset (outgoing.Command c) = omega (arith, command_short c c.action)
+outgoing_short offset (outgoing.Observation cause originator x) =
+    omega (arith, length-set (spelling offset cause x) 3 originator, spelling_short offset cause x)
 
-answer_short : (offset : ℤ) (common : ℕ) (answer : AsduAnswer) → length (answer_octets offset common answer) ≤ 249
-answer_short offset common (Returned asdu cause) =
+answer_short : (offset : ℤ) (answer : AsduAnswer) → length (answer_octets offset answer) ≤ 249
+answer_short offset (Returned asdu cause) =
     let came : List ℕ = octets_in asdu in
     let back = cause_octet cause true (is_set 7 (slice_index came 2)) in
     omega (arith, length-set came 2 back, length-take asdu.len asdu.octets, asdu.fits)
-answer_short offset common (Made x) = outgoing_short offset common x
+answer_short offset (Made x) = outgoing_short offset x
 
-part_short : (offset : ℤ) (common : ℕ) (l : List Sending) (part : OwnAsdu)
-    → length (part_octets offset common l part) ≤ 249
-part_short offset common l (outgoing.Command command) = outgoing_short offset common (outgoing.Command command)
-part_short offset common l (outgoing.Observation cause originator x) =
-    packed_octets_short offset common cause originator (rows_front cause originator l)
+part_short : (offset : ℤ) (l : List Sending) (part : OwnAsdu)
+    → length (part_octets offset l part) ≤ 249
+part_short offset l (outgoing.Command command) = outgoing_short offset (outgoing.Command command)
+part_short offset l (outgoing.Observation cause originator x) =
+    packed_octets_short offset cause originator (rows_front cause originator l)
 
-pub content_fits : (offset : ℤ) (common : ℕ) (c : Client) (sending : Sending)
-    → Fits (content_of offset common c sending)
-content_fits offset common c (sendings.Confirm signal) = tt
-content_fits offset common c sendings.Test = tt
-content_fits offset common c (sendings.Answer answer) = (omega arith, omega arith, answer_short offset common answer)
-content_fits offset common c (sendings.News x) =
-    (omega arith, omega arith, packed_octets_short offset common 3 0 (news_front (line c)))
-content_fits offset common c (sendings.Part part) = (omega arith, omega arith, part_short offset common (line c) part)
-content_fits offset common c sendings.SFormat = omega arith
+pub content_fits : (offset : ℤ) (c : Client) (sending : Sending)
+    → Fits (content_of offset c sending)
+content_fits offset c (sendings.Confirm signal) = tt
+content_fits offset c sendings.Test = tt
+content_fits offset c (sendings.Answer answer) = (omega arith, omega arith, answer_short offset answer)
+content_fits offset c (sendings.News x) =
+    (omega arith, omega arith, packed_octets_short offset 3 0 (news_front (line c)))
+content_fits offset c (sendings.Part part) = (omega arith, omega arith, part_short offset (line c) part)
+content_fits offset c sendings.SFormat = omega arith

@@ -22,13 +22,13 @@ pub news_some : (c : Client) (s : Sending) (x : Observation) → s ≡ sendings.
     → 0 < length (news_next c)
 news_some c s x is next = (news_first c x (subst (IsNext c) is next)).some
 
-pub news_content : (offset : ℤ) (common : ℕ) (c : Client) (s : Sending) (x : Observation) → s ≡ sendings.News x
+pub news_content : (offset : ℤ) (c : Client) (s : Sending) (x : Observation) → s ≡ sendings.News x
     → IsNext c s
-    → packed_information offset common c.window 3 0 (news_next c) ≡ content_of offset common c s
-news_content offset common c s x is next =
+    → packed_information offset c.window 3 0 (news_next c) ≡ content_of offset c s
+news_content offset c s x is next =
     let first = news_first c x (subst (IsNext c) is next) in
-    ap (λ (xs : List Observation). packed_information offset common c.window 3 0 xs) (sym first.front)
-    ∙ ap (content_of offset common c) (sym is)
+    ap (λ (xs : List Observation). packed_information offset c.window 3 0 xs) (sym first.front)
+    ∙ ap (content_of offset c) (sym is)
 
 pub news_sent : (offset : ℤ) (moment : ℕ) (c : Client) (s : Sending) (x : Observation) → s ≡ sendings.News x
     → IsNext c s
@@ -48,23 +48,23 @@ pub part_is_first : (c : Client) (s : Sending) (part : OwnAsdu) → s ≡ sendin
     → slice_get c.rest 0 ≡ Some part
 part_is_first c s part is next = (part_first c part (subst (IsNext c) is next)).first
 
-octets_are : (offset : ℤ) (common : ℕ) (c : Client) (part : OwnAsdu)
+octets_are : (offset : ℤ) (c : Client) (part : OwnAsdu)
     → slice_get (line c) 0 ≡ Some (sendings.Part part)
-    → parts_octets offset common part c.rest ≡ part_octets offset common (line c) part
-octets_are offset common c (outgoing.Command command) e = refl
-octets_are offset common c (outgoing.Observation cause originator x) e =
-    ap (λ (xs : List Observation). packed_octets offset common cause originator xs)
+    → parts_octets offset part c.rest ≡ part_octets offset (line c) part
+octets_are offset c (outgoing.Command command) e = refl
+octets_are offset c (outgoing.Observation cause originator x) e =
+    ap (λ (xs : List Observation). packed_octets offset cause originator xs)
     (sym (rows_same c (outgoing.Observation cause originator x) cause originator
     (part_first c (outgoing.Observation cause originator x) e)))
 
-pub part_content_is : (offset : ℤ) (common : ℕ) (c : Client) (s : Sending) (part : OwnAsdu)
+pub part_content_is : (offset : ℤ) (c : Client) (s : Sending) (part : OwnAsdu)
     → s ≡ sendings.Part part → IsNext c s
-    → Information (send_number c.window) (receive_number c.window) (parts_octets offset common part c.rest)
-    ≡ content_of offset common c s
-part_content_is offset common c s part is next =
+    → Information (send_number c.window) (receive_number c.window) (parts_octets offset part c.rest)
+    ≡ content_of offset c s
+part_content_is offset c s part is next =
     ap (λ (octets : List ℕ). Information (send_number c.window) (receive_number c.window) octets)
-    (octets_are offset common c part (subst (IsNext c) is next))
-    ∙ ap (content_of offset common c) (sym is)
+    (octets_are offset c part (subst (IsNext c) is next))
+    ∙ ap (content_of offset c) (sym is)
 
 pub parts_sent : (offset : ℤ) (moment : ℕ) (c : Client) (s : Sending) (part : OwnAsdu) → s ≡ sendings.Part part
     → IsNext c s

@@ -10,7 +10,7 @@ use Rattle.gw_answers.specs.declared.outgoing.AsduAnswer.{AsduAnswer}
 use Rattle.gw_answers.specs.declared.outgoing.AsduAnswer.TheVariants.{Made}
 use Rattle.gw_answers.specs.declared.outgoing.OwnAsdu.{OwnAsdu}
 use Rattle.gw_answers.specs.Outgoing.{command_with, confirmed}
-use Rattle.gw_answers.specs.Interrogations.{is_accepted_act, answer_to}
+use Rattle.gw_answers.specs.Interrogations.{asked_addresses, is_accepted_act, answer_to}
 use Rattle.gw_answers.specs.Answers.{answered}
 use Rattle.gw_station.specs.declared.event.Said.{Said}
 use Rattle.gw_station.specs.declared.event.Said.TheVariants.{Confirm, Negative, Ordered, Done, Failed}
@@ -36,16 +36,17 @@ abbrev pub older_with : Judged → Bool → Client → ℕ
 older_with j true c = length c.queue
 older_with j false c = c.older
 
-abbrev pub rest_with : List Observation → Judged → Bool → Client → List OwnAsdu
-rest_with picture (Accepted command) true c = answer_to command picture
-rest_with picture _ _ c = c.rest
+abbrev pub rest_with : Setup → List Observation → Judged → Bool → Client → List OwnAsdu
+rest_with setup picture (Accepted command) true c =
+    answer_to (asked_addresses setup command.common_address) command picture
+rest_with setup picture _ _ c = c.rest
 
 -- an ASDU that was judged, while the picture shows this
 abbrev pub client_judging : Setup → List Observation → Asdu → Judged → Client → Client
 client_judging setup picture asdu j c = record c {
   answers = answers_with (answered setup picture (is_pending c.rest) asdu j) c.answers;
   older = older_with j (is_asking j c) c;
-  rest = rest_with picture j (is_asking j c) c;
+  rest = rest_with setup picture j (is_asking j c) c;
 }
 
 -- ---- what is said of a command for a control

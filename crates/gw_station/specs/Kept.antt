@@ -1,10 +1,12 @@
 -- What a station keeps of the news that may go next, and of the answer to an interrogation.
-use Rattle.std.specs.Prelude.{ℕ, ℤ, ◌==◌, ◌&&◌, List, [], ◌∷◌, drop, take, Option, Some, None, if◌then◌else◌}
+use Rattle.std.specs.Prelude.{ℕ, ℤ, ◌-◌, ◌<◌, ◌==◌, ◌&&◌, List, [], ◌∷◌, drop, length, slice_get, take, Option, Some, None, IsSomeAnd, if◌then◌else◌}
 use Rattle.gw_model.specs.declared.observation.Observation.{Observation}
 use Rattle.iec_asdu.specs.Packing.{taken_of}
 use Rattle.gw_answers.specs.declared.outgoing.OwnAsdu.{OwnAsdu}
 use Rattle.gw_answers.specs.declared.outgoing.OwnAsdu.TheVariants as outgoing
+use Rattle.gw_answers.specs.declared.interrogation.AnswerSection.{AnswerSection}
 use Rattle.gw_answers.specs.Octets.{outgoing_octets, packed_octets}
+use Rattle.gw_answers.specs.Sections.{joined}
 use Rattle.gw_station.specs.Answers.{is_pending}
 use Rattle.gw_station.specs.Client.{Client}
 
@@ -12,10 +14,27 @@ use Rattle.gw_station.specs.Client.{Client}
 abbrev pub news_next : Client → List Observation
 news_next c = if is_pending c.rest then take c.older c.queue else c.queue
 
--- what is left of an answer of which so many parts were put out
-abbrev pub parts_left : ℕ → Option (List OwnAsdu) → List OwnAsdu
-parts_left done None = []
-parts_left done (Some parts) = drop done parts
+-- what is left of the sections of an answer, of which so many were put out, and so many parts of the next
+abbrev pub parts_left : ℕ → ℕ → Option (List (List OwnAsdu)) → List OwnAsdu
+parts_left section done None = []
+parts_left section done (Some sections) = drop done (joined (drop section sections))
+
+-- and nothing where no place is left
+abbrev pub parts_at : Option (ℕ × ℕ) → List (List OwnAsdu) → List OwnAsdu
+parts_at None sections = []
+parts_at (Some place) sections = parts_left place.0 place.1 (Some sections)
+
+-- some part is left of the next section
+abbrev pub HasPart : ℕ → ℕ → List (List OwnAsdu) → Type 0
+HasPart section done sections = IsSomeAnd (slice_get sections section) (λ parts. done < length parts)
+
+-- the rows that are left of the next section, the confirmation of which is first
+abbrev pub rows_of_section : ℕ → Option AnswerSection → List Observation
+rows_of_section done None = []
+rows_of_section done (Some section) = drop (done - 1) section.rows.items
+
+abbrev pub rows_at : ℕ → ℕ → List AnswerSection → List Observation
+rows_at section done answer = rows_of_section done (slice_get answer section)
 
 -- the rows at the front of parts that have this cause and originator
 abbrev pub parts_front : ℕ → ℕ → List OwnAsdu → List Observation
@@ -29,7 +48,7 @@ parts_together offset (outgoing.Command command) parts = 1
 parts_together offset (outgoing.Observation cause originator x) parts =
     taken_of offset (parts_front cause originator parts)
 
-abbrev pub parts_octets : ℤ → ℕ → OwnAsdu → List OwnAsdu → List ℕ
-parts_octets offset common (outgoing.Command command) parts = outgoing_octets offset common (outgoing.Command command)
-parts_octets offset common (outgoing.Observation cause originator x) parts =
-    packed_octets offset common cause originator (parts_front cause originator parts)
+abbrev pub parts_octets : ℤ → OwnAsdu → List OwnAsdu → List ℕ
+parts_octets offset (outgoing.Command command) parts = outgoing_octets offset (outgoing.Command command)
+parts_octets offset (outgoing.Observation cause originator x) parts =
+    packed_octets offset cause originator (parts_front cause originator parts)

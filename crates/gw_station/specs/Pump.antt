@@ -82,34 +82,33 @@ IsRoomy w (sendings.Part part) = length w.waiting < w.limits.k
 IsRoomy w sendings.SFormat = Unit {0}
 
 -- an I format with this ASDU
-abbrev pub information : ℤ → ℕ → WindowCounts → AsduAnswer → ApduContent
-information offset common w answer = Information (send_number w) (receive_number w) (answer_octets offset common answer)
+abbrev pub information : ℤ → WindowCounts → AsduAnswer → ApduContent
+information offset w answer = Information (send_number w) (receive_number w) (answer_octets offset answer)
 
 -- an I format with as many of these observations as its ASDU carries
-abbrev pub packed_information : ℤ → ℕ → WindowCounts → ℕ → ℕ → List Observation → ApduContent
-packed_information offset common w cause originator xs =
-    Information (send_number w) (receive_number w) (packed_octets offset common cause originator xs)
+abbrev pub packed_information : ℤ → WindowCounts → ℕ → ℕ → List Observation → ApduContent
+packed_information offset w cause originator xs =
+    Information (send_number w) (receive_number w) (packed_octets offset cause originator xs)
 
 -- the octets of a part with those that go out with it
-abbrev pub part_octets : ℤ → ℕ → List Sending → OwnAsdu → List ℕ
-part_octets offset common line (outgoing.Command command) = outgoing_octets offset common (outgoing.Command command)
-part_octets offset common line (outgoing.Observation cause originator x) =
-    packed_octets offset common cause originator (rows_front cause originator line)
+abbrev pub part_octets : ℤ → List Sending → OwnAsdu → List ℕ
+part_octets offset line (outgoing.Command command) = outgoing_octets offset (outgoing.Command command)
+part_octets offset line (outgoing.Observation cause originator x) =
+    packed_octets offset cause originator (rows_front cause originator line)
 
 -- what it carries
-abbrev pub content_of : ℤ → ℕ → Client → Sending → ApduContent
-content_of offset common c (sendings.Confirm signal) = Unnumbered signal
-content_of offset common c sendings.Test = Unnumbered TestAct
-content_of offset common c (sendings.Answer answer) = information offset common c.window answer
-content_of offset common c (sendings.News x) =
-    packed_information offset common c.window 3 0 (news_front (line c))
-content_of offset common c (sendings.Part part) =
-    Information (send_number c.window) (receive_number c.window) (part_octets offset common (line c) part)
-content_of offset common c sendings.SFormat = Supervisory (receive_number c.window)
+abbrev pub content_of : ℤ → Client → Sending → ApduContent
+content_of offset c (sendings.Confirm signal) = Unnumbered signal
+content_of offset c sendings.Test = Unnumbered TestAct
+content_of offset c (sendings.Answer answer) = information offset c.window answer
+content_of offset c (sendings.News x) = packed_information offset c.window 3 0 (news_front (line c))
+content_of offset c (sendings.Part part) =
+    Information (send_number c.window) (receive_number c.window) (part_octets offset (line c) part)
+content_of offset c sendings.SFormat = Supervisory (receive_number c.window)
 
 -- what is put out next at a moment, if anything
-abbrev pub given : ℤ → ℕ → ℕ → Client → Option ApduContent
-given offset common moment c = option_map (content_of offset common c) (offered moment c)
+abbrev pub given : ℤ → ℕ → Client → Option ApduContent
+given offset moment c = option_map (content_of offset c) (offered moment c)
 
 -- so many news were put out, and so many parts
 abbrev pub client_without_news : ℕ → Client → Client

@@ -7,7 +7,7 @@ ghost use Rattle.gw_station.specs.Quiet.{IsQuiet};
 
 /// Nothing is put out only where nothing waits, or where what waits needs an I format and none may be sent.
 pub fn nothing_is_held_back()
-    ensures { (offset : ℤ) (common moment : ℕ) (c : Client) → given offset common moment c ≡ None → IsQuiet moment c }
+    ensures { (offset : ℤ) (moment : ℕ) (c : Client) → given offset moment c ≡ None → IsQuiet moment c }
 {}
 
 /// What is put out of the line is its front, as much as goes out together, and the others stay in their order.

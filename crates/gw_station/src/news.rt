@@ -21,8 +21,8 @@ pub(crate) fn pack_news(
     requires some { 0 < count }
     requires within { count ≤ length front.now + length back.now }
     requires few { count ≤ 127 }
-    ensures asdu { octets_in result.asdu ≡ packed_octets settings.now.station.offset_minutes
-        settings.now.station.common_address 3 0 (take count (front.now ++ back.now)) }
+    ensures asdu { octets_in result.asdu
+        ≡ packed_octets settings.now.station.offset_minutes 3 0 (take count (front.now ++ back.now)) }
     ensures taken { result.taken
         ≡ taken_of settings.now.station.offset_minutes (take count (front.now ++ back.now)) }
 {
@@ -43,8 +43,8 @@ fn pack_over_seam(
     requires over { length front.now < count }
     requires within { count ≤ length front.now + length back.now }
     requires few { count ≤ 127 }
-    ensures asdu { octets_in result.asdu ≡ packed_octets settings.now.station.offset_minutes
-        settings.now.station.common_address 3 0 (take count (front.now ++ back.now)) }
+    ensures asdu { octets_in result.asdu
+        ≡ packed_octets settings.now.station.offset_minutes 3 0 (take count (front.now ++ back.now)) }
     ensures taken { result.taken
         ≡ taken_of settings.now.station.offset_minutes (take count (front.now ++ back.now)) }
 {
@@ -56,15 +56,8 @@ fn pack_over_seam(
 
 fn pack_slice(news: &[Observation], settings: &Settings) -> PackedAsdu
     requires { 0 < length news.now }
-    ensures asdu { octets_in result.asdu ≡ packed_octets settings.now.station.offset_minutes
-        settings.now.station.common_address 3 0 news.now }
+    ensures asdu { octets_in result.asdu ≡ packed_octets settings.now.station.offset_minutes 3 0 news.now }
     ensures taken { result.taken ≡ taken_of settings.now.station.offset_minutes news.now }
 {
-    pack(
-        settings.station().common_address,
-        SPONTANEOUS,
-        0,
-        &settings.zone(),
-        news,
-    )
+    pack(SPONTANEOUS, 0, &settings.zone(), news)
 }

@@ -1,13 +1,16 @@
 //! What is left of the answer to an interrogation.
-ghost use Rattle.std.specs.Prelude.{◌≡◌, ℕ, ◌+◌, ◌-◌, ◌<◌, [], drop, length, slice_get, IfOk, Some};
+ghost use Rattle.std.specs.Prelude.{◌≡◌, ℕ, ◌+◌, ◌-◌, ◌<◌, [], drop, length, slice_get, IfOk, IfSome, Some};
 ghost use Rattle.gw_model.specs.declared.observation.Observation.{Observation as Row};
 ghost use Rattle.gw_answers.specs.declared.outgoing.OwnAsdu.TheVariants.{Observation as Told};
 ghost use Rattle.gw_answers.specs.Interrogations.{answer_with};
 ghost use Rattle.gw_answers.specs.Octets.{octets_in};
+ghost use Rattle.gw_answers.specs.Sections.{joined, parts_of};
 ghost use Rattle.gw_station.specs.Answers.{is_pending};
-ghost use Rattle.gw_station.specs.Kept.{parts_front, parts_octets, parts_together};
+ghost use Rattle.gw_station.specs.Kept.{parts_at, parts_front, parts_left, parts_octets, parts_together, rows_at, HasPart};
 
-use gw_answers::{AsduAnswer, OwnAsdu, PackedAsdu, answer_asdu, cause_for, command_with, pack};
+use gw_answers::{
+    AnswerSection, AsduAnswer, OwnAsdu, PackedAsdu, answer_asdu, cause_for, command_with, pack,
+};
 use gw_map::Settings;
 use gw_model::{Memory, Observation};
 use iec_command::Command;
@@ -15,41 +18,34 @@ use iec_command::causes::{ACTIVATION_CONFIRMATION, ACTIVATION_TERMINATION};
 use std::marker::Model;
 use std::sync::ArcSlice;
 
-/// The parts of an answer that are no rows: its confirmation and its termination.
+/// The parts of a section that are no rows: its confirmation and its termination.
 const COMMANDS: usize = 2;
-
-/// An answer, whole: its rows stand between its confirmation and its termination.
-#[derive(Debug, Drop)]
-struct Answer {
-    /// The act.
-    command: Command,
-    /// Copies share them, for they never change.
-    rows: ArcSlice<Observation>,
-}
 
 /// The parts of an answer that aren't put out yet.
 #[derive(Debug, Drop)]
 pub struct PartsLeft {
-    /// The answer, as long as a part of it is left.
-    answer: Option<Answer>,
-    /// How many parts were put out.
+    /// The answer, a section for each common address, as long as a part of it is left. Copies share it, for it never
+    /// changes.
+    answer: Option<ArcSlice<AnswerSection>>,
+    /// How many sections were put out.
+    section: usize,
+    /// How many parts of the next one were put out.
     done: usize,
 }
 
 impl Model for PartsLeft {
-    ghost use Rattle.std.specs.Prelude.{List, ◌+◌, length, option_map, ◌<◌, IfSome};
+    ghost use Rattle.std.specs.Prelude.{List, option_map, IfSome};
     ghost use Rattle.std.specs.Arc.{arc_slice_items};
     ghost use Rattle.gw_answers.specs.declared.outgoing.OwnAsdu.{OwnAsdu as Left};
-    ghost use Rattle.gw_answers.specs.Interrogations.{answer_with};
-    ghost use Rattle.gw_station.specs.Kept.{parts_left};
+    ghost use Rattle.gw_answers.specs.Sections.{parts_of};
+    ghost use Rattle.gw_station.specs.Kept.{parts_left, HasPart};
 
     ghost Value = { List Left };
 
-    ghost view = { λ r. parts_left r.done
-        (option_map (λ answer. answer_with answer.command (arc_slice_items answer.rows)) r.answer) };
+    ghost view = { λ r. parts_left r.section r.done (option_map (λ answer. parts_of (arc_slice_items answer)) r.answer) };
 
     // As long as there is an answer, a part of it is left.
-    ghost invariant = { λ r. IfSome r.answer (λ answer. r.done < length (arc_slice_items answer.rows) + 2) };
+    ghost invariant = { λ r. IfSome r.answer (λ answer. HasPart r.section r.done (parts_of (arc_slice_items answer))) };
 }
 
 impl PartsLeft {
@@ -59,20 +55,21 @@ impl PartsLeft {
     {
         PartsLeft {
             answer: None,
+            section: 0,
             done: 0,
         }
     }
 
-    /// All parts of the answer to an act, with these rows.
-    pub fn of(command: &Command, rows: Vec<Observation>) -> Result<PartsLeft, Memory>
-        ensures { IfOk result (λ rest. rest ≡ answer_with command.now rows.items) }
+    /// All parts of an answer.
+    pub fn of(answer: Vec<AnswerSection>) -> Result<PartsLeft, Memory>
+        ensures { IfOk result (λ rest. rest ≡ joined (parts_of answer.items)) }
     {
-        let answer = Answer {
-            command: *command,
-            rows: ArcSlice::from_vec(rows)?,
-        };
+        if answer.is_empty() {
+            return Ok(PartsLeft::none());
+        }
         Ok(PartsLeft {
-            answer: Some(answer),
+            answer: Some(ArcSlice::from_vec(answer)?),
+            section: 0,
             done: 0,
         })
     }
@@ -83,13 +80,11 @@ impl PartsLeft {
     {
         let answer = match &self.answer {
             None => None,
-            Some(answer) => Some(Answer {
-                command: answer.command,
-                rows: answer.rows.clone()?,
-            }),
+            Some(answer) => Some(answer.clone()?),
         };
         Ok(PartsLeft {
             answer,
+            section: self.section,
             done: self.done,
         })
     }
@@ -105,31 +100,29 @@ impl PartsLeft {
     pub fn first(&self) -> Option<OwnAsdu>
         ensures { result ≡ slice_get self.now 0 }
     {
-        match &self.answer {
-            None => None,
-            Some(answer) => Some(part_at(&answer.command, answer.rows.as_slice(), self.done)),
-        }
+        let answer = self.answer.as_ref()?;
+        let section = answer.as_slice().get(self.section)?;
+        Some(part_at(&section.command, section.rows.as_slice(), self.done))
     }
 
     /// The ASDU of the first part that is left, with as many rows behind it as it carries; and how many parts these are.
     pub fn pack(&self, first: &OwnAsdu, settings: &Settings) -> PackedAsdu
         requires { slice_get self.now 0 ≡ Some first.now }
-        ensures asdu { octets_in result.asdu ≡ parts_octets settings.now.station.offset_minutes
-            settings.now.station.common_address first.now self.now }
+        ensures asdu { octets_in result.asdu
+            ≡ parts_octets settings.now.station.offset_minutes first.now self.now }
         ensures taken { result.taken ≡ parts_together settings.now.station.offset_minutes first.now self.now }
     {
-        let common = settings.station().common_address;
         let zone = settings.zone();
         match first {
             OwnAsdu::Command(_) => PackedAsdu {
-                asdu: answer_asdu(common, &zone, &AsduAnswer::Made(*first)),
+                asdu: answer_asdu(&zone, &AsduAnswer::Made(*first)),
                 taken: 1,
             },
             OwnAsdu::Observation {
                 cause,
                 originator,
                 ..
-            } => pack(common, *cause, *originator, &zone, self.rows()),
+            } => pack(*cause, *originator, &zone, self.rows()),
         }
     }
 
@@ -140,7 +133,7 @@ impl PartsLeft {
     {
         match &self.answer {
             None => &[],
-            Some(answer) => rows_behind(answer.rows.as_slice(), self.done),
+            Some(answer) => rows_left(answer.as_slice(), self.section, self.done),
         }
     }
 
@@ -148,17 +141,56 @@ impl PartsLeft {
     pub fn forget(&mut self, count: usize)
         ensures { self.new ≡ drop count self.old }
     {
-        if let Some(answer) = &self.answer {
-            if count < answer.rows.len() + COMMANDS - self.done {
-                self.done += count;
-            } else {
-                *self = PartsLeft::none();
+        let Some(answer) = &self.answer else {
+            return;
+        };
+        match place_behind(answer.as_slice(), self.section, self.done, count) {
+            Some((section, done)) => {
+                self.section = section;
+                self.done = done;
             }
+            None => *self = PartsLeft::none(),
         }
     }
 }
 
-/// The part of an answer with these rows at a place.
+/// Where an answer of which so many sections, and so many parts of the next, were put out goes on behind so many more
+/// parts; nothing where none is left.
+fn place_behind(
+    answer: &[AnswerSection],
+    section: usize,
+    done: usize,
+    count: usize,
+) -> Option<(usize, usize)>
+    requires { HasPart section done (parts_of answer.now) }
+    ensures place { IfSome result (λ place. HasPart place.0 place.1 (parts_of answer.now)) }
+    ensures left { parts_at result (parts_of answer.now)
+        ≡ drop count (parts_left section done (Some (parts_of answer.now))) }
+{
+    let mut done = done;
+    let mut left = count;
+    for next in section..answer.len() {
+        let here = answer[next].rows.len() + COMMANDS - done;
+        if left < here {
+            return Some((next, done + left));
+        }
+        left -= here;
+        done = 0;
+    }
+    None
+}
+
+/// The rows that are left of a section.
+fn rows_left(answer: &[AnswerSection], section: usize, done: usize) -> &[Observation]
+    ensures { result.now ≡ rows_at section done answer.now }
+{
+    match answer.get(section) {
+        Some(section) => rows_behind(section.rows.as_slice(), done),
+        None => &[],
+    }
+}
+
+/// The part of a section with these rows at a place.
 fn part_at(command: &Command, rows: &[Observation], place: usize) -> OwnAsdu
     requires { place < length rows.now + 2 }
     ensures { Some result ≡ slice_get (answer_with command.now rows.now) place }
@@ -182,7 +214,7 @@ fn row_at(rows: &[Observation], place: usize) -> Option<Observation>
     rows.get(place).copied()
 }
 
-/// The rows of an answer of which so many parts were put out, the confirmation first.
+/// The rows of a section of which so many parts were put out, the confirmation first.
 fn rows_behind(rows: &[Observation], done: usize) -> &[Observation]
     ensures { result.now ≡ drop (done - 1) rows.now }
 {

@@ -32,7 +32,7 @@ use crate::ring::NewsRing;
 use crate::sending::Sending;
 use gw_answers::{
     AsduAnswer, OwnAsdu, PackedAsdu, answer_asdu, answered, command_by, command_with, confirmed,
-    is_accepted_act, places_for, rows_asked,
+    is_accepted_act, places_for, sections_of,
 };
 use gw_judge::{Judged, judge};
 use gw_map::Settings;
@@ -330,8 +330,8 @@ impl Station {
     pub fn pump(&mut self, settings: &Settings, moment: u64, news: &NewsRing) -> Option<ApduBuf>
         requires count { sent_in_all self.old.window + 1 < 2 ^ 64 }
         requires stands { Stands news.now self.old }
-        ensures apdu { result ≡ option_map buffer_of (given settings.now.station.offset_minutes
-            settings.now.station.common_address moment (seen news.now self.old)) }
+        ensures apdu { result ≡ option_map buffer_of
+            (given settings.now.station.offset_minutes moment (seen news.now self.old)) }
         ensures client { seen news.now self.new
             ≡ client_after_pump settings.now.station.offset_minutes moment (seen news.now self.old) }
         ensures stands { Stands news.now self.new }
@@ -431,6 +431,8 @@ impl Station {
         if let Some(why) = self.close_by_information(ns, nr, &judged) {
             return Ok(self.close(why));
         }
+        // Known common addresses have 16 bits, so what is said under them can be sent.
+        let _known = settings.known_addresses();
         self.take_asdu(settings, picture, asdu, &judged, news)?;
         self.window.received(ns, nr, moment);
         Ok(match command_by(&judged) {
@@ -461,8 +463,8 @@ impl Station {
         let pending = self.is_pending();
         if let Judged::Accepted(command) = judged {
             if is_accepted_act(pending, command) {
-                let rows = rows_asked(self.alloc, command.action, picture)?;
-                self.rest = PartsLeft::of(command, rows)?;
+                let answer = sections_of(self.alloc, command, settings, picture)?;
+                self.rest = PartsLeft::of(answer)?;
                 self.mark(news);
                 return Ok(());
             }
@@ -601,8 +603,8 @@ impl Station {
         requires answer { IsReturnableSending sending }
         requires next { IsNext (seen news.now self.old) sending }
         requires stands { Stands news.now self.old }
-        ensures apdu { result ≡ buffer_of (content_of settings.now.station.offset_minutes
-            settings.now.station.common_address (seen news.now self.old) sending) }
+        ensures apdu { result ≡ buffer_of
+            (content_of settings.now.station.offset_minutes (seen news.now self.old) sending) }
         ensures client { seen news.now self.new
             ≡ client_with_sent settings.now.station.offset_minutes moment sending (seen news.now self.old) }
         ensures stands { Stands news.now self.new }
@@ -634,11 +636,11 @@ impl Station {
         requires room { length self.old.window.waiting < self.old.window.limits.k }
         requires count { sent_in_all self.old.window + 1 < 2 ^ 64 }
         requires answer { IsReturnable answer.now }
-        ensures apdu { result ≡ buffer_of (information settings.now.station.offset_minutes
-            settings.now.station.common_address self.old.window answer.now) }
+        ensures apdu { result ≡ buffer_of
+            (information settings.now.station.offset_minutes self.old.window answer.now) }
         ensures client { self.new ≡ record self.old { window = counts_after_sending_i moment self.old.window } }
     {
-        let asdu = answer_asdu(settings.station().common_address, &settings.zone(), answer);
+        let asdu = answer_asdu(&settings.zone(), answer);
         self.send_asdu(asdu, moment)
     }
 
@@ -660,8 +662,8 @@ impl Station {
         requires count { sent_in_all self.old.window + 1 < 2 ^ 64 }
         requires some { 0 < length (news_next (seen news.now self.old)) }
         requires stands { Stands news.now self.old }
-        ensures apdu { result ≡ buffer_of (packed_information settings.now.station.offset_minutes
-            settings.now.station.common_address self.old.window 3 0 (news_next (seen news.now self.old))) }
+        ensures apdu { result ≡ buffer_of (packed_information settings.now.station.offset_minutes self.old.window 3 0
+            (news_next (seen news.now self.old))) }
         ensures client { seen news.now self.new ≡ record (client_without_news (taken_of
             settings.now.station.offset_minutes (news_next (seen news.now self.old))) (seen news.now self.old)) {
               window = counts_after_sending_i moment self.old.window;
@@ -678,9 +680,8 @@ impl Station {
         requires room { length self.old.window.waiting < self.old.window.limits.k }
         requires count { sent_in_all self.old.window + 1 < 2 ^ 64 }
         requires first { slice_get self.old.rest 0 ≡ Some first.now }
-        ensures apdu { result ≡ buffer_of (Information (send_number self.old.window)
-            (receive_number self.old.window) (parts_octets settings.now.station.offset_minutes
-            settings.now.station.common_address first.now self.old.rest)) }
+        ensures apdu { result ≡ buffer_of (Information (send_number self.old.window) (receive_number self.old.window)
+            (parts_octets settings.now.station.offset_minutes first.now self.old.rest)) }
         ensures seat { self.new ≡ record self.old {
           window = counts_after_sending_i moment self.old.window;
           rest = drop (parts_together settings.now.station.offset_minutes first.now self.old.rest) self.old.rest;
@@ -694,8 +695,8 @@ impl Station {
     /// The ASDU of as many as one carries of the news that may go next, and how many these are.
     fn pack_news(&self, settings: &Settings, news: &NewsRing) -> PackedAsdu
         requires { 0 < length (news_next (seen news.now self.now)) }
-        ensures asdu { octets_in result.asdu ≡ packed_octets settings.now.station.offset_minutes
-            settings.now.station.common_address 3 0 (news_next (seen news.now self.now)) }
+        ensures asdu { octets_in result.asdu
+            ≡ packed_octets settings.now.station.offset_minutes 3 0 (news_next (seen news.now self.now)) }
         ensures taken { result.taken
             ≡ taken_of settings.now.station.offset_minutes (news_next (seen news.now self.now)) }
     {

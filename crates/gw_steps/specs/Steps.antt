@@ -218,7 +218,7 @@ reply_to setup s (steps.Frame c apdu moment) =
     client_reply (λ k. reply_of_event (event_of setup apdu k)) (slice_get s.clients c)
 reply_to setup s (steps.Pump c moment) =
     client_reply
-    (λ k. reply_giving (given setup.station.offset_minutes setup.station.common_address (latest s moment) k))
+    (λ k. reply_giving (given setup.station.offset_minutes (latest s moment) k))
     (slice_get s.clients c)
 
 -- a fault, or the reply where the counts can rise

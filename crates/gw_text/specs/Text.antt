@@ -21,7 +21,7 @@ confirm_lines (Some octets) = line_of (codes "confirm") octets
 
 -- the line of an observation: its ASDU, with the cause spontaneous (IEC 60870-5-101, 7.2.3)
 unfoldable pub asdu_line : Setup → Observation → List ℕ
-asdu_line setup x = line_of (codes "asdu") (spelling setup.station.offset_minutes setup.station.common_address 3 x)
+asdu_line setup x = line_of (codes "asdu") (spelling setup.station.offset_minutes 3 x)
 
 -- a line for each observation
 abbrev pub asdu_lines : Setup → List Observation → List ℕ

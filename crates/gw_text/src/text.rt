@@ -30,8 +30,7 @@ fn push_asdu(
 ) -> Result<(), Memory>
     ensures { OnOk result (text.new.items ≡ text.old.items ++ asdu_line settings.now image.now) }
 {
-    let common = settings.station().common_address;
-    let written = write_monitor(&[*image], common, SPONTANEOUS, &settings.zone(), buffer);
+    let written = write_monitor(&[*image], SPONTANEOUS, &settings.zone(), buffer);
     push_line(text, b"asdu", &buffer[..written.octets])
 }
 

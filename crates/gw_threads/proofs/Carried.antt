@@ -17,7 +17,6 @@ use Rattle.gw_answers.specs.declared.outgoing.AsduAnswer.{AsduAnswer}
 use Rattle.gw_answers.specs.declared.outgoing.AsduAnswer.TheVariants.{Returned, Made}
 use Rattle.gw_answers.specs.declared.outgoing.OwnAsdu.{OwnAsdu}
 use Rattle.gw_answers.specs.declared.outgoing.OwnAsdu.TheVariants as outgoing
-use Rattle.gw_answers.specs.Outgoing.{at_station}
 use Rattle.gw_answers.specs.Octets.{answer_octets, octets_in, outgoing_octets, packed_octets}
 use Rattle.gw_answers.specs.Meaning.{Meant, Tells, Commands, Unread, meaning_of, meant_outgoing, IsSendable, Means, CanSendAnswer, CanSendOutgoing}
 use Rattle.gw_answers.proofs.Meant.{answer_means, outgoing_means, packed_mean, refused_with}
@@ -44,59 +43,6 @@ use Rattle.gw_map.specs.Settings.{Setup}
 use Rattle.gw_threads.specs.Carries.{is_reporting, TellsFit, SaysFit, CarriesFit}
 use Rattle.gw_shared.specs.Pumping.{IsPumped}
 
--- ---- a common address is spelled by its last 16 bits
-
-words_within : (common : ℕ) → to_le_bytes w16 common ≡ to_le_bytes w16 (common % 65536)
-words_within common =
-    let low : common % 256 ≡ common % 65536 % 256 = omega arith in
-    let high : common / 256 % 256 ≡ common % 65536 / 256 % 256 = omega arith in
-    ap (λ (octet : ℕ). octet ∷ (common / 256 % 256) ∷ []) low
-    ∙ ap (λ (octet : ℕ). (common % 65536 % 256) ∷ octet ∷ []) high
-
-spelling_within : (offset : ℤ) (common cause : ℕ) (x : Observation)
-    → spelling offset common cause x ≡ spelling offset (common % 65536) cause x
-spelling_within offset common cause x =
-    ap (λ (word : List ℕ).
-    type_of x.value (is_some (tag_of offset x.stamp)) ∷ 1 ∷ cause ∷ 0
-    ∷ (word ++ take 3 (to_le_bytes w32 x.address)
-    ++ (element_spelling x.value x.quality ++ tag_octets (tag_of offset x.stamp))))
-    (words_within common)
-
-command_within : (common : ℕ) (c : Command)
-    → command_spelling (at_station common c) ≡ command_spelling (at_station (common % 65536) c)
-command_within common c =
-    ap (λ (word : List ℕ).
-    command_type c.action ∷ 1 ∷ cause_octet c.cause c.negative c.test ∷ c.originator
-    ∷ (word ++ take 3 (to_le_bytes w32 c.address) ++ element_of c.action))
-    (words_within common)
-
-outgoing_within : (offset : ℤ) (common : ℕ) (x : OwnAsdu)
-    → outgoing_octets offset common x ≡ outgoing_octets offset (common % 65536) x
-outgoing_within offset common (outgoing.Command c) = command_within common c
-outgoing_within offset common (outgoing.Observation cause originator x) =
-    ap (λ (octets : List ℕ). slice_set octets 3 originator) (spelling_within offset common cause x)
-
-answer_within : (offset : ℤ) (common : ℕ) (answer : AsduAnswer)
-    → answer_octets offset common answer ≡ answer_octets offset (common % 65536) answer
-answer_within offset common (Returned asdu cause) = refl
-answer_within offset common (Made x) = outgoing_within offset common x
-
--- so it is where observations go together
-header_within : (offset : ℤ) (sequence : Bool) (common cause : ℕ) (xs : List Observation)
-    → header_octets offset sequence common cause xs ≡ header_octets offset sequence (common % 65536) cause xs
-header_within offset sequence common cause [] = refl
-header_within offset sequence common cause (x ∷ xs) =
-    ap (λ (word : List ℕ).
-    identification_at offset x ∷ qualifier_of sequence (length (x ∷ xs)) ∷ cause ∷ 0 ∷ word) (words_within common)
-
-packed_within : (offset : ℤ) (common cause originator : ℕ) (xs : List Observation)
-    → packed_octets offset common cause originator xs ≡ packed_octets offset (common % 65536) cause originator xs
-unfolding packed_spelling list_spelling
-packed_within offset common cause originator xs =
-    let ys : List Observation = take (taken_of offset xs) xs in
-    ap (λ (header : List ℕ). slice_set (header ++ objects_octets offset (is_in_sequence offset xs) ys) 3 originator)
-    (header_within offset (is_in_sequence offset xs) common cause ys)
-
 -- ---- what is meant
 
 -- what comes back as unknown reports nothing
@@ -109,32 +55,30 @@ unknown_apart cause high =
       ne_eqb cause 37 (λ e. omega (arith, e, high)),
     ) refl
 
-outgoing_tells : (offset : ℤ) (common : ℕ) (x : OwnAsdu) (meant : Meant) → CanSendOutgoing offset x
-    → meant ≡ meant_outgoing offset common x → TellsFit offset meant
-outgoing_tells offset common (outgoing.Command c) meant can means = subst (TellsFit offset) (sym means) tt
-outgoing_tells offset common (outgoing.Observation cause originator x) meant can means =
+outgoing_tells : (offset : ℤ) (x : OwnAsdu) (meant : Meant) → CanSendOutgoing offset x
+    → meant ≡ meant_outgoing offset x → TellsFit offset meant
+outgoing_tells offset (outgoing.Command c) meant can means = subst (TellsFit offset) (sym means) tt
+outgoing_tells offset (outgoing.Observation cause originator x) meant can means =
     subst (TellsFit offset) (sym means) (λ reports. (can.fit, tt))
 
-answer_tells : (offset : ℤ) (common : ℕ) (answer : AsduAnswer) (meant : Meant) → CanSendAnswer offset answer
-    → Means offset common answer meant → TellsFit offset meant
-answer_tells offset common (Returned asdu cause) (Tells told) can means =
+answer_tells : (offset : ℤ) (answer : AsduAnswer) (meant : Meant) → CanSendAnswer offset answer
+    → Means offset answer meant → TellsFit offset meant
+answer_tells offset (Returned asdu cause) (Tells told) can means =
     let refused = refused_with offset cause (octets_in asdu) (Tells told) can.0 means in
     λ reports. absurd (true≢false (sym reports ∙ unknown_apart (told.cause % 64) (omega (arith, refused.0, can.1))))
-answer_tells offset common (Returned asdu cause) (Commands command) can means = tt
-answer_tells offset common (Returned asdu cause) (Unread octets) can means = tt
-answer_tells offset common (Made (outgoing.Command c)) meant can means =
-    outgoing_tells offset common (outgoing.Command c) meant can means
-answer_tells offset common (Made (outgoing.Observation cause originator x)) meant can means =
-    outgoing_tells offset common (outgoing.Observation cause originator x) meant can.1 means
+answer_tells offset (Returned asdu cause) (Commands command) can means = tt
+answer_tells offset (Returned asdu cause) (Unread octets) can means = tt
+answer_tells offset (Made (outgoing.Command c)) meant can means =
+    outgoing_tells offset (outgoing.Command c) meant can means
+answer_tells offset (Made (outgoing.Observation cause originator x)) meant can means =
+    outgoing_tells offset (outgoing.Observation cause originator x) meant can.1 means
 
 -- ---- what is put out
 
-outgoing_says : (offset : ℤ) (common : ℕ) (x : OwnAsdu) → CanSendOutgoing offset x
-    → TellsFit offset (meaning_of offset (outgoing_octets offset common x))
-outgoing_says offset common x can =
-    subst (λ (octets : List ℕ). TellsFit offset (meaning_of offset octets)) (sym (outgoing_within offset common x))
-    (outgoing_tells offset (common % 65536) x (meaning_of offset (outgoing_octets offset (common % 65536) x)) can
-    (outgoing_means offset (common % 65536) x (omega arith) can))
+outgoing_says : (offset : ℤ) (x : OwnAsdu) → CanSendOutgoing offset x
+    → TellsFit offset (meaning_of offset (outgoing_octets offset x))
+outgoing_says offset x can =
+    outgoing_tells offset x (meaning_of offset (outgoing_octets offset x)) can (outgoing_means offset x can)
 
 -- as many observations as one ASDU carries
 all_fit : (offset : ℤ) (xs : List Observation) → AllByRecursion (IsSendable offset) xs
@@ -142,79 +86,75 @@ all_fit : (offset : ℤ) (xs : List Observation) → AllByRecursion (IsSendable 
 all_fit offset [] all = tt
 all_fit offset (x ∷ xs) all = (all.0.fit, all_fit offset xs all.1)
 
-packed_says : (offset : ℤ) (common cause originator : ℕ) (x : Observation) (xs : List Observation)
+packed_says : (offset : ℤ) (cause originator : ℕ) (x : Observation) (xs : List Observation)
     → AllByRecursion (IsSendable offset) (x ∷ xs)
-    → TellsFit offset (meaning_of offset (packed_octets offset common cause originator (x ∷ xs)))
-packed_says offset common cause originator x xs all =
+    → TellsFit offset (meaning_of offset (packed_octets offset cause originator (x ∷ xs)))
+packed_says offset cause originator x xs all =
     let n : ℕ = taken_of offset (x ∷ xs) in
     let can = all-take (IsSendable offset) n (x ∷ xs) all in
-    subst (λ (octets : List ℕ). TellsFit offset (meaning_of offset octets))
-    (sym (packed_within offset common cause originator (x ∷ xs)))
-    (subst (TellsFit offset) (sym (packed_mean offset (common % 65536) cause originator x xs (omega arith) can))
-    (λ reports. all_fit offset (take n (x ∷ xs)) can))
+    subst (TellsFit offset) (sym (packed_mean offset cause originator x xs can))
+    (λ reports. all_fit offset (take n (x ∷ xs)) can)
 
 -- those at the front of a line, which aren't none
-news_say : (offset : ℤ) (common : ℕ) (x : Observation) (l : List Sending) → AllByRecursion (CanSend offset) l
+news_say : (offset : ℤ) (x : Observation) (l : List Sending) → AllByRecursion (CanSend offset) l
     → slice_get l 0 ≡ Some (sendings.News x)
-    → TellsFit offset (meaning_of offset (packed_octets offset common 3 0 (news_front l)))
-news_say offset common x [] all e = absurd cc
-news_say offset common x (sendings.News y ∷ l) all e =
-    packed_says offset common 3 0 y (news_front l) (all.0, news_sendable offset l all.1)
-news_say offset common x (sendings.Answer answer ∷ l) all e = absurd cc
-news_say offset common x (sendings.Part part ∷ l) all e = absurd cc
-news_say offset common x (sendings.Confirm signal ∷ l) all e = absurd cc
-news_say offset common x (sendings.Test ∷ l) all e = absurd cc
-news_say offset common x (sendings.SFormat ∷ l) all e = absurd cc
+    → TellsFit offset (meaning_of offset (packed_octets offset 3 0 (news_front l)))
+news_say offset x [] all e = absurd cc
+news_say offset x (sendings.News y ∷ l) all e =
+    packed_says offset 3 0 y (news_front l) (all.0, news_sendable offset l all.1)
+news_say offset x (sendings.Answer answer ∷ l) all e = absurd cc
+news_say offset x (sendings.Part part ∷ l) all e = absurd cc
+news_say offset x (sendings.Confirm signal ∷ l) all e = absurd cc
+news_say offset x (sendings.Test ∷ l) all e = absurd cc
+news_say offset x (sendings.SFormat ∷ l) all e = absurd cc
 
 part_read : OwnAsdu → Option Sending → OwnAsdu
 part_read d (Some (sendings.Part part)) = part
 part_read d _ = d
 
-rows_say : (offset : ℤ) (common : ℕ) (part : OwnAsdu) (l : List Sending) → AllByRecursion (CanSend offset) l
+rows_say : (offset : ℤ) (part : OwnAsdu) (l : List Sending) → AllByRecursion (CanSend offset) l
     → slice_get l 0 ≡ Some (sendings.Part part)
-    → TellsFit offset (meaning_of offset (part_octets offset common l part))
+    → TellsFit offset (meaning_of offset (part_octets offset l part))
 unfolding part_read
-rows_say offset common part [] all e = absurd cc
-rows_say offset common part (sendings.Part (outgoing.Command command) ∷ l) all e =
+rows_say offset part [] all e = absurd cc
+rows_say offset part (sendings.Part (outgoing.Command command) ∷ l) all e =
     let line : List Sending = sendings.Part (outgoing.Command command) ∷ l in
-    subst (λ (p : OwnAsdu). TellsFit offset (meaning_of offset (part_octets offset common line p)))
-    (ap (part_read part) e) (outgoing_says offset common (outgoing.Command command) all.0)
-rows_say offset common part (sendings.Part (outgoing.Observation cause originator x) ∷ l) all e =
+    subst (λ (p : OwnAsdu). TellsFit offset (meaning_of offset (part_octets offset line p)))
+    (ap (part_read part) e) (outgoing_says offset (outgoing.Command command) all.0)
+rows_say offset part (sendings.Part (outgoing.Observation cause originator x) ∷ l) all e =
     let line : List Sending = sendings.Part (outgoing.Observation cause originator x) ∷ l in
-    subst (λ (p : OwnAsdu). TellsFit offset (meaning_of offset (part_octets offset common line p)))
+    subst (λ (p : OwnAsdu). TellsFit offset (meaning_of offset (part_octets offset line p)))
     (ap (part_read part) e)
-    (subst (λ (xs : List Observation). TellsFit offset (meaning_of offset (packed_octets offset common cause originator xs)))
-    (sym front) (packed_says offset common cause originator x (rows_front cause originator l)
+    (subst (λ (xs : List Observation). TellsFit offset (meaning_of offset (packed_octets offset cause originator xs)))
+    (sym front) (packed_says offset cause originator x (rows_front cause originator l)
     (all.0, rows_sendable offset cause originator l all.1)))
   where
     front : rows_front cause originator (sendings.Part (outgoing.Observation cause originator x) ∷ l)
         ≡ x ∷ rows_front cause originator l
     front = rw (eq-eqb cause cause refl, eq-eqb originator originator refl) refl
-rows_say offset common part (sendings.News x ∷ l) all e = absurd cc
-rows_say offset common part (sendings.Answer answer ∷ l) all e = absurd cc
-rows_say offset common part (sendings.Confirm signal ∷ l) all e = absurd cc
-rows_say offset common part (sendings.Test ∷ l) all e = absurd cc
-rows_say offset common part (sendings.SFormat ∷ l) all e = absurd cc
+rows_say offset part (sendings.News x ∷ l) all e = absurd cc
+rows_say offset part (sendings.Answer answer ∷ l) all e = absurd cc
+rows_say offset part (sendings.Confirm signal ∷ l) all e = absurd cc
+rows_say offset part (sendings.Test ∷ l) all e = absurd cc
+rows_say offset part (sendings.SFormat ∷ l) all e = absurd cc
 
 -- what is next and can be sent says so
-says : (offset : ℤ) (common : ℕ) (k : Client) (s : Sending) → AllByRecursion (CanSend offset) (line k)
-    → CanSend offset s → IsNext k s → SaysFit offset (said_by offset (content_of offset common k s))
-says offset common k (sendings.Confirm signal) all can next = tt
-says offset common k sendings.Test all can next = tt
-says offset common k (sendings.Answer answer) all can next =
-    subst (λ (octets : List ℕ). TellsFit offset (meaning_of offset octets)) (sym (answer_within offset common answer))
-    (answer_tells offset (common % 65536) answer (meaning_of offset (answer_octets offset (common % 65536) answer)) can
-    (answer_means offset (common % 65536) answer (omega arith) can))
-says offset common k (sendings.News x) all can next = news_say offset common x (line k) all next
-says offset common k (sendings.Part part) all can next = rows_say offset common part (line k) all next
-says offset common k sendings.SFormat all can next = tt
+says : (offset : ℤ) (k : Client) (s : Sending) → AllByRecursion (CanSend offset) (line k)
+    → CanSend offset s → IsNext k s → SaysFit offset (said_by offset (content_of offset k s))
+says offset k (sendings.Confirm signal) all can next = tt
+says offset k sendings.Test all can next = tt
+says offset k (sendings.Answer answer) all can next =
+    answer_tells offset answer (meaning_of offset (answer_octets offset answer)) can (answer_means offset answer can)
+says offset k (sendings.News x) all can next = news_say offset x (line k) all next
+says offset k (sendings.Part part) all can next = rows_say offset part (line k) all next
+says offset k sendings.SFormat all can next = tt
 
-carries : (offset : ℤ) (common : ℕ) (k : Client) (s : Sending) → AllByRecursion (CanSend offset) (line k)
-    → CanSend offset s → IsNext k s → CarriesFit offset (buffer_of (content_of offset common k s))
-carries offset common k s all can next =
+carries : (offset : ℤ) (k : Client) (s : Sending) → AllByRecursion (CanSend offset) (line k)
+    → CanSend offset s → IsNext k s → CarriesFit offset (buffer_of (content_of offset k s))
+carries offset k s all can next =
     subst (λ (x : Option ApduMeaning). IsSomeAnd x (SaysFit offset))
-    (sym (said-content offset (content_of offset common k s) (content_fits offset common k s)))
-    (says offset common k s all can next)
+    (sym (said-content offset (content_of offset k s) (content_fits offset k s)))
+    (says offset k s all can next)
 
 apdu_is : (a b : ApduBuf) → Apdu a ≡ Apdu b → a ≡ b
 apdu_is a b e = ap value e
@@ -223,13 +163,13 @@ apdu_is a b e = ap value e
     value (Apdu c) = c
     value _ = a
 
-given_carries : (offset : ℤ) (common : ℕ) (k : Client) (x : Option Sending) (apdu : ApduBuf)
+given_carries : (offset : ℤ) (k : Client) (x : Option Sending) (apdu : ApduBuf)
     → AllByRecursion (CanSend offset) (line k) → IfSome x (CanSend offset) → IfSome x (IsNext k)
-    → reply_giving (option_map (content_of offset common k) x) ≡ Apdu apdu → CarriesFit offset apdu
-given_carries offset common k None apdu all can next e = absurd cc
-given_carries offset common k (Some s) apdu all can next e =
-    subst (CarriesFit offset) (apdu_is (buffer_of (content_of offset common k s)) apdu e)
-    (carries offset common k s all can next)
+    → reply_giving (option_map (content_of offset k) x) ≡ Apdu apdu → CarriesFit offset apdu
+given_carries offset k None apdu all can next e = absurd cc
+given_carries offset k (Some s) apdu all can next e =
+    subst (CarriesFit offset) (apdu_is (buffer_of (content_of offset k s)) apdu e)
+    (carries offset k s all can next)
 
 some_is : {A : Type 0} (x y : A) → Some x ≡ Some y → x ≡ y
 some_is x y e = cc
@@ -248,16 +188,15 @@ pumped_carries client apdu pumped =
     let s : State = pumped.state in
     let step : Step = Pump client pumped.moment in
     let offset : ℤ = setup.station.offset_minutes in
-    let common : ℕ = setup.station.common_address in
     let moment : ℕ = latest s pumped.moment in
     let told = answered (fault_of s step) (can_be_counted s (needs setup s step)) (reply_to setup s step)
     (Apdu apdu) pumped.allowed.0 in
     let up = who_is_up (λ (k : Client). is_up k.stage) NoClient (slice_get s.clients client) told.0 in
     let k : Client = up.0 in
-    let reply : reply_giving (given offset common moment k) ≡ Apdu apdu =
-    sym (ap (client_reply (λ (other : Client). reply_giving (given offset common moment other))) up.1) ∙ told.2 in
+    let reply : reply_giving (given offset moment k) ≡ Apdu apdu =
+    sym (ap (client_reply (λ (other : Client). reply_giving (given offset moment other))) up.1) ∙ told.2 in
     let mine =
     at_place (IsSoundClient setup.station s.counts.steps s.counts.news) s.clients client k pumped.sound.clients up.1 in
-    given_carries offset common k (offered moment k) apdu
+    given_carries offset k (offered moment k) apdu
     (line_can setup.station s.counts.steps s.counts.news k mine)
     (offered_can setup.station s.counts.steps s.counts.news moment k mine) (offered_next moment k) reply

@@ -75,14 +75,17 @@ halved = record { num = 1; den = 2; num_from = lit≤ tt; num_to = lit≤ tt; de
 abbrev pub most : Scale
 most = record { num = 32767; den = 1; num_from = lit≤ tt; num_to = lit≤ tt; den_from = lit≤ tt; den_to = lit≤ tt }
 
--- the row that shows point 5 of a kind at address 4101
+-- the row that shows point 5 of a kind at address 4101 of station 1
 abbrev pub row_with : (scale : Scale) (kind : Kind) (show : Show) → IsTrue (is_shown_by kind show)
     → IsTrue (is_scaled show || (scale.num == 1 && scale.den == 1)) → Row
 row_with scale kind show shown scaled = record {
   key = point kind;
+  common_address = 1;
   address = 4101;
   show = show;
   scale = scale;
+  common_from = lit≤ tt;
+  common_to = lit≤ tt;
   from = lit≤ tt;
   to = lit≤ tt;
   shown = shown;
@@ -119,7 +122,7 @@ counter_row = row kinds.Counter shows.Total refl refl
 
 -- what is shown at address 4101
 abbrev pub observation : Value → Quality → Observation
-observation value quality = record { address = 4101; value = value; quality = quality; stamp = Untimed }
+observation value quality = record { common = 1; address = 4101; value = value; quality = quality; stamp = Untimed }
 
 -- no bit set, and some
 abbrev pub good : Quality

@@ -1,5 +1,5 @@
 -- The image of a report: what clients are shown of it; and whether it is news.
-use Rattle.std.specs.Prelude.{ℕ, ℤ, pos, negsuc, ◌*ℤ◌, int_div, Bool, ◌||◌, not, List, Option, is_some, if◌then◌else◌}
+use Rattle.std.specs.Prelude.{ℤ, pos, negsuc, ◌*ℤ◌, int_div, Bool, ◌||◌, not, List, Option, is_some, if◌then◌else◌}
 use Rattle.std.specs.Option.{option_map}
 use Rattle.std.specs.Int.{w32, int_min, int_max, cast_unsigned}
 use Rattle.std.specs.Ordering.{int_eq}
@@ -8,15 +8,17 @@ use Rattle.gw_model.specs.declared.point.Raw.TheVariants.{Bit, Two, Count, Numbe
 use Rattle.gw_model.specs.declared.point.Stamp.{Stamp}
 use Rattle.gw_model.specs.declared.point.Stamp.TheVariants.{Untimed}
 use Rattle.gw_model.specs.declared.point.Report.{Report}
+use Rattle.gw_model.specs.declared.point.ObjectKey.{ObjectKey}
 use Rattle.gw_entries.specs.declared.row.Row.{Row}
 use Rattle.gw_entries.specs.declared.row.Scale.{Scale}
 use Rattle.gw_entries.specs.declared.row.Show.{Show}
 use Rattle.gw_entries.specs.declared.row.Show.TheVariants as shows
+use Rattle.gw_model.specs.declared.observation.Value.{Value}
 use Rattle.gw_model.specs.declared.observation.Value.TheVariants.{Single, Double, Scaled, Word, Total}
 use Rattle.gw_model.specs.declared.observation.Quality.{Quality}
 use Rattle.gw_model.specs.declared.observation.Observation.{Observation}
 use Rattle.gw_model.specs.Keys.{same_shown}
-use Rattle.gw_map.specs.Settings.{row_from}
+use Rattle.gw_map.specs.Settings.{row_from, row_object}
 use Rattle.gw_time.specs.Spelling.{tag_of}
 use Rattle.gw_translate.specs.Quality.{quality_of}
 
@@ -32,30 +34,33 @@ nearest_scaled_value z = int_min (int_max z (negsuc 32767)) (pos 32767)
 abbrev pub quality_with_overflow : Bool → Quality → Quality
 quality_with_overflow ov q = record q { ov = q.ov || ov }
 
--- a value as the scaled one that is nearest, with OV where that isn't the value itself
-abbrev pub scaled_image : ℤ → Quality → (address : ℕ) → Stamp → Observation
-scaled_image z q address stamp = record {
-  address = address;
-  value = Scaled (nearest_scaled_value z);
-  quality = quality_with_overflow (not (int_eq (nearest_scaled_value z) z)) q;
+-- what is shown of an information object
+abbrev pub observation_of : ObjectKey → Value → Quality → Stamp → Observation
+observation_of object value q stamp = record {
+  common = object.common_address;
+  address = object.address;
+  value = value;
+  quality = q;
   stamp = stamp;
 }
 
+-- a value as the scaled one that is nearest, with OV where that isn't the value itself
+abbrev pub scaled_image : ℤ → Quality → ObjectKey → Stamp → Observation
+scaled_image z q object stamp =
+    observation_of object (Scaled (nearest_scaled_value z))
+    (quality_with_overflow (not (int_eq (nearest_scaled_value z) z)) q) stamp
+
 -- an analog value shown by a type: the 32 bits of its two's complement, or a scaled value
-abbrev pub analog_image : Show → Scale → ℤ → Quality → (address : ℕ) → Stamp → Observation
-analog_image shows.Word scale z q address stamp =
-    record { address = address; value = Word (cast_unsigned w32 z); quality = q; stamp = stamp }
-analog_image _ scale z q address stamp = scaled_image (scaled_by scale z) q address stamp
+abbrev pub analog_image : Show → Scale → ℤ → Quality → ObjectKey → Stamp → Observation
+analog_image shows.Word scale z q object stamp = observation_of object (Word (cast_unsigned w32 z)) q stamp
+analog_image _ scale z q object stamp = scaled_image (scaled_by scale z) q object stamp
 
 -- a raw value shown by a type
-abbrev pub raw_image : Show → Scale → Raw → Quality → (address : ℕ) → Stamp → Observation
-raw_image show scale (Bit on) q address stamp =
-    record { address = address; value = Single on; quality = q; stamp = stamp }
-raw_image show scale (Two state) q address stamp =
-    record { address = address; value = Double state; quality = q; stamp = stamp }
-raw_image show scale (Count n) q address stamp =
-    record { address = address; value = Total n; quality = q; stamp = stamp }
-raw_image show scale (Number z) q address stamp = analog_image show scale z q address stamp
+abbrev pub raw_image : Show → Scale → Raw → Quality → ObjectKey → Stamp → Observation
+raw_image show scale (Bit on) q object stamp = observation_of object (Single on) q stamp
+raw_image show scale (Two state) q object stamp = observation_of object (Double state) q stamp
+raw_image show scale (Count n) q object stamp = observation_of object (Total n) q stamp
+raw_image show scale (Number z) q object stamp = analog_image show scale z q object stamp
 
 -- the time that is shown: none where clocks that are offset minutes ahead of UTC don't show one of the years 2000 to
 -- 2099
@@ -66,7 +71,7 @@ stamp_image offset stamp = if is_some (tag_of offset stamp) then stamp else Unti
 abbrev pub image_of : ℤ → Row → Report → Observation
 image_of offset row report =
     let quality : Quality = quality_of report.key.kind report.flags in
-    raw_image row.show row.scale report.raw quality row.address (stamp_image offset report.stamp)
+    raw_image row.show row.scale report.raw quality (row_object row) (stamp_image offset report.stamp)
 
 -- the image of a report by the rows of a point map: none for a point without a row
 abbrev pub image_in : ℤ → List Row → Report → Option Observation

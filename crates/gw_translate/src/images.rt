@@ -101,6 +101,7 @@ pub fn image(report: &Report, row: &Row, zone: &Zone) -> Observation
         }
     };
     Observation {
+        common: row.common_address,
         address: row.address,
         value,
         quality,

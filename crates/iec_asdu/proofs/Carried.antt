@@ -1,10 +1,9 @@
 -- What one ASDU carries of a list: observations of one type, at consecutive addresses under SQ 1, and never too many.
 use Rattle.std.proofs.Common.{◌≡◌, if◌then◌else◌, ℕ, ℤ, zero, suc, ◌+◌, ◌-◌, ◌*◌, ◌/◌, ◌<◌, ◌≤◌, ◌&&◌, min, nat_le, Bool, true, false, cond, List, [], ◌∷◌, ◌++◌, length, get_or, take, drop, Option, Some, None, refl, sym, ap, subst, ◌∙◌, arith, is_some, length-append}
 use Rattle.std.specs.Int.{w16, to_le_bytes}
-use Rattle.std.specs.Prelude.{IfSome}
+use Rattle.std.specs.Prelude.{IfSome, All}
 use Rattle.std.specs.List.{flat_map}
 use Rattle.std.proofs.Math.Nat.{le-div_iff_mul-le, mul-le-mul_left}
-use Rattle.std.proofs.lemmas.Bool.{eq-eqb}
 use Rattle.std.proofs.lemmas.Bool.Decides.{nat_tests}
 use Rattle.std.proofs.lemmas.List.{append-nil, length-take, length-take-le, take-take, take_all}
 use Rattle.std.proofs.lemmas.Nat.{div_below}
@@ -15,10 +14,10 @@ use Rattle.iec_asdu.specs.declared.types.MonitorType.{MonitorType}
 use Rattle.iec_asdu.specs.Types.{identification_by, type_length}
 use Rattle.iec_asdu.specs.Spelling.{element_kind, element_octets, tag_octets, identification_at, address_octets, information_octets, object_octets, objects_octets, qualifier_of, header_octets, list_spelling, spelling}
 use Rattle.iec_asdu.specs.Fitting.{AreAlike, AreConsecutive, FitsAsdu}
-use Rattle.iec_asdu.specs.Packing.{type_at, alike_count, consecutive_count, apart_count, in_sequence_count, is_in_sequence, room_in_sequence, taken_of, packed_spelling}
+use Rattle.iec_asdu.specs.Packing.{type_at, is_alike, alike_count, consecutive_count, apart_count, in_sequence_count, is_in_sequence, room_in_sequence, taken_of, packed_spelling}
 use Rattle.iec_asdu.proofs.Lengths.{information_long}
 use Rattle.iec_asdu.proofs.Known.{same_type, type_short}
-use Rattle.iec_asdu.proofs.Counts.{nothing, alike_are, alike_within, alike_longest, consecutive_are, consecutive_within, consecutive_longest}
+use Rattle.iec_asdu.proofs.Counts.{nothing, like_itself, alike_are, alike_within, alike_longest, alike_under, consecutive_are, consecutive_within, consecutive_longest}
 
 -- ---- how many octets they have
 
@@ -35,19 +34,19 @@ same_size offset x y same =
     (is_some (tag_of offset x.stamp)) same)
 
 elements_long : (offset : ℤ) (x : Observation) (ys : List Observation)
-    → AreAlike offset (identification_at offset x) ys
+    → AreAlike offset x ys
     → length (flat_map (information_octets offset) ys) ≡ length ys * size_at offset x
 elements_long offset x [] alike = omega arith
 elements_long offset x (y ∷ ys) alike =
     omega (
       arith,
       length-append (information_octets offset y) (flat_map (information_octets offset) ys),
-      same_size offset x y alike.0,
+      same_size offset x y alike.0.0,
       elements_long offset x ys alike.1,
     )
 
 objects_long : (offset : ℤ) (x : Observation) (ys : List Observation)
-    → AreAlike offset (identification_at offset x) ys
+    → AreAlike offset x ys
     → length (flat_map (object_octets offset) ys) ≡ length ys * (3 + size_at offset x)
 objects_long offset x [] alike = omega arith
 objects_long offset x (y ∷ ys) alike =
@@ -55,7 +54,7 @@ objects_long offset x (y ∷ ys) alike =
       arith,
       length-append (information_octets offset y) (flat_map (object_octets offset) ys),
       length-append (object_octets offset y) (flat_map (object_octets offset) ys),
-      same_size offset x y alike.0,
+      same_size offset x y alike.0.0,
       objects_long offset x ys alike.1,
     )
 
@@ -84,34 +83,37 @@ pub record Carries (offset : ℤ) (x : Observation) (xs : List Observation) (seq
   pub within : n ≤ length (x ∷ xs)
   pub few : n ≤ 127
   pub two : sequence ≡ true → 2 ≤ n
-  pub alike : AreAlike offset (identification_at offset x) (take n (x ∷ xs))
+  pub alike : AreAlike offset x (take n (x ∷ xs))
   pub untimed : sequence ≡ true → is_some (tag_of offset x.stamp) ≡ false
   pub consecutive : sequence ≡ true → AreConsecutive x.address (take n (x ∷ xs))
   pub room : 6 + length (objects_octets offset sequence (take n (x ∷ xs))) ≤ 249
 
 first_counted : (offset : ℤ) (x : Observation) (xs : List Observation) (room : ℕ) → 0 < room
-    → 0 < alike_count offset (identification_at offset x) (take room (x ∷ xs))
+    → 0 < alike_count offset x (take room (x ∷ xs))
 unfolding alike_count
 first_counted offset x xs zero some = absurd (omega arith)
 first_counted offset x xs (suc room) some =
-    rw (eq-eqb (identification_at offset x) (identification_at offset x) refl) (omega arith)
+    counted (is_alike offset x x) (alike_count offset x (take room xs)) (like_itself offset x)
+  where
+    counted : (b : Bool) (n : ℕ) → b ≡ true → 0 < cond b (suc n) 0
+    counted true n e = omega arith
+    counted false n e = absurd cc
 
 apart_carries : (offset : ℤ) (x : Observation) (xs : List Observation)
     → Carries offset x xs false (apart_count offset (x ∷ xs))
 unfolding apart_count
 apart_carries offset x xs =
-    let t = identification_at offset x in
     let size = size_at offset x in
     let short = type_short (element_kind x.value) (is_some (tag_of offset x.stamp)) in
     let room = 243 / (3 + size) in
     let front = take room (x ∷ xs) in
-    let n = alike_count offset t front in
+    let n = alike_count offset x front in
     let most : room ≤ 127 = omega (arith, div_below 243 (3 + size) 127 (omega arith) (omega (arith, short.0))) in
     let some : 0 < room = (le-div_iff_mul-le {k = 3 + size} (omega arith)).1 (omega (arith, short.1)) in
     let inside : n ≤ min room (length (x ∷ xs)) =
-    omega (arith, alike_within offset t front, length-take room (x ∷ xs)) in
-    let alike : AreAlike offset t (take n (x ∷ xs)) =
-    subst (AreAlike offset t) (take-take n room (x ∷ xs) (omega (arith, inside))) (alike_are offset t front) in
+    omega (arith, alike_within offset x front, length-take room (x ∷ xs)) in
+    let alike : AreAlike offset x (take n (x ∷ xs)) =
+    subst (AreAlike offset x) (take-take n room (x ∷ xs) (omega (arith, inside))) (alike_are offset x front) in
     let fits : n * (3 + size) ≤ 243 = (le-div_iff_mul-le {k = 3 + size} (omega arith)).0 (omega (arith, inside)) in
     let long : length (flat_map (object_octets offset) (take n (x ∷ xs))) ≡ n * (3 + size) =
     objects_long offset x (take n (x ∷ xs)) alike
@@ -140,20 +142,19 @@ sequence_carries offset x xs two = by_time (is_some (tag_of offset x.stamp)) ref
     room = min 127 (240 / size)
 
     n : ℕ
-    n = consecutive_count offset (identification_at offset x) x.address (take room (x ∷ xs))
+    n = consecutive_count offset x x.address (take room (x ∷ xs))
 
     by_time : (timed : Bool) → is_some (tag_of offset x.stamp) ≡ timed → 2 ≤ cond timed 0 n
         → Carries offset x xs true (cond timed 0 n)
     by_time true is two = absurd (omega arith)
     by_time false is two =
-        let t = identification_at offset x in
         let short = type_short (element_kind x.value) (is_some (tag_of offset x.stamp)) in
         let front = take room (x ∷ xs) in
         let inside : n ≤ min room (length (x ∷ xs)) =
-        omega (arith, consecutive_within offset t x.address front, length-take room (x ∷ xs)) in
+        omega (arith, consecutive_within offset x x.address front, length-take room (x ∷ xs)) in
         let same : take n front ≡ take n (x ∷ xs) = take-take n room (x ∷ xs) (omega (arith, inside)) in
-        let row = consecutive_are offset t x.address front in
-        let alike : AreAlike offset t (take n (x ∷ xs)) = subst (AreAlike offset t) same row.0 in
+        let row = consecutive_are offset x x.address front in
+        let alike : AreAlike offset x (take n (x ∷ xs)) = subst (AreAlike offset x) same row.0 in
         let fits : n * size ≤ 240 = (le-div_iff_mul-le short.0).0 (omega (arith, inside)) in
         let long : length (flat_map (information_octets offset) (take n (x ∷ xs))) ≡ n * size =
         elements_long offset x (take n (x ∷ xs)) alike
@@ -205,6 +206,11 @@ unfolding taken_of is_in_sequence apart_count in_sequence_count
 taken_of_few offset [] = omega arith
 taken_of_few offset (x ∷ xs) = (carried offset x xs).few
 
+-- all under the common address of the first one
+pub taken_under : (offset : ℤ) (x : Observation) (xs : List Observation)
+    → All (λ y. y.common ≡ x.common) (take (taken_of offset (x ∷ xs)) (x ∷ xs))
+taken_under offset x xs = alike_under offset x _ (carried offset x xs).alike
+
 -- of one observation that one
 pub taken_of_one : (offset : ℤ) (x : Observation) → taken_of offset (x ∷ []) ≡ 1
 taken_of_one offset x = omega (arith, (carried offset x []).some, (carried offset x []).within)
@@ -214,10 +220,10 @@ below_two zero small = refl
 below_two (suc zero) small = refl
 below_two (suc (suc m)) small = absurd (omega (arith, small))
 
-consecutive_few : (offset : ℤ) (identification address : ℕ) (n : ℕ) (x : Observation)
-    → nat_le 2 (consecutive_count offset identification address (take n (x ∷ []))) ≡ false
-consecutive_few offset identification address n x =
-    let within = consecutive_within offset identification address (take n (x ∷ [])) in
+consecutive_few : (offset : ℤ) (first : Observation) (address n : ℕ) (x : Observation)
+    → nat_le 2 (consecutive_count offset first address (take n (x ∷ []))) ≡ false
+consecutive_few offset first address n x =
+    let within = consecutive_within offset first address (take n (x ∷ [])) in
     let taken = length-take n (x ∷ []) in
     below_two _ (omega (arith, within, taken))
 
@@ -233,8 +239,7 @@ few_in_sequence : (offset : ℤ) (x : Observation) → nat_le 2 (in_sequence_cou
 unfolding in_sequence_count
 few_in_sequence offset x =
     few_or_none (is_some (tag_of offset x.stamp)) _
-    (consecutive_few offset (identification_at offset x) x.address
-    (room_in_sequence (type_length (type_at offset x))) x)
+    (consecutive_few offset x x.address (room_in_sequence (type_length (type_at offset x))) x)
 
 -- one alone stands under SQ 0
 pub alone_apart : (offset : ℤ) (x : Observation) → is_in_sequence offset (x ∷ []) ≡ false
@@ -284,12 +289,12 @@ untimed_octets offset y none = ap (λ (o : List ℕ). element_octets y ++ o) (no
 
 -- of one type without time elements alone are written
 pub elements_alone : (offset : ℤ) (x : Observation) (ys : List Observation)
-    → is_some (tag_of offset x.stamp) ≡ false → AreAlike offset (identification_at offset x) ys
+    → is_some (tag_of offset x.stamp) ≡ false → AreAlike offset x ys
     → flat_map (information_octets offset) ys ≡ flat_map element_octets ys
 elements_alone offset x [] none alike = refl
 elements_alone offset x (y ∷ ys) none alike =
     let same = same_type (element_kind y.value) (element_kind x.value) (is_some (tag_of offset y.stamp))
-    (is_some (tag_of offset x.stamp)) alike.0 in
+    (is_some (tag_of offset x.stamp)) alike.0.0 in
     let untimed : is_some (tag_of offset y.stamp) ≡ false = ap (λ (t : MonitorType). t.timed) same ∙ none in
     rw (untimed_octets offset y untimed, elements_alone offset x ys none alike.1) refl
 
@@ -303,95 +308,95 @@ packed_room offset (x ∷ xs) sequence taken some chosen is = rw (chosen, is) (c
 -- ---- how they are spelled
 
 -- header and objects, one behind the other
-pub packed_parts : (offset : ℤ) (common cause : ℕ) (xs : List Observation) (sequence : Bool) (taken : ℕ)
+pub packed_parts : (offset : ℤ) (cause : ℕ) (xs : List Observation) (sequence : Bool) (taken : ℕ)
     → sequence ≡ is_in_sequence offset xs → taken ≡ taken_of offset xs
-    → header_octets offset sequence common cause (take taken xs) ++ objects_octets offset sequence (take taken xs)
-    ≡ packed_spelling offset common cause xs
+    → header_octets offset sequence cause (take taken xs) ++ objects_octets offset sequence (take taken xs)
+    ≡ packed_spelling offset cause xs
 unfolding packed_spelling list_spelling
-packed_parts offset common cause xs sequence taken chosen is = rw (chosen, is) refl
+packed_parts offset cause xs sequence taken chosen is = rw (chosen, is) refl
 
 -- one object under SQ 0
-pub spelled_alone : (offset : ℤ) (common cause : ℕ) (x : Observation)
-    → list_spelling offset false common cause (x ∷ []) ≡ spelling offset common cause x
+pub spelled_alone : (offset : ℤ) (cause : ℕ) (x : Observation)
+    → list_spelling offset false cause (x ∷ []) ≡ spelling offset cause x
 unfolding list_spelling
-spelled_alone offset common cause x = rw (append-nil (information_octets offset x)) refl
+spelled_alone offset cause x = rw (append-nil (information_octets offset x)) refl
 
 -- where one is taken, as that one
-pub packed_spelling_first : (offset : ℤ) (common cause : ℕ) (x : Observation) (xs : List Observation)
-    → taken_of offset (x ∷ xs) ≡ 1 → packed_spelling offset common cause (x ∷ xs) ≡ spelling offset common cause x
+pub packed_spelling_first : (offset : ℤ) (cause : ℕ) (x : Observation) (xs : List Observation)
+    → taken_of offset (x ∷ xs) ≡ 1 → packed_spelling offset cause (x ∷ xs) ≡ spelling offset cause x
 unfolding packed_spelling
-packed_spelling_first offset common cause x xs one =
+packed_spelling_first offset cause x xs one =
     rw one (alone (is_in_sequence offset (x ∷ xs)) (carried offset x xs).two)
   where
     alone : (sequence : Bool) → (sequence ≡ true → 2 ≤ taken_of offset (x ∷ xs))
-        → list_spelling offset sequence common cause (x ∷ []) ≡ spelling offset common cause x
+        → list_spelling offset sequence cause (x ∷ []) ≡ spelling offset cause x
     alone true two = absurd (omega (arith, two refl, one))
-    alone false two = spelled_alone offset common cause x
+    alone false two = spelled_alone offset cause x
 
 -- one observation as that one
-pub packed_spelling_one : (offset : ℤ) (common cause : ℕ) (x : Observation)
-    → packed_spelling offset common cause (x ∷ []) ≡ spelling offset common cause x
-packed_spelling_one offset common cause x = packed_spelling_first offset common cause x [] (taken_of_one offset x)
+pub packed_spelling_one : (offset : ℤ) (cause : ℕ) (x : Observation)
+    → packed_spelling offset cause (x ∷ []) ≡ spelling offset cause x
+packed_spelling_one offset cause x = packed_spelling_first offset cause x [] (taken_of_one offset x)
 
-header_short : (offset : ℤ) (sequence : Bool) (common cause : ℕ) (xs : List Observation)
-    → length (header_octets offset sequence common cause xs) ≤ 6
-header_short offset sequence common cause [] = omega arith
-header_short offset sequence common cause (x ∷ xs) = omega arith
+header_short : (offset : ℤ) (sequence : Bool) (cause : ℕ) (xs : List Observation)
+    → length (header_octets offset sequence cause xs) ≤ 6
+header_short offset sequence cause [] = omega arith
+header_short offset sequence cause (x ∷ xs) = omega arith
 
 -- never more octets than an ASDU may have
-pub packed_short : (offset : ℤ) (common cause : ℕ) (xs : List Observation)
-    → length (packed_spelling offset common cause xs) ≤ 249
+pub packed_short : (offset : ℤ) (cause : ℕ) (xs : List Observation)
+    → length (packed_spelling offset cause xs) ≤ 249
 unfolding packed_spelling list_spelling taken_of is_in_sequence apart_count in_sequence_count
-packed_short offset common cause [] = omega arith
-packed_short offset common cause (x ∷ xs) =
+packed_short offset cause [] = omega arith
+packed_short offset cause (x ∷ xs) =
     let sequence = is_in_sequence offset (x ∷ xs) in
     let taken = take (taken_of offset (x ∷ xs)) (x ∷ xs) in
     omega (
       arith,
-      length-append (header_octets offset sequence common cause taken) (objects_octets offset sequence taken),
-      header_short offset sequence common cause taken,
+      length-append (header_octets offset sequence cause taken) (objects_octets offset sequence taken),
+      header_short offset sequence cause taken,
       (carried offset x xs).room,
     )
 
 -- ---- what it begins with
 
 -- the header of so many
-pub header_first : (offset : ℤ) (sequence : Bool) (common cause : ℕ) (x : Observation) (xs : List Observation) (n : ℕ)
+pub header_first : (offset : ℤ) (sequence : Bool) (cause : ℕ) (x : Observation) (xs : List Observation) (n : ℕ)
     → 0 < n → n ≤ length (x ∷ xs)
-    → header_octets offset sequence common cause (take n (x ∷ xs))
-    ≡ identification_at offset x ∷ qualifier_of sequence n ∷ cause ∷ 0 ∷ to_le_bytes w16 common
-header_first offset sequence common cause x xs zero some within = absurd (omega arith)
-header_first offset sequence common cause x xs (suc n) some within = rw (length-take-le n xs (omega arith)) refl
+    → header_octets offset sequence cause (take n (x ∷ xs))
+    ≡ identification_at offset x ∷ qualifier_of sequence n ∷ cause ∷ 0 ∷ to_le_bytes w16 x.common
+header_first offset sequence cause x xs zero some within = absurd (omega arith)
+header_first offset sequence cause x xs (suc n) some within = rw (length-take-le n xs (omega arith)) refl
 
-pub packed_header : (offset : ℤ) (common cause : ℕ) (x : Observation) (xs : List Observation)
-    → (rest : List ℕ) × (packed_spelling offset common cause (x ∷ xs)
+pub packed_header : (offset : ℤ) (cause : ℕ) (x : Observation) (xs : List Observation)
+    → (rest : List ℕ) × (packed_spelling offset cause (x ∷ xs)
     ≡ identification_at offset x ∷ qualifier_of (is_in_sequence offset (x ∷ xs)) (taken_of offset (x ∷ xs))
-    ∷ cause ∷ 0 ∷ rest)
+    ∷ cause ∷ 0 ∷ (to_le_bytes w16 x.common ++ rest))
 unfolding packed_spelling list_spelling
-packed_header offset common cause x xs =
+packed_header offset cause x xs =
     let sequence = is_in_sequence offset (x ∷ xs) in
     let n = taken_of offset (x ∷ xs) in
     let c = carried offset x xs in (
-      to_le_bytes w16 common ++ objects_octets offset sequence (take n (x ∷ xs)),
+      objects_octets offset sequence (take n (x ∷ xs)),
       ap (λ (o : List ℕ). o ++ objects_octets offset sequence (take n (x ∷ xs)))
-          (header_first offset sequence common cause x xs n c.some c.within),
+          (header_first offset sequence cause x xs n c.some c.within),
     )
 
 -- a header, and the objects
-pub packed_whole : (offset : ℤ) (common cause : ℕ) (x : Observation) (xs : List Observation) (element : ElementKind)
+pub packed_whole : (offset : ℤ) (cause : ℕ) (x : Observation) (xs : List Observation) (element : ElementKind)
     (timed sequence : Bool) (n : ℕ) → element ≡ element_kind x.value → timed ≡ is_some (tag_of offset x.stamp)
     → sequence ≡ is_in_sequence offset (x ∷ xs) → n ≡ taken_of offset (x ∷ xs)
-    → (identification_by element timed ∷ qualifier_of sequence n ∷ cause ∷ 0 ∷ to_le_bytes w16 common)
+    → (identification_by element timed ∷ qualifier_of sequence n ∷ cause ∷ 0 ∷ to_le_bytes w16 x.common)
     ++ objects_octets offset (is_in_sequence offset (x ∷ xs)) (take (taken_of offset (x ∷ xs)) (x ∷ xs))
-    ≡ packed_spelling offset common cause (x ∷ xs)
-packed_whole offset common cause x xs element timed sequence n kind tagged chosen taken =
+    ≡ packed_spelling offset cause (x ∷ xs)
+packed_whole offset cause x xs element timed sequence n kind tagged chosen taken =
     let c = carried offset x xs in
     rw (kind, tagged, chosen, taken) (
     ap (λ (o : List ℕ). o ++ objects_octets offset (is_in_sequence offset (x ∷ xs))
     (take (taken_of offset (x ∷ xs)) (x ∷ xs)))
-    (sym (header_first offset (is_in_sequence offset (x ∷ xs)) common cause x xs (taken_of offset (x ∷ xs)) c.some
+    (sym (header_first offset (is_in_sequence offset (x ∷ xs)) cause x xs (taken_of offset (x ∷ xs)) c.some
     c.within))
-    ∙ packed_parts offset common cause (x ∷ xs) _ _ refl refl
+    ∙ packed_parts offset cause (x ∷ xs) _ _ refl refl
     )
 
 -- ---- under each SQ
@@ -429,8 +434,8 @@ in_sequence offset x xs sequence behind is told counted =
     let taken : behind + 1 ≡ taken_of offset (x ∷ xs) = count ∙ sym (chosen_taken offset (x ∷ xs) chosen) in
     let one : taken_of offset (x ∷ xs) ≡ suc behind = omega (arith, taken) in
     let list : x ∷ take behind xs ≡ take (taken_of offset (x ∷ xs)) (x ∷ xs) = rw one refl in
-    let alike : AreAlike offset (identification_at offset x) (x ∷ take behind xs) =
-    subst (AreAlike offset (identification_at offset x)) (sym list) c.alike in
+    let alike : AreAlike offset x (x ∷ take behind xs) =
+    subst (AreAlike offset x) (sym list) c.alike in
     let plain : flat_map (information_octets offset) (x ∷ take behind xs)
     ≡ flat_map element_octets (x ∷ take behind xs) =
     elements_alone offset x (x ∷ take behind xs) (c.untimed chosen) alike in
@@ -464,7 +469,7 @@ apart_front offset (x ∷ xs) =
       div_below 243 (3 + size) 127 (omega arith)
           (omega (arith, (type_short (element_kind x.value) (is_some (tag_of offset x.stamp))).0)),
     ) in
-    ap (λ (o : List Observation). alike_count offset (identification_at offset x) o)
+    ap (λ (o : List Observation). alike_count offset x o)
     (take-take (243 / (3 + size)) 127 (x ∷ xs) few)
 
 sequence_front : (offset : ℤ) (xs : List Observation)
@@ -474,7 +479,7 @@ sequence_front offset [] = refl
 sequence_front offset (x ∷ xs) =
     let room = min 127 (240 / size_at offset x) in
     ap (λ (o : List Observation). cond (is_some (tag_of offset x.stamp)) 0
-    (consecutive_count offset (identification_at offset x) x.address o))
+    (consecutive_count offset x x.address o))
     (take-take room 127 (x ∷ xs) (omega arith))
 
 chosen_front : (offset : ℤ) (xs : List Observation) → is_in_sequence offset (take 127 xs) ≡ is_in_sequence offset xs
@@ -486,10 +491,10 @@ pub taken_of_front : (offset : ℤ) (xs : List Observation) → taken_of offset 
 unfolding taken_of
 taken_of_front offset xs = rw (chosen_front offset xs, apart_front offset xs, sequence_front offset xs) refl
 
-pub packed_spelling_front : (offset : ℤ) (common cause : ℕ) (xs : List Observation)
-    → packed_spelling offset common cause (take 127 xs) ≡ packed_spelling offset common cause xs
+pub packed_spelling_front : (offset : ℤ) (cause : ℕ) (xs : List Observation)
+    → packed_spelling offset cause (take 127 xs) ≡ packed_spelling offset cause xs
 unfolding packed_spelling
-packed_spelling_front offset common cause xs =
+packed_spelling_front offset cause xs =
     rw (
       chosen_front offset xs,
       taken_of_front offset xs,
@@ -515,7 +520,6 @@ apart_longest : (offset : ℤ) (x : Observation) (xs : List Observation) (k : �
     → FitsAsdu offset false x (take k (x ∷ xs)) → k ≤ apart_count offset (x ∷ xs)
 unfolding apart_count
 apart_longest offset x xs k within fits =
-    let t = identification_at offset x in
     let size = size_at offset x in
     let room = 243 / (3 + size) in
     let long : length (flat_map (object_octets offset) (take k (x ∷ xs))) ≡ k * (3 + size) =
@@ -523,8 +527,8 @@ apart_longest offset x xs k within fits =
     ∙ ap (λ (n : ℕ). n * (3 + size)) (length-take-le k (x ∷ xs) within) in
     let enough : 6 + length (flat_map (object_octets offset) (take k (x ∷ xs))) ≤ 249 = fits.room in
     let inside : k ≤ room = (le-div_iff_mul-le {k = 3 + size} (omega arith)).1 (omega (arith, long, enough)) in
-    alike_longest offset t (take room (x ∷ xs)) k (omega (arith, within, inside, length-take room (x ∷ xs)))
-    (subst (AreAlike offset t) (sym (take-take k room (x ∷ xs) inside)) fits.alike)
+    alike_longest offset x (take room (x ∷ xs)) k (omega (arith, within, inside, length-take room (x ∷ xs)))
+    (subst (AreAlike offset x) (sym (take-take k room (x ∷ xs) inside)) fits.alike)
 
 untimed_count : (timed : Bool) (k n : ℕ) → timed ≡ false → k ≤ n → k ≤ cond timed 0 n
 untimed_count false k n e le = le
@@ -536,7 +540,6 @@ unfolding in_sequence_count
 sequence_longest offset x xs zero within fits = omega arith
 sequence_longest offset x xs (suc j) within fits =
     let k = suc j in
-    let t = identification_at offset x in
     let size = size_at offset x in
     let room = min 127 (240 / size) in
     let short = type_short (element_kind x.value) (is_some (tag_of offset x.stamp)) in
@@ -549,9 +552,9 @@ sequence_longest offset x xs (suc j) within fits =
     let inside : k ≤ room = omega (arith, fit, fits.few, taken) in
     let same = sym (take-take k room (x ∷ xs) inside) in
     untimed_count (is_some (tag_of offset x.stamp)) k _ (fits.untimed refl)
-    (consecutive_longest offset t x.address (take room (x ∷ xs)) k
+    (consecutive_longest offset x x.address (take room (x ∷ xs)) k
     (omega (arith, within, inside, length-take room (x ∷ xs)))
-    (subst (AreAlike offset t) same fits.alike) (subst (AreConsecutive x.address) same (fits.consecutive refl)))
+    (subst (AreAlike offset x) same fits.alike) (subst (AreConsecutive x.address) same (fits.consecutive refl)))
 
 taken_most : (offset : ℤ) (x : Observation) (xs : List Observation)
     → (apart_count offset (x ∷ xs) ≤ taken_of offset (x ∷ xs))

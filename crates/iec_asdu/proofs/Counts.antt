@@ -1,7 +1,9 @@
 -- The prefixes of a list that an ASDU carries: what is counted at each place, and what holds of what is counted.
 use Rattle.std.proofs.Common.{◌≡◌, ◌≢◌, ℕ, ℤ, zero, suc, ◌+◌, ◌-◌, ◌<◌, ◌≤◌, ◌==◌, ◌&&◌, Bool, true, false, cond, List, [], ◌∷◌, length, get_or, take, drop, refl, sym, ap, ◌∙◌, arith, is_some}
-use Rattle.std.proofs.lemmas.Bool.{eqb-true, eq-eqb, ne_eqb}
+use Rattle.std.proofs.lemmas.Bool.{and_from, and_parts, eqb-true, eq-eqb, ne_eqb}
 use Rattle.std.proofs.lemmas.List.{at_drop_more, drop_all}
+use Rattle.std.proofs.lemmas.List.Elements.{All-nil, All-cons}
+use Rattle.std.specs.Prelude.{All}
 use Rattle.gw_model.specs.declared.point.Stamp.TheVariants.{Untimed}
 use Rattle.gw_model.specs.declared.observation.Value.TheVariants.{Single}
 use Rattle.gw_model.specs.declared.observation.Observation.{Observation}
@@ -9,93 +11,119 @@ use Rattle.gw_time.specs.Spelling.{tag_of}
 use Rattle.iec_asdu.specs.declared.types.MonitorType.{MonitorType}
 use Rattle.iec_asdu.specs.Types.{identification_by, type_length}
 use Rattle.iec_asdu.specs.Spelling.{identification_at}
-use Rattle.iec_asdu.specs.Fitting.{AreAlike, AreConsecutive}
-use Rattle.iec_asdu.specs.Packing.{type_at, room_apart, room_in_sequence, alike_count, consecutive_count, apart_count, in_sequence_count}
+use Rattle.iec_asdu.specs.Fitting.{IsAlike, AreAlike, AreConsecutive}
+use Rattle.iec_asdu.specs.Packing.{type_at, room_apart, room_in_sequence, is_alike, alike_count, consecutive_count, apart_count, in_sequence_count}
+
+-- ---- like the first one
+
+and_false : (b c : Bool) → c ≡ false → (b && c) ≡ false
+and_false false c off = refl
+and_false true c off = off
+
+false_and : (b c : Bool) → b ≡ false → (b && c) ≡ false
+false_and false c off = refl
+false_and true c off = absurd cc
+
+-- what the test tells
+pub alike_is : (offset : ℤ) (first x : Observation) → is_alike offset first x ≡ true → IsAlike offset first x
+alike_is offset first x e =
+    let parts = and_parts (identification_at offset x == identification_at offset first) (x.common == first.common) e in
+    (eqb-true _ _ parts.0, eqb-true _ _ parts.1)
+
+pub is_like : (offset : ℤ) (first x : Observation) → IsAlike offset first x → is_alike offset first x ≡ true
+is_like offset first x like = and_from _ _ (eq-eqb _ _ like.0) (eq-eqb _ _ like.1)
+
+-- one of another type is not like the first one, nor is one under another common address
+pub other_type : (offset : ℤ) (first x : Observation) → identification_at offset x ≢ identification_at offset first
+    → is_alike offset first x ≡ false
+other_type offset first x other = false_and _ _ (ne_eqb _ _ other)
+
+pub other_common : (offset : ℤ) (first x : Observation) → x.common ≢ first.common → is_alike offset first x ≡ false
+other_common offset first x other = and_false _ _ (ne_eqb _ _ other)
+
+-- the first one is like itself
+pub like_itself : (offset : ℤ) (x : Observation) → is_alike offset x x ≡ true
+like_itself offset x = is_like offset x x (refl, refl)
 
 -- ---- place by place
 
 -- what a read past the end would give
 abbrev pub nothing : Observation
 nothing = record {
+  common = 0;
   address = 0;
   value = Single false;
   quality = record { iv = false; nt = false; sb = false; bl = false; ov = false; cy = false; ca = false };
   stamp = Untimed;
 }
 
-alike_next : (offset : ℤ) (identification : ℕ) (xs : List Observation) (i : ℕ) (d : Observation) → i < length xs
-    → alike_count offset identification (drop i xs)
-    ≡ cond (identification_at offset (get_or xs i d) == identification)
-    (suc (alike_count offset identification (drop (i + 1) xs))) 0
+stopped : (b : Bool) (n : ℕ) → b ≡ false → cond b n 0 ≡ 0
+stopped false n e = refl
+stopped true n e = absurd cc
+
+gone_on : (b : Bool) (n : ℕ) → b ≡ true → cond b n 0 ≡ n
+gone_on true n e = refl
+gone_on false n e = absurd cc
+
+alike_next : (offset : ℤ) (first : Observation) (xs : List Observation) (i : ℕ) (d : Observation) → i < length xs
+    → alike_count offset first (drop i xs)
+    ≡ cond (is_alike offset first (get_or xs i d)) (suc (alike_count offset first (drop (i + 1) xs))) 0
 unfolding alike_count
-alike_next offset identification xs i d inside = at_drop_more (alike_count offset identification) xs i d inside
+alike_next offset first xs i d inside = at_drop_more (alike_count offset first) xs i d inside
 
--- the next one is of another type
-pub alike_stops : (offset : ℤ) (identification found : ℕ) (xs : List Observation) (i : ℕ) (d : Observation)
-    → i < length xs → found ≡ identification_at offset (get_or xs i d) → found ≢ identification
-    → alike_count offset identification (drop i xs) ≡ 0
-alike_stops offset identification found xs i d inside is other =
-    rw (alike_next offset identification xs i d inside, ← is, ne_eqb found identification other) refl
+-- the next one is not like the first one
+pub alike_stops : (offset : ℤ) (first : Observation) (xs : List Observation) (i : ℕ) (d : Observation) → i < length xs
+    → is_alike offset first (get_or xs i d) ≡ false → alike_count offset first (drop i xs) ≡ 0
+alike_stops offset first xs i d inside other = alike_next offset first xs i d inside ∙ stopped _ _ other
 
--- the next one is of the type
-pub alike_goes_on : (offset : ℤ) (identification found : ℕ) (xs : List Observation) (i : ℕ) (d : Observation)
-    → i < length xs → found ≡ identification_at offset (get_or xs i d) → found ≡ identification
-    → alike_count offset identification (drop i xs) ≡ suc (alike_count offset identification (drop (i + 1) xs))
-alike_goes_on offset identification found xs i d inside is same =
-    rw (alike_next offset identification xs i d inside, ← is, eq-eqb found identification same) refl
+-- the next one is
+pub alike_goes_on : (offset : ℤ) (first : Observation) (xs : List Observation) (i : ℕ) (d : Observation)
+    → i < length xs → is_alike offset first (get_or xs i d) ≡ true
+    → alike_count offset first (drop i xs) ≡ suc (alike_count offset first (drop (i + 1) xs))
+alike_goes_on offset first xs i d inside same = alike_next offset first xs i d inside ∙ gone_on _ _ same
 
-pub alike_none : (offset : ℤ) (identification : ℕ) (xs : List Observation) (i : ℕ) → length xs ≤ i
-    → alike_count offset identification (drop i xs) ≡ 0
+pub alike_none : (offset : ℤ) (first : Observation) (xs : List Observation) (i : ℕ) → length xs ≤ i
+    → alike_count offset first (drop i xs) ≡ 0
 unfolding alike_count
-alike_none offset identification xs i past = ap (alike_count offset identification) (drop_all i xs past)
+alike_none offset first xs i past = ap (alike_count offset first) (drop_all i xs past)
 
-consecutive_next : (offset : ℤ) (identification address : ℕ) (xs : List Observation) (i : ℕ) (d : Observation)
+consecutive_next : (offset : ℤ) (first : Observation) (address : ℕ) (xs : List Observation) (i : ℕ) (d : Observation)
     → i < length xs
-    → consecutive_count offset identification address (drop i xs)
-    ≡ cond (identification_at offset (get_or xs i d) == identification && (get_or xs i d).address == address)
-    (suc (consecutive_count offset identification (address + 1) (drop (i + 1) xs))) 0
+    → consecutive_count offset first address (drop i xs)
+    ≡ cond (is_alike offset first (get_or xs i d) && (get_or xs i d).address == address)
+    (suc (consecutive_count offset first (address + 1) (drop (i + 1) xs))) 0
 unfolding consecutive_count
-consecutive_next offset identification address xs i d inside =
-    at_drop_more (consecutive_count offset identification address) xs i d inside
+consecutive_next offset first address xs i d inside =
+    at_drop_more (consecutive_count offset first address) xs i d inside
 
-and_false : (b c : Bool) → c ≡ false → (b && c) ≡ false
-and_false false c off = refl
-and_false true c off = off
-
--- the next one is of another type
-pub consecutive_stops : (offset : ℤ) (identification address : ℕ) (alike : Bool) (xs : List Observation) (i : ℕ)
-    (d : Observation) → i < length xs → alike ≡ (identification_at offset (get_or xs i d) == identification)
-    → alike ≡ false → consecutive_count offset identification address (drop i xs) ≡ 0
-consecutive_stops offset identification address alike xs i d inside is other =
-    rw (consecutive_next offset identification address xs i d inside, ← is, other) refl
+-- the next one is not like the first one
+pub consecutive_stops : (offset : ℤ) (first : Observation) (address : ℕ) (alike : Bool) (xs : List Observation) (i : ℕ)
+    (d : Observation) → i < length xs → alike ≡ is_alike offset first (get_or xs i d) → alike ≡ false
+    → consecutive_count offset first address (drop i xs) ≡ 0
+consecutive_stops offset first address alike xs i d inside is other =
+    consecutive_next offset first address xs i d inside ∙ stopped _ _ (false_and _ _ (sym is ∙ other))
 
 -- the next one stands at another address
-pub consecutive_leaves : (offset : ℤ) (identification address place : ℕ) (xs : List Observation) (i : ℕ)
+pub consecutive_leaves : (offset : ℤ) (first : Observation) (address place : ℕ) (xs : List Observation) (i : ℕ)
     (d : Observation) → i < length xs → place ≡ (get_or xs i d).address → place ≢ address
-    → consecutive_count offset identification address (drop i xs) ≡ 0
-consecutive_leaves offset identification address place xs i d inside at other =
+    → consecutive_count offset first address (drop i xs) ≡ 0
+consecutive_leaves offset first address place xs i d inside at other =
     let elsewhere : ((get_or xs i d).address == address) ≡ false = rw (← at) (ne_eqb place address other) in
-    rw (consecutive_next offset identification address xs i d inside, and_false _ _ elsewhere) refl
+    consecutive_next offset first address xs i d inside ∙ stopped _ _ (and_false _ _ elsewhere)
 
-pub consecutive_goes_on : (offset : ℤ) (identification address place : ℕ) (alike : Bool) (xs : List Observation)
+pub consecutive_goes_on : (offset : ℤ) (first : Observation) (address place : ℕ) (alike : Bool) (xs : List Observation)
     (i : ℕ) (d : Observation) → i < length xs → place ≡ (get_or xs i d).address → place ≡ address
-    → alike ≡ (identification_at offset (get_or xs i d) == identification) → alike ≡ true
-    → consecutive_count offset identification address (drop i xs)
-    ≡ suc (consecutive_count offset identification (address + 1) (drop (i + 1) xs))
-consecutive_goes_on offset identification address place alike xs i d inside at here is same =
-    rw (
-      consecutive_next offset identification address xs i d inside,
-      ← is,
-      same,
-      ← at,
-      eq-eqb place address here,
-    ) refl
+    → alike ≡ is_alike offset first (get_or xs i d) → alike ≡ true
+    → consecutive_count offset first address (drop i xs)
+    ≡ suc (consecutive_count offset first (address + 1) (drop (i + 1) xs))
+consecutive_goes_on offset first address place alike xs i d inside at here is same =
+    consecutive_next offset first address xs i d inside
+    ∙ gone_on _ _ (and_from _ _ (sym is ∙ same) (eq-eqb (get_or xs i d).address address (sym at ∙ here)))
 
-pub consecutive_none : (offset : ℤ) (identification address : ℕ) (xs : List Observation) (i : ℕ) → length xs ≤ i
-    → consecutive_count offset identification address (drop i xs) ≡ 0
+pub consecutive_none : (offset : ℤ) (first : Observation) (address : ℕ) (xs : List Observation) (i : ℕ) → length xs ≤ i
+    → consecutive_count offset first address (drop i xs) ≡ 0
 unfolding consecutive_count
-consecutive_none offset identification address xs i past =
-    ap (consecutive_count offset identification address) (drop_all i xs past)
+consecutive_none offset first address xs i past = ap (consecutive_count offset first address) (drop_all i xs past)
 
 -- ---- of a list by its first one
 
@@ -103,11 +131,10 @@ pub first_named : (offset : ℤ) (x : Observation) (kind : MonitorType) → kind
     → identification_by kind.element kind.timed ≡ identification_at offset x
 first_named offset x kind of = ap (λ (k : MonitorType). identification_by k.element k.timed) of
 
--- under SQ 0 the first one, and those behind it that are of its type, and fit
+-- under SQ 0 the first one, and those behind it that are like it, and fit
 pub apart_counted : (offset : ℤ) (x : Observation) (xs within : List Observation) (kind : MonitorType)
     (room behind : ℕ) → kind ≡ type_at offset x → room ≡ room_apart (type_length kind) → 1 ≤ room
-    → within ≡ take (room - 1) xs
-    → behind ≡ alike_count offset (identification_by kind.element kind.timed) within
+    → within ≡ take (room - 1) xs → behind ≡ alike_count offset x within
     → 1 + behind ≡ apart_count offset (x ∷ xs)
 unfolding apart_count alike_count
 apart_counted offset x xs within kind zero behind of long some front is = absurd (omega arith)
@@ -115,16 +142,13 @@ apart_counted offset x xs within kind (suc k) behind of long some front is =
     let same : room_apart (type_length (type_at offset x)) ≡ suc k =
     sym (long ∙ ap (λ (t : MonitorType). room_apart (type_length t)) of) in
     let less : suc k - 1 ≡ k = omega arith in
-    let first = identification_at offset x in
-    let counted : behind ≡ alike_count offset first (take k xs) =
-    is ∙ rw (first_named offset x kind of, front, less) refl in
-    rw (same, eq-eqb first first refl) (omega (arith, counted))
+    let counted : behind ≡ alike_count offset x (take k xs) = is ∙ rw (front, less) refl in
+    rw same (omega (arith, counted) ∙ sym (gone_on _ (suc (alike_count offset x (take k xs))) (like_itself offset x)))
 
 -- under SQ 1 the first one, and those behind it that go on from it, and fit
 pub sequence_counted : (offset : ℤ) (x : Observation) (xs within : List Observation) (kind : MonitorType)
     (room behind : ℕ) → kind ≡ type_at offset x → kind.timed ≡ false → room ≡ room_in_sequence (type_length kind)
-    → 1 ≤ room → within ≡ take (room - 1) xs
-    → behind ≡ consecutive_count offset (identification_by kind.element kind.timed) (x.address + 1) within
+    → 1 ≤ room → within ≡ take (room - 1) xs → behind ≡ consecutive_count offset x (x.address + 1) within
     → behind + 1 ≡ in_sequence_count offset (x ∷ xs)
 unfolding in_sequence_count consecutive_count
 sequence_counted offset x xs within kind zero behind of plain long some front is = absurd (omega arith)
@@ -133,11 +157,13 @@ sequence_counted offset x xs within kind (suc k) behind of plain long some front
     sym (long ∙ ap (λ (t : MonitorType). room_in_sequence (type_length t)) of) in
     let untagged : is_some (tag_of offset x.stamp) ≡ false = sym (ap (λ (t : MonitorType). t.timed) of) ∙ plain in
     let less : suc k - 1 ≡ k = omega arith in
-    let first = identification_at offset x in
-    let counted : behind ≡ consecutive_count offset first (x.address + 1) (take k xs) =
-    is ∙ rw (first_named offset x kind of, front, less) refl in
-    rw (same, eq-eqb first first refl, eq-eqb x.address x.address refl)
-    (chosen (is_some (tag_of offset x.stamp)) untagged _ (omega (arith, counted)))
+    let counted : behind ≡ consecutive_count offset x (x.address + 1) (take k xs) = is ∙ rw (front, less) refl in
+    let whole : behind + 1 ≡ cond (is_alike offset x x && x.address == x.address)
+    (suc (consecutive_count offset x (x.address + 1) (take k xs))) 0 =
+    omega (arith, counted)
+    ∙ sym (gone_on _ (suc (consecutive_count offset x (x.address + 1) (take k xs)))
+    (and_from _ _ (like_itself offset x) (eq-eqb x.address x.address refl))) in
+    rw same (chosen (is_some (tag_of offset x.stamp)) untagged _ whole)
   where
     chosen : (b : Bool) → b ≡ false → (n : ℕ) → behind + 1 ≡ n → behind + 1 ≡ cond b 0 n
     chosen false e n is = is
@@ -153,96 +179,98 @@ timed_counted offset x xs kind of timed =
 
 -- ---- what holds of them
 
-alike_step : (offset : ℤ) (identification : ℕ) (b : Bool) (n : ℕ) (x : Observation) (xs : List Observation)
-    → (b ≡ true → identification_at offset x ≡ identification) → AreAlike offset identification (take n xs)
-    → AreAlike offset identification (take (cond b (suc n) 0) (x ∷ xs))
-alike_step offset identification true n x xs is others = (is refl, others)
-alike_step offset identification false n x xs is others = tt
+alike_step : (offset : ℤ) (first : Observation) (b : Bool) (n : ℕ) (x : Observation) (xs : List Observation)
+    → (b ≡ true → IsAlike offset first x) → AreAlike offset first (take n xs)
+    → AreAlike offset first (take (cond b (suc n) 0) (x ∷ xs))
+alike_step offset first true n x xs is others = (is refl, others)
+alike_step offset first false n x xs is others = tt
 
-pub alike_are : (offset : ℤ) (identification : ℕ) (xs : List Observation)
-    → AreAlike offset identification (take (alike_count offset identification xs) xs)
+pub alike_are : (offset : ℤ) (first : Observation) (xs : List Observation)
+    → AreAlike offset first (take (alike_count offset first xs) xs)
 unfolding alike_count
-alike_are offset identification [] = tt
-alike_are offset identification (x ∷ xs) =
-    alike_step offset identification (identification_at offset x == identification)
-    (alike_count offset identification xs) x xs (eqb-true (identification_at offset x) identification)
-    (alike_are offset identification xs)
+alike_are offset first [] = tt
+alike_are offset first (x ∷ xs) =
+    alike_step offset first (is_alike offset first x) (alike_count offset first xs) x xs (alike_is offset first x)
+    (alike_are offset first xs)
 
 count_within : (b : Bool) (n m : ℕ) → n ≤ m → cond b (suc n) 0 ≤ suc m
 count_within true n m le = omega arith
 count_within false n m le = omega arith
 
-pub alike_within : (offset : ℤ) (identification : ℕ) (xs : List Observation)
-    → alike_count offset identification xs ≤ length xs
+pub alike_within : (offset : ℤ) (first : Observation) (xs : List Observation)
+    → alike_count offset first xs ≤ length xs
 unfolding alike_count
-alike_within offset identification [] = omega arith
-alike_within offset identification (x ∷ xs) =
-    count_within (identification_at offset x == identification) _ _ (alike_within offset identification xs)
+alike_within offset first [] = omega arith
+alike_within offset first (x ∷ xs) =
+    count_within (is_alike offset first x) _ _ (alike_within offset first xs)
 
--- one of another type ends it
-pub alike_ends : (offset : ℤ) (identification : ℕ) (xs : List Observation) (i : ℕ) (d : Observation) → i < length xs
-    → (identification_at offset (get_or xs i d) == identification) ≡ false → alike_count offset identification xs ≤ i
+-- one that is not like the first one ends it
+pub alike_ends : (offset : ℤ) (first : Observation) (xs : List Observation) (i : ℕ) (d : Observation) → i < length xs
+    → is_alike offset first (get_or xs i d) ≡ false → alike_count offset first xs ≤ i
 unfolding alike_count
-alike_ends offset identification [] i d inside other = absurd (omega arith)
-alike_ends offset identification (x ∷ xs) zero d inside other = rw other (omega arith)
-alike_ends offset identification (x ∷ xs) (suc i) d inside other =
-    count_within (identification_at offset x == identification) _ _
-    (alike_ends offset identification xs i d (omega arith) other)
+alike_ends offset first [] i d inside other = absurd (omega arith)
+alike_ends offset first (x ∷ xs) zero d inside other =
+    omega (arith, stopped (is_alike offset first x) (suc (alike_count offset first xs)) other)
+alike_ends offset first (x ∷ xs) (suc i) d inside other =
+    count_within (is_alike offset first x) _ _ (alike_ends offset first xs i d (omega arith) other)
 
 counts_fewer : (b : Bool) (n m : ℕ) → n ≤ m → cond b (suc n) 0 ≤ cond b (suc m) 0
 counts_fewer true n m le = omega arith
 counts_fewer false n m le = omega arith
 
 -- of fewer no more
-pub alike_fewer : (offset : ℤ) (identification : ℕ) (k : ℕ) (xs : List Observation)
-    → alike_count offset identification (take k xs) ≤ alike_count offset identification xs
+pub alike_fewer : (offset : ℤ) (first : Observation) (k : ℕ) (xs : List Observation)
+    → alike_count offset first (take k xs) ≤ alike_count offset first xs
 unfolding alike_count
-alike_fewer offset identification zero xs = omega arith
-alike_fewer offset identification (suc k) [] = omega arith
-alike_fewer offset identification (suc k) (x ∷ xs) =
-    counts_fewer (identification_at offset x == identification) _ _ (alike_fewer offset identification k xs)
+alike_fewer offset first zero xs = omega arith
+alike_fewer offset first (suc k) [] = omega arith
+alike_fewer offset first (suc k) (x ∷ xs) =
+    counts_fewer (is_alike offset first x) _ _ (alike_fewer offset first k xs)
 
--- one more that is of the type
-pub alike_more : (offset : ℤ) (identification : ℕ) (xs : List Observation) (n : ℕ) (d : Observation)
-    → n < length xs → AreAlike offset identification (take n xs)
-    → (identification_at offset (get_or xs n d) == identification) ≡ true
-    → AreAlike offset identification (take (suc n) xs)
-alike_more offset identification [] n d inside alike is = absurd (omega arith)
-alike_more offset identification (x ∷ xs) zero d inside alike is =
-    (eqb-true (identification_at offset x) identification is, tt)
-alike_more offset identification (x ∷ xs) (suc n) d inside alike is =
-    (alike.0, alike_more offset identification xs n d (omega arith) alike.1 is)
+-- one more that is like the first one
+pub alike_more : (offset : ℤ) (first : Observation) (xs : List Observation) (n : ℕ) (d : Observation)
+    → n < length xs → AreAlike offset first (take n xs) → is_alike offset first (get_or xs n d) ≡ true
+    → AreAlike offset first (take (suc n) xs)
+alike_more offset first [] n d inside alike is = absurd (omega arith)
+alike_more offset first (x ∷ xs) zero d inside alike is = (alike_is offset first x is, tt)
+alike_more offset first (x ∷ xs) (suc n) d inside alike is =
+    (alike.0, alike_more offset first xs n d (omega arith) alike.1 is)
+
+-- all of them are under the first one's common address
+pub alike_under : (offset : ℤ) (first : Observation) (xs : List Observation) → AreAlike offset first xs
+    → All (λ x. x.common ≡ first.common) xs
+alike_under offset first [] alike = All-nil (λ x. x.common ≡ first.common)
+alike_under offset first (x ∷ xs) alike =
+    All-cons (λ x. x.common ≡ first.common) x xs alike.0.1 (alike_under offset first xs alike.1)
 
 -- both of it
-abbrev InRow : ℤ → ℕ → ℕ → List Observation → Type 0
-InRow offset identification address xs = AreAlike offset identification xs × AreConsecutive address xs
+abbrev InRow : ℤ → Observation → ℕ → List Observation → Type 0
+InRow offset first address xs = AreAlike offset first xs × AreConsecutive address xs
 
-row_step : (offset : ℤ) (identification address : ℕ) (b c : Bool) (n : ℕ) (x : Observation) (xs : List Observation)
-    → (b ≡ true → identification_at offset x ≡ identification) → (c ≡ true → x.address ≡ address)
-    → InRow offset identification (address + 1) (take n xs)
-    → InRow offset identification address (take (cond (b && c) (suc n) 0) (x ∷ xs))
-row_step offset identification address true true n x xs is at others =
-    ((is refl, others.0), (at refl, others.1))
-row_step offset identification address true false n x xs is at others = (tt, tt)
-row_step offset identification address false c n x xs is at others = (tt, tt)
+row_step : (offset : ℤ) (first : Observation) (address : ℕ) (b c : Bool) (n : ℕ) (x : Observation)
+    (xs : List Observation) → (b ≡ true → IsAlike offset first x) → (c ≡ true → x.address ≡ address)
+    → InRow offset first (address + 1) (take n xs)
+    → InRow offset first address (take (cond (b && c) (suc n) 0) (x ∷ xs))
+row_step offset first address true true n x xs is at others = ((is refl, others.0), (at refl, others.1))
+row_step offset first address true false n x xs is at others = (tt, tt)
+row_step offset first address false c n x xs is at others = (tt, tt)
 
-pub consecutive_are : (offset : ℤ) (identification address : ℕ) (xs : List Observation)
-    → InRow offset identification address (take (consecutive_count offset identification address xs) xs)
+pub consecutive_are : (offset : ℤ) (first : Observation) (address : ℕ) (xs : List Observation)
+    → InRow offset first address (take (consecutive_count offset first address xs) xs)
 unfolding consecutive_count
-consecutive_are offset identification address [] = (tt, tt)
-consecutive_are offset identification address (x ∷ xs) =
-    row_step offset identification address (identification_at offset x == identification) (x.address == address)
-    (consecutive_count offset identification (address + 1) xs) x xs
-    (eqb-true (identification_at offset x) identification) (eqb-true x.address address)
-    (consecutive_are offset identification (address + 1) xs)
+consecutive_are offset first address [] = (tt, tt)
+consecutive_are offset first address (x ∷ xs) =
+    row_step offset first address (is_alike offset first x) (x.address == address)
+    (consecutive_count offset first (address + 1) xs) x xs (alike_is offset first x) (eqb-true x.address address)
+    (consecutive_are offset first (address + 1) xs)
 
-pub consecutive_within : (offset : ℤ) (identification address : ℕ) (xs : List Observation)
-    → consecutive_count offset identification address xs ≤ length xs
+pub consecutive_within : (offset : ℤ) (first : Observation) (address : ℕ) (xs : List Observation)
+    → consecutive_count offset first address xs ≤ length xs
 unfolding consecutive_count
-consecutive_within offset identification address [] = omega arith
-consecutive_within offset identification address (x ∷ xs) =
-    count_within (identification_at offset x == identification && x.address == address) _ _
-    (consecutive_within offset identification (address + 1) xs)
+consecutive_within offset first address [] = omega arith
+consecutive_within offset first address (x ∷ xs) =
+    count_within (is_alike offset first x && x.address == address) _ _
+    (consecutive_within offset first (address + 1) xs)
 
 -- ---- no longer prefix is so
 
@@ -250,22 +278,22 @@ counts_on : (b : Bool) (k n : ℕ) → b ≡ true → k ≤ n → suc k ≤ cond
 counts_on true k n is le = omega arith
 counts_on false k n is le = absurd cc
 
-pub alike_longest : (offset : ℤ) (identification : ℕ) (xs : List Observation) (k : ℕ) → k ≤ length xs
-    → AreAlike offset identification (take k xs) → k ≤ alike_count offset identification xs
+pub alike_longest : (offset : ℤ) (first : Observation) (xs : List Observation) (k : ℕ) → k ≤ length xs
+    → AreAlike offset first (take k xs) → k ≤ alike_count offset first xs
 unfolding alike_count
-alike_longest offset identification xs zero within alike = omega arith
-alike_longest offset identification [] (suc k) within alike = absurd (omega arith)
-alike_longest offset identification (x ∷ xs) (suc k) within alike =
-    counts_on (identification_at offset x == identification) k _ (eq-eqb _ _ alike.0)
-    (alike_longest offset identification xs k (omega arith) alike.1)
+alike_longest offset first xs zero within alike = omega arith
+alike_longest offset first [] (suc k) within alike = absurd (omega arith)
+alike_longest offset first (x ∷ xs) (suc k) within alike =
+    counts_on (is_alike offset first x) k _ (is_like offset first x alike.0)
+    (alike_longest offset first xs k (omega arith) alike.1)
 
-pub consecutive_longest : (offset : ℤ) (identification address : ℕ) (xs : List Observation) (k : ℕ) → k ≤ length xs
-    → AreAlike offset identification (take k xs) → AreConsecutive address (take k xs)
-    → k ≤ consecutive_count offset identification address xs
+pub consecutive_longest : (offset : ℤ) (first : Observation) (address : ℕ) (xs : List Observation) (k : ℕ)
+    → k ≤ length xs → AreAlike offset first (take k xs) → AreConsecutive address (take k xs)
+    → k ≤ consecutive_count offset first address xs
 unfolding consecutive_count
-consecutive_longest offset identification address xs zero within alike row = omega arith
-consecutive_longest offset identification address [] (suc k) within alike row = absurd (omega arith)
-consecutive_longest offset identification address (x ∷ xs) (suc k) within alike row =
-    counts_on (identification_at offset x == identification && x.address == address) k _
-    (rw (eq-eqb (identification_at offset x) identification alike.0, eq-eqb x.address address row.0) refl)
-    (consecutive_longest offset identification (address + 1) xs k (omega arith) alike.1 row.1)
+consecutive_longest offset first address xs zero within alike row = omega arith
+consecutive_longest offset first address [] (suc k) within alike row = absurd (omega arith)
+consecutive_longest offset first address (x ∷ xs) (suc k) within alike row =
+    counts_on (is_alike offset first x && x.address == address) k _
+    (and_from _ _ (is_like offset first x alike.0) (eq-eqb x.address address row.0))
+    (consecutive_longest offset first (address + 1) xs k (omega arith) alike.1 row.1)

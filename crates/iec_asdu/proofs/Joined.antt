@@ -26,17 +26,18 @@ then_read (Err e) f = Err e
 
 -- ---- objects
 
-object_parts : (address : ℕ) (s : Option (Value × Quality)) (t : Option Stamp)
+object_parts : (common address : ℕ) (s : Option (Value × Quality)) (t : Option Stamp)
     → result_ok
-    (then_read (ok_or s Reserved) (λ value. then_read (ok_or t Tag) (λ stamp. Ok (observation_of address value stamp))))
-    ≡ (s >>= λ value. (t >>= λ stamp. Some (observation_of address value stamp)))
-object_parts address None t = refl
-object_parts address (Some s) None = refl
-object_parts address (Some s) (Some t) = refl
+    (then_read (ok_or s Reserved)
+    (λ value. then_read (ok_or t Tag) (λ stamp. Ok (observation_of common address value stamp))))
+    ≡ (s >>= λ value. (t >>= λ stamp. Some (observation_of common address value stamp)))
+object_parts common address None t = refl
+object_parts common address (Some s) None = refl
+object_parts common address (Some s) (Some t) = refl
 
-object_given : (address : ℕ) (layout : Layout) (octets : List ℕ)
-    → result_ok (object_read address layout octets) ≡ observation_at address layout octets
-object_given address layout octets = object_parts address _ _
+object_given : (common address : ℕ) (layout : Layout) (octets : List ℕ)
+    → result_ok (object_read common address layout octets) ≡ observation_at common address layout octets
+object_given common address layout octets = object_parts common address _ _
 
 two_given : (r : Result Observation AsduFault) (rs : Result (List Observation) AsduFault) (o : Option Observation)
     (os : Option (List Observation)) → result_ok r ≡ o → result_ok rs ≡ os
@@ -45,18 +46,19 @@ two_given (Ok x) (Ok xs) o os e f = rw (← e, ← f) refl
 two_given (Ok x) (Err d) o os e f = rw (← e, ← f) refl
 two_given (Err d) rs o os e f = rw (← e) refl
 
-apart_given : (layout : Layout) (n : ℕ) (octets : List ℕ)
-    → result_ok (read_apart layout n octets) ≡ objects_apart layout n octets
+apart_given : (common : ℕ) (layout : Layout) (n : ℕ) (octets : List ℕ)
+    → result_ok (read_apart common layout n octets) ≡ objects_apart common layout n octets
 unfolding read_apart objects_apart
-apart_given layout zero octets = refl
-apart_given layout (suc n) octets = two_given _ _ _ _ (object_given _ layout _) (apart_given layout n _)
+apart_given common layout zero octets = refl
+apart_given common layout (suc n) octets =
+    two_given _ _ _ _ (object_given common _ layout _) (apart_given common layout n _)
 
-sequence_given : (layout : Layout) (n address : ℕ) (octets : List ℕ)
-    → result_ok (read_in_sequence layout n address octets) ≡ objects_in_sequence layout n address octets
+sequence_given : (common : ℕ) (layout : Layout) (n address : ℕ) (octets : List ℕ)
+    → result_ok (read_in_sequence common layout n address octets) ≡ objects_in_sequence common layout n address octets
 unfolding read_in_sequence objects_in_sequence
-sequence_given layout zero address octets = refl
-sequence_given layout (suc n) address octets =
-    two_given _ _ _ _ (object_given address layout _) (sequence_given layout n (address + 1) _)
+sequence_given common layout zero address octets = refl
+sequence_given common layout (suc n) address octets =
+    two_given _ _ _ _ (object_given common address layout _) (sequence_given common layout n (address + 1) _)
 
 by_length : (has wanted : ℕ) (r : Result (List Observation) AsduFault) (o : Option (List Observation)) → result_ok r ≡ o
     → result_ok (cond (nat_lt has wanted) (Err Short) (cond (nat_lt wanted has) (Err Long) r))
@@ -69,18 +71,18 @@ by_length has wanted r o e =
           rw (le-ltb has wanted (omega arith), lt-ltb wanted has gt, ne_eqb has wanted (λ e. omega arith)) refl
     ]
 
-objects_given : (layout : Layout) (sequence : Bool) (n : ℕ) (octets : List ℕ)
-    → result_ok (objects_read layout sequence n octets) ≡ objects_of layout sequence n octets
+objects_given : (common : ℕ) (layout : Layout) (sequence : Bool) (n : ℕ) (octets : List ℕ)
+    → result_ok (objects_read common layout sequence n octets) ≡ objects_of common layout sequence n octets
 unfolding objects_read objects_of
-objects_given layout sequence zero octets = refl
-objects_given layout true (suc n) octets =
+objects_given common layout sequence zero octets = refl
+objects_given common layout true (suc n) octets =
     rw (ne_eqb (suc n) 0 (λ e. omega arith))
     (by_length (length octets) (3 + suc n * size_of layout) _ _
-    (sequence_given layout (suc n) (address_at octets) (drop 3 octets)))
-objects_given layout false (suc n) octets =
+    (sequence_given common layout (suc n) (address_at octets) (drop 3 octets)))
+objects_given common layout false (suc n) octets =
     rw (ne_eqb (suc n) 0 (λ e. omega arith))
-    (by_length (length octets) (suc n * (3 + size_of layout)) (read_apart layout (suc n) octets)
-    (objects_apart layout (suc n) octets) (apart_given layout (suc n) octets))
+    (by_length (length octets) (suc n * (3 + size_of layout)) (read_apart common layout (suc n) octets)
+    (objects_apart common layout (suc n) octets) (apart_given common layout (suc n) octets))
 
 -- ---- the whole
 
@@ -109,7 +111,7 @@ asdu_given types (identification ∷ qualifier ∷ cause ∷ originator ∷ low 
       originator = originator;
       common_address = low + 256 * high;
       observations = xs;
-    }) (λ layout. objects_given layout _ _ objects))
+    }) (λ layout. objects_given (low + 256 * high) layout _ _ objects))
 asdu_given types [] = refl
 asdu_given types (a ∷ []) = refl
 asdu_given types (a ∷ b ∷ []) = refl

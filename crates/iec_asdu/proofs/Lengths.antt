@@ -62,8 +62,8 @@ object_long offset x tag kind is of =
     )
 
 -- the ASDU of an observation has at most 21 octets
-pub spelling_short : (offset : ℤ) (common cause : ℕ) (x : Observation) → length (spelling offset common cause x) ≤ 21
-spelling_short offset common cause x =
+pub spelling_short : (offset : ℤ) (cause : ℕ) (x : Observation) → length (spelling offset cause x) ≤ 21
+spelling_short offset cause x =
     omega (
       arith,
       information_long offset x,

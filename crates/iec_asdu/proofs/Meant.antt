@@ -27,7 +27,8 @@ use Rattle.iec_asdu.specs.Fitting.{AreAlike, AreConsecutive}
 use Rattle.iec_asdu.specs.Packing.{type_at, is_in_sequence, taken_of, packed_spelling}
 use Rattle.iec_asdu.proofs.Lengths.{element_long, tag_long}
 use Rattle.iec_asdu.proofs.Known.{same_type, type_known}
-use Rattle.iec_asdu.proofs.Carried.{Carries, carried, spelled_alone}
+use Rattle.iec_asdu.proofs.Carried.{Carries, carried, taken_under, spelled_alone}
+use Rattle.iec_asdu.proofs.Counts.{alike_under}
 use Rattle.iec_asdu.proofs.Spelled.{meaning_is_spelled}
 
 -- ---- an object
@@ -96,7 +97,7 @@ addressed address low = record {
 -- ---- the objects
 
 are_apart : (offset : ℤ) (x : Observation) (ys : List Observation)
-    → AreAlike offset (identification_at offset x) ys
+    → AreAlike offset x ys
     → All (λ y. HasWidth y.value) ys → All (IsFit offset) ys
     → AreApart (layout_at offset (type_at offset x)) (flat_map (object_octets offset) ys) ys
 are_apart offset x [] alike widths fits = refl
@@ -108,12 +109,12 @@ are_apart offset x (y ∷ ys) alike widths fits =
       flat_map (object_octets offset) ys,
       refl,
       addressed y.address fit.address.1,
-      informs_as offset x y alike.0 width fit,
+      informs_as offset x y alike.0.0 width fit,
       are_apart offset x ys alike.1 (All-tail (λ y. HasWidth y.value) y ys widths) (All-tail (IsFit offset) y ys fits),
     )
 
 are_in_sequence : (offset : ℤ) (x : Observation) (address : ℕ) (ys : List Observation)
-    → AreAlike offset (identification_at offset x) ys → AreConsecutive address ys
+    → AreAlike offset x ys → AreConsecutive address ys
     → All (λ y. HasWidth y.value) ys → All (IsFit offset) ys
     → AreInSequence (layout_at offset (type_at offset x)) address (flat_map (information_octets offset) ys) ys
 are_in_sequence offset x address [] alike row widths fits = refl
@@ -124,13 +125,13 @@ are_in_sequence offset x address (y ∷ ys) alike row widths fits =
       flat_map (information_octets offset) ys,
       refl,
       row.0,
-      informs_as offset x y alike.0 width fit,
+      informs_as offset x y alike.0.0 width fit,
       are_in_sequence offset x (address + 1) ys alike.1 row.1 (All-tail (λ y. HasWidth y.value) y ys widths)
           (All-tail (IsFit offset) y ys fits),
     )
 
 are_objects : (offset : ℤ) (x : Observation) (sequence : Bool) (xs : List Observation)
-    → AreAlike offset (identification_at offset x) (x ∷ xs)
+    → AreAlike offset x (x ∷ xs)
     → (sequence ≡ true → AreConsecutive x.address (x ∷ xs))
     → All (λ y. HasWidth y.value) (x ∷ xs) → All (IsFit offset) (x ∷ xs)
     → AreObjects (layout_at offset (type_at offset x)) sequence (objects_octets offset sequence (x ∷ xs)) (x ∷ xs)
@@ -156,70 +157,72 @@ number_told true n few = omega arith
 number_told false n few = omega arith
 
 -- an ASDU of these observations, originator 0
-abbrev pub asdu_of : ℤ → ℕ → ℕ → Observation → List Observation → Asdu
-asdu_of offset common cause x xs =
+abbrev pub asdu_of : ℤ → ℕ → Observation → List Observation → Asdu
+asdu_of offset cause x xs =
     record {
       identification = type_of x.value (is_some (tag_of offset x.stamp));
       cause = cause;
       originator = 0;
-      common_address = common;
+      common_address = x.common;
       observations = x ∷ xs;
     }
 
-list_means : (offset : ℤ) (sequence : Bool) (common cause : ℕ) (x : Observation) (xs : List Observation)
-    → common < 65536 → length (x ∷ xs) ≤ 127 → AreAlike offset (identification_at offset x) (x ∷ xs)
+list_means : (offset : ℤ) (sequence : Bool) (cause : ℕ) (x : Observation) (xs : List Observation)
+    → length (x ∷ xs) ≤ 127 → AreAlike offset x (x ∷ xs)
     → (sequence ≡ true → AreConsecutive x.address (x ∷ xs))
     → All (λ y. HasWidth y.value) (x ∷ xs) → All (IsFit offset) (x ∷ xs)
-    → asdu_meaning (monitor_types offset) (list_spelling offset sequence common cause (x ∷ xs))
-    ≡ Some (asdu_of offset common cause x xs)
+    → asdu_meaning (monitor_types offset) (list_spelling offset sequence cause (x ∷ xs))
+    ≡ Some (asdu_of offset cause x xs)
 unfolding list_spelling
-list_means offset sequence common cause x xs small few alike row widths fits =
+list_means offset sequence cause x xs few alike row widths fits =
     let types = monitor_types offset in
+    let small : x.common ≤ 65534 = (All-head (IsFit offset) x xs fits).common.1 in
     let layout = layout_at offset (type_at offset x) in
     let qualifier = qualifier_of sequence (length (x ∷ xs)) in
     let objects = objects_octets offset sequence (x ∷ xs) in
     let are : AreObjects layout (is_set 7 qualifier) objects (x ∷ xs) =
     subst (λ (s : Bool). AreObjects layout s objects (x ∷ xs)) (sym (sequence_told sequence (length (x ∷ xs)) few))
     (are_objects offset x sequence xs alike row widths fits) in
-    (meaning_is_spelled types (list_spelling offset sequence common cause (x ∷ xs))
-    (asdu_of offset common cause x xs)).1 (record {
+    (meaning_is_spelled types (list_spelling offset sequence cause (x ∷ xs))
+    (asdu_of offset cause x xs)).1 (record {
       qualifier = qualifier;
-      low = common % 256;
-      high = common / 256 % 256;
+      low = x.common % 256;
+      high = x.common / 256 % 256;
       objects = objects;
       text = refl;
-      common = omega arith;
+      common = omega (arith, small);
       layout = layout;
       known = type_known offset (element_kind x.value) (is_some (tag_of offset x.stamp));
       number = sym (number_told sequence (length (x ∷ xs)) few);
       some = omega arith;
       are = are;
+      under = alike_under offset x (x ∷ xs) alike;
     })
 
--- what is spelled for a fit observation means it, with the cause and the common address
-pub meant : (offset : ℤ) (common cause : ℕ) (x : Observation) → common < 65536 → HasWidth x.value → IsFit offset x
-    → asdu_meaning (monitor_types offset) (spelling offset common cause x)
-    ≡ Some (asdu_of offset common cause x [])
-meant offset common cause x small width fit =
-    ap (λ (o : List ℕ). asdu_meaning (monitor_types offset) o) (sym (spelled_alone offset common cause x))
-    ∙ list_means offset false common cause x [] small (omega arith) (refl, tt) (λ e. absurd cc)
+-- what is spelled for a fit observation means it, with the cause and its common address
+pub meant : (offset : ℤ) (cause : ℕ) (x : Observation) → HasWidth x.value → IsFit offset x
+    → asdu_meaning (monitor_types offset) (spelling offset cause x)
+    ≡ Some (asdu_of offset cause x [])
+meant offset cause x width fit =
+    ap (λ (o : List ℕ). asdu_meaning (monitor_types offset) o) (sym (spelled_alone offset cause x))
+    ∙ list_means offset false cause x [] (omega arith) ((refl, refl), tt) (λ e. absurd cc)
     (All-cons (λ y. HasWidth y.value) x [] width (All-nil (λ y. HasWidth y.value)))
     (All-cons (IsFit offset) x [] fit (All-nil (IsFit offset)))
 
 -- what is spelled for a list means the observations that are taken
-pub packed_is_meant : (offset : ℤ) (common cause : ℕ) (x : Observation) (xs : List Observation) → common < 65536
+pub packed_is_meant : (offset : ℤ) (cause : ℕ) (x : Observation) (xs : List Observation)
     → let taken = take (taken_of offset (x ∷ xs)) (x ∷ xs) in
     All (λ y. HasWidth y.value) taken → All (IsFit offset) taken
-    → asdu_meaning (monitor_types offset) (packed_spelling offset common cause (x ∷ xs))
+    → asdu_meaning (monitor_types offset) (packed_spelling offset cause (x ∷ xs))
     ≡ Some (record {
       identification = identification_at offset x;
       cause = cause;
       originator = 0;
-      common_address = common;
+      common_address = x.common;
       observations = taken;
     })
 unfolding packed_spelling
-packed_is_meant offset common cause x xs small widths fits =
+packed_is_meant offset cause x xs widths fits =
     go (taken_of offset (x ∷ xs)) c.some c.few c.alike c.consecutive widths fits
   where
     sequence : Bool
@@ -228,38 +231,38 @@ packed_is_meant offset common cause x xs small widths fits =
     c : Carries offset x xs sequence (taken_of offset (x ∷ xs))
     c = carried offset x xs
 
-    go : (n : ℕ) → 0 < n → n ≤ 127 → AreAlike offset (identification_at offset x) (take n (x ∷ xs))
+    go : (n : ℕ) → 0 < n → n ≤ 127 → AreAlike offset x (take n (x ∷ xs))
         → (sequence ≡ true → AreConsecutive x.address (take n (x ∷ xs)))
         → All (λ y. HasWidth y.value) (take n (x ∷ xs)) → All (IsFit offset) (take n (x ∷ xs))
-        → asdu_meaning (monitor_types offset) (list_spelling offset sequence common cause (take n (x ∷ xs)))
+        → asdu_meaning (monitor_types offset) (list_spelling offset sequence cause (take n (x ∷ xs)))
         ≡ Some (record {
           identification = identification_at offset x;
           cause = cause;
           originator = 0;
-          common_address = common;
+          common_address = x.common;
           observations = take n (x ∷ xs);
         })
     go zero some few alike row widths fits = absurd (omega arith)
     go (suc n) some few alike row widths fits =
-        list_means offset sequence common cause x (take n xs) small (omega (arith, length-take n xs)) alike row widths
+        list_means offset sequence cause x (take n xs) (omega (arith, length-take n xs)) alike row widths
         fits
 
-pub packed_meant : (offset : ℤ) (common cause : ℕ) (xs : List Observation) → 0 < length xs → common < 65536
+pub packed_meant : (offset : ℤ) (cause : ℕ) (xs : List Observation) → 0 < length xs
     → All (λ y. HasWidth y.value) (take (taken_of offset xs) xs) → All (IsFit offset) (take (taken_of offset xs) xs)
-    → IsSomeAnd (asdu_meaning (monitor_types offset) (packed_spelling offset common cause xs)) (λ asdu.
-    (asdu.cause ≡ cause) × (asdu.originator ≡ 0) × (asdu.common_address ≡ common)
+    → IsSomeAnd (asdu_meaning (monitor_types offset) (packed_spelling offset cause xs)) (λ asdu.
+    (asdu.cause ≡ cause) × (asdu.originator ≡ 0)
+    × All (λ x. x.common ≡ asdu.common_address) (take (taken_of offset xs) xs)
     × (asdu.observations ≡ take (taken_of offset xs) xs))
-packed_meant offset common cause [] some small widths fits = absurd (omega arith)
-packed_meant offset common cause (x ∷ xs) some small widths fits =
-    rw (packed_is_meant offset common cause x xs small widths fits) (refl, refl, refl, refl)
+packed_meant offset cause [] some widths fits = absurd (omega arith)
+packed_meant offset cause (x ∷ xs) some widths fits =
+    rw (packed_is_meant offset cause x xs widths fits) (refl, refl, taken_under offset x xs, refl)
 
 -- the same of what was written
-pub written_meant : (offset : ℤ) (common cause : ℕ) (xs : List Observation) (octets : List ℕ) (taken : ℕ)
-    → 0 < length xs → common < 65536 → taken ≡ taken_of offset xs
-    → octets ≡ packed_spelling offset common cause xs
+pub written_meant : (offset : ℤ) (cause : ℕ) (xs : List Observation) (octets : List ℕ) (taken : ℕ)
+    → 0 < length xs → taken ≡ taken_of offset xs
+    → octets ≡ packed_spelling offset cause xs
     → All (λ y. HasWidth y.value) (take taken xs) → All (IsFit offset) (take taken xs)
     → IsSomeAnd (asdu_meaning (monitor_types offset) octets) (λ asdu.
-    (asdu.cause ≡ cause) × (asdu.originator ≡ 0) × (asdu.common_address ≡ common)
+    (asdu.cause ≡ cause) × (asdu.originator ≡ 0) × All (λ x. x.common ≡ asdu.common_address) (take taken xs)
     × (asdu.observations ≡ take taken xs))
-written_meant offset common cause xs octets taken some small is spelled =
-    rw (is, spelled) (packed_meant offset common cause xs some small)
+written_meant offset cause xs octets taken some is spelled = rw (is, spelled) (packed_meant offset cause xs some)

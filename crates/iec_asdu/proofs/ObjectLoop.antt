@@ -72,10 +72,10 @@ parts_fault (Some x) None make f e m = cc
 parts_fault (Some x) (Some y) make f e m = cc
 
 -- no object has the fault of memory
-pub object_fault : (address : ℕ) (layout : Layout) (octets : List ℕ) (f : AsduFault)
-    → Err f ≡ object_read address layout octets → f ≡ Memory → ⊥
-object_fault address layout octets f e m =
-    parts_fault _ _ (observation_of address) f (sym e) m
+pub object_fault : (common address : ℕ) (layout : Layout) (octets : List ℕ) (f : AsduFault)
+    → Err f ≡ object_read common address layout octets → f ≡ Memory → ⊥
+object_fault common address layout octets f e m =
+    parts_fault _ _ (observation_of common address) f (sym e) m
 
 -- ---- SQ 0
 
@@ -85,19 +85,19 @@ address_in_front (a ∷ b ∷ c ∷ octets) long = refl
 address_in_front _ long = absurd (omega arith)
 
 -- the object at the front, as it is split off
-pub apart_object : (layout : Layout) (address size : ℕ) (rest front behind information : List ℕ)
+pub apart_object : (common : ℕ) (layout : Layout) (address size : ℕ) (rest front behind information : List ℕ)
     (read : Result Observation AsduFault) → 3 ≤ length rest
     → front ≡ take 3 rest → behind ≡ drop 3 rest → size ≡ size_of layout → information ≡ take size behind
     → address ≡ address_at front
-    → read ≡ object_read address layout information
-    → object_read (address_at rest) layout (take (size_of layout) (drop 3 rest)) ≡ read
-apart_object layout address size rest front behind information read long ef eb es ei ea er =
+    → read ≡ object_read common address layout information
+    → object_read common (address_at rest) layout (take (size_of layout) (drop 3 rest)) ≡ read
+apart_object common layout address size rest front behind information read long ef eb es ei ea er =
     let address_is : address ≡ address_at rest =
     ea ∙ (ap (λ (o : List ℕ). address_at o) ef ∙ address_in_front rest long) in
     let octets_are : information ≡ take (size_of layout) (drop 3 rest) =
     ei ∙ (ap (λ (n : ℕ). take n behind) es ∙ ap (λ (o : List ℕ). take (size_of layout) o) eb) in
-    ap (λ (n : ℕ). object_read n layout (take (size_of layout) (drop 3 rest))) (sym address_is)
-    ∙ (ap (λ (o : List ℕ). object_read address layout o) (sym octets_are) ∙ sym er)
+    ap (λ (n : ℕ). object_read common n layout (take (size_of layout) (drop 3 rest))) (sym address_is)
+    ∙ (ap (λ (o : List ℕ). object_read common address layout o) (sym octets_are) ∙ sym er)
 
 -- what is left behind it
 pub behind_object : (size : ℕ) (n : ℕ) (rest behind after : List ℕ) → behind ≡ drop 3 rest → size ≡ n
@@ -105,75 +105,77 @@ pub behind_object : (size : ℕ) (n : ℕ) (rest behind after : List ℕ) → be
 behind_object size n rest behind after eb es ea =
     ea ∙ (ap (λ (k : ℕ). drop k behind) es ∙ (ap (λ (o : List ℕ). drop n o) eb ∙ drop-drop n 3 rest))
 
-apart_step : (layout : Layout) (n m : ℕ) (octets : List ℕ) (read : Result Observation AsduFault) → n ≡ suc m
-    → object_read (address_at octets) layout (take (size_of layout) (drop 3 octets)) ≡ read
-    → read_apart layout n octets
-    ≡ (read >>= λ x. (read_apart layout m (drop (3 + size_of layout) octets) >>= λ xs. Ok (x ∷ xs)))
+apart_step : (common : ℕ) (layout : Layout) (n m : ℕ) (octets : List ℕ) (read : Result Observation AsduFault)
+    → n ≡ suc m → object_read common (address_at octets) layout (take (size_of layout) (drop 3 octets)) ≡ read
+    → read_apart common layout n octets
+    ≡ (read >>= λ x. (read_apart common layout m (drop (3 + size_of layout) octets) >>= λ xs. Ok (x ∷ xs)))
 unfolding read_apart
-apart_step layout n m octets read e at = rw (e, at) refl
+apart_step common layout n m octets read e at = rw (e, at) refl
 
-pub apart_goes_on : (layout : Layout) (n m : ℕ) (octets : List ℕ) (front : List Observation) (x : Observation)
-    (whole : Result (List Observation) AsduFault)
-    → n ≡ suc m → object_read (address_at octets) layout (take (size_of layout) (drop 3 octets)) ≡ Ok x
-    → with_front front (read_apart layout n octets) ≡ whole
-    → with_front (front ++ x ∷ []) (read_apart layout m (drop (3 + size_of layout) octets)) ≡ whole
-apart_goes_on layout n m octets front x whole e at so_far =
-    sym (regroup front x (read_apart layout m (drop (3 + size_of layout) octets)))
-    ∙ (ap (with_front front) (sym (apart_step layout n m octets (Ok x) e at)) ∙ so_far)
+pub apart_goes_on : (common : ℕ) (layout : Layout) (n m : ℕ) (octets : List ℕ) (front : List Observation)
+    (x : Observation) (whole : Result (List Observation) AsduFault)
+    → n ≡ suc m → object_read common (address_at octets) layout (take (size_of layout) (drop 3 octets)) ≡ Ok x
+    → with_front front (read_apart common layout n octets) ≡ whole
+    → with_front (front ++ x ∷ []) (read_apart common layout m (drop (3 + size_of layout) octets)) ≡ whole
+apart_goes_on common layout n m octets front x whole e at so_far =
+    sym (regroup front x (read_apart common layout m (drop (3 + size_of layout) octets)))
+    ∙ (ap (with_front front) (sym (apart_step common layout n m octets (Ok x) e at)) ∙ so_far)
 
-pub apart_fails : (layout : Layout) (n m : ℕ) (octets : List ℕ) (front : List Observation) (f : AsduFault)
+pub apart_fails : (common : ℕ) (layout : Layout) (n m : ℕ) (octets : List ℕ) (front : List Observation) (f : AsduFault)
     (whole : Result (List Observation) AsduFault)
-    → n ≡ suc m → object_read (address_at octets) layout (take (size_of layout) (drop 3 octets)) ≡ Err f
-    → with_front front (read_apart layout n octets) ≡ whole → whole ≡ Err f
-apart_fails layout n m octets front f whole e at so_far =
-    sym so_far ∙ ap (with_front front) (apart_step layout n m octets (Err f) e at)
+    → n ≡ suc m → object_read common (address_at octets) layout (take (size_of layout) (drop 3 octets)) ≡ Err f
+    → with_front front (read_apart common layout n octets) ≡ whole → whole ≡ Err f
+apart_fails common layout n m octets front f whole e at so_far =
+    sym so_far ∙ ap (with_front front) (apart_step common layout n m octets (Err f) e at)
 
-pub apart_done : (layout : Layout) (n : ℕ) (octets : List ℕ) (front : List Observation)
+pub apart_done : (common : ℕ) (layout : Layout) (n : ℕ) (octets : List ℕ) (front : List Observation)
     (whole : Result (List Observation) AsduFault)
-    → n ≡ 0 → with_front front (read_apart layout n octets) ≡ whole → whole ≡ Ok front
+    → n ≡ 0 → with_front front (read_apart common layout n octets) ≡ whole → whole ≡ Ok front
 unfolding read_apart
-apart_done layout zero octets front whole e so_far =
+apart_done common layout zero octets front whole e so_far =
     sym so_far ∙ ap (λ (xs : List Observation). Ok xs) (append-nil front)
-apart_done layout (suc n) octets front whole e so_far = absurd (omega arith)
+apart_done common layout (suc n) octets front whole e so_far = absurd (omega arith)
 
 -- ---- SQ 1
 
 -- the element and the time tag at the front, as they are split off
-pub sequence_object : (layout : Layout) (address size : ℕ) (rest information : List ℕ)
+pub sequence_object : (common : ℕ) (layout : Layout) (address size : ℕ) (rest information : List ℕ)
     (read : Result Observation AsduFault)
-    → size ≡ size_of layout → information ≡ take size rest → read ≡ object_read address layout information
-    → object_read address layout (take (size_of layout) rest) ≡ read
-sequence_object layout address size rest information read es ei er =
+    → size ≡ size_of layout → information ≡ take size rest → read ≡ object_read common address layout information
+    → object_read common address layout (take (size_of layout) rest) ≡ read
+sequence_object common layout address size rest information read es ei er =
     let octets_are : information ≡ take (size_of layout) rest = ei ∙ ap (λ (n : ℕ). take n rest) es in
-    ap (λ (o : List ℕ). object_read address layout o) (sym octets_are) ∙ sym er
+    ap (λ (o : List ℕ). object_read common address layout o) (sym octets_are) ∙ sym er
 
-sequence_step : (layout : Layout) (n m address : ℕ) (octets : List ℕ) (read : Result Observation AsduFault) → n ≡ suc m
-    → object_read address layout (take (size_of layout) octets) ≡ read
-    → read_in_sequence layout n address octets
-    ≡ (read >>= λ x. (read_in_sequence layout m (address + 1) (drop (size_of layout) octets) >>= λ xs. Ok (x ∷ xs)))
+sequence_step : (common : ℕ) (layout : Layout) (n m address : ℕ) (octets : List ℕ) (read : Result Observation AsduFault)
+    → n ≡ suc m → object_read common address layout (take (size_of layout) octets) ≡ read
+    → read_in_sequence common layout n address octets
+    ≡ (read >>= λ x. (read_in_sequence common layout m (address + 1) (drop (size_of layout) octets)
+    >>= λ xs. Ok (x ∷ xs)))
 unfolding read_in_sequence
-sequence_step layout n m address octets read e at = rw (e, at) refl
+sequence_step common layout n m address octets read e at = rw (e, at) refl
 
-pub sequence_goes_on : (layout : Layout) (n m address : ℕ) (octets : List ℕ) (front : List Observation)
+pub sequence_goes_on : (common : ℕ) (layout : Layout) (n m address : ℕ) (octets : List ℕ) (front : List Observation)
     (x : Observation) (whole : Result (List Observation) AsduFault)
-    → n ≡ suc m → object_read address layout (take (size_of layout) octets) ≡ Ok x
-    → with_front front (read_in_sequence layout n address octets) ≡ whole
-    → with_front (front ++ x ∷ []) (read_in_sequence layout m (address + 1) (drop (size_of layout) octets)) ≡ whole
-sequence_goes_on layout n m address octets front x whole e at so_far =
-    sym (regroup front x (read_in_sequence layout m (address + 1) (drop (size_of layout) octets)))
-    ∙ (ap (with_front front) (sym (sequence_step layout n m address octets (Ok x) e at)) ∙ so_far)
+    → n ≡ suc m → object_read common address layout (take (size_of layout) octets) ≡ Ok x
+    → with_front front (read_in_sequence common layout n address octets) ≡ whole
+    → with_front (front ++ x ∷ []) (read_in_sequence common layout m (address + 1) (drop (size_of layout) octets))
+    ≡ whole
+sequence_goes_on common layout n m address octets front x whole e at so_far =
+    sym (regroup front x (read_in_sequence common layout m (address + 1) (drop (size_of layout) octets)))
+    ∙ (ap (with_front front) (sym (sequence_step common layout n m address octets (Ok x) e at)) ∙ so_far)
 
-pub sequence_fails : (layout : Layout) (n m address : ℕ) (octets : List ℕ) (front : List Observation) (f : AsduFault)
-    (whole : Result (List Observation) AsduFault)
-    → n ≡ suc m → object_read address layout (take (size_of layout) octets) ≡ Err f
-    → with_front front (read_in_sequence layout n address octets) ≡ whole → whole ≡ Err f
-sequence_fails layout n m address octets front f whole e at so_far =
-    sym so_far ∙ ap (with_front front) (sequence_step layout n m address octets (Err f) e at)
+pub sequence_fails : (common : ℕ) (layout : Layout) (n m address : ℕ) (octets : List ℕ) (front : List Observation)
+    (f : AsduFault) (whole : Result (List Observation) AsduFault)
+    → n ≡ suc m → object_read common address layout (take (size_of layout) octets) ≡ Err f
+    → with_front front (read_in_sequence common layout n address octets) ≡ whole → whole ≡ Err f
+sequence_fails common layout n m address octets front f whole e at so_far =
+    sym so_far ∙ ap (with_front front) (sequence_step common layout n m address octets (Err f) e at)
 
-pub sequence_done : (layout : Layout) (n address : ℕ) (octets : List ℕ) (front : List Observation)
+pub sequence_done : (common : ℕ) (layout : Layout) (n address : ℕ) (octets : List ℕ) (front : List Observation)
     (whole : Result (List Observation) AsduFault)
-    → n ≡ 0 → with_front front (read_in_sequence layout n address octets) ≡ whole → whole ≡ Ok front
+    → n ≡ 0 → with_front front (read_in_sequence common layout n address octets) ≡ whole → whole ≡ Ok front
 unfolding read_in_sequence
-sequence_done layout zero address octets front whole e so_far =
+sequence_done common layout zero address octets front whole e so_far =
     sym so_far ∙ ap (λ (xs : List Observation). Ok xs) (append-nil front)
-sequence_done layout (suc n) address octets front whole e so_far = absurd (omega arith)
+sequence_done common layout (suc n) address octets front whole e so_far = absurd (omega arith)

@@ -1,30 +1,27 @@
 -- Whether an ASDU stands under SQ 1: where those behind the first one go on from it, and SQ 0 carries no more.
-use Rattle.std.proofs.Common.{◌≡◌, ℕ, ℤ, suc, ◌+◌, ◌-◌, ◌<◌, ◌≤◌, ◌==◌, ◌&&◌, nat_le, true, false, List, [], ◌∷◌, length, get_or, take, refl, sym, ap, subst, ◌∙◌, arith}
+use Rattle.std.proofs.Common.{◌≡◌, ℕ, ℤ, suc, ◌+◌, ◌-◌, ◌<◌, ◌≤◌, ◌&&◌, nat_le, true, false, List, [], ◌∷◌, length, get_or, take, refl, sym, ap, subst, ◌∙◌, arith}
 use Rattle.std.proofs.lemmas.Bool.Decides.{nat_tests}
 use Rattle.std.proofs.lemmas.List.{length-take, take-take}
 use Rattle.gw_model.specs.declared.observation.Observation.{Observation}
 use Rattle.iec_asdu.specs.declared.types.MonitorType.{MonitorType}
-use Rattle.iec_asdu.specs.Types.{identification_by, type_length}
-use Rattle.iec_asdu.specs.Spelling.{identification_at}
+use Rattle.iec_asdu.specs.Types.{type_length}
 use Rattle.iec_asdu.specs.Fitting.{AreAlike}
-use Rattle.iec_asdu.specs.Packing.{type_at, room_apart, room_in_sequence, consecutive_count, apart_count, in_sequence_count, is_in_sequence}
+use Rattle.iec_asdu.specs.Packing.{type_at, room_apart, room_in_sequence, is_alike, consecutive_count, apart_count, in_sequence_count, is_in_sequence}
 use Rattle.iec_asdu.proofs.Carried.{alone_apart}
-use Rattle.iec_asdu.proofs.Counts.{sequence_counted, timed_counted, first_named, consecutive_are, consecutive_within, alike_within, alike_ends, alike_fewer, alike_more, alike_longest}
+use Rattle.iec_asdu.proofs.Counts.{sequence_counted, timed_counted, consecutive_are, consecutive_within, alike_within, alike_ends, alike_fewer, alike_more, alike_longest}
 
 -- so many go on from the first one, and fit behind it under SQ 1
 pub record GoOn (offset : ℤ) (x : Observation) (xs : List Observation) (behind : ℕ) : Type 0 where
   pub counted : behind + 1 ≡ in_sequence_count offset (x ∷ xs)
   pub within : behind ≤ length xs
-  pub alike : AreAlike offset (identification_at offset x) (take behind xs)
+  pub alike : AreAlike offset x (take behind xs)
 
 pub they_go_on : (offset : ℤ) (x : Observation) (xs within : List Observation) (kind : MonitorType) (room behind : ℕ)
     → kind ≡ type_at offset x → kind.timed ≡ false → room ≡ room_in_sequence (type_length kind) → 1 ≤ room
-    → within ≡ take (room - 1) xs
-    → behind ≡ consecutive_count offset (identification_by kind.element kind.timed) (x.address + 1) within
+    → within ≡ take (room - 1) xs → behind ≡ consecutive_count offset x (x.address + 1) within
     → GoOn offset x xs behind
 they_go_on offset x xs within kind room behind of plain long some front is =
-    let t = identification_by kind.element kind.timed in
-    let few : behind ≤ length within = rw is (consecutive_within offset t (x.address + 1) within) in
+    let few : behind ≤ length within = rw is (consecutive_within offset x (x.address + 1) within) in
     let long_within : length within ≤ length xs = rw front (omega (arith, length-take (room - 1) xs)) in
     let less : behind ≤ room - 1 = omega (
       arith,
@@ -34,13 +31,12 @@ they_go_on offset x xs within kind room behind of plain long some front is =
     ) in
     let same : take behind within ≡ take behind xs =
     ap (λ (o : List Observation). take behind o) front ∙ take-take behind (room - 1) xs less in
-    let row : AreAlike offset t (take behind within) =
-    rw is (consecutive_are offset t (x.address + 1) within).0 in
+    let row : AreAlike offset x (take behind within) =
+    rw is (consecutive_are offset x (x.address + 1) within).0 in
     record {
       counted = sequence_counted offset x xs within kind room behind of plain long some front is;
       within = omega (arith, few, long_within);
-      alike = subst (λ (n : ℕ). AreAlike offset n (take behind xs)) (first_named offset x kind of)
-          (subst (AreAlike offset t) same row);
+      alike = subst (AreAlike offset x) same row;
     }
 
 -- ---- how many SQ 0 carries at most
@@ -53,7 +49,7 @@ apart_fills offset x xs =
     let room = room_apart (type_length (type_at offset x)) in
     omega (
       arith,
-      alike_within offset (identification_at offset x) (take room (x ∷ xs)),
+      alike_within offset x (take room (x ∷ xs)),
       length-take room (x ∷ xs),
     )
 
@@ -65,39 +61,36 @@ apart_within offset x xs =
     let room = room_apart (type_length (type_at offset x)) in
     omega (
       arith,
-      alike_within offset (identification_at offset x) (take room (x ∷ xs)),
+      alike_within offset x (take room (x ∷ xs)),
       length-take room (x ∷ xs),
     )
 
--- none from one of another type on
+-- none from one on that is not like the first one
 pub apart_ends : (offset : ℤ) (x : Observation) (xs : List Observation) (i : ℕ) (d : Observation) → i < length xs
-    → (identification_at offset (get_or xs i d) == identification_at offset x) ≡ false
-    → apart_count offset (x ∷ xs) ≤ i + 1
+    → is_alike offset x (get_or xs i d) ≡ false → apart_count offset (x ∷ xs) ≤ i + 1
 unfolding apart_count
 apart_ends offset x xs i d inside other =
     let room = room_apart (type_length (type_at offset x)) in
-    let t = identification_at offset x in
     omega (
       arith,
-      alike_fewer offset t room (x ∷ xs),
-      alike_ends offset t (x ∷ xs) (suc i) d (omega arith) other,
+      alike_fewer offset x room (x ∷ xs),
+      alike_ends offset x (x ∷ xs) (suc i) d (omega arith) other,
     )
 
--- more, where one more is of the type, and fits
+-- more, where one more is like the first one, and fits
 pub apart_goes_on : (offset : ℤ) (x : Observation) (xs : List Observation) (behind : ℕ) (d : Observation)
-    → AreAlike offset (identification_at offset x) (take behind xs)
+    → AreAlike offset x (take behind xs)
     → behind + 1 < room_apart (type_length (type_at offset x)) → behind < length xs
-    → (identification_at offset (get_or xs behind d) == identification_at offset x) ≡ true
-    → behind + 1 < apart_count offset (x ∷ xs)
+    → is_alike offset x (get_or xs behind d) ≡ true → behind + 1 < apart_count offset (x ∷ xs)
 unfolding apart_count
 apart_goes_on offset x xs behind d alike fits inside is =
     let room = room_apart (type_length (type_at offset x)) in
-    let t = identification_at offset x in
     let k = suc (suc behind) in
-    let all : AreAlike offset t (take k (x ∷ xs)) = (refl, alike_more offset t xs behind d inside alike is) in
+    let all : AreAlike offset x (take k (x ∷ xs)) =
+    ((refl, refl), alike_more offset x xs behind d inside alike is) in
     let same : take k (take room (x ∷ xs)) ≡ take k (x ∷ xs) = take-take k room (x ∷ xs) (omega arith) in
     let long : k ≤ length (take room (x ∷ xs)) = omega (arith, length-take room (x ∷ xs)) in
-    let longest = alike_longest offset t (take room (x ∷ xs)) k long (subst (AreAlike offset t) (sym same) all) in
+    let longest = alike_longest offset x (take room (x ∷ xs)) k long (subst (AreAlike offset x) (sym same) all) in
     omega (arith, longest)
 
 -- ---- the choice

@@ -29,7 +29,7 @@ layout_of identification [] = None
 layout_of identification (layout ∷ layouts) =
     if layout.identification == identification then Some layout else layout_of identification layouts
 
--- ---- the objects
+-- ---- the objects, each under the common address of the ASDU
 
 -- element and time tag, in octets
 abbrev pub size_of : Layout → ℕ
@@ -39,41 +39,42 @@ size_of layout = layout.element + layout.tag
 abbrev pub address_at : List ℕ → ℕ
 address_at octets = slice_index octets 0 + 256 * slice_index octets 1 + 65536 * slice_index octets 2
 
--- an observation of an address: its value with quality, and its stamp
-abbrev pub observation_of : ℕ → Value × Quality → Stamp → Observation
-observation_of address value stamp = record { address = address; value = value.0; quality = value.1; stamp = stamp }
+-- an observation under a common address, of an address: its value with quality, and its stamp
+abbrev pub observation_of : ℕ → ℕ → Value × Quality → Stamp → Observation
+observation_of common address value stamp =
+    record { common = common; address = address; value = value.0; quality = value.1; stamp = stamp }
 
 -- what element and time tag tell of an address
-abbrev pub observation_at : ℕ → Layout → List ℕ → Option Observation
-observation_at address layout octets = do
+abbrev pub observation_at : ℕ → ℕ → Layout → List ℕ → Option Observation
+observation_at common address layout octets = do
   value ← layout.value (take layout.element octets)
   stamp ← layout.stamp (drop layout.element octets)
-  Some (observation_of address value stamp)
+  Some (observation_of common address value stamp)
 
 -- SQ 0: so many objects, each with its address
-unfoldable pub objects_apart : Layout → ℕ → List ℕ → Option (List Observation)
-objects_apart layout zero octets = Some []
-objects_apart layout (suc n) octets = do
-  first ← observation_at (address_at octets) layout (take (size_of layout) (drop 3 octets))
-  others ← objects_apart layout n (drop (3 + size_of layout) octets)
+unfoldable pub objects_apart : ℕ → Layout → ℕ → List ℕ → Option (List Observation)
+objects_apart common layout zero octets = Some []
+objects_apart common layout (suc n) octets = do
+  first ← observation_at common (address_at octets) layout (take (size_of layout) (drop 3 octets))
+  others ← objects_apart common layout n (drop (3 + size_of layout) octets)
   Some (first ∷ others)
 
 -- SQ 1: so many objects at consecutive addresses from the one that is given
-unfoldable pub objects_in_sequence : Layout → ℕ → ℕ → List ℕ → Option (List Observation)
-objects_in_sequence layout zero address octets = Some []
-objects_in_sequence layout (suc n) address octets = do
-  first ← observation_at address layout (take (size_of layout) octets)
-  others ← objects_in_sequence layout n (address + 1) (drop (size_of layout) octets)
+unfoldable pub objects_in_sequence : ℕ → Layout → ℕ → ℕ → List ℕ → Option (List Observation)
+objects_in_sequence common layout zero address octets = Some []
+objects_in_sequence common layout (suc n) address octets = do
+  first ← observation_at common address layout (take (size_of layout) octets)
+  others ← objects_in_sequence common layout n (address + 1) (drop (size_of layout) octets)
   Some (first ∷ others)
 
 -- at least one object, and the octets that so many objects have, no more and no less
-unfoldable pub objects_of : Layout → Bool → ℕ → List ℕ → Option (List Observation)
-objects_of layout sequence zero octets = None
-objects_of layout false (suc n) octets =
-    if length octets == suc n * (3 + size_of layout) then objects_apart layout (suc n) octets else None
-objects_of layout true (suc n) octets =
+unfoldable pub objects_of : ℕ → Layout → Bool → ℕ → List ℕ → Option (List Observation)
+objects_of common layout sequence zero octets = None
+objects_of common layout false (suc n) octets =
+    if length octets == suc n * (3 + size_of layout) then objects_apart common layout (suc n) octets else None
+objects_of common layout true (suc n) octets =
     if length octets == 3 + suc n * size_of layout
-    then objects_in_sequence layout (suc n) (address_at octets) (drop 3 octets)
+    then objects_in_sequence common layout (suc n) (address_at octets) (drop 3 octets)
     else None
 
 -- ---- the whole
@@ -90,12 +91,13 @@ pub record Asdu : Type 0 where
 unfoldable pub asdu_meaning : List Layout → List ℕ → Option Asdu
 asdu_meaning types (identification ∷ qualifier ∷ cause ∷ originator ∷ low ∷ high ∷ objects) = do
   layout ← layout_of identification types
-  observations ← objects_of layout (is_set 7 qualifier) (qualifier % 128) objects
+  let common = low + 256 * high
+  observations ← objects_of common layout (is_set 7 qualifier) (qualifier % 128) objects
   Some (record {
     identification = identification;
     cause = cause;
     originator = originator;
-    common_address = low + 256 * high;
+    common_address = common;
     observations = observations;
   })
 asdu_meaning types _ = None

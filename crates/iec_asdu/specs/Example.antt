@@ -39,10 +39,14 @@ overflow = record { iv = false; nt = false; sb = false; bl = false; ov = true; c
 abbrev pub carry : Quality
 carry = record { iv = false; nt = false; sb = false; bl = false; ov = false; cy = true; ca = false }
 
--- an observation without time
+-- an observation without time, under the common address 1
 abbrev pub untimed_observation : ℕ → Value → Quality → Observation
 untimed_observation address value quality =
-    record { address = address; value = value; quality = quality; stamp = Untimed }
+    record { common = 1; address = address; value = value; quality = quality; stamp = Untimed }
+
+-- the same under another common address
+abbrev pub under : ℕ → Observation → Observation
+under common x = record x { common = common }
 
 -- a single-point and a double-point that are on
 abbrev pub single_on : ℕ → Observation
@@ -54,11 +58,11 @@ double_on address = untimed_observation address (Double 2) good
 -- an observation at an instant, and one in doubt
 abbrev pub timed_observation : ℕ → Value → Quality → ℕ → Observation
 timed_observation address value quality t =
-    record { address = address; value = value; quality = quality; stamp = At t }
+    record { common = 1; address = address; value = value; quality = quality; stamp = At t }
 
 abbrev pub doubtful_observation : ℕ → Value → Quality → ℕ → Observation
 doubtful_observation address value quality t =
-    record { address = address; value = value; quality = quality; stamp = Doubtful t }
+    record { common = 1; address = address; value = value; quality = quality; stamp = Doubtful t }
 
 -- a single-point with time
 abbrev pub single_event : ℕ → Observation

@@ -5,21 +5,24 @@ use Rattle.gw_model.specs.declared.observation.Observation.{Observation}
 use Rattle.gw_time.specs.Spelling.{tag_of}
 use Rattle.iec_asdu.specs.Spelling.{identification_at, objects_octets}
 
--- each has this type identification
-abbrev pub AreAlike : ℤ → ℕ → List Observation → Type 0
-AreAlike offset identification [] = Unit {0}
-AreAlike offset identification (x ∷ xs) =
-    (identification_at offset x ≡ identification) × AreAlike offset identification xs
+-- one has the type identification and the common address of the first one
+abbrev pub IsAlike : ℤ → Observation → Observation → Type 0
+IsAlike offset first x = (identification_at offset x ≡ identification_at offset first) × (x.common ≡ first.common)
+
+-- each has both
+abbrev pub AreAlike : ℤ → Observation → List Observation → Type 0
+AreAlike offset first [] = Unit {0}
+AreAlike offset first (x ∷ xs) = IsAlike offset first x × AreAlike offset first xs
 
 -- they stand at consecutive addresses, from this one on
 abbrev pub AreConsecutive : ℕ → List Observation → Type 0
 AreConsecutive address [] = Unit {0}
 AreConsecutive address (x ∷ xs) = (x.address ≡ address) × AreConsecutive (address + 1) xs
 
--- a list with this first one under this SQ: all of the first one's type; under SQ 1 without time, at consecutive
--- addresses; 127 at most, and behind the header of six octets no more than 249 in all
+-- a list with this first one under this SQ: all of its type and under its common address; under SQ 1 without time, at
+-- consecutive addresses; 127 at most, and behind the header of six octets no more than 249 in all
 pub record FitsAsdu (offset : ℤ) (sequence : Bool) (first : Observation) (xs : List Observation) : Type 0 where
-  pub alike : AreAlike offset (identification_at offset first) xs
+  pub alike : AreAlike offset first xs
   pub untimed : sequence ≡ true → is_some (tag_of offset first.stamp) ≡ false
   pub consecutive : sequence ≡ true → AreConsecutive first.address xs
   pub few : length xs ≤ 127

@@ -1,6 +1,6 @@
 -- Which octets spell an ASDU with process information (IEC 60870-5-101, 7.1 and 7.2), said of its texts one after
 -- another, apart from any reading.
-use Rattle.std.specs.Prelude.{◌≡◌, ℕ, ◌+◌, ◌*◌, ◌%◌, ◌<◌, Bool, true, false, List, [], ◌∷◌, ◌++◌, length, Some}
+use Rattle.std.specs.Prelude.{◌≡◌, ℕ, ◌+◌, ◌*◌, ◌%◌, ◌<◌, Bool, true, false, List, [], ◌∷◌, ◌++◌, length, Some, All}
 use Rattle.gw_model.specs.declared.observation.Observation.{Observation}
 use Rattle.gw_model.specs.Bits.{is_set}
 use Rattle.iec_asdu.specs.Types.{Layout}
@@ -45,7 +45,7 @@ AreObjects layout true octets xs = (address : List ℕ) × (first : ℕ) × (res
     × (octets ≡ address ++ rest) × IsAddress address first × AreInSequence layout first rest xs
 
 -- type identification; variable structure qualifier, with SQ and the number of objects, at least one; the whole octet
--- of the cause; originator; common address, low octet first; objects
+-- of the cause; originator; common address, low octet first; objects, each of which has that common address
 pub record IsAsdu (types : List Layout) (octets : List ℕ) (asdu : Asdu) : Type 0 where
   pub qualifier : ℕ
   pub low : ℕ
@@ -58,3 +58,4 @@ pub record IsAsdu (types : List Layout) (octets : List ℕ) (asdu : Asdu) : Type
   pub number : length asdu.observations ≡ qualifier % 128
   pub some : 0 < length asdu.observations
   pub are : AreObjects layout (is_set 7 qualifier) objects asdu.observations
+  pub under : All (λ x. x.common ≡ asdu.common_address) asdu.observations

@@ -10,18 +10,21 @@ use Rattle.iec_asdu.specs.Spelling.{element_kind, identification_at, list_spelli
 
 -- ---- the two prefixes
 
--- how many from the front have this type identification
-unfoldable pub alike_count : ℤ → ℕ → List Observation → ℕ
-alike_count offset identification [] = 0
-alike_count offset identification (x ∷ xs) =
-    if identification_at offset x == identification then suc (alike_count offset identification xs) else 0
+-- whether one is like the first one: of its type, and under its common address
+abbrev pub is_alike : ℤ → Observation → Observation → Bool
+is_alike offset first x = identification_at offset x == identification_at offset first && x.common == first.common
+
+-- how many from the front are like the first one
+unfoldable pub alike_count : ℤ → Observation → List Observation → ℕ
+alike_count offset first [] = 0
+alike_count offset first (x ∷ xs) = if is_alike offset first x then suc (alike_count offset first xs) else 0
 
 -- how many of these stand at consecutive addresses, from this one on
-unfoldable pub consecutive_count : ℤ → ℕ → ℕ → List Observation → ℕ
-consecutive_count offset identification address [] = 0
-consecutive_count offset identification address (x ∷ xs) =
-    if identification_at offset x == identification && x.address == address
-    then suc (consecutive_count offset identification (address + 1) xs)
+unfoldable pub consecutive_count : ℤ → Observation → ℕ → List Observation → ℕ
+consecutive_count offset first address [] = 0
+consecutive_count offset first address (x ∷ xs) =
+    if is_alike offset first x && x.address == address
+    then suc (consecutive_count offset first (address + 1) xs)
     else 0
 
 -- element and time tag of an observation
@@ -36,19 +39,18 @@ room_apart size = 243 / (3 + size)
 abbrev pub room_in_sequence : ℕ → ℕ
 room_in_sequence size = min 127 (240 / size)
 
--- under SQ 0: as many as are of the first one's type, and fit
+-- under SQ 0: as many as are like the first one, and fit
 unfoldable pub apart_count : ℤ → List Observation → ℕ
 apart_count offset [] = 0
 apart_count offset (x ∷ xs) =
-    alike_count offset (identification_at offset x) (take (room_apart (type_length (type_at offset x))) (x ∷ xs))
+    alike_count offset x (take (room_apart (type_length (type_at offset x))) (x ∷ xs))
 
--- under SQ 1: none with time; else as many as are of the first one's type, at consecutive addresses, and fit
+-- under SQ 1: none with time; else as many as are like the first one, at consecutive addresses, and fit
 unfoldable pub in_sequence_count : ℤ → List Observation → ℕ
 in_sequence_count offset [] = 0
 in_sequence_count offset (x ∷ xs) =
     if is_some (tag_of offset x.stamp) then 0
-    else consecutive_count offset (identification_at offset x) x.address
-    (take (room_in_sequence (type_length (type_at offset x))) (x ∷ xs))
+    else consecutive_count offset x x.address (take (room_in_sequence (type_length (type_at offset x))) (x ∷ xs))
 
 -- ---- the choice
 
@@ -62,6 +64,6 @@ unfoldable pub taken_of : ℤ → List Observation → ℕ
 taken_of offset xs = if is_in_sequence offset xs then in_sequence_count offset xs else apart_count offset xs
 
 -- the ASDU of so many of them
-unfoldable pub packed_spelling : ℤ → ℕ → ℕ → List Observation → List ℕ
-packed_spelling offset common cause xs =
-    list_spelling offset (is_in_sequence offset xs) common cause (take (taken_of offset xs) xs)
+unfoldable pub packed_spelling : ℤ → ℕ → List Observation → List ℕ
+packed_spelling offset cause xs =
+    list_spelling offset (is_in_sequence offset xs) cause (take (taken_of offset xs) xs)

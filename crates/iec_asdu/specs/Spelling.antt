@@ -1,5 +1,5 @@
--- How observations are spelled as an ASDU, one or more of one type: with time, where the stamp has a tag, and without
--- one elsewhere.
+-- How observations are spelled as an ASDU, one or more of one type and under one common address: with time, where the
+-- stamp has a tag, and without one elsewhere.
 use Rattle.std.specs.Prelude.{ℕ, ℤ, ◌+◌, Bool, true, false, List, [], ◌∷◌, ◌++◌, length, take, Option, Some, None, if◌then◌else◌}
 use Rattle.std.specs.List.{flat_map}
 use Rattle.std.specs.Option.{is_some}
@@ -40,15 +40,15 @@ tag_octets None = []
 tag_octets (Some tag) = tag
 
 -- one object with its address, of a value with this tag, originator 0; numbers low octet first
-abbrev pub spelling_with : Option (List ℕ) → ℕ → ℕ → Observation → List ℕ
-spelling_with tag common cause x =
+abbrev pub spelling_with : Option (List ℕ) → ℕ → Observation → List ℕ
+spelling_with tag cause x =
     type_of x.value (is_some tag) ∷ 1 ∷ cause ∷ 0
-    ∷ (to_le_bytes w16 common ++ take 3 (to_le_bytes w32 x.address)
+    ∷ (to_le_bytes w16 x.common ++ take 3 (to_le_bytes w32 x.address)
     ++ (element_spelling x.value x.quality ++ tag_octets tag))
 
 -- the ASDU of an observation, at a station whose clocks are offset minutes ahead of UTC
-abbrev pub spelling : ℤ → ℕ → ℕ → Observation → List ℕ
-spelling offset common cause x = spelling_with (tag_of offset x.stamp) common cause x
+abbrev pub spelling : ℤ → ℕ → Observation → List ℕ
+spelling offset cause x = spelling_with (tag_of offset x.stamp) cause x
 
 -- ---- several of one type
 
@@ -86,13 +86,13 @@ qualifier_of sequence n = if sequence then 128 + n else n
 abbrev pub identification_at : ℤ → Observation → ℕ
 identification_at offset x = type_of x.value (is_some (tag_of offset x.stamp))
 
--- the header before these objects, originator 0
-abbrev pub header_octets : ℤ → Bool → ℕ → ℕ → List Observation → List ℕ
-header_octets offset sequence common cause [] = []
-header_octets offset sequence common cause (x ∷ xs) =
-    identification_at offset x ∷ qualifier_of sequence (length (x ∷ xs)) ∷ cause ∷ 0 ∷ to_le_bytes w16 common
+-- the header before these objects: the first one's type and common address, originator 0
+abbrev pub header_octets : ℤ → Bool → ℕ → List Observation → List ℕ
+header_octets offset sequence cause [] = []
+header_octets offset sequence cause (x ∷ xs) =
+    identification_at offset x ∷ qualifier_of sequence (length (x ∷ xs)) ∷ cause ∷ 0 ∷ to_le_bytes w16 x.common
 
--- the ASDU of observations that are of the first one's type, under this SQ
-unfoldable pub list_spelling : ℤ → Bool → ℕ → ℕ → List Observation → List ℕ
-list_spelling offset sequence common cause xs =
-    header_octets offset sequence common cause xs ++ objects_octets offset sequence xs
+-- the ASDU of observations that are of the first one's type and under its common address, under this SQ
+unfoldable pub list_spelling : ℤ → Bool → ℕ → List Observation → List ℕ
+list_spelling offset sequence cause xs =
+    header_octets offset sequence cause xs ++ objects_octets offset sequence xs

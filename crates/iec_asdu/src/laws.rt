@@ -1,5 +1,6 @@
 //! What holds of every ASDU.
-ghost use Rattle.std.specs.Prelude.{◌≡◌, ◌↔◌, ℕ, ℤ, ◌<◌, ◌≤◌, Bool, List, [], ◌∷◌, length, take, Some, All};
+ghost use Rattle.std.specs.Prelude.{◌≡◌, ◌↔◌, ℕ, ℤ, ◌<◌, ◌≤◌, Bool, List, [], ◌∷◌, ◌++◌, length, take, Some, All};
+ghost use Rattle.std.specs.Int.{w16, to_le_bytes};
 ghost use Rattle.gw_model.specs.declared.observation.Observation.{Observation};
 ghost use Rattle.iec_asdu.specs.Types.{Layout};
 ghost use Rattle.gw_model.specs.Fit.{HasWidth, IsFit};
@@ -24,32 +25,31 @@ pub fn longest_prefixes_are_taken()
         k ≤ length (x ∷ xs) → FitsAsdu offset sequence x (take k (x ∷ xs)) → k ≤ taken_of offset (x ∷ xs) }
     ensures some { (offset : ℤ) (xs : List Observation) → 0 < length xs → 0 < taken_of offset xs }
     ensures within { (offset : ℤ) (xs : List Observation) → taken_of offset xs ≤ length xs }
-    ensures room { (offset : ℤ) (common cause : ℕ) (xs : List Observation) →
-        length (packed_spelling offset common cause xs) ≤ 249 }
-    ensures first { (offset : ℤ) (common cause : ℕ) (x : Observation) (xs : List Observation) →
-        taken_of offset (x ∷ xs) ≡ 1 → packed_spelling offset common cause (x ∷ xs) ≡ spelling offset common cause x }
+    ensures room { (offset : ℤ) (cause : ℕ) (xs : List Observation) → length (packed_spelling offset cause xs) ≤ 249 }
+    ensures first { (offset : ℤ) (cause : ℕ) (x : Observation) (xs : List Observation) →
+        taken_of offset (x ∷ xs) ≡ 1 → packed_spelling offset cause (x ∷ xs) ≡ spelling offset cause x }
     ensures one { (offset : ℤ) (x : Observation) → taken_of offset (x ∷ []) ≡ 1 }
 {}
 
 /// What the ASDU of a list begins with and means; and that no more than the first 127 of the list count for it.
 pub fn packed_lists_mean_what_is_taken()
-    ensures header { (offset : ℤ) (common cause : ℕ) (x : Observation) (xs : List Observation) →
-        (rest : List ℕ) × (packed_spelling offset common cause (x ∷ xs)
+    ensures header { (offset : ℤ) (cause : ℕ) (x : Observation) (xs : List Observation) →
+        (rest : List ℕ) × (packed_spelling offset cause (x ∷ xs)
         ≡ identification_at offset x ∷ qualifier_of (is_in_sequence offset (x ∷ xs)) (taken_of offset (x ∷ xs))
-        ∷ cause ∷ 0 ∷ rest) }
-    ensures meant { (offset : ℤ) (common cause : ℕ) (x : Observation) (xs : List Observation) → common < 65536
-        → let taken = take (taken_of offset (x ∷ xs)) (x ∷ xs) in
+        ∷ cause ∷ 0 ∷ (to_le_bytes w16 x.common ++ rest)) }
+    ensures meant { (offset : ℤ) (cause : ℕ) (x : Observation) (xs : List Observation) →
+        let taken = take (taken_of offset (x ∷ xs)) (x ∷ xs) in
         All (λ y. HasWidth y.value) taken → All (IsFit offset) taken
-        → asdu_meaning (monitor_types offset) (packed_spelling offset common cause (x ∷ xs))
+        → asdu_meaning (monitor_types offset) (packed_spelling offset cause (x ∷ xs))
         ≡ Some (record {
           identification = identification_at offset x;
           cause = cause;
           originator = 0;
-          common_address = common;
+          common_address = x.common;
           observations = taken;
         }) }
     ensures few { (offset : ℤ) (xs : List Observation) → taken_of offset xs ≤ 127 }
     ensures front { (offset : ℤ) (xs : List Observation) → taken_of offset (take 127 xs) ≡ taken_of offset xs }
-    ensures front_spelled { (offset : ℤ) (common cause : ℕ) (xs : List Observation) →
-        packed_spelling offset common cause (take 127 xs) ≡ packed_spelling offset common cause xs }
+    ensures front_spelled { (offset : ℤ) (cause : ℕ) (xs : List Observation) →
+        packed_spelling offset cause (take 127 xs) ≡ packed_spelling offset cause xs }
 {}

@@ -1,8 +1,7 @@
 //! How many observations one ASDU carries, and under which SQ (IEC 60870-5-101, 7.2.2).
-ghost use Rattle.std.specs.Prelude.{◌≡◌, ◌+◌, ◌-◌, ◌≤◌, ◌==◌, ◌∷◌, false, take, is_some, IfSome};
-ghost use Rattle.iec_asdu.specs.Types.{identification_by, type_length};
-ghost use Rattle.iec_asdu.specs.Spelling.{identification_at};
-ghost use Rattle.iec_asdu.specs.Packing.{type_at, room_apart, room_in_sequence, consecutive_count, in_sequence_count, is_in_sequence};
+ghost use Rattle.std.specs.Prelude.{◌≡◌, ◌+◌, ◌-◌, ◌≤◌, ◌∷◌, false, take, is_some, IfSome};
+ghost use Rattle.iec_asdu.specs.Types.{type_length};
+ghost use Rattle.iec_asdu.specs.Packing.{type_at, room_apart, room_in_sequence, is_alike, consecutive_count, in_sequence_count, is_in_sequence};
 
 use crate::sizes::{ADDRESS_OCTETS, ASDU_OCTETS, HEADER_OCTETS};
 use crate::types::{ElementKind, MonitorType};
@@ -41,24 +40,30 @@ pub fn front(observations: &[Observation], most: usize) -> &[Observation]
     &observations[..most.min(observations.len())]
 }
 
-/// Whether an observation is of a type.
-fn is_alike(observation: &Observation, kind: MonitorType, zone: &Zone) -> bool
-    ensures { result
-        ≡ (identification_at zone.now.offset_minutes observation.now == identification_by kind.element kind.timed) }
+/// Whether an observation is like the first one, of this type: of its type, and under its common address.
+fn is_alike(first: &Observation, observation: &Observation, kind: MonitorType, zone: &Zone) -> bool
+    requires { kind ≡ type_at zone.now.offset_minutes first.now }
+    ensures { result ≡ is_alike zone.now.offset_minutes first.now observation.now }
 {
     ElementKind::of(observation.value) == kind.element
         && has_tag(observation.stamp, zone) == kind.timed
+        && observation.common == first.common
 }
 
-/// How many from the front go on behind an object of a type and at an address: of its type, at consecutive addresses.
-fn count_behind(observations: &[Observation], kind: MonitorType, address: u32, zone: &Zone) -> usize
-    ensures { result ≡ consecutive_count zone.now.offset_minutes (identification_by kind.element kind.timed)
-        (address + 1) observations.now }
+/// How many go on behind the first one, of this type: like it, at consecutive addresses.
+fn count_behind(
+    first: &Observation,
+    others: &[Observation],
+    kind: MonitorType,
+    zone: &Zone,
+) -> usize
+    requires { kind ≡ type_at zone.now.offset_minutes first.now }
+    ensures { result ≡ consecutive_count zone.now.offset_minutes first.now (first.now.address + 1) others.now }
 {
     let mut count = 0;
-    let mut expected = u64::from(address) + 1;
-    for observation in observations {
-        if u64::from(observation.address) != expected || !is_alike(observation, kind, zone) {
+    let mut expected = u64::from(first.address) + 1;
+    for observation in others {
+        if u64::from(observation.address) != expected || !is_alike(first, observation, kind, zone) {
             return count;
         }
         count += 1;
@@ -68,7 +73,7 @@ fn count_behind(observations: &[Observation], kind: MonitorType, address: u32, z
 }
 
 /// How many an ASDU carries behind the first one under SQ 1; nothing where it stands under SQ 0, as one observation alone
-/// does, and where that carries more: where one more of the type follows, at another address, and fits.
+/// does, and where that carries more: where one more follows that is like it, at another address, and fits.
 pub fn sequence_behind(
     first: &Observation,
     others: &[Observation],
@@ -84,13 +89,13 @@ pub fn sequence_behind(
         return None;
     }
     let fitting = front(others, room_in_sequence(kind) - 1);
-    let behind = count_behind(fitting, kind, first.address, zone);
+    let behind = count_behind(first, fitting, kind, zone);
     if behind == 0 {
         return None;
     }
     if behind + 1 < room_apart(kind)
         && behind < others.len()
-        && is_alike(&others[behind], kind, zone)
+        && is_alike(first, &others[behind], kind, zone)
     {
         return None;
     }

@@ -34,15 +34,16 @@ fn address_of(octets: &[u8]) -> u32
     u32::from_le_bytes([octets[0], octets[1], octets[2], 0])
 }
 
-/// What element and time tag tell of an address.
+/// What element and time tag tell of an address under a common address.
 fn read_object(
+    common: u16,
     address: u32,
     kind: MonitorType,
     octets: &[u8],
     zone: &Zone,
 ) -> Result<Observation, AsduFault>
     requires { length octets.now ≡ size_of (layout_at zone.now.offset_minutes kind) }
-    ensures { result ≡ object_read address (layout_at zone.now.offset_minutes kind) octets.now }
+    ensures { result ≡ object_read common address (layout_at zone.now.offset_minutes kind) octets.now }
 {
     let (element, tag) = octets.split_at(kind.element.octets());
     let Some((value, quality)) = kind.element.read(element) else {
@@ -53,6 +54,7 @@ fn read_object(
         Err(fault) => return Err(fault),
     };
     Ok(Observation {
+        common,
         address,
         value,
         quality,
@@ -60,9 +62,10 @@ fn read_object(
     })
 }
 
-/// So many objects, each with its address.
+/// So many objects under a common address, each with its address.
 fn read_objects_apart(
     alloc: Global,
+    common: u16,
     kind: MonitorType,
     count: u8,
     objects: &[u8],
@@ -70,9 +73,9 @@ fn read_objects_apart(
 ) -> Result<Vec<Observation>, AsduFault>
     requires { count * (3 + size_of (layout_at zone.now.offset_minutes kind)) ≤ length objects.now }
     ensures read { let layout = layout_at zone.now.offset_minutes kind in
-        Gives is_memory (λ v. v.items) result (read_apart layout count objects.now) }
+        Gives is_memory (λ v. v.items) result (read_apart common layout count objects.now) }
     ensures memory { let layout = layout_at zone.now.offset_minutes kind in
-        IfErr result (λ fault. fault ≡ AsduFault.Memory → IsOk (read_apart layout count objects.now)) }
+        IfErr result (λ fault. fault ≡ AsduFault.Memory → IsOk (read_apart common layout count objects.now)) }
 {
     let mut found = Vec::new(alloc);
     let mut is_refused = false;
@@ -80,7 +83,7 @@ fn read_objects_apart(
     for _ in 0..count {
         let (address, behind) = rest.split_at(ADDRESS_OCTETS);
         let (information, after) = behind.split_at(kind.octets());
-        let observation = match read_object(address_of(address), kind, information, zone) {
+        let observation = match read_object(common, address_of(address), kind, information, zone) {
             Ok(observation) => observation,
             Err(fault) => return Err(fault),
         };
@@ -101,9 +104,10 @@ fn counted_on(first: u32, place: u8) -> u32
     first + u32::from(place)
 }
 
-/// So many objects at consecutive addresses from the first on.
+/// So many objects under a common address, at consecutive addresses from the first on.
 fn read_objects_in_sequence(
     alloc: Global,
+    common: u16,
     kind: MonitorType,
     count: u8,
     first: u32,
@@ -113,16 +117,23 @@ fn read_objects_in_sequence(
     requires octets { count * size_of (layout_at zone.now.offset_minutes kind) ≤ length objects.now }
     requires first { first ≤ 16777215 }
     ensures read { let layout = layout_at zone.now.offset_minutes kind in
-        Gives is_memory (λ v. v.items) result (read_in_sequence layout count first objects.now) }
+        Gives is_memory (λ v. v.items) result (read_in_sequence common layout count first objects.now) }
     ensures memory { let layout = layout_at zone.now.offset_minutes kind in
-        IfErr result (λ fault. fault ≡ AsduFault.Memory → IsOk (read_in_sequence layout count first objects.now)) }
+        IfErr result (λ fault. fault ≡ AsduFault.Memory
+        → IsOk (read_in_sequence common layout count first objects.now)) }
 {
     let mut found = Vec::new(alloc);
     let mut is_refused = false;
     let mut rest = objects;
     for place in 0..count {
         let (information, after) = rest.split_at(kind.octets());
-        let observation = match read_object(counted_on(first, place), kind, information, zone) {
+        let observation = match read_object(
+            common,
+            counted_on(first, place),
+            kind,
+            information,
+            zone,
+        ) {
             Ok(observation) => observation,
             Err(fault) => return Err(fault),
         };
@@ -146,10 +157,12 @@ fn objects_octets(kind: MonitorType, sequence: bool, count: u8) -> usize
     }
 }
 
-/// The objects that a variable structure qualifier tells: bit 7 is SQ, bits 0 to 6 are their number.
+/// The objects that a variable structure qualifier tells, under a common address: bit 7 is SQ, bits 0 to 6 are their
+/// number.
 #[tactic(auto, unfolding(crate::specs::Reading::objects_read))]
 fn read_objects(
     alloc: Global,
+    common: u16,
     kind: MonitorType,
     qualifier: u8,
     objects: &[u8],
@@ -157,10 +170,10 @@ fn read_objects(
 ) -> Result<Vec<Observation>, AsduFault>
     ensures read { let layout = layout_at zone.now.offset_minutes kind in
         Gives is_memory (λ v. v.items) result
-        (objects_read layout (is_set 7 qualifier) (qualifier % 128) objects.now) }
+        (objects_read common layout (is_set 7 qualifier) (qualifier % 128) objects.now) }
     ensures memory { let layout = layout_at zone.now.offset_minutes kind in
         IfErr result (λ fault. fault ≡ AsduFault.Memory
-        → IsOk (objects_read layout (is_set 7 qualifier) (qualifier % 128) objects.now)) }
+        → IsOk (objects_read common layout (is_set 7 qualifier) (qualifier % 128) objects.now)) }
 {
     let sequence = qualifier / 128 % 2 == 1;
     let count = qualifier % 128;
@@ -176,9 +189,17 @@ fn read_objects(
     }
     if sequence {
         let (address, elements) = objects.split_at(ADDRESS_OCTETS);
-        read_objects_in_sequence(alloc, kind, count, address_of(address), elements, zone)
+        read_objects_in_sequence(
+            alloc,
+            common,
+            kind,
+            count,
+            address_of(address),
+            elements,
+            zone,
+        )
     } else {
-        read_objects_apart(alloc, kind, count, objects, zone)
+        read_objects_apart(alloc, common, kind, count, objects, zone)
     }
 }
 
@@ -197,12 +218,13 @@ fn read_whole(alloc: Global, octets: &[u8], zone: &Zone) -> Result<Monitor, Asdu
     let Some(kind) = MonitorType::of(header[0]) else {
         return Err(AsduFault::UnknownType);
     };
-    let observations = match read_objects(alloc, kind, header[1], objects, zone) {
+    let common = u16::from_le_bytes([header[4], header[5]]);
+    let observations = match read_objects(alloc, common, kind, header[1], objects, zone) {
         Ok(observations) => observations,
         Err(fault) => return Err(fault),
     };
     Ok(Monitor {
-        common: u16::from_le_bytes([header[4], header[5]]),
+        common,
         cause: header[2],
         observations,
     })

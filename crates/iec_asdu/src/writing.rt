@@ -92,26 +92,30 @@ fn write_object(
     end + TAG_OCTETS
 }
 
-/// Writes the objects of as many from the front as are of a type, each with its address.
+/// Writes the objects of as many from the front as are like the first one, of this type, each with its address.
 fn write_alike(
-    observations: &[Observation],
+    first: &Observation,
+    others: &[Observation],
     kind: MonitorType,
     zone: &Zone,
     start: usize,
     out: &mut [u8; 249],
 ) -> Written
-    requires { start + length observations.now * (3 + type_length kind) ≤ 249 }
-    ensures taken { result.taken
-        ≡ alike_count zone.now.offset_minutes (identification_by kind.element kind.timed) observations.now }
+    requires kind { kind ≡ type_at zone.now.offset_minutes first.now }
+    requires room { start + length others.now * (3 + type_length kind) ≤ 249 }
+    ensures taken { result.taken ≡ alike_count zone.now.offset_minutes first.now others.now }
     ensures written { Writes start result.octets out.old out.new
-        (flat_map (object_octets zone.now.offset_minutes) (take result.taken observations.now)) }
-    ensures width { All (λ x. HasWidth x.value) (take result.taken observations.now) }
+        (flat_map (object_octets zone.now.offset_minutes) (take result.taken others.now)) }
+    ensures width { All (λ x. HasWidth x.value) (take result.taken others.now) }
 {
     let mut written = Written {
         octets: start,
         taken: 0,
     };
-    for observation in observations {
+    for observation in others {
+        if observation.common != first.common {
+            return written;
+        }
         if ElementKind::of(observation.value) != kind.element {
             return written;
         }
@@ -126,7 +130,7 @@ fn write_alike(
 }
 
 /// Writes the objects under SQ 0: of the first one, of this type with this time tag or none, and behind it of as many as
-/// are of its type and fit.
+/// are like it and fit.
 fn write_apart(
     first: &Observation,
     others: &[Observation],
@@ -144,7 +148,7 @@ fn write_apart(
 {
     let start = write_object(first, tag, HEADER_OCTETS, out);
     let fitting = front(others, room_apart(kind) - 1);
-    let behind = write_alike(fitting, kind, zone, start, out);
+    let behind = write_alike(first, fitting, kind, zone, start, out);
     Written {
         octets: behind.octets,
         taken: 1 + behind.taken,
@@ -177,7 +181,7 @@ fn write_in_sequence(first: &Observation, others: &[Observation], out: &mut [u8;
 }
 
 /// Writes the objects behind the header: under SQ 1 the first one and so many behind it, else under SQ 0 as many as are
-/// of this type, which is the first one's, and fit.
+/// like the first one, which is of this type, and fit.
 fn write_objects(
     first: &Observation,
     others: &[Observation],
@@ -208,7 +212,7 @@ fn write_objects(
     }
 }
 
-/// Writes the header before so many objects of a type.
+/// Writes the header before so many objects of a type and under a common address.
 fn write_header(
     kind: MonitorType,
     sequence: bool,
@@ -227,13 +231,12 @@ fn write_header(
     out[..HEADER_OCTETS].copy_from_slice(&[kind.identification(), qualifier, cause, 0, low, high]);
 }
 
-/// Writes the ASDU of as many observations from the front as it carries: of one type, with time where their
-/// stamps have a time tag, and without elsewhere; under SQ 1 where they stand at consecutive addresses and
-/// no fewer of them fit than under SQ 0, else under SQ 0; originator 0. `cause` is the whole octet of the
-/// cause of transmission, `zone` the offset of the station's clocks.
+/// Writes the ASDU of as many observations from the front as it carries: of one type and under one common
+/// address, with time where their stamps have a time tag, and without elsewhere; under SQ 1 where they stand
+/// at consecutive addresses and no fewer of them fit than under SQ 0, else under SQ 0; originator 0. `cause`
+/// is the whole octet of the cause of transmission, `zone` the offset of the station's clocks.
 pub fn write_monitor(
     observations: &[Observation],
-    common: u16,
     cause: u8,
     zone: &Zone,
     out: &mut [u8; 249],
@@ -247,13 +250,13 @@ pub fn write_monitor(
     ensures rest { drop result.octets out.new ≡ drop result.octets out.old }
     // Which octets are written, for observations that aren't fit too.
     ensures spelled { take result.octets out.new
-        ≡ packed_spelling zone.now.offset_minutes common cause observations.now }
-    // What is written means the observations that were taken.
+        ≡ packed_spelling zone.now.offset_minutes cause observations.now }
+    // What is written means the observations that were taken, and their common address.
     ensures meant { let offset = zone.now.offset_minutes in
         let written = take result.taken observations.now in
         All (IsFit offset) written
         → IsSomeAnd (asdu_meaning (monitor_types offset) (take result.octets out.new)) (λ asdu.
-        (asdu.cause ≡ cause) × (asdu.originator ≡ 0) × (asdu.common_address ≡ common)
+        (asdu.cause ≡ cause) × (asdu.originator ≡ 0) × All (λ x. x.common ≡ asdu.common_address) written
         × (asdu.observations ≡ written)) }
 {
     let first = &observations[0];
@@ -265,6 +268,13 @@ pub fn write_monitor(
     };
     let sequence = sequence_behind(first, others, kind, zone);
     let written = write_objects(first, others, tag, kind, sequence, zone, out);
-    write_header(kind, sequence.is_some(), written.taken, common, cause, out);
+    write_header(
+        kind,
+        sequence.is_some(),
+        written.taken,
+        first.common,
+        cause,
+        out,
+    );
     written
 }

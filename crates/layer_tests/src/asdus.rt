@@ -178,7 +178,7 @@ fn check_read(
 /// The observation is written as this ASDU.
 fn check_written(rt: &impl Abort, observation: Observation, asdu: &[u8]) {
     let mut out = [0xAA; 249];
-    let written = write_monitor(&[observation], 1, 3, &Zone::UTC, &mut out);
+    let written = write_monitor(&[observation], 3, &Zone::UTC, &mut out);
     assert_eq!(rt; written.taken, 1);
     assert_eq!(rt; out[..written.octets], *asdu);
 }
@@ -198,6 +198,7 @@ fn check_rows(
         for (bit, quality) in *bits {
             let asdu = asdu_of(rt.alloc(), *identification, 1, front, *last | *bit)?;
             let observation = Observation {
+                common: 1,
                 address: 200_704,
                 value: *value,
                 quality: *quality,
@@ -307,6 +308,7 @@ fn most_objects(rt: HostRuntime) -> Result<(), Fail> {
     for rows in [OBJECTS, TIMED_OBJECTS] {
         for (identification, front, last, value, stamp, _, _) in rows {
             let first = Observation {
+                common: 1,
                 address: 200_704,
                 value: *value,
                 quality: GOOD,
@@ -331,7 +333,7 @@ fn check_carried(
     if list.is_empty() {
         return Ok(Vec::new(rt.alloc()));
     }
-    let written = write_monitor(list, 1, 3, &Zone::UTC, &mut out);
+    let written = write_monitor(list, 3, &Zone::UTC, &mut out);
     let asdu = &out[..written.octets];
     let found = read(rt.alloc(), asdu)?;
     assert_eq!(rt; out[1], qualifier);
@@ -357,6 +359,7 @@ fn fullest(rt: HostRuntime) -> Result<(), Fail> {
     for rows in [OBJECTS, TIMED_OBJECTS] {
         for (identification, front, last, value, stamp, in_sequence, apart) in rows {
             let first = Observation {
+                common: 1,
                 address: 200_704,
                 value: *value,
                 quality: GOOD,
@@ -387,6 +390,7 @@ const PREFIXES: &[(u8, usize, u8)] = &[
 #[test]
 fn prefixes(rt: HostRuntime) -> Result<(), Fail> {
     let first = Observation {
+        common: 1,
         address: 200_704,
         value: Value::Single(true),
         quality: GOOD,

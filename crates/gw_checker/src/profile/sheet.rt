@@ -128,7 +128,7 @@ const FUNCTIONS: &str = "
 /// Writes the list with the values of settings.
 pub(crate) fn write_sheet<W: Write>(settings: &Settings, writer: &mut W) -> io::Result<()> {
     let (station, rows, controls) = (settings.station(), settings.rows(), settings.controls());
-    write_device(station.common_address, writer)?;
+    write_device(settings.known_addresses(), writer)?;
     write_point_types(rows, writer)?;
     write_command_types(controls, writer)?;
     write_functions(station.offset_minutes, writer)?;
@@ -137,13 +137,14 @@ pub(crate) fn write_sheet<W: Write>(settings: &Settings, writer: &mut W) -> io::
     write_network(station, writer)
 }
 
-/// Writes what the station is, and how it is addressed.
-fn write_device<W: Write>(common_address: u16, writer: &mut W) -> io::Result<()> {
+/// Writes what the station is, and by which common addresses it is addressed.
+fn write_device<W: Write>(known: &[u16], writer: &mut W) -> io::Result<()> {
     writer.write_all(DEVICE.as_bytes())?;
-    writeln!(
-        writer,
-        "[x] common address of ASDU: two octets: {common_address}"
-    )?;
+    writer.write_all(b"[x] common address of ASDU: two octets:")?;
+    for common_address in known {
+        write!(writer, " {common_address}")?;
+    }
+    writer.write_all(b"\n")?;
     writer.write_all(ADDRESSES.as_bytes())
 }
 

@@ -19,7 +19,7 @@ fn write_outstations<W: Write>(outstations: &[Outstation], writer: &mut W) -> io
     let count = outstations.len();
     writeln!(
         writer,
-        "\nOutstations (DNP3): {count}\noutstation  link address  connection"
+        "\nOutstations (DNP3): {count}\noutstation  link address  common address  connection"
     )?;
     for (position, outstation) in outstations.iter().enumerate() {
         write_outstation(position, outstation, writer)?;
@@ -32,9 +32,12 @@ fn write_outstation<W: Write>(
     outstation: &Outstation,
     writer: &mut W,
 ) -> io::Result<()> {
-    let address = outstation.address;
+    let (address, common_address) = (outstation.address, outstation.common_address);
     let connect = Plain(outstation.connect.as_str());
-    writeln!(writer, "{position:>10}  {address:>12}  {connect}")
+    writeln!(
+        writer,
+        "{position:>10}  {address:>12}  {common_address:>14}  {connect}"
+    )
 }
 
 fn write_points<W: Write>(rows: &[Row], writer: &mut W) -> io::Result<()> {

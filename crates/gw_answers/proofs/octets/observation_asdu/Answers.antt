@@ -7,4 +7,4 @@ pub returns : goal.returns
 returns c =
     c.pack.ensures.octets
     ∙ ap (λ (xs : List ℕ). slice_set xs 3 c.args.originator)
-    (packed_spelling_one c.args.zone.now.offset_minutes c.args.common c.args.cause c.args.observation.now)
+    (packed_spelling_one c.args.zone.now.offset_minutes c.args.cause c.args.observation.now)

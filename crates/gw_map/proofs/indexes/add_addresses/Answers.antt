@@ -1,37 +1,38 @@
 use Rattle.std.proofs.Common.{◌≡◌, true, false, sym, ap, ◌∙◌, arith}
 use Rattle.std.specs.List.{list_any}
-use Rattle.gw_map.specs.Sections.{same_number}
 use Rattle.gw_entries.proofs.First.{told}
 use Rattle.gw_map.proofs.Repeats.{rep-more, rep-found, rep-end, not-true, not-false, kept_more, kept_end}
 use Rattle.gw_entries.proofs.Told.{tells_first}
+use Rattle.gw_model.specs.Keys.{same_object}
+use Rattle.gw_map.specs.Settings.{row_object}
 use Rattle.gw_map.proofs.indexes.add_addresses.Goals as goal
 
 pub returns-then-not-branch : goal.returns-then-not-branch
 returns-then-not-branch c =
-    let before : list_any (same_number c.index-rows-position.result.address) c.loop-position.addresses.keys ≡ true =
+    let before : list_any (same_object (row_object c.index-rows-position.result)) c.loop-position.addresses.keys ≡ true =
     not-false _ (sym c.in_ok-insert.ensures.added ∙ c.if-not-branch.true) in
     tells_first c.double_address.result _ _ c.double_address.ensures
-    (told _ _ _ (rep-found same_number (λ row. row.address) c.args.addresses.now.keys c.args.rows.now
+    (told _ _ _ (rep-found same_object row_object c.args.addresses.now.keys c.args.rows.now
     c.loop-position.position c.index-rows-position.result (omega arith) c.loop-position.invariant.none
     (rw (← c.index-rows-position.is, ← c.loop-position.invariant.kept) before)))
 
 pub loop-position-preserved : goal.loop-position-preserved
 loop-position-preserved c =
-    let before : list_any (same_number c.index-rows-position.result.address) c.loop-position.addresses.keys ≡ false =
+    let before : list_any (same_object (row_object c.index-rows-position.result)) c.loop-position.addresses.keys ≡ false =
     not-true _ (sym c.in_ok-insert.ensures.added ∙ c.if-not-branch.false) in
     record {
-      none = rep-more same_number (λ row. row.address) c.args.addresses.now.keys c.args.rows.now
+      none = rep-more same_object row_object c.args.addresses.now.keys c.args.rows.now
           c.loop-position.position c.index-rows-position.result (omega arith) c.loop-position.invariant.none
           (rw (← c.index-rows-position.is, ← c.loop-position.invariant.kept) before);
-      kept = c.in_ok-insert.ensures.keys ∙ rw before (kept_more (λ row. row.address) c.args.addresses.now.keys
+      kept = c.in_ok-insert.ensures.keys ∙ rw before (kept_more row_object c.args.addresses.now.keys
           c.args.rows.now c.loop-position.position c.index-rows-position.result c.loop-position.addresses.keys
-          (omega arith) c.loop-position.invariant.kept (ap (λ row. row.address) c.index-rows-position.is));
+          (omega arith) c.loop-position.invariant.kept (ap row_object c.index-rows-position.is));
     }
 
 pub returns : goal.returns
 returns c = (
-  kept_end (λ row. row.address) c.args.addresses.now.keys c.args.rows.now c.loop-position.position
+  kept_end row_object c.args.addresses.now.keys c.args.rows.now c.loop-position.position
       c.loop-position.addresses.keys (omega arith) c.loop-position.invariant.kept,
-  rep-end same_number (λ row. row.address) c.args.addresses.now.keys c.args.rows.now c.loop-position.position
+  rep-end same_object row_object c.args.addresses.now.keys c.args.rows.now c.loop-position.position
       (omega arith) c.loop-position.invariant.none,
 )

@@ -1,12 +1,14 @@
 -- No address so far stood before, and each is kept.
 use Rattle.std.proofs.Common.{◌≡◌, ◌++◌, drop, take, map}
-use Rattle.gw_map.specs.Sections.{repeated, same_number}
+use Rattle.gw_model.specs.Keys.{same_object}
+use Rattle.gw_map.specs.Sections.{repeated}
+use Rattle.gw_map.specs.Settings.{row_object}
 use Rattle.gw_map.proofs.indexes.add_addresses.Given as goal
 
 abbrev pub invariant-loop-position : goal.invariant-loop-position
 invariant-loop-position l = record {
-  none : repeated same_number 0 l.initial.addresses.keys (map (λ row. row.address) l.rows)
-      ≡ repeated same_number l.position (l.initial.addresses.keys ++ map (λ row. row.address) (take l.position l.rows))
-      (map (λ row. row.address) (drop l.position l.rows));
-  kept : l.addresses.keys ≡ l.initial.addresses.keys ++ map (λ row. row.address) (take l.position l.rows);
+  none : repeated same_object 0 l.initial.addresses.keys (map row_object l.rows)
+      ≡ repeated same_object l.position (l.initial.addresses.keys ++ map row_object (take l.position l.rows))
+      (map row_object (drop l.position l.rows));
+  kept : l.addresses.keys ≡ l.initial.addresses.keys ++ map row_object (take l.position l.rows);
 }

@@ -9,7 +9,7 @@ pub returns-clause-asdu : goal.returns-clause-asdu
 returns-clause-asdu c =
     let station = c.args.settings.now.station in
     c.pack_slice.ensures.asdu
-    ∙ ap (λ (xs : List Observation). packed_octets station.offset_minutes station.common_address 3 0 xs)
+    ∙ ap (λ (xs : List Observation). packed_octets station.offset_minutes 3 0 xs)
     (over_seam c.args.count _ c.args.front.now c.args.back.now _ _ c.copy_from_slice.ensures.after
     c.copy_from_slice-2.ensures.after c.requires.over c.requires.within)
 

@@ -1,5 +1,4 @@
 use Rattle.std.proofs.Common.{◌≡◌, drop, arith}
-use Rattle.iec_asdu.specs.Types.{identification_by}
 use Rattle.iec_asdu.specs.Packing.{consecutive_count}
 use Rattle.iec_asdu.proofs.Counts.{nothing, consecutive_stops, consecutive_leaves, consecutive_goes_on, consecutive_none}
 use Rattle.iec_asdu.proofs.packing.count_behind.Goals as goal
@@ -8,16 +7,16 @@ use Rattle.iec_asdu.proofs.packing.count_behind.Goals.{then-from-expected-via-th
 pub returns-then-from-expected : goal.returns-then-from-expected
 returns-then-from-expected c =
     let offset = c.args.zone.now.offset_minutes in
-    let identification = identification_by c.args.kind.element c.args.kind.timed in
-    let xs = c.args.observations.now in
+    let first = c.args.first.now in
+    let xs = c.args.others.now in
     let i = c.loop-observation.observation-index in
-    let none : consecutive_count offset identification c.loop-observation.expected (drop i xs) ≡ 0 =
+    let none : consecutive_count offset first c.loop-observation.expected (drop i xs) ≡ 0 =
     elim c.then-from-expected.branch [
       | then-from-expected-via-then-from-expected w ↦
-          consecutive_leaves offset identification _ _ xs i nothing c.loop-observation-test.true c.from.ensures
+          consecutive_leaves offset first _ _ xs i nothing c.loop-observation-test.true c.from.ensures
           w.if-from-expected.true
       | then-from-expected-via-else-from-expected+then-not-is_alike w ↦
-          consecutive_stops offset identification _ _ xs i nothing c.loop-observation-test.true w.is_alike.ensures
+          consecutive_stops offset first _ _ xs i nothing c.loop-observation-test.true w.is_alike.ensures
           w.if-not-is_alike.true
     ] in
     omega arith
@@ -27,8 +26,8 @@ loop-observation-preserved c = record {
   place = omega arith;
   counted = omega (
     arith,
-    consecutive_goes_on c.args.zone.now.offset_minutes (identification_by c.args.kind.element c.args.kind.timed)
-        c.loop-observation.expected _ _ c.args.observations.now c.loop-observation.observation-index nothing
+    consecutive_goes_on c.args.zone.now.offset_minutes c.args.first.now c.loop-observation.expected _ _
+        c.args.others.now c.loop-observation.observation-index nothing
         c.loop-observation-test.true c.from.ensures c.if-from-expected.false c.is_alike.ensures
         c.if-not-is_alike.false,
   );
@@ -36,9 +35,8 @@ loop-observation-preserved c = record {
 
 pub returns : goal.returns
 returns c =
-    let identification = identification_by c.args.kind.element c.args.kind.timed in
     omega (
       arith,
-      consecutive_none c.args.zone.now.offset_minutes identification c.loop-observation.expected
-          c.args.observations.now c.loop-observation.observation-index (omega arith),
+      consecutive_none c.args.zone.now.offset_minutes c.args.first.now c.loop-observation.expected
+          c.args.others.now c.loop-observation.observation-index (omega arith),
     )

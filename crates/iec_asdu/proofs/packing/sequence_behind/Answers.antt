@@ -1,11 +1,10 @@
-use Rattle.std.proofs.Common.{◌≡◌, ◌≤◌, ◌+◌, ◌-◌, ◌∷◌, ◌==◌, ℕ, length, get_or, ap, sym, ◌∙◌, arith}
+use Rattle.std.proofs.Common.{◌≡◌, ◌≤◌, ◌+◌, ◌-◌, ◌∷◌, length, ap, sym, ◌∙◌, arith}
 use Rattle.std.proofs.lemmas.Bool.Decides.{nat_tests}
 use Rattle.std.proofs.lemmas.List.{length-take}
 use Rattle.iec_asdu.specs.declared.types.MonitorType.{MonitorType}
-use Rattle.iec_asdu.specs.Types.{identification_by, type_length}
-use Rattle.iec_asdu.specs.Spelling.{identification_at}
+use Rattle.iec_asdu.specs.Types.{type_length}
 use Rattle.iec_asdu.specs.Packing.{type_at, room_apart, apart_count}
-use Rattle.iec_asdu.proofs.Counts.{nothing, first_named, consecutive_within}
+use Rattle.iec_asdu.proofs.Counts.{nothing, consecutive_within}
 use Rattle.iec_asdu.proofs.Sequence.{they_go_on, timed_apart, alone_in_list, single_apart, more_apart, enough_in_sequence, apart_fills, apart_within, apart_ends, apart_goes_on}
 use Rattle.iec_asdu.proofs.packing.sequence_behind.Goals as goal
 use Rattle.iec_asdu.proofs.packing.sequence_behind.Goals.{Joined-else-behind-room_apart, then-kind-via-then-kind, then-kind-via-else-kind+then-is_empty, else-behind-room_apart-via-then-behind-room_apart+then-behind-others+else-is_alike, else-behind-room_apart-via-then-behind-room_apart+else-behind-others, else-behind-room_apart-via-else-behind-room_apart}
@@ -31,9 +30,8 @@ returns-then-behind-eq0-clause-sequence c =
 pub overflow_add-behind : goal.overflow_add-behind
 overflow_add-behind c =
     let few : c.count_behind-behind.result ≤ length c.front-fitting.result.now =
-    rw c.count_behind-behind.ensures (consecutive_within c.args.zone.now.offset_minutes
-    (identification_by c.args.kind.element c.args.kind.timed) (c.args.first.now.address + 1)
-    c.front-fitting.result.now) in
+    rw c.count_behind-behind.ensures (consecutive_within c.args.zone.now.offset_minutes c.args.first.now
+    (c.args.first.now.address + 1) c.front-fitting.result.now) in
     let front : length c.front-fitting.result.now ≤ c.room_in_sequence.result - 1 =
     rw c.front-fitting.ensures (omega (arith, length-take (c.room_in_sequence.result - 1) c.args.others.now)) in
     omega (arith, few, front, c.room_in_sequence.ensures.some, c.room_in_sequence.type_inv)
@@ -46,12 +44,9 @@ returns-then-is_alike-clause-sequence c =
     let go = they_go_on c.args.zone.now.offset_minutes c.args.first.now c.args.others.now _ c.args.kind _ _ c.requires
     c.if-kind.false c.room_in_sequence.ensures.exact c.room_in_sequence.ensures.some c.front-fitting.ensures
     c.count_behind-behind.ensures in
-    let alike = sym (c.is_alike.ensures ∙ ap (λ (n : ℕ). identification_at offset (get_or c.args.others.now
-    c.count_behind-behind.result nothing) == n) (first_named offset c.args.first.now c.args.kind c.requires))
-    ∙ c.if-is_alike.true in
     sym (more_apart offset c.args.first.now c.args.others.now c.count_behind-behind.result go
     (apart_goes_on offset c.args.first.now c.args.others.now c.count_behind-behind.result nothing go.alike
-    (omega (arith, room)) c.if-behind-others.true alike))
+    (omega (arith, room)) c.if-behind-others.true (sym c.is_alike.ensures ∙ c.if-is_alike.true)))
 
 -- SQ 0 carries no more
 enough : (c : Joined-else-behind-room_apart)
@@ -66,9 +61,7 @@ enough c =
     elim c.else-behind-room_apart.branch [
       | else-behind-room_apart-via-then-behind-room_apart+then-behind-others+else-is_alike w ↦
           apart_ends offset x xs c.count_behind-behind.result nothing w.if-behind-others.true
-          (sym (w.is_alike.ensures ∙ ap (λ (n : ℕ). identification_at offset (get_or xs
-          c.count_behind-behind.result nothing) == n) (first_named offset x c.args.kind c.requires))
-          ∙ w.if-is_alike.false)
+          (sym w.is_alike.ensures ∙ w.if-is_alike.false)
       | else-behind-room_apart-via-then-behind-room_apart+else-behind-others w ↦
           omega (arith, apart_within offset x xs, w.if-behind-others.false)
       | else-behind-room_apart-via-else-behind-room_apart w ↦

@@ -10,15 +10,16 @@ returns-in-Err c =
     let rest = c.loop.rest.now in
     let more : c.args.count - c.loop.counter ≡ suc (c.args.count - (c.loop.counter + 1)) = omega arith in
     let long : 3 ≤ length rest = omega (arith, c.split_at.ensures.front_len, c.split_at.ensures.back_len) in
-    let at = apart_object layout c.address_of.result c.octets.result rest c.split_at.result.0.now
+    let at = apart_object c.args.common layout c.address_of.result c.octets.result rest c.split_at.result.0.now
     c.split_at.result.1.now c.split_at-in-loop.result.0.now _ long
     c.split_at.ensures.front c.split_at.ensures.back c.octets.ensures.octets c.split_at-in-loop.ensures.front
     c.address_of.ensures.value c.in-Err.ensures in
     let progress = c.loop.invariant.progress in
     record {
-      read = told_of c.in-Err.fault (apart_fails layout _ _ rest progress.front c.in-Err.fault
-          (read_apart layout c.args.count c.args.objects.now) more at progress.read);
-      memory = λ m. absurd (object_fault _ layout c.split_at-in-loop.result.0.now c.in-Err.fault c.in-Err.ensures m);
+      read = told_of c.in-Err.fault (apart_fails c.args.common layout _ _ rest progress.front c.in-Err.fault
+          (read_apart c.args.common layout c.args.count c.args.objects.now) more at progress.read);
+      memory = λ m. absurd (object_fault c.args.common _ layout c.split_at-in-loop.result.0.now c.in-Err.fault
+          c.in-Err.ensures m);
     }
 
 pub loop-preserved : goal.loop-preserved
@@ -27,7 +28,7 @@ loop-preserved c =
     let rest = c.loop.rest.now in
     let more : c.args.count - c.loop.counter ≡ suc (c.args.count - (c.loop.counter + 1)) = omega arith in
     let long : 3 ≤ length rest = omega (arith, c.split_at.ensures.front_len, c.split_at.ensures.back_len) in
-    let at = apart_object layout c.address_of.result c.octets.result rest c.split_at.result.0.now
+    let at = apart_object c.args.common layout c.address_of.result c.octets.result rest c.split_at.result.0.now
     c.split_at.result.1.now c.split_at-in-loop.result.0.now _ long
     c.split_at.ensures.front c.split_at.ensures.back c.octets.ensures.octets c.split_at-in-loop.ensures.front
     c.address_of.ensures.value c.in-Ok.ensures in
@@ -42,7 +43,8 @@ loop-preserved c =
     let next = further c.loop.is_refused
     (c.loop.is_refused || c.is_err-is_refused.result) c.loop.found.items c.push.new.self.items c.in-Ok.observation _ _ _
     (λ front.
-    apart_goes_on layout _ _ rest front c.in-Ok.observation (read_apart layout c.args.count c.args.objects.now) more at)
+    apart_goes_on c.args.common layout _ _ rest front c.in-Ok.observation
+    (read_apart c.args.common layout c.args.count c.args.objects.now) more at)
     (λ none. let both = neither c.loop.is_refused c.is_err-is_refused.result none in (both.0, stored both.1))
     c.loop.invariant.progress in
     record { progress = rw after next; enough = omega (arith, enough, lens) }
@@ -51,17 +53,18 @@ pub returns-then-is_refused-clause-memory : goal.returns-then-is_refused-clause-
 returns-then-is_refused-clause-memory c =
     let layout = layout_at c.args.zone.now.offset_minutes c.args.kind in
     let progress = c.loop.invariant.progress in
-    let whole = read_apart layout c.args.count c.args.objects.now in
+    let whole = read_apart c.args.common layout c.args.count c.args.objects.now in
     λ m.
-    is_right whole progress.front (apart_done layout _ c.loop.rest.now progress.front whole (omega arith) progress.read)
+    is_right whole progress.front
+    (apart_done c.args.common layout _ c.loop.rest.now progress.front whole (omega arith) progress.read)
 
 pub returns-clause-read : goal.returns-clause-read
 returns-clause-read c =
     let layout = layout_at c.args.zone.now.offset_minutes c.args.kind in
     let progress = c.loop.invariant.progress in
-    let whole = read_apart layout c.args.count c.args.objects.now in
+    let whole = read_apart c.args.common layout c.args.count c.args.objects.now in
     all_stored whole progress.front c.loop.found.items
-    (apart_done layout _ c.loop.rest.now progress.front whole (omega arith) progress.read)
+    (apart_done c.args.common layout _ c.loop.rest.now progress.front whole (omega arith) progress.read)
     (progress.kept c.if-is_refused.false)
 
 pub split_at-requires : goal.split_at-requires

@@ -8,7 +8,7 @@ use Rattle.iec_asdu.proofs.reading.read_objects_apart.Given as goal
 abbrev pub invariant-loop : goal.invariant-loop
 invariant-loop l = record {
   progress : let layout = layout_at l.zone.offset_minutes l.kind in
-      Progress l.is_refused l.found.items (read_apart layout (l.count - l.counter) l.rest)
-      (read_apart layout l.count l.objects);
+      Progress l.is_refused l.found.items (read_apart l.common layout (l.count - l.counter) l.rest)
+      (read_apart l.common layout l.count l.objects);
   enough : (l.count - l.counter) * (3 + type_length l.kind) ≤ length l.rest;
 }

@@ -9,13 +9,15 @@ returns-in-Err c =
     let layout = layout_at c.args.zone.now.offset_minutes c.args.kind in
     let rest = c.loop-place.rest.now in
     let more : c.args.count - c.loop-place.place ≡ suc (c.args.count - (c.loop-place.place + 1)) = omega arith in
-    let at = sequence_object layout (c.args.first + c.loop-place.place) c.octets.result rest c.split_at.result.0.now _
-    c.octets.ensures.octets c.split_at.ensures.front (rw c.counted_on.ensures at c.in-Err.ensures) in
+    let at = sequence_object c.args.common layout (c.args.first + c.loop-place.place) c.octets.result rest
+    c.split_at.result.0.now _ c.octets.ensures.octets c.split_at.ensures.front (rw c.counted_on.ensures at c.in-Err.ensures) in
     let progress = c.loop-place.invariant.progress in
     record {
-      read = told_of c.in-Err.fault (sequence_fails layout _ _ (c.args.first + c.loop-place.place) rest progress.front
-          c.in-Err.fault (read_in_sequence layout c.args.count c.args.first c.args.objects.now) more at progress.read);
-      memory = λ m. absurd (object_fault _ layout c.split_at.result.0.now c.in-Err.fault c.in-Err.ensures m);
+      read = told_of c.in-Err.fault (sequence_fails c.args.common layout _ _ (c.args.first + c.loop-place.place) rest
+          progress.front c.in-Err.fault
+          (read_in_sequence c.args.common layout c.args.count c.args.first c.args.objects.now) more at progress.read);
+      memory = λ m. absurd (object_fault c.args.common _ layout c.split_at.result.0.now c.in-Err.fault
+          c.in-Err.ensures m);
     }
 
 pub loop-place-preserved : goal.loop-place-preserved
@@ -23,8 +25,8 @@ loop-place-preserved c =
     let layout = layout_at c.args.zone.now.offset_minutes c.args.kind in
     let rest = c.loop-place.rest.now in
     let more : c.args.count - c.loop-place.place ≡ suc (c.args.count - (c.loop-place.place + 1)) = omega arith in
-    let at = sequence_object layout (c.args.first + c.loop-place.place) c.octets.result rest c.split_at.result.0.now _
-    c.octets.ensures.octets c.split_at.ensures.front (rw c.counted_on.ensures at c.in-Ok.ensures) in
+    let at = sequence_object c.args.common layout (c.args.first + c.loop-place.place) c.octets.result rest
+    c.split_at.result.0.now _ c.octets.ensures.octets c.split_at.ensures.front (rw c.counted_on.ensures at c.in-Ok.ensures) in
     let stored : c.is_err-is_refused.result ≡ false
     → c.push.new.self.items ≡ c.loop-place.found.items ++ c.in-Ok.observation ∷ [] =
     λ e. search rules in
@@ -34,8 +36,8 @@ loop-place-preserved c =
     omega (arith, c.octets.ensures.octets, c.split_at.ensures.back_len) in
     let next = further c.loop-place.is_refused (c.loop-place.is_refused || c.is_err-is_refused.result)
     c.loop-place.found.items c.push.new.self.items c.in-Ok.observation _ _ _
-    (λ front. sequence_goes_on layout _ _ (c.args.first + c.loop-place.place) rest front c.in-Ok.observation
-    (read_in_sequence layout c.args.count c.args.first c.args.objects.now) more at)
+    (λ front. sequence_goes_on c.args.common layout _ _ (c.args.first + c.loop-place.place) rest front
+    c.in-Ok.observation (read_in_sequence c.args.common layout c.args.count c.args.first c.args.objects.now) more at)
     (λ none. let both = neither c.loop-place.is_refused c.is_err-is_refused.result none in (both.0, stored both.1))
     c.loop-place.invariant.progress in
     record {
@@ -47,17 +49,17 @@ pub returns-then-is_refused-clause-memory : goal.returns-then-is_refused-clause-
 returns-then-is_refused-clause-memory c =
     let layout = layout_at c.args.zone.now.offset_minutes c.args.kind in
     let progress = c.loop-place.invariant.progress in
-    let whole = read_in_sequence layout c.args.count c.args.first c.args.objects.now in
+    let whole = read_in_sequence c.args.common layout c.args.count c.args.first c.args.objects.now in
     λ m. is_right whole progress.front
-    (sequence_done layout _ _ c.loop-place.rest.now progress.front whole (omega arith) progress.read)
+    (sequence_done c.args.common layout _ _ c.loop-place.rest.now progress.front whole (omega arith) progress.read)
 
 pub returns-clause-read : goal.returns-clause-read
 returns-clause-read c =
     let layout = layout_at c.args.zone.now.offset_minutes c.args.kind in
     let progress = c.loop-place.invariant.progress in
-    let whole = read_in_sequence layout c.args.count c.args.first c.args.objects.now in
+    let whole = read_in_sequence c.args.common layout c.args.count c.args.first c.args.objects.now in
     all_stored whole progress.front c.loop-place.found.items
-    (sequence_done layout _ _ c.loop-place.rest.now progress.front whole (omega arith) progress.read)
+    (sequence_done c.args.common layout _ _ c.loop-place.rest.now progress.front whole (omega arith) progress.read)
     (progress.kept c.if-is_refused.false)
 
 pub split_at-requires : goal.split_at-requires

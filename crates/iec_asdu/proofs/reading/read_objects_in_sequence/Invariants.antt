@@ -8,7 +8,8 @@ use Rattle.iec_asdu.proofs.reading.read_objects_in_sequence.Given as goal
 abbrev pub invariant-loop-place : goal.invariant-loop-place
 invariant-loop-place l = record {
   progress : let layout = layout_at l.zone.offset_minutes l.kind in
-      Progress l.is_refused l.found.items (read_in_sequence layout (l.count - l.place) (l.first + l.place) l.rest)
-      (read_in_sequence layout l.count l.first l.objects);
+      Progress l.is_refused l.found.items
+      (read_in_sequence l.common layout (l.count - l.place) (l.first + l.place) l.rest)
+      (read_in_sequence l.common layout l.count l.first l.objects);
   enough : (l.count - l.place) * type_length l.kind ≤ length l.rest;
 }

@@ -1,4 +1,4 @@
-use Rattle.std.proofs.Common.{◌≡◌, ◌≢◌, ℤ, Bool, false, not, sym, ap, subst, ◌∙◌, refl, length, get_or, arith, is_some, Option, List, ℕ}
+use Rattle.std.proofs.Common.{◌≡◌, ◌≢◌, ℤ, Bool, false, not, sym, ap, subst, ◌∙◌, length, get_or, arith, is_some, Option, List, ℕ}
 use denote.Enum.Bare.{sameb}
 use mathlib.Core.Bool.{beq}
 use Rattle.iec_asdu.specs.contracts.types.ElementKind.{the_type}
@@ -9,42 +9,54 @@ use Rattle.gw_model.specs.declared.observation.Observation.{Observation}
 use Rattle.gw_time.specs.Spelling.{tag_of}
 use Rattle.iec_asdu.specs.declared.types.MonitorType.{MonitorType}
 use Rattle.iec_asdu.specs.Buffer.{Writes}
-use Rattle.iec_asdu.specs.Types.{identification_by, type_length}
-use Rattle.iec_asdu.specs.Spelling.{element_kind, identification_at, object_octets, object_octets_with}
+use Rattle.iec_asdu.specs.Types.{type_length}
+use Rattle.iec_asdu.specs.Spelling.{element_kind, object_octets, object_octets_with}
 use Rattle.iec_asdu.specs.Packing.{type_at}
 use Rattle.iec_asdu.proofs.Behind.{writes_both, flat_map_next}
 use Rattle.iec_asdu.proofs.Known.{typed_as, other_element, other_time, element_is, element_is_not, timed_is, timed_is_not}
 use Rattle.iec_asdu.proofs.Lengths.{object_long}
 use Rattle.iec_asdu.proofs.Carried.{room_more}
-use Rattle.iec_asdu.proofs.Counts.{nothing, first_named, alike_stops, alike_goes_on, alike_none}
+use Rattle.iec_asdu.proofs.Counts.{nothing, first_named, is_like, other_type, other_common, alike_stops, alike_goes_on, alike_none}
 use Rattle.iec_asdu.proofs.writing.write_alike.Goals as goal
+
+pub returns-then-observation-first-clause-taken : goal.returns-then-observation-first-clause-taken
+returns-then-observation-first-clause-taken c =
+    let offset = c.args.zone.now.offset_minutes in
+    let x : Observation = get_or c.args.others.now c.loop-observation.observation-index nothing in
+    omega (
+      arith,
+      alike_stops offset c.args.first.now c.args.others.now c.loop-observation.observation-index nothing
+          c.loop-observation-test.true (other_common offset c.args.first.now x c.if-observation-first.true),
+    )
 
 pub returns-then-ne-clause-taken : goal.returns-then-ne-clause-taken
 returns-then-ne-clause-taken c =
     let offset = c.args.zone.now.offset_minutes in
-    let x : Observation = get_or c.args.observations.now c.loop-observation.observation-index nothing in
+    let x : Observation = get_or c.args.others.now c.loop-observation.observation-index nothing in
+    let named = first_named offset c.args.first.now c.args.kind c.requires.kind in
     let other : element_kind x.value ≢ c.args.kind.element =
     λ e. element_is_not _ _ (sym c.ne.ensures ∙ c.if-ne.true) (c.of.ensures ∙ e) in
+    let unlike = other_element c.args.kind (element_kind x.value) (is_some (tag_of offset x.stamp)) other in
     omega (
       arith,
-      alike_stops offset (identification_by c.args.kind.element c.args.kind.timed) (identification_at offset x)
-          c.args.observations.now c.loop-observation.observation-index nothing c.loop-observation-test.true refl
-          (other_element c.args.kind (element_kind x.value) (is_some (tag_of offset x.stamp)) other),
+      alike_stops offset c.args.first.now c.args.others.now c.loop-observation.observation-index nothing
+          c.loop-observation-test.true (other_type offset c.args.first.now x (λ e. unlike (e ∙ sym named))),
     )
 
 pub returns-then-is_some-kind-clause-taken : goal.returns-then-is_some-kind-clause-taken
 returns-then-is_some-kind-clause-taken c =
     let offset = c.args.zone.now.offset_minutes in
-    let x : Observation = get_or c.args.observations.now c.loop-observation.observation-index nothing in
+    let x : Observation = get_or c.args.others.now c.loop-observation.observation-index nothing in
+    let named = first_named offset c.args.first.now c.args.kind c.requires.kind in
     let told : c.is_some.result ≡ is_some (tag_of offset x.stamp) =
     c.is_some.ensures ∙ ap (λ (t : Option (List ℕ)). is_some t) c.to_tag-tag.ensures.exact in
     let other : is_some (tag_of offset x.stamp) ≢ c.args.kind.timed =
     λ e. timed_is_not _ _ c.if-is_some-kind.true (told ∙ e) in
+    let unlike = other_time c.args.kind (element_kind x.value) (is_some (tag_of offset x.stamp)) other in
     omega (
       arith,
-      alike_stops offset (identification_by c.args.kind.element c.args.kind.timed) (identification_at offset x)
-          c.args.observations.now c.loop-observation.observation-index nothing c.loop-observation-test.true refl
-          (other_time c.args.kind (element_kind x.value) (is_some (tag_of offset x.stamp)) other),
+      alike_stops offset c.args.first.now c.args.others.now c.loop-observation.observation-index nothing
+          c.loop-observation-test.true (other_type offset c.args.first.now x (λ e. unlike (e ∙ sym named))),
     )
 
 -- what is neither of another element nor of another time is of the type
@@ -60,7 +72,7 @@ of_type offset x kind element differs timed tag is_element told is tagged is_tag
 
 pub write_object-requires : goal.write_object-requires
 write_object-requires c =
-    let x : Observation = get_or c.args.observations.now c.loop-observation.observation-index nothing in
+    let x : Observation = get_or c.args.others.now c.loop-observation.observation-index nothing in
     let kind = of_type c.args.zone.now.offset_minutes x c.args.kind _ _ _ _ c.of.ensures c.ne.ensures c.if-ne.false
     c.is_some.ensures c.to_tag-tag.ensures.exact c.if-is_some-kind.false in
     let long = object_long c.args.zone.now.offset_minutes x c.to_tag-tag.result c.args.kind c.to_tag-tag.ensures.exact
@@ -69,18 +81,20 @@ write_object-requires c =
       arith,
       long.0,
       c.loop-observation.invariant.ends,
-      room_more c.args.start c.loop-observation.observation-index (length c.args.observations.now)
-          (type_length c.args.kind) c.loop-observation-test.true c.requires,
+      room_more c.args.start c.loop-observation.observation-index (length c.args.others.now)
+          (type_length c.args.kind) c.loop-observation-test.true c.requires.room,
     )
 
 pub loop-observation-preserved : goal.loop-observation-preserved
 loop-observation-preserved c =
     let offset = c.args.zone.now.offset_minutes in
-    let xs = c.args.observations.now in
+    let xs = c.args.others.now in
     let i = c.loop-observation.observation-index in
     let x : Observation = get_or xs i nothing in
     let kind = of_type offset x c.args.kind _ _ _ _ c.of.ensures c.ne.ensures c.if-ne.false c.is_some.ensures
     c.to_tag-tag.ensures.exact c.if-is_some-kind.false in
+    let like = sym (first_named offset x c.args.kind kind)
+    ∙ first_named offset c.args.first.now c.args.kind c.requires.kind in
     let long = object_long offset x c.to_tag-tag.result c.args.kind c.to_tag-tag.ensures.exact kind in
     let object : Writes c.loop-observation.written.octets c.write_object.result c.loop-observation.out
     c.write_object.new.out (object_octets offset x) =
@@ -92,8 +106,8 @@ loop-observation-preserved c =
       ends = omega (arith, c.write_object.ensures.written.ends, c.loop-observation.invariant.ends, long.0);
       counted = omega (
         arith,
-        alike_goes_on offset (identification_by c.args.kind.element c.args.kind.timed) (identification_at offset x) xs i
-            nothing c.loop-observation-test.true refl (sym (first_named offset x c.args.kind kind)),
+        alike_goes_on offset c.args.first.now xs i nothing c.loop-observation-test.true
+            (is_like offset c.args.first.now x (like, c.if-observation-first.false)),
       );
       written = rw (flat_map_next (object_octets offset) xs i nothing c.loop-observation-test.true)
           (writes_both _ _ _ _ _ _ _ _ c.loop-observation.invariant.written object);
@@ -105,6 +119,6 @@ pub returns-clause-taken : goal.returns-clause-taken
 returns-clause-taken c =
     omega (
       arith,
-      alike_none c.args.zone.now.offset_minutes (identification_by c.args.kind.element c.args.kind.timed)
-          c.args.observations.now c.loop-observation.observation-index (omega arith),
+      alike_none c.args.zone.now.offset_minutes c.args.first.now c.args.others.now
+          c.loop-observation.observation-index (omega arith),
     )

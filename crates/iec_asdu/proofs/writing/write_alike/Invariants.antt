@@ -3,7 +3,7 @@ use Rattle.std.proofs.Common.{◌≡◌, ◌+◌, ◌*◌, take, drop}
 use Rattle.std.specs.Prelude.{All}
 use Rattle.std.specs.List.{flat_map}
 use Rattle.gw_model.specs.Fit.{HasWidth}
-use Rattle.iec_asdu.specs.Types.{identification_by, type_length}
+use Rattle.iec_asdu.specs.Types.{type_length}
 use Rattle.iec_asdu.specs.Spelling.{object_octets}
 use Rattle.iec_asdu.specs.Packing.{alike_count}
 use Rattle.iec_asdu.specs.Buffer.{Writes}
@@ -13,11 +13,10 @@ abbrev pub invariant-loop-observation : goal.invariant-loop-observation
 invariant-loop-observation l = record {
   place : l.written.taken ≡ l.observation-index;
   ends : l.written.octets ≡ l.start + l.observation-index * (3 + type_length l.kind);
-  counted : let identification = identification_by l.kind.element l.kind.timed in
-      let behind = drop l.observation-index l.observations in
-      l.observation-index + alike_count l.zone.offset_minutes identification behind
-      ≡ alike_count l.zone.offset_minutes identification l.observations;
-  written : let before = take l.observation-index l.observations in
+  counted : let behind = drop l.observation-index l.others in
+      l.observation-index + alike_count l.zone.offset_minutes l.first behind
+      ≡ alike_count l.zone.offset_minutes l.first l.others;
+  written : let before = take l.observation-index l.others in
       Writes l.start l.written.octets l.initial.out l.out (flat_map (object_octets l.zone.offset_minutes) before);
-  width : All (λ x. HasWidth x.value) (take l.observation-index l.observations);
+  width : All (λ x. HasWidth x.value) (take l.observation-index l.others);
 }

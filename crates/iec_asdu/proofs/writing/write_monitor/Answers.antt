@@ -65,14 +65,14 @@ returns-clause-rest c =
 
 spelled : (c : After-write_header)
     → take c.write_objects-written.result.octets c.write_header.new.out
-    ≡ packed_spelling c.args.zone.now.offset_minutes c.args.common c.args.cause c.args.observations.now
+    ≡ packed_spelling c.args.zone.now.offset_minutes c.args.cause c.args.observations.now
 spelled c =
     (writes_before _ _ _ _ _ _ _ (omega arith) c.write_objects-written.ensures.written c.write_header.ensures).front
-    ∙ packed_whole c.args.zone.now.offset_minutes c.args.common c.args.cause (first c) (others c) _ _ _ _ c.of.ensures
+    ∙ packed_whole c.args.zone.now.offset_minutes c.args.cause (first c) (others c) _ _ _ _ c.of.ensures
     (c.is_some.ensures ∙ ap (λ (t : Option (List ℕ)). is_some t) c.to_tag-tag.ensures.exact)
     (c.is_some-2.ensures ∙ c.sequence_behind-sequence.ensures.sequence) c.write_objects-written.ensures.taken
     ∙ ap (λ (xs : List Observation).
-    packed_spelling c.args.zone.now.offset_minutes c.args.common c.args.cause xs) (same c)
+    packed_spelling c.args.zone.now.offset_minutes c.args.cause xs) (same c)
 
 pub returns-clause-spelled : goal.returns-clause-spelled
 returns-clause-spelled c = spelled c
@@ -83,5 +83,5 @@ returns-clause-meant c =
     subst (λ (xs : List Observation). All (λ x. HasWidth x.value) (take c.write_objects-written.result.taken xs))
     (same c) (subst (λ (n : ℕ). All (λ x. HasWidth x.value) (take n (first c ∷ others c)))
     (sym c.write_objects-written.ensures.taken) c.write_objects-written.ensures.width) in
-    written_meant c.args.zone.now.offset_minutes c.args.common c.args.cause c.args.observations.now _ _ c.requires
-    (omega arith) (taken c) (spelled c) widths
+    written_meant c.args.zone.now.offset_minutes c.args.cause c.args.observations.now _ _ c.requires
+    (taken c) (spelled c) widths

@@ -10,7 +10,7 @@ use Rattle.gw_map.proofs.settings.Settings.row_of.Goals as goal
 pub returns-in_err-position : goal.returns-in_err-position
 returns-in_err-position c =
     let keys : keys_of c.self.inside.points.entries ≡ map (λ row. row.key) (values_of c.self.inside.points.entries) =
-    ap (λ es. keys_of es) c.self.invariant.keyed ∙ keys_kept (values_of c.self.inside.points.entries) in
+    ap (λ es. keys_of es) c.self.invariant.0.keyed ∙ keys_kept (values_of c.self.inside.points.entries) in
     let h : position_from (λ k. eq-value.it c.args.key.now k) 0
     (map (λ row. row.key) (values_of c.self.inside.points.entries)) ≡ None =
     rw (← keys) (position-from (λ k. eq-value.it c.args.key.now k)
@@ -22,7 +22,7 @@ returns-in_err-position c =
 pub returns : goal.returns
 returns c =
     let keys : keys_of c.self.inside.points.entries ≡ map (λ row. row.key) (values_of c.self.inside.points.entries) =
-    ap (λ es. keys_of es) c.self.invariant.keyed ∙ keys_kept (values_of c.self.inside.points.entries) in
+    ap (λ es. keys_of es) c.self.invariant.0.keyed ∙ keys_kept (values_of c.self.inside.points.entries) in
     let h : position_from (λ k. eq-value.it c.args.key.now k) 0
     (map (λ row. row.key) (values_of c.self.inside.points.entries)) ≡ Some c.in_ok-position.position =
     rw (← keys) (position-from (λ k. eq-value.it c.args.key.now k) (keys_of c.self.inside.points.entries)

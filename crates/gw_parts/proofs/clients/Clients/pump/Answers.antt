@@ -38,7 +38,7 @@ pub returns-clause-reply : goal.returns-clause-reply
 returns-clause-reply c =
     let station = c.args.settings.now.station in
     let k = seen c.self.inside.news c.in-Some.station.now in
-    let given_so = given station.offset_minutes station.common_address c.args.moment k in
+    let given_so = given station.offset_minutes c.args.moment k in
     let place = place_of c.self.inside.news c.from.result c.args.client _ _ c.in-Some.station.now c.from.ensures
     (ap (λ (k : Clients). k.each) c.self.view_is) c.in-Some.ensures.item.3.0 c.in-Some.ensures.value in
     let one : c.match-pump.result ≡ reply_giving given_so = elim c.match-pump.branch [

@@ -7,6 +7,5 @@ use Rattle.gw_station.proofs.rest.PartsLeft.is_pending.Goals as goal
 pub returns : goal.returns
 returns c =
     c.is_some.ensures
-    ∙ (sym (pending_of (λ answer. answer.command) (λ answer. arc_slice_items answer.rows) c.self.inside.done
-    c.self.inside.answer c.self.invariant)
+    ∙ (sym (pending_of arc_slice_items c.self.inside.section c.self.inside.done c.self.inside.answer c.self.invariant)
     ∙ ap is_pending c.self.view_is)

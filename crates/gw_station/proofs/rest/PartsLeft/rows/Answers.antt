@@ -1,13 +1,16 @@
-use Rattle.std.proofs.Common.{◌-◌, List, drop, ap, ◌∙◌}
+use Rattle.std.proofs.Common.{List, ap, ◌∙◌}
 use Rattle.std.specs.Arc.{arc_slice_items}
-use Rattle.gw_model.specs.declared.observation.Observation.{Observation}
+use Rattle.gw_answers.specs.declared.interrogation.AnswerSection.{AnswerSection}
+use Rattle.gw_station.specs.Kept.{rows_at}
 use Rattle.gw_station.proofs.Rests.{rows_of_answer}
 use Rattle.gw_station.proofs.rest.PartsLeft.rows.Goals as goal
 
 pub returns-in-Some : goal.returns-in-Some
 returns-in-Some c =
-    rows_of_answer (λ answer. answer.command) (λ answer. arc_slice_items answer.rows) c.self.inside.done
-    c.self.inside.answer c.in-Some.answer c.rows_behind.result.now c.args.self.now c.in-Some.is
-    (c.rows_behind.ensures
-    ∙ ap (λ (xs : List Observation). drop (c.self.inside.done - 1) xs) c.as_slice.ensures.value)
+    let section = c.self.inside.section in
+    let done = c.self.inside.done in
+    rows_of_answer arc_slice_items section done c.self.inside.answer c.in-Some.answer c.rows_left.result.now
+    c.args.self.now c.in-Some.is c.self.invariant
+    (c.rows_left.ensures
+    ∙ ap (λ (sections : List AnswerSection). rows_at section done sections) c.as_slice.ensures.value)
     c.self.view_is

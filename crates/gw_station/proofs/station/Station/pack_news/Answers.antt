@@ -22,9 +22,9 @@ pub returns-clause-asdu : goal.returns-clause-asdu
 returns-clause-asdu c =
     let station = c.args.settings.now.station in
     c.pack_news.ensures.asdu
-    ∙ (ap (λ (xs : List Observation). packed_octets station.offset_minutes station.common_address 3 0 xs) (front c)
+    ∙ (ap (λ (xs : List Observation). packed_octets station.offset_minutes 3 0 xs) (front c)
     ∙ ap (λ (octets : List ℕ). slice_set octets 3 0)
-    (packed_spelling_front station.offset_minutes station.common_address 3
+    (packed_spelling_front station.offset_minutes 3
     (news_next (seen c.args.news.now c.args.self.now))))
 
 pub returns-clause-taken : goal.returns-clause-taken

@@ -15,7 +15,7 @@ send_parts-requires-clause-first c =
 pub returns-in-News-clause-apdu : goal.returns-in-News-clause-apdu
 returns-in-News-clause-apdu c =
     c.send_news.ensures.apdu
-    ∙ ap buffer_of (news_content c.args.settings.now.station.offset_minutes c.args.settings.now.station.common_address
+    ∙ ap buffer_of (news_content c.args.settings.now.station.offset_minutes
     (seen c.args.news.now c.args.self.now) c.args.sending c.in-News.field-0 c.in-News.is c.requires.next)
 
 pub returns-in-News-clause-client : goal.returns-in-News-clause-client
@@ -28,7 +28,7 @@ pub returns-in-Part-clause-apdu : goal.returns-in-Part-clause-apdu
 returns-in-Part-clause-apdu c =
     c.send_parts.ensures.apdu
     ∙ ap buffer_of (part_content_is c.args.settings.now.station.offset_minutes
-    c.args.settings.now.station.common_address (seen c.args.news.now c.args.self.now) c.args.sending c.in-Part.part c.in-Part.is
+    (seen c.args.news.now c.args.self.now) c.args.sending c.in-Part.part c.in-Part.is
     c.requires.next)
 
 pub returns-in-Part-clause-client : goal.returns-in-Part-clause-client

@@ -1,5 +1,7 @@
-use Rattle.std.proofs.Common.{sym, ◌∙◌, rules}
-use Rattle.gw_station.proofs.Answered.{returnable_more}
+use Rattle.std.proofs.Common.{◌≡◌, sym, ◌∙◌, rules}
+use Rattle.gw_answers.specs.Interrogations.{answer_to, asked_addresses}
+use Rattle.gw_answers.specs.Sections.{parts_of}
+use Rattle.gw_station.proofs.Answered.{answer_joined, returnable_more}
 use Rattle.gw_station.proofs.station.Station.take_asdu.Goals as goal
 
 pub invariant_of-self-in-Some : goal.invariant_of-self-in-Some
@@ -9,3 +11,13 @@ invariant_of-self-in-Some c =
     c.args.judged.now c.in-Some.answer c.self.inside.answers.items c.push_back_reserved.new.self.items
     (sym c.requires.judged) (sym c.answered.ensures ∙ c.in-Some.is) c.push_back_reserved.ensures.items kept.4 in
     search (rules, returnable)
+
+pub returns-then-is_accepted_act-clause-client : goal.returns-then-is_accepted_act-clause-client
+returns-then-is_accepted_act-clause-client c =
+    let command = c.in-Accepted.command in
+    let picture = c.args.picture.now in
+    let asked = asked_addresses c.args.settings.now command.common_address in
+    let rest : c.in_ok-self-inside.field-0 ≡ answer_to asked command picture =
+    c.in_ok-self-inside.ensures
+    ∙ answer_joined asked command picture (parts_of c.in_ok-answer.answer.items) c.in_ok-answer.ensures in
+    search (rules, rest)

@@ -1,9 +1,10 @@
 use Rattle.std.proofs.Common.{sym, ap, subst, ◌∙◌}
+use Rattle.gw_map.specs.Settings.{known_addresses}
 use Rattle.gw_judge.specs.Judging.{judged}
 use Rattle.gw_station.specs.Client.{Client}
 use Rattle.gw_station.specs.Ring.{seen}
 use Rattle.gw_station.specs.Sound.{CanAnswer}
-use Rattle.gw_station.proofs.Answered.{judging_can}
+use Rattle.gw_station.proofs.Answered.{judging_can, short_within}
 use Rattle.gw_station.proofs.station.Station.take_information.Goals as goal
 
 pub returns-clause-sendable : goal.returns-clause-sendable
@@ -15,4 +16,4 @@ returns-clause-sendable c = λ offset shown can.
     let after = ap (seen c.args.news.now) c.self.view_is ∙ c.in_ok-take_asdu.ensures.client in
     subst (λ (d : Client). CanAnswer offset d) (sym after)
     (judging_can offset setup c.args.picture.now c.args.asdu.now j k so
-    c.judge-judged.ensures.whole shown can)
+    (short_within (known_addresses setup) c.known_addresses-known.ensures.within) c.judge-judged.ensures.whole shown can)
