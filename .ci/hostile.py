@@ -213,10 +213,12 @@ def random_request(rng):
 
 VALUES = ["0", "1", "-1", "65535", "65536", "9223372036854775807", "9223372036854775808", "1.0", "nan", "true", "false"]
 VALUES += ['""', '"single"', '"scaled"', '"binary"', '"direct"', '"\\u0000"', '"\\q"', "'a'", '"""a"""', "[]", "{}"]
+VALUES += ['"CET-1CEST,M3.5.0,M10.5.0/3"', '"<+03>-3"', '"CET-1CEST"', '"CET-1CEST,M3.6.0,M10.5.0/168"']
 VALUES += ["{a = 1}", "=", "\x00", "1979-05-27", "07:32:00", "0x1F", "0o7", "0b1", "1_0", "01", "+1", "1e3", "-0"]
 HEADS = ["[station]", "[[station]]", "[point]", "[[point]]", "[[control]]", "[[outstation]]", "[outstation.a]"]
 HEADS += ["[[other]]", "[", "[[point]", "[[]]", "[a.b.c]", "[station.k]"]
 LINES = ["floats = true", "k = 5", "w = 13", "t2_ms = 15000", "num = 1", "den = 32768", 'rest = "latch"', "a.b = 1", ""]
+LINES += ['rule = "EST5EDT,M3.2.0,M11.1.0"', 'rule = "x"', "rule = 1"]
 LINES += ["# a", " = 1", '"quoted key" = 1', '"" = 1', "k", "\t", "\x0c", "select = true", "address = 1", "index = 0"]
 
 

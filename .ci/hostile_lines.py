@@ -40,8 +40,8 @@ def text_of(lines):
 
 
 def told_of(setup, objects):
-    """The addresses of the points that the objects of a response tell of, in order, and whether each is an event: a
-    static value is told only where it differs."""
+    """The addresses of the points that the objects of a response of outstation 0 tell of, in order, and whether each is an
+    event: a static value is told only where it differs."""
     addresses = {it[1:3]: it[3] for it in setup.points if it[0] == 0}
     for key, indexes in objects:
         for index in indexes if key in KINDS else ():
@@ -72,7 +72,7 @@ class TranslateJudge:
         while self.lines and self.lines[0].startswith("asdu "):
             octets = octets_in(self.lines.popleft()[5:].encode()) or b"\0"
             is_right = octets[0] in ELEMENTS and len(octets) == 9 + ELEMENTS[octets[0]]
-            if not is_right or octets[1:6] != b"\1\3\0" + self.setup.common.to_bytes(2, "little"):
+            if not is_right or octets[1:6] != b"\1\3\0" + self.setup.commons[0].to_bytes(2, "little"):
                 raise Difference(f"an ASDU that isn't right: {spelled(octets)}")
             address = int.from_bytes(octets[6:9], "little")
             places = {it for place in places for it in self.places_behind(place, address)}
@@ -112,7 +112,9 @@ def setup_of(text):
     """What settings mean to lines."""
     top = tomllib.loads(text)
     station, points, controls = top["station"], top.get("point", []), top.get("control", [])
-    return Setup(text, station["common_address"], station.get("k", 12), len(top.get("outstation", [])),
+    outstations = top.get("outstation", [])
+    commons = [it.get("common_address", station["common_address"]) for it in outstations] or [station["common_address"]]
+    return Setup(text, commons, station.get("k", 12), len(outstations),
                  [tuple(it[key] for key in ("outstation", "kind", "index", "address")) for it in points],
                  [tuple(it[key] for key in ("outstation", "show", "address")) for it in controls], [])
 

@@ -28,13 +28,13 @@ def with_cause(asdu, cause, common=None):
 
 
 def key_of(asdu):
-    """What an answer is known by: of the answer to a read the originator and the address, else all of it."""
+    """What an answer is known by: of the answer to a read the originator and the addresses, else all of it."""
     is_read = asdu[0] in ELEMENTS and asdu[2] == REQUESTED and asdu[1] == 1
-    return (asdu[3], asdu[6:9]) if is_read else bytes(asdu)
+    return ("read", asdu[3:9]) if is_read else bytes(asdu)
 
 
 class Wanted:
-    """What an ASDU may be answered: keys, each with the key of what follows it; and whether it may take its time."""
+    """What an ASDU may be answered: keys, each with the keys of what follows it; and whether it may take its time."""
 
     def __init__(self, keys, session, is_late=False):
         self.keys, self.session, self.is_late = keys, session, is_late
@@ -49,17 +49,20 @@ class Owed:
     def answers(self, asdu):
         """The keys of the answers to an ASDU that was taken, and whether these may take their time."""
         answer, kind, cause = answer_to(asdu, self.setup), asdu[0], asdu[2]
-        common = self.setup.common.to_bytes(2, "little")
         if answer.cause:
-            return {with_cause(asdu, cause & 0x80 | 0x40 | answer.cause): None}, False
+            return {with_cause(asdu, cause & 0x80 | 0x40 | answer.cause): []}, False
         if kind == READ:
-            return {(asdu[3], asdu[6:9]): None}, False
-        negative, positive = (with_cause(asdu, (cause + 1) | bit, common) for bit in (0x40, 0))
+            return {("read", asdu[3:9]): []}, False
+        asked = [asdu[4:6]]
+        if asdu[4:6] == b"\xff\xff":
+            asked = [it.to_bytes(2, "little") for it in self.setup.known]
+        negative = {with_cause(asdu, (cause + 1) | 0x40, asked[0]): []}
         if kind in (STATION, TOTALS):
             is_right = cause == 6 and asdu[9] == RIGHT_QUALIFIERS[kind]
-            return {negative: None} | ({positive: with_cause(asdu, 10, common)} if is_right else {}), False
+            first, *others = [with_cause(asdu, it, common) for common in asked for it in (cause + 1, 10)]
+            return negative | ({first: others} if is_right else {}), False
         is_execute = cause == 6 and not asdu[-1] & 0x80
-        return {negative: None, positive: with_cause(asdu, 10) if is_execute else None}, is_execute
+        return negative | {with_cause(asdu, cause + 1): [with_cause(asdu, 10)] if is_execute else []}, is_execute
 
     def ask(self, asdu, session):
         keys, is_late = self.answers(asdu)
@@ -73,7 +76,8 @@ class Owed:
                 follows = wanted.keys[key]
                 del self.waiting[place]
                 if follows:
-                    self.waiting.insert(place, Wanted({follows: None}, wanted.session, wanted.is_late))
+                    next_key, *others = follows
+                    self.waiting.insert(place, Wanted({next_key: others}, wanted.session, wanted.is_late))
                 return
         raise Difference(f"an answer that nothing asked for: {spelled(asdu)}")
 

@@ -28,15 +28,21 @@ SHOWN = {
 
 @dataclass
 class Setup:
-    """Settings, and what lines have to know of them: points as outstation, kind, index and address, and periods."""
+    """Settings, and what lines have to know of them: the common address of each outstation, of a station without one its
+    own; points as outstation, kind, index and address, controls as outstation, show and address, and periods."""
 
     text: str
-    common: int
+    commons: list
     k: int
     outstations: int
     points: list
     controls: list
     periods: list
+
+    @property
+    def known(self):
+        """The common addresses that clients may use, in order."""
+        return list(dict.fromkeys(self.commons))
 
     def indexes(self, outstation, kind):
         return [it[2] for it in self.points if it[:2] == (outstation, kind)]
@@ -78,17 +84,18 @@ def random_station(rng, common, k):
     t2, t3 = rng.choice([1, t1 // 2, t1 * 2 // 3, t1 - 1]), rng.choice([30, 2000, 20000, 20000, 255000])
     keys = {"k": k, "w": rng.randint(1, min(k, 8)), "t1_ms": t1, "t2_ms": t2, "t3_ms": t3}
     keys |= {"queue": rng.choice([1, 2, 3, 10, 1000]), "offset_minutes": rng.choice([0, 0, 60, -300, 840, -840])}
+    keys |= {"rule": rng.choice([None, None, "CET-1CEST,M3.5.0,M10.5.0/3", "EST5EDT,M3.2.0,M11.1.0", "IST-1GMT0,M10.5.0,M3.5.0/1"])}
     select = rng.choice([1, 30, 10000, 10000, 600000])
     return table("[station]", common_address=common, **keys, select_ms=select), [t1, t2, t3, select]
 
 
-def random_outstation(rng, address):
+def random_outstation(rng, address, common=None):
     """The table of an outstation, and its periods."""
     poll, awaited = rng.choice([1, 100, 2000, 2000, 60000]), rng.choice([20, 1000, 5000, 5000])
     integrity = rng.choice([None, 0, 1, 3000, 600000])
     keys = {"poll_ms": poll, "integrity_ms": integrity, "response_ms": awaited}
     keys |= {"unsolicited": rng.choice([True, False]), "lan_time": rng.choice([True, False])}
-    return table("[[outstation]]", address=address, **keys), [poll, awaited, integrity or 1]
+    return table("[[outstation]]", address=address, **keys, common_address=common), [poll, awaited, integrity or 1]
 
 
 def random_points(rng, outstations):
@@ -102,19 +109,23 @@ def random_points(rng, outstations):
 
 def random_setup(rng):
     common, outstations = rng.choice([1, 1, 257, 65534]), rng.randint(1, 3)
-    addresses = iter(rng.sample([1, 255, 256, 65536, 16777215, *range(4101, 4101 + 60)], 60))
+    own = [rng.choice([None, None, None, 1, 2, 258, 65534]) for _ in range(outstations)]
+    commons = [it or common for it in own]
+    some = [1, 255, 256, 65536, 16777215, *range(4101, 4101 + 60)]
+    # Under each common address each object address stands once.
+    addresses = {it: iter(rng.sample(some, 60)) for it in commons}
     k = rng.choice([1, 2, 3, 8, 12, 12, 30])
     station, periods = random_station(rng, common, k)
     texts = [station]
     for number in range(outstations):
-        text, more = random_outstation(rng, number + 1)
+        text, more = random_outstation(rng, number + 1, own[number])
         texts.append(text)
         periods += more
-    points = [(*point, next(addresses)) for point in random_points(rng, outstations)]
-    shows = ["single", "double", "setpoint"]
-    controls = [(rng.randrange(outstations), it, next(addresses)) for it in shows for _ in range(rng.randrange(3))]
+    points = [(*point, next(addresses[commons[point[0]]])) for point in random_points(rng, outstations)]
+    places = [(rng.randrange(outstations), it) for it in ["single", "double", "setpoint"] for _ in range(rng.randrange(3))]
+    controls = [(*place, next(addresses[commons[place[0]]])) for place in places]
     texts += [random_point(rng, *it) for it in points] + [random_control(rng, *it) for it in controls]
-    return Setup("\n".join(texts), common, k, outstations, points, controls, periods)
+    return Setup("\n".join(texts), commons, k, outstations, points, controls, periods)
 
 
 # ---- objects of DNP3: group and variation, and how long they are
@@ -466,13 +477,13 @@ def random_information(rng, setup):
 def random_asdu(rng, setup):
     """An ASDU of a client. Some have a wrong count, cause, common address or length."""
     kind, cause, information = random_information(rng, setup)
-    count, common = 1, setup.common
+    count, common = 1, rng.choice(setup.known)
     if rng.random() < 0.1:
         cause = rng.choice([cause | 0x80, cause | 0x40, 3, 0, 63, rng.randrange(256)])
     elif kind != 102 and rng.random() < 0.15:
         cause = 8
     if rng.random() < 0.12:
-        common = rng.choice([65535, 65535, 0, setup.common + 1, rng.randrange(65536)])
+        common = rng.choice([65535, 65535, 0, common + 1, rng.randrange(65536)])
     if rng.random() < 0.01:
         count = rng.choice([0, 2, 0x81, 0x80, rng.randrange(256)])
     if rng.random() < 0.01:
@@ -513,13 +524,13 @@ def operations(rng, setup, client):
     """A control is mostly selected, and then executed; seldom it is deactivated, or something else is executed."""
     if not setup.controls:
         return
-    _, show, address = rng.choice(setup.controls)
+    outstation, show, address = rng.choice(setup.controls)
     element = permitted(rng, show)
     select = element[:-1] + bytes([element[-1] | 0x80])
     acts = [(6, select)] * (rng.random() < 0.8) + [(8, select)] * (rng.random() < 0.1)
     acts += [(6, element if rng.random() < 0.9 else permitted(rng, show))] * (rng.random() < 0.9)
     for number, (cause, octets) in enumerate(acts):
-        head = bytes([COMMANDS[show][0], 1, cause, 0]) + low_first(setup.common, 2) + low_first(address, 3)
+        head = bytes([COMMANDS[show][0], 1, cause, 0]) + low_first(setup.commons[outstation], 2) + low_first(address, 3)
         yield frame(client, i_format(client.sent + number, client.got, head + octets))
         if rng.random() < 0.5:
             yield "pump", client.number, None
@@ -560,9 +571,9 @@ def stop(rng, _setup, client):
 
 def flood(rng, setup, client):
     """More than waits for a client."""
-    common = low_first(setup.common, 2)
-    asdus = [bytes([102, 1, 5, 0]) + common + low_first(4101, 3)]
-    asdus += [bytes([45, 1, 6, 0]) + common + low_first(it[2], 3) + b"\x01" for it in setup.controls]
+    common = lambda outstation: low_first(setup.commons[outstation], 2)
+    asdus = [bytes([102, 1, 5, 0]) + common(0) + low_first(4101, 3)]
+    asdus += [bytes([45, 1, 6, 0]) + common(it[0]) + low_first(it[2], 3) + b"\x01" for it in setup.controls]
     asdu = rng.choice([None, *asdus])
     for number in range(rng.choice([31, 32, 33, 34])):
         yield frame(client, i_format(client.sent + number, client.got, asdu) if asdu else TESTFR)

@@ -270,13 +270,16 @@ class Answer:
         return not self.closes and not self.cause
 
 
-def object_cause(kind, address, setup):
-    """The cause with which an ASDU comes back for its object's address, if it does."""
+def object_cause(kind, common, address, setup):
+    """The cause with which an ASDU comes back for its object's addresses, if it does."""
     if kind in (STATION, TOTALS):
         return 47 if address else 0
+    place = common, address
     if kind == READ:
-        return 0 if any(it[1] != "counter" and it[3] == address for it in setup.points) else 47
-    return 0 if any(COMMANDS[it[1]][0] == kind and it[2] == address for it in setup.controls) else 47
+        points = [it for it in setup.points if it[1] != "counter"]
+        return 0 if any((setup.commons[it[0]], it[3]) == place for it in points) else 47
+    controls = [it for it in setup.controls if COMMANDS[it[1]][0] == kind]
+    return 0 if any((setup.commons[it[0]], it[2]) == place for it in controls) else 47
 
 
 def answer_to(asdu, setup):
@@ -291,6 +294,6 @@ def answer_to(asdu, setup):
     if asdu[2] not in causes:
         return Answer(cause=45)
     common = int.from_bytes(asdu[4:6], "little")
-    if common != setup.common and not (common == 65535 and asdu[0] in (STATION, TOTALS)):
+    if common not in setup.known and not (common == 65535 and asdu[0] in (STATION, TOTALS)):
         return Answer(cause=46)
-    return Answer(cause=object_cause(asdu[0], int.from_bytes(asdu[6:9], "little"), setup))
+    return Answer(cause=object_cause(asdu[0], common, int.from_bytes(asdu[6:9], "little"), setup))

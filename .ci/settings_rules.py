@@ -1,4 +1,5 @@
 """What `gateway check` has to say of a settings file, by the tables of docs/SETTINGS.md, apart from the gateway."""
+import re
 import tomllib
 
 from random_steps import SHOWN
@@ -7,6 +8,19 @@ LARGEST_FILE = 16_777_216
 ROWS, OUTSTATIONS = 20_000, 32
 SECTIONS = ("outstation", "point", "control")
 
+RULE_NAME = r"(?:[A-Za-z]{3,15}|<[A-Za-z0-9+-]{3,15}>)"
+CLOCK = r"(?::[0-5]\d(?::[0-5]\d)?)?"
+RULE_OFFSET = rf"[+-]?(?:2[0-4]|[01]?\d){CLOCK}"
+RULE_DAY = r"(?:J(?:[1-9]\d?|[12]\d\d|3[0-5]\d|36[0-5])|M(?:1[0-2]|0?[1-9])\.[1-5]\.[0-6]|\d\d?|[0-2]\d\d|3[0-5]\d|36[0-5])"
+RULE_MOMENT = rf"{RULE_DAY}(?:/[+-]?(?:0?\d?\d|1[0-5]\d|16[0-7]){CLOCK})?"
+RULE = re.compile(rf"{RULE_NAME}{RULE_OFFSET}(?:{RULE_NAME}(?:{RULE_OFFSET})?,{RULE_MOMENT},{RULE_MOMENT})?", re.ASCII)
+
+
+def is_rule(text):
+    """It is a rule of POSIX's TZ variable, with its days (RFC 9636, 3.3.2)."""
+    return RULE.fullmatch(text) is not None
+
+
 # What may stand at a key: a number from .. to, or up to or below that of another key; a flag; a text; a word; and the
 # position of an outstation. And what is meant where the key is left out, unless it is required.
 REQUIRED = object()
@@ -14,6 +28,7 @@ STATION = {
     "common_address": ((1, 65_534), REQUIRED),
     "master_address": ((0, 65_519), 1024),
     "offset_minutes": ((-840, 840), 0),
+    "rule": (is_rule, None),
     "k": ((1, 32_767), 12),
     "w": ((1, "k", 0), 8),
     "t1_ms": ((1, 255_000), 15_000),
@@ -77,9 +92,11 @@ def fault_of_value(allowed, value, table, outstations):
         return fault_of_number(allowed, value, table)
     if allowed == "position":
         return fault_of_number((0, outstations - 1), value, table)
-    wanted = str if isinstance(allowed, list) else allowed
+    wanted = str if isinstance(allowed, list) or allowed is is_rule else allowed
     if type(value) is not wanted:
         return "3 WrongType"
+    if allowed is is_rule:
+        return None if is_rule(value) else "4 OutOfRange"
     return "4 OutOfRange" if isinstance(allowed, list) and value not in allowed else None
 
 

@@ -167,7 +167,7 @@ class House:
         texts.append(table("[[point]]", outstation=0, kind="analog", index=9, address=WITNESSED, show="word"))
         texts.append(table("[[control]]", outstation=0, show="single", index=3, address=OPERATED))
         points.append((0, "analog", 9, WITNESSED))
-        return Setup("\n".join(texts), 1, k, 1 + OUTSTATIONS, points, controls, [])
+        return Setup("\n".join(texts), [1] * (1 + OUTSTATIONS), k, 1 + OUTSTATIONS, points, controls, [])
 
     @property
     def memory_bound(self):

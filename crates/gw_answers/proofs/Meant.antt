@@ -1,5 +1,5 @@
 -- What is written of an answer means what it was made of.
-use Rattle.std.proofs.Common.{◌≡◌, ℕ, zero, suc, ℤ, ◌+◌, ◌/◌, ◌%◌, ◌^◌, ◌<◌, ◌≤◌, Bool, true, false, List, [], ◌∷◌, length, take, Option, Some, None, Result, Ok, Err, refl, sym, ap, subst, ◌∙◌, arith}
+use Rattle.std.proofs.Common.{◌≡◌, ℕ, zero, suc, ◌+◌, ◌/◌, ◌%◌, ◌^◌, ◌<◌, ◌≤◌, Bool, true, false, List, [], ◌∷◌, length, take, Option, Some, None, Result, Ok, Err, refl, sym, ap, subst, ◌∙◌, arith}
 use Rattle.std.specs.Prelude.{◌*◌, All, option_map, slice_index, slice_set}
 use Rattle.std.specs.List.{AllByRecursion}
 use Rattle.std.proofs.lemmas.List.{length-set}
@@ -10,6 +10,7 @@ use Rattle.gw_model.specs.Optional.{◌>>=◌}
 use Rattle.gw_model.specs.Fit.{HasWidth, IsFit}
 use Rattle.gw_model.specs.First.{first_of}
 use Rattle.gw_model.specs.declared.observation.Observation.{Observation}
+use Rattle.gw_model.specs.Clocks.{Clocks}
 use Rattle.iec_asdu.specs.Types.{Layout}
 use Rattle.iec_asdu.specs.Asdu.{Asdu, asdu_meaning, monitor_types, layout_of, objects_of}
 use Rattle.iec_asdu.specs.Spelling.{spelling, list_spelling}
@@ -35,20 +36,20 @@ use Rattle.gw_answers.specs.Meaning.{Meant, Tells, Commands, meant_by, meaning_o
 -- ---- commands
 
 -- a command carries no process information
-tells_nothing : (offset : ℤ) (c : Command) (action : Action)
-    → asdu_meaning (monitor_types offset) (command_spelling (record c { action = action })) ≡ None
+tells_nothing : (clocks : Clocks) (c : Command) (action : Action)
+    → asdu_meaning (monitor_types clocks) (command_spelling (record c { action = action })) ≡ None
 unfolding asdu_meaning
-tells_nothing offset c (actions.Single x) = refl
-tells_nothing offset c (actions.Double x) = refl
-tells_nothing offset c (actions.Setpoint x) = refl
-tells_nothing offset c (actions.Interrogation qualifier) = refl
-tells_nothing offset c (actions.CounterInterrogation qualifier) = refl
-tells_nothing offset c actions.Read = refl
+tells_nothing clocks c (actions.Single x) = refl
+tells_nothing clocks c (actions.Double x) = refl
+tells_nothing clocks c (actions.Setpoint x) = refl
+tells_nothing clocks c (actions.Interrogation qualifier) = refl
+tells_nothing clocks c (actions.CounterInterrogation qualifier) = refl
+tells_nothing clocks c actions.Read = refl
 
-commands_mean : (offset : ℤ) (c : Command) → IsWhole c → meaning_of offset (command_spelling c) ≡ Commands c
-commands_mean offset c whole =
+commands_mean : (clocks : Clocks) (c : Command) → IsWhole c → meaning_of clocks (command_spelling c) ≡ Commands c
+commands_mean clocks c whole =
     let octets : List ℕ = command_spelling c in
-    ap (λ (m : Option Asdu). meant_by octets m (command_of octets)) (tells_nothing offset c c.action)
+    ap (λ (m : Option Asdu). meant_by octets m (command_of octets)) (tells_nothing clocks c c.action)
     ∙ ap (λ (r : Result Command CommandFault). meant_by octets None r) (command_of-spelling c whole)
 
 -- ---- observations
@@ -87,74 +88,74 @@ originator_apart types t v cause o (low ∷ high ∷ objects) = by_layout (layou
     by_layout None = refl
     by_layout (Some l) = by_objects (objects_of common l (is_set 7 v) (v % 128) objects)
 
-observations_mean : (offset : ℤ) (cause originator : ℕ) (x : Observation) → HasWidth x.value
-    → IsFit offset x
-    → meaning_of offset (slice_set (spelling offset cause x) 3 originator)
-    ≡ Tells (asdu_of offset cause originator x)
-observations_mean offset cause originator x width fit =
-    let octets : List ℕ = slice_set (spelling offset cause x) 3 originator in
+observations_mean : (clocks : Clocks) (cause originator : ℕ) (x : Observation) → HasWidth x.value
+    → IsFit clocks x
+    → meaning_of clocks (slice_set (spelling clocks cause x) 3 originator)
+    ≡ Tells (asdu_of clocks cause originator x)
+observations_mean clocks cause originator x width fit =
+    let octets : List ℕ = slice_set (spelling clocks cause x) 3 originator in
     ap (λ (m : Option Asdu). meant_by octets m (command_of octets))
-    (originator_apart (monitor_types offset) _ 1 cause originator _ ∙ ap
-    (option_map (λ (a : Asdu). record a { originator = originator })) (meant offset cause x width fit))
+    (originator_apart (monitor_types clocks) _ 1 cause originator _ ∙ ap
+    (option_map (λ (a : Asdu). record a { originator = originator })) (meant clocks cause x width fit))
 
 -- as many as one ASDU carries
-all_fit : (offset : ℤ) (xs : List Observation) → AllByRecursion (IsSendable offset) xs
-    → All (λ x. HasWidth x.value) xs × All (IsFit offset) xs
-all_fit offset [] all = (All-nil (λ x. HasWidth x.value), All-nil (IsFit offset))
-all_fit offset (x ∷ xs) all =
-    let more = all_fit offset xs all.1 in (
+all_fit : (clocks : Clocks) (xs : List Observation) → AllByRecursion (IsSendable clocks) xs
+    → All (λ x. HasWidth x.value) xs × All (IsFit clocks) xs
+all_fit clocks [] all = (All-nil (λ x. HasWidth x.value), All-nil (IsFit clocks))
+all_fit clocks (x ∷ xs) all =
+    let more = all_fit clocks xs all.1 in (
       All-cons (λ y. HasWidth y.value) x xs all.0.width more.0,
-      All-cons (IsFit offset) x xs all.0.fit more.1,
+      All-cons (IsFit clocks) x xs all.0.fit more.1,
     )
 
 -- a list that isn't empty has its header first
-originator_changed : (offset : ℤ) (sequence : Bool) (cause originator : ℕ) (x : Observation)
-    (xs : List Observation) → asdu_meaning (monitor_types offset)
-    (slice_set (list_spelling offset sequence cause (x ∷ xs)) 3 originator)
+originator_changed : (clocks : Clocks) (sequence : Bool) (cause originator : ℕ) (x : Observation)
+    (xs : List Observation) → asdu_meaning (monitor_types clocks)
+    (slice_set (list_spelling clocks sequence cause (x ∷ xs)) 3 originator)
     ≡ option_map (λ (a : Asdu). record a { originator = originator })
-    (asdu_meaning (monitor_types offset) (list_spelling offset sequence cause (x ∷ xs)))
+    (asdu_meaning (monitor_types clocks) (list_spelling clocks sequence cause (x ∷ xs)))
 unfolding list_spelling
-originator_changed offset sequence cause originator x xs =
-    originator_apart (monitor_types offset) _ _ cause originator _
+originator_changed clocks sequence cause originator x xs =
+    originator_apart (monitor_types clocks) _ _ cause originator _
 
-packed_changed : (offset : ℤ) (cause originator : ℕ) (x : Observation) (xs : List Observation)
-    → asdu_meaning (monitor_types offset) (packed_octets offset cause originator (x ∷ xs))
+packed_changed : (clocks : Clocks) (cause originator : ℕ) (x : Observation) (xs : List Observation)
+    → asdu_meaning (monitor_types clocks) (packed_octets clocks cause originator (x ∷ xs))
     ≡ option_map (λ (a : Asdu). record a { originator = originator })
-    (asdu_meaning (monitor_types offset) (packed_spelling offset cause (x ∷ xs)))
+    (asdu_meaning (monitor_types clocks) (packed_spelling clocks cause (x ∷ xs)))
 unfolding packed_spelling
-packed_changed offset cause originator x xs =
-    go (taken_of offset (x ∷ xs)) (taken_of_some offset (x ∷ xs) (omega arith))
+packed_changed clocks cause originator x xs =
+    go (taken_of clocks (x ∷ xs)) (taken_of_some clocks (x ∷ xs) (omega arith))
   where
     sequence : Bool
-    sequence = is_in_sequence offset (x ∷ xs)
+    sequence = is_in_sequence clocks (x ∷ xs)
 
-    go : (n : ℕ) → 0 < n → asdu_meaning (monitor_types offset)
-        (slice_set (list_spelling offset sequence cause (take n (x ∷ xs))) 3 originator)
+    go : (n : ℕ) → 0 < n → asdu_meaning (monitor_types clocks)
+        (slice_set (list_spelling clocks sequence cause (take n (x ∷ xs))) 3 originator)
         ≡ option_map (λ (a : Asdu). record a { originator = originator })
-        (asdu_meaning (monitor_types offset) (list_spelling offset sequence cause (take n (x ∷ xs))))
+        (asdu_meaning (monitor_types clocks) (list_spelling clocks sequence cause (take n (x ∷ xs))))
     go zero some = absurd (omega arith)
-    go (suc n) some = originator_changed offset sequence cause originator x (take n xs)
+    go (suc n) some = originator_changed clocks sequence cause originator x (take n xs)
 
-pub packed_mean : (offset : ℤ) (cause originator : ℕ) (x : Observation) (xs : List Observation)
-    → AllByRecursion (IsSendable offset) (take (taken_of offset (x ∷ xs)) (x ∷ xs))
-    → meaning_of offset (packed_octets offset cause originator (x ∷ xs))
-    ≡ Tells (packed_asdu offset cause originator x xs)
-packed_mean offset cause originator x xs all =
-    let octets : List ℕ = packed_octets offset cause originator (x ∷ xs) in
-    let fit = all_fit offset (take (taken_of offset (x ∷ xs)) (x ∷ xs)) all in
+pub packed_mean : (clocks : Clocks) (cause originator : ℕ) (x : Observation) (xs : List Observation)
+    → AllByRecursion (IsSendable clocks) (take (taken_of clocks (x ∷ xs)) (x ∷ xs))
+    → meaning_of clocks (packed_octets clocks cause originator (x ∷ xs))
+    ≡ Tells (packed_asdu clocks cause originator x xs)
+packed_mean clocks cause originator x xs all =
+    let octets : List ℕ = packed_octets clocks cause originator (x ∷ xs) in
+    let fit = all_fit clocks (take (taken_of clocks (x ∷ xs)) (x ∷ xs)) all in
     ap (λ (m : Option Asdu). meant_by octets m (command_of octets))
-    (packed_changed offset cause originator x xs
+    (packed_changed clocks cause originator x xs
     ∙ ap (option_map (λ (a : Asdu). record a { originator = originator }))
-    (packed_is_meant offset cause x xs fit.0 fit.1))
+    (packed_is_meant clocks cause x xs fit.0 fit.1))
 
 -- no more octets than an ASDU may have
-pub packed_octets_short : (offset : ℤ) (cause originator : ℕ) (xs : List Observation)
-    → length (packed_octets offset cause originator xs) ≤ 249
-packed_octets_short offset cause originator xs =
+pub packed_octets_short : (clocks : Clocks) (cause originator : ℕ) (xs : List Observation)
+    → length (packed_octets clocks cause originator xs) ≤ 249
+packed_octets_short clocks cause originator xs =
     omega (
       arith,
-      length-set (packed_spelling offset cause xs) 3 originator,
-      packed_short offset cause xs,
+      length-set (packed_spelling clocks cause xs) 3 originator,
+      packed_short clocks cause xs,
     )
 
 -- ---- what comes back
@@ -205,9 +206,9 @@ cause_has cause false few =
     (omega (arith, few), eq-eqb (cause_octet cause true false / 2 ^ 6 % 2) 1 (omega (arith, few)))
 
 -- what octets with such a cause mean has it
-refused_octets : (offset : ℤ) (cause t v new : ℕ) (rest : List ℕ) → HasCause cause new
-    → IsRefusedWith cause (meaning_of offset (t ∷ v ∷ new ∷ rest))
-refused_octets offset cause t v new rest has = by_asdu (asdu_meaning (monitor_types offset) back) refl
+refused_octets : (clocks : Clocks) (cause t v new : ℕ) (rest : List ℕ) → HasCause cause new
+    → IsRefusedWith cause (meaning_of clocks (t ∷ v ∷ new ∷ rest))
+refused_octets clocks cause t v new rest has = by_asdu (asdu_meaning (monitor_types clocks) back) refl
   where
     back : List ℕ
     back = t ∷ v ∷ new ∷ rest
@@ -217,23 +218,23 @@ refused_octets offset cause t v new rest has = by_asdu (asdu_meaning (monitor_ty
         (ap (λ (d : Command). d.cause) is ∙ has.0, ap (λ (d : Command). d.negative) is ∙ has.1)
     by_command (Err fault) e = has
 
-    by_asdu : (m : Option Asdu) → asdu_meaning (monitor_types offset) back ≡ m
+    by_asdu : (m : Option Asdu) → asdu_meaning (monitor_types clocks) back ≡ m
         → IsRefusedWith cause (meant_by back m (command_of back))
-    by_asdu (Some a) e = subst (HasCause cause) (sym (cause_told (monitor_types offset) t v new rest a e)) has
+    by_asdu (Some a) e = subst (HasCause cause) (sym (cause_told (monitor_types clocks) t v new rest a e)) has
     by_asdu None e = by_command (command_of back) refl
 
-pub refused_with : (offset : ℤ) (cause : ℕ) (came : List ℕ) (meant : Meant) → 6 ≤ length came
-    → ComesBack offset cause came meant → IsRefusedWith cause meant
-refused_with offset cause [] meant long h = absurd (omega (arith, long))
-refused_with offset cause (t ∷ []) meant long h = absurd (omega (arith, long))
-refused_with offset cause (t ∷ v ∷ []) meant long h = absurd (omega (arith, long))
-refused_with offset cause (t ∷ v ∷ old ∷ rest) meant long h =
-    subst (IsRefusedWith cause) (sym (h.means ∙ ap (meaning_of offset) h.sent.same))
-    (refused_octets offset cause t v h.sent.octet rest (h.sent.has_cause, h.sent.negative))
+pub refused_with : (clocks : Clocks) (cause : ℕ) (came : List ℕ) (meant : Meant) → 6 ≤ length came
+    → ComesBack clocks cause came meant → IsRefusedWith cause meant
+refused_with clocks cause [] meant long h = absurd (omega (arith, long))
+refused_with clocks cause (t ∷ []) meant long h = absurd (omega (arith, long))
+refused_with clocks cause (t ∷ v ∷ []) meant long h = absurd (omega (arith, long))
+refused_with clocks cause (t ∷ v ∷ old ∷ rest) meant long h =
+    subst (IsRefusedWith cause) (sym (h.means ∙ ap (meaning_of clocks) h.sent.same))
+    (refused_octets clocks cause t v h.sent.octet rest (h.sent.has_cause, h.sent.negative))
 
-comes_back : (offset : ℤ) (cause : ℕ) (came : List ℕ) → cause < 64
-    → ComesBack offset cause came (meaning_of offset (mirrored cause true came))
-comes_back offset cause came few =
+comes_back : (clocks : Clocks) (cause : ℕ) (came : List ℕ) → cause < 64
+    → ComesBack clocks cause came (meaning_of clocks (mirrored cause true came))
+comes_back clocks cause came few =
     let test : Bool = is_set 7 (slice_index came 2) in
     let has = cause_has cause test few in
     record {
@@ -251,13 +252,13 @@ comes_back offset cause came few =
 -- ---- a command comes back as it came
 
 -- its type is that of no process information
-no_layout : (offset : ℤ) (t : ℕ) (action : Action) → t ≡ type_of action → layout_of t (monitor_types offset) ≡ None
-no_layout offset t (actions.Single x) e = ap (λ (n : ℕ). layout_of n (monitor_types offset)) e
-no_layout offset t (actions.Double x) e = ap (λ (n : ℕ). layout_of n (monitor_types offset)) e
-no_layout offset t (actions.Setpoint x) e = ap (λ (n : ℕ). layout_of n (monitor_types offset)) e
-no_layout offset t (actions.Interrogation qualifier) e = ap (λ (n : ℕ). layout_of n (monitor_types offset)) e
-no_layout offset t (actions.CounterInterrogation qualifier) e = ap (λ (n : ℕ). layout_of n (monitor_types offset)) e
-no_layout offset t actions.Read e = ap (λ (n : ℕ). layout_of n (monitor_types offset)) e
+no_layout : (clocks : Clocks) (t : ℕ) (action : Action) → t ≡ type_of action → layout_of t (monitor_types clocks) ≡ None
+no_layout clocks t (actions.Single x) e = ap (λ (n : ℕ). layout_of n (monitor_types clocks)) e
+no_layout clocks t (actions.Double x) e = ap (λ (n : ℕ). layout_of n (monitor_types clocks)) e
+no_layout clocks t (actions.Setpoint x) e = ap (λ (n : ℕ). layout_of n (monitor_types clocks)) e
+no_layout clocks t (actions.Interrogation qualifier) e = ap (λ (n : ℕ). layout_of n (monitor_types clocks)) e
+no_layout clocks t (actions.CounterInterrogation qualifier) e = ap (λ (n : ℕ). layout_of n (monitor_types clocks)) e
+no_layout clocks t actions.Read e = ap (λ (n : ℕ). layout_of n (monitor_types clocks)) e
 
 no_information : (types : List Layout) (t v cause : ℕ) (rest : List ℕ) → layout_of t types ≡ None
     → asdu_meaning types (t ∷ v ∷ cause ∷ rest) ≡ None
@@ -292,20 +293,20 @@ long_enough octets c short e = err_not (sym e ∙ cut_short octets (lt-ltb (leng
     err_not : {fault : CommandFault} → Ok c ≡ Err fault → ⊥
     err_not e = cc
 
-pub command_back : (offset : ℤ) (cause : ℕ) (came back : List ℕ) (c : Command) → command_of came ≡ Ok c
-    → IsSentBack cause came back → meaning_of offset back ≡ Commands (record c { cause = cause; negative = true })
-command_back offset cause [] back c e sent = absurd (long_enough [] c (omega arith) e)
-command_back offset cause (t ∷ []) back c e sent = absurd (long_enough (t ∷ []) c (omega arith) e)
-command_back offset cause (t ∷ v ∷ []) back c e sent = absurd (long_enough (t ∷ v ∷ []) c (omega arith) e)
-command_back offset cause (t ∷ v ∷ old ∷ rest) back c e sent =
+pub command_back : (clocks : Clocks) (cause : ℕ) (came back : List ℕ) (c : Command) → command_of came ≡ Ok c
+    → IsSentBack cause came back → meaning_of clocks back ≡ Commands (record c { cause = cause; negative = true })
+command_back clocks cause [] back c e sent = absurd (long_enough [] c (omega arith) e)
+command_back clocks cause (t ∷ []) back c e sent = absurd (long_enough (t ∷ []) c (omega arith) e)
+command_back clocks cause (t ∷ v ∷ []) back c e sent = absurd (long_enough (t ∷ v ∷ []) c (omega arith) e)
+command_back clocks cause (t ∷ v ∷ old ∷ rest) back c e sent =
     let octets : List ℕ = t ∷ v ∷ sent.octet ∷ rest in
     let known = spelled_type (t ∷ v ∷ old ∷ rest) c e in
     let same : record c { cause = sent.octet % 64; negative = is_set 6 sent.octet; test = is_set 7 sent.octet }
     ≡ record c { cause = cause; negative = true } =
     λ i. record c { cause = sent.has_cause i; negative = sent.negative i; test = (sent.test ∙ test_told old e) i } in
-    ap (meaning_of offset) sent.same
+    ap (meaning_of clocks) sent.same
     ∙ (ap (λ (m : Option Asdu). meant_by octets m (command_of octets))
-    (no_information (monitor_types offset) t v sent.octet rest (no_layout offset t known.0 known.1))
+    (no_information (monitor_types clocks) t v sent.octet rest (no_layout clocks t known.0 known.1))
     ∙ (ap (λ (r : Result Command CommandFault). meant_by octets None r) (third_octet t v old sent.octet rest c e)
     ∙ ap (λ (d : Command). Commands d) same))
   where
@@ -314,18 +315,18 @@ command_back offset cause (t ∷ v ∷ old ∷ rest) back c e sent =
 
 -- ---- what goes out
 
-pub outgoing_means : (offset : ℤ) (x : OwnAsdu) → CanSendOutgoing offset x
-    → meaning_of offset (outgoing_octets offset x) ≡ meant_outgoing offset x
-outgoing_means offset (outgoing.Command c) can =
-    commands_mean offset c can.1
-outgoing_means offset (outgoing.Observation cause originator x) can =
-    observations_mean offset cause originator x can.width can.fit
+pub outgoing_means : (clocks : Clocks) (x : OwnAsdu) → CanSendOutgoing clocks x
+    → meaning_of clocks (outgoing_octets clocks x) ≡ meant_outgoing clocks x
+outgoing_means clocks (outgoing.Command c) can =
+    commands_mean clocks c can.1
+outgoing_means clocks (outgoing.Observation cause originator x) can =
+    observations_mean clocks cause originator x can.width can.fit
 
-pub answer_means : (offset : ℤ) (answer : AsduAnswer) → CanSendAnswer offset answer
-    → Means offset answer (meaning_of offset (answer_octets offset answer))
-answer_means offset (Returned asdu cause) can =
-    comes_back offset cause (octets_in asdu) (omega (arith, can.2))
-answer_means offset (Made (outgoing.Command c)) can =
-    outgoing_means offset (outgoing.Command c) can
-answer_means offset (Made (outgoing.Observation cause originator x)) can =
-    outgoing_means offset (outgoing.Observation cause originator x) can.1
+pub answer_means : (clocks : Clocks) (answer : AsduAnswer) → CanSendAnswer clocks answer
+    → Means clocks answer (meaning_of clocks (answer_octets clocks answer))
+answer_means clocks (Returned asdu cause) can =
+    comes_back clocks cause (octets_in asdu) (omega (arith, can.2))
+answer_means clocks (Made (outgoing.Command c)) can =
+    outgoing_means clocks (outgoing.Command c) can
+answer_means clocks (Made (outgoing.Observation cause originator x)) can =
+    outgoing_means clocks (outgoing.Observation cause originator x) can.1

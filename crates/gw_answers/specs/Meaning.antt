@@ -1,9 +1,10 @@
 -- What an ASDU means, whether it carries process information or a command.
-use Rattle.std.specs.Prelude.{◌≡◌, ◌<◌, ℕ, ℤ, ◌%◌, Bool, true, ◌==◌, ◌||◌, IsTrue, List, [], ◌∷◌, Option, Some, None, Result, Ok, Err, is_some, slice_index, slice_set, take}
+use Rattle.std.specs.Prelude.{◌≡◌, ◌<◌, ℕ, ◌%◌, Bool, true, ◌==◌, ◌||◌, IsTrue, List, [], ◌∷◌, Option, Some, None, Result, Ok, Err, is_some, slice_index, slice_set, take}
 use Rattle.std.specs.List.{AllByRecursion}
 use Rattle.gw_model.specs.Bits.{is_set}
 use Rattle.gw_model.specs.Fit.{HasWidth, IsFit}
 use Rattle.gw_model.specs.declared.observation.Observation.{Observation}
+use Rattle.gw_model.specs.Clocks.{Clocks}
 use Rattle.gw_map.specs.Settings.{Setup, known_addresses}
 use Rattle.gw_time.specs.Spelling.{tag_of}
 use Rattle.iec_asdu.specs.Asdu.{Asdu, asdu_meaning, monitor_types}
@@ -31,14 +32,14 @@ meant_by octets (Some asdu) command = Tells asdu
 meant_by octets None (Ok command) = Commands command
 meant_by octets None (Err fault) = Unread octets
 
--- octets mean this, where clocks are offset minutes ahead of UTC
-abbrev pub meaning_of : ℤ → List ℕ → Meant
-meaning_of offset octets = meant_by octets (asdu_meaning (monitor_types offset) octets) (command_of octets)
+-- octets mean this, by the clocks of the station
+abbrev pub meaning_of : Clocks → List ℕ → Meant
+meaning_of clocks octets = meant_by octets (asdu_meaning (monitor_types clocks) octets) (command_of octets)
 
 -- the ASDU of one observation
-abbrev pub asdu_of : ℤ → ℕ → ℕ → Observation → Asdu
-asdu_of offset cause originator x = record {
-  identification = type_of x.value (is_some (tag_of offset x.stamp));
+abbrev pub asdu_of : Clocks → ℕ → ℕ → Observation → Asdu
+asdu_of clocks cause originator x = record {
+  identification = type_of x.value (is_some (tag_of clocks x.stamp));
   cause = cause;
   originator = originator;
   common_address = x.common;
@@ -46,9 +47,9 @@ asdu_of offset cause originator x = record {
 }
 
 -- the ASDU of as many observations from the front of a list as one carries, of which this is the first
-abbrev pub packed_asdu : ℤ → ℕ → ℕ → Observation → List Observation → Asdu
-packed_asdu offset cause originator x xs = record (asdu_of offset cause originator x) {
-  observations = take (taken_of offset (x ∷ xs)) (x ∷ xs);
+abbrev pub packed_asdu : Clocks → ℕ → ℕ → Observation → List Observation → Asdu
+packed_asdu clocks cause originator x xs = record (asdu_of clocks cause originator x) {
+  observations = take (taken_of clocks (x ∷ xs)) (x ∷ xs);
 }
 
 -- what comes back is what came but for its third octet: the cause is this, P/N is set, and T is as it came
@@ -60,10 +61,10 @@ pub record IsSentBack (cause : ℕ) (came back : List ℕ) : Type 0 where
   pub test : is_set 7 octet ≡ is_set 7 (slice_index came 2)
 
 -- such octets mean this
-pub record ComesBack (offset : ℤ) (cause : ℕ) (came : List ℕ) (meant : Meant) : Type 0 where
+pub record ComesBack (clocks : Clocks) (cause : ℕ) (came : List ℕ) (meant : Meant) : Type 0 where
   pub back : List ℕ
   pub sent : IsSentBack cause came back
-  pub means : meant ≡ meaning_of offset back
+  pub means : meant ≡ meaning_of clocks back
 
 -- P/N is set, and the cause is this
 abbrev pub HasCause : ℕ → ℕ → Type 0
@@ -76,13 +77,13 @@ IsRefusedWith cause (Commands c) = (c.cause ≡ cause) × (c.negative ≡ true)
 IsRefusedWith cause (Unread octets) = HasCause cause (slice_index octets 2)
 
 -- what goes out means what it is
-abbrev pub meant_outgoing : ℤ → OwnAsdu → Meant
-meant_outgoing offset (outgoing.Command c) = Commands c
-meant_outgoing offset (outgoing.Observation cause originator x) = Tells (asdu_of offset cause originator x)
+abbrev pub meant_outgoing : Clocks → OwnAsdu → Meant
+meant_outgoing clocks (outgoing.Command c) = Commands c
+meant_outgoing clocks (outgoing.Observation cause originator x) = Tells (asdu_of clocks cause originator x)
 
-abbrev pub Means : ℤ → AsduAnswer → Meant → Type 0
-Means offset (Returned asdu cause) meant = ComesBack offset cause (octets_in asdu) meant
-Means offset (Made x) meant = meant ≡ meant_outgoing offset x
+abbrev pub Means : Clocks → AsduAnswer → Meant → Type 0
+Means clocks (Returned asdu cause) meant = ComesBack clocks cause (octets_in asdu) meant
+Means clocks (Made x) meant = meant ≡ meant_outgoing clocks x
 
 -- ---- what can be sent
 
@@ -94,8 +95,8 @@ abbrev pub HasShortAddresses : Setup → Type 0
 HasShortAddresses setup = AreShort (known_addresses setup)
 
 -- an ASDU can carry the observation: it is fit, and its number has its element's width
-pub record IsSendable (offset : ℤ) (x : Observation) : Type 0 where
-  pub fit : IsFit offset x
+pub record IsSendable (clocks : Clocks) (x : Observation) : Type 0 where
+  pub fit : IsFit clocks x
   pub width : HasWidth x.value
 
 -- the confirmation of an activation (7) or a deactivation (9), or a termination (10)
@@ -103,12 +104,12 @@ abbrev pub is_answering : ℕ → Bool
 is_answering cause = cause == 7 || cause == 9 || cause == 10
 
 -- a command that goes out has such a cause and fields that fit; an ASDU can carry an observation that does
-abbrev pub CanSendOutgoing : ℤ → OwnAsdu → Type 0
-CanSendOutgoing offset (outgoing.Command c) = IsTrue (is_answering c.cause) × IsWhole c
-CanSendOutgoing offset (outgoing.Observation cause originator x) = IsSendable offset x
+abbrev pub CanSendOutgoing : Clocks → OwnAsdu → Type 0
+CanSendOutgoing clocks (outgoing.Command c) = IsTrue (is_answering c.cause) × IsWhole c
+CanSendOutgoing clocks (outgoing.Observation cause originator x) = IsSendable clocks x
 
 -- what comes back has a whole header and a cause from 44 to 47; an observation answers a read, with cause 5
-abbrev pub CanSendAnswer : ℤ → AsduAnswer → Type 0
-CanSendAnswer offset (Returned asdu cause) = IsReturnable (Returned asdu cause)
-CanSendAnswer offset (Made (outgoing.Command c)) = CanSendOutgoing offset (outgoing.Command c)
-CanSendAnswer offset (Made (outgoing.Observation cause originator x)) = (cause ≡ 5) × IsSendable offset x
+abbrev pub CanSendAnswer : Clocks → AsduAnswer → Type 0
+CanSendAnswer clocks (Returned asdu cause) = IsReturnable (Returned asdu cause)
+CanSendAnswer clocks (Made (outgoing.Command c)) = CanSendOutgoing clocks (outgoing.Command c)
+CanSendAnswer clocks (Made (outgoing.Observation cause originator x)) = (cause ≡ 5) × IsSendable clocks x

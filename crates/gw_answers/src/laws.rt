@@ -1,7 +1,8 @@
 //! What holds of every answer.
-ghost use Rattle.std.specs.Prelude.{◌≡◌, ◌<◌, ◌↔◌, ℕ, ℤ, true, Bool, List, ◌∷◌, take, Some, Ok};
+ghost use Rattle.std.specs.Prelude.{◌≡◌, ◌<◌, ◌↔◌, ℕ, true, Bool, List, ◌∷◌, take, Some, Ok};
 ghost use Rattle.std.specs.List.{AllByRecursion};
 ghost use Rattle.gw_model.specs.declared.observation.Observation.{Observation as Observed};
+ghost use Rattle.gw_model.specs.Clocks.{Clocks};
 ghost use Rattle.gw_map.specs.Settings.{Setup, HasSingleAddresses};
 ghost use Rattle.iec_apci.specs.declared.apdu.Asdu.{Asdu as AsduOctets};
 ghost use Rattle.iec_asdu.specs.Packing.{taken_of};
@@ -17,24 +18,24 @@ ghost use Rattle.gw_answers.specs.Octets.{answer_octets, octets_in, packed_octet
 /// What is written of an answer means what it was made of: the command or the observation that goes out, or the octets
 /// of an ASDU that comes back as it came, but for its cause, and P/N, which is set.
 pub fn answers_mean_what_they_were()
-    ensures { (offset : ℤ) (answer : AnyAnswer) → CanSendAnswer offset answer
-        → Means offset answer (meaning_of offset (answer_octets offset answer)) }
+    ensures { (clocks : Clocks) (answer : AnyAnswer) → CanSendAnswer clocks answer
+        → Means clocks answer (meaning_of clocks (answer_octets clocks answer)) }
 {}
 
 /// What is packed means as many observations from the front of its list as one ASDU carries.
 pub fn packed_asdus_mean_their_observations()
-    ensures { (offset : ℤ) (cause originator : ℕ) (x : Observed) (xs : List Observed)
-        → AllByRecursion (IsSendable offset) (take (taken_of offset (x ∷ xs)) (x ∷ xs))
-        → meaning_of offset (packed_octets offset cause originator (x ∷ xs))
-        ≡ Tells (packed_asdu offset cause originator x xs) }
+    ensures { (clocks : Clocks) (cause originator : ℕ) (x : Observed) (xs : List Observed)
+        → AllByRecursion (IsSendable clocks) (take (taken_of clocks (x ∷ xs)) (x ∷ xs))
+        → meaning_of clocks (packed_octets clocks cause originator (x ∷ xs))
+        ≡ Tells (packed_asdu clocks cause originator x xs) }
 {}
 
 /// A command that comes back means the command that came, with that cause and P/N: type, qualifier, T, originator,
 /// addresses and value are as they came.
 pub fn commands_come_back()
-    ensures { (offset : ℤ) (cause : ℕ) (came back : List ℕ) (c : AnyCommand) → command_of came ≡ Ok c
+    ensures { (clocks : Clocks) (cause : ℕ) (came back : List ℕ) (c : AnyCommand) → command_of came ≡ Ok c
         → IsSentBack cause came back
-        → meaning_of offset back ≡ Commands (record c { cause = cause; negative = true }) }
+        → meaning_of clocks back ≡ Commands (record c { cause = cause; negative = true }) }
 {}
 
 /// What an ASDU gets for an answer at once, each answer apart: it comes back exactly where a cause from 44 to 47 is due;

@@ -1,5 +1,6 @@
 //! The octets of what goes out (IEC 60870-5-101, 7.1 to 7.3).
 ghost use Rattle.std.specs.Prelude.{◌≡◌, ◌<◌, ◌≤◌, true, length, slice_set};
+ghost use Rattle.gw_time.specs.Rule.{clocks_of};
 ghost use Rattle.iec_asdu.specs.Packing.{taken_of};
 ghost use Rattle.iec_asdu.specs.Spelling.{spelling};
 ghost use Rattle.iec_command.specs.Commands.{mirrored, spelling as command_spelling};
@@ -27,8 +28,8 @@ pub struct PackedAsdu {
 pub fn pack(cause: u8, originator: u8, zone: &Zone, observations: &[Observation]) -> PackedAsdu
     requires { 0 < length observations.now }
     ensures octets { octets_in result.asdu
-        ≡ packed_octets zone.now.offset_minutes cause originator observations.now }
-    ensures taken { result.taken ≡ taken_of zone.now.offset_minutes observations.now }
+        ≡ packed_octets (clocks_of zone.now) cause originator observations.now }
+    ensures taken { result.taken ≡ taken_of (clocks_of zone.now) observations.now }
 {
     let mut octets = [0; 249];
     let written = write_monitor(observations, cause, zone, &mut octets);
@@ -44,7 +45,7 @@ pub fn pack(cause: u8, originator: u8, zone: &Zone, observations: &[Observation]
 
 /// The ASDU of an observation with its cause of transmission and originator.
 fn observation_asdu(cause: u8, originator: u8, zone: &Zone, observation: &Observation) -> Asdu
-    ensures { octets_in result ≡ slice_set (spelling zone.now.offset_minutes cause observation.now) 3 originator }
+    ensures { octets_in result ≡ slice_set (spelling (clocks_of zone.now) cause observation.now) 3 originator }
 {
     pack(cause, originator, zone, &[*observation]).asdu
 }
@@ -76,7 +77,7 @@ fn returned_asdu(asdu: &Asdu, cause: u8) -> Asdu
 }
 
 fn outgoing_asdu(zone: &Zone, outgoing: &OwnAsdu) -> Asdu
-    ensures { octets_in result ≡ outgoing_octets zone.now.offset_minutes outgoing.now }
+    ensures { octets_in result ≡ outgoing_octets (clocks_of zone.now) outgoing.now }
 {
     match outgoing {
         OwnAsdu::Command(command) => command_asdu(command),
@@ -91,7 +92,7 @@ fn outgoing_asdu(zone: &Zone, outgoing: &OwnAsdu) -> Asdu
 /// The ASDU of an answer.
 pub fn answer_asdu(zone: &Zone, answer: &AsduAnswer) -> Asdu
     requires { IsReturnable answer.now }
-    ensures { octets_in result ≡ answer_octets zone.now.offset_minutes answer.now }
+    ensures { octets_in result ≡ answer_octets (clocks_of zone.now) answer.now }
 {
     match answer {
         AsduAnswer::Returned { asdu, cause } => returned_asdu(asdu, *cause),

@@ -3,6 +3,8 @@
 use gw_map::{Absence, Key, KeyContent, OUTSTATIONS, ROWS, Section, keys_of};
 use std::io::{self, Write};
 
+const POSIX_RULE: &str = "a rule of the variable TZ of POSIX, as \"CET-1CEST,M3.5.0,M10.5.0/3\"";
+
 /// Writes what may stand at a key of a section.
 pub(crate) fn write_allowed<W: Write>(
     section: Section,
@@ -61,6 +63,7 @@ fn write_content<W: Write>(key: &Key, writer: &mut W) -> io::Result<()> {
             Absence::Text(text) => write!(writer, "a text, as \"{text}\""),
             _ => writer.write_all(b"a text"),
         },
+        KeyContent::PosixRule => writer.write_all(POSIX_RULE.as_bytes()),
         KeyContent::Flag => writer.write_all(b"true or false"),
     }
 }

@@ -23,6 +23,16 @@ pub enum Warning<'a> {
         /// How many may be sent without acknowledgement.
         k: u16,
     },
+    /// The rule has no time that is as far ahead of UTC as the station's clocks outside of summer time.
+    RuleOfAnotherZone {
+        /// How many minutes they are ahead.
+        offset_minutes: i16,
+    },
+    /// The rule has a time that is neither the station's offset nor 60 minutes more ahead of UTC.
+    OddSummer {
+        /// How many minutes its clocks are ahead outside of summer time.
+        offset_minutes: i16,
+    },
     /// The address of an outstation has no port.
     ConnectWithoutPort {
         /// The outstation.
@@ -71,7 +81,9 @@ impl<'a> Warning<'a> {
         match self {
             Warning::ListenWithoutPort { .. }
             | Warning::ListenEverywhere { .. }
-            | Warning::WideWindow { .. } => f.write_str("station"),
+            | Warning::WideWindow { .. }
+            | Warning::RuleOfAnotherZone { .. }
+            | Warning::OddSummer { .. } => f.write_str("station"),
             Warning::ConnectWithoutPort { outstation, .. }
             | Warning::SlowPoll { outstation, .. }
             | Warning::SamePlace {
@@ -88,6 +100,13 @@ impl<'a> Warning<'a> {
             Warning::ListenWithoutPort { listen } => write_without_port(f, "listen", listen),
             Warning::ListenEverywhere { listen } => write_everywhere(f, listen),
             Warning::WideWindow { w, k } => write!(f, "w = {w} is above two thirds of k = {k}"),
+            Warning::RuleOfAnotherZone { offset_minutes } => {
+                write!(
+                    f,
+                    "rule is never offset_minutes = {offset_minutes} ahead of UTC"
+                )
+            }
+            Warning::OddSummer { offset_minutes } => write_odd_summer(f, offset_minutes),
             Warning::ConnectWithoutPort { connect, .. } => write_without_port(
                 f, "connect", connect,
             ),
@@ -126,6 +145,14 @@ fn write_everywhere<W: fmt::Write>(f: &mut fmt::Formatter<W>, listen: &str) -> f
     write!(
         f,
         "listen = \"{listen}\" listens on all interfaces while controls are configured"
+    )
+}
+
+/// Writes that a time of the rule isn't told.
+fn write_odd_summer<W: fmt::Write>(f: &mut fmt::Formatter<W>, offset_minutes: i16) -> fmt::Result {
+    write!(
+        f,
+        "rule has a time that is neither offset_minutes = {offset_minutes} nor 60 more ahead of UTC, and isn't told"
     )
 }
 

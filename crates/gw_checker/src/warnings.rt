@@ -1,9 +1,10 @@
 //! Looking for what reads like a slip in settings that are accepted.
 
 use crate::warning::Warning;
-use gw_map::{Control, Operates, Outstation, Settings};
+use gw_map::{Control, Operates, Outstation, Settings, Station};
 use gw_model::Poll;
 use indexmap::IndexMap;
+use jiff_tz::posix;
 use std::alloc::{AllocError, Global};
 use std::io::{self, Write};
 use std::net::SocketAddr;
@@ -81,7 +82,34 @@ fn add_of_station<'a>(
     if u32::from(w) * 3 > u32::from(k) * 2 {
         add(found, Warning::WideWindow { w, k })?;
     }
-    Ok(())
+    add_of_rule(found, station)
+}
+
+/// Adds that the rule for summer time doesn't fit the offset of the station's clocks.
+fn add_of_rule(found: &mut Vec<Warning>, station: &Station) -> Result<(), AllocError> {
+    let Some(rule) = station.rule else {
+        return Ok(());
+    };
+    let offset_minutes = station.offset_minutes;
+    let (standard, daylight) = seconds_ahead(rule);
+    let seconds = 60 * i32::from(offset_minutes);
+    let is_told = |ahead: i32| ahead == seconds || ahead == seconds + 3600;
+    if standard != seconds && daylight != seconds {
+        add(found, Warning::RuleOfAnotherZone { offset_minutes })
+    } else if !is_told(standard) || !is_told(daylight) {
+        add(found, Warning::OddSummer { offset_minutes })
+    } else {
+        Ok(())
+    }
+}
+
+/// How many seconds a rule's standard time and its daylight saving time are ahead of UTC; twice the same without one.
+fn seconds_ahead(rule: posix::TimeZone) -> (i32, i32) {
+    let standard = rule.std_offset.seconds;
+    match rule.dst {
+        Some(daylight) => (standard, daylight.offset.seconds),
+        None => (standard, standard),
+    }
 }
 
 fn add_of_outstations<'a>(

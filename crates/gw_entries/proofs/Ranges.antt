@@ -13,7 +13,7 @@ use Rattle.gw_entries.specs.declared.fault.Section.{Section}
 use Rattle.gw_entries.specs.declared.fault.Section.TheVariants.{Station, Outstation, Point, Control}
 use Rattle.gw_entries.specs.Complaints.{complaint, placed, is_allowed, fault_of, fault_there, wrong_by, rules_wrongs, key_wrongs}
 use Rattle.gw_entries.specs.Ranges.{IsWithin, IsStation, IsOutstation}
-use Rattle.gw_entries.specs.Tables.{KeyRule, Absence, required, default, usual_type, of_station, whole, whole_to, whole_below, outstation_position, rule, number, station_keys, outstation_keys, point_keys, control_keys}
+use Rattle.gw_entries.specs.Tables.{KeyRule, Absence, required, default, usual_type, of_station, no_rule, whole, whole_to, whole_below, outstation_position, rule, number, station_keys, outstation_keys, point_keys, control_keys}
 use Rattle.gw_entries.specs.Values.{value_or, rule_named, value_at, as_signed, number_in, station_of, outstation_of}
 
 -- ---- one key
@@ -36,6 +36,7 @@ none_of {A} {B} f p (y ∷ ys) x none found = by (f y) (p y) refl refl (none_of 
 abbrev pub is_meant : Absence → Bool
 is_meant usual_type = false
 is_meant of_station = false
+is_meant no_rule = false
 is_meant _ = true
 
 meant : (absence : Absence) (key : List ℕ) (ms : Members) → is_meant absence ≡ true → value_or absence key ms ≡ None
@@ -44,6 +45,7 @@ unfolding value_or
 meant required key ms is none = refl
 meant usual_type key ms is none = absurd cc
 meant of_station key ms is none = absurd cc
+meant no_rule key ms is none = absurd cc
 meant (default d) key ms is none = by (get_member key ms) refl
   where
     by : (o : Option Data) → get_member key ms ≡ o → default d ≡ required

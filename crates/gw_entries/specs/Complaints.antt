@@ -2,6 +2,7 @@
 use Rattle.std.specs.Prelude.{ℕ, ℤ, pos, Bool, true, ◌&&◌, int_le, int_lt, List, [], ◌∷◌, ◌++◌, map, filter_map, codes, Option, Some, None, is_some, option_map, bytes_eq, if◌then◌else◌}
 use Rattle.std.specs.List.{list_any}
 use Rattle.toml.specs.Data.{Data, Members, no_members, member, get_member}
+use Rattle.jiff_tz.specs.PosixReader.{read_whole}
 use Rattle.gw_model.specs.declared.point.Kind.{Kind}
 use Rattle.gw_entries.specs.declared.row.Show.{Show}
 use Rattle.gw_entries.specs.Shown.{is_shown_by, is_scaled}
@@ -10,7 +11,7 @@ use Rattle.gw_entries.specs.declared.control.ControlShow.TheVariants as control
 use Rattle.gw_entries.specs.declared.fault.Fault.{Fault}
 use Rattle.gw_entries.specs.declared.fault.Fault.TheVariants.{Missing, WrongType, OutOfRange, UnknownKey, KindMismatch}
 use Rattle.gw_entries.specs.declared.fault.Section.{Section}
-use Rattle.gw_entries.specs.Tables.{KeyRule, KeyContent, whole, whole_to, whole_below, outstation_position, one_of, any_text, yes_or_no, Absence, required}
+use Rattle.gw_entries.specs.Tables.{KeyRule, KeyContent, whole, whole_to, whole_below, outstation_position, one_of, any_text, posix_rule, yes_or_no, Absence, required}
 use Rattle.gw_entries.specs.Values.{value_at, value_or, integer_in, text_in, flag_in, as_signed, as_text, kind_in, show_in, control_show_in}
 
 -- ---- one key
@@ -19,6 +20,7 @@ use Rattle.gw_entries.specs.Values.{value_at, value_or, integer_in, text_in, fla
 abbrev pub has_type : KeyContent → Option Data → Bool
 has_type (one_of words) value = is_some (text_in value)
 has_type any_text value = is_some (text_in value)
+has_type posix_rule value = is_some (text_in value)
 has_type yes_or_no value = is_some (flag_in value)
 has_type _ value = is_some (integer_in value)
 
@@ -36,6 +38,7 @@ is_allowed outstations rules ms outstation_position value =
     int_le (pos 0) (as_signed value) && int_lt (as_signed value) (pos outstations)
 is_allowed outstations rules ms (one_of words) value = list_any (bytes_eq (as_text value)) words
 is_allowed outstations rules ms any_text value = true
+is_allowed outstations rules ms posix_rule value = is_some (read_whole (as_text value))
 is_allowed outstations rules ms yes_or_no value = true
 
 abbrev pub fault_left_out : Absence → Option Fault

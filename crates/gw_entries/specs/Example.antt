@@ -1,5 +1,5 @@
 -- A station and an outstation of which nothing is said but their addresses.
-use Rattle.std.specs.Prelude.{pos, false, codes}
+use Rattle.std.specs.Prelude.{pos, false, None, codes}
 use Rattle.gw_entries.specs.Setup.{StationSetup, OutstationSetup}
 
 abbrev pub station : StationSetup
@@ -7,6 +7,7 @@ station = record {
   common_address = 1;
   master_address = 1024;
   offset_minutes = pos 0;
+  rule = None;
   k = 12;
   w = 8;
   t1_ms = 15000;

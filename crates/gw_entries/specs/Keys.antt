@@ -5,11 +5,11 @@ use Rattle.toml.specs.View.{view}
 use Rattle.gw_entries.specs.declared.entry.Datum.{Datum}
 use Rattle.gw_entries.specs.declared.entry.Datum.TheVariants as datum
 use Rattle.gw_entries.specs.declared.key.Absence.{Absence as CodedAbsence}
-use Rattle.gw_entries.specs.declared.key.Absence.TheVariants.{Required, Number as NumberMeant, Text as TextMeant, No, UsualType, OfStation}
+use Rattle.gw_entries.specs.declared.key.Absence.TheVariants.{Required, Number as NumberMeant, Text as TextMeant, No, UsualType, OfStation, NoRule}
 use Rattle.gw_entries.specs.declared.key.KeyContent.{KeyContent as CodedContent}
-use Rattle.gw_entries.specs.declared.key.KeyContent.TheVariants.{Number, NumberTo, NumberBelow, Outstation, Word, Text, Flag}
+use Rattle.gw_entries.specs.declared.key.KeyContent.TheVariants.{Number, NumberTo, NumberBelow, Outstation, Word, Text, PosixRule, Flag}
 use Rattle.gw_entries.specs.declared.key.Key.{Key}
-use Rattle.gw_entries.specs.Tables.{KeyContent, whole, whole_to, whole_below, outstation_position, one_of, any_text, yes_or_no, Absence, required, default, usual_type, of_station, or_no, KeyRule}
+use Rattle.gw_entries.specs.Tables.{KeyContent, whole, whole_to, whole_below, outstation_position, one_of, any_text, posix_rule, yes_or_no, Absence, required, default, usual_type, of_station, no_rule, or_no, KeyRule}
 
 abbrev pub content_seen : CodedContent → KeyContent
 content_seen (Number first last) = whole first last
@@ -18,6 +18,7 @@ content_seen (NumberBelow first key) = whole_below first key.now
 content_seen Outstation = outstation_position
 content_seen (Word words) = one_of (map (λ word. word.now) words.now)
 content_seen Text = any_text
+content_seen PosixRule = posix_rule
 content_seen Flag = yes_or_no
 
 abbrev pub absence_seen : CodedAbsence → Absence
@@ -27,6 +28,7 @@ absence_seen (TextMeant text) = default (string text.now)
 absence_seen No = or_no
 absence_seen UsualType = usual_type
 absence_seen OfStation = of_station
+absence_seen NoRule = no_rule
 
 abbrev pub rule_seen : Key → KeyRule
 rule_seen key = record { key = key.name.now; content = content_seen key.content; absence = absence_seen key.absence }

@@ -1,5 +1,6 @@
 -- How contracts see a station and an outstation.
-use Rattle.std.specs.Prelude.{string_bytes}
+use Rattle.std.specs.Prelude.{option_map, string_bytes}
+use Rattle.jiff_tz.specs.PosixText.{tz_view}
 use Rattle.gw_entries.specs.declared.station.Station.TheInside.{Inside as StationInside}
 use Rattle.gw_entries.specs.declared.outstation.Outstation.TheInside.{Inside as OutstationInside}
 use Rattle.gw_entries.specs.Setup.{StationSetup, OutstationSetup}
@@ -9,6 +10,7 @@ station_seen s = record {
   common_address = s.common_address;
   master_address = s.master_address;
   offset_minutes = s.offset_minutes;
+  rule = option_map tz_view s.rule;
   k = s.k;
   w = s.w;
   t1_ms = s.t1_ms;

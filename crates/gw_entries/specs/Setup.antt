@@ -1,5 +1,6 @@
 -- What settings are, seen as plain values.
-use Rattle.std.specs.Prelude.{ℕ, ℤ, Bool, List, option_map, slice_get, unwrap_or}
+use Rattle.std.specs.Prelude.{ℕ, ℤ, Bool, List, Option, option_map, slice_get, unwrap_or}
+use Rattle.jiff_tz.specs.PosixText.{TzText}
 use Rattle.gw_model.specs.declared.poll.Poll.{Poll}
 use Rattle.gw_model.specs.declared.point.PointKey.{PointKey}
 use Rattle.gw_entries.specs.declared.row.Show.{Show}
@@ -12,6 +13,8 @@ pub record StationSetup : Type 0 where
   pub master_address : ℕ
   -- how many minutes its clocks are ahead of UTC
   pub offset_minutes : ℤ
+  -- the rule for summer time, if there is one
+  pub rule : Option TzText
   -- the parameters k, w, t1, t2 and t3 of IEC 60870-5-104
   pub k : ℕ
   pub w : ℕ

@@ -28,6 +28,9 @@ pub data KeyContent : Type 0 where
   -- one of these texts, or any text
   one_of : List (List ℕ) → KeyContent
   any_text : KeyContent
+  -- a text that is a rule of POSIX's TZ variable (IEEE Std 1003.1), with the days on which summer time begins and
+  -- ends, if it has one
+  posix_rule : KeyContent
   -- true or false
   yes_or_no : KeyContent
 
@@ -39,6 +42,8 @@ pub data Absence : Type 0 where
   usual_type : Absence
   -- what the station has at the key
   of_station : Absence
+  -- no rule: civil time has no summer time
+  no_rule : Absence
 
 pub record KeyRule : Type 0 where
   pub key : List ℕ
@@ -95,6 +100,7 @@ station_keys =
     rule "common_address" (number 1 65534) required
     ∷ rule "master_address" (number 0 65519) (or_number 1024)
     ∷ rule "offset_minutes" (whole (negsuc 839) (pos 840)) (or_number 0)
+    ∷ rule "rule" posix_rule no_rule
     ∷ rule "k" (number 1 32767) (or_number 12)
     ∷ rule "w" (whole_to (pos 1) (codes "k")) (or_number 8)
     ∷ rule "t1_ms" (number 1 255000) (or_number 15000)

@@ -1,8 +1,10 @@
 -- What the tables of a settings file mean that break no rule.
 use Prim.Native.String.{String as Name}
-use Rattle.std.specs.Prelude.{ℕ, ℤ, pos, nat_abs, Bool, false, List, [], codes, Option, Some, None, is_some, unwrap_or, find, bytes_eq, if◌then◌else◌}
+use Rattle.std.specs.Prelude.{ℕ, ℤ, pos, nat_abs, Bool, false, List, [], codes, Option, Some, None, is_some, option_and_then, unwrap_or, find, bytes_eq, if◌then◌else◌}
 use Rattle.std.specs.Option.{option_or}
 use Rattle.toml.specs.Data.{Data, Members, get_member, as_integer, as_str, as_bool}
+use Rattle.jiff_tz.specs.PosixReader.{read_whole}
+use Rattle.jiff_tz.specs.PosixText.{TzText}
 use Rattle.gw_model.specs.declared.point.Kind.{Kind}
 use Rattle.gw_model.specs.declared.point.Kind.TheVariants as kind
 use Rattle.gw_model.specs.declared.point.PointKey.{PointKey}
@@ -16,7 +18,7 @@ use Rattle.gw_entries.specs.declared.control.Rest.{Rest}
 use Rattle.gw_entries.specs.declared.control.Rest.TheVariants.{Latch}
 use Rattle.gw_entries.specs.Texts.{among}
 use Rattle.gw_entries.specs.Shown.{usual_show}
-use Rattle.gw_entries.specs.Tables.{KeyRule, Absence, default, required, usual_type, of_station, station_keys, outstation_keys, point_keys, control_keys, kinds, shows, control_shows, modes, rests}
+use Rattle.gw_entries.specs.Tables.{KeyRule, Absence, default, required, usual_type, of_station, no_rule, station_keys, outstation_keys, point_keys, control_keys, kinds, shows, control_shows, modes, rests}
 use Rattle.gw_entries.specs.Setup.{StationSetup, OutstationSetup, common_at, RowFields, Operation, single, double, setpoint, ControlFields}
 
 -- ---- what stands at a key
@@ -26,6 +28,7 @@ default_of required = None
 default_of (default d) = Some d
 default_of usual_type = None
 default_of of_station = None
+default_of no_rule = None
 
 -- the value at a key of a table, or what is meant where it's left out
 unfoldable pub value_or : Absence → List ℕ → Members → Option Data
@@ -71,6 +74,10 @@ as_flag value = unwrap_or (flag_in value) false
 abbrev pub as_word : {A : Type 0} → List (List ℕ × A) → Option Data → Option A
 as_word pairs value = among pairs (as_text value)
 
+-- the rule of POSIX's TZ variable (IEEE Std 1003.1) that the text is; none where there is no text, or it's no rule
+abbrev pub as_rule : Option Data → Option TzText
+as_rule value = option_and_then read_whole (text_in value)
+
 abbrev pub number_in : List KeyRule → Name → Members → ℕ
 number_in rules name table = as_number (value_at rules (codes name) table)
 
@@ -81,6 +88,7 @@ station_of table = record {
   common_address = number_in station_keys "common_address" table;
   master_address = number_in station_keys "master_address" table;
   offset_minutes = as_signed (value_at station_keys (codes "offset_minutes") table);
+  rule = as_rule (value_at station_keys (codes "rule") table);
   k = number_in station_keys "k" table;
   w = number_in station_keys "w" table;
   t1_ms = number_in station_keys "t1_ms" table;

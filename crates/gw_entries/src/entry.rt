@@ -1,6 +1,8 @@
 //! One table of a settings file, and what stands at its keys.
 ghost use Rattle.std.specs.Prelude.{◌≡◌, min, map, option_map, option_copied, unwrap_or, is_some, bytes_eq, zip};
 ghost use Rattle.std.specs.List.{position_from};
+ghost use Rattle.jiff_tz.specs.PosixReader.{read_whole};
+ghost use Rattle.jiff_tz.specs.PosixText.{tz_view};
 ghost use Rattle.toml.specs.Data.{get_member};
 ghost use Rattle.toml.specs.View.{view, table_view};
 ghost use Rattle.gw_entries.specs.Answers.{Passes, first, wrong_of};
@@ -9,12 +11,13 @@ ghost use Rattle.gw_entries.specs.Faults.{refusal_of, refused};
 ghost use Rattle.gw_entries.specs.Keys.{absence_seen, content_seen, datum_seen, rule_seen, words_by};
 ghost use Rattle.gw_entries.specs.Tables.{rules_of, known_keys};
 ghost use Rattle.gw_entries.specs.Texts.{among};
-ghost use Rattle.gw_entries.specs.Values.{value_or, value_at as value_in, integer_in, text_in, flag_in, as_number, as_signed, as_text, as_flag, rule_named};
+ghost use Rattle.gw_entries.specs.Values.{value_or, value_at as value_in, integer_in, text_in, flag_in, as_number, as_signed, as_text, as_flag, as_rule, rule_named};
 ghost use Rattle.gw_entries.specs.declared.fault.Fault.TheVariants.{KindMismatch};
 
 use crate::fault::{Fault, KeyFault, Section, SettingsFault};
 use crate::key::{Absence, Key, KeyContent};
 use crate::keys::{check_keys, key_named, keys_of};
+use jiff_tz::posix;
 use std::alloc::Global;
 use toml::{Table, Value};
 
@@ -79,7 +82,8 @@ fn value_meant<'a>(table: &'a Table, key: &Key) -> Datum<'a>
         return Datum::There(value);
     }
     match key.absence {
-        Absence::Required | Absence::UsualType | Absence::OfStation => Datum::Nothing,
+        Absence::Required | Absence::UsualType | Absence::OfStation | Absence::NoRule =>
+            Datum::Nothing,
         Absence::Number(number) => Datum::Number(number),
         Absence::Text(text) => Datum::Text(text),
         Absence::No => Datum::No,
@@ -91,7 +95,7 @@ fn has_type(content: KeyContent, datum: Datum) -> bool
     ensures { result ≡ has_type (content_seen content) (datum_seen datum.entry) }
 {
     match content {
-        KeyContent::Word(_) | KeyContent::Text => datum.text().is_some(),
+        KeyContent::Word(_) | KeyContent::Text | KeyContent::PosixRule => datum.text().is_some(),
         KeyContent::Flag => datum.flag().is_some(),
         _ => datum.integer().is_some(),
     }
@@ -107,6 +111,13 @@ fn place_of(words: &[&'static str], text: &str) -> Option<usize>
         }
     }
     None
+}
+
+/// The rule of POSIX's TZ variable (IEEE Std 1003.1) that a text is, if it's one.
+fn rule_read(text: &str) -> Option<posix::TimeZone>
+    ensures { option_map tz_view result ≡ read_whole text.now }
+{
+    posix::TimeZone::parse(text.as_bytes()).ok()
 }
 
 /// A table of a section.
@@ -175,6 +186,14 @@ impl<'a> Entry<'a> {
         self.value(name).flag().unwrap_or(false)
     }
 
+    /// A rule of POSIX's TZ variable, if one stands there.
+    pub(crate) fn rule(self, name: &str) -> Option<posix::TimeZone>
+        ensures { option_map tz_view result
+            ≡ as_rule (value_in (rules_of self.entry.section) name.now (table_view self.entry.table.now)) }
+    {
+        rule_read(self.value(name).text()?)
+    }
+
     /// What a word stands for: the meaning at its place among the words of its key, or else another one.
     pub(crate) fn word<T: Copy>(self, name: &str, meanings: &[T], other: T) -> T
         ensures { result
@@ -215,6 +234,7 @@ impl<'a> Entry<'a> {
             KeyContent::NumberBelow(first, key) => first <= number && number < self.signed(key),
             KeyContent::Outstation => 0 <= number && number < i64::from(outstations),
             KeyContent::Word(words) => words.contains(&datum.text().unwrap_or("")),
+            KeyContent::PosixRule => rule_read(datum.text().unwrap_or("")).is_some(),
             KeyContent::Text | KeyContent::Flag => true,
         }
     }

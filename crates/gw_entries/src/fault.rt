@@ -11,7 +11,7 @@ pub enum Fault {
     Missing,
     /// The value is of another type.
     WrongType,
-    /// A number is too small or too large, a text is none of the words, or there are too many entries.
+    /// A number is too small or too large, a text is none of the words or no rule, or there are too many entries.
     OutOfRange,
     /// The table has no such key.
     UnknownKey,

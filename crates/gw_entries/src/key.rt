@@ -15,6 +15,9 @@ pub enum KeyContent {
     Word(&'static [&'static str]),
     /// Any text.
     Text,
+    /// A text that is a rule of POSIX's TZ variable (IEEE Std 1003.1), with the days on which summer time begins and
+    /// ends, if it has one.
+    PosixRule,
     /// True or false.
     Flag,
 }
@@ -48,6 +51,8 @@ pub enum Absence {
     UsualType,
     /// What the station has at the key.
     OfStation,
+    /// No rule: civil time has no summer time.
+    NoRule,
 }
 
 /// A key of a table.

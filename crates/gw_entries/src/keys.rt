@@ -30,10 +30,11 @@ const TOP_KEYS: [&str; 4] = ["station", "outstation", "point", "control"];
 
 static NO_KEYS: [Key; 0] = [];
 
-static STATION_KEYS: [Key; 12] = keys! {
+static STATION_KEYS: [Key; 13] = keys! {
     "common_address": Number(1, 65_534), Required;
     "master_address": Number(0, 65_519), Number(1024);
     "offset_minutes": Number(-840, 840), Number(0);
+    "rule": PosixRule, NoRule;
     "k": Number(1, 32_767), Number(12);
     "w": NumberTo(1, "k"), Number(8);
     "t1_ms": Number(1, 255_000), Number(15_000);

@@ -8,6 +8,7 @@ ghost use Rattle.gw_entries.specs.declared.fault.Section.TheVariants.{Station as
 
 use crate::entry::Entry;
 use crate::fault::{Section, SettingsFault};
+use jiff_tz::posix;
 use std::alloc::Global;
 use std::marker::Model;
 use toml::Table;
@@ -21,6 +22,8 @@ pub struct Station {
     pub master_address: u16,
     /// How many minutes its clocks are ahead of UTC, from -840 to 840.
     pub offset_minutes: i16,
+    /// The rule for summer time, if there is one.
+    pub rule: Option<posix::TimeZone>,
     /// How many I formats may be unacknowledged, from 1 to 32767.
     pub k: u16,
     /// After how many received I formats they are acknowledged, from 1 to k.
@@ -70,6 +73,7 @@ impl Station {
             common_address: entry.number_u16("common_address"),
             master_address: entry.number_u16("master_address"),
             offset_minutes: entry.signed("offset_minutes") as i16,
+            rule: entry.rule("rule"),
             k: entry.number_u16("k"),
             w: entry.number_u16("w"),
             t1_ms: entry.number_u32("t1_ms"),

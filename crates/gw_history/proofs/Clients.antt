@@ -6,7 +6,7 @@ use Rattle.std.proofs.lemmas.Bool.{cases_Bool, cases_eq, ne_eqb, eq-eqb}
 use Rattle.gw_model.specs.declared.control.Order.{Order}
 use Rattle.gw_model.specs.declared.observation.Observation.{Observation}
 use Rattle.gw_model.specs.Places.{change}
-use Rattle.gw_map.specs.Settings.{Setup, HasSingleAddresses}
+use Rattle.gw_map.specs.Settings.{Setup, HasSingleAddresses, station_clocks}
 use Rattle.gw_picture.proofs.Lists.{change-here, change-there, map-get}
 use Rattle.gw_picture.specs.Log.{picture_of}
 use Rattle.gw_picture.specs.Loss.{losses_of}
@@ -152,9 +152,9 @@ fragment setup past f m r single sound e tied =
     let is : MasterIs setup f.outstation past up.0 = subst (MasterTied setup f.outstation past) up.1
     (tied.outstations f.outstation) in
     let same : is_accepting s f ≡ is_accepted setup past f = rw up.1 (same_accepted setup past f up.0 is) in
-    let news : news_of setup.station.offset_minutes setup.rows s.picture f.reports
+    let news : news_of (station_clocks setup.station) setup.rows s.picture f.reports
     ≡ news_after_log setup log f.reports =
-    ap (λ (p : List Observation). news_of setup.station.offset_minutes setup.rows p f.reports) tied.picture
+    ap (λ (p : List Observation). news_of (station_clocks setup.station) setup.rows p f.reports) tied.picture
     ∙ (news_same setup log f.reports single).0 in
     elim (cases_Bool (is_accepted setup past f)) [
       | inl taken ↦ all_come setup past here s (after setup s step)
@@ -258,15 +258,15 @@ frame setup past c m a r sound e picture =
 -- what becomes of its client, by what is offered
 pump_own : (setup : Setup) (past : List Entry) (c m moment : ℕ) (k : Client) (x : Option Sending)
     → length k.queue ≤ k.limit → offered moment k ≡ x
-    → IfSome x (CanSend setup.station.offset_minutes) → AllByRecursion (CanSend setup.station.offset_minutes) (line k)
+    → IfSome x (CanSend (station_clocks setup.station)) → AllByRecursion (CanSend (station_clocks setup.station)) (line k)
     → let e : Entry = entry (steps.Pump c m) (Ok (reply_giving
-    (option_map (content_of setup.station.offset_minutes k) x))) in
-    Goes setup (turn_of setup c past e) k (client_by_offer setup.station.offset_minutes moment x k)
+    (option_map (content_of (station_clocks setup.station) k) x))) in
+    Goes setup (turn_of setup c past e) k (client_by_offer (station_clocks setup.station) moment x k)
 pump_own setup past c m moment k None few first can all = rw (eq-eqb c c refl) (still k few)
 pump_own setup past c m moment k (Some sending) few first can all =
-    let content : ApduContent = content_of setup.station.offset_minutes k sending in
-    let fits = content_fits setup.station.offset_minutes k sending in
-    rw (eq-eqb c c refl, said-content setup.station.offset_minutes content fits)
+    let content : ApduContent = content_of (station_clocks setup.station) k sending in
+    let fits = content_fits (station_clocks setup.station) k sending in
+    rw (eq-eqb c c refl, said-content (station_clocks setup.station) content fits)
     (record { moment = moment; sending = sending; first = first; can = can; all = all; says = refl; becomes = refl })
 
 pump_apart : (setup : Setup) (past : List Entry) (c d m : ℕ) (given : Option ApduContent) → (c ≡ d → ⊥)
@@ -282,14 +282,14 @@ pump setup past c m r s sound e =
     let moment : ℕ = latest s m in
     let told = answered (fault_of s step) (can_be_counted s (needs setup s step)) (reply_to setup s step) r e in
     let up = who_is_up (λ (k : Client). is_up k.stage) NoClient (slice_get s.clients c) told.0 in
-    let content : Option ApduContent = given setup.station.offset_minutes moment up.0 in
+    let content : Option ApduContent = given (station_clocks setup.station) moment up.0 in
     let reply : reply_giving content ≡ r = sym (ap (client_reply (λ (k : Client). reply_giving
-    (given setup.station.offset_minutes moment k))) up.1) ∙ told.2 in
+    (given (station_clocks setup.station) moment k))) up.1) ∙ told.2 in
     let mine = sound_at setup.station s.counts.steps s.counts.news s.clients c up.0 up.1 sound.clients in
     let can = offered_can setup.station s.counts.steps s.counts.news moment up.0 mine in
     subst (λ (x : Reply). AllGo setup past (entry step (Ok x)) s (after setup s step)) reply
     (one_client setup past (entry step (Ok (reply_giving content))) s (after setup s step) c
-    (client_after_pump setup.station.offset_minutes moment) up.0 sound up.1 refl
+    (client_after_pump (station_clocks setup.station) moment) up.0 sound up.1 refl
     (λ d ne. pump_apart setup past c d m content ne) (pump_own setup past c m moment up.0
     (offered moment up.0) mine.few refl can (line_can setup.station s.counts.steps s.counts.news up.0 mine)))
 

@@ -2,7 +2,7 @@
 use Rattle.std.proofs.Common.{◌≡◌, ℕ, Bool, true, false, cond, List, [], ◌∷◌, Option, Some, None, Result, Ok, Err, refl, ap, subst, ◌∙◌}
 use Rattle.std.specs.Prelude.{slice_get, ◌||◌}
 use Rattle.gw_model.specs.declared.control.Order.{Order}
-use Rattle.gw_map.specs.Settings.{Setup}
+use Rattle.gw_map.specs.Settings.{Setup, station_clocks}
 use Rattle.dnp_app.specs.Response.{Fragment, is_unsolicited}
 use Rattle.dnp_app.specs.Control.{confirm_of}
 use Rattle.dnp_app.specs.declared.request.Request.{Request}
@@ -104,7 +104,7 @@ confirms setup past step r s e tied =
         rw up.1 (record { verdict = none; confirmation = ap confirmation_in none })
     by (steps.Pump c m) e =
         let up = who_is_up (λ (k : Client). is_up k.stage) NoClient (slice_get s.clients c) e in
-        let none = of_given (given setup.station.offset_minutes (latest s m) up.0) in
+        let none = of_given (given (station_clocks setup.station) (latest s m) up.0) in
         rw up.1 (record { verdict = none; confirmation = ap confirmation_in none })
 
 -- ---- the law

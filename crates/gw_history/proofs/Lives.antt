@@ -1,7 +1,7 @@
 -- What becomes of a client in each turn, and lives: from a fresh client, turn by turn.
 use Rattle.std.proofs.Common.{◌≡◌, ℕ, List, [], ◌∷◌, true, false, refl, Some, None}
 use Rattle.std.specs.List.{AllByRecursion}
-use Rattle.gw_map.specs.Settings.{Setup}
+use Rattle.gw_map.specs.Settings.{Setup, station_clocks}
 use Rattle.iec_apci.specs.declared.apdu.Apdu.{Apdu}
 use Rattle.gw_control.specs.declared.answer.Outcome.{Outcome}
 use Rattle.gw_control.specs.Moves.{is_operating}
@@ -38,11 +38,11 @@ pub record Gave (setup : Setup) (said : ApduMeaning) (k new : Client) : Type 0 w
   pub moment : ℕ
   pub sending : Sending
   pub first : offered moment k ≡ Some sending
-  pub can : CanSend setup.station.offset_minutes sending
-  pub all : AllByRecursion (CanSend setup.station.offset_minutes) (line k)
-  pub says : said ≡ said_by setup.station.offset_minutes
-      (content_of setup.station.offset_minutes k sending)
-  pub becomes : new ≡ client_with_sent setup.station.offset_minutes moment sending k
+  pub can : CanSend (station_clocks setup.station) sending
+  pub all : AllByRecursion (CanSend (station_clocks setup.station)) (line k)
+  pub says : said ≡ said_by (station_clocks setup.station)
+      (content_of (station_clocks setup.station) k sending)
+  pub becomes : new ≡ client_with_sent (station_clocks setup.station) moment sending k
 
 abbrev pub Becomes : Setup → Turn → Client → Client → Type 0
 Becomes setup (Idle brought) k new = Came brought k new

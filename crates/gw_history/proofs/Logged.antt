@@ -3,7 +3,7 @@ use Rattle.std.proofs.Common.{◌≡◌, ℕ, Bool, true, false, List, [], ◌�
 use Rattle.std.specs.Prelude.{◌==◌, if◌then◌else◌}
 use Rattle.std.proofs.lemmas.List.{append-nil}
 use Rattle.gw_model.specs.declared.observation.Observation.{Observation}
-use Rattle.gw_map.specs.Settings.{Setup}
+use Rattle.gw_map.specs.Settings.{Setup, station_clocks}
 use Rattle.gw_picture.specs.Log.{picture_of}
 use Rattle.iec_apci.specs.declared.apdu.Apdu.{Apdu}
 use Rattle.iec_command.specs.declared.command.Command.{Command}
@@ -55,7 +55,7 @@ giving : (setup : Setup) (log : List Observation) (r : Reply) → IsQuiet setup 
 giving setup log replies.Done = idle setup log []
 giving setup log (replies.Verdict v) = idle setup log []
 giving setup log (replies.Request x) = idle setup log []
-giving setup log (replies.Apdu x) = putting setup log (said setup.station.offset_minutes x)
+giving setup log (replies.Apdu x) = putting setup log (said (station_clocks setup.station) x)
 giving setup log replies.Taken = idle setup log []
 giving setup log (replies.Closed why) = idle setup log []
 giving setup log replies.Nothing = idle setup log []

@@ -4,7 +4,7 @@ use Rattle.std.specs.Prelude.{slice_get, option_map}
 use Rattle.std.proofs.lemmas.Bool.{cases_Bool, cases_eq, ne_eqb}
 use Rattle.gw_model.specs.declared.control.Order.{Order}
 use Rattle.gw_model.specs.declared.observation.Observation.{Observation}
-use Rattle.gw_map.specs.Settings.{Setup, HasSingleAddresses}
+use Rattle.gw_map.specs.Settings.{Setup, HasSingleAddresses, station_clocks}
 use Rattle.gw_model.specs.Places.{change}
 use Rattle.gw_picture.specs.Log.{picture_of}
 use Rattle.gw_picture.specs.Loss.{picture_after_loss}
@@ -158,9 +158,9 @@ fragment_taken setup past f m r s x single at is takes tied =
     let accepted : is_accepted setup past f ≡ true = sym (same_accepted setup past f x is) ∙ takes in
     let accepting : is_accepting s f ≡ true = rw at takes in
     let came : brought setup past e ≡ xs = rw accepted refl in
-    let shown : picture_after setup.station.offset_minutes setup.rows s.picture f.reports
+    let shown : picture_after (station_clocks setup.station) setup.rows s.picture f.reports
     ≡ picture_of setup.rows (log ++ xs) =
-    ap (λ (p : List Observation). picture_after setup.station.offset_minutes setup.rows p f.reports) tied.picture
+    ap (λ (p : List Observation). picture_after (station_clocks setup.station) setup.rows p f.reports) tied.picture
     ∙ (news_same setup log f.reports single).1 in
     let moment : ℕ = latest s m in
     let own : MasterTied setup f.outstation (e ∷ past)

@@ -4,7 +4,7 @@
 use Rattle.std.specs.List.{filter}
 use Rattle.std.specs.Prelude.{ℕ, zero, suc, ◌/◌, ◌%◌, Bool, false, ◌==◌, ◌<◌, List, [], ◌∷◌, Option, Some, None, option_map, if◌then◌else◌}
 use Rattle.gw_model.specs.declared.observation.Observation.{Observation}
-use Rattle.gw_map.specs.Settings.{Setup}
+use Rattle.gw_map.specs.Settings.{Setup, station_clocks}
 use Rattle.gw_picture.specs.Log.{picture_of}
 use Rattle.iec_apci.specs.declared.apdu.Apdu.{Apdu}
 use Rattle.iec_apci.specs.declared.apdu.Apdu.TheVariants.{U}
@@ -65,7 +65,7 @@ turn_taking apdu picture said _ = Takes apdu (record { picture = picture; said =
 
 -- what a pump gives it
 abbrev pub turn_giving : Setup → Reply → Turn
-turn_giving setup (replies.Apdu apdu) = puts_out (said setup.station.offset_minutes apdu)
+turn_giving setup (replies.Apdu apdu) = puts_out (said (station_clocks setup.station) apdu)
 turn_giving setup _ = nothing_new
 
 -- bit c of a number is set

@@ -2,7 +2,7 @@
 use Rattle.std.specs.Prelude.{List, [], ◌∷◌, ◌++◌, if◌then◌else◌}
 use Rattle.gw_model.specs.declared.observation.Observation.{Observation}
 use Rattle.gw_model.specs.declared.point.Report.{Report}
-use Rattle.gw_map.specs.Settings.{Setup}
+use Rattle.gw_map.specs.Settings.{Setup, station_clocks}
 use Rattle.gw_picture.specs.Log.{picture_of}
 use Rattle.gw_picture.specs.Loss.{losses_of}
 use Rattle.gw_picture.specs.Picture.{news_of_report}
@@ -15,7 +15,7 @@ use Rattle.gw_history.specs.Accepted.{is_accepted}
 abbrev pub news_after_log : Setup → List Observation → List Report → List Observation
 news_after_log setup log [] = []
 news_after_log setup log (r ∷ rs) =
-    let xs = news_of_report setup.station.offset_minutes setup.rows (picture_of setup.rows log) r in
+    let xs = news_of_report (station_clocks setup.station) setup.rows (picture_of setup.rows log) r in
     xs ++ news_after_log setup (log ++ xs) rs
 
 -- what a step without a fault brings to the log

@@ -2,17 +2,15 @@
 use Rattle.std.specs.Prelude.{ℕ, ◌<◌, List, slice_get, Option}
 use Rattle.gw_map.specs.Settings.{Setup, HasSingleAddresses}
 use Rattle.iec_window.specs.Sequence.{numbers}
-use Rattle.gw_answers.specs.Meaning.{HasShortAddresses}
 use Rattle.gw_station.specs.Client.{Client}
 use Rattle.gw_steps.specs.Carried.{AreMeant}
 use Rattle.gw_steps.specs.Runs.{Entry, state_after, IsRun, AtEach}
 use Rattle.gw_steps.specs.Sound.{LeavesSound}
 
--- no two rows or controls are of one object, the known common addresses have 16 bits, the window k is smaller than the
--- sequence numbers, and some news may wait for a client
+-- no two rows or controls are of one object, the window k is smaller than the sequence numbers, and some news may wait for
+-- a client
 pub record IsSoundSetup (setup : Setup) : Type 0 where
   pub addresses : HasSingleAddresses setup.rows setup.controls
-  pub known : HasShortAddresses setup
   pub window : setup.station.k < numbers
   pub queue : 0 < setup.station.queue
 

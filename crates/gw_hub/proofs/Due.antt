@@ -1,8 +1,9 @@
 -- A poll is due exactly where it would be answered with a request, and a pump where it would be with an APDU.
-use Rattle.std.proofs.Common.{◌≡◌, ℕ, ℤ, Bool, true, false, cond, List, ◌++◌, Option, Some, None, refl, sym, ap, ◌∙◌}
+use Rattle.std.proofs.Common.{◌≡◌, ℕ, Bool, true, false, cond, List, ◌++◌, Option, Some, None, refl, sym, ap, ◌∙◌}
 use Rattle.std.specs.Prelude.{◌&&◌, ◌||◌, is_some, nat_lt, option_map, slice_get}
-use Rattle.gw_map.specs.Settings.{Setup}
+use Rattle.gw_map.specs.Settings.{Setup, station_clocks}
 use Rattle.gw_model.specs.declared.control.Order.{Order}
+use Rattle.gw_model.specs.Clocks.{Clocks}
 use Rattle.dnp_master.specs.declared.exchange.Exchange.{Exchange}
 use Rattle.dnp_master.specs.declared.exchange.Exchange.TheVariants.{Idle, Waiting, Selected}
 use Rattle.dnp_master.specs.declared.task.Task.{Task}
@@ -100,16 +101,16 @@ gave : (content : Sending → ApduContent) (offer : Option Sending)
 gave content None = refl
 gave content (Some sending) = refl
 
-by_client : (offset : ℤ) (found : Option Client) (moment : ℕ)
+by_client : (clocks : Clocks) (found : Option Client) (moment : ℕ)
     → option_map (λ k. is_up k.stage) found ≡ Some true
-    → has_offer moment found ≡ gives_apdu (client_reply (λ k. reply_giving (given offset moment k)) found)
-by_client offset None moment e = absurd cc
-by_client offset (Some k) moment e =
+    → has_offer moment found ≡ gives_apdu (client_reply (λ k. reply_giving (given clocks moment k)) found)
+by_client clocks None moment e = absurd cc
+by_client clocks (Some k) moment e =
     let up : is_up k.stage ≡ true = cc in
-    ap (λ (b : Bool). b && is_some (offered moment k)) up ∙ gave (content_of offset k) (offered moment k)
+    ap (λ (b : Bool). b && is_some (offered moment k)) up ∙ gave (content_of clocks k) (offered moment k)
 
 pub pumped : (setup : Setup) (s : State) (client : ℕ) → client_up s client ≡ Some true
     → has_offer s.moment (slice_get s.clients client) ≡ gives_apdu (reply_to setup s (steps.Pump client s.moment))
 pumped setup s c up =
     ap (λ (moment : ℕ). has_offer moment (slice_get s.clients c)) (same s.moment)
-    ∙ by_client setup.station.offset_minutes (slice_get s.clients c) (latest s s.moment) up
+    ∙ by_client (station_clocks setup.station) (slice_get s.clients c) (latest s s.moment) up

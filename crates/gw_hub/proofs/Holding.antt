@@ -2,17 +2,18 @@
 use Rattle.std.specs.Prelude.{slice_get, option_map, is_some, nat_lt, IfSome, if◌then◌else◌}
 use Rattle.std.specs.List.{AllByRecursion}
 use Rattle.std.specs.Option.{option_to_list}
-use Rattle.std.proofs.Common.{◌≡◌, ℕ, ℤ, zero, suc, ◌+◌, ◌*◌, ◌-◌, ◌<◌, ◌≤◌, Bool, true, false, List, [], ◌∷◌, ◌++◌, map, length, Option, Some, None, Ok, refl, sym, ap, subst, ◌∙◌, arith, inl, inr}
+use Rattle.std.proofs.Common.{◌≡◌, ℕ, zero, suc, ◌+◌, ◌*◌, ◌-◌, ◌<◌, ◌≤◌, Bool, true, false, List, [], ◌∷◌, ◌++◌, map, length, Option, Some, None, Ok, refl, sym, ap, subst, ◌∙◌, arith, inl, inr}
 use Rattle.std.proofs.lemmas.List.{length-append}
 use Rattle.std.proofs.lemmas.Bool.{cases_Bool, cases_eq, ne_eqb, eq-eqb}
 use Rattle.gw_model.specs.Places.{change}
 use Rattle.gw_model.specs.declared.control.Ended.{Ended}
 use Rattle.gw_model.specs.declared.observation.Observation.{Observation}
-use Rattle.gw_map.specs.Settings.{Setup}
+use Rattle.gw_map.specs.Settings.{Setup, station_clocks}
 use Rattle.gw_entries.specs.Setup.{StationSetup}
 use Rattle.gw_picture.proofs.Lists.{change-here, change-still, change-there, map-get}
 use Rattle.dnp_master.specs.Master.{Master, ended_by_tick, is_ready, master_after_tick}
 use Rattle.gw_model.specs.declared.control.Order.{Order}
+use Rattle.gw_model.specs.Clocks.{Clocks}
 use Rattle.gw_answers.specs.Meaning.{IsSendable}
 use Rattle.iec_command.specs.declared.command.Command.{Command}
 use Rattle.iec_command.specs.Commands.{IsWhole}
@@ -413,10 +414,10 @@ sound_of setup s picture rows masters o = record {
 }
 
 -- where no client's places change, orders keep theirs
-pub pumped_held : (offset : ℤ) (moment : ℕ) (k : Client) → (client_after_pump offset moment k).held ≡ k.held
-pumped_held offset moment k = go (offered moment k)
+pub pumped_held : (clocks : Clocks) (moment : ℕ) (k : Client) → (client_after_pump clocks moment k).held ≡ k.held
+pumped_held clocks moment k = go (offered moment k)
   where
-    go : (x : Option Sending) → (client_by_offer offset moment x k).held ≡ k.held
+    go : (x : Option Sending) → (client_by_offer clocks moment x k).held ≡ k.held
     go None = refl
     go (Some sendings.Test) = refl
     go (Some _) = refl
@@ -494,7 +495,7 @@ left_by_close setup station n i p f ks new v out clients controls none sound bef
 })
 
 pub news_holds : (setup : Setup) (station : StationSetup) (n i : ℕ) (xs : List Observation) (ks new : List Client)
-    (v : Controls) → new ≡ map (client_with_news xs) ks → AllByRecursion (IsSendable station.offset_minutes) xs
+    (v : Controls) → new ≡ map (client_with_news xs) ks → AllByRecursion (IsSendable (station_clocks station)) xs
     → Orderly setup station n i ks v → HoldsPlaces new v
 news_holds setup station n i xs ks new v e sends before =
     holds setup station n (i + length xs) new v

@@ -3,7 +3,6 @@ use Rattle.std.proofs.Common.{ℕ, ◌≤◌, List, [], ◌∷◌, length, take,
 use Rattle.std.specs.List.{AllByRecursion}
 use Rattle.gw_entries.specs.Ranges.{IsStation}
 use Rattle.gw_map.specs.Settings.{Setup, HasSingleAddresses}
-use Rattle.gw_answers.specs.Meaning.{HasShortAddresses}
 use Rattle.gw_steps.specs.declared.step.Step.{Step}
 use Rattle.gw_steps.specs.declared.step.Reply.{Reply}
 use Rattle.gw_steps.specs.declared.step.StepFault.{StepFault}
@@ -24,15 +23,14 @@ history_meant past (s ∷ ss) (r ∷ rs) before all =
 
 -- all steps were made
 pub made : (setup : Setup) (ss : List Step) (rs : List (Result Reply StepFault)) (i : ℕ) (s : State)
-    → HasSingleAddresses setup.rows setup.controls → HasShortAddresses setup → IsStation setup.station
+    → HasSingleAddresses setup.rows setup.controls → IsStation setup.station
     → length ss ≤ i → Ran setup (history [] (take i ss) rs) s → AllByRecursion IsMeant (take i ss)
     → IsSoundRun setup (history [] ss rs)
-made setup ss rs i s addresses known station all so_far meant =
+made setup ss rs i s addresses station all so_far meant =
     let ran : Ran setup (history [] ss rs) s = run_all setup ss rs i s all so_far in
     record {
       settings = record {
         addresses = addresses;
-        known = known;
         window = omega (arith, station.k.1);
         queue = omega (arith, station.queue.0);
       };

@@ -1,10 +1,11 @@
 -- What every hub keeps of its clients: outside of a session no news wait, and none were dropped.
 use Rattle.std.specs.Prelude.{replicate}
-use Rattle.std.proofs.Common.{◌≡◌, ℕ, ℤ, zero, suc, Option, Some, None, List, [], ◌∷◌, drop, inl, inr, refl, sym, ap, subst, ◌∙◌, arith}
+use Rattle.std.proofs.Common.{◌≡◌, ℕ, zero, suc, Option, Some, None, List, [], ◌∷◌, drop, inl, inr, refl, sym, ap, subst, ◌∙◌, arith}
 use Rattle.std.specs.List.{AllByRecursion}
 use Rattle.std.proofs.lemmas.Bool.{cases_Bool}
 use Rattle.gw_model.specs.declared.observation.Observation.{Observation}
 use Rattle.gw_model.specs.Places.{change}
+use Rattle.gw_model.specs.Clocks.{Clocks}
 use Rattle.gw_map.specs.Settings.{Setup}
 use Rattle.iec_apci.specs.declared.apdu.Apdu.{Apdu}
 use Rattle.iec_apci.specs.declared.apdu.Apdu.TheVariants.{I, S, U}
@@ -79,14 +80,14 @@ pub kept_told : (command : Command) (said : Said) (c : Client) → KeepsToSessio
     → KeepsToSession (client_told command said c)
 kept_told command said c holds = record { outside = holds.outside }
 
-pub kept_after_pump : (offset : ℤ) (moment : ℕ) (c : Client) → KeepsToSession c
-    → KeepsToSession (client_after_pump offset moment c)
-kept_after_pump offset moment c holds = go (offered moment c)
+pub kept_after_pump : (clocks : Clocks) (moment : ℕ) (c : Client) → KeepsToSession c
+    → KeepsToSession (client_after_pump clocks moment c)
+kept_after_pump clocks moment c holds = go (offered moment c)
   where
-    go : (x : Option Sending) → KeepsToSession (client_by_offer offset moment x c)
+    go : (x : Option Sending) → KeepsToSession (client_by_offer clocks moment x c)
     go None = holds
     go (Some (sendings.News x)) =
-        let n : ℕ = together offset (line c) in
+        let n : ℕ = together clocks (line c) in
         record { outside = λ idle. (ap (drop n) (holds.outside idle).0 ∙ drop_none n, (holds.outside idle).1) }
     go (Some _) = record { outside = holds.outside }
 

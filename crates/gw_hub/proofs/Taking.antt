@@ -4,13 +4,15 @@ use Rattle.std.proofs.lemmas.Bool.{ltb-true}
 use Rattle.gw_steps.specs.State.{Counts}
 use Rattle.gw_steps.specs.Steps.{can_rise}
 use Rattle.gw_hub.specs.Hub.{step_with}
-use Rattle.std.proofs.Common.{◌≡◌, Bool, true, false, ltb, ℕ, ℤ, ◌+◌, ◌^◌, ◌<◌, ◌≤◌, List, [], ◌∷◌, ◌++◌, map, length, refl, sym, ap, subst, ◌∙◌, arith}
+use Rattle.std.proofs.Common.{◌≡◌, Bool, true, false, ltb, ℕ, ◌+◌, ◌^◌, ◌<◌, ◌≤◌, List, [], ◌∷◌, ◌++◌, map, length, refl, sym, ap, subst, ◌∙◌, arith}
 use Rattle.std.specs.List.{AllByRecursion}
 use Rattle.std.proofs.lemmas.List.{length-append}
 use Rattle.gw_model.specs.declared.observation.Observation.{Observation}
 use Rattle.gw_entries.specs.declared.row.Row.{Row}
 use Rattle.gw_model.specs.declared.point.Report.{Report}
 use Rattle.gw_model.specs.Places.{change}
+use Rattle.gw_model.specs.Clocks.{Clocks}
+use Rattle.gw_map.specs.Settings.{station_clocks}
 use Rattle.gw_entries.specs.Setup.{StationSetup}
 use Rattle.gw_picture.specs.Picture.{news_of, news_of_report, picture_after_report, picture_after}
 use Rattle.gw_picture.specs.Shown.{IsShown}
@@ -70,7 +72,7 @@ sound_ticked station n i moment cs all =
 
 -- news came to every client in a step
 pub sound_came : (station : StationSetup) (n m i j : ℕ) (xs : List Observation) (cs changed : List Client)
-    → changed ≡ map (client_with_news xs) cs → AllByRecursion (IsSendable station.offset_minutes) xs
+    → changed ≡ map (client_with_news xs) cs → AllByRecursion (IsSendable (station_clocks station)) xs
     → n ≤ m → i + length xs ≤ j → AllByRecursion (IsSoundClient station n i) cs
     → AllByRecursion (IsSoundClient station m j) changed
 sound_came station n m i j xs cs changed e sends le few all =
@@ -79,11 +81,11 @@ sound_came station n m i j xs cs changed e sends le few all =
     (λ c sound. sound_with_news station n i xs c sends sound) all)
 
 -- what is shown can be sent
-pub sendable_shown : (offset : ℤ) (xs : List Observation) → AllByRecursion IsShown xs
-    → AllByRecursion (IsSendable offset) xs
-sendable_shown offset xs all =
-    all_so IsShown (IsSendable offset) xs
-    (λ x shown. record { fit = shown_fit offset x shown; width = shown.width }) all
+pub sendable_shown : (clocks : Clocks) (xs : List Observation) → AllByRecursion IsShown xs
+    → AllByRecursion (IsSendable clocks) xs
+sendable_shown clocks xs all =
+    all_so IsShown (IsSendable clocks) xs
+    (λ x shown. record { fit = shown_fit clocks x shown; width = shown.width }) all
 
 -- ---- what can be counted
 
@@ -134,60 +136,60 @@ sound_within station n i cs all = all_so (IsSoundClient station n i) WaitsWithin
 -- ---- what is left to take
 
 -- n news were taken, and the rest of the reports brings what is left of all
-pub record Left (offset : ℤ) (rows : List Row) (n : ℕ) (picture : List Observation) (rest : List Report)
+pub record Left (clocks : Clocks) (rows : List Row) (n : ℕ) (picture : List Observation) (rest : List Report)
     (cs : List Client) (all last : List Observation) (final : List Client) : Type 0 where
-  pub count : n + length (news_of offset rows picture rest) ≡ length all
-  pub shown : picture_after offset rows picture rest ≡ last
-  pub clients_left : map (client_with_news (news_of offset rows picture rest)) cs ≡ final
-  pub sendable : AllByRecursion (IsSendable offset) (news_of offset rows picture rest)
-      → AllByRecursion (IsSendable offset) all
+  pub count : n + length (news_of clocks rows picture rest) ≡ length all
+  pub shown : picture_after clocks rows picture rest ≡ last
+  pub clients_left : map (client_with_news (news_of clocks rows picture rest)) cs ≡ final
+  pub sendable : AllByRecursion (IsSendable clocks) (news_of clocks rows picture rest)
+      → AllByRecursion (IsSendable clocks) all
 
-pub left_first : (offset : ℤ) (rows : List Row) (picture : List Observation) (rs : List Report) (cs : List Client)
-    → Left offset rows 0 picture rs cs (news_of offset rows picture rs) (picture_after offset rows picture rs)
-    (map (client_with_news (news_of offset rows picture rs)) cs)
-left_first offset rows picture rs cs =
+pub left_first : (clocks : Clocks) (rows : List Row) (picture : List Observation) (rs : List Report) (cs : List Client)
+    → Left clocks rows 0 picture rs cs (news_of clocks rows picture rs) (picture_after clocks rows picture rs)
+    (map (client_with_news (news_of clocks rows picture rs)) cs)
+left_first clocks rows picture rs cs =
     record { count = omega arith; shown = refl; clients_left = refl; sendable = λ all. all }
 
-pub left_more : (offset : ℤ) (rows : List Row) (n m : ℕ) (picture new : List Observation) (r : Report)
+pub left_more : (clocks : Clocks) (rows : List Row) (n m : ℕ) (picture new : List Observation) (r : Report)
     (now rest : List Report) (cs changed : List Client) (all last : List Observation) (final : List Client)
-    → Left offset rows n picture now cs all last final → now ≡ r ∷ rest
-    → m ≡ length (news_of_report offset rows picture r) → new ≡ picture_after_report offset rows picture r
-    → changed ≡ map (client_with_news (news_of_report offset rows picture r)) cs
-    → AllByRecursion (IsSendable offset) (news_of_report offset rows picture r)
-    → Left offset rows (n + m) new rest changed all last final
-left_more offset rows n m picture new r now rest cs changed all last final left is em en ec sends =
-    let xs : List Observation = news_of_report offset rows picture r in
-    let ys : List Observation = news_of offset rows (picture_after_report offset rows picture r) rest in
-    let here : Left offset rows n picture (r ∷ rest) cs all last final =
-    subst (λ (rs : List Report). Left offset rows n picture rs cs all last final) is left in
-    let on : Left offset rows (n + m) (picture_after_report offset rows picture r) rest changed all last final =
+    → Left clocks rows n picture now cs all last final → now ≡ r ∷ rest
+    → m ≡ length (news_of_report clocks rows picture r) → new ≡ picture_after_report clocks rows picture r
+    → changed ≡ map (client_with_news (news_of_report clocks rows picture r)) cs
+    → AllByRecursion (IsSendable clocks) (news_of_report clocks rows picture r)
+    → Left clocks rows (n + m) new rest changed all last final
+left_more clocks rows n m picture new r now rest cs changed all last final left is em en ec sends =
+    let xs : List Observation = news_of_report clocks rows picture r in
+    let ys : List Observation = news_of clocks rows (picture_after_report clocks rows picture r) rest in
+    let here : Left clocks rows n picture (r ∷ rest) cs all last final =
+    subst (λ (rs : List Report). Left clocks rows n picture rs cs all last final) is left in
+    let on : Left clocks rows (n + m) (picture_after_report clocks rows picture r) rest changed all last final =
     record {
       count = omega (arith, here.count, length-append xs ys, em);
       shown = here.shown;
       clients_left = ap (map (client_with_news ys)) ec ∙ (map_came-twice xs ys cs ∙ here.clients_left);
-      sendable = λ more. here.sendable (sendable-append offset xs ys sends more);
+      sendable = λ more. here.sendable (sendable-append clocks xs ys sends more);
     } in
-    subst (λ (p : List Observation). Left offset rows (n + m) p rest changed all last final) (sym en) on
+    subst (λ (p : List Observation). Left clocks rows (n + m) p rest changed all last final) (sym en) on
 
-pub left_none : (offset : ℤ) (rows : List Row) (n : ℕ) (picture : List Observation) (rest : List Report)
+pub left_none : (clocks : Clocks) (rows : List Row) (n : ℕ) (picture : List Observation) (rest : List Report)
     (cs : List Client) (all last : List Observation) (final : List Client)
-    → rest ≡ [] → AllByRecursion WaitsWithin cs → Left offset rows n picture rest cs all last final
-    → (n ≡ length all) × (picture ≡ last) × (cs ≡ final) × AllByRecursion (IsSendable offset) all
-left_none offset rows n picture rest cs all last final e few left =
-    let here : Left offset rows n picture [] cs all last final =
-    subst (λ (rs : List Report). Left offset rows n picture rs cs all last final) e left in
+    → rest ≡ [] → AllByRecursion WaitsWithin cs → Left clocks rows n picture rest cs all last final
+    → (n ≡ length all) × (picture ≡ last) × (cs ≡ final) × AllByRecursion (IsSendable clocks) all
+left_none clocks rows n picture rest cs all last final e few left =
+    let here : Left clocks rows n picture [] cs all last final =
+    subst (λ (rs : List Report). Left clocks rows n picture rs cs all last final) e left in
     (omega (arith, here.count), here.shown, map_came-nil cs few ∙ here.clients_left, here.sendable tt)
 
 -- the first of the reports brings no more than all of them, and the others the rest
-pub rest_length : (offset : ℤ) (rows : List Row) (picture : List Observation) (r : Report) (now rest : List Report)
+pub rest_length : (clocks : Clocks) (rows : List Row) (picture : List Observation) (r : Report) (now rest : List Report)
     → now ≡ r ∷ rest
-    → length (news_of offset rows picture now)
-    ≡ length (news_of offset rows (picture_after_report offset rows picture r) rest)
-    + length (news_of_report offset rows picture r)
-rest_length offset rows picture r now rest e =
-    ap (λ (rs : List Report). length (news_of offset rows picture rs)) e
+    → length (news_of clocks rows picture now)
+    ≡ length (news_of clocks rows (picture_after_report clocks rows picture r) rest)
+    + length (news_of_report clocks rows picture r)
+rest_length clocks rows picture r now rest e =
+    ap (λ (rs : List Report). length (news_of clocks rows picture rs)) e
     ∙ omega (
       arith,
-      length-append (news_of_report offset rows picture r)
-          (news_of offset rows (picture_after_report offset rows picture r) rest),
+      length-append (news_of_report clocks rows picture r)
+          (news_of clocks rows (picture_after_report clocks rows picture r) rest),
     )

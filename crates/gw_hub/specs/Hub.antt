@@ -2,7 +2,7 @@
 use Rattle.std.specs.Prelude.{◌≡◌, ℕ, ◌+◌, ◌*◌, ◌^◌, ◌<◌, ◌≤◌, Bool, true, false, ◌==◌, ◌||◌, is_some, List, [], length, slice_get, Option, Some, None, Result, Ok, Err, IfSome, if◌then◌else◌}
 use Rattle.std.specs.List.{AllByRecursion}
 use Rattle.gw_model.specs.declared.point.Report.{Report}
-use Rattle.gw_map.specs.Settings.{Setup}
+use Rattle.gw_map.specs.Settings.{Setup, station_clocks}
 use Rattle.gw_model.specs.declared.observation.Observation.{Observation}
 use Rattle.gw_picture.specs.Picture.{news_of, news_of_report}
 use Rattle.dnp_app.specs.Response.{Fragment}
@@ -62,10 +62,10 @@ step_with news sessions = record { steps = 1; news = news; sessions = sessions }
 
 -- the news that a report is after a picture: none or one; and those that reports taken in turn are
 abbrev pub news_of_one : Setup → List Observation → Report → List Observation
-news_of_one setup picture report = news_of_report setup.station.offset_minutes setup.rows picture report
+news_of_one setup picture report = news_of_report (station_clocks setup.station) setup.rows picture report
 
 abbrev pub news_of_all : Setup → List Observation → List Report → List Observation
-news_of_all setup picture reports = news_of setup.station.offset_minutes setup.rows picture reports
+news_of_all setup picture reports = news_of (station_clocks setup.station) setup.rows picture reports
 
 -- how many news these reports are
 abbrev pub news_among : Hub → List Report → ℕ

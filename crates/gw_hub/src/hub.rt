@@ -3,7 +3,6 @@ ghost use Rattle.std.specs.Prelude.{◌≡◌, ◌<◌, ◌^◌, [], length, tru
 ghost use Rattle.std.specs.List.{AllByRecursion};
 ghost use Rattle.gw_entries.specs.Ranges.{IsStation};
 ghost use Rattle.gw_map.specs.Settings.{HasSingleAddresses};
-ghost use Rattle.gw_answers.specs.Meaning.{HasShortAddresses};
 ghost use Rattle.gw_station.specs.Client.{limits_of};
 ghost use Rattle.gw_steps.specs.declared.step.Step.TheVariants as steps;
 ghost use Rattle.gw_steps.specs.declared.step.StepFault.TheVariants.{Spent};
@@ -83,7 +82,6 @@ impl Hub {
         ensures setup { IfOk result (λ hub. hub.setup ≡ settings) }
         ensures state { IfOk result (λ hub. hub.state ≡ at_first settings) }
         ensures settings { HasSingleAddresses settings.rows settings.controls × IsStation settings.station }
-        ensures known { HasShortAddresses settings }
         ensures indices { AllByRecursion HasShortIndex settings.controls }
     {
         let none = Counts {
@@ -100,12 +98,10 @@ impl Hub {
         ensures setup { IfOk result (λ hub. hub.setup ≡ settings) }
         ensures state { IfOk result (λ hub. hub.state ≡ first_after settings (tally_of counts) counts.orders) }
         ensures settings { HasSingleAddresses settings.rows settings.controls × IsStation settings.station }
-        ensures known { HasShortAddresses settings }
         ensures indices { AllByRecursion HasShortIndex settings.controls }
     {
-        // The contracts of `rows`, `known_addresses` and `station` tell what all settings keep.
+        // The contracts of `rows` and `station` tell what all settings keep.
         let _rows = settings.rows();
-        let _known = settings.known_addresses();
         attest_indices(settings.controls());
         let station = settings.station();
         let outstations = Outstations::new(alloc, settings.outstations())?;
@@ -245,7 +241,6 @@ impl Hub {
     fn make(&mut self, steps: &[Step]) -> Result<Vec<Result<Reply, StepFault>>, Memory>
         requires first { self.old.state ≡ at_first self.old.setup }
         requires addresses { HasSingleAddresses self.old.setup.rows self.old.setup.controls }
-        requires known { HasShortAddresses self.old.setup }
         requires station { IsStation self.old.setup.station }
         ensures replies { IfOk result (λ replies. length replies.items ≡ length steps.now) }
         ensures run { IfOk result (λ replies. IsSoundRun self.old.setup (history [] steps.now replies.items)) }

@@ -1,6 +1,7 @@
 //! What reports and losses show, and what of it comes to the clients.
 ghost use Rattle.std.specs.Prelude.{◌≡◌, ◌+◌, ◌<◌, ◌^◌, length, map};
 ghost use Rattle.std.specs.List.{AllByRecursion};
+ghost use Rattle.gw_map.specs.Settings.{station_clocks};
 ghost use Rattle.gw_picture.specs.Loss.{losses_at, losses_of, picture_after_loss, picture_losing_at};
 ghost use Rattle.gw_picture.specs.Picture.{picture_after, picture_after_report};
 ghost use Rattle.gw_station.specs.Client.{client_with_news};
@@ -24,15 +25,15 @@ fn take_report(
     requires few { AllByRecursion WaitsWithin clients.old.each }
     ensures count { result ≡ length (news_of_one settings.now picture.old report.now) }
     ensures picture { picture.new
-        ≡ picture_after_report settings.now.station.offset_minutes settings.now.rows picture.old report.now }
+        ≡ picture_after_report (station_clocks settings.now.station) settings.now.rows picture.old report.now }
     ensures clients { clients.new.each
         ≡ map (client_with_news (news_of_one settings.now picture.old report.now)) clients.old.each }
     ensures news { clients.new.news
         ≡ clients.old.news + length (news_of_one settings.now picture.old report.now) }
-    ensures sendable { AllByRecursion (IsSendable settings.now.station.offset_minutes)
+    ensures sendable { AllByRecursion (IsSendable (station_clocks settings.now.station))
         (news_of_one settings.now picture.old report.now) }
 {
-    match picture.take(report, settings, &settings.zone()) {
+    match picture.take(report, settings) {
         None => 0,
         Some(image) => {
             clients.put(image);
@@ -52,12 +53,12 @@ pub fn take_reports(
     requires few { AllByRecursion WaitsWithin clients.old.each }
     ensures count { result ≡ length (news_of_all settings.now picture.old reports.now) }
     ensures picture { picture.new
-        ≡ picture_after settings.now.station.offset_minutes settings.now.rows picture.old reports.now }
+        ≡ picture_after (station_clocks settings.now.station) settings.now.rows picture.old reports.now }
     ensures clients { clients.new.each
         ≡ map (client_with_news (news_of_all settings.now picture.old reports.now)) clients.old.each }
     ensures news { clients.new.news
         ≡ clients.old.news + length (news_of_all settings.now picture.old reports.now) }
-    ensures sendable { AllByRecursion (IsSendable settings.now.station.offset_minutes)
+    ensures sendable { AllByRecursion (IsSendable (station_clocks settings.now.station))
         (news_of_all settings.now picture.old reports.now) }
 {
     let mut news = 0;
@@ -82,7 +83,7 @@ fn lose_row(
         ≡ map (client_with_news (losses_at outstation settings.now.rows picture.old position)) clients.old.each }
     ensures news { clients.new.news
         ≡ clients.old.news + length (losses_at outstation settings.now.rows picture.old position) }
-    ensures sendable { AllByRecursion (IsSendable settings.now.station.offset_minutes)
+    ensures sendable { AllByRecursion (IsSendable (station_clocks settings.now.station))
         (losses_at outstation settings.now.rows picture.old position) }
 {
     if let Some(news) = picture.lose(position, outstation, settings) {
@@ -99,7 +100,7 @@ pub fn lose_rows(picture: &mut Picture, clients: &mut Clients, settings: &Settin
         ≡ map (client_with_news (losses_of outstation settings.now.rows picture.old)) clients.old.each }
     ensures news { clients.new.news
         ≡ clients.old.news + length (losses_of outstation settings.now.rows picture.old) }
-    ensures sendable { AllByRecursion (IsSendable settings.now.station.offset_minutes)
+    ensures sendable { AllByRecursion (IsSendable (station_clocks settings.now.station))
         (losses_of outstation settings.now.rows picture.old) }
 {
     for position in 0..picture.rows().len() {

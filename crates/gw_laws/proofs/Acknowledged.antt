@@ -1,7 +1,8 @@
 -- What ties the I formats that a client has acknowledged to its turns.
-use Rattle.std.proofs.Common.{ℤ, ◌≡◌, ℕ, ◌+◌, ◌-◌, ◌%◌, ◌<◌, ◌≤◌, true, leb, ltb, List, ◌∷◌, map, length, refl, sym, ap, ◌∙◌, arith, inl, inr}
+use Rattle.std.proofs.Common.{◌≡◌, ℕ, ◌+◌, ◌-◌, ◌%◌, ◌<◌, ◌≤◌, true, leb, ltb, List, ◌∷◌, map, length, refl, sym, ap, ◌∙◌, arith, inl, inr}
 use Rattle.std.proofs.lemmas.Bool.{cases_Bool, le-leb, leb-true, ltb-true, true≢false}
-use Rattle.gw_map.specs.Settings.{Setup}
+use Rattle.gw_model.specs.Clocks.{Clocks}
+use Rattle.gw_map.specs.Settings.{Setup, station_clocks}
 use Rattle.iec_apci.specs.declared.apdu.Apdu.{Apdu}
 use Rattle.iec_apci.specs.declared.apdu.Apdu.TheVariants.{I, S, U}
 use Rattle.iec_apci.specs.declared.apdu.Signal.{Signal}
@@ -99,14 +100,14 @@ took setup moment (S nr) taking ts k new small tied takes so_far =
 took setup moment (U signal) taking ts k new small tied takes so_far =
     ap (λ (w : WindowCounts). w.acknowledged) takes.window ∙ (signal_keeps moment signal k.window ∙ so_far)
 
-sent_keeps : (offset : ℤ) (moment : ℕ) (s : Sending) (k : Client)
-    → (client_with_sent offset moment s k).window.acknowledged ≡ k.window.acknowledged
-sent_keeps offset moment (sendings.Confirm signal) k = refl
-sent_keeps offset moment sendings.Test k = refl
-sent_keeps offset moment (sendings.Answer answer) k = refl
-sent_keeps offset moment (sendings.News x) k = refl
-sent_keeps offset moment (sendings.Part part) k = refl
-sent_keeps offset moment sendings.SFormat k = refl
+sent_keeps : (clocks : Clocks) (moment : ℕ) (s : Sending) (k : Client)
+    → (client_with_sent clocks moment s k).window.acknowledged ≡ k.window.acknowledged
+sent_keeps clocks moment (sendings.Confirm signal) k = refl
+sent_keeps clocks moment sendings.Test k = refl
+sent_keeps clocks moment (sendings.Answer answer) k = refl
+sent_keeps clocks moment (sendings.News x) k = refl
+sent_keeps clocks moment (sendings.Part part) k = refl
+sent_keeps clocks moment sendings.SFormat k = refl
 
 acknowledged_more : (setup : Setup) (began : ℕ) → setup.station.k < 32768 → (moment : ℕ) (turn : Turn)
     (ts : List TimedTurn) (k new : Client) → Linked setup began ts k → WindowTied setup (map turn_in ts) k.window
@@ -116,7 +117,7 @@ acknowledged_more setup began small moment (Idle brought) ts k new linked tied i
 acknowledged_more setup began small moment (Takes a taking) ts k new linked tied is so_far =
     took setup moment a taking ts k new small tied is so_far
 acknowledged_more setup began small moment (PutsOut said) ts k new linked tied is so_far =
-    ap (λ (x : Client). x.window.acknowledged) is.becomes ∙ (sent_keeps setup.station.offset_minutes moment is.sending k ∙ so_far)
+    ap (λ (x : Client). x.window.acknowledged) is.becomes ∙ (sent_keeps (station_clocks setup.station) moment is.sending k ∙ so_far)
 acknowledged_more setup began small moment Ends ts k new linked tied is so_far = absurd is
 
 pub acknowledged_tied : (setup : Setup) (began : ℕ) → setup.station.k < 32768 → (ts : List TimedTurn) (k : Client)

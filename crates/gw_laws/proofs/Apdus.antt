@@ -1,7 +1,7 @@
 -- What a pump puts out reads as one APDU.
 use Rattle.std.proofs.Common.{◌≡◌, ℕ, List, [], ◌∷◌, Option, Some, None, Result, Ok, Err, refl, sym, ap, subst, ◌∙◌}
 use Rattle.std.specs.Prelude.{slice_get, option_map}
-use Rattle.gw_map.specs.Settings.{Setup}
+use Rattle.gw_map.specs.Settings.{Setup, station_clocks}
 use Rattle.iec_apci.specs.Apdu.{ApduContent}
 use Rattle.gw_station.specs.declared.sending.Sending.{Sending}
 use Rattle.gw_station.specs.Client.{Client, is_up}
@@ -23,12 +23,12 @@ use Rattle.gw_laws.specs.Apdus.{ReadsAsOne, Apdus}
 -- what is made of an offer reads as one
 given_reads : (setup : Setup) (c m : ℕ) (k : Client) (x : Option Sending)
     → ReadsAsOne setup (steps.Pump c m)
-    (Ok (reply_giving (option_map (content_of setup.station.offset_minutes k) x)))
+    (Ok (reply_giving (option_map (content_of (station_clocks setup.station) k) x)))
 given_reads setup c m k None = tt
 given_reads setup c m k (Some sending) =
-    let content : ApduContent = content_of setup.station.offset_minutes k sending in
-    rw (said-content setup.station.offset_minutes content
-    (content_fits setup.station.offset_minutes k sending)) refl
+    let content : ApduContent = content_of (station_clocks setup.station) k sending in
+    rw (said-content (station_clocks setup.station) content
+    (content_fits (station_clocks setup.station) k sending)) refl
 
 pump_reads : (setup : Setup) (c m : ℕ) (r : Reply) (s : State) → outcome setup s (steps.Pump c m) ≡ Ok r
     → ReadsAsOne setup (steps.Pump c m) (Ok r)
@@ -36,9 +36,9 @@ pump_reads setup c m r s e =
     let step : Step = steps.Pump c m in
     let told = answered (fault_of s step) (can_be_counted s (needs setup s step)) (reply_to setup s step) r e in
     let up = who_is_up (λ (k : Client). is_up k.stage) NoClient (slice_get s.clients c) told.0 in
-    let reply : reply_giving (given setup.station.offset_minutes (latest s m) up.0) ≡ r =
+    let reply : reply_giving (given (station_clocks setup.station) (latest s m) up.0) ≡ r =
     sym (ap (client_reply (λ (k : Client). reply_giving
-    (given setup.station.offset_minutes (latest s m) k))) up.1) ∙ told.2 in
+    (given (station_clocks setup.station) (latest s m) k))) up.1) ∙ told.2 in
     subst (λ (x : Reply). ReadsAsOne setup step (Ok x)) reply (given_reads setup c m up.0 (offered (latest s m) up.0))
 
 by_reply : (setup : Setup) (s : State) (step : Step) (reply : Result Reply StepFault) (new : State)

@@ -4,7 +4,7 @@ use Rattle.std.proofs.lemmas.List.{length-map}
 use Rattle.gw_model.specs.declared.control.Order.{Order}
 use Rattle.gw_model.specs.declared.observation.Observation.{Observation}
 use Rattle.gw_model.specs.Places.{change}
-use Rattle.gw_map.specs.Settings.{Setup}
+use Rattle.gw_map.specs.Settings.{Setup, station_clocks}
 use Rattle.gw_picture.specs.Picture.{news_of}
 use Rattle.gw_picture.proofs.Lists.{change-length}
 use Rattle.gw_control.specs.declared.answer.Outcome.{Outcome}
@@ -37,7 +37,7 @@ step_length setup s (steps.OutstationDown o m) =
 step_length setup s (steps.Fragment f m) = by (is_accepting s f)
   where
     xs : List Observation
-    xs = news_of setup.station.offset_minutes setup.rows s.picture f.reports
+    xs = news_of (station_clocks setup.station) setup.rows s.picture f.reports
 
     by : (taken : Bool) → length (cond taken (parts_after_fragment setup s (latest s m) f) s).clients ≡ length s.clients
     by true =

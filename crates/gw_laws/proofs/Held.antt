@@ -1,7 +1,8 @@
 -- What ties the places that a client's orders hold to its session.
-use Rattle.std.proofs.Common.{ℤ, ◌≡◌, ℕ, ◌-◌, ◌*◌, ◌<◌, List, ◌∷◌, length, Option, Some, None, refl, sym, ap, subst, ◌∙◌, arith}
+use Rattle.std.proofs.Common.{◌≡◌, ℕ, ◌-◌, ◌*◌, ◌<◌, List, ◌∷◌, length, Option, Some, None, refl, sym, ap, subst, ◌∙◌, arith}
 use Rattle.std.proofs.lemmas.Bool.{true≢false}
-use Rattle.gw_map.specs.Settings.{Setup}
+use Rattle.gw_model.specs.Clocks.{Clocks}
+use Rattle.gw_map.specs.Settings.{Setup, station_clocks}
 use Rattle.iec_apci.specs.declared.apdu.Apdu.{Apdu}
 use Rattle.iec_apci.specs.declared.apdu.Apdu.TheVariants.{I, S, U}
 use Rattle.iec_apci.specs.declared.apdu.Signal.{Signal}
@@ -78,13 +79,13 @@ took setup (S nr) taking moment (Some hs) k opens news tied = tied
 took setup (U signal) taking moment s k opens news tied = signal_taken setup taking moment signal s k news tied
 
 -- what is put out frees none of them
-sent_holds : (offset : ℤ) (moment : ℕ) (x : Sending) (k : Client) → (client_with_sent offset moment x k).held ≡ k.held
-sent_holds offset moment (sendings.Confirm signal) k = refl
-sent_holds offset moment sendings.Test k = refl
-sent_holds offset moment sendings.SFormat k = refl
-sent_holds offset moment (sendings.Answer answer) k = refl
-sent_holds offset moment (sendings.News x) k = refl
-sent_holds offset moment (sendings.Part part) k = refl
+sent_holds : (clocks : Clocks) (moment : ℕ) (x : Sending) (k : Client) → (client_with_sent clocks moment x k).held ≡ k.held
+sent_holds clocks moment (sendings.Confirm signal) k = refl
+sent_holds clocks moment sendings.Test k = refl
+sent_holds clocks moment sendings.SFormat k = refl
+sent_holds clocks moment (sendings.Answer answer) k = refl
+sent_holds clocks moment (sendings.News x) k = refl
+sent_holds clocks moment (sendings.Part part) k = refl
 
 put_out : (setup : Setup) (said : ApduMeaning) (s : Option (List Turn))
     → held setup (turns_in (session_with (PutsOut said) s)) ≡ held setup (turns_in s)
@@ -103,7 +104,7 @@ held_more setup some (Takes a taking) ts k new lives is tied =
     (took setup a taking is.moment (session ts) k is.opens (news_tied setup some ts k lives) tied)
 held_more setup some (PutsOut said) ts k new lives is tied =
     ap (λ (x : Client). x.held) is.becomes
-    ∙ (sent_holds setup.station.offset_minutes is.moment is.sending k ∙ (tied ∙ sym (put_out setup said (session ts))))
+    ∙ (sent_holds (station_clocks setup.station) is.moment is.sending k ∙ (tied ∙ sym (put_out setup said (session ts))))
 
 pub held_tied : (setup : Setup) → 0 < setup.station.queue
     → (ts : List Turn) (k : Client) → Lives setup ts k → HeldTied setup (session ts) k

@@ -1,12 +1,13 @@
 -- What ties what waits for a client to its session.
-use Rattle.std.proofs.Common.{◌≡◌, ℕ, zero, suc, ℤ, ◌+◌, ◌-◌, ◌<◌, ◌≤◌, Bool, true, false, List, [], ◌∷◌, ◌++◌, map, length, take, drop, Option, Some, None, refl, sym, ap, subst, ◌∙◌, append_assoc, arith, inl, inr}
+use Rattle.std.proofs.Common.{◌≡◌, ℕ, zero, suc, ◌+◌, ◌-◌, ◌<◌, ◌≤◌, Bool, true, false, List, [], ◌∷◌, ◌++◌, map, length, take, drop, Option, Some, None, refl, sym, ap, subst, ◌∙◌, append_assoc, arith, inl, inr}
 use Rattle.std.specs.Prelude.{◌&&◌, option_map, slice_get, IfSome}
 use Rattle.std.specs.Option.{option_to_list}
 use Rattle.std.specs.List.{AllByRecursion}
 use Rattle.std.proofs.lemmas.Bool.{cases_Bool, true≢false}
 use Rattle.std.proofs.lemmas.List.{append-nil, length-append, length-drop, length-take-le}
 use Rattle.gw_model.specs.declared.observation.Observation.{Observation}
-use Rattle.gw_map.specs.Settings.{Setup}
+use Rattle.gw_model.specs.Clocks.{Clocks}
+use Rattle.gw_map.specs.Settings.{Setup, station_clocks}
 use Rattle.iec_apci.specs.declared.apdu.Asdu.{Asdu as AsduOctets}
 use Rattle.iec_apci.specs.declared.apdu.Apdu.{Apdu}
 use Rattle.iec_apci.specs.declared.apdu.Apdu.TheVariants.{I, S, U}
@@ -450,30 +451,30 @@ asked_before (suc n) [] e = absurd (true≢false (sym e))
 asked_before (suc n) (part ∷ rest) e = refl
 
 gave : (setup : Setup) (moment : ℕ) (x : Sending) (s : Option (List Turn)) (k : Client)
-    → IsOffered k x → CanSend setup.station.offset_minutes x
-    → AllByRecursion (CanSend setup.station.offset_minutes) (line_in k)
+    → IsOffered k x → CanSend (station_clocks setup.station) x
+    → AllByRecursion (CanSend (station_clocks setup.station)) (line_in k)
     → NewsTied setup s k → LineTied setup s k → LineTied setup (session_with (PutsOut (says setup k x)) s)
-    (client_with_sent setup.station.offset_minutes moment x k)
+    (client_with_sent (station_clocks setup.station) moment x k)
 gave setup moment x None k is can all news tied = tt
 gave setup moment (sendings.Confirm signal) (Some hs) k is can all news tied =
-    waits_on _ _ _ k (client_with_sent setup.station.offset_minutes moment (sendings.Confirm signal) k)
+    waits_on _ _ _ k (client_with_sent (station_clocks setup.station) moment (sendings.Confirm signal) k)
     (record { rest = refl; older = refl; queue = refl }) refl tied
 gave setup moment sendings.Test (Some hs) k is can all news tied =
-    waits_on _ _ _ k (client_with_sent setup.station.offset_minutes moment sendings.Test k)
+    waits_on _ _ _ k (client_with_sent (station_clocks setup.station) moment sendings.Test k)
     (record { rest = refl; older = refl; queue = refl }) refl tied
 gave setup moment sendings.SFormat (Some hs) k is can all news tied =
-    waits_on _ _ _ k (client_with_sent setup.station.offset_minutes moment sendings.SFormat k)
+    waits_on _ _ _ k (client_with_sent (station_clocks setup.station) moment sendings.SFormat k)
     (record { rest = refl; older = refl; queue = refl }) refl tied
 gave setup moment (sendings.Answer answer) (Some hs) k is can all news tied =
-    let offset : ℤ = setup.station.offset_minutes in
-    let meant : Meant = meaning_of offset (answer_octets offset answer) in
-    let means : Means offset answer meant = answer_means offset answer can in
+    let clocks : Clocks = (station_clocks setup.station) in
+    let meant : Meant = meaning_of clocks (answer_octets clocks answer) in
+    let means : Means clocks answer meant = answer_means clocks answer can in
     let front = answer_first k answer is.first in
     let apart : IsApart answer = (subst (AllByRecursion IsApart) front.1 tied.apart).0 in
-    let none : spontaneous_of meant ≡ [] = answer_no_news offset answer meant can means in
+    let none : spontaneous_of meant ≡ [] = answer_no_news clocks answer meant can means in
     same_asked (drop 1 (owed setup hs)) (interrogation setup hs) (length (fates setup.station hs)) _ meant
-    (client_with_sent setup.station.offset_minutes moment (sendings.Answer answer) k)
-    (answer_apart offset answer meant can apart means)
+    (client_with_sent (station_clocks setup.station) moment (sendings.Answer answer) k)
+    (answer_apart clocks answer meant can apart means)
     (sym (ap (λ (xs : List Observation). length (fates_with_put_out (fates setup.station hs) xs)) none))
     (record {
       answers = ap (drop 1) tied.answers;
@@ -485,14 +486,14 @@ gave setup moment (sendings.Answer answer) (Some hs) k is can all news tied =
       older = tied.older;
     })
 gave setup moment (sendings.News x) (Some hs) k is can all news tied =
-    let offset : ℤ = setup.station.offset_minutes in
-    let goes = news_go offset k x _ is.first (says_front setup (sendings.News x) k is can all) in
-    let n : ℕ = together offset (line_in k) in
-    let meant : Meant = meaning_of offset (packed_octets offset 3 0 (news_front (line_in k))) in
+    let clocks : Clocks = (station_clocks setup.station) in
+    let goes = news_go clocks k x _ is.first (says_front setup (sendings.News x) k is can all) in
+    let n : ℕ = together clocks (line_in k) in
+    let meant : Meant = meaning_of clocks (packed_octets clocks 3 0 (news_front (line_in k))) in
     let none : owed setup hs ≡ [] = sym tied.answers ∙ goes.answers in
     same_asked (drop 1 (owed setup hs)) (interrogation setup hs) (length (fates setup.station hs)) _ meant
-    (client_with_sent setup.station.offset_minutes moment (sendings.News x) k)
-    (news_apart offset goes.first goes.others meant goes.means)
+    (client_with_sent (station_clocks setup.station) moment (sendings.News x) k)
+    (news_apart clocks goes.first goes.others meant goes.means)
     (sym (length-gone (fates setup.station hs) (spontaneous_of meant)))
     (record {
       answers = tied.answers ∙ (none ∙ sym (ap (drop 1) none));
@@ -510,14 +511,14 @@ gave setup moment (sendings.News x) (Some hs) k is can all news tied =
       );
     })
 gave setup moment (sendings.Part part) (Some hs) k is can all news tied =
-    let offset : ℤ = setup.station.offset_minutes in
-    let n : ℕ = together offset (line_in k) in
-    let meant : Meant = meaning_of offset (part_octets offset (line_in k) part) in
+    let clocks : Clocks = (station_clocks setup.station) in
+    let n : ℕ = together clocks (line_in k) in
+    let meant : Meant = meaning_of clocks (part_octets clocks (line_in k) part) in
     let first = part_first k part is.first in
     let few : n ≤ length k.rest =
-    omega (arith, parts_same offset k part first, parts_within offset k.rest part first.first) in
+    omega (arith, parts_same clocks k part first, parts_within clocks k.rest part first.first) in
     let told : parts_in meant ≡ take n k.rest =
-    parts_go offset k part meant is.first news.parts tied.asked
+    parts_go clocks k part meant is.first news.parts tied.asked
     (says_front setup (sendings.Part part) k is can all) in
     let none : owed setup hs ≡ [] = sym tied.answers ∙ first.answers in
     let size : length (fates setup.station (PutsOut (says setup k (sendings.Part part)) ∷ hs))
@@ -547,7 +548,7 @@ line_more setup some (Takes a taking) ts k new lives is tied =
     (took setup a taking is.moment (session ts) k is.opens (news_tied setup some ts k lives) tied)
 line_more setup some (PutsOut said) ts k new lives is tied =
     subst (LineTied setup (session (PutsOut said ∷ ts))) (sym is.becomes)
-    (subst (λ (x : ApduMeaning). LineTied setup (session (PutsOut x ∷ ts)) (client_with_sent setup.station.offset_minutes is.moment is.sending k))
+    (subst (λ (x : ApduMeaning). LineTied setup (session (PutsOut x ∷ ts)) (client_with_sent (station_clocks setup.station) is.moment is.sending k))
     (sym is.says)
     (gave setup is.moment is.sending (session ts) k (offered_is is.moment k is.sending is.first) is.can is.all
     (news_tied setup some ts k lives) tied))
@@ -561,8 +562,8 @@ line_tied setup some = lives_all setup (λ ts k. LineTied setup (session ts) k) 
 
 -- what is put out in an I format is the front of the line
 says_first : (setup : Setup) (x : Sending) (s : Option (List Turn)) (k : Client)
-    → IsOffered k x → CanSend setup.station.offset_minutes x
-    → AllByRecursion (CanSend setup.station.offset_minutes) (line_in k)
+    → IsOffered k x → CanSend (station_clocks setup.station) x
+    → AllByRecursion (CanSend (station_clocks setup.station)) (line_in k)
     → NewsTied setup s k → LineTied setup s k → SaysFirst setup (line setup (turns_in s)) (says setup k x)
 says_first setup x (Some hs) k is can all news tied =
     subst (λ (l : List Sending). SaysFirst setup l (says setup k x)) (line_is setup hs k news tied)

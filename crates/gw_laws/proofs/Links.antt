@@ -1,6 +1,6 @@
 -- What becomes of a client's window and of the confirmations that wait, turn by turn of its connection.
 use Rattle.std.proofs.Common.{◌≡◌, ℕ, List, [], ◌∷◌, map, true, false, Option, Some, None, refl, ap, ◌∙◌}
-use Rattle.gw_map.specs.Settings.{Setup}
+use Rattle.gw_map.specs.Settings.{Setup, station_clocks}
 use Rattle.iec_apci.specs.declared.apdu.Apdu.{Apdu}
 use Rattle.iec_apci.specs.declared.apdu.Apdu.TheVariants.{I, S, U}
 use Rattle.iec_apci.specs.declared.apdu.Signal.{Signal}
@@ -50,9 +50,9 @@ pub record TakesAt (setup : Setup) (moment : ℕ) (a : Apdu) (k new : Client) : 
 pub record GivesAt (setup : Setup) (moment : ℕ) (said : ApduMeaning) (k new : Client) : Type 0 where
   pub sending : Sending
   pub first : offered moment k ≡ Some sending
-  pub says : said ≡ said_by setup.station.offset_minutes
-      (content_of setup.station.offset_minutes k sending)
-  pub becomes : new ≡ client_with_sent setup.station.offset_minutes moment sending k
+  pub says : said ≡ said_by (station_clocks setup.station)
+      (content_of (station_clocks setup.station) k sending)
+  pub becomes : new ≡ client_with_sent (station_clocks setup.station) moment sending k
 
 abbrev pub BecomesAt : Setup → ℕ → Turn → Client → Client → Type 0
 BecomesAt setup moment (Idle brought) k new = Stays k new

@@ -1,5 +1,5 @@
 -- What is known of the picture by what was put out and what waits: how each turn keeps it.
-use Rattle.std.proofs.Common.{◌≡◌, ℕ, ℤ, ◌≤◌, Bool, true, false, eqb, List, [], ◌∷◌, ◌++◌, map, length, drop, Option, Some, None, refl, sym, ap, subst, ◌∙◌, arith, inl, inr}
+use Rattle.std.proofs.Common.{◌≡◌, ℕ, ◌≤◌, Bool, true, false, eqb, List, [], ◌∷◌, ◌++◌, map, length, drop, Option, Some, None, refl, sym, ap, subst, ◌∙◌, arith, inl, inr}
 use Rattle.std.specs.Prelude.{◌&&◌, ◌==◌, nat_lt, not, slice_get, option_map, IfSome}
 use Rattle.std.specs.List.{AllByRecursion}
 use Rattle.std.specs.Option.{option_to_list}
@@ -8,8 +8,9 @@ use Rattle.std.proofs.lemmas.List.{map-append}
 use Rattle.std.proofs.lemmas.Option.{same_Some}
 use Rattle.gw_model.specs.First.{when}
 use Rattle.gw_model.specs.declared.observation.Observation.{Observation}
+use Rattle.gw_model.specs.Clocks.{Clocks}
 use Rattle.gw_entries.specs.declared.row.Row.{Row as AnyRow}
-use Rattle.gw_map.specs.Settings.{Setup, known_addresses, row_at_from}
+use Rattle.gw_map.specs.Settings.{Setup, known_addresses, row_at_from, station_clocks}
 use Rattle.gw_picture.specs.Log.{picture_of}
 use Rattle.gw_picture.proofs.Addresses.{is_single, is_single-true}
 use Rattle.iec_apci.specs.declared.apdu.Asdu.{Asdu}
@@ -213,21 +214,21 @@ line_plain setup hs k news lined =
     line_so IsPlain k lined.apart each_news news.parts
 
 puts_first : (setup : Setup) (log : List Observation) (moment : ℕ) (x : Sending) (hs : List Turn) (meant : Meant)
-    (k : Client) → slice_get (line_of k) 0 ≡ Some x → AllByRecursion (CanSend setup.station.offset_minutes) (line_of k)
-    → MeansFront setup.station.offset_minutes (line_of k) meant → InSession setup hs k
+    (k : Client) → slice_get (line_of k) 0 ≡ Some x → AllByRecursion (CanSend (station_clocks setup.station)) (line_of k)
+    → MeansFront (station_clocks setup.station) (line_of k) meant → InSession setup hs k
     → LineTied setup (Some hs) k
-    → line_of (client_with_sent setup.station.offset_minutes moment x k) ≡ line_in
+    → line_of (client_with_sent (station_clocks setup.station) moment x k) ≡ line_in
     (put_out meant (spontaneous_of meant) (view setup log hs))
-    → PutsFirst setup.station.offset_minutes (view setup log hs)
+    → PutsFirst (station_clocks setup.station) (view setup log hs)
     (put_out meant (spontaneous_of meant) (view setup log hs)) meant
 puts_first setup log moment x hs meant k first can means news lined now =
-    let offset : ℤ = setup.station.offset_minutes in
+    let clocks : Clocks = (station_clocks setup.station) in
     let same : line_of k ≡ line setup hs = line_is setup hs k news lined in
     record {
-      means = subst (λ (l : List Sending). MeansFront offset l meant) same means;
+      means = subst (λ (l : List Sending). MeansFront clocks l meant) same means;
       plain = subst (AllByRecursion IsPlain) same (line_plain setup hs k news lined);
-      can = subst (AllByRecursion (CanSend offset)) same can;
-      line = sym now ∙ (moves offset moment k x first ∙ ap (λ (l : List Sending). drop (together offset l) l) same);
+      can = subst (AllByRecursion (CanSend clocks)) same can;
+      line = sym now ∙ (moves clocks moment k x first ∙ ap (λ (l : List Sending). drop (together clocks l) l) same);
     }
 
 -- ---- each session
@@ -389,23 +390,23 @@ takes setup log taking (U signals.TestCon) (Some hs) k single shown lined tied =
 
 -- something is put out
 numbered : (setup : Setup) (log : List Observation) (ns nr : ℕ) (meant : Meant) (hs : List Turn)
-    → PutsFirst setup.station.offset_minutes (view setup log hs)
+    → PutsFirst (station_clocks setup.station) (view setup log hs)
     (put_out meant (spontaneous_of meant) (view setup log hs)) meant
     → Keeps setup log log (PutsOut (IFormat ns nr meant)) hs
 numbered setup log ns nr meant hs puts = record {
   begins = λ asked act. absurd (none_asked asked act);
   goes = λ asked since newer kept.
-      kept_put_out setup.rows asked setup.station.offset_minutes since (told newer) meant
+      kept_put_out setup.rows asked (station_clocks setup.station) since (told newer) meant
       (spontaneous_of meant) (view setup log hs) puts kept;
 }
 
 puts : (setup : Setup) (log : List Observation) (moment : ℕ) (x : Sending) (s : Option (List Turn)) (k : Client)
-    → IsOffered k x → CanSend setup.station.offset_minutes x
-    → AllByRecursion (CanSend setup.station.offset_minutes) (line_of k)
+    → IsOffered k x → CanSend (station_clocks setup.station) x
+    → AllByRecursion (CanSend (station_clocks setup.station)) (line_of k)
     → NewsTied setup s k → LineTied setup s k → NewsTied setup (session_with (PutsOut (says setup k x)) s)
-    (client_with_sent setup.station.offset_minutes moment x k)
+    (client_with_sent (station_clocks setup.station) moment x k)
     → LineTied setup (session_with (PutsOut (says setup k x)) s)
-    (client_with_sent setup.station.offset_minutes moment x k)
+    (client_with_sent (station_clocks setup.station) moment x k)
     → SessionMirrored setup log s → SessionMirrored setup log (session_with (PutsOut (says setup k x)) s)
 puts setup log moment x None k is can all news lined news_then then tied = tt
 puts setup log moment (sendings.Confirm signal) (Some hs) k is can all news lined news_then then tied =
@@ -420,19 +421,19 @@ puts setup log moment sendings.SFormat (Some hs) k is can all news lined news_th
 puts setup log moment (sendings.Answer answer) (Some hs) k is can all news lined news_then then tied =
     let x : Sending = sendings.Answer answer in
     let t : Turn = PutsOut (says setup k x) in
-    let now = line_is setup (t ∷ hs) (client_with_sent setup.station.offset_minutes moment x k) news_then then in
+    let now = line_is setup (t ∷ hs) (client_with_sent (station_clocks setup.station) moment x k) news_then then in
     mirrored setup log log t hs (numbered setup log _ _ _ hs
     (puts_first setup log moment x hs _ k is.first all (says_front setup x k is can all) news lined now)) tied
 puts setup log moment (sendings.News y) (Some hs) k is can all news lined news_then then tied =
     let x : Sending = sendings.News y in
     let t : Turn = PutsOut (says setup k x) in
-    let now = line_is setup (t ∷ hs) (client_with_sent setup.station.offset_minutes moment x k) news_then then in
+    let now = line_is setup (t ∷ hs) (client_with_sent (station_clocks setup.station) moment x k) news_then then in
     mirrored setup log log t hs (numbered setup log _ _ _ hs
     (puts_first setup log moment x hs _ k is.first all (says_front setup x k is can all) news lined now)) tied
 puts setup log moment (sendings.Part part) (Some hs) k is can all news lined news_then then tied =
     let x : Sending = sendings.Part part in
     let t : Turn = PutsOut (says setup k x) in
-    let now = line_is setup (t ∷ hs) (client_with_sent setup.station.offset_minutes moment x k) news_then then in
+    let now = line_is setup (t ∷ hs) (client_with_sent (station_clocks setup.station) moment x k) news_then then in
     mirrored setup log log t hs (numbered setup log _ _ _ hs
     (puts_first setup log moment x hs _ k is.first all (says_front setup x k is can all) news lined now)) tied
 
@@ -471,7 +472,7 @@ session_mirrored setup fit log (PutsOut said ∷ ts) k lives logged =
     let gave = lives.2 in
     let old : Client = lives.0 in
     let t : ApduMeaning → Turn = λ x. PutsOut x in
-    let new : Client = client_with_sent setup.station.offset_minutes gave.moment gave.sending old in
+    let new : Client = client_with_sent (station_clocks setup.station) gave.moment gave.sending old in
     subst (λ (x : ApduMeaning). SessionMirrored setup log (session (PutsOut x ∷ ts))) (sym gave.says)
     (puts setup log gave.moment gave.sending (session ts) old
     (offered_is gave.moment old gave.sending gave.first) gave.can gave.all

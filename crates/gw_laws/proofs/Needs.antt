@@ -4,7 +4,7 @@ use Rattle.std.specs.Prelude.{◌&&◌, not, is_none, slice_get, IfSome}
 use Rattle.std.proofs.lemmas.Bool.{true≢false}
 use Rattle.gw_model.specs.First.{when, first_of}
 use Rattle.gw_model.specs.declared.observation.Observation.{Observation}
-use Rattle.gw_map.specs.Settings.{Setup}
+use Rattle.gw_map.specs.Settings.{Setup, station_clocks}
 use Rattle.gw_picture.specs.Loss.{losses_of}
 use Rattle.gw_picture.specs.Picture.{news_of}
 use Rattle.iec_apci.specs.declared.apdu.Apdu.{Apdu}
@@ -187,9 +187,9 @@ needs_told setup past (steps.Fragment f m) fit known linked fine = record {
 
     news : news_of_fragment setup s f ≡ news_of_step setup log past (steps.Fragment f m)
     news =
-        ap (λ (b : Bool). cond b (news_of setup.station.offset_minutes setup.rows s.picture f.reports) []) accepting
+        ap (λ (b : Bool). cond b (news_of (station_clocks setup.station) setup.rows s.picture f.reports) []) accepting
         ∙ ap (λ (xs : List Observation). cond (is_accepted setup past f) xs [])
-        (ap (λ (p : List Observation). news_of setup.station.offset_minutes setup.rows p f.reports) known.tied.picture
+        (ap (λ (p : List Observation). news_of (station_clocks setup.station) setup.rows p f.reports) known.tied.picture
         ∙ (news_same setup log f.reports fit.addresses).0)
 needs_told setup past (steps.OutstationDown o m) fit known linked fine = record {
   steps = refl;

@@ -1,5 +1,5 @@
 -- What ties a client's news to its session.
-use Rattle.std.proofs.Common.{◌≡◌, ℕ, ℤ, ◌-◌, ◌<◌, ◌≤◌, Bool, true, false, List, [], ◌∷◌, ◌++◌, map, length, take, drop, Option, Some, None, refl, sym, ap, subst, ◌∙◌, arith, inl, inr}
+use Rattle.std.proofs.Common.{◌≡◌, ℕ, ◌-◌, ◌<◌, ◌≤◌, Bool, true, false, List, [], ◌∷◌, ◌++◌, map, length, take, drop, Option, Some, None, refl, sym, ap, subst, ◌∙◌, arith, inl, inr}
 use Rattle.std.specs.Prelude.{◌⊎◌, ◌==◌, ◌||◌, is_some, IfSome, IsTrue}
 use Rattle.std.specs.List.{AllByRecursion}
 use Rattle.std.proofs.lemmas.Bool.{true≢false}
@@ -7,8 +7,9 @@ use Rattle.std.proofs.lemmas.List.{append-nil, length-drop, take-append-drop}
 use Rattle.circular_buffer.specs.Buffer.{keep_last}
 use Rattle.gw_model.specs.declared.observation.Observation.{Observation}
 use Rattle.gw_model.specs.Fit.{IsFit}
+use Rattle.gw_model.specs.Clocks.{Clocks}
 use Rattle.gw_entries.specs.Setup.{StationSetup}
-use Rattle.gw_map.specs.Settings.{Setup}
+use Rattle.gw_map.specs.Settings.{Setup, station_clocks}
 use Rattle.iec_asdu.specs.Fitting.{AreAlike}
 use Rattle.iec_asdu.specs.Packing.{taken_of}
 use Rattle.iec_asdu.proofs.Carried.{taken_fits}
@@ -92,43 +93,43 @@ NewsTied setup (Some hs) k = InSession setup hs k
 
 -- observations of the station
 informs : (station : StationSetup) (cause originator : ℕ) (x : Observation)
-    → IsTrue (cause == 3 || cause == 5 || cause == 20 || cause == 37) → IsFit station.offset_minutes x
-    → IsOfStation station (Tells (asdu_of station.offset_minutes cause originator x))
+    → IsTrue (cause == 3 || cause == 5 || cause == 20 || cause == 37) → IsFit (station_clocks station) x
+    → IsOfStation station (Tells (asdu_of (station_clocks station) cause originator x))
 informs station cause originator x is fit = inl (record { cause = is; common = (refl, tt); fit = (fit, tt) })
 
-all_fit : (offset : ℤ) (xs : List Observation) → AllByRecursion (IsSendable offset) xs
-    → AllByRecursion (IsFit offset) xs
-all_fit offset [] all = tt
-all_fit offset (x ∷ xs) all = (all.0.fit, all_fit offset xs all.1)
+all_fit : (clocks : Clocks) (xs : List Observation) → AllByRecursion (IsSendable clocks) xs
+    → AllByRecursion (IsFit clocks) xs
+all_fit clocks [] all = tt
+all_fit clocks (x ∷ xs) all = (all.0.fit, all_fit clocks xs all.1)
 
 -- an ASDU carries observations of one common address
-one_common : (offset : ℤ) (x : Observation) (xs : List Observation) → AreAlike offset x xs
+one_common : (clocks : Clocks) (x : Observation) (xs : List Observation) → AreAlike clocks x xs
     → AllByRecursion (λ y. y.common ≡ x.common) xs
-one_common offset x [] alike = tt
-one_common offset x (y ∷ xs) alike = (alike.0.1, one_common offset x xs alike.1)
+one_common clocks x [] alike = tt
+one_common clocks x (y ∷ xs) alike = (alike.0.1, one_common clocks x xs alike.1)
 
 pack_informs : (station : StationSetup) (cause originator : ℕ) (x : Observation) (xs : List Observation)
     → IsTrue (cause == 3 || cause == 5 || cause == 20 || cause == 37)
-    → AllByRecursion (IsSendable station.offset_minutes) (x ∷ xs)
-    → IsOfStation station (Tells (packed_asdu station.offset_minutes cause originator x xs))
+    → AllByRecursion (IsSendable (station_clocks station)) (x ∷ xs)
+    → IsOfStation station (Tells (packed_asdu (station_clocks station) cause originator x xs))
 pack_informs station cause originator x xs is all =
-    let n : ℕ = taken_of station.offset_minutes (x ∷ xs) in
+    let n : ℕ = taken_of (station_clocks station) (x ∷ xs) in
     inl (record {
       cause = is;
-      common = one_common station.offset_minutes x (take n (x ∷ xs)) (taken_fits station.offset_minutes x xs).alike;
-      fit = all_fit station.offset_minutes (take n (x ∷ xs))
-          (all-take (IsSendable station.offset_minutes) n (x ∷ xs) all);
+      common = one_common (station_clocks station) x (take n (x ∷ xs)) (taken_fits (station_clocks station) x xs).alike;
+      fit = all_fit (station_clocks station) (take n (x ∷ xs))
+          (all-take (IsSendable (station_clocks station)) n (x ∷ xs) all);
     })
 
 answer_of_station : (station : StationSetup) (answer : AsduAnswer) (meant : Meant)
-    → CanSendAnswer station.offset_minutes answer → Means station.offset_minutes answer meant
+    → CanSendAnswer (station_clocks station) answer → Means (station_clocks station) answer meant
     → IsOfStation station meant
 answer_of_station station (Returned asdu cause) (Tells told) can means =
-    inr (cause, can.1, can.2, refused_with station.offset_minutes cause (octets_in asdu) (Tells told) can.0 means)
+    inr (cause, can.1, can.2, refused_with (station_clocks station) cause (octets_in asdu) (Tells told) can.0 means)
 answer_of_station station (Returned asdu cause) (Commands c) can means =
-    inr (cause, can.1, can.2, refused_with station.offset_minutes cause (octets_in asdu) (Commands c) can.0 means)
+    inr (cause, can.1, can.2, refused_with (station_clocks station) cause (octets_in asdu) (Commands c) can.0 means)
 answer_of_station station (Returned asdu cause) (Unread octets) can means =
-    (cause, can.1, can.2, refused_with station.offset_minutes cause (octets_in asdu) (Unread octets) can.0 means)
+    (cause, can.1, can.2, refused_with (station_clocks station) cause (octets_in asdu) (Unread octets) can.0 means)
 answer_of_station station (Made (outgoing.Command c)) meant can means =
     subst (IsOfStation station) (sym means) (inl can.0)
 answer_of_station station (Made (outgoing.Observation cause originator x)) meant can means =
@@ -144,20 +145,20 @@ IsRequestedFirst (sendings.Part part ∷ line) = IsRequested part
 IsRequestedFirst _ = Unit {0}
 
 front_of_station : (station : StationSetup) (l : List Sending) (meant : Meant)
-    → MeansFront station.offset_minutes l meant
-    → AllByRecursion (CanSend station.offset_minutes) l → IsRequestedFirst l → IsOfStation station meant
+    → MeansFront (station_clocks station) l meant
+    → AllByRecursion (CanSend (station_clocks station)) l → IsRequestedFirst l → IsOfStation station meant
 front_of_station station [] meant means all is = absurd means
 front_of_station station (sendings.Answer answer ∷ l) meant means all is =
     answer_of_station station answer meant all.0 means
 front_of_station station (sendings.News x ∷ l) meant means all is =
     subst (IsOfStation station) (sym means)
-    (pack_informs station 3 0 x (news_front l) refl (all.0, news_sendable station.offset_minutes l all.1))
+    (pack_informs station 3 0 x (news_front l) refl (all.0, news_sendable (station_clocks station) l all.1))
 front_of_station station (sendings.Part (outgoing.Command c) ∷ l) meant means all is =
     subst (IsOfStation station) (sym means) (inl all.0.0)
 front_of_station station (sendings.Part (outgoing.Observation cause originator x) ∷ l) meant means all is =
     subst (IsOfStation station) (sym means)
     (pack_informs station cause originator x (rows_front cause originator l) (asked is)
-    (all.0, rows_sendable station.offset_minutes cause originator l all.1))
+    (all.0, rows_sendable (station_clocks station) cause originator l all.1))
   where
     asked : (cause ≡ 20) ⊎ (cause ≡ 37) → IsTrue (cause == 3 || cause == 5 || cause == 20 || cause == 37)
     asked (inl is) = rw is refl
@@ -166,9 +167,9 @@ front_of_station station (sendings.Confirm signal ∷ l) meant means all is = ab
 front_of_station station (sendings.Test ∷ l) meant means all is = absurd means
 front_of_station station (sendings.SFormat ∷ l) meant means all is = absurd means
 
-own_news : (offset : ℤ) (x : Observation) (xs : List Observation)
-    → spontaneous_of (Tells (packed_asdu offset 3 0 x xs)) ≡ take (taken_of offset (x ∷ xs)) (x ∷ xs)
-own_news offset x xs = refl
+own_news : (clocks : Clocks) (x : Observation) (xs : List Observation)
+    → spontaneous_of (Tells (packed_asdu clocks 3 0 x xs)) ≡ take (taken_of clocks (x ∷ xs)) (x ∷ xs)
+own_news clocks x xs = refl
 
 -- ---- parts of an answer
 
@@ -392,20 +393,20 @@ rest_left n k all = all-drop IsRequested n k.rest all
 -- the octets of the ASDU that carries them
 abbrev news_octets : Setup → Client → List ℕ
 news_octets setup k =
-    packed_octets setup.station.offset_minutes 3 0 (news_front (line k))
+    packed_octets (station_clocks setup.station) 3 0 (news_front (line k))
 
 news_went : (setup : Setup) (moment : ℕ) (x : Observation) (hs : List Turn) (k : Client)
-    → NewsGo setup.station.offset_minutes k
-    (meaning_of setup.station.offset_minutes (news_octets setup k)) → InSession setup hs k
+    → NewsGo (station_clocks setup.station) k
+    (meaning_of (station_clocks setup.station) (news_octets setup k)) → InSession setup hs k
     → InSession setup (PutsOut (says setup k (sendings.News x)) ∷ hs)
-    (client_with_sent setup.station.offset_minutes moment (sendings.News x) k)
+    (client_with_sent (station_clocks setup.station) moment (sendings.News x) k)
 news_went setup moment x hs k goes tied =
-    let offset : ℤ = setup.station.offset_minutes in
-    let n : ℕ = together offset (line k) in
+    let clocks : Clocks = (station_clocks setup.station) in
+    let n : ℕ = together clocks (line k) in
     let xs : List Observation = take n k.queue in
     let left : List Observation = drop n k.queue in
-    let puts : spontaneous_of (meaning_of offset (news_octets setup k)) ≡ xs =
-    ap spontaneous_of goes.means ∙ (own_news offset goes.first goes.others ∙ goes.told) in
+    let puts : spontaneous_of (meaning_of clocks (news_octets setup k)) ≡ xs =
+    ap spontaneous_of goes.means ∙ (own_news clocks goes.first goes.others ∙ goes.told) in
     record {
       started = tied.started;
       settled = tied.settled ++ map put xs;
@@ -422,10 +423,10 @@ news_went setup moment x hs k goes tied =
     }
 
 gave : (setup : Setup) (moment : ℕ) (x : Sending) (s : Option (List Turn)) (k : Client)
-    → IsOffered k x → CanSend setup.station.offset_minutes x
-    → AllByRecursion (CanSend setup.station.offset_minutes) (line k)
+    → IsOffered k x → CanSend (station_clocks setup.station) x
+    → AllByRecursion (CanSend (station_clocks setup.station)) (line k)
     → NewsTied setup s k → NewsTied setup (session_with (PutsOut (says setup k x)) s)
-    (client_with_sent setup.station.offset_minutes moment x k)
+    (client_with_sent (station_clocks setup.station) moment x k)
 gave setup moment (sendings.Confirm signal) None k is can all tied =
     no_session k _ refl refl refl refl refl tied
 gave setup moment sendings.Test None k is can all tied = no_session k _ refl refl refl refl refl tied
@@ -446,20 +447,20 @@ gave setup moment sendings.SFormat (Some hs) k is can all tied =
     put_still setup (says setup k sendings.SFormat) hs k _ refl
     (record { stage = refl; limit = refl; queue = refl; dropped = refl }) tied.parts tied
 gave setup moment (sendings.Answer answer) (Some hs) k is can all tied =
-    let offset : ℤ = setup.station.offset_minutes in
-    let meant : Meant = meaning_of offset (answer_octets offset answer) in
+    let clocks : Clocks = (station_clocks setup.station) in
+    let meant : Meant = meaning_of clocks (answer_octets clocks answer) in
     put_still setup (says setup k (sendings.Answer answer)) hs k _
-    (answer_no_news offset answer meant can (answer_means offset answer can))
+    (answer_no_news clocks answer meant can (answer_means clocks answer can))
     (record { stage = refl; limit = refl; queue = refl; dropped = refl }) tied.parts tied
 gave setup moment (sendings.Part part) (Some hs) k is can all tied =
-    let offset : ℤ = setup.station.offset_minutes in
+    let clocks : Clocks = (station_clocks setup.station) in
     put_still setup (says setup k (sendings.Part part)) hs k _
-    (parts_no_news offset k part _ is.first tied.parts (says_front setup (sendings.Part part) k is can all))
+    (parts_no_news clocks k part _ is.first tied.parts (says_front setup (sendings.Part part) k is can all))
     (record { stage = refl; limit = refl; queue = refl; dropped = refl })
-    (rest_left (together offset (line k)) k tied.parts) tied
+    (rest_left (together clocks (line k)) k tied.parts) tied
 gave setup moment (sendings.News x) (Some hs) k is can all tied =
     news_went setup moment x hs k
-    (news_go setup.station.offset_minutes k x _ is.first
+    (news_go (station_clocks setup.station) k x _ is.first
     (says_front setup (sendings.News x) k is can all)) tied
 
 news_first_tied : (setup : Setup) (k : Client) → IsFresh setup k → NewsTied setup None k
@@ -483,7 +484,7 @@ news_more setup some (Takes a taking) ts k new lives is tied =
     (took setup a taking is.moment (session ts) k is.opens tied)
 news_more setup some (PutsOut said) ts k new lives is tied =
     subst (NewsTied setup (session (PutsOut said ∷ ts))) (sym is.becomes)
-    (subst (λ (x : ApduMeaning). NewsTied setup (session (PutsOut x ∷ ts)) (client_with_sent setup.station.offset_minutes is.moment is.sending k))
+    (subst (λ (x : ApduMeaning). NewsTied setup (session (PutsOut x ∷ ts)) (client_with_sent (station_clocks setup.station) is.moment is.sending k))
     (sym is.says)
     (gave setup is.moment is.sending (session ts) k (offered_is is.moment k is.sending is.first) is.can is.all tied))
 
@@ -527,16 +528,16 @@ requested_first setup k all = first (line k)
 -- an I format is offered in a session alone
 says_in_session : (setup : Setup) (s : Option (List Turn)) (k : Client) (meant : Meant)
     → is_started k.stage ≡ true → NewsTied setup s k
-    → MeansFront setup.station.offset_minutes (line k) meant
-    → AllByRecursion (CanSend setup.station.offset_minutes) (line k)
+    → MeansFront (station_clocks setup.station) (line k) meant
+    → AllByRecursion (CanSend (station_clocks setup.station)) (line k)
     → (is_some s ≡ true) × IsOfStation setup.station meant
 says_in_session setup None k meant started tied means all = absurd (true≢false (sym started ∙ tied.stopped))
 says_in_session setup (Some hs) k meant started tied means all =
     (refl, front_of_station setup.station (line k) meant means all (requested_first setup k tied.parts))
 
 says_of_station : (setup : Setup) (x : Sending) (ts : List Turn) (k : Client)
-    → IsOffered k x → CanSend setup.station.offset_minutes x
-    → AllByRecursion (CanSend setup.station.offset_minutes) (line k)
+    → IsOffered k x → CanSend (station_clocks setup.station) x
+    → AllByRecursion (CanSend (station_clocks setup.station)) (line k)
     → NewsTied setup (session ts) k → Speaks setup.station (PutsOut (says setup k x) ∷ ts)
 says_of_station setup (sendings.Confirm signal) ts k is can all tied = tt
 says_of_station setup sendings.Test ts k is can all tied = tt

@@ -2,7 +2,7 @@
 use Rattle.std.proofs.Common.{◌≡◌, ℕ, ◌+◌, ◌%◌, ◌<◌, ◌≤◌, true, List, [], ◌∷◌, length, None, refl, sym, ap, subst, ◌∙◌, arith, inl, inr}
 use Rattle.std.proofs.lemmas.Bool.{ltb-true, cases_Bool}
 use Rattle.std.proofs.lemmas.List.{length-drop}
-use Rattle.gw_map.specs.Settings.{Setup}
+use Rattle.gw_map.specs.Settings.{Setup, station_clocks}
 use Rattle.iec_apci.specs.declared.apdu.Apdu.{Apdu}
 use Rattle.iec_apci.specs.declared.apdu.Apdu.TheVariants.{I, S, U}
 use Rattle.iec_apci.specs.declared.apdu.Signal.{Signal}
@@ -171,21 +171,21 @@ took setup ts (U signal) taking moment k opens tied =
 -- ---- something is put out
 
 abbrev pub says : Setup → Client → Sending → ApduMeaning
-says setup k s = said_by setup.station.offset_minutes
-    (content_of setup.station.offset_minutes k s)
+says setup k s = said_by (station_clocks setup.station)
+    (content_of (station_clocks setup.station) k s)
 
 gave : (setup : Setup) (ts : List Turn) (moment : ℕ) (s : Sending) (k : Client) → IsOffered k s → CountsTied setup ts k
-    → CountsTied setup (PutsOut (says setup k s) ∷ ts) (client_with_sent setup.station.offset_minutes moment s k)
+    → CountsTied setup (PutsOut (says setup k s) ∷ ts) (client_with_sent (station_clocks setup.station) moment s k)
 gave setup ts moment (sendings.Confirm signal) k is tied =
     counts_same setup ts (PutsOut (says setup k (sendings.Confirm signal)) ∷ ts) k
-    (client_with_sent setup.station.offset_minutes moment (sendings.Confirm signal) k) refl refl refl (same_counts k.window) refl tied
+    (client_with_sent (station_clocks setup.station) moment (sendings.Confirm signal) k) refl refl refl (same_counts k.window) refl tied
 gave setup ts moment sendings.Test k is tied =
     counts_same setup ts (PutsOut (says setup k sendings.Test) ∷ ts) k
-    (client_with_sent setup.station.offset_minutes moment sendings.Test k) refl refl refl
+    (client_with_sent (station_clocks setup.station) moment sendings.Test k) refl refl refl
     (record { limits = refl; acknowledged = refl; waiting = refl; received = refl }) refl tied
 gave setup ts moment sendings.SFormat k is tied =
     counts_same setup ts (PutsOut (says setup k sendings.SFormat) ∷ ts) k
-    (client_with_sent setup.station.offset_minutes moment sendings.SFormat k) refl refl refl
+    (client_with_sent (station_clocks setup.station) moment sendings.SFormat k) refl refl refl
     (record { limits = refl; acknowledged = refl; waiting = refl; received = refl }) refl tied
 gave setup ts moment (sendings.Answer answer) k is tied =
     record {
@@ -236,7 +236,7 @@ counts_more setup (Takes a taking) ts k new lives is tied =
     subst (CountsTied setup (Takes a taking ∷ ts)) (sym is.becomes) (took setup ts a taking is.moment k is.opens tied)
 counts_more setup (PutsOut said) ts k new lives is tied =
     subst (CountsTied setup (PutsOut said ∷ ts)) (sym is.becomes)
-    (subst (λ (x : ApduMeaning). CountsTied setup (PutsOut x ∷ ts) (client_with_sent setup.station.offset_minutes is.moment is.sending k))
+    (subst (λ (x : ApduMeaning). CountsTied setup (PutsOut x ∷ ts) (client_with_sent (station_clocks setup.station) is.moment is.sending k))
     (sym is.says)
     (gave setup ts is.moment is.sending k (offered_is is.moment k is.sending is.first) tied))
 

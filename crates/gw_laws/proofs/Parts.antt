@@ -1,11 +1,12 @@
 -- What is put out of the answer to an interrogation, and what isn't.
-use Rattle.std.proofs.Common.{◌≡◌, ℕ, ℤ, ◌+◌, ◌%◌, ◌<◌, ◌≤◌, Bool, true, false, eqb, List, [], ◌∷◌, ◌++◌, length, map, drop, Option, Some, None, refl, sym, ap, subst, ◌∙◌, append_assoc, length-append, arith, inl, inr, take}
+use Rattle.std.proofs.Common.{◌≡◌, ℕ, ◌+◌, ◌%◌, ◌<◌, ◌≤◌, Bool, true, false, eqb, List, [], ◌∷◌, ◌++◌, length, map, drop, Option, Some, None, refl, sym, ap, subst, ◌∙◌, append_assoc, length-append, arith, inl, inr, take}
 use Rattle.std.specs.Prelude.{◌&&◌, ◌||◌, not, nat_lt, filter, option_map, ◌⊎◌}
 use Rattle.std.specs.List.{AllByRecursion}
 use Rattle.std.proofs.lemmas.Bool.{lt-ltb, le-ltb, ne_eqb}
 use Rattle.std.proofs.lemmas.List.{append-nil, take-append-drop, drop-drop}
 use Rattle.std.proofs.lemmas.List.Elements.{filter-append}
 use Rattle.gw_model.specs.declared.observation.Observation.{Observation}
+use Rattle.gw_model.specs.Clocks.{Clocks}
 use Rattle.iec_command.specs.declared.command.Command.{Command}
 use Rattle.iec_command.specs.declared.command.Action.{Action}
 use Rattle.iec_command.specs.declared.command.Action.TheVariants as actions
@@ -48,27 +49,27 @@ IsOfInterrogation (outgoing.Observation cause originator x) = Unit {0}
 not_spontaneous : (cause octet : ℕ) → octet % 64 ≡ cause → 44 ≤ cause → eqb octet 3 ≡ false
 not_spontaneous cause octet e from = ne_eqb octet 3 (λ (is : octet ≡ 3). omega (arith, e, from, is))
 
-pub answer_no_news : (offset : ℤ) (answer : AsduAnswer) (meant : Meant) → CanSendAnswer offset answer
-    → Means offset answer meant → spontaneous_of meant ≡ []
-answer_no_news offset (Returned asdu cause) (Tells told) can means =
-    let refused = refused_with offset cause (octets_in asdu) (Tells told) can.0 means in
+pub answer_no_news : (clocks : Clocks) (answer : AsduAnswer) (meant : Meant) → CanSendAnswer clocks answer
+    → Means clocks answer meant → spontaneous_of meant ≡ []
+answer_no_news clocks (Returned asdu cause) (Tells told) can means =
+    let refused = refused_with clocks cause (octets_in asdu) (Tells told) can.0 means in
     rw (not_spontaneous cause told.cause refused.0 can.1) refl
-answer_no_news offset (Returned asdu cause) (Commands c) can means = refl
-answer_no_news offset (Returned asdu cause) (Unread octets) can means = refl
-answer_no_news offset (Made (outgoing.Command c)) meant can means = ap spontaneous_of means
-answer_no_news offset (Made (outgoing.Observation cause originator x)) meant can means =
+answer_no_news clocks (Returned asdu cause) (Commands c) can means = refl
+answer_no_news clocks (Returned asdu cause) (Unread octets) can means = refl
+answer_no_news clocks (Made (outgoing.Command c)) meant can means = ap spontaneous_of means
+answer_no_news clocks (Made (outgoing.Observation cause originator x)) meant can means =
     ap spontaneous_of means
-    ∙ ap (λ (n : ℕ). spontaneous_of (Tells (asdu_of offset n originator x))) can.0
+    ∙ ap (λ (n : ℕ). spontaneous_of (Tells (asdu_of clocks n originator x))) can.0
 
-pub part_no_news : (offset : ℤ) (part : OwnAsdu) (meant : Meant) → IsRequested part
-    → Means offset (Made part) meant → spontaneous_of meant ≡ []
-part_no_news offset (outgoing.Command c) meant is means = ap spontaneous_of means
-part_no_news offset (outgoing.Observation cause originator x) meant (inl is) means =
+pub part_no_news : (clocks : Clocks) (part : OwnAsdu) (meant : Meant) → IsRequested part
+    → Means clocks (Made part) meant → spontaneous_of meant ≡ []
+part_no_news clocks (outgoing.Command c) meant is means = ap spontaneous_of means
+part_no_news clocks (outgoing.Observation cause originator x) meant (inl is) means =
     ap spontaneous_of means
-    ∙ ap (λ (n : ℕ). spontaneous_of (Tells (asdu_of offset n originator x))) is
-part_no_news offset (outgoing.Observation cause originator x) meant (inr is) means =
+    ∙ ap (λ (n : ℕ). spontaneous_of (Tells (asdu_of clocks n originator x))) is
+part_no_news clocks (outgoing.Observation cause originator x) meant (inr is) means =
     ap spontaneous_of means
-    ∙ ap (λ (n : ℕ). spontaneous_of (Tells (asdu_of offset n originator x))) is
+    ∙ ap (λ (n : ℕ). spontaneous_of (Tells (asdu_of clocks n originator x))) is
 
 -- ---- what isn't of it
 
@@ -92,22 +93,22 @@ neither cause octet e from =
           37 (λ (is : octet ≡ 37). omega (arith, e, from, is)),
     ) refl
 
-pub answer_apart : (offset : ℤ) (answer : AsduAnswer) (meant : Meant) → CanSendAnswer offset answer
-    → IsApart answer → Means offset answer meant → parts_in meant ≡ []
-answer_apart offset (Returned asdu cause) (Tells told) can is means =
-    let refused = refused_with offset cause (octets_in asdu) (Tells told) can.0 means in
+pub answer_apart : (clocks : Clocks) (answer : AsduAnswer) (meant : Meant) → CanSendAnswer clocks answer
+    → IsApart answer → Means clocks answer meant → parts_in meant ≡ []
+answer_apart clocks (Returned asdu cause) (Tells told) can is means =
+    let refused = refused_with clocks cause (octets_in asdu) (Tells told) can.0 means in
     rw (neither cause told.cause refused.0 can.1) refl
-answer_apart offset (Returned asdu cause) (Commands c) can is means =
-    negative_apart c (refused_with offset cause (octets_in asdu) (Commands c) can.0 means).1
-answer_apart offset (Returned asdu cause) (Unread octets) can is means = refl
-answer_apart offset (Made (outgoing.Command c)) meant can is means =
+answer_apart clocks (Returned asdu cause) (Commands c) can is means =
+    negative_apart c (refused_with clocks cause (octets_in asdu) (Commands c) can.0 means).1
+answer_apart clocks (Returned asdu cause) (Unread octets) can is means = refl
+answer_apart clocks (Made (outgoing.Command c)) meant can is means =
     ap parts_in means ∙ no_parts c is
-answer_apart offset (Made (outgoing.Observation cause originator x)) meant can is means =
-    ap parts_in means ∙ ap (λ (n : ℕ). parts_in (Tells (asdu_of offset n originator x))) is
+answer_apart clocks (Made (outgoing.Observation cause originator x)) meant can is means =
+    ap parts_in means ∙ ap (λ (n : ℕ). parts_in (Tells (asdu_of clocks n originator x))) is
 
-pub news_apart : (offset : ℤ) (x : Observation) (xs : List Observation) (meant : Meant)
-    → meant ≡ Tells (packed_asdu offset 3 0 x xs) → parts_in meant ≡ []
-news_apart offset x xs meant means = ap parts_in means
+pub news_apart : (clocks : Clocks) (x : Observation) (xs : List Observation) (meant : Meant)
+    → meant ≡ Tells (packed_asdu clocks 3 0 x xs) → parts_in meant ≡ []
+news_apart clocks x xs meant means = ap parts_in means
 
 -- nothing of it was put out
 pub told_nothing : (meant : Meant) (q : Option Interrogation) → parts_in meant ≡ []
@@ -118,13 +119,13 @@ told_nothing meant (Some q) none = ap (λ (parts : List OwnAsdu). Some (record q
 
 -- ---- what is of it
 
-pub part_told : (offset : ℤ) (part : OwnAsdu) (meant : Meant) → IsOfInterrogation part → IsRequested part
-    → Means offset (Made part) meant
+pub part_told : (clocks : Clocks) (part : OwnAsdu) (meant : Meant) → IsOfInterrogation part → IsRequested part
+    → Means clocks (Made part) meant
     → parts_in meant ≡ part ∷ []
-part_told offset (outgoing.Command c) meant is requested means = ap parts_in means ∙ rw is refl
-part_told offset (outgoing.Observation cause originator x) meant is (inl asked) means =
+part_told clocks (outgoing.Command c) meant is requested means = ap parts_in means ∙ rw is refl
+part_told clocks (outgoing.Observation cause originator x) meant is (inl asked) means =
     ap parts_in means ∙ rw asked refl
-part_told offset (outgoing.Observation cause originator x) meant is (inr asked) means =
+part_told clocks (outgoing.Observation cause originator x) meant is (inr asked) means =
     ap parts_in means ∙ rw asked refl
 
 -- ---- an act that is accepted

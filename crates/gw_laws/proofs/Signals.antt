@@ -4,7 +4,7 @@ use Rattle.std.specs.Option.{option_to_list}
 use Rattle.std.specs.Prelude.{slice_get, IfSome}
 use Rattle.std.specs.List.{AllByRecursion}
 use Rattle.std.proofs.lemmas.List.{append-nil}
-use Rattle.gw_map.specs.Settings.{Setup}
+use Rattle.gw_map.specs.Settings.{Setup, station_clocks}
 use Rattle.gw_picture.proofs.Lists.{some_is}
 use Rattle.iec_apci.specs.declared.apdu.Apdu.{Apdu}
 use Rattle.iec_apci.specs.declared.apdu.Apdu.TheVariants.{I, S, U}
@@ -92,8 +92,8 @@ took setup moment (U signal) taking ts k new takes tied = record {
 }
 
 abbrev pub says : Setup → Client → Sending → ApduMeaning
-says setup k s = said_by setup.station.offset_minutes
-    (content_of setup.station.offset_minutes k s)
+says setup k s = said_by (station_clocks setup.station)
+    (content_of (station_clocks setup.station) k s)
 
 -- a con that is put out is one of those given
 given_more : (signal : Signal) (ts : List Turn) → IsCon signal
@@ -124,7 +124,7 @@ confirmed moment signal ts k (x ∷ cs) same first tied =
     }
 
 gave : (setup : Setup) (moment : ℕ) (s : Sending) (ts : List TimedTurn) (k : Client) → IsOffer moment k (Some s)
-    → SignalsTied ts k → SignalsTied (At moment (PutsOut (says setup k s)) ∷ ts) (client_with_sent setup.station.offset_minutes moment s k)
+    → SignalsTied ts k → SignalsTied (At moment (PutsOut (says setup k s)) ∷ ts) (client_with_sent (station_clocks setup.station) moment s k)
 gave setup moment (sendings.Confirm signal) ts k offer tied =
     confirmed moment signal ts k k.confirmations refl offer tied
 gave setup moment sendings.Test ts k offer tied = signals_same ts _ k _ refl refl refl tied
@@ -142,7 +142,7 @@ signals_more setup began moment (Takes a taking) ts k new linked tied is so_far 
     took setup moment a taking ts k new is so_far
 signals_more setup began moment (PutsOut said) ts k new linked tied is so_far =
     subst (SignalsTied (At moment (PutsOut said) ∷ ts)) (sym is.becomes)
-    (subst (λ (x : ApduMeaning). SignalsTied (At moment (PutsOut x) ∷ ts) (client_with_sent setup.station.offset_minutes moment is.sending k))
+    (subst (λ (x : ApduMeaning). SignalsTied (At moment (PutsOut x) ∷ ts) (client_with_sent (station_clocks setup.station) moment is.sending k))
     (sym is.says)
     (gave setup moment is.sending ts k (offer_told moment k (Some is.sending) is.first) so_far))
 signals_more setup began moment Ends ts k new linked tied is so_far = absurd is

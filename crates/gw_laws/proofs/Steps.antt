@@ -1,10 +1,11 @@
 -- What each step is to the connection of each client.
-use Rattle.std.proofs.Common.{ℤ, ◌≡◌, ℕ, zero, suc, Bool, true, false, cond, map, List, [], ◌∷◌, Option, Some, None, Result, Ok, Err, refl, sym, ap, subst, ◌∙◌, inl, inr}
+use Rattle.std.proofs.Common.{◌≡◌, ℕ, zero, suc, Bool, true, false, cond, map, List, [], ◌∷◌, Option, Some, None, Result, Ok, Err, refl, sym, ap, subst, ◌∙◌, inl, inr}
 use Rattle.std.specs.Prelude.{◌==◌, slice_get, option_map, replicate, IfSome}
 use Rattle.std.proofs.lemmas.Bool.{cases_Bool, cases_eq, ne_eqb, eq-eqb, true≢false}
 use Rattle.gw_model.specs.Places.{change}
 use Rattle.gw_model.specs.declared.observation.Observation.{Observation}
-use Rattle.gw_map.specs.Settings.{Setup, HasSingleAddresses}
+use Rattle.gw_model.specs.Clocks.{Clocks}
+use Rattle.gw_map.specs.Settings.{Setup, HasSingleAddresses, station_clocks}
 use Rattle.gw_picture.proofs.Lists.{change-here}
 use Rattle.gw_picture.specs.Log.{picture_of}
 use Rattle.iec_apci.specs.declared.apdu.Apdu.{Apdu}
@@ -177,31 +178,31 @@ framed setup picture shown said told now a x k None opens up counted linked =
 
 -- ---- Pump
 
-sent_up : (offset : ℤ) (moment : ℕ) (s : Sending) (k : Client) → (client_with_sent offset moment s k).stage ≡ k.stage
-sent_up offset moment (sendings.Confirm signal) k = refl
-sent_up offset moment sendings.Test k = refl
-sent_up offset moment (sendings.Answer answer) k = refl
-sent_up offset moment (sendings.News x) k = refl
-sent_up offset moment (sendings.Part part) k = refl
-sent_up offset moment sendings.SFormat k = refl
+sent_up : (clocks : Clocks) (moment : ℕ) (s : Sending) (k : Client) → (client_with_sent clocks moment s k).stage ≡ k.stage
+sent_up clocks moment (sendings.Confirm signal) k = refl
+sent_up clocks moment sendings.Test k = refl
+sent_up clocks moment (sendings.Answer answer) k = refl
+sent_up clocks moment (sendings.News x) k = refl
+sent_up clocks moment (sendings.Part part) k = refl
+sent_up clocks moment sendings.SFormat k = refl
 
 pumped : (setup : Setup) (now : ℕ) (x : Option Connection) (k : Client) (offer : Option Sending)
-    → offered now k ≡ offer → IfSome offer (CanSend setup.station.offset_minutes)
+    → offered now k ≡ offer → IfSome offer (CanSend (station_clocks setup.station))
     → IfSome x (λ y. WindowTied setup (turns y) k.window) → ClientLinked setup x k
     → ClientLinked setup (connection_with now (Some (turn_giving setup (reply_giving
-    (option_map (content_of setup.station.offset_minutes k) offer)))) x)
-    (client_by_offer setup.station.offset_minutes now offer k)
+    (option_map (content_of (station_clocks setup.station) k) offer)))) x)
+    (client_by_offer (station_clocks setup.station) now offer k)
 pumped setup now x k None first can counted linked =
     stays_linked setup now nothing x k k
     (record { stage = refl; window = refl; confirmations = refl }) counted linked
 pumped setup now x k (Some sending) first can counted linked =
-    let content : ApduContent = content_of setup.station.offset_minutes k sending in
-    let fits = content_fits setup.station.offset_minutes k sending in
-    rw (said-content setup.station.offset_minutes content fits)
-    (one_more setup now (PutsOut _) x k (client_with_sent setup.station.offset_minutes now sending k)
-    (λ down. ap is_up (sent_up setup.station.offset_minutes now sending k) ∙ down)
+    let content : ApduContent = content_of (station_clocks setup.station) k sending in
+    let fits = content_fits (station_clocks setup.station) k sending in
+    rw (said-content (station_clocks setup.station) content fits)
+    (one_more setup now (PutsOut _) x k (client_with_sent (station_clocks setup.station) now sending k)
+    (λ down. ap is_up (sent_up (station_clocks setup.station) now sending k) ∙ down)
     (λ began ts so_far tied up. (
-      ap is_up (sent_up setup.station.offset_minutes now sending k) ∙ up,
+      ap is_up (sent_up (station_clocks setup.station) now sending k) ∙ up,
       (k, so_far, tied, record { sending = sending; first = first; says = refl; becomes = refl }),
     )) counted linked)
 
@@ -342,15 +343,15 @@ pump_own setup past c m r e before =
     let told = answered (fault_of s step) (can_be_counted s (needs setup s step)) (reply_to setup s step) r e in
     let up = who_is_up (λ (k : Client). is_up k.stage) NoClient (slice_get s.clients c) told.0 in
     let k : Client = up.0 in
-    let content : Option ApduContent = given setup.station.offset_minutes now k in
+    let content : Option ApduContent = given (station_clocks setup.station) now k in
     let reply : reply_giving content ≡ r = sym (ap (client_reply (λ (x : Client). reply_giving
-    (given setup.station.offset_minutes now x))) up.1) ∙ told.2 in
+    (given (station_clocks setup.station) now x))) up.1) ∙ told.2 in
     let mine = sound_at setup.station s.counts.steps s.counts.news s.clients c k up.1 before.known.sound.clients in
     subst (λ (x : Reply). LinksTo setup past (entry step (Ok x)) (after setup s step) c) reply
     (led setup past (entry step (Ok (reply_giving content))) (after setup s step) c now
-    (Some (turn_giving setup (reply_giving content))) (client_after_pump setup.station.offset_minutes now k)
+    (Some (turn_giving setup (reply_giving content))) (client_after_pump (station_clocks setup.station) now k)
     (pump_turn setup past c m (reply_giving content)) (told_moment setup past s m before.known.tied)
-    (changed c (client_after_pump setup.station.offset_minutes now) s.clients k up.1)
+    (changed c (client_after_pump (station_clocks setup.station) now) s.clients k up.1)
     (pumped setup now (connection setup c past) k (offered now k) refl
     (offered_can setup.station s.counts.steps s.counts.news now k mine)
     (here_counted setup (connection setup c past) (slice_get s.clients c) k up.1 (counted setup past c before.known))

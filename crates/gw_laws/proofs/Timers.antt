@@ -3,7 +3,7 @@ use Rattle.std.proofs.Common.{◌≡◌, ℕ, ◌+◌, ◌-◌, ◌<◌, ◌≤�
 use Rattle.std.specs.Prelude.{◌&&◌, is_none, slice_get, IfSome}
 use Rattle.std.specs.List.{AllByRecursion}
 use Rattle.std.proofs.lemmas.List.{length-append, drop-append-le, drop-drop}
-use Rattle.gw_map.specs.Settings.{Setup}
+use Rattle.gw_map.specs.Settings.{Setup, station_clocks}
 use Rattle.iec_apci.specs.declared.apdu.Apdu.{Apdu}
 use Rattle.iec_apci.specs.declared.apdu.Apdu.TheVariants.{I, S, U}
 use Rattle.iec_apci.specs.declared.apdu.Signal.{Signal}
@@ -166,7 +166,7 @@ sent_one moment ts w heard within tied = record {
 gave : (setup : Setup) (began moment : ℕ) (s : Sending) (ts : List TimedTurn) (k : Client)
     → acknowledged (map turn_in ts) ≤ length (sent_at ts) → AllByRecursion IsCon k.confirmations
     → IsOffer moment k (Some s) → TimersTied began ts k
-    → TimersTied began (At moment (PutsOut (says setup k s)) ∷ ts) (client_with_sent setup.station.offset_minutes moment s k)
+    → TimersTied began (At moment (PutsOut (says setup k s)) ∷ ts) (client_with_sent (station_clocks setup.station) moment s k)
 gave setup began moment (sendings.Confirm signal) ts k within cons offer tied =
     let con : IsCon signal = subst (λ (x : Option Signal). IfSome x IsCon) offer
     (all-first IsCon k.confirmations cons) in
@@ -209,7 +209,7 @@ timers_more setup began small moment (Takes a taking) ts k new linked tied is so
 timers_more setup began small moment (PutsOut said) ts k new linked tied is so_far =
     let same = acknowledged_tied setup began small ts k linked in
     subst (TimersTied began (At moment (PutsOut said) ∷ ts)) (sym is.becomes)
-    (subst (λ (x : ApduMeaning). TimersTied began (At moment (PutsOut x) ∷ ts) (client_with_sent setup.station.offset_minutes moment is.sending k))
+    (subst (λ (x : ApduMeaning). TimersTied began (At moment (PutsOut x) ∷ ts) (client_with_sent (station_clocks setup.station) moment is.sending k))
     (sym is.says)
     (gave setup began moment is.sending ts k (no_more_than_sent setup ts k tied same)
     (signals_tied setup began ts k linked).cons (offer_told moment k (Some is.sending) is.first) so_far))

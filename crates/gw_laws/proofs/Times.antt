@@ -4,7 +4,7 @@ use Rattle.std.specs.Prelude.{◌&&◌, ◌||◌, is_some, nat_le, nat_lt, optio
 use Rattle.std.proofs.lemmas.Bool.{eq-eqb, lt-ltb, ne_eqb, true≢false}
 use Rattle.gw_model.specs.First.{when, first_of}
 use Rattle.gw_entries.specs.Setup.{StationSetup}
-use Rattle.gw_map.specs.Settings.{Setup}
+use Rattle.gw_map.specs.Settings.{Setup, station_clocks}
 use Rattle.iec_apci.specs.Apdu.{ApduContent}
 use Rattle.iec_apci.specs.declared.apdu.Signal.{Signal}
 use Rattle.iec_apci.specs.declared.apdu.Signal.TheVariants.{TestAct}
@@ -166,12 +166,12 @@ same_due setup now x k tied =
 
 offers_due : (setup : Setup) (k : Client) (offer : Option Sending)
     → GivesDue setup (option_map owed_by offer) (reply_giving (option_map
-    (content_of setup.station.offset_minutes k) offer))
+    (content_of (station_clocks setup.station) k) offer))
 offers_due setup k None = refl
 offers_due setup k (Some s) =
-    let content : ApduContent = content_of setup.station.offset_minutes k s in
-    let fits = content_fits setup.station.offset_minutes k s in
-    ap (option_map was_due) (said-content setup.station.offset_minutes content fits)
+    let content : ApduContent = content_of (station_clocks setup.station) k s in
+    let fits = content_fits (station_clocks setup.station) k s in
+    ap (option_map was_due) (said-content (station_clocks setup.station) content fits)
     ∙ ap Some (says_due setup k s)
 
 -- ---- each connection
@@ -193,11 +193,11 @@ pumped_slot : (setup : Setup) (now : ℕ) (ts : List Turn) (x : Option Connectio
     → k.window.limits ≡ limits_of setup.station → IfSome x (λ y. turns y ≡ ts) → Lives setup ts k
     → is_up k.stage ≡ true → ClientLinked setup x k
     → OfStanding (λ y. GivesDue setup (due setup now y) (reply_giving
-    (given setup.station.offset_minutes now k))) x
+    (given (station_clocks setup.station) now k))) x
 pumped_slot setup now ts None k fit limits same lives up linked = absurd (true≢false (sym up ∙ linked))
 pumped_slot setup now ts (Some x) k fit limits same lives up linked =
     subst (λ (d : Option Due). GivesDue setup d (reply_giving
-    (given setup.station.offset_minutes now k)))
+    (given (station_clocks setup.station) now k)))
     (sym (same_due setup now x k (ties setup ts x k fit limits same lives linked)))
     (offers_due setup k (offered now k))
 
@@ -219,13 +219,13 @@ pump setup past c m r fit e known linked =
     let now : ℕ = latest s m in
     let told = answered (fault_of s step) (can_be_counted s (needs setup s step)) (reply_to setup s step) r e in
     let up = who_is_up (λ (k : Client). is_up k.stage) NoClient (slice_get s.clients c) told.0 in
-    let reply : reply_giving (given setup.station.offset_minutes now up.0) ≡ r =
+    let reply : reply_giving (given (station_clocks setup.station) now up.0) ≡ r =
     sym (ap (client_reply (λ (x : Client). reply_giving
-    (given setup.station.offset_minutes now x))) up.1) ∙ told.2 in
+    (given (station_clocks setup.station) now x))) up.1) ∙ told.2 in
     let mine = sound_at setup.station s.counts.steps s.counts.news s.clients c up.0 up.1 known.sound.clients in
     subst (λ (x : Reply). TimesBy setup past step (Ok x)) reply
     (subst (λ (n : ℕ). OfStanding (λ y. GivesDue setup (due setup n y) (reply_giving
-    (given setup.station.offset_minutes now up.0))) (connection setup c past))
+    (given (station_clocks setup.station) now up.0))) (connection setup c past))
     (told_moment setup past s m known.tied)
     (pumped_slot setup now (life setup c past) (connection setup c past) up.0 fit mine.window.limits
     (same_turns setup c past) (subst (SlotLives setup c (life setup c past)) up.1 (known.lives c)) up.2

@@ -1,10 +1,11 @@
 -- What waits in a line, and what is meant by the first of it.
-use Rattle.std.proofs.Common.{◌≡◌, ℕ, zero, suc, ℤ, ◌+◌, ◌%◌, ◌<◌, ◌≤◌, Bool, true, false, cond, eqb, List, [], ◌∷◌, ◌++◌, map, length, take, drop, Option, refl, sym, ap, ◌∙◌, append_assoc, arith, inl, inr}
+use Rattle.std.proofs.Common.{◌≡◌, ℕ, zero, suc, ◌+◌, ◌%◌, ◌<◌, ◌≤◌, Bool, true, false, cond, eqb, List, [], ◌∷◌, ◌++◌, map, length, take, drop, Option, refl, sym, ap, ◌∙◌, append_assoc, arith, inl, inr}
 use Rattle.std.specs.Prelude.{◌⊎◌, ◌==◌, ◌&&◌, if◌then◌else◌}
 use Rattle.std.specs.List.{AllByRecursion, flat_map}
 use Rattle.std.proofs.lemmas.Bool.{cases_Bool, ne_eqb}
 use Rattle.std.proofs.lemmas.List.{take-append-le, drop-append-le}
 use Rattle.gw_model.specs.declared.observation.Observation.{Observation}
+use Rattle.gw_model.specs.Clocks.{Clocks}
 use Rattle.iec_asdu.specs.Packing.{taken_of}
 use Rattle.iec_asdu.proofs.Carried.{taken_of_some, taken_of_within}
 use Rattle.iec_command.specs.declared.command.Command.{Command}
@@ -149,18 +150,18 @@ other_causes cause octet is low high = (
     other n few = ne_eqb octet n (λ e. omega (arith, is, low, few, ap (λ (m : ℕ). m % 64) e))
 
 -- the observations that an answer tells
-answer_tells : (offset : ℤ) (answer : AsduAnswer) (meant : Meant) → IsApart answer
-    → CanSendAnswer offset answer → Means offset answer meant
+answer_tells : (clocks : Clocks) (answer : AsduAnswer) (meant : Meant) → IsApart answer
+    → CanSendAnswer clocks answer → Means clocks answer meant
     → observations_in meant ≡ observations_of (sendings.Answer answer)
-answer_tells offset (Returned asdu cause) (Tells a) plain can means =
-    let refused = refused_with offset cause (octets_in asdu) (Tells a) can.0 means in
+answer_tells clocks (Returned asdu cause) (Tells a) plain can means =
+    let refused = refused_with clocks cause (octets_in asdu) (Tells a) can.0 means in
     let others = other_causes cause a.cause refused.0 can.1 can.2 in
     rw (others.0, others.1, others.2, others.3) refl
-answer_tells offset (Returned asdu cause) (Commands c) plain can means = refl
-answer_tells offset (Returned asdu cause) (Unread octets) plain can means = refl
-answer_tells offset (Made (outgoing.Command c)) meant plain can means = ap observations_in means
-answer_tells offset (Made (outgoing.Observation cause originator x)) meant plain can means =
-    ap observations_in means ∙ ap (λ (n : ℕ). observations_in (Tells (asdu_of offset n originator x))) plain
+answer_tells clocks (Returned asdu cause) (Commands c) plain can means = refl
+answer_tells clocks (Returned asdu cause) (Unread octets) plain can means = refl
+answer_tells clocks (Made (outgoing.Command c)) meant plain can means = ap observations_in means
+answer_tells clocks (Made (outgoing.Observation cause originator x)) meant plain can means =
+    ap observations_in means ∙ ap (λ (n : ℕ). observations_in (Tells (asdu_of clocks n originator x))) plain
 
 -- news at the front of a line wait first
 news_wait : (n : ℕ) (l : List Sending) → n ≤ length (news_front l)
@@ -206,24 +207,24 @@ with_first zero x xs l some few each = absurd (omega (arith, some))
 with_first (suc n) x xs l some few each = ap (λ (ys : List Observation). x ∷ ys) (each n (omega (arith, few)))
 
 -- what an ASDU tells waited first
-pub told_first : (offset : ℤ) (l : List Sending) (meant : Meant) → MeansFront offset l meant
-    → AllByRecursion IsPlain l → AllByRecursion (CanSend offset) l
-    → waiting_in l ≡ observations_in meant ++ waiting_in (drop (together offset l) l)
-told_first offset [] meant means plain can = absurd means
-told_first offset (sendings.Answer answer ∷ l) meant means plain can =
-    ap (λ (xs : List Observation). xs ++ waiting_in l) (sym (answer_tells offset answer meant plain.0 can.0 means))
-told_first offset (sendings.News x ∷ l) meant means plain can =
+pub told_first : (clocks : Clocks) (l : List Sending) (meant : Meant) → MeansFront clocks l meant
+    → AllByRecursion IsPlain l → AllByRecursion (CanSend clocks) l
+    → waiting_in l ≡ observations_in meant ++ waiting_in (drop (together clocks l) l)
+told_first clocks [] meant means plain can = absurd means
+told_first clocks (sendings.Answer answer ∷ l) meant means plain can =
+    ap (λ (xs : List Observation). xs ++ waiting_in l) (sym (answer_tells clocks answer meant plain.0 can.0 means))
+told_first clocks (sendings.News x ∷ l) meant means plain can =
     let xs : List Observation = news_front l in
-    let n : ℕ = taken_of offset (x ∷ xs) in
-    with_first n x xs l (taken_of_some offset (x ∷ xs) (omega arith)) (omega (arith, taken_of_within offset (x ∷ xs)))
+    let n : ℕ = taken_of clocks (x ∷ xs) in
+    with_first n x xs l (taken_of_some clocks (x ∷ xs) (omega arith)) (omega (arith, taken_of_within clocks (x ∷ xs)))
     (λ m few. news_wait m l few)
     ∙ ap (λ (ys : List Observation). ys ++ waiting_in (drop n (sendings.News x ∷ l))) (sym (ap observations_in means))
-told_first offset (sendings.Part (outgoing.Command command) ∷ l) meant means plain can =
+told_first clocks (sendings.Part (outgoing.Command command) ∷ l) meant means plain can =
     ap (λ (xs : List Observation). xs ++ waiting_in l) (sym (ap observations_in means))
-told_first offset (sendings.Part (outgoing.Observation cause originator x) ∷ l) meant means plain can =
+told_first clocks (sendings.Part (outgoing.Observation cause originator x) ∷ l) meant means plain can =
     let xs : List Observation = rows_front cause originator l in
-    let n : ℕ = taken_of offset (x ∷ xs) in
-    rows_first n (taken_of_some offset (x ∷ xs) (omega arith)) (omega (arith, taken_of_within offset (x ∷ xs)))
+    let n : ℕ = taken_of clocks (x ∷ xs) in
+    rows_first n (taken_of_some clocks (x ∷ xs) (omega arith)) (omega (arith, taken_of_within clocks (x ∷ xs)))
     ∙ ap (λ (ys : List Observation). ys ++ waiting_in (drop n (sendings.Part (outgoing.Observation cause originator x) ∷ l)))
     (sym (ap observations_in means ∙ rows_told plain.0))
   where
@@ -238,13 +239,13 @@ told_first offset (sendings.Part (outgoing.Observation cause originator x) ∷ l
         ap (λ (ys : List Observation). x ∷ ys) (rows_wait cause originator n l (omega (arith, few)))
 
     rows_told : (cause ≡ 20) ⊎ (cause ≡ 37)
-        → observations_in (Tells (packed_asdu offset cause originator x front))
-        ≡ take (taken_of offset (x ∷ front)) (x ∷ front)
+        → observations_in (Tells (packed_asdu clocks cause originator x front))
+        ≡ take (taken_of clocks (x ∷ front)) (x ∷ front)
     rows_told (inl is) = rw is refl
     rows_told (inr is) = rw is refl
-told_first offset (sendings.Confirm signal ∷ l) meant means plain can = absurd means
-told_first offset (sendings.Test ∷ l) meant means plain can = absurd means
-told_first offset (sendings.SFormat ∷ l) meant means plain can = absurd means
+told_first clocks (sendings.Confirm signal ∷ l) meant means plain can = absurd means
+told_first clocks (sendings.Test ∷ l) meant means plain can = absurd means
+told_first clocks (sendings.SFormat ∷ l) meant means plain can = absurd means
 
 -- ---- only parts are taken for parts
 
@@ -252,36 +253,36 @@ abbrev pub begins_with_part : List Sending → Bool
 begins_with_part [] = false
 begins_with_part (s ∷ l) = is_part s
 
-answer_apart : (offset : ℤ) (answer : AsduAnswer) (meant : Meant) → IsApart answer
-    → CanSendAnswer offset answer → Means offset answer meant → parts_in meant ≡ []
-answer_apart offset (Returned asdu cause) (Tells a) plain can means =
-    let refused = refused_with offset cause (octets_in asdu) (Tells a) can.0 means in
+answer_apart : (clocks : Clocks) (answer : AsduAnswer) (meant : Meant) → IsApart answer
+    → CanSendAnswer clocks answer → Means clocks answer meant → parts_in meant ≡ []
+answer_apart clocks (Returned asdu cause) (Tells a) plain can means =
+    let refused = refused_with clocks cause (octets_in asdu) (Tells a) can.0 means in
     let others = other_causes cause a.cause refused.0 can.1 can.2 in
     rw (others.2, others.3) refl
-answer_apart offset (Returned asdu cause) (Commands c) plain can means =
-    negative_apart c (refused_with offset cause (octets_in asdu) (Commands c) can.0 means).1
+answer_apart clocks (Returned asdu cause) (Commands c) plain can means =
+    negative_apart c (refused_with clocks cause (octets_in asdu) (Commands c) can.0 means).1
   where
     negative_apart : (c : Command) → c.negative ≡ true → parts_in (Commands c) ≡ []
     negative_apart c is = elim (cases_Bool (is_interrogation c.action)) [
       | inl one ↦ rw (one, is) refl
       | inr none ↦ rw none refl
     ]
-answer_apart offset (Returned asdu cause) (Unread octets) plain can means = refl
-answer_apart offset (Made (outgoing.Command c)) meant plain can means = ap parts_in means ∙ rw plain refl
-answer_apart offset (Made (outgoing.Observation cause originator x)) meant plain can means =
-    ap parts_in means ∙ ap (λ (n : ℕ). parts_in (Tells (asdu_of offset n originator x))) plain
+answer_apart clocks (Returned asdu cause) (Unread octets) plain can means = refl
+answer_apart clocks (Made (outgoing.Command c)) meant plain can means = ap parts_in means ∙ rw plain refl
+answer_apart clocks (Made (outgoing.Observation cause originator x)) meant plain can means =
+    ap parts_in means ∙ ap (λ (n : ℕ). parts_in (Tells (asdu_of clocks n originator x))) plain
 
-pub apart : (offset : ℤ) (l : List Sending) (meant : Meant) → begins_with_part l ≡ false
-    → MeansFront offset l meant → AllByRecursion IsPlain l → AllByRecursion (CanSend offset) l
+pub apart : (clocks : Clocks) (l : List Sending) (meant : Meant) → begins_with_part l ≡ false
+    → MeansFront clocks l meant → AllByRecursion IsPlain l → AllByRecursion (CanSend clocks) l
     → parts_in meant ≡ []
-apart offset [] meant other means plain can = absurd means
-apart offset (sendings.Answer answer ∷ l) meant other means plain can =
-    answer_apart offset answer meant plain.0 can.0 means
-apart offset (sendings.News x ∷ l) meant other means plain can = ap parts_in means
-apart offset (sendings.Part part ∷ l) meant other means plain can = absurd cc
-apart offset (sendings.Confirm signal ∷ l) meant other means plain can = absurd means
-apart offset (sendings.Test ∷ l) meant other means plain can = absurd means
-apart offset (sendings.SFormat ∷ l) meant other means plain can = absurd means
+apart clocks [] meant other means plain can = absurd means
+apart clocks (sendings.Answer answer ∷ l) meant other means plain can =
+    answer_apart clocks answer meant plain.0 can.0 means
+apart clocks (sendings.News x ∷ l) meant other means plain can = ap parts_in means
+apart clocks (sendings.Part part ∷ l) meant other means plain can = absurd cc
+apart clocks (sendings.Confirm signal ∷ l) meant other means plain can = absurd means
+apart clocks (sendings.Test ∷ l) meant other means plain can = absurd means
+apart clocks (sendings.SFormat ∷ l) meant other means plain can = absurd means
 
 -- a part is first where no answer and no older news wait
 pub part_first : (owed : List AsduAnswer) (xs : List Observation) (rest : List Sending)
@@ -314,13 +315,13 @@ from_part_news (suc n) (sendings.Confirm signal ∷ l) few = absurd (omega (arit
 from_part_news (suc n) (sendings.Test ∷ l) few = absurd (omega (arith, few))
 from_part_news (suc n) (sendings.SFormat ∷ l) few = absurd (omega (arith, few))
 
-pub from_part_next : (offset : ℤ) (l : List Sending) → begins_with_part l ≡ false
-    → from_part (drop (together offset l) l) ≡ from_part l
-from_part_next offset [] other = refl
-from_part_next offset (sendings.News x ∷ l) other =
-    from_part_news (taken_of offset (x ∷ news_front l)) (sendings.News x ∷ l) (taken_of_within offset (x ∷ news_front l))
-from_part_next offset (sendings.Answer answer ∷ l) other = refl
-from_part_next offset (sendings.Part part ∷ l) other = absurd cc
-from_part_next offset (sendings.Confirm signal ∷ l) other = refl
-from_part_next offset (sendings.Test ∷ l) other = refl
-from_part_next offset (sendings.SFormat ∷ l) other = refl
+pub from_part_next : (clocks : Clocks) (l : List Sending) → begins_with_part l ≡ false
+    → from_part (drop (together clocks l) l) ≡ from_part l
+from_part_next clocks [] other = refl
+from_part_next clocks (sendings.News x ∷ l) other =
+    from_part_news (taken_of clocks (x ∷ news_front l)) (sendings.News x ∷ l) (taken_of_within clocks (x ∷ news_front l))
+from_part_next clocks (sendings.Answer answer ∷ l) other = refl
+from_part_next clocks (sendings.Part part ∷ l) other = absurd cc
+from_part_next clocks (sendings.Confirm signal ∷ l) other = refl
+from_part_next clocks (sendings.Test ∷ l) other = refl
+from_part_next clocks (sendings.SFormat ∷ l) other = refl

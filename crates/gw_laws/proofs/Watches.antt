@@ -1,5 +1,5 @@
 -- What is kept of an interrogation that is watched, by what the history tells of a client, and how each turn keeps it.
-use Rattle.std.proofs.Common.{◌≡◌, ℕ, ℤ, ◌≤◌, true, false, List, [], ◌∷◌, ◌++◌, map, length, take, drop, Option, Some, None, refl, sym, ap, subst, ◌∙◌, append_assoc, arith, inl, inr}
+use Rattle.std.proofs.Common.{◌≡◌, ℕ, ◌≤◌, true, false, List, [], ◌∷◌, ◌++◌, map, length, take, drop, Option, Some, None, refl, sym, ap, subst, ◌∙◌, append_assoc, arith, inl, inr}
 use Rattle.std.specs.Prelude.{not, option_map}
 use Rattle.std.specs.List.{AllByRecursion, flat_map}
 use Rattle.std.proofs.lemmas.Bool.{cases_Bool}
@@ -7,6 +7,7 @@ use Rattle.std.proofs.lemmas.List.{append-nil, map-append, take-append-drop}
 use Rattle.std.proofs.Math.Seq.{take-length, drop-length}
 use Rattle.gw_model.specs.declared.observation.Observation.{Observation}
 use Rattle.gw_model.specs.Values.{is_total}
+use Rattle.gw_model.specs.Clocks.{Clocks}
 use Rattle.gw_entries.specs.declared.row.Row.{Row}
 use Rattle.gw_picture.specs.Log.{picture_of}
 use Rattle.gw_picture.proofs.Addresses.{is_single}
@@ -138,26 +139,26 @@ put_out meant ys v = record v {
 }
 
 -- it means the front of the line, and the others wait then
-pub record PutsFirst (offset : ℤ) (v new : View) (meant : Meant) : Type 0 where
-  pub means : MeansFront offset (line_in v) meant
+pub record PutsFirst (clocks : Clocks) (v new : View) (meant : Meant) : Type 0 where
+  pub means : MeansFront clocks (line_in v) meant
   pub plain : AllByRecursion IsPlain (line_in v)
-  pub can : AllByRecursion (CanSend offset) (line_in v)
-  pub line : line_in new ≡ drop (together offset (line_in v)) (line_in v)
+  pub can : AllByRecursion (CanSend clocks) (line_in v)
+  pub line : line_in new ≡ drop (together clocks (line_in v)) (line_in v)
 
 same_since : (meant : Meant) (q : Option Interrogation)
     → since_of (option_map (interrogation_telling meant) q) ≡ since_of q
 same_since meant None = refl
 same_since meant (Some q) = refl
 
-heard_put_out : (rows : List Row) (addresses : List ℕ) (offset : ℤ) (since : ℕ) (told : List Observation)
+heard_put_out : (rows : List Row) (addresses : List ℕ) (clocks : Clocks) (since : ℕ) (told : List Observation)
     (meant : Meant) (ys : List Observation) (v : View)
-    → PutsFirst offset v (put_out meant ys v) meant → Heard rows addresses v since told
+    → PutsFirst clocks v (put_out meant ys v) meant → Heard rows addresses v since told
     → Heard rows addresses (put_out meant ys v) since (told ++ observations_in meant)
-heard_put_out rows addresses offset since told meant ys v puts kept =
+heard_put_out rows addresses clocks since told meant ys v puts kept =
     let new : View = put_out meant ys v in
     let rest : List Observation = waiting_in (line_in new) in
     let first : waiting_in (line_in v) ≡ observations_in meant ++ rest =
-    told_first offset (line_in v) meant puts.means puts.plain puts.can
+    told_first clocks (line_in v) meant puts.means puts.plain puts.can
     ∙ ap (λ (l : List Sending). observations_in meant ++ waiting_in l) (sym puts.line) in
     record {
       mark = omega (arith, kept.mark, same_since meant v.asked);
@@ -197,18 +198,18 @@ watched_from asked es since is =
     ∷ (map sendings.Part (drop 1 (answer_told is.q)) ++ news q)) is.is
 
 -- something else than a part
-unheard_put_out : (rows : List Row) (addresses : List ℕ) (offset : ℤ) (since : ℕ) (meant : Meant)
+unheard_put_out : (rows : List Row) (addresses : List ℕ) (clocks : Clocks) (since : ℕ) (meant : Meant)
     (ys : List Observation) (v : View)
-    → (puts : PutsFirst offset v (put_out meant ys v) meant) → begins_with_part (line_in v) ≡ false
+    → (puts : PutsFirst clocks v (put_out meant ys v) meant) → begins_with_part (line_in v) ≡ false
     → Unheard rows addresses v since
     → IsKept rows addresses (put_out meant ys v) since (told_with meant None)
-unheard_put_out rows addresses offset since meant ys v puts other kept = rw none_said kept_on
+unheard_put_out rows addresses clocks since meant ys v puts other kept = rw none_said kept_on
   where
     new : View
     new = put_out meant ys v
 
     none_said : parts_in meant ≡ []
-    none_said = apart offset (line_in v) meant other puts.means puts.plain puts.can
+    none_said = apart clocks (line_in v) meant other puts.means puts.plain puts.can
 
     watched : IsWatched new.asked since
     watched = record {
@@ -233,7 +234,7 @@ unheard_put_out rows addresses offset since meant ys v puts other kept = rw none
     same : from_answer v.asked v.elements ≡ from_answer new.asked new.elements
     same =
         sym (front v kept.watched)
-        ∙ (sym (from_part_next offset (line_in v) other)
+        ∙ (sym (from_part_next clocks (line_in v) other)
         ∙ (ap from_part (sym puts.line) ∙ front new watched))
 
     kept_on : Unheard rows addresses new since
@@ -245,12 +246,12 @@ unheard_put_out rows addresses offset since meant ys v puts other kept = rw none
     }
 
 -- its confirmation
-confirmed : (rows : List Row) (addresses : List ℕ) (offset : ℤ) (since : ℕ) (meant : Meant) (ys : List Observation)
+confirmed : (rows : List Row) (addresses : List ℕ) (clocks : Clocks) (since : ℕ) (meant : Meant) (ys : List Observation)
     (v : View)
-    → begins_with_part (line_in v) ≡ true → MeansFront offset (line_in v) meant
-    → line_in (put_out meant ys v) ≡ drop (together offset (line_in v)) (line_in v) → Unheard rows addresses v since
+    → begins_with_part (line_in v) ≡ true → MeansFront clocks (line_in v) meant
+    → line_in (put_out meant ys v) ≡ drop (together clocks (line_in v)) (line_in v) → Unheard rows addresses v since
     → IsKept rows addresses (put_out meant ys v) since (told_with meant None)
-confirmed rows addresses offset since meant ys v first means moved kept = rw is_said heard
+confirmed rows addresses clocks since meant ys v first means moved kept = rw is_said heard
   where
     new : View
     new = put_out meant ys v
@@ -277,11 +278,11 @@ confirmed rows addresses offset since meant ys v first means moved kept = rw is_
         ∙ (ap (λ (xs : List Observation). map sendings.News xs ++ from_answer v.asked v.elements) none.1 ∙ from)
 
     is_said : parts_in meant ≡ begins ∷ []
-    is_said = ap parts_in (subst (λ (l : List Sending). MeansFront offset l meant) whole means)
+    is_said = ap parts_in (subst (λ (l : List Sending). MeansFront clocks l meant) whole means)
         ∙ rw kept.watched.kind refl
 
-    left : drop (together offset (line_in v)) (line_in v) ≡ behind q v.elements
-    left = ap (λ (l : List Sending). drop (together offset l) l) whole
+    left : drop (together clocks (line_in v)) (line_in v) ≡ behind q v.elements
+    left = ap (λ (l : List Sending). drop (together clocks l) l) whole
 
     mark : since_of v.asked ≡ since
     mark = ap since_of kept.watched.is ∙ kept.watched.mark
@@ -297,16 +298,16 @@ confirmed rows addresses offset since meant ys v first means moved kept = rw is_
           (kept.knows (sym (gone_dropped since v.elements ys) ∙ kept_all));
     }
 
-pub kept_put_out : (rows : List Row) (addresses : List ℕ) (offset : ℤ) (since : ℕ) (told : Option (List Observation))
+pub kept_put_out : (rows : List Row) (addresses : List ℕ) (clocks : Clocks) (since : ℕ) (told : Option (List Observation))
     (meant : Meant) (ys : List Observation) (v : View)
-    → PutsFirst offset v (put_out meant ys v) meant → IsKept rows addresses v since told
+    → PutsFirst clocks v (put_out meant ys v) meant → IsKept rows addresses v since told
     → IsKept rows addresses (put_out meant ys v) since (told_with meant told)
-kept_put_out rows addresses offset since (Some told) meant ys v puts kept =
-    heard_put_out rows addresses offset since told meant ys v puts kept
-kept_put_out rows addresses offset since None meant ys v puts kept =
+kept_put_out rows addresses clocks since (Some told) meant ys v puts kept =
+    heard_put_out rows addresses clocks since told meant ys v puts kept
+kept_put_out rows addresses clocks since None meant ys v puts kept =
     elim (cases_Bool (begins_with_part (line_in v))) [
-      | inl part ↦ confirmed rows addresses offset since meant ys v part puts.means puts.line kept
-      | inr other ↦ unheard_put_out rows addresses offset since meant ys v puts other kept
+      | inl part ↦ confirmed rows addresses clocks since meant ys v part puts.means puts.line kept
+      | inr other ↦ unheard_put_out rows addresses clocks since meant ys v puts other kept
     ]
 
 -- ---- an ASDU is taken

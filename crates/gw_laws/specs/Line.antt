@@ -1,9 +1,10 @@
 -- Line: each I format that is put out to a client is the front of what waits for it: the answers to its ASDUs and what
 -- became of its orders, the news that came before the interrogation that is pending, the rest of its answer, and later
 -- news. An answer goes alone; of news, and of the rows of an interrogation, as many go together as one ASDU carries.
-use Rattle.std.specs.Prelude.{◌≡◌, ℕ, ℤ, Bool, true, false, List, [], ◌∷◌, ◌++◌, length, map, take, drop, Option, Some, None, if◌then◌else◌}
+use Rattle.std.specs.Prelude.{◌≡◌, ℕ, Bool, true, false, List, [], ◌∷◌, ◌++◌, length, map, take, drop, Option, Some, None, if◌then◌else◌}
 use Rattle.std.specs.Option.{option_to_list}
-use Rattle.gw_map.specs.Settings.{Setup}
+use Rattle.gw_model.specs.Clocks.{Clocks}
+use Rattle.gw_map.specs.Settings.{Setup, station_clocks}
 use Rattle.iec_apci.specs.declared.apdu.Asdu.{Asdu}
 use Rattle.iec_apci.specs.declared.apdu.Apdu.TheVariants.{I}
 use Rattle.iec_command.specs.declared.command.Command.{Command}
@@ -84,17 +85,17 @@ line setup hs = line_with (owed setup hs) (interrogation setup hs) (fates setup.
 
 -- an ASDU means what is at the front of a line: an answer, a command of the answer to an interrogation, or as many news,
 -- or as many rows of that answer, as one ASDU carries
-abbrev pub MeansFront : ℤ → List Sending → Meant → Type 0
-MeansFront offset (sendings.Answer answer ∷ line) meant = Means offset answer meant
-MeansFront offset (sendings.News x ∷ line) meant = meant ≡ Tells (packed_asdu offset 3 0 x (news_front line))
-MeansFront offset (sendings.Part (outgoing.Command command) ∷ line) meant =
-    Means offset (Made (outgoing.Command command)) meant
-MeansFront offset (sendings.Part (outgoing.Observation cause originator x) ∷ line) meant =
-    meant ≡ Tells (packed_asdu offset cause originator x (rows_front cause originator line))
-MeansFront offset _ meant = ⊥
+abbrev pub MeansFront : Clocks → List Sending → Meant → Type 0
+MeansFront clocks (sendings.Answer answer ∷ line) meant = Means clocks answer meant
+MeansFront clocks (sendings.News x ∷ line) meant = meant ≡ Tells (packed_asdu clocks 3 0 x (news_front line))
+MeansFront clocks (sendings.Part (outgoing.Command command) ∷ line) meant =
+    Means clocks (Made (outgoing.Command command)) meant
+MeansFront clocks (sendings.Part (outgoing.Observation cause originator x) ∷ line) meant =
+    meant ≡ Tells (packed_asdu clocks cause originator x (rows_front cause originator line))
+MeansFront clocks _ meant = ⊥
 
 abbrev pub SaysFirst : Setup → List Sending → ApduMeaning → Type 0
-SaysFirst setup line (IFormat ns nr meant) = MeansFront setup.station.offset_minutes line meant
+SaysFirst setup line (IFormat ns nr meant) = MeansFront (station_clocks setup.station) line meant
 SaysFirst setup line (SFormat nr) = Unit {0}
 SaysFirst setup line (UFormat signal) = Unit {0}
 

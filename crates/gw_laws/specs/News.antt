@@ -5,7 +5,7 @@ use Rattle.std.specs.Prelude.{◌≡◌, ◌⊎◌, ℕ, ◌≤◌, ◌==◌, tr
 use Rattle.std.specs.List.{AllByRecursion}
 use Rattle.gw_model.specs.Fit.{IsFit}
 use Rattle.gw_entries.specs.Setup.{StationSetup}
-use Rattle.gw_map.specs.Settings.{Setup}
+use Rattle.gw_map.specs.Settings.{Setup, station_clocks}
 use Rattle.gw_picture.specs.Log.{picture_of}
 use Rattle.iec_asdu.specs.Asdu.{Asdu}
 use Rattle.iec_command.specs.declared.command.Command.{Command}
@@ -25,7 +25,7 @@ use Rattle.gw_laws.specs.Fates.{items_of, is_queued, is_dropped, is_kept, fates,
 pub record IsInformation (station : StationSetup) (asdu : Asdu) : Type 0 where
   pub cause : IsTrue (asdu.cause == 3 || asdu.cause == 5 || asdu.cause == 20 || asdu.cause == 37)
   pub common : AllByRecursion (λ x. x.common ≡ asdu.common_address) asdu.observations
-  pub fit : AllByRecursion (IsFit station.offset_minutes) asdu.observations
+  pub fit : AllByRecursion (IsFit (station_clocks station)) asdu.observations
 
 -- the confirmation of an activation (7) or a deactivation (9), or a termination (10)
 abbrev pub IsConfirmation : Command → Type 0

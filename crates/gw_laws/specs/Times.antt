@@ -7,7 +7,7 @@
 use Rattle.std.specs.Prelude.{◌≡◌, ℕ, ◌+◌, Bool, false, ◌&&◌, ◌||◌, is_none, is_some, nat_le, nat_lt, List, [], ◌∷◌, ◌++◌, drop, length, map, slice_get, Option, Some, None, option_map, Result, Ok}
 use Rattle.gw_model.specs.First.{when, first_of}
 use Rattle.gw_entries.specs.Setup.{StationSetup}
-use Rattle.gw_map.specs.Settings.{Setup}
+use Rattle.gw_map.specs.Settings.{Setup, station_clocks}
 use Rattle.iec_apci.specs.declared.apdu.Apdu.TheVariants.{I, U}
 use Rattle.iec_apci.specs.declared.apdu.Signal.{Signal}
 use Rattle.iec_apci.specs.declared.apdu.Signal.TheVariants.{TestAct, TestCon}
@@ -116,7 +116,7 @@ was_due (SFormat nr) = ToAcknowledge
 
 -- what a pump gives says
 abbrev pub says : Setup → Reply → Option ApduMeaning
-says setup (replies.Apdu apdu) = said setup.station.offset_minutes apdu
+says setup (replies.Apdu apdu) = said (station_clocks setup.station) apdu
 says setup _ = None
 
 -- a pump gives what is due, and nothing where nothing is

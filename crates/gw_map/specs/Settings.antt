@@ -5,6 +5,8 @@ use Rattle.std.specs.Map.{values_of}
 use Rattle.gw_model.specs.declared.point.PointKey.{PointKey}
 use Rattle.gw_model.specs.declared.point.ObjectKey.{ObjectKey}
 use Rattle.gw_model.specs.Keys.{same_key, same_object}
+use Rattle.gw_model.specs.Clocks.{Clocks}
+use Rattle.gw_time.specs.Rule.{clocks_by}
 use Rattle.gw_entries.specs.declared.row.Row.{Row}
 use Rattle.gw_entries.specs.declared.control.Control.{Control}
 use Rattle.gw_map.specs.Sections.{repeated}
@@ -33,6 +35,12 @@ setup_fields s = record {
   rows = map row_fields s.rows;
   controls = map control_fields s.controls;
 }
+
+-- ---- the station
+
+-- what its clocks show
+unfoldable pub station_clocks : StationSetup → Clocks
+station_clocks station = clocks_by station.offset_minutes station.rule
 
 -- ---- common addresses
 

@@ -4,12 +4,13 @@ ghost use Rattle.std.specs.List.{AllByRecursion};
 ghost use Rattle.std.specs.Result.{result_map_both};
 ghost use Rattle.toml.specs.View.{table_view};
 ghost use Rattle.gw_model.specs.Outcome.{Gives};
+ghost use Rattle.gw_time.specs.Rule.{clocks_of};
 ghost use Rattle.gw_entries.specs.Answers.{Tells};
 ghost use Rattle.gw_map.specs.Sections.{complaints_of};
 ghost use Rattle.gw_entries.specs.Faults.{refusal_of, is_no_memory};
 ghost use Rattle.gw_map.specs.Meaning.{setup_of, reading_of};
 ghost use Rattle.gw_entries.specs.Ranges.{IsStation, IsWithin};
-ghost use Rattle.gw_map.specs.Settings.{setup_fields, known_addresses, is_known, row_from, row_at_from, control_at_from, HasSingleSources, HasSingleAddresses};
+ghost use Rattle.gw_map.specs.Settings.{setup_fields, station_clocks, known_addresses, is_known, row_from, row_at_from, control_at_from, HasSingleSources, HasSingleAddresses};
 
 use crate::common_addresses::known_addresses;
 use crate::indexes::{address_index, point_map};
@@ -119,10 +120,11 @@ impl Settings {
 
     /// The clocks of the station.
     pub fn zone(&self) -> Zone
-        ensures { result.offset_minutes ≡ self.now.station.offset_minutes }
+        ensures { clocks_of result ≡ station_clocks self.now.station }
     {
         Zone {
             offset_minutes: self.station.offset_minutes,
+            rule: self.station.rule,
         }
     }
 

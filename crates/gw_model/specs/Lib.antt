@@ -1,5 +1,6 @@
 pub mod Point
 pub mod Keys
+pub mod Clocks
 pub mod Fit
 pub mod Outcome
 pub mod Optional

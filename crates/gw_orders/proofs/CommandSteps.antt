@@ -6,7 +6,7 @@ use Rattle.std.proofs.lemmas.List.{length-map}
 use Rattle.gw_model.specs.declared.control.Ended.{Ended}
 use Rattle.gw_model.specs.declared.control.Order.{Order}
 use Rattle.gw_model.specs.declared.observation.Observation.{Observation}
-use Rattle.gw_map.specs.Settings.{Setup}
+use Rattle.gw_map.specs.Settings.{Setup, station_clocks}
 use Rattle.gw_model.specs.Places.{change}
 use Rattle.gw_picture.proofs.Lists.{change-length}
 use Rattle.gw_picture.specs.Picture.{news_of}
@@ -107,7 +107,7 @@ fragment setup past f m r s fresh =
     ∙ sym (unless_none (open_at p s.controls)) in
     elim (cases_Bool (is_accepting s f)) [
       | inl taken ↦ rw taken (record {
-        fresh = news_come s (news_of setup.station.offset_minutes setup.rows s.picture f.reports)
+        fresh = news_come s (news_of (station_clocks setup.station) setup.rows s.picture f.reports)
             (outcomes_of_fragment s f) w (ended_sessions o e s.controls) (ended_selections o e s.controls) fresh;
         opened = none;
       })
@@ -168,10 +168,10 @@ client_down setup past c m r s e fresh =
 pump : (setup : Setup) (past : List Entry) (c m : ℕ) (r : Reply) (s : State) → FreshState s
     → Goes setup past (steps.Pump c m) r s (after setup s (steps.Pump c m))
 pump setup past c m r s fresh = record {
-  fresh = leaving (λ d. false) s.clients (change c (client_after_pump setup.station.offset_minutes (latest s m)) s.clients) s.sessions
+  fresh = leaving (λ d. false) s.clients (change c (client_after_pump (station_clocks setup.station) (latest s m)) s.clients) s.sessions
       s.counts.sessions (s.counts.sessions + 0) s.controls s.controls
-      (change-length c (client_after_pump setup.station.offset_minutes (latest s m)) s.clients)
-      (λ d. told_kept started_at c (client_after_pump setup.station.offset_minutes (latest s m)) s.clients d (λ k. pumped_stage setup.station.offset_minutes (latest s m) k))
+      (change-length c (client_after_pump (station_clocks setup.station) (latest s m)) s.clients)
+      (λ d. told_kept started_at c (client_after_pump (station_clocks setup.station) (latest s m)) s.clients d (λ k. pumped_stage (station_clocks setup.station) (latest s m) k))
       (omega arith) (still_leaves s.controls s.controls refl refl) fresh;
   opened = λ p. sym (unless_none (open_at p s.controls));
 }

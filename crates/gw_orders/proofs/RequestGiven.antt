@@ -4,7 +4,7 @@ use Rattle.std.specs.Prelude.{option_and_then, slice_get}
 use Rattle.std.specs.List.{AllByRecursion, filter}
 use Rattle.gw_model.specs.First.{first_of}
 use Rattle.gw_model.specs.declared.control.Order.{Order}
-use Rattle.gw_map.specs.Settings.{Setup}
+use Rattle.gw_map.specs.Settings.{Setup, station_clocks}
 use Rattle.gw_picture.proofs.Lists.{some_is}
 use Rattle.dnp_app.specs.declared.operation.Operation.{Operation}
 use Rattle.dnp_app.specs.declared.operation.Operation.TheVariants.{Select, Operate}
@@ -347,9 +347,9 @@ step_gives setup past (steps.Pump c m) r e k =
     let s : State = state_after setup past in
     reply_is setup s (steps.Pump c m) r e
     (client_asks
-    (λ (y : Client). reply_giving (given setup.station.offset_minutes (latest s m) y))
+    (λ (y : Client). reply_giving (given (station_clocks setup.station) (latest s m) y))
     (slice_get s.clients c)
-    (λ y. giving_asks (given setup.station.offset_minutes (latest s m) y)))
+    (λ y. giving_asks (given (station_clocks setup.station) (latest s m) y)))
 step_gives setup past (steps.Tick m) r e k = reply_is setup (state_after setup past) (steps.Tick m) r e refl
 
 pub entry_gives : (setup : Setup) (past : List Entry) (step : Step) (reply : Result Reply StepFault)

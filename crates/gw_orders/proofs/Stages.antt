@@ -1,10 +1,11 @@
 -- Which clients are started, as steps change them.
-use Rattle.std.proofs.Common.{◌≡◌, ℕ, ℤ, zero, suc, ◌<◌, Bool, true, false, cond, not, ◌&&◌, List, [], ◌∷◌, drop, length, map, Option, Some, None, option_map, refl, sym, ap, subst, ◌∙◌, arith, inl, inr}
+use Rattle.std.proofs.Common.{◌≡◌, ℕ, zero, suc, ◌<◌, Bool, true, false, cond, not, ◌&&◌, List, [], ◌∷◌, drop, length, map, Option, Some, None, option_map, refl, sym, ap, subst, ◌∙◌, arith, inl, inr}
 use Rattle.std.specs.Prelude.{◌==◌, slice_get}
 use Rattle.std.proofs.lemmas.Bool.{cases_eq, eq-eqb, ne_eqb}
 use Rattle.gw_model.specs.First.{first_of, when}
 use Rattle.gw_model.specs.Places.{change}
 use Rattle.gw_model.specs.declared.observation.Observation.{Observation}
+use Rattle.gw_model.specs.Clocks.{Clocks}
 use Rattle.gw_map.specs.Settings.{Setup}
 use Rattle.gw_picture.proofs.Lists.{change-here, change-length, change-there}
 use Rattle.iec_apci.specs.declared.apdu.Apdu.{Apdu}
@@ -92,11 +93,11 @@ ticked_stage moment (k ∷ ks) (suc c) = ticked_stage moment ks c
 
 -- ---- a pump
 
-pub pumped_stage : (offset : ℤ) (moment : ℕ) (k : Client)
-    → is_started (client_after_pump offset moment k).stage ≡ is_started k.stage
-pumped_stage offset moment k = by (offered moment k)
+pub pumped_stage : (clocks : Clocks) (moment : ℕ) (k : Client)
+    → is_started (client_after_pump clocks moment k).stage ≡ is_started k.stage
+pumped_stage clocks moment k = by (offered moment k)
   where
-    by : (x : Option Sending) → is_started (client_by_offer offset moment x k).stage ≡ is_started k.stage
+    by : (x : Option Sending) → is_started (client_by_offer clocks moment x k).stage ≡ is_started k.stage
     by None = refl
     by (Some (sendings.Confirm signal)) = refl
     by (Some sendings.Test) = refl

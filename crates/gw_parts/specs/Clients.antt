@@ -1,6 +1,6 @@
 -- All clients, and what is asked of them.
 use Rattle.std.specs.Prelude.{ℕ, ◌+◌, ◌^◌, ◌<◌, Bool, false, ◌&&◌, is_some, length, List, Option, Some, None}
-use Rattle.gw_map.specs.Settings.{Setup}
+use Rattle.gw_map.specs.Settings.{Setup, station_clocks}
 use Rattle.iec_apci.specs.declared.apdu.Apdu.{Apdu}
 use Rattle.iec_window.specs.Counts.{sent_in_all}
 use Rattle.gw_station.specs.declared.event.Event.{Event}
@@ -43,7 +43,7 @@ event_at setup apdu (Some k) = event_of setup apdu k
 -- the reply to a pump at a moment
 abbrev pub reply_to_pump : Setup → ℕ → Option Client → Reply
 reply_to_pump setup moment =
-    client_reply (λ k. reply_giving (given setup.station.offset_minutes moment k))
+    client_reply (λ k. reply_giving (given (station_clocks setup.station) moment k))
 
 -- one more I format that is received can be counted in 64 bits
 pub record CanCount (k : Client) : Type 0 where

@@ -2,7 +2,7 @@
 ghost use Rattle.std.specs.Prelude.{◌≡◌, ◌+◌, ◌<◌, ◌≤◌, ◌^◌, ℕ, [], ◌∷◌, map, option_map, replicate, slice_get, true, IfOk, IfSome, OnErr, OnOk};
 ghost use Rattle.std.specs.List.{AllByRecursion};
 ghost use Rattle.gw_model.specs.Places.{change};
-ghost use Rattle.gw_map.specs.Settings.{Setup};
+ghost use Rattle.gw_map.specs.Settings.{Setup, station_clocks};
 ghost use Rattle.gw_station.specs.Client.{client_after_close, client_after_tick, client_after_up, client_down, client_with_news, is_timed_out, is_up};
 ghost use Rattle.gw_station.specs.Answers.{client_told, CanBeTold};
 ghost use Rattle.gw_station.specs.Frames.{client_after_apdu, HasPlace};
@@ -199,7 +199,7 @@ impl Clients {
         ensures place { IfOk result (λ event. IfSome (slice_get self.new.each client) (HasPlace event)) }
         // Where the picture can be sent, all clients stay sound, one step later.
         ensures sound { (any : Setup) (n i : ℕ)
-            → AllByRecursion (IsSendable any.station.offset_minutes) picture.now
+            → AllByRecursion (IsSendable (station_clocks any.station)) picture.now
             → AllByRecursion (IsSoundClient any.station n i) self.old.each
             → OnOk result (AllByRecursion (IsSoundClient any.station (n + 1) i) self.new.each) }
     {
@@ -227,7 +227,7 @@ impl Clients {
         requires { AllByRecursion CanPump self.old.each }
         ensures reply { result ≡ reply_to_pump settings.now moment (slice_get self.old.each client) }
         ensures clients { self.new.each
-            ≡ change client (client_after_pump settings.now.station.offset_minutes moment) self.old.each }
+            ≡ change client (client_after_pump (station_clocks settings.now.station) moment) self.old.each }
         ensures news { self.new.news ≡ self.old.news }
     {
         let Some(station) = self.stations.get_mut(usize::from(client)) else {

@@ -1,5 +1,5 @@
 -- A picture shows each row of the map by its object and its type: at first, after reports, and after a loss.
-use Rattle.std.proofs.Common.{◌≡◌, ℕ, ℤ, zero, suc, ◌+◌, Bool, true, false, cond, List, [], ◌∷◌, map, Option, Some, None, refl, sym, subst, inl, inr}
+use Rattle.std.proofs.Common.{◌≡◌, ℕ, zero, suc, ◌+◌, Bool, true, false, cond, List, [], ◌∷◌, map, Option, Some, None, refl, sym, subst, inl, inr}
 use Rattle.std.specs.Prelude.{slice_get, IsTrue}
 use Rattle.std.proofs.lemmas.Bool.{and_parts, cases_Bool}
 use Rattle.gw_model.specs.declared.point.Kind.{Kind}
@@ -26,6 +26,7 @@ use Rattle.gw_picture.specs.Picture.{without_time, picture_by_row, picture_after
 use Rattle.gw_picture.specs.Loss.{lost, is_lost_with, shown_after_loss, picture_after_loss}
 use Rattle.gw_picture.specs.Shown.{is_value_of, ShowsRow, ShowsRows}
 use Rattle.gw_model.specs.declared.point.ObjectKey.{ObjectKey}
+use Rattle.gw_model.specs.Clocks.{Clocks}
 use Rattle.gw_picture.proofs.Images.{image_object}
 use Rattle.gw_picture.proofs.Logs.{pair, pair_is}
 use Rattle.gw_picture.proofs.Lists.{some_is}
@@ -77,10 +78,10 @@ found_kind k n key (r ∷ rows) row e =
           found_kind (k + 1) n key rows row found)
     ]
 
-image_shows : (offset : ℤ) (row : Row) (r : Report) → row.key.kind ≡ r.key.kind
-    → ShowsRow row (without_time (image_of offset row r))
-image_shows offset row r same = record {
-  object = image_object offset row r;
+image_shows : (clocks : Clocks) (row : Row) (r : Report) → row.key.kind ≡ r.key.kind
+    → ShowsRow row (without_time (image_of clocks row r))
+image_shows clocks row r same = record {
+  object = image_object clocks row r;
   value = image_value row.key.kind row.show row.scale r.raw _ _ _ row.shown
       (subst (λ (kind : Kind). is_of_kind kind r.raw ≡ true) (sym same) r.of_kind);
 }
@@ -96,22 +97,22 @@ row_anew zero row x (r ∷ rows) (y ∷ picture) at shows all =
     (subst (λ (other : Row). ShowsRow other x) (sym (some_is r row at)) shows, all.1)
 row_anew (suc n) row x (r ∷ rows) (y ∷ picture) at shows all = (all.0, row_anew n row x rows picture at shows all.1)
 
-report_rows : (offset : ℤ) (rows : List Row) (picture : List Observation) (r : Report) → ShowsRows rows picture
-    → ShowsRows rows (picture_after_report offset rows picture r)
-report_rows offset rows picture r all = go (row_from 0 r.key rows) refl
+report_rows : (clocks : Clocks) (rows : List Row) (picture : List Observation) (r : Report) → ShowsRows rows picture
+    → ShowsRows rows (picture_after_report clocks rows picture r)
+report_rows clocks rows picture r all = go (row_from 0 r.key rows) refl
   where
     go : (found : Option (ℕ × Row)) → row_from 0 r.key rows ≡ found
-        → ShowsRows rows (picture_by_row offset picture r found)
+        → ShowsRows rows (picture_by_row clocks picture r found)
     go None e = all
     go (Some p) e =
-        row_anew p.0 p.1 (without_time (image_of offset p.1 r)) rows picture (row_at r.key rows p.0 p.1 e)
-        (image_shows offset p.1 r (found_kind 0 p.0 r.key rows p.1 e)) all
+        row_anew p.0 p.1 (without_time (image_of clocks p.1 r)) rows picture (row_at r.key rows p.0 p.1 e)
+        (image_shows clocks p.1 r (found_kind 0 p.0 r.key rows p.1 e)) all
 
-pub reports_rows : (offset : ℤ) (rows : List Row) (picture : List Observation) (rs : List Report)
-    → ShowsRows rows picture → ShowsRows rows (picture_after offset rows picture rs)
-reports_rows offset rows picture [] all = all
-reports_rows offset rows picture (r ∷ rs) all =
-    reports_rows offset rows (picture_after_report offset rows picture r) rs (report_rows offset rows picture r all)
+pub reports_rows : (clocks : Clocks) (rows : List Row) (picture : List Observation) (rs : List Report)
+    → ShowsRows rows picture → ShowsRows rows (picture_after clocks rows picture rs)
+reports_rows clocks rows picture [] all = all
+reports_rows clocks rows picture (r ∷ rs) all =
+    reports_rows clocks rows (picture_after_report clocks rows picture r) rs (report_rows clocks rows picture r all)
 
 -- ---- after a loss
 

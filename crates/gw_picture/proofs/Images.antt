@@ -1,5 +1,5 @@
 -- The image of a report by its row, and when it is news.
-use Rattle.std.proofs.Common.{◌≡◌, ℕ, ℤ, ◌<◌, true, false, not, List, [], ◌∷◌, length, get_or, refl}
+use Rattle.std.proofs.Common.{◌≡◌, ℕ, ◌<◌, true, false, not, List, [], ◌∷◌, length, get_or, refl}
 use Rattle.std.specs.Prelude.{slice_get}
 use Rattle.std.proofs.lemmas.Bool.{and_parts, or_parts, not-false}
 use Rattle.gw_model.specs.declared.point.Raw.{Raw}
@@ -18,6 +18,7 @@ use Rattle.gw_model.specs.declared.point.ObjectKey.{ObjectKey}
 use Rattle.gw_model.specs.Keys.{object_of, same_value, same_quality, same_shown}
 use Rattle.gw_map.specs.Settings.{row_object}
 use Rattle.gw_model.proofs.Same.{same_value-true, same_quality-true}
+use Rattle.gw_model.specs.Clocks.{Clocks}
 use Rattle.gw_translate.specs.Quality.{quality_of}
 use Rattle.gw_translate.specs.Image.{image_of, observation_of, raw_image, stamp_image}
 use Rattle.gw_translate.specs.Image.{is_news_of}
@@ -33,9 +34,9 @@ raw_object show scale (Count n) q object stamp = refl
 raw_object shows.Word scale (Number z) q object stamp = refl
 raw_object _ scale (Number z) q object stamp = refl
 
-pub image_object : (offset : ℤ) (row : Row) (r : Report) → object_of (image_of offset row r) ≡ row_object row
-image_object offset row r =
-    raw_object row.show row.scale r.raw (quality_of r.key.kind r.flags) (row_object row) (stamp_image offset r.stamp)
+pub image_object : (clocks : Clocks) (row : Row) (r : Report) → object_of (image_of clocks row r) ≡ row_object row
+image_object clocks row r =
+    raw_object row.show row.scale r.raw (quality_of r.key.kind r.flags) (row_object row) (stamp_image clocks r.stamp)
 
 observations_equal : (a b : ObjectKey) (v w : Value) (q p : Quality) (s t : Stamp) → a ≡ b → v ≡ w → q ≡ p → s ≡ t
     → observation_of a v q s ≡ observation_of b w p t

@@ -1,5 +1,5 @@
 -- The picture that is kept is the picture of the log.
-use Rattle.std.proofs.Common.{◌≡◌, ℕ, ℤ, suc, ◌+◌, ◌-◌, ◌≤◌, Bool, true, false, not, cond, List, [], ◌∷◌, ◌++◌, Option, Some, None, refl, sym, ap, subst, ◌∙◌, append_assoc, arith, inl, inr}
+use Rattle.std.proofs.Common.{◌≡◌, ℕ, suc, ◌+◌, ◌-◌, ◌≤◌, Bool, true, false, not, cond, List, [], ◌∷◌, ◌++◌, Option, Some, None, refl, sym, ap, subst, ◌∙◌, append_assoc, arith, inl, inr}
 use Rattle.std.specs.Prelude.{slice_get}
 use Rattle.std.proofs.lemmas.Bool.{and_parts, cases_Bool, not-true}
 use Rattle.std.proofs.lemmas.List.{append-nil}
@@ -16,6 +16,7 @@ use Rattle.gw_map.specs.Settings.{row_from, row_object, HasSingleAddresses}
 use Rattle.gw_translate.specs.Image.{image_of}
 use Rattle.gw_translate.specs.Image.{is_news_of}
 use Rattle.gw_model.specs.Places.{change}
+use Rattle.gw_model.specs.Clocks.{Clocks}
 use Rattle.gw_picture.specs.Opening.{opening}
 use Rattle.gw_picture.specs.Picture.{without_time, news_by_row, news_of_report, picture_by_row, picture_after_report, news_of, picture_after}
 use Rattle.gw_picture.specs.Log.{last_observation, picture_of}
@@ -167,54 +168,54 @@ picture_of-get k n key (r ∷ rows) row log found =
 
 -- ---- reports
 
-one_report : (offset : ℤ) (rows : List Row) (log : List Observation) (r : Report) (found : Option (ℕ × Row))
+one_report : (clocks : Clocks) (rows : List Row) (log : List Observation) (r : Report) (found : Option (ℕ × Row))
     → is_single rows ≡ true → row_from 0 r.key rows ≡ found
-    → picture_by_row offset (picture_of rows log) r found
-    ≡ picture_of rows (log ++ news_by_row offset (picture_of rows log) r found)
-one_report offset rows log r None map_is e = ap (picture_of rows) (sym (append-nil log))
-one_report offset rows log r (Some p) map_is e =
+    → picture_by_row clocks (picture_of rows log) r found
+    ≡ picture_of rows (log ++ news_by_row clocks (picture_of rows log) r found)
+one_report clocks rows log r None map_is e = ap (picture_of rows) (sym (append-nil log))
+one_report clocks rows log r (Some p) map_is e =
     let row = p.1 in
-    let image : Observation = image_of offset row r in
+    let image : Observation = image_of clocks row r in
     let zero_off : p.0 - 0 ≡ p.0 = omega arith in
     let get : slice_get (picture_of rows log) p.0 ≡ Some (shown_by log row) =
     rw zero_off at (picture_of-get 0 p.0 r.key rows row log e) in
     elim (cases_Bool (is_news_of r (shown_by log row) image)) [
       | inl news ↦
           (let push : change p.0 (λ _. without_time image) (picture_of rows log) ≡ picture_of rows (log ++ image ∷ []) =
-          rw zero_off at (picture_of-push 0 p.0 r.key rows row log image map_is e (image_object offset row r)) in
-          let observation : news_by_row offset (picture_of rows log) r (Some p) ≡ image ∷ [] = rw (get, news) refl in
+          rw zero_off at (picture_of-push 0 p.0 r.key rows row log image map_is e (image_object clocks row r)) in
+          let observation : news_by_row clocks (picture_of rows log) r (Some p) ≡ image ∷ [] = rw (get, news) refl in
           push ∙ ap (λ (xs : List Observation). picture_of rows (log ++ xs)) (sym observation))
       | inr none ↦
           (let before : shown_by log row ≡ without_time image =
           no_news r (shown_by log row) image none (last_observation-object (row_object row) (opening row) log refl
-          ∙ sym (image_object offset row r)) (last_observation-stamp (row_object row) (opening row) log refl) in
-          let observation : news_by_row offset (picture_of rows log) r (Some p) ≡ [] = rw (get, none) refl in
+          ∙ sym (image_object clocks row r)) (last_observation-stamp (row_object row) (opening row) log refl) in
+          let observation : news_by_row clocks (picture_of rows log) r (Some p) ≡ [] = rw (get, none) refl in
           change-same p.0 (without_time image) (picture_of rows log) (get ∙ ap (λ (x : Observation). some x) before)
           ∙ (ap (picture_of rows) (sym (append-nil log))
           ∙ ap (λ (xs : List Observation). picture_of rows (log ++ xs)) (sym observation)))
     ]
 
-pub report_in_log : (offset : ℤ) (rows : List Row) (controls : List Control) (log : List Observation) (r : Report)
+pub report_in_log : (clocks : Clocks) (rows : List Row) (controls : List Control) (log : List Observation) (r : Report)
     → HasSingleAddresses rows controls
-    → picture_after_report offset rows (picture_of rows log) r
-    ≡ picture_of rows (log ++ news_of_report offset rows (picture_of rows log) r)
-report_in_log offset rows controls log r single =
-    one_report offset rows log r (row_from 0 r.key rows) (is_single-true rows controls single) refl
+    → picture_after_report clocks rows (picture_of rows log) r
+    ≡ picture_of rows (log ++ news_of_report clocks rows (picture_of rows log) r)
+report_in_log clocks rows controls log r single =
+    one_report clocks rows log r (row_from 0 r.key rows) (is_single-true rows controls single) refl
 
 -- of reports taken in turn
-pub reports_in_log : (offset : ℤ) (rows : List Row) (controls : List Control) (log : List Observation)
+pub reports_in_log : (clocks : Clocks) (rows : List Row) (controls : List Control) (log : List Observation)
     (rs : List Report) → HasSingleAddresses rows controls
-    → picture_after offset rows (picture_of rows log) rs
-    ≡ picture_of rows (log ++ news_of offset rows (picture_of rows log) rs)
-reports_in_log offset rows controls log [] single = ap (picture_of rows) (sym (append-nil log))
-reports_in_log offset rows controls log (r ∷ rs) single =
-    let xs : List Observation = news_of_report offset rows (picture_of rows log) r in
-    let one : picture_after_report offset rows (picture_of rows log) r ≡ picture_of rows (log ++ xs) =
-    report_in_log offset rows controls log r single in
-    let others : picture_after offset rows (picture_of rows (log ++ xs)) rs
-    ≡ picture_of rows ((log ++ xs) ++ news_of offset rows (picture_of rows (log ++ xs)) rs) =
-    reports_in_log offset rows controls (log ++ xs) rs single in
-    ap (λ (p : List Observation). picture_after offset rows p rs) one
+    → picture_after clocks rows (picture_of rows log) rs
+    ≡ picture_of rows (log ++ news_of clocks rows (picture_of rows log) rs)
+reports_in_log clocks rows controls log [] single = ap (picture_of rows) (sym (append-nil log))
+reports_in_log clocks rows controls log (r ∷ rs) single =
+    let xs : List Observation = news_of_report clocks rows (picture_of rows log) r in
+    let one : picture_after_report clocks rows (picture_of rows log) r ≡ picture_of rows (log ++ xs) =
+    report_in_log clocks rows controls log r single in
+    let others : picture_after clocks rows (picture_of rows (log ++ xs)) rs
+    ≡ picture_of rows ((log ++ xs) ++ news_of clocks rows (picture_of rows (log ++ xs)) rs) =
+    reports_in_log clocks rows controls (log ++ xs) rs single in
+    ap (λ (p : List Observation). picture_after clocks rows p rs) one
     ∙ (others
-    ∙ (ap (picture_of rows) (append_assoc log xs (news_of offset rows (picture_of rows (log ++ xs)) rs))
-    ∙ ap (λ (p : List Observation). picture_of rows (log ++ (xs ++ news_of offset rows p rs))) (sym one)))
+    ∙ (ap (picture_of rows) (append_assoc log xs (news_of clocks rows (picture_of rows (log ++ xs)) rs))
+    ∙ ap (λ (p : List Observation). picture_of rows (log ++ (xs ++ news_of clocks rows p rs))) (sym one)))

@@ -1,5 +1,5 @@
 -- A picture of rows stays one, and a report changes the place of its row alone.
-use Rattle.std.proofs.Common.{◌≡◌, ℕ, ℤ, zero, suc, ◌+◌, ◌-◌, List, [], ◌∷◌, map, Option, Some, None, refl, sym, ap, subst, ◌∙◌, inl, inr, arith}
+use Rattle.std.proofs.Common.{◌≡◌, ℕ, zero, suc, ◌+◌, ◌-◌, List, [], ◌∷◌, map, Option, Some, None, refl, sym, ap, subst, ◌∙◌, inl, inr, arith}
 use Rattle.std.specs.Prelude.{slice_get, option_map}
 use Rattle.std.specs.List.{AllByRecursion}
 use Rattle.std.proofs.lemmas.Bool.{cases_Bool}
@@ -14,6 +14,7 @@ use Rattle.gw_map.specs.Settings.{row_from, row_object}
 use Rattle.gw_translate.specs.Image.{image_of}
 use Rattle.gw_translate.specs.Image.{is_news_of}
 use Rattle.gw_model.specs.Places.{change}
+use Rattle.gw_model.specs.Clocks.{Clocks}
 use Rattle.gw_picture.specs.Opening.{opening}
 use Rattle.gw_picture.specs.Picture.{without_time, news_by_row, news_of_report, picture_by_row, picture_after_report, picture_after}
 use Rattle.gw_picture.specs.Rows.{IsPictureOf, ShowsImage}
@@ -104,61 +105,61 @@ shown rows picture r n row is found = shown_of rows picture n row (slice_get pic
 
 -- ---- a report
 
-keeps_at : (offset : ℤ) (rows : List Row) (picture : List Observation) (r : Report) (found : Option (ℕ × Row))
+keeps_at : (clocks : Clocks) (rows : List Row) (picture : List Observation) (r : Report) (found : Option (ℕ × Row))
     → IsPictureOf rows picture → row_from 0 r.key rows ≡ found
-    → IsPictureOf rows (picture_by_row offset picture r found)
-keeps_at offset rows picture r None is e = is
-keeps_at offset rows picture r (Some p) is e =
-    let x : Observation = without_time (image_of offset p.1 r) in
+    → IsPictureOf rows (picture_by_row clocks picture r found)
+keeps_at clocks rows picture r None is e = is
+keeps_at clocks rows picture r (Some p) is e =
+    let x : Observation = without_time (image_of clocks p.1 r) in
     let here : Shown picture p.0 p.1 = shown rows picture r p.0 p.1 is e in
     record {
       objects =
-          change-maps object_of p.0 x picture (λ (y : Observation) at. image_object offset p.1 r ∙ (sym here.object
+          change-maps object_of p.0 x picture (λ (y : Observation) at. image_object clocks p.1 r ∙ (sym here.object
           ∙ ap object_of (some_is here.last y (sym here.at ∙ at))))
           ∙ is.objects;
       untimed = all_change IsUntimed p.0 x picture refl is.untimed;
     }
 
-pub keeps_picture : (offset : ℤ) (rows : List Row) (picture : List Observation) (r : Report) → IsPictureOf rows picture
-    → IsPictureOf rows (picture_after_report offset rows picture r)
-keeps_picture offset rows picture r is = keeps_at offset rows picture r (row_from 0 r.key rows) is refl
+pub keeps_picture : (clocks : Clocks) (rows : List Row) (picture : List Observation) (r : Report) → IsPictureOf rows picture
+    → IsPictureOf rows (picture_after_report clocks rows picture r)
+keeps_picture clocks rows picture r is = keeps_at clocks rows picture r (row_from 0 r.key rows) is refl
 
-pub reports_keep_picture : (offset : ℤ) (rows : List Row) (picture : List Observation) (rs : List Report)
-    → IsPictureOf rows picture → IsPictureOf rows (picture_after offset rows picture rs)
-reports_keep_picture offset rows picture [] is = is
-reports_keep_picture offset rows picture (r ∷ rs) is = reports_keep_picture offset rows
-    (picture_after_report offset rows picture r) rs (keeps_picture offset rows picture r is)
+pub reports_keep_picture : (clocks : Clocks) (rows : List Row) (picture : List Observation) (rs : List Report)
+    → IsPictureOf rows picture → IsPictureOf rows (picture_after clocks rows picture rs)
+reports_keep_picture clocks rows picture [] is = is
+reports_keep_picture clocks rows picture (r ∷ rs) is = reports_keep_picture clocks rows
+    (picture_after_report clocks rows picture r) rs (keeps_picture clocks rows picture r is)
 
-none_at : (offset : ℤ) (rows : List Row) (picture : List Observation) (r : Report) (found : Option (ℕ × Row))
+none_at : (clocks : Clocks) (rows : List Row) (picture : List Observation) (r : Report) (found : Option (ℕ × Row))
     → IsPictureOf rows picture → row_from 0 r.key rows ≡ found
-    → news_by_row offset picture r found ≡ [] → picture_by_row offset picture r found ≡ picture
-none_at offset rows picture r None is e none = refl
-none_at offset rows picture r (Some p) is e none =
-    let image : Observation = image_of offset p.1 r in
+    → news_by_row clocks picture r found ≡ [] → picture_by_row clocks picture r found ≡ picture
+none_at clocks rows picture r None is e none = refl
+none_at clocks rows picture r (Some p) is e none =
+    let image : Observation = image_of clocks p.1 r in
     let here : Shown picture p.0 p.1 = shown rows picture r p.0 p.1 is e in
     elim (cases_Bool (is_news_of r here.last image)) [
       | inl news ↦ (let some : image ∷ [] ≡ [] = rw (here.at, news) at none in absurd cc)
       | inr old ↦
           (let before : here.last ≡ without_time image =
-          no_news r here.last image old (here.object ∙ sym (image_object offset p.1 r)) here.stamp in
+          no_news r here.last image old (here.object ∙ sym (image_object clocks p.1 r)) here.stamp in
           change-same p.0 (without_time image) picture (here.at ∙ ap (λ (x : Observation). Some x) before))
     ]
 
-pub no_news_no_change : (offset : ℤ) (rows : List Row) (picture : List Observation) (r : Report)
-    → IsPictureOf rows picture → news_of_report offset rows picture r ≡ []
-    → picture_after_report offset rows picture r ≡ picture
-no_news_no_change offset rows picture r is none = none_at offset rows picture r (row_from 0 r.key rows) is refl none
+pub no_news_no_change : (clocks : Clocks) (rows : List Row) (picture : List Observation) (r : Report)
+    → IsPictureOf rows picture → news_of_report clocks rows picture r ≡ []
+    → picture_after_report clocks rows picture r ≡ picture
+no_news_no_change clocks rows picture r is none = none_at clocks rows picture r (row_from 0 r.key rows) is refl none
 
 head_is : (x y : Observation) → x ∷ [] ≡ y ∷ [] → x ≡ y
 head_is x y e = cc
 
-news_shown_at : (offset : ℤ) (rows : List Row) (picture : List Observation) (r : Report) (x : Observation)
+news_shown_at : (clocks : Clocks) (rows : List Row) (picture : List Observation) (r : Report) (x : Observation)
     (found : Option (ℕ × Row)) → IsPictureOf rows picture → row_from 0 r.key rows ≡ found
-    → news_by_row offset picture r found ≡ x ∷ []
-    → ShowsImage offset rows r x picture (picture_by_row offset picture r found)
-news_shown_at offset rows picture r x None is e news = absurd cc
-news_shown_at offset rows picture r x (Some p) is e news =
-    let image : Observation = image_of offset p.1 r in
+    → news_by_row clocks picture r found ≡ x ∷ []
+    → ShowsImage clocks rows r x picture (picture_by_row clocks picture r found)
+news_shown_at clocks rows picture r x None is e news = absurd cc
+news_shown_at clocks rows picture r x (Some p) is e news =
+    let image : Observation = image_of clocks p.1 r in
     let here : Shown picture p.0 p.1 = shown rows picture r p.0 p.1 is e in
     elim (cases_Bool (is_news_of r here.last image)) [
       | inl new ↦
@@ -177,8 +178,8 @@ news_shown_at offset rows picture r x (Some p) is e news =
       | inr old ↦ (let none : [] ≡ x ∷ [] = rw (here.at, old) at news in absurd cc)
     ]
 
-pub news_changes_row : (offset : ℤ) (rows : List Row) (picture : List Observation) (r : Report) (x : Observation)
-    → IsPictureOf rows picture → news_of_report offset rows picture r ≡ x ∷ []
-    → ShowsImage offset rows r x picture (picture_after_report offset rows picture r)
-news_changes_row offset rows picture r x is news =
-    news_shown_at offset rows picture r x (row_from 0 r.key rows) is refl news
+pub news_changes_row : (clocks : Clocks) (rows : List Row) (picture : List Observation) (r : Report) (x : Observation)
+    → IsPictureOf rows picture → news_of_report clocks rows picture r ≡ x ∷ []
+    → ShowsImage clocks rows r x picture (picture_after_report clocks rows picture r)
+news_changes_row clocks rows picture r x is news =
+    news_shown_at clocks rows picture r x (row_from 0 r.key rows) is refl news

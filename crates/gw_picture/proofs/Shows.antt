@@ -1,5 +1,5 @@
 -- What is shown can be sent: at first, and after a report and a loss.
-use Rattle.std.proofs.Common.{◌≡◌, ℕ, ℤ, zero, suc, Bool, true, false, cond, List, [], ◌∷◌, map, Option, Some, None, refl, sym, subst, arith}
+use Rattle.std.proofs.Common.{◌≡◌, ℕ, zero, suc, Bool, true, false, cond, List, [], ◌∷◌, map, Option, Some, None, refl, sym, subst, arith}
 use Rattle.std.specs.Prelude.{pos, slice_get, IsTrue, IfSome}
 use Rattle.std.specs.List.{AllByRecursion}
 use Rattle.std.specs.Option.{option_to_list}
@@ -12,6 +12,7 @@ use Rattle.gw_model.specs.declared.observation.Quality.{Quality}
 use Rattle.gw_model.specs.declared.observation.Observation.{Observation}
 use Rattle.gw_model.specs.Fit.{is_of_element, HasWidth, IsFit, IsInWindow}
 use Rattle.gw_model.specs.Places.{change}
+use Rattle.gw_model.specs.Clocks.{Clocks}
 use Rattle.gw_picture.specs.Opening.{opening, value_at_first, quality_at_first}
 use Rattle.gw_picture.specs.Picture.{without_time}
 use Rattle.gw_picture.specs.Loss.{quality_lost, lost, is_lost_with, losses_of_row, shown_after_loss, losses_of_both, shown_at_loss, losses_at, picture_losing_at, picture_after_loss}
@@ -53,10 +54,10 @@ opening_shown rows picture e = subst (AllByRecursion IsShown) (sym e) (all_openi
 
 -- ---- after a report
 
-pub image_shown : (offset : ℤ) (n : ℕ) (image : Observation) (picture : List Observation) → IsFit offset image
+pub image_shown : (clocks : Clocks) (n : ℕ) (image : Observation) (picture : List Observation) → IsFit clocks image
     → HasWidth image.value → AllByRecursion IsShown picture
     → AllByRecursion IsShown (change n (λ _. without_time image) picture)
-image_shown offset n image picture fit width all =
+image_shown clocks n image picture fit width all =
     all_change IsShown n (without_time image) picture
     (record { common = fit.common; address = fit.address; element = fit.element; width = width; untimed = refl }) all
 
@@ -132,19 +133,19 @@ losses_shown outstation rows picture n all = both_losses outstation (slice_get r
 
 -- ---- what is shown can be sent, whatever the clocks
 
-pub shown_fit : (offset : ℤ) (x : Observation) → IsShown x → IsFit offset x
-shown_fit offset x is =
-    record { common = is.common; address = is.address; element = is.element; stamp = subst (IsInWindow offset) (sym is.untimed) tt }
+pub shown_fit : (clocks : Clocks) (x : Observation) → IsShown x → IsFit clocks x
+shown_fit clocks x is =
+    record { common = is.common; address = is.address; element = is.element; stamp = subst (IsInWindow clocks) (sym is.untimed) tt }
 
-option_fit : (offset : ℤ) (result : Option Observation) (xs : List Observation) → option_to_list result ≡ xs
-    → AllByRecursion IsShown xs → IfSome result (IsFit offset)
-option_fit offset None xs e all = tt
-option_fit offset (Some x) xs e all =
+option_fit : (clocks : Clocks) (result : Option Observation) (xs : List Observation) → option_to_list result ≡ xs
+    → AllByRecursion IsShown xs → IfSome result (IsFit clocks)
+option_fit clocks None xs e all = tt
+option_fit clocks (Some x) xs e all =
     let one : AllByRecursion IsShown (x ∷ []) = subst (AllByRecursion IsShown) (sym e) all in
-    shown_fit offset x one.0
+    shown_fit clocks x one.0
 
 pub loss_fit : (outstation : ℕ) (rows : List Row) (picture : List Observation) (n : ℕ) (result : Option Observation)
     → option_to_list result ≡ losses_at outstation rows picture n
-    → AllByRecursion IsShown picture → (offset : ℤ) → IfSome result (IsFit offset)
-loss_fit outstation rows picture n result e all offset =
-    option_fit offset result (losses_at outstation rows picture n) e (losses_shown outstation rows picture n all)
+    → AllByRecursion IsShown picture → (clocks : Clocks) → IfSome result (IsFit clocks)
+loss_fit outstation rows picture n result e all clocks =
+    option_fit clocks result (losses_at outstation rows picture n) e (losses_shown outstation rows picture n all)

@@ -1,5 +1,6 @@
 //! How many of a list of reports would be news.
 ghost use Rattle.std.specs.Prelude.{◌≡◌, length, slice_get};
+ghost use Rattle.gw_time.specs.Rule.{clocks_of};
 ghost use Rattle.gw_map.specs.Settings.{row_from};
 ghost use Rattle.gw_picture.specs.Picture.{news_of, news_of_report, observation_after_report, picture_after};
 
@@ -18,7 +19,7 @@ fn next_shown(
     zone: &Zone,
 ) -> Observation
     ensures { let found = row_from 0 report.now.key settings.now.rows in
-        result ≡ observation_after_report zone.now.offset_minutes report.now position last found }
+        result ≡ observation_after_report (clocks_of zone.now) report.now position last found }
 {
     match settings.row_of(&report.key) {
         Some((at, row)) if at == position => without_time(image(report, row, zone)),
@@ -35,7 +36,7 @@ fn shown_once_taken(
     zone: &Zone,
 ) -> Option<Observation>
     ensures { result
-        ≡ slice_get (picture_after zone.now.offset_minutes settings.now.rows shown.now reports.now) position }
+        ≡ slice_get (picture_after (clocks_of zone.now) settings.now.rows shown.now reports.now) position }
 {
     let mut last = *shown.get(position)?;
     for report in reports {
@@ -52,9 +53,9 @@ fn is_news_after(
     settings: &Settings,
     zone: &Zone,
 ) -> u64
-    ensures { let offset = zone.now.offset_minutes in
-        let before = picture_after offset settings.now.rows shown.now earlier.now in
-        result ≡ length (news_of_report offset settings.now.rows before report.now) }
+    ensures { let clocks = (clocks_of zone.now) in
+        let before = picture_after clocks settings.now.rows shown.now earlier.now in
+        result ≡ length (news_of_report clocks settings.now.rows before report.now) }
 {
     let Some((position, row)) = settings.row_of(&report.key) else {
         return 0;
@@ -74,7 +75,7 @@ pub fn count_news(
     settings: &Settings,
     zone: &Zone,
 ) -> u64
-    ensures { result ≡ length (news_of zone.now.offset_minutes settings.now.rows shown.now reports.now) }
+    ensures { result ≡ length (news_of (clocks_of zone.now) settings.now.rows shown.now reports.now) }
 {
     let mut news = 0;
     for position in 0..reports.len() {

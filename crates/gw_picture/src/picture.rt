@@ -1,8 +1,10 @@
 //! What was shown of each row last.
-ghost use Rattle.std.specs.Prelude.{◌≡◌, ℤ, length, map, IfOk, IfSome};
+ghost use Rattle.std.specs.Prelude.{◌≡◌, length, map, IfOk, IfSome};
 ghost use Rattle.std.specs.List.{AllByRecursion};
 ghost use Rattle.std.specs.Option.{option_to_list};
 ghost use Rattle.gw_model.specs.Fit.{IsFit};
+ghost use Rattle.gw_model.specs.Clocks.{Clocks};
+ghost use Rattle.gw_map.specs.Settings.{station_clocks};
 ghost use Rattle.gw_picture.specs.Loss.{losses_at, losses_of, picture_losing_at};
 ghost use Rattle.gw_picture.specs.Picture.{news_of, news_of_report, picture_after_report};
 ghost use Rattle.gw_picture.specs.Opening.{opening};
@@ -14,7 +16,6 @@ use crate::opening::opening_of;
 use crate::taking::take_report;
 use gw_map::Settings;
 use gw_model::{Memory, Observation, Report};
-use gw_time::Zone;
 use std::alloc::Global;
 use std::marker::Model;
 
@@ -72,22 +73,23 @@ impl Picture {
         self.shown.as_slice()
     }
 
-    /// How many of these reports, taken in turn, would be news where the clocks of the station are those of
-    /// `zone`. It needs no memory.
-    pub fn news(&self, reports: &[Report], settings: &Settings, zone: &Zone) -> u64
-        ensures { result ≡ length (news_of zone.now.offset_minutes settings.now.rows self.now reports.now) }
+    /// How many of these reports, taken in turn, would be news. It needs no memory.
+    pub fn news(&self, reports: &[Report], settings: &Settings) -> u64
+        ensures { result
+            ≡ length (news_of (station_clocks settings.now.station) settings.now.rows self.now reports.now) }
     {
-        count_news(self.shown.as_slice(), reports, settings, zone)
+        count_news(self.shown.as_slice(), reports, settings, &settings.zone())
     }
 
     /// Takes a report: gives its image where that is news, and shows it.
-    pub fn take(&mut self, report: &Report, settings: &Settings, zone: &Zone) -> Option<Observation>
+    pub fn take(&mut self, report: &Report, settings: &Settings) -> Option<Observation>
         ensures news { option_to_list result
-            ≡ news_of_report zone.now.offset_minutes settings.now.rows self.old report.now }
-        ensures shown { self.new ≡ picture_after_report zone.now.offset_minutes settings.now.rows self.old report.now }
-        ensures fit { IfSome result (IsFit zone.now.offset_minutes) }
+            ≡ news_of_report (station_clocks settings.now.station) settings.now.rows self.old report.now }
+        ensures shown { self.new
+            ≡ picture_after_report (station_clocks settings.now.station) settings.now.rows self.old report.now }
+        ensures fit { IfSome result (IsFit (station_clocks settings.now.station)) }
     {
-        take_report(&mut self.shown, report, settings, zone)
+        take_report(&mut self.shown, report, settings, &settings.zone())
     }
 
     /// How many observations the loss of an outstation is. It needs no memory.
@@ -108,7 +110,7 @@ impl Picture {
     ) -> Option<Observation>
         ensures news { option_to_list result ≡ losses_at outstation settings.now.rows self.old position }
         ensures shown { self.new ≡ picture_losing_at outstation settings.now.rows self.old position }
-        ensures fit { (offset : ℤ) → IfSome result (IsFit offset) }
+        ensures fit { (clocks : Clocks) → IfSome result (IsFit clocks) }
     {
         lose_at(&mut self.shown, position, outstation, settings.rows())
     }

@@ -4,6 +4,7 @@ ghost use Rattle.std.specs.List.{AllByRecursion};
 ghost use Rattle.std.specs.Option.{option_to_list};
 ghost use Rattle.gw_model.specs.Fit.{IsFit};
 ghost use Rattle.gw_model.specs.Places.{change};
+ghost use Rattle.gw_time.specs.Rule.{clocks_of};
 ghost use Rattle.gw_picture.specs.Picture.{news_after, news_of_report, picture_after_report, without_time};
 ghost use Rattle.gw_picture.specs.Shown.{IsShown};
 
@@ -53,10 +54,10 @@ pub fn take_report(
     zone: &Zone,
 ) -> Option<Observation>
     ensures news { option_to_list result
-        ≡ news_of_report zone.now.offset_minutes settings.now.rows shown.old.items report.now }
+        ≡ news_of_report (clocks_of zone.now) settings.now.rows shown.old.items report.now }
     ensures shown { shown.new.items
-        ≡ picture_after_report zone.now.offset_minutes settings.now.rows shown.old.items report.now }
-    ensures fit { IfSome result (IsFit zone.now.offset_minutes) }
+        ≡ picture_after_report (clocks_of zone.now) settings.now.rows shown.old.items report.now }
+    ensures fit { IfSome result (IsFit (clocks_of zone.now)) }
     ensures keeps { AllByRecursion IsShown shown.old.items → AllByRecursion IsShown shown.new.items }
 {
     match settings.row_of(&report.key) {

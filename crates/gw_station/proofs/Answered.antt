@@ -1,11 +1,12 @@
 -- After an ASDU a client's answers can be spelled, and sent where they could before, the picture's observations can, and
 -- the known common addresses have 16 bits.
-use Rattle.std.proofs.Common.{◌≡◌, ℕ, ℤ, Bool, true, false, List, [], ◌∷◌, ◌++◌, Option, Some, None, map, inl, inr, sym, ap, subst, ◌∙◌, arith}
+use Rattle.std.proofs.Common.{◌≡◌, ℕ, Bool, true, false, List, [], ◌∷◌, ◌++◌, Option, Some, None, map, inl, inr, sym, ap, subst, ◌∙◌, arith}
 use Rattle.std.specs.Prelude.{option_map, IfSome}
 use Rattle.std.specs.List.{AllByRecursion}
 use Rattle.std.proofs.lemmas.Bool.{cases_Bool}
 use Rattle.std.proofs.lemmas.List.Folds.{flat_map-map}
 use Rattle.gw_model.specs.declared.observation.Observation.{Observation}
+use Rattle.gw_model.specs.Clocks.{Clocks}
 use Rattle.gw_entries.specs.Ranges.{IsWithin}
 use Rattle.gw_map.specs.Settings.{Setup}
 use Rattle.iec_apci.specs.declared.apdu.Asdu.{Asdu}
@@ -39,28 +40,28 @@ one_more : (P : AsduAnswer → Type 0) (answer : Option AsduAnswer) (waiting : L
 one_more P None waiting is all = all
 one_more P (Some answer) waiting is all = all-append P waiting (answer ∷ []) all (is, tt)
 
-rest_can : (offset : ℤ) (setup : Setup) (picture : List Observation) (j : Judged) (asking : Bool) (c : Client)
-    → HasShortAddresses setup → IsWholeJudged j → AllByRecursion (IsSendable offset) picture
-    → AllByRecursion (CanSendOutgoing offset) c.rest
-    → AllByRecursion (CanSendOutgoing offset) (rest_with setup picture j asking c)
-rest_can offset setup picture (Accepted command) true c known whole shown all =
+rest_can : (clocks : Clocks) (setup : Setup) (picture : List Observation) (j : Judged) (asking : Bool) (c : Client)
+    → HasShortAddresses setup → IsWholeJudged j → AllByRecursion (IsSendable clocks) picture
+    → AllByRecursion (CanSendOutgoing clocks) c.rest
+    → AllByRecursion (CanSendOutgoing clocks) (rest_with setup picture j asking c)
+rest_can clocks setup picture (Accepted command) true c known whole shown all =
     let common : ℕ = command.common_address in
-    answer_to_can offset (asked_addresses setup common) command picture
+    answer_to_can clocks (asked_addresses setup common) command picture
     (asked_short setup common known whole.common_address) whole shown
-rest_can offset setup picture (Accepted command) false c known whole shown all = all
-rest_can offset setup picture Malformed asking c known whole shown all = all
-rest_can offset setup picture (Refuse cause execute) asking c known whole shown all = all
+rest_can clocks setup picture (Accepted command) false c known whole shown all = all
+rest_can clocks setup picture Malformed asking c known whole shown all = all
+rest_can clocks setup picture (Refuse cause execute) asking c known whole shown all = all
 
 -- an ASDU that was judged so
-pub judging_can : (offset : ℤ) (setup : Setup) (picture : List Observation) (asdu : Asdu) (j : Judged) (c : Client)
+pub judging_can : (clocks : Clocks) (setup : Setup) (picture : List Observation) (asdu : Asdu) (j : Judged) (c : Client)
     → judged_asdu setup asdu ≡ j → HasShortAddresses setup → IsWholeJudged j
-    → AllByRecursion (IsSendable offset) picture → CanAnswer offset c
-    → CanAnswer offset (client_judging setup picture asdu j c)
-judging_can offset setup picture asdu j c e known whole shown can =
+    → AllByRecursion (IsSendable clocks) picture → CanAnswer clocks c
+    → CanAnswer clocks (client_judging setup picture asdu j c)
+judging_can clocks setup picture asdu j c e known whole shown can =
     let pending : Bool = is_pending c.rest in
-    let answer = answered_can offset setup picture pending asdu j e known whole shown in (
-      one_more (CanSendAnswer offset) (answered setup picture pending asdu j) c.answers answer can.0,
-      rest_can offset setup picture j (is_asking j c) c known whole shown can.1,
+    let answer = answered_can clocks setup picture pending asdu j e known whole shown in (
+      one_more (CanSendAnswer clocks) (answered setup picture pending asdu j) c.answers answer can.0,
+      rest_can clocks setup picture j (is_asking j c) c known whole shown can.1,
     )
 
 -- addresses in their range have 16 bits

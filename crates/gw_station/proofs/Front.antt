@@ -1,11 +1,12 @@
 -- What stands at the front of the line, and goes out together.
-use Rattle.std.proofs.Common.{◌≡◌, ℕ, zero, suc, ℤ, ◌+◌, ◌<◌, ◌≤◌, ◌==◌, min, ◌&&◌, Bool, true, false, List, [], ◌∷◌, ◌++◌, map, length, take, drop, Option, Some, None, refl, sym, ap, ◌∙◌, arith, inl, inr, if◌then◌else◌}
+use Rattle.std.proofs.Common.{◌≡◌, ℕ, zero, suc, ◌+◌, ◌<◌, ◌≤◌, ◌==◌, min, ◌&&◌, Bool, true, false, List, [], ◌∷◌, ◌++◌, map, length, take, drop, Option, Some, None, refl, sym, ap, ◌∙◌, arith, inl, inr, if◌then◌else◌}
 use Rattle.std.specs.Prelude.{slice_get}
 use Rattle.std.specs.List.{AllByRecursion}
 use Rattle.std.proofs.lemmas.Bool.{cases_Bool, eq-eqb}
 use Rattle.std.proofs.lemmas.List.{length-take}
 use Rattle.std.proofs.lemmas.Option.{same_Some}
 use Rattle.gw_model.specs.declared.observation.Observation.{Observation}
+use Rattle.gw_model.specs.Clocks.{Clocks}
 use Rattle.iec_asdu.specs.Packing.{taken_of}
 use Rattle.iec_asdu.proofs.Carried.{taken_of_some, taken_of_within}
 use Rattle.gw_answers.specs.declared.outgoing.AsduAnswer.{AsduAnswer}
@@ -72,15 +73,15 @@ news_all [] = refl
 news_all (x ∷ xs) = ap (λ (ys : List Observation). x ∷ ys) (news_all xs)
 
 -- what goes out with news
-pub news_together : (offset : ℤ) (l : List Sending) (x : Observation) → slice_get l 0 ≡ Some (sendings.News x)
-    → together offset l ≡ taken_of offset (news_front l)
-news_together offset [] x e = absurd cc
-news_together offset (sendings.News y ∷ l) x e = refl
-news_together offset (sendings.Confirm signal ∷ l) x e = absurd cc
-news_together offset (sendings.Test ∷ l) x e = absurd cc
-news_together offset (sendings.Answer answer ∷ l) x e = absurd cc
-news_together offset (sendings.Part part ∷ l) x e = absurd cc
-news_together offset (sendings.SFormat ∷ l) x e = absurd cc
+pub news_together : (clocks : Clocks) (l : List Sending) (x : Observation) → slice_get l 0 ≡ Some (sendings.News x)
+    → together clocks l ≡ taken_of clocks (news_front l)
+news_together clocks [] x e = absurd cc
+news_together clocks (sendings.News y ∷ l) x e = refl
+news_together clocks (sendings.Confirm signal ∷ l) x e = absurd cc
+news_together clocks (sendings.Test ∷ l) x e = absurd cc
+news_together clocks (sendings.Answer answer ∷ l) x e = absurd cc
+news_together clocks (sendings.Part part ∷ l) x e = absurd cc
+news_together clocks (sendings.SFormat ∷ l) x e = absurd cc
 
 -- where news are first, no answer waits, and the news at the front are those that may go next
 pub record NewsFirst (c : Client) : Type 0 where
@@ -161,27 +162,27 @@ rows_same c part cause originator first =
     ap (rows_front cause originator) first.line
     ∙ rows_run cause originator c.rest (drop c.older c.queue)
 
-parts_by : (offset : ℤ) (rest : List OwnAsdu) (xs : List Observation) (part : OwnAsdu) → slice_get rest 0 ≡ Some part
-    → together offset (map sendings.Part rest ++ map sendings.News xs) ≡ parts_together offset part rest
-parts_by offset [] xs part e = absurd cc
-parts_by offset (outgoing.Command command ∷ rest) xs part e =
-    ap (λ (p : OwnAsdu). parts_together offset p (outgoing.Command command ∷ rest)) (same_Some _ _ e)
-parts_by offset (outgoing.Observation cause originator x ∷ rest) xs part e =
+parts_by : (clocks : Clocks) (rest : List OwnAsdu) (xs : List Observation) (part : OwnAsdu) → slice_get rest 0 ≡ Some part
+    → together clocks (map sendings.Part rest ++ map sendings.News xs) ≡ parts_together clocks part rest
+parts_by clocks [] xs part e = absurd cc
+parts_by clocks (outgoing.Command command ∷ rest) xs part e =
+    ap (λ (p : OwnAsdu). parts_together clocks p (outgoing.Command command ∷ rest)) (same_Some _ _ e)
+parts_by clocks (outgoing.Observation cause originator x ∷ rest) xs part e =
     let parts : List OwnAsdu = outgoing.Observation cause originator x ∷ rest in
-    front ∙ ap (λ (p : OwnAsdu). parts_together offset p parts) (same_Some _ _ e)
+    front ∙ ap (λ (p : OwnAsdu). parts_together clocks p parts) (same_Some _ _ e)
   where
     both : (n : ℕ) → (n == n) ≡ true
     both n = eq-eqb n n refl
 
-    front : taken_of offset (x ∷ rows_front cause originator (map sendings.Part rest ++ map sendings.News xs))
-        ≡ taken_of offset (parts_front cause originator (outgoing.Observation cause originator x ∷ rest))
+    front : taken_of clocks (x ∷ rows_front cause originator (map sendings.Part rest ++ map sendings.News xs))
+        ≡ taken_of clocks (parts_front cause originator (outgoing.Observation cause originator x ∷ rest))
     front = rw (both cause, both originator)
-        (ap (λ (ys : List Observation). taken_of offset (x ∷ ys)) (rows_run cause originator rest xs))
+        (ap (λ (ys : List Observation). taken_of clocks (x ∷ ys)) (rows_run cause originator rest xs))
 
-pub parts_same : (offset : ℤ) (c : Client) (part : OwnAsdu) → PartFirst c part
-    → together offset (line c) ≡ parts_together offset part c.rest
-parts_same offset c part first =
-    ap (together offset) first.line ∙ parts_by offset c.rest (drop c.older c.queue) part first.first
+pub parts_same : (clocks : Clocks) (c : Client) (part : OwnAsdu) → PartFirst c part
+    → together clocks (line c) ≡ parts_together clocks part c.rest
+parts_same clocks c part first =
+    ap (together clocks) first.line ∙ parts_by clocks c.rest (drop c.older c.queue) part first.first
 
 -- no more parts go than there are
 front_within : (cause originator : ℕ) (rest : List OwnAsdu) → length (parts_front cause originator rest) ≤ length rest
@@ -196,25 +197,25 @@ some_left : (rest : List OwnAsdu) (part : OwnAsdu) → slice_get rest 0 ≡ Some
 some_left [] part e = absurd cc
 some_left (p ∷ rest) part e = omega arith
 
-pub parts_within : (offset : ℤ) (rest : List OwnAsdu) (part : OwnAsdu) → slice_get rest 0 ≡ Some part
-    → parts_together offset part rest ≤ length rest
-parts_within offset rest (outgoing.Command command) e = some_left rest (outgoing.Command command) e
-parts_within offset rest (outgoing.Observation cause originator x) e =
+pub parts_within : (clocks : Clocks) (rest : List OwnAsdu) (part : OwnAsdu) → slice_get rest 0 ≡ Some part
+    → parts_together clocks part rest ≤ length rest
+parts_within clocks rest (outgoing.Command command) e = some_left rest (outgoing.Command command) e
+parts_within clocks rest (outgoing.Observation cause originator x) e =
     omega (
       arith,
-      taken_of_within offset (parts_front cause originator rest),
+      taken_of_within clocks (parts_front cause originator rest),
       front_within cause originator rest,
     )
 
 -- one at least goes
-pub parts_some : (offset : ℤ) (rest : List OwnAsdu) (part : OwnAsdu) → slice_get rest 0 ≡ Some part
-    → 1 ≤ parts_together offset part rest
-parts_some offset rest (outgoing.Command command) e = omega arith
-parts_some offset [] (outgoing.Observation cause originator x) e = absurd cc
-parts_some offset (p ∷ rest) (outgoing.Observation cause originator x) e =
+pub parts_some : (clocks : Clocks) (rest : List OwnAsdu) (part : OwnAsdu) → slice_get rest 0 ≡ Some part
+    → 1 ≤ parts_together clocks part rest
+parts_some clocks rest (outgoing.Command command) e = omega arith
+parts_some clocks [] (outgoing.Observation cause originator x) e = absurd cc
+parts_some clocks (p ∷ rest) (outgoing.Observation cause originator x) e =
     let same : p ≡ outgoing.Observation cause originator x = same_Some _ _ e in
     rw same (rw (eq-eqb cause cause refl, eq-eqb originator originator refl)
-    (taken_of_some offset (x ∷ parts_front cause originator rest) (omega arith)))
+    (taken_of_some clocks (x ∷ parts_front cause originator rest) (omega arith)))
 
 -- where an answer doesn't wait, and no news before it, parts are first
 pub bare_line : (answers : List AsduAnswer) (older : ℕ) (queue : List Observation) (rest : List OwnAsdu)
@@ -224,30 +225,30 @@ bare_line answers older queue rest none no_news = rw (none, no_news) refl
 
 -- ---- what goes together can be sent
 
-pub news_sendable : (offset : ℤ) (l : List Sending) → AllByRecursion (CanSend offset) l
-    → AllByRecursion (IsSendable offset) (news_front l)
-news_sendable offset [] all = tt
-news_sendable offset (sendings.News x ∷ l) all = (all.0, news_sendable offset l all.1)
-news_sendable offset (sendings.Confirm signal ∷ l) all = tt
-news_sendable offset (sendings.Test ∷ l) all = tt
-news_sendable offset (sendings.Answer answer ∷ l) all = tt
-news_sendable offset (sendings.Part part ∷ l) all = tt
-news_sendable offset (sendings.SFormat ∷ l) all = tt
+pub news_sendable : (clocks : Clocks) (l : List Sending) → AllByRecursion (CanSend clocks) l
+    → AllByRecursion (IsSendable clocks) (news_front l)
+news_sendable clocks [] all = tt
+news_sendable clocks (sendings.News x ∷ l) all = (all.0, news_sendable clocks l all.1)
+news_sendable clocks (sendings.Confirm signal ∷ l) all = tt
+news_sendable clocks (sendings.Test ∷ l) all = tt
+news_sendable clocks (sendings.Answer answer ∷ l) all = tt
+news_sendable clocks (sendings.Part part ∷ l) all = tt
+news_sendable clocks (sendings.SFormat ∷ l) all = tt
 
-pub rows_sendable : (offset : ℤ) (cause originator : ℕ) (l : List Sending) → AllByRecursion (CanSend offset) l
-    → AllByRecursion (IsSendable offset) (rows_front cause originator l)
-rows_sendable offset cause originator [] all = tt
-rows_sendable offset cause originator (sendings.Part (outgoing.Observation c o x) ∷ l) all =
+pub rows_sendable : (clocks : Clocks) (cause originator : ℕ) (l : List Sending) → AllByRecursion (CanSend clocks) l
+    → AllByRecursion (IsSendable clocks) (rows_front cause originator l)
+rows_sendable clocks cause originator [] all = tt
+rows_sendable clocks cause originator (sendings.Part (outgoing.Observation c o x) ∷ l) all =
     elim (cases_Bool (c == cause && o == originator)) [
-      | inl same ↦ rw same (all.0, rows_sendable offset cause originator l all.1)
+      | inl same ↦ rw same (all.0, rows_sendable clocks cause originator l all.1)
       | inr other ↦ rw other tt
     ]
-rows_sendable offset cause originator (sendings.Part (outgoing.Command command) ∷ l) all = tt
-rows_sendable offset cause originator (sendings.News x ∷ l) all = tt
-rows_sendable offset cause originator (sendings.Confirm signal ∷ l) all = tt
-rows_sendable offset cause originator (sendings.Test ∷ l) all = tt
-rows_sendable offset cause originator (sendings.Answer answer ∷ l) all = tt
-rows_sendable offset cause originator (sendings.SFormat ∷ l) all = tt
+rows_sendable clocks cause originator (sendings.Part (outgoing.Command command) ∷ l) all = tt
+rows_sendable clocks cause originator (sendings.News x ∷ l) all = tt
+rows_sendable clocks cause originator (sendings.Confirm signal ∷ l) all = tt
+rows_sendable clocks cause originator (sendings.Test ∷ l) all = tt
+rows_sendable clocks cause originator (sendings.Answer answer ∷ l) all = tt
+rows_sendable clocks cause originator (sendings.SFormat ∷ l) all = tt
 
 -- ---- the first 127 news that may go
 

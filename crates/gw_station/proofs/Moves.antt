@@ -1,9 +1,10 @@
 -- What is put out first, and what is left.
-use Rattle.std.proofs.Common.{◌≡◌, ℕ, zero, suc, ℤ, ◌-◌, ◌≤◌, Bool, true, false, cond, List, [], ◌∷◌, ◌++◌, map, length, take, drop, Option, Some, None, refl, sym, ap, subst, ◌∙◌, arith, if◌then◌else◌}
+use Rattle.std.proofs.Common.{◌≡◌, ℕ, zero, suc, ◌-◌, ◌≤◌, Bool, true, false, cond, List, [], ◌∷◌, ◌++◌, map, length, take, drop, Option, Some, None, refl, sym, ap, subst, ◌∙◌, arith, if◌then◌else◌}
 use Rattle.std.specs.Prelude.{◌&&◌, option_map, slice_get, IfSome}
 use Rattle.std.proofs.lemmas.List.{append-nil, length-take}
 use Rattle.gw_model.specs.First.{when, first_of}
 use Rattle.gw_model.specs.declared.observation.Observation.{Observation}
+use Rattle.gw_model.specs.Clocks.{Clocks}
 use Rattle.iec_apci.specs.declared.apdu.Signal.{Signal}
 use Rattle.iec_apci.specs.Apdu.{ApduContent}
 use Rattle.iec_window.specs.Timers.{owes_ack, owes_test}
@@ -28,11 +29,11 @@ none_offered : (f : Sending → ApduContent) (x : Option Sending) → option_map
 none_offered f None e = refl
 none_offered f (Some x) e = absurd cc
 
-pub quiet : (offset : ℤ) (moment : ℕ) (c : Client) → given offset moment c ≡ None → IsQuiet moment c
-quiet offset moment c e =
+pub quiet : (clocks : Clocks) (moment : ℕ) (c : Client) → given clocks moment c ≡ None → IsQuiet moment c
+quiet clocks moment c e =
     by (owes_test moment c.window) (is_started c.stage) (has_room c.window) (owes_ack moment c.window) c.confirmations
     (line c) refl refl refl refl refl refl
-    (none_offered (content_of offset c) (offered moment c) e)
+    (none_offered (content_of clocks c) (offered moment c) e)
   where
     by : (test started room ack : Bool) (confirmations : List Signal) (l : List Sending)
         → owes_test moment c.window ≡ test → is_started c.stage ≡ started → has_room c.window ≡ room
@@ -73,49 +74,49 @@ informs c s e =
     (all-given (λ part. IsInLine (sendings.Part part)) (λ part. tt) c.rest)))
 
 -- news of a session whose interrogation is pending, or not
-news_move : (offset : ℤ) (n older : ℕ) (queue : List Observation) (rest : List OwnAsdu)
+news_move : (clocks : Clocks) (n older : ℕ) (queue : List Observation) (rest : List OwnAsdu)
     → n ≤ length (if is_pending rest then take older queue else queue)
     → line_of [] (older - n) (drop n queue) rest ≡ drop n (line_of [] older queue rest)
-news_move offset n older queue [] few =
+news_move clocks n older queue [] few =
     split_anywhere (older - n) (drop n queue)
     ∙ (sym (append-nil (map sendings.News (drop n queue)))
     ∙ (sym (drop_mapped sendings.News n queue [] few)
     ∙ ap (drop n) (append-nil (map sendings.News queue) ∙ sym (split_anywhere older queue))))
-news_move offset n older queue (part ∷ rest) few =
+news_move clocks n older queue (part ∷ rest) few =
     let within : n ≤ older = omega (arith, few, length-take older queue) in
     let goes = front_goes n (older - n) older queue (omega (arith, within)) in
     rw (goes.0, goes.1)
     (sym (drop_mapped sendings.News n (take older queue)
     (map sendings.Part (part ∷ rest) ++ map sendings.News (drop older queue)) few))
 
-news_moves : (offset : ℤ) (moment : ℕ) (c : Client) (x : Observation) → slice_get (line c) 0 ≡ Some (sendings.News x)
-    → line (client_with_sent offset moment (sendings.News x) c) ≡ drop (together offset (line c)) (line c)
-news_moves offset moment c x e =
+news_moves : (clocks : Clocks) (moment : ℕ) (c : Client) (x : Observation) → slice_get (line c) 0 ≡ Some (sendings.News x)
+    → line (client_with_sent clocks moment (sendings.News x) c) ≡ drop (together clocks (line c)) (line c)
+news_moves clocks moment c x e =
     let first = news_first c x e in
-    let n : ℕ = together offset (line c) in
-    let same : n ≡ taken_of offset (news_next c) =
-    news_together offset (line c) x e ∙ ap (taken_of offset) first.front in
-    let few : n ≤ length (news_next c) = omega (arith, same, taken_of_within offset (news_next c)) in
+    let n : ℕ = together clocks (line c) in
+    let same : n ≡ taken_of clocks (news_next c) =
+    news_together clocks (line c) x e ∙ ap (taken_of clocks) first.front in
+    let few : n ≤ length (news_next c) = omega (arith, same, taken_of_within clocks (news_next c)) in
     ap (λ (answers : List AsduAnswer). line_of answers (c.older - n) (drop n c.queue) c.rest) first.answers
-    ∙ (news_move offset n c.older c.queue c.rest few
+    ∙ (news_move clocks n c.older c.queue c.rest few
     ∙ ap (λ (answers : List AsduAnswer). drop n (line_of answers c.older c.queue c.rest)) (sym first.answers))
 
-parts_move : (offset : ℤ) (moment : ℕ) (c : Client) (part : OwnAsdu)
+parts_move : (clocks : Clocks) (moment : ℕ) (c : Client) (part : OwnAsdu)
     → slice_get (line c) 0 ≡ Some (sendings.Part part)
-    → line (client_with_sent offset moment (sendings.Part part) c) ≡ drop (together offset (line c)) (line c)
-parts_move offset moment c part e =
+    → line (client_with_sent clocks moment (sendings.Part part) c) ≡ drop (together clocks (line c)) (line c)
+parts_move clocks moment c part e =
     let first = part_first c part e in
-    let n : ℕ = together offset (line c) in
+    let n : ℕ = together clocks (line c) in
     let few : n ≤ length c.rest =
-    omega (arith, parts_same offset c part first, parts_within offset c.rest part first.first) in
+    omega (arith, parts_same clocks c part first, parts_within clocks c.rest part first.first) in
     let news : List Sending = map sendings.News (drop c.older c.queue) in
     bare_line c.answers c.older c.queue (drop n c.rest) first.answers first.older
     ∙ (sym (drop_mapped sendings.Part n c.rest news few) ∙ ap (drop n) (sym first.line))
 
-answer_moves : (offset : ℤ) (moment : ℕ) (c : Client) (answer : AsduAnswer) (answers : List AsduAnswer)
+answer_moves : (clocks : Clocks) (moment : ℕ) (c : Client) (answer : AsduAnswer) (answers : List AsduAnswer)
     → c.answers ≡ answers → slice_get (line c) 0 ≡ Some (sendings.Answer answer)
-    → line (client_with_sent offset moment (sendings.Answer answer) c) ≡ drop (together offset (line c)) (line c)
-answer_moves offset moment c answer [] none e =
+    → line (client_with_sent clocks moment (sendings.Answer answer) c) ≡ drop (together clocks (line c)) (line c)
+answer_moves clocks moment c answer [] none e =
     absurd (no_answer c.older c.queue c.rest
     (ap (λ (xs : List AsduAnswer). slice_get (line_of xs c.older c.queue c.rest) 0) (sym none) ∙ e))
   where
@@ -127,13 +128,13 @@ answer_moves offset moment c answer [] none e =
     no_answer (suc n) [] [] e = cc
     no_answer (suc n) [] (part ∷ rest) e = cc
     no_answer (suc n) (x ∷ queue) rest e = cc
-answer_moves offset moment c answer (a ∷ answers) is e = rw is refl
+answer_moves clocks moment c answer (a ∷ answers) is e = rw is refl
 
-pub moves : (offset : ℤ) (moment : ℕ) (c : Client) (first : Sending) → slice_get (line c) 0 ≡ Some first
-    → line (client_with_sent offset moment first c) ≡ drop (together offset (line c)) (line c)
-moves offset moment c (sendings.News x) e = news_moves offset moment c x e
-moves offset moment c (sendings.Part part) e = parts_move offset moment c part e
-moves offset moment c (sendings.Answer answer) e = answer_moves offset moment c answer c.answers refl e
-moves offset moment c (sendings.Confirm signal) e = absurd (informs c (sendings.Confirm signal) e)
-moves offset moment c sendings.Test e = absurd (informs c sendings.Test e)
-moves offset moment c sendings.SFormat e = absurd (informs c sendings.SFormat e)
+pub moves : (clocks : Clocks) (moment : ℕ) (c : Client) (first : Sending) → slice_get (line c) 0 ≡ Some first
+    → line (client_with_sent clocks moment first c) ≡ drop (together clocks (line c)) (line c)
+moves clocks moment c (sendings.News x) e = news_moves clocks moment c x e
+moves clocks moment c (sendings.Part part) e = parts_move clocks moment c part e
+moves clocks moment c (sendings.Answer answer) e = answer_moves clocks moment c answer c.answers refl e
+moves clocks moment c (sendings.Confirm signal) e = absurd (informs c (sendings.Confirm signal) e)
+moves clocks moment c sendings.Test e = absurd (informs c sendings.Test e)
+moves clocks moment c sendings.SFormat e = absurd (informs c sendings.SFormat e)

@@ -1,9 +1,11 @@
 -- What is put out can be sent: it is of what the client may be sent, and has the octets of an APDU.
-use Rattle.std.proofs.Common.{ℕ, ℤ, ◌≤◌, true, List, length, arith}
+use Rattle.std.proofs.Common.{ℕ, ◌≤◌, true, List, length, arith}
 use Rattle.std.specs.Prelude.{slice_index, IfSome}
 use Rattle.std.specs.List.{AllByRecursion}
 use Rattle.std.proofs.lemmas.List.{length-set, length-take}
 use Rattle.gw_model.specs.Bits.{is_set}
+use Rattle.gw_model.specs.Clocks.{Clocks}
+use Rattle.gw_map.specs.Settings.{station_clocks}
 use Rattle.gw_entries.specs.Setup.{StationSetup}
 use Rattle.iec_apci.specs.Apdu.{Fits}
 use Rattle.iec_asdu.specs.Spelling.{spelling}
@@ -29,14 +31,14 @@ use Rattle.gw_station.proofs.Line.{line_so, offered_so}
 
 -- all that is in line
 pub line_can : (station : StationSetup) (steps news : ℕ) (c : Client) → IsSoundClient station steps news c
-    → AllByRecursion (CanSend station.offset_minutes) (line c)
+    → AllByRecursion (CanSend (station_clocks station)) (line c)
 line_can station steps news c sound =
-    line_so (CanSend station.offset_minutes) c sound.answers sound.sendable sound.rest
+    line_so (CanSend (station_clocks station)) c sound.answers sound.sendable sound.rest
 
 pub offered_can : (station : StationSetup) (steps news moment : ℕ) (c : Client) → IsSoundClient station steps news c
-    → IfSome (offered moment c) (CanSend station.offset_minutes)
+    → IfSome (offered moment c) (CanSend (station_clocks station))
 offered_can station steps news moment c sound =
-    offered_so (CanSend station.offset_minutes) (λ signal. tt) tt tt moment c
+    offered_so (CanSend (station_clocks station)) (λ signal. tt) tt tt moment c
     (line_can station steps news c sound)
 
 -- ---- how many octets it has
@@ -50,30 +52,30 @@ command_short c (actions.Interrogation qualifier) = omega arith
 command_short c (actions.CounterInterrogation qualifier) = omega arith
 command_short c actions.Read = omega arith
 
-outgoing_short : (offset : ℤ) (x : OwnAsdu) → length (outgoing_octets offset x) ≤ 249
-outgoing_short offset (outgoing.Command c) = omega (arith, command_short c c.action)
-outgoing_short offset (outgoing.Observation cause originator x) =
-    omega (arith, length-set (spelling offset cause x) 3 originator, spelling_short offset cause x)
+outgoing_short : (clocks : Clocks) (x : OwnAsdu) → length (outgoing_octets clocks x) ≤ 249
+outgoing_short clocks (outgoing.Command c) = omega (arith, command_short c c.action)
+outgoing_short clocks (outgoing.Observation cause originator x) =
+    omega (arith, length-set (spelling clocks cause x) 3 originator, spelling_short clocks cause x)
 
-answer_short : (offset : ℤ) (answer : AsduAnswer) → length (answer_octets offset answer) ≤ 249
-answer_short offset (Returned asdu cause) =
+answer_short : (clocks : Clocks) (answer : AsduAnswer) → length (answer_octets clocks answer) ≤ 249
+answer_short clocks (Returned asdu cause) =
     let came : List ℕ = octets_in asdu in
     let back = cause_octet cause true (is_set 7 (slice_index came 2)) in
     omega (arith, length-set came 2 back, length-take asdu.len asdu.octets, asdu.fits)
-answer_short offset (Made x) = outgoing_short offset x
+answer_short clocks (Made x) = outgoing_short clocks x
 
-part_short : (offset : ℤ) (l : List Sending) (part : OwnAsdu)
-    → length (part_octets offset l part) ≤ 249
-part_short offset l (outgoing.Command command) = outgoing_short offset (outgoing.Command command)
-part_short offset l (outgoing.Observation cause originator x) =
-    packed_octets_short offset cause originator (rows_front cause originator l)
+part_short : (clocks : Clocks) (l : List Sending) (part : OwnAsdu)
+    → length (part_octets clocks l part) ≤ 249
+part_short clocks l (outgoing.Command command) = outgoing_short clocks (outgoing.Command command)
+part_short clocks l (outgoing.Observation cause originator x) =
+    packed_octets_short clocks cause originator (rows_front cause originator l)
 
-pub content_fits : (offset : ℤ) (c : Client) (sending : Sending)
-    → Fits (content_of offset c sending)
-content_fits offset c (sendings.Confirm signal) = tt
-content_fits offset c sendings.Test = tt
-content_fits offset c (sendings.Answer answer) = (omega arith, omega arith, answer_short offset answer)
-content_fits offset c (sendings.News x) =
-    (omega arith, omega arith, packed_octets_short offset 3 0 (news_front (line c)))
-content_fits offset c (sendings.Part part) = (omega arith, omega arith, part_short offset (line c) part)
-content_fits offset c sendings.SFormat = omega arith
+pub content_fits : (clocks : Clocks) (c : Client) (sending : Sending)
+    → Fits (content_of clocks c sending)
+content_fits clocks c (sendings.Confirm signal) = tt
+content_fits clocks c sendings.Test = tt
+content_fits clocks c (sendings.Answer answer) = (omega arith, omega arith, answer_short clocks answer)
+content_fits clocks c (sendings.News x) =
+    (omega arith, omega arith, packed_octets_short clocks 3 0 (news_front (line c)))
+content_fits clocks c (sendings.Part part) = (omega arith, omega arith, part_short clocks (line c) part)
+content_fits clocks c sendings.SFormat = omega arith

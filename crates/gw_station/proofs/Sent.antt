@@ -1,7 +1,8 @@
 -- What is put out, and what is left, where news or parts are first in line.
-use Rattle.std.proofs.Common.{◌≡◌, ℕ, ℤ, ◌<◌, List, length, Some, refl, sym, ap, subst, ◌∙◌}
+use Rattle.std.proofs.Common.{◌≡◌, ℕ, ◌<◌, List, length, Some, refl, sym, ap, subst, ◌∙◌}
 use Rattle.std.specs.Prelude.{slice_get}
 use Rattle.gw_model.specs.declared.observation.Observation.{Observation}
+use Rattle.gw_model.specs.Clocks.{Clocks}
 use Rattle.iec_apci.specs.Apdu.{Information}
 use Rattle.iec_asdu.specs.Packing.{taken_of}
 use Rattle.iec_window.specs.Sequence.{send_number, receive_number}
@@ -22,25 +23,25 @@ pub news_some : (c : Client) (s : Sending) (x : Observation) → s ≡ sendings.
     → 0 < length (news_next c)
 news_some c s x is next = (news_first c x (subst (IsNext c) is next)).some
 
-pub news_content : (offset : ℤ) (c : Client) (s : Sending) (x : Observation) → s ≡ sendings.News x
+pub news_content : (clocks : Clocks) (c : Client) (s : Sending) (x : Observation) → s ≡ sendings.News x
     → IsNext c s
-    → packed_information offset c.window 3 0 (news_next c) ≡ content_of offset c s
-news_content offset c s x is next =
+    → packed_information clocks c.window 3 0 (news_next c) ≡ content_of clocks c s
+news_content clocks c s x is next =
     let first = news_first c x (subst (IsNext c) is next) in
-    ap (λ (xs : List Observation). packed_information offset c.window 3 0 xs) (sym first.front)
-    ∙ ap (content_of offset c) (sym is)
+    ap (λ (xs : List Observation). packed_information clocks c.window 3 0 xs) (sym first.front)
+    ∙ ap (content_of clocks c) (sym is)
 
-pub news_sent : (offset : ℤ) (moment : ℕ) (c : Client) (s : Sending) (x : Observation) → s ≡ sendings.News x
+pub news_sent : (clocks : Clocks) (moment : ℕ) (c : Client) (s : Sending) (x : Observation) → s ≡ sendings.News x
     → IsNext c s
-    → record (client_without_news (taken_of offset (news_next c)) c) { window = counts_after_sending_i moment c.window }
-    ≡ client_with_sent offset moment s c
-news_sent offset moment c s x is next =
+    → record (client_without_news (taken_of clocks (news_next c)) c) { window = counts_after_sending_i moment c.window }
+    ≡ client_with_sent clocks moment s c
+news_sent clocks moment c s x is next =
     let e = subst (IsNext c) is next in
     let first = news_first c x e in
-    let same : taken_of offset (news_next c) ≡ together offset (line c) =
-    ap (taken_of offset) (sym first.front) ∙ sym (news_together offset (line c) x e) in
+    let same : taken_of clocks (news_next c) ≡ together clocks (line c) =
+    ap (taken_of clocks) (sym first.front) ∙ sym (news_together clocks (line c) x e) in
     ap (λ (n : ℕ). record (client_without_news n c) { window = counts_after_sending_i moment c.window }) same
-    ∙ ap (λ (y : Sending). client_with_sent offset moment y c) (sym is)
+    ∙ ap (λ (y : Sending). client_with_sent clocks moment y c) (sym is)
 
 -- ---- parts
 
@@ -48,31 +49,31 @@ pub part_is_first : (c : Client) (s : Sending) (part : OwnAsdu) → s ≡ sendin
     → slice_get c.rest 0 ≡ Some part
 part_is_first c s part is next = (part_first c part (subst (IsNext c) is next)).first
 
-octets_are : (offset : ℤ) (c : Client) (part : OwnAsdu)
+octets_are : (clocks : Clocks) (c : Client) (part : OwnAsdu)
     → slice_get (line c) 0 ≡ Some (sendings.Part part)
-    → parts_octets offset part c.rest ≡ part_octets offset (line c) part
-octets_are offset c (outgoing.Command command) e = refl
-octets_are offset c (outgoing.Observation cause originator x) e =
-    ap (λ (xs : List Observation). packed_octets offset cause originator xs)
+    → parts_octets clocks part c.rest ≡ part_octets clocks (line c) part
+octets_are clocks c (outgoing.Command command) e = refl
+octets_are clocks c (outgoing.Observation cause originator x) e =
+    ap (λ (xs : List Observation). packed_octets clocks cause originator xs)
     (sym (rows_same c (outgoing.Observation cause originator x) cause originator
     (part_first c (outgoing.Observation cause originator x) e)))
 
-pub part_content_is : (offset : ℤ) (c : Client) (s : Sending) (part : OwnAsdu)
+pub part_content_is : (clocks : Clocks) (c : Client) (s : Sending) (part : OwnAsdu)
     → s ≡ sendings.Part part → IsNext c s
-    → Information (send_number c.window) (receive_number c.window) (parts_octets offset part c.rest)
-    ≡ content_of offset c s
-part_content_is offset c s part is next =
+    → Information (send_number c.window) (receive_number c.window) (parts_octets clocks part c.rest)
+    ≡ content_of clocks c s
+part_content_is clocks c s part is next =
     ap (λ (octets : List ℕ). Information (send_number c.window) (receive_number c.window) octets)
-    (octets_are offset c part (subst (IsNext c) is next))
-    ∙ ap (content_of offset c) (sym is)
+    (octets_are clocks c part (subst (IsNext c) is next))
+    ∙ ap (content_of clocks c) (sym is)
 
-pub parts_sent : (offset : ℤ) (moment : ℕ) (c : Client) (s : Sending) (part : OwnAsdu) → s ≡ sendings.Part part
+pub parts_sent : (clocks : Clocks) (moment : ℕ) (c : Client) (s : Sending) (part : OwnAsdu) → s ≡ sendings.Part part
     → IsNext c s
-    → record (client_without_parts (parts_together offset part c.rest) c) {
+    → record (client_without_parts (parts_together clocks part c.rest) c) {
       window = counts_after_sending_i moment c.window;
-    } ≡ client_with_sent offset moment s c
-parts_sent offset moment c s part is next =
+    } ≡ client_with_sent clocks moment s c
+parts_sent clocks moment c s part is next =
     let first = part_first c part (subst (IsNext c) is next) in
     ap (λ (n : ℕ). record (client_without_parts n c) { window = counts_after_sending_i moment c.window })
-    (sym (parts_same offset c part first))
-    ∙ ap (λ (y : Sending). client_with_sent offset moment y c) (sym is)
+    (sym (parts_same clocks c part first))
+    ∙ ap (λ (y : Sending). client_with_sent clocks moment y c) (sym is)

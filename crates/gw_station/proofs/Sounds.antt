@@ -1,11 +1,12 @@
 -- Whatever becomes of a client, what waits can be sent and is no more than may wait, and the steps and news count no
 -- fewer than its I formats and what it dropped.
-use Rattle.std.proofs.Common.{◌≡◌, ℕ, ℤ, ◌+◌, ◌-◌, ◌<◌, ◌≤◌, Bool, true, false, List, [], ◌∷◌, ◌++◌, drop, length, map, Option, Some, None, refl, sym, ap, subst, ◌∙◌, arith, inl, inr}
+use Rattle.std.proofs.Common.{◌≡◌, ℕ, ◌+◌, ◌-◌, ◌<◌, ◌≤◌, Bool, true, false, List, [], ◌∷◌, ◌++◌, drop, length, map, Option, Some, None, refl, sym, ap, subst, ◌∙◌, arith, inl, inr}
 use Rattle.std.proofs.lemmas.List.{length-append, length-drop}
 use Rattle.std.specs.Prelude.{IfSome}
 use Rattle.std.specs.List.{AllByRecursion}
 use Rattle.std.proofs.lemmas.Bool.{cases_Bool, true≢false}
 use Rattle.gw_model.specs.declared.observation.Observation.{Observation}
+use Rattle.gw_model.specs.Clocks.{Clocks}
 use Rattle.gw_entries.specs.Setup.{StationSetup}
 use Rattle.iec_apci.specs.declared.apdu.Apdu.{Apdu}
 use Rattle.iec_apci.specs.declared.apdu.Apdu.TheVariants.{I, S, U}
@@ -21,7 +22,7 @@ use Rattle.iec_window.specs.declared.limits.Limits.{Limits}
 use Rattle.iec_window.specs.Counts.{WindowCounts}
 use Rattle.iec_window.specs.Sequence.{is_right_send, is_right_receive, new_acknowledgements}
 use Rattle.iec_window.specs.Steps.{counts_at_start, counts_after_right_s, counts_after_right_i, counts_after_s, counts_after_i, counts_after_sending_s, counts_after_sending_i, counts_after_sending_test}
-use Rattle.gw_map.specs.Settings.{Setup}
+use Rattle.gw_map.specs.Settings.{Setup, station_clocks}
 use Rattle.gw_station.specs.declared.event.Said.{Said}
 use Rattle.gw_answers.specs.declared.outgoing.AsduAnswer.{AsduAnswer}
 use Rattle.gw_answers.specs.declared.outgoing.AsduAnswer.TheVariants.{Made}
@@ -41,10 +42,10 @@ use Rattle.gw_station.proofs.Places.{answers_few, confirmations_few, not_flooded
 use Rattle.gw_station.proofs.Line.{offered_roomy}
 use Rattle.iec_window.proofs.Right.{right_sent, sent_one_more}
 
-pub sendable-append : (offset : ℤ) (xs ys : List Observation) → AllByRecursion (IsSendable offset) xs
-    → AllByRecursion (IsSendable offset) ys
-    → AllByRecursion (IsSendable offset) (xs ++ ys)
-sendable-append offset xs ys ax ay = all-append (IsSendable offset) xs ys ax ay
+pub sendable-append : (clocks : Clocks) (xs ys : List Observation) → AllByRecursion (IsSendable clocks) xs
+    → AllByRecursion (IsSendable clocks) ys
+    → AllByRecursion (IsSendable clocks) (xs ++ ys)
+sendable-append clocks xs ys ax ay = all-append (IsSendable clocks) xs ys ax ay
 
 -- ---- a window
 
@@ -160,8 +161,8 @@ with_confirmations station n i waiting c few sound = record {
 with_answers : (station : StationSetup) (n i held older : ℕ) (answers : List AsduAnswer) (rest : List OwnAsdu)
     (c : Client)
     → length answers + held ≤ places → (is_started c.stage ≡ false → held ≡ 0)
-    → AllByRecursion (CanSendAnswer station.offset_minutes) answers
-    → AllByRecursion (CanSendOutgoing station.offset_minutes) rest → IsSoundClient station n i c
+    → AllByRecursion (CanSendAnswer (station_clocks station)) answers
+    → AllByRecursion (CanSendOutgoing (station_clocks station)) rest → IsSoundClient station n i c
     → IsSoundClient station n i (record c { answers = answers; held = held; older = older; rest = rest })
 with_answers station n i held older answers rest c few none can can_rest sound = record {
   window = sound.window;
@@ -196,7 +197,7 @@ anew station n i stage c sound = record {
 
 -- news that can be sent come
 pub sound_with_news : (station : StationSetup) (n i : ℕ) (xs : List Observation) (c : Client)
-    → AllByRecursion (IsSendable station.offset_minutes) xs → IsSoundClient station n i c
+    → AllByRecursion (IsSendable (station_clocks station)) xs → IsSoundClient station n i c
     → IsSoundClient station n (i + length xs) (client_with_news xs c)
 sound_with_news station n i xs c all sound = record {
   window = sound.window;
@@ -212,10 +213,10 @@ sound_with_news station n i xs c all sound = record {
 }
   where
     sends : (started : Bool)
-        → AllByRecursion (IsSendable station.offset_minutes) (queue_with xs c.limit started c.queue)
+        → AllByRecursion (IsSendable (station_clocks station)) (queue_with xs c.limit started c.queue)
     sends true =
-        all-drop (IsSendable station.offset_minutes) (length (c.queue ++ xs) - c.limit) (c.queue ++ xs)
-        (sendable-append station.offset_minutes c.queue xs sound.sendable all)
+        all-drop (IsSendable (station_clocks station)) (length (c.queue ++ xs) - c.limit) (c.queue ++ xs)
+        (sendable-append (station_clocks station) c.queue xs sound.sendable all)
     sends false = sound.sendable
 
     fits : (started : Bool) → length (queue_with xs c.limit started c.queue) ≤ c.limit
@@ -284,7 +285,7 @@ with_signal station n i moment signal c fits sound =
 
 taking : (station : StationSetup) (n i : ℕ) (setup : Setup) (picture : List Observation) (moment : ℕ) (a : Apdu)
     (c : Client) → close_of setup a c ≡ None
-    → CanAnswer station.offset_minutes (client_taking setup picture moment a c) → IsSoundClient station n i c
+    → CanAnswer (station_clocks station) (client_taking setup picture moment a c) → IsSoundClient station n i c
     → IsSoundClient station (n + 1) i (client_taking setup picture moment a c)
 taking station n i setup picture moment (I ns nr asdu) c taken can sound =
     let d : Client = client_judging setup picture asdu (judged_asdu setup asdu) c in
@@ -302,7 +303,7 @@ taking station n i setup picture moment (U signal) c taken can sound =
 
 -- a step with an APDU
 pub sound_after_apdu : (station : StationSetup) (n i : ℕ) (setup : Setup) (picture : List Observation) (moment : ℕ)
-    (a : Apdu) (c : Client) → CanAnswer station.offset_minutes (client_after_apdu setup picture moment a c)
+    (a : Apdu) (c : Client) → CanAnswer (station_clocks station) (client_after_apdu setup picture moment a c)
     → IsSoundClient station n i c → IsSoundClient station (n + 1) i (client_after_apdu setup picture moment a c)
 sound_after_apdu station n i setup picture moment a c answers sound = go (close_of setup a c) refl
   where
@@ -310,13 +311,13 @@ sound_after_apdu station n i setup picture moment a c answers sound = go (close_
         → IsSoundClient station (n + 1) i (client_by why c (client_taking setup picture moment a c))
     go None e =
         taking station n i setup picture moment a c e (subst (λ (x : Option Why).
-        CanAnswer station.offset_minutes (client_by x c (client_taking setup picture moment a c))) e answers) sound
+        CanAnswer (station_clocks station) (client_by x c (client_taking setup picture moment a c))) e answers) sound
     go (Some why) e = sound_later station n (n + 1) i i (client_after_close c) (omega arith) (omega arith)
         (sound_after_close station n i c sound)
 
 -- something was said of a command, for which there are places
-terminated_can : (offset : ℤ) (c : Command) → IsWhole c → CanSendOutgoing offset (terminated c)
-terminated_can offset c whole = (
+terminated_can : (clocks : Clocks) (c : Command) → IsWhole c → CanSendOutgoing clocks (terminated c)
+terminated_can clocks c whole = (
   refl,
   record {
     cause = omega arith;
@@ -327,14 +328,14 @@ terminated_can offset c whole = (
   },
 )
 
-told_can : (offset : ℤ) (command : Command) (said : Said) → IsWhole command
-    → AllByRecursion (CanSendAnswer offset) (map Made (told command said))
-told_can offset command saids.Confirm whole = (confirmed_can offset false command whole, tt)
-told_can offset command saids.Negative whole = (confirmed_can offset true command whole, tt)
-told_can offset command saids.Ordered whole = tt
-told_can offset command saids.Done whole =
-    (confirmed_can offset false command whole, (terminated_can offset command whole, tt))
-told_can offset command saids.Failed whole = (confirmed_can offset true command whole, tt)
+told_can : (clocks : Clocks) (command : Command) (said : Said) → IsWhole command
+    → AllByRecursion (CanSendAnswer clocks) (map Made (told command said))
+told_can clocks command saids.Confirm whole = (confirmed_can clocks false command whole, tt)
+told_can clocks command saids.Negative whole = (confirmed_can clocks true command whole, tt)
+told_can clocks command saids.Ordered whole = tt
+told_can clocks command saids.Done whole =
+    (confirmed_can clocks false command whole, (terminated_can clocks command whole, tt))
+told_can clocks command saids.Failed whole = (confirmed_can clocks true command whole, tt)
 
 -- orders are made in a session alone
 held_in_session : (said : Said) (command : Command) (c : Client) → (said ≡ saids.Ordered → is_started c.stage ≡ true)
@@ -352,15 +353,15 @@ sound_told station n i said command c whole room started sound =
     let told = client_told command said c in
     with_answers station n i told.held c.older told.answers c.rest c room
     (held_in_session said command c started sound.stopped)
-    (all-append (CanSendAnswer station.offset_minutes) c.answers _ sound.answers
-    (told_can station.offset_minutes command said whole)) sound.rest sound
+    (all-append (CanSendAnswer (station_clocks station)) c.answers _ sound.answers
+    (told_can (station_clocks station) command said whole)) sound.rest sound
 
 -- ---- a pump
 
 -- a step in which something is put out, or nothing
-pub sound_after_pump : (station : StationSetup) (offset : ℤ) (n i moment : ℕ) (c : Client)
-    → IsSoundClient station n i c → IsSoundClient station (n + 1) i (client_after_pump offset moment c)
-sound_after_pump station offset n i moment c sound = go (offered moment c) (offered_roomy moment c)
+pub sound_after_pump : (station : StationSetup) (clocks : Clocks) (n i moment : ℕ) (c : Client)
+    → IsSoundClient station n i c → IsSoundClient station (n + 1) i (client_after_pump clocks moment c)
+sound_after_pump station clocks n i moment c sound = go (offered moment c) (offered_roomy moment c)
   where
     later : IsSoundClient station (n + 1) i c
     later = sound_later station n (n + 1) i i c (omega arith) (omega arith) sound
@@ -372,7 +373,7 @@ sound_after_pump station offset n i moment c sound = go (offered moment c) (offe
         (window_after_sending station n moment c.window room sound.window) rest
 
     go : (x : Option Sending) → IfSome x (IsRoomy c.window)
-        → IsSoundClient station (n + 1) i (client_by_offer offset moment x c)
+        → IsSoundClient station (n + 1) i (client_by_offer clocks moment x c)
     go None room = later
     go (Some (sendings.Confirm signal)) room =
         with_confirmations station (n + 1) i (drop 1 c.confirmations) c
@@ -385,9 +386,9 @@ sound_after_pump station offset n i moment c sound = go (offered moment c) (offe
         numbered (record c { answers = drop 1 c.answers }) room
         (with_answers station (n + 1) i c.held c.older (drop 1 c.answers) c.rest c
         (omega (arith, length-drop 1 c.answers, sound.places)) sound.stopped
-        (all-drop (CanSendAnswer station.offset_minutes) 1 c.answers sound.answers) sound.rest later)
+        (all-drop (CanSendAnswer (station_clocks station)) 1 c.answers sound.answers) sound.rest later)
     go (Some (sendings.News x)) room =
-        let gone : ℕ = together offset (line c) in
+        let gone : ℕ = together clocks (line c) in
         numbered (client_without_news gone c) room (record {
           window = later.window;
           confirmations = sound.confirmations;
@@ -396,15 +397,15 @@ sound_after_pump station offset n i moment c sound = go (offered moment c) (offe
           answers = sound.answers;
           limit = sound.limit;
           few = omega (arith, length-drop gone c.queue, sound.few);
-          sendable = all-drop (IsSendable station.offset_minutes) gone c.queue sound.sendable;
+          sendable = all-drop (IsSendable (station_clocks station)) gone c.queue sound.sendable;
           dropped = sound.dropped;
           rest = sound.rest;
         })
     go (Some (sendings.Part part)) room =
-        let gone : ℕ = together offset (line c) in
+        let gone : ℕ = together clocks (line c) in
         numbered (client_without_parts gone c) room
         (with_answers station (n + 1) i c.held c.older c.answers (drop gone c.rest) c sound.places sound.stopped
-        sound.answers (all-drop (CanSendOutgoing station.offset_minutes) gone c.rest sound.rest) later)
+        sound.answers (all-drop (CanSendOutgoing (station_clocks station)) gone c.rest sound.rest) later)
     go (Some sendings.SFormat) room =
         let w = later.window in
         with_window station (n + 1) (n + 1) i (counts_after_sending_s c.window) c

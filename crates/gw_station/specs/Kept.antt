@@ -1,6 +1,7 @@
 -- What a station keeps of the news that may go next, and of the answer to an interrogation.
-use Rattle.std.specs.Prelude.{ℕ, ℤ, ◌-◌, ◌<◌, ◌==◌, ◌&&◌, List, [], ◌∷◌, drop, length, slice_get, take, Option, Some, None, IsSomeAnd, if◌then◌else◌}
+use Rattle.std.specs.Prelude.{ℕ, ◌-◌, ◌<◌, ◌==◌, ◌&&◌, List, [], ◌∷◌, drop, length, slice_get, take, Option, Some, None, IsSomeAnd, if◌then◌else◌}
 use Rattle.gw_model.specs.declared.observation.Observation.{Observation}
+use Rattle.gw_model.specs.Clocks.{Clocks}
 use Rattle.iec_asdu.specs.Packing.{taken_of}
 use Rattle.gw_answers.specs.declared.outgoing.OwnAsdu.{OwnAsdu}
 use Rattle.gw_answers.specs.declared.outgoing.OwnAsdu.TheVariants as outgoing
@@ -43,12 +44,12 @@ parts_front cause originator (outgoing.Observation c o x ∷ parts) =
 parts_front cause originator _ = []
 
 -- how many parts go out in one ASDU, and its octets, where this is the first
-abbrev pub parts_together : ℤ → OwnAsdu → List OwnAsdu → ℕ
-parts_together offset (outgoing.Command command) parts = 1
-parts_together offset (outgoing.Observation cause originator x) parts =
-    taken_of offset (parts_front cause originator parts)
+abbrev pub parts_together : Clocks → OwnAsdu → List OwnAsdu → ℕ
+parts_together clocks (outgoing.Command command) parts = 1
+parts_together clocks (outgoing.Observation cause originator x) parts =
+    taken_of clocks (parts_front cause originator parts)
 
-abbrev pub parts_octets : ℤ → OwnAsdu → List OwnAsdu → List ℕ
-parts_octets offset (outgoing.Command command) parts = outgoing_octets offset (outgoing.Command command)
-parts_octets offset (outgoing.Observation cause originator x) parts =
-    packed_octets offset cause originator (parts_front cause originator parts)
+abbrev pub parts_octets : Clocks → OwnAsdu → List OwnAsdu → List ℕ
+parts_octets clocks (outgoing.Command command) parts = outgoing_octets clocks (outgoing.Command command)
+parts_octets clocks (outgoing.Observation cause originator x) parts =
+    packed_octets clocks cause originator (parts_front cause originator parts)

@@ -1,7 +1,8 @@
 -- What is put out to a client that is up (IEC 60870-5-104, 5.1 to 5.3).
-use Rattle.std.specs.Prelude.{◌≡◌, ℕ, ℤ, ◌-◌, ◌==◌, ◌&&◌, Bool, nat_lt, ◌<◌, List, [], ◌∷◌, ◌++◌, length, take, drop, map, Option, Some, None, option_map, slice_get, if◌then◌else◌}
+use Rattle.std.specs.Prelude.{◌≡◌, ℕ, ◌-◌, ◌==◌, ◌&&◌, Bool, nat_lt, ◌<◌, List, [], ◌∷◌, ◌++◌, length, take, drop, map, Option, Some, None, option_map, slice_get, if◌then◌else◌}
 use Rattle.gw_model.specs.First.{when, first_of}
 use Rattle.gw_model.specs.declared.observation.Observation.{Observation}
+use Rattle.gw_model.specs.Clocks.{Clocks}
 use Rattle.iec_asdu.specs.Packing.{taken_of}
 use Rattle.iec_apci.specs.declared.apdu.Signal.TheVariants.{TestAct}
 use Rattle.iec_apci.specs.Apdu.{ApduContent, Information, Supervisory, Unnumbered}
@@ -41,11 +42,11 @@ rows_front cause originator (sendings.Part (outgoing.Observation c o x) ∷ line
 rows_front cause originator _ = []
 
 -- how many of a line go out in one ASDU: as many news, or rows, as one carries; all else goes alone
-abbrev pub together : ℤ → List Sending → ℕ
-together offset (sendings.News x ∷ line) = taken_of offset (x ∷ news_front line)
-together offset (sendings.Part (outgoing.Observation cause originator x) ∷ line) =
-    taken_of offset (x ∷ rows_front cause originator line)
-together offset _ = 1
+abbrev pub together : Clocks → List Sending → ℕ
+together clocks (sendings.News x ∷ line) = taken_of clocks (x ∷ news_front line)
+together clocks (sendings.Part (outgoing.Observation cause originator x) ∷ line) =
+    taken_of clocks (x ∷ rows_front cause originator line)
+together clocks _ = 1
 
 -- the first of the line, in a session, where an I format may be sent
 abbrev pub information_offered : Client → Option Sending
@@ -82,33 +83,33 @@ IsRoomy w (sendings.Part part) = length w.waiting < w.limits.k
 IsRoomy w sendings.SFormat = Unit {0}
 
 -- an I format with this ASDU
-abbrev pub information : ℤ → WindowCounts → AsduAnswer → ApduContent
-information offset w answer = Information (send_number w) (receive_number w) (answer_octets offset answer)
+abbrev pub information : Clocks → WindowCounts → AsduAnswer → ApduContent
+information clocks w answer = Information (send_number w) (receive_number w) (answer_octets clocks answer)
 
 -- an I format with as many of these observations as its ASDU carries
-abbrev pub packed_information : ℤ → WindowCounts → ℕ → ℕ → List Observation → ApduContent
-packed_information offset w cause originator xs =
-    Information (send_number w) (receive_number w) (packed_octets offset cause originator xs)
+abbrev pub packed_information : Clocks → WindowCounts → ℕ → ℕ → List Observation → ApduContent
+packed_information clocks w cause originator xs =
+    Information (send_number w) (receive_number w) (packed_octets clocks cause originator xs)
 
 -- the octets of a part with those that go out with it
-abbrev pub part_octets : ℤ → List Sending → OwnAsdu → List ℕ
-part_octets offset line (outgoing.Command command) = outgoing_octets offset (outgoing.Command command)
-part_octets offset line (outgoing.Observation cause originator x) =
-    packed_octets offset cause originator (rows_front cause originator line)
+abbrev pub part_octets : Clocks → List Sending → OwnAsdu → List ℕ
+part_octets clocks line (outgoing.Command command) = outgoing_octets clocks (outgoing.Command command)
+part_octets clocks line (outgoing.Observation cause originator x) =
+    packed_octets clocks cause originator (rows_front cause originator line)
 
 -- what it carries
-abbrev pub content_of : ℤ → Client → Sending → ApduContent
-content_of offset c (sendings.Confirm signal) = Unnumbered signal
-content_of offset c sendings.Test = Unnumbered TestAct
-content_of offset c (sendings.Answer answer) = information offset c.window answer
-content_of offset c (sendings.News x) = packed_information offset c.window 3 0 (news_front (line c))
-content_of offset c (sendings.Part part) =
-    Information (send_number c.window) (receive_number c.window) (part_octets offset (line c) part)
-content_of offset c sendings.SFormat = Supervisory (receive_number c.window)
+abbrev pub content_of : Clocks → Client → Sending → ApduContent
+content_of clocks c (sendings.Confirm signal) = Unnumbered signal
+content_of clocks c sendings.Test = Unnumbered TestAct
+content_of clocks c (sendings.Answer answer) = information clocks c.window answer
+content_of clocks c (sendings.News x) = packed_information clocks c.window 3 0 (news_front (line c))
+content_of clocks c (sendings.Part part) =
+    Information (send_number c.window) (receive_number c.window) (part_octets clocks (line c) part)
+content_of clocks c sendings.SFormat = Supervisory (receive_number c.window)
 
 -- what is put out next at a moment, if anything
-abbrev pub given : ℤ → ℕ → Client → Option ApduContent
-given offset moment c = option_map (content_of offset c) (offered moment c)
+abbrev pub given : Clocks → ℕ → Client → Option ApduContent
+given clocks moment c = option_map (content_of clocks c) (offered moment c)
 
 -- so many news were put out, and so many parts
 abbrev pub client_without_news : ℕ → Client → Client
@@ -118,21 +119,21 @@ abbrev pub client_without_parts : ℕ → Client → Client
 client_without_parts n c = record c { rest = drop n c.rest }
 
 -- it was put out, with those that went with it
-abbrev pub client_with_sent : ℤ → ℕ → Sending → Client → Client
-client_with_sent offset moment (sendings.Confirm signal) c = record c { confirmations = drop 1 c.confirmations }
-client_with_sent offset moment sendings.Test c = record c { window = counts_after_sending_test moment c.window }
-client_with_sent offset moment (sendings.Answer answer) c =
+abbrev pub client_with_sent : Clocks → ℕ → Sending → Client → Client
+client_with_sent clocks moment (sendings.Confirm signal) c = record c { confirmations = drop 1 c.confirmations }
+client_with_sent clocks moment sendings.Test c = record c { window = counts_after_sending_test moment c.window }
+client_with_sent clocks moment (sendings.Answer answer) c =
     record c { window = counts_after_sending_i moment c.window; answers = drop 1 c.answers }
-client_with_sent offset moment (sendings.News x) c =
-    record (client_without_news (together offset (line c)) c) { window = counts_after_sending_i moment c.window }
-client_with_sent offset moment (sendings.Part part) c =
-    record (client_without_parts (together offset (line c)) c) { window = counts_after_sending_i moment c.window }
-client_with_sent offset moment sendings.SFormat c = record c { window = counts_after_sending_s c.window }
+client_with_sent clocks moment (sendings.News x) c =
+    record (client_without_news (together clocks (line c)) c) { window = counts_after_sending_i moment c.window }
+client_with_sent clocks moment (sendings.Part part) c =
+    record (client_without_parts (together clocks (line c)) c) { window = counts_after_sending_i moment c.window }
+client_with_sent clocks moment sendings.SFormat c = record c { window = counts_after_sending_s c.window }
 
-abbrev pub client_by_offer : ℤ → ℕ → Option Sending → Client → Client
-client_by_offer offset moment None c = c
-client_by_offer offset moment (Some sending) c = client_with_sent offset moment sending c
+abbrev pub client_by_offer : Clocks → ℕ → Option Sending → Client → Client
+client_by_offer clocks moment None c = c
+client_by_offer clocks moment (Some sending) c = client_with_sent clocks moment sending c
 
--- what is put out next at a moment was put out, where clocks are offset minutes ahead of UTC
-abbrev pub client_after_pump : ℤ → ℕ → Client → Client
-client_after_pump offset moment c = client_by_offer offset moment (offered moment c) c
+-- what is put out next at a moment was put out, by the clocks of the station
+abbrev pub client_after_pump : Clocks → ℕ → Client → Client
+client_after_pump clocks moment c = client_by_offer clocks moment (offered moment c) c

@@ -1,7 +1,9 @@
 -- What every client's part keeps, by the settings of the station: what waits can be sent, no more waits than may, and
 -- the counts of steps and of news are no fewer than its I formats and what it dropped.
-use Rattle.std.specs.Prelude.{◌≡◌, ℕ, ℤ, ◌≤◌, false, length}
+use Rattle.std.specs.Prelude.{◌≡◌, ℕ, ◌≤◌, false, length}
 use Rattle.std.specs.List.{AllByRecursion}
+use Rattle.gw_model.specs.Clocks.{Clocks}
+use Rattle.gw_map.specs.Settings.{station_clocks}
 use Rattle.gw_entries.specs.Setup.{StationSetup}
 use Rattle.iec_command.specs.Commands.{IsWhole}
 use Rattle.iec_window.specs.Counts.{WindowCounts, sent_in_all}
@@ -20,11 +22,11 @@ IsReturnableSending (sendings.Answer answer) = IsReturnable answer
 IsReturnableSending _ = Unit {0}
 
 -- what is put out can be sent: U and S formats always can
-abbrev pub CanSend : ℤ → Sending → Type 0
-CanSend offset (sendings.Answer answer) = CanSendAnswer offset answer
-CanSend offset (sendings.News x) = IsSendable offset x
-CanSend offset (sendings.Part part) = CanSendOutgoing offset part
-CanSend offset _ = Unit {0}
+abbrev pub CanSend : Clocks → Sending → Type 0
+CanSend clocks (sendings.Answer answer) = CanSendAnswer clocks answer
+CanSend clocks (sendings.News x) = IsSendable clocks x
+CanSend clocks (sendings.Part part) = CanSendOutgoing clocks part
+CanSend clocks _ = Unit {0}
 
 -- a command that an APDU carried has fields that fit
 abbrev pub IsWholeEvent : Event → Type 0
@@ -32,8 +34,8 @@ IsWholeEvent (events.Command command) = IsWhole command
 IsWholeEvent _ = Unit {0}
 
 -- what answers the client can be sent
-abbrev pub CanAnswer : ℤ → Client → Type 0
-CanAnswer offset c = AllByRecursion (CanSendAnswer offset) c.answers × AllByRecursion (CanSendOutgoing offset) c.rest
+abbrev pub CanAnswer : Clocks → Client → Type 0
+CanAnswer clocks c = AllByRecursion (CanSendAnswer clocks) c.answers × AllByRecursion (CanSendOutgoing clocks) c.rest
 
 -- after so many steps: at most k I formats wait for their acknowledgement
 pub record IsSoundWindow (station : StationSetup) (steps : ℕ) (w : WindowCounts) : Type 0 where
@@ -51,14 +53,14 @@ pub record IsSoundClient (station : StationSetup) (steps news : ℕ) (c : Client
   -- there are orders in a session alone
   pub stopped : is_started c.stage ≡ false → c.held ≡ 0
   -- an answer that isn't to a read has cause 7, 9, 10 or 44 to 47
-  pub answers : AllByRecursion (CanSendAnswer station.offset_minutes) c.answers
+  pub answers : AllByRecursion (CanSendAnswer (station_clocks station)) c.answers
   -- as many news may wait as the settings tell
   pub limit : c.limit ≡ station.queue
   pub few : length c.queue ≤ c.limit
-  pub sendable : AllByRecursion (IsSendable station.offset_minutes) c.queue
+  pub sendable : AllByRecursion (IsSendable (station_clocks station)) c.queue
   pub dropped : c.dropped ≤ news
   -- what is left of the answer to an interrogation
-  pub rest : AllByRecursion (CanSendOutgoing station.offset_minutes) c.rest
+  pub rest : AllByRecursion (CanSendOutgoing (station_clocks station)) c.rest
 
 -- no more news wait than may
 abbrev pub WaitsWithin : Client → Type 0

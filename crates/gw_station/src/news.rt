@@ -1,5 +1,6 @@
 //! News that go out together.
 ghost use Rattle.std.specs.Prelude.{◌≡◌, ◌+◌, ◌<◌, ◌≤◌, ◌++◌, length, take};
+ghost use Rattle.gw_map.specs.Settings.{station_clocks};
 ghost use Rattle.iec_asdu.specs.Packing.{taken_of};
 ghost use Rattle.gw_answers.specs.Octets.{octets_in, packed_octets};
 
@@ -22,9 +23,9 @@ pub(crate) fn pack_news(
     requires within { count ≤ length front.now + length back.now }
     requires few { count ≤ 127 }
     ensures asdu { octets_in result.asdu
-        ≡ packed_octets settings.now.station.offset_minutes 3 0 (take count (front.now ++ back.now)) }
+        ≡ packed_octets (station_clocks settings.now.station) 3 0 (take count (front.now ++ back.now)) }
     ensures taken { result.taken
-        ≡ taken_of settings.now.station.offset_minutes (take count (front.now ++ back.now)) }
+        ≡ taken_of (station_clocks settings.now.station) (take count (front.now ++ back.now)) }
 {
     if count <= front.len() {
         pack_slice(&front[..count], settings)
@@ -44,9 +45,9 @@ fn pack_over_seam(
     requires within { count ≤ length front.now + length back.now }
     requires few { count ≤ 127 }
     ensures asdu { octets_in result.asdu
-        ≡ packed_octets settings.now.station.offset_minutes 3 0 (take count (front.now ++ back.now)) }
+        ≡ packed_octets (station_clocks settings.now.station) 3 0 (take count (front.now ++ back.now)) }
     ensures taken { result.taken
-        ≡ taken_of settings.now.station.offset_minutes (take count (front.now ++ back.now)) }
+        ≡ taken_of (station_clocks settings.now.station) (take count (front.now ++ back.now)) }
 {
     let mut both = [back[0]; MOST_PACKED];
     both[..front.len()].copy_from_slice(front);
@@ -56,8 +57,8 @@ fn pack_over_seam(
 
 fn pack_slice(news: &[Observation], settings: &Settings) -> PackedAsdu
     requires { 0 < length news.now }
-    ensures asdu { octets_in result.asdu ≡ packed_octets settings.now.station.offset_minutes 3 0 news.now }
-    ensures taken { result.taken ≡ taken_of settings.now.station.offset_minutes news.now }
+    ensures asdu { octets_in result.asdu ≡ packed_octets (station_clocks settings.now.station) 3 0 news.now }
+    ensures taken { result.taken ≡ taken_of (station_clocks settings.now.station) news.now }
 {
     pack(SPONTANEOUS, 0, &settings.zone(), news)
 }

@@ -1,6 +1,7 @@
 //! What is left of the answer to an interrogation.
 ghost use Rattle.std.specs.Prelude.{◌≡◌, ℕ, ◌+◌, ◌-◌, ◌<◌, [], drop, length, slice_get, IfOk, IfSome, Some};
 ghost use Rattle.gw_model.specs.declared.observation.Observation.{Observation as Row};
+ghost use Rattle.gw_map.specs.Settings.{station_clocks};
 ghost use Rattle.gw_answers.specs.declared.outgoing.OwnAsdu.TheVariants.{Observation as Told};
 ghost use Rattle.gw_answers.specs.Interrogations.{answer_with};
 ghost use Rattle.gw_answers.specs.Octets.{octets_in};
@@ -109,8 +110,8 @@ impl PartsLeft {
     pub fn pack(&self, first: &OwnAsdu, settings: &Settings) -> PackedAsdu
         requires { slice_get self.now 0 ≡ Some first.now }
         ensures asdu { octets_in result.asdu
-            ≡ parts_octets settings.now.station.offset_minutes first.now self.now }
-        ensures taken { result.taken ≡ parts_together settings.now.station.offset_minutes first.now self.now }
+            ≡ parts_octets (station_clocks settings.now.station) first.now self.now }
+        ensures taken { result.taken ≡ parts_together (station_clocks settings.now.station) first.now self.now }
     {
         let zone = settings.zone();
         match first {

@@ -1,5 +1,5 @@
 //! What is known of one client.
-ghost use Rattle.std.specs.Prelude.{◌≡◌, ◌<◌, ◌≤◌, ◌-◌, ◌+◌, ◌^◌, ℕ, ℤ, true, false, None, Some, [], ◌∷◌, ◌++◌, ◌&&◌, drop, is_some, length, nat_le, option_map, slice_get, take, IfOk, IfSome, OnErr, OnOk};
+ghost use Rattle.std.specs.Prelude.{◌≡◌, ◌<◌, ◌≤◌, ◌-◌, ◌+◌, ◌^◌, ℕ, true, false, None, Some, [], ◌∷◌, ◌++◌, ◌&&◌, drop, is_some, length, nat_le, option_map, slice_get, take, IfOk, IfSome, OnErr, OnOk};
 ghost use Rattle.std.specs.List.{AllByRecursion};
 ghost use Rattle.std.specs.VecDeque.{deque_capacity};
 ghost use Rattle.iec_apci.specs.Apdu.{Information};
@@ -19,6 +19,8 @@ ghost use Rattle.gw_answers.specs.Meaning.{IsSendable};
 ghost use Rattle.iec_asdu.specs.Packing.{taken_of};
 ghost use Rattle.gw_answers.specs.Octets.{octets_in, packed_octets, IsReturnable};
 ghost use Rattle.gw_model.specs.First.{first_of};
+ghost use Rattle.gw_model.specs.Clocks.{Clocks};
+ghost use Rattle.gw_map.specs.Settings.{station_clocks};
 ghost use Rattle.gw_station.specs.declared.event.Event.TheVariants as events;
 ghost use Rattle.iec_apci.specs.declared.apdu.Apdu.TheVariants as formats;
 ghost use Rattle.iec_apci.specs.declared.apdu.Signal.TheVariants as signals;
@@ -258,8 +260,8 @@ impl Station {
         ensures stands { OnOk result (Stands news.now self.new) }
         ensures place { IfOk result (λ event. HasPlace event (seen news.now self.new)) }
         // Its answers can be sent, where they could before, and the picture's observations can.
-        ensures sendable { (offset : ℤ) → AllByRecursion (IsSendable offset) picture.now
-            → CanAnswer offset (seen news.now self.old) → OnOk result (CanAnswer offset (seen news.now self.new)) }
+        ensures sendable { (clocks : Clocks) → AllByRecursion (IsSendable clocks) picture.now
+            → CanAnswer clocks (seen news.now self.old) → OnOk result (CanAnswer clocks (seen news.now self.new)) }
         // A command that is given has fields that fit.
         ensures whole { IfOk result (λ event. IsWholeEvent event) }
         ensures memory { OnErr result (asks settings.now apdu.now (seen news.now self.old) ≡ true) }
@@ -331,9 +333,9 @@ impl Station {
         requires count { sent_in_all self.old.window + 1 < 2 ^ 64 }
         requires stands { Stands news.now self.old }
         ensures apdu { result ≡ option_map buffer_of
-            (given settings.now.station.offset_minutes moment (seen news.now self.old)) }
+            (given (station_clocks settings.now.station) moment (seen news.now self.old)) }
         ensures client { seen news.now self.new
-            ≡ client_after_pump settings.now.station.offset_minutes moment (seen news.now self.old) }
+            ≡ client_after_pump (station_clocks settings.now.station) moment (seen news.now self.old) }
         ensures stands { Stands news.now self.new }
     {
         let sending = self.offered(moment, news)?;
@@ -420,8 +422,8 @@ impl Station {
         ensures stands { OnOk result (Stands news.now self.new) }
         ensures place { IfOk result (λ event. HasPlace event (seen news.now self.new)) }
         // Its answers can be sent, where they could before, and the picture's observations can.
-        ensures sendable { (offset : ℤ) → AllByRecursion (IsSendable offset) picture.now
-            → CanAnswer offset (seen news.now self.old) → OnOk result (CanAnswer offset (seen news.now self.new)) }
+        ensures sendable { (clocks : Clocks) → AllByRecursion (IsSendable clocks) picture.now
+            → CanAnswer clocks (seen news.now self.old) → OnOk result (CanAnswer clocks (seen news.now self.new)) }
         // A command that is given has fields that fit.
         ensures whole { IfOk result (λ event. IsWholeEvent event) }
         ensures memory { OnErr result (asks settings.now (formats.I ns nr asdu.now) (seen news.now self.old) ≡ true) }
@@ -604,9 +606,9 @@ impl Station {
         requires next { IsNext (seen news.now self.old) sending }
         requires stands { Stands news.now self.old }
         ensures apdu { result ≡ buffer_of
-            (content_of settings.now.station.offset_minutes (seen news.now self.old) sending) }
+            (content_of (station_clocks settings.now.station) (seen news.now self.old) sending) }
         ensures client { seen news.now self.new
-            ≡ client_with_sent settings.now.station.offset_minutes moment sending (seen news.now self.old) }
+            ≡ client_with_sent (station_clocks settings.now.station) moment sending (seen news.now self.old) }
         ensures stands { Stands news.now self.new }
     {
         match sending {
@@ -637,7 +639,7 @@ impl Station {
         requires count { sent_in_all self.old.window + 1 < 2 ^ 64 }
         requires answer { IsReturnable answer.now }
         ensures apdu { result ≡ buffer_of
-            (information settings.now.station.offset_minutes self.old.window answer.now) }
+            (information (station_clocks settings.now.station) self.old.window answer.now) }
         ensures client { self.new ≡ record self.old { window = counts_after_sending_i moment self.old.window } }
     {
         let asdu = answer_asdu(&settings.zone(), answer);
@@ -662,10 +664,10 @@ impl Station {
         requires count { sent_in_all self.old.window + 1 < 2 ^ 64 }
         requires some { 0 < length (news_next (seen news.now self.old)) }
         requires stands { Stands news.now self.old }
-        ensures apdu { result ≡ buffer_of (packed_information settings.now.station.offset_minutes self.old.window 3 0
+        ensures apdu { result ≡ buffer_of (packed_information (station_clocks settings.now.station) self.old.window 3 0
             (news_next (seen news.now self.old))) }
         ensures client { seen news.now self.new ≡ record (client_without_news (taken_of
-            settings.now.station.offset_minutes (news_next (seen news.now self.old))) (seen news.now self.old)) {
+            (station_clocks settings.now.station) (news_next (seen news.now self.old))) (seen news.now self.old)) {
               window = counts_after_sending_i moment self.old.window;
             } }
         ensures stands { Stands news.now self.new }
@@ -681,10 +683,10 @@ impl Station {
         requires count { sent_in_all self.old.window + 1 < 2 ^ 64 }
         requires first { slice_get self.old.rest 0 ≡ Some first.now }
         ensures apdu { result ≡ buffer_of (Information (send_number self.old.window) (receive_number self.old.window)
-            (parts_octets settings.now.station.offset_minutes first.now self.old.rest)) }
+            (parts_octets (station_clocks settings.now.station) first.now self.old.rest)) }
         ensures seat { self.new ≡ record self.old {
           window = counts_after_sending_i moment self.old.window;
-          rest = drop (parts_together settings.now.station.offset_minutes first.now self.old.rest) self.old.rest;
+          rest = drop (parts_together (station_clocks settings.now.station) first.now self.old.rest) self.old.rest;
         } }
     {
         let packed = self.rest.pack(first, settings);
@@ -696,9 +698,9 @@ impl Station {
     fn pack_news(&self, settings: &Settings, news: &NewsRing) -> PackedAsdu
         requires { 0 < length (news_next (seen news.now self.now)) }
         ensures asdu { octets_in result.asdu
-            ≡ packed_octets settings.now.station.offset_minutes 3 0 (news_next (seen news.now self.now)) }
+            ≡ packed_octets (station_clocks settings.now.station) 3 0 (news_next (seen news.now self.now)) }
         ensures taken { result.taken
-            ≡ taken_of settings.now.station.offset_minutes (news_next (seen news.now self.now)) }
+            ≡ taken_of (station_clocks settings.now.station) (news_next (seen news.now self.now)) }
     {
         let count = self.news_next(news).min(MOST_PACKED);
         let (front, back) = self.news_waiting(news);

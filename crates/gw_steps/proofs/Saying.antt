@@ -1,7 +1,8 @@
 -- What is put out says what it was made of.
-use Rattle.std.proofs.Common.{◌≡◌, ℕ, ℤ, ◌-◌, List, [], ◌∷◌, ◌++◌, length, take, Option, Some, refl, sym, ap, ◌∙◌}
+use Rattle.std.proofs.Common.{◌≡◌, ℕ, ◌-◌, List, [], ◌∷◌, ◌++◌, length, take, Option, Some, refl, sym, ap, ◌∙◌}
 use Rattle.std.specs.Prelude.{option_map, replicate}
 use Rattle.std.proofs.lemmas.List.{append-nil, take_at}
+use Rattle.gw_model.specs.Clocks.{Clocks}
 use Rattle.iec_apci.specs.Apdu.{ApduContent, Fits, apdu as octets_of}
 use Rattle.iec_apci.specs.Buffer.{buffer_of}
 use Rattle.iec_apci.specs.Stream.{Reading, Open, reading}
@@ -20,9 +21,9 @@ one_apdu c fits =
     ap reading (sym (append-nil (octets_of c))) ∙ reading-apdu c [] fits in
     alone ∙ ap (λ (r : Reading). record { apdus = c ∷ r.apdus; ending = r.ending }) reading_nil
 
-pub said-content : (offset : ℤ) (c : ApduContent) → Fits c → said offset (buffer_of c) ≡ Some (said_by offset c)
-said-content offset c fits =
+pub said-content : (clocks : Clocks) (c : ApduContent) → Fits c → said clocks (buffer_of c) ≡ Some (said_by clocks c)
+said-content clocks c fits =
     ap (λ (octets : List ℕ). said_in (reading octets)) (buffered (octets_of c)) ∙ ap said_in (one_apdu c fits)
   where
     said_in : Reading → Option ApduMeaning
-    said_in read = option_map (said_by offset) (only_one read.apdus read.ending)
+    said_in read = option_map (said_by clocks) (only_one read.apdus read.ending)

@@ -1,5 +1,6 @@
 -- What an APDU that was put out says.
-use Rattle.std.specs.Prelude.{ℕ, ℤ, List, [], ◌∷◌, take, Option, Some, None, option_map}
+use Rattle.std.specs.Prelude.{ℕ, List, [], ◌∷◌, take, Option, Some, None, option_map}
+use Rattle.gw_model.specs.Clocks.{Clocks}
 use Rattle.iec_apci.specs.declared.apdu.Signal.{Signal}
 use Rattle.iec_apci.specs.declared.buffer.ApduBuf.{ApduBuf}
 use Rattle.iec_apci.specs.Apdu.{ApduContent, Information, Supervisory, Unnumbered}
@@ -13,11 +14,11 @@ pub data ApduMeaning : Type 0 where
   SFormat : ℕ → ApduMeaning
   UFormat : Signal → ApduMeaning
 
--- what is carried says this, where clocks are offset minutes ahead of UTC
-abbrev pub said_by : ℤ → ApduContent → ApduMeaning
-said_by offset (Information ns nr asdu) = IFormat ns nr (meaning_of offset asdu)
-said_by offset (Supervisory nr) = SFormat nr
-said_by offset (Unnumbered signal) = UFormat signal
+-- what is carried says this, by the clocks of the station
+abbrev pub said_by : Clocks → ApduContent → ApduMeaning
+said_by clocks (Information ns nr asdu) = IFormat ns nr (meaning_of clocks asdu)
+said_by clocks (Supervisory nr) = SFormat nr
+said_by clocks (Unnumbered signal) = UFormat signal
 
 -- the one APDU that is read, with nothing behind it
 abbrev pub only_one : List ApduContent → Ending → Option ApduContent
@@ -25,6 +26,6 @@ only_one (c ∷ []) (Open []) = Some c
 only_one _ _ = None
 
 -- octets that are one APDU say what it carries
-abbrev pub said : ℤ → ApduBuf → Option ApduMeaning
-said offset apdu =
-    let read = reading (take apdu.len apdu.octets) in option_map (said_by offset) (only_one read.apdus read.ending)
+abbrev pub said : Clocks → ApduBuf → Option ApduMeaning
+said clocks apdu =
+    let read = reading (take apdu.len apdu.octets) in option_map (said_by clocks) (only_one read.apdus read.ending)

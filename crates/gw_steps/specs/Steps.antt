@@ -2,7 +2,7 @@
 use Rattle.std.specs.Option.{option_to_list}
 use Rattle.std.specs.Prelude.{◌≡◌, ℕ, ◌+◌, ◌*◌, ◌^◌, Bool, true, false, ◌&&◌, nat_lt, List, [], ◌∷◌, ◌++◌, length, map, slice_get, Option, Some, None, option_map, Result, Ok, Err, IsTrue, if◌then◌else◌}
 use Rattle.gw_model.specs.declared.observation.Observation.{Observation}
-use Rattle.gw_map.specs.Settings.{Setup}
+use Rattle.gw_map.specs.Settings.{Setup, station_clocks}
 use Rattle.gw_model.specs.Places.{change}
 use Rattle.dnp_app.specs.Response.{Fragment}
 use Rattle.dnp_app.specs.declared.request.Request.{Request}
@@ -81,7 +81,7 @@ is_accepting s f = accepted_by f (slice_get s.outstations f.outstation)
 -- the news that a fragment brings
 abbrev pub news_of_fragment : Setup → State → Fragment → List Observation
 news_of_fragment setup s f =
-    if is_accepting s f then news_of setup.station.offset_minutes setup.rows s.picture f.reports else []
+    if is_accepting s f then news_of (station_clocks setup.station) setup.rows s.picture f.reports else []
 
 -- the observations of the loss of an outstation
 abbrev pub losses : Setup → State → ℕ → List Observation
@@ -218,7 +218,7 @@ reply_to setup s (steps.Frame c apdu moment) =
     client_reply (λ k. reply_of_event (event_of setup apdu k)) (slice_get s.clients c)
 reply_to setup s (steps.Pump c moment) =
     client_reply
-    (λ k. reply_giving (given setup.station.offset_minutes (latest s moment) k))
+    (λ k. reply_giving (given (station_clocks setup.station) (latest s moment) k))
     (slice_get s.clients c)
 
 -- a fault, or the reply where the counts can rise
@@ -310,9 +310,9 @@ outcomes_of_fragment s f = option_to_list (outcome_ended f.outstation (order_end
 abbrev pub parts_after_fragment : Setup → State → ℕ → Fragment → State
 parts_after_fragment setup s moment f = record s {
   outstations = change f.outstation (master_after_fragment moment f) s.outstations;
-  picture = picture_after setup.station.offset_minutes setup.rows s.picture f.reports;
+  picture = picture_after (station_clocks setup.station) setup.rows s.picture f.reports;
   clients = clients_told (outcomes_of_fragment s f)
-      (map (client_with_news (news_of setup.station.offset_minutes setup.rows s.picture f.reports)) s.clients);
+      (map (client_with_news (news_of (station_clocks setup.station) setup.rows s.picture f.reports)) s.clients);
   controls = controls_with_ended f.outstation (order_ended s f) s.controls;
 }
 
@@ -356,7 +356,7 @@ parts_after setup s moment (steps.ClientDown c _) = record s {
 }
 parts_after setup s moment (steps.Frame c apdu _) = parts_after_frame setup s moment c apdu
 parts_after setup s moment (steps.Pump c _) =
-    record s { clients = change c (client_after_pump setup.station.offset_minutes moment) s.clients }
+    record s { clients = change c (client_after_pump (station_clocks setup.station) moment) s.clients }
 
 abbrev pub after : Setup → State → Step → State
 after setup s step = record (parts_after setup s (latest s (moment_of step)) step) {

@@ -84,7 +84,7 @@ pub fn memory_by_example()
 {}
 
 /// What is put out in runs, and what becomes of their fragments.
-#[tactic(auto, unfolding(gw_time::specs::Spelling::tag_showing, gw_time::specs::Spelling::date_after, iec_asdu::specs::Spelling::list_spelling, iec_asdu::specs::Packing::packed_spelling, iec_asdu::specs::Packing::taken_of, iec_asdu::specs::Packing::is_in_sequence, iec_asdu::specs::Packing::in_sequence_count, iec_asdu::specs::Packing::apart_count, iec_asdu::specs::Packing::alike_count, iec_asdu::specs::Packing::consecutive_count))]
+#[tactic(auto, unfolding(gw_map::specs::Settings::station_clocks, gw_time::specs::Spelling::tag_showing, gw_time::specs::Spelling::date_after, iec_asdu::specs::Spelling::list_spelling, iec_asdu::specs::Packing::packed_spelling, iec_asdu::specs::Packing::taken_of, iec_asdu::specs::Packing::is_in_sequence, iec_asdu::specs::Packing::in_sequence_count, iec_asdu::specs::Packing::apart_count, iec_asdu::specs::Packing::alike_count, iec_asdu::specs::Packing::consecutive_count))]
 pub fn runs_by_example()
     // STARTDT con comes first; a second STARTDT act is confirmed too.
     ensures confirmation { outcome setup (reached starting) pump

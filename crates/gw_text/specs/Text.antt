@@ -2,7 +2,7 @@
 use Rattle.std.specs.Prelude.{ℕ, List, [], ◌∷◌, ◌++◌, Option, Some, None, codes}
 use Rattle.std.specs.Fmt.{decimal}
 use Rattle.gw_model.specs.declared.observation.Observation.{Observation}
-use Rattle.gw_map.specs.Settings.{Setup}
+use Rattle.gw_map.specs.Settings.{Setup, station_clocks}
 use Rattle.dnp_objects.specs.declared.fault.HeaderFault.{HeaderFault}
 use Rattle.dnp_objects.specs.declared.fault.HeaderFault.TheVariants.{UnknownObject, UnknownQualifier, ShortRange, StopBeforeStart, ShortData, TooMany, Memory as NoRoom}
 use Rattle.dnp_app.specs.declared.fault.AppFault.{AppFault}
@@ -21,7 +21,7 @@ confirm_lines (Some octets) = line_of (codes "confirm") octets
 
 -- the line of an observation: its ASDU, with the cause spontaneous (IEC 60870-5-101, 7.2.3)
 unfoldable pub asdu_line : Setup → Observation → List ℕ
-asdu_line setup x = line_of (codes "asdu") (spelling setup.station.offset_minutes 3 x)
+asdu_line setup x = line_of (codes "asdu") (spelling (station_clocks setup.station) 3 x)
 
 -- a line for each observation
 abbrev pub asdu_lines : Setup → List Observation → List ℕ

@@ -2,6 +2,7 @@
 use Rattle.std.specs.Prelude.{◌≡◌, ℕ, List, take, Option, Some, None, Ok}
 use Rattle.std.specs.List.{AllByRecursion}
 use Rattle.std.specs.Io.KnownBytes.{Appends}
+use Rattle.gw_map.specs.Settings.{station_clocks}
 use Rattle.iec_apci.specs.declared.buffer.ApduBuf.{ApduBuf}
 use Rattle.gw_steps.specs.declared.step.Reply.TheVariants.{Apdu}
 pub use Rattle.gw_shared.specs.Pumping.{IsPumped}
@@ -41,7 +42,7 @@ gathered_by pumps.More = gathering.More
 -- there
 pub record IsPutOut (client : ℕ) (apdu : ApduBuf) : Type 0 where
   pub pumped : IsPumped client (Ok (Apdu apdu))
-  pub fit : CarriesFit pumped.setup.station.offset_minutes apdu
+  pub fit : CarriesFit (station_clocks pumped.setup.station) apdu
 
 -- the writer took the octets of APDUs, each one that is put out so
 pub record Wrote (client : ℕ) (before after : Option (List ℕ)) : Type 0 where

@@ -7,7 +7,8 @@ use Rattle.gw_model.specs.declared.point.Stamp.{Stamp}
 use Rattle.gw_model.specs.declared.point.Stamp.TheVariants.{Untimed, At, Doubtful}
 use Rattle.gw_model.specs.Fit.{IsIn21stCentury, IsInWindow}
 use Rattle.gw_time.specs.Tag.{midnight}
-use Rattle.gw_time.specs.Window.{shown_at, HasTag, IsFrom2000To2099}
+use Rattle.gw_model.specs.Clocks.{Clocks, shown_at}
+use Rattle.gw_time.specs.Window.{HasTag, IsFrom2000To2099}
 use Rattle.gw_time.proofs.Calendar.{days_to_2000, days_to_2100, from_2000, before_2100, year_from_2000, year_before_2100}
 
 pub midnight_2000 : midnight (pos 2000) 1 1 ≡ pos 946_684_800_000
@@ -21,26 +22,26 @@ pub record IsShown (z : ℤ) : Type 0 where
   pub low : pos 946_684_800_000 ≤ℤ z
   pub high : z <ℤ pos 4_102_444_800_000
 
-pub shown_in_window : (offset : ℤ) (t : ℕ) → IsFrom2000To2099 offset t → IsShown (shown_at offset t)
-shown_in_window offset t h = record { low = rw midnight_2000 at h.from_2000; high = rw midnight_2100 at h.before_2100 }
+pub shown_in_window : (clocks : Clocks) (t : ℕ) → IsFrom2000To2099 clocks t → IsShown (shown_at clocks t)
+shown_in_window clocks t h = record { low = rw midnight_2000 at h.from_2000; high = rw midnight_2100 at h.before_2100 }
 
-pub window_of_shown : (offset : ℤ) (t : ℕ) → IsShown (shown_at offset t) → IsFrom2000To2099 offset t
-window_of_shown offset t h = record { from_2000 = rw midnight_2000 h.low; before_2100 = rw midnight_2100 h.high }
+pub window_of_shown : (clocks : Clocks) (t : ℕ) → IsShown (shown_at clocks t) → IsFrom2000To2099 clocks t
+window_of_shown clocks t h = record { from_2000 = rw midnight_2000 h.low; before_2100 = rw midnight_2100 h.high }
 
 -- the same years in the numbers of a fit observation
-pub window_is_century : (offset : ℤ) (t : ℕ) → IsFrom2000To2099 offset t ↔ IsIn21stCentury offset t
-window_is_century offset t = (
-  λ h. let s = shown_in_window offset t h in record { from_2000 = s.low; before_2100 = s.high },
-  λ h. window_of_shown offset t (record { low = h.from_2000; high = h.before_2100 }),
+pub window_is_century : (clocks : Clocks) (t : ℕ) → IsFrom2000To2099 clocks t ↔ IsIn21stCentury clocks t
+window_is_century clocks t = (
+  λ h. let s = shown_in_window clocks t h in record { from_2000 = s.low; before_2100 = s.high },
+  λ h. window_of_shown clocks t (record { low = h.from_2000; high = h.before_2100 }),
 )
 
-pub has_tag_is_in_window : (offset : ℤ) (stamp : Stamp)
-    → HasTag offset stamp ↔ (IsInWindow offset stamp × (stamp ≢ Untimed))
-has_tag_is_in_window offset Untimed = (λ h. absurd h, λ h. h.1 refl)
-has_tag_is_in_window offset (At t) =
-    (λ h. ((window_is_century offset t).0 h, λ e. absurd cc), λ h. (window_is_century offset t).1 h.0)
-has_tag_is_in_window offset (Doubtful t) =
-    (λ h. ((window_is_century offset t).0 h, λ e. absurd cc), λ h. (window_is_century offset t).1 h.0)
+pub has_tag_is_in_window : (clocks : Clocks) (stamp : Stamp)
+    → HasTag clocks stamp ↔ (IsInWindow clocks stamp × (stamp ≢ Untimed))
+has_tag_is_in_window clocks Untimed = (λ h. absurd h, λ h. h.1 refl)
+has_tag_is_in_window clocks (At t) =
+    (λ h. ((window_is_century clocks t).0 h, λ e. absurd cc), λ h. (window_is_century clocks t).1 h.0)
+has_tag_is_in_window clocks (Doubtful t) =
+    (λ h. ((window_is_century clocks t).0 h, λ e. absurd cc), λ h. (window_is_century clocks t).1 h.0)
 
 -- the same years by the civil date that clocks show
 day_bounds : (z day : ℤ) (time : ℕ) → time < 86400000 → z ≡ day *ℤ pos 86400000 +ℤ pos time → IsShown z
@@ -52,11 +53,11 @@ shown_bounds : (z day : ℤ) (time : ℕ) → time < 86400000 → z ≡ day *ℤ
 shown_bounds z day time small e low high =
     record { low = omega (arith, signed_arith); high = omega (arith, signed_arith) }
 
-pub window_is_of_years : (offset : ℤ) (t : ℕ) (y : ℤ) (m d time : ℕ) → IsCivilDate y m d → time < 86400000
-    → shown_at offset t ≡ midnight y m d +ℤ pos time → IsFrom2000To2099 offset t ↔ IsBetween (pos 2000) (pos 2099) y
-window_is_of_years offset t y m d time h small e = (
-  λ w. let b = day_bounds (shown_at offset t) (days_from_civil y m d) time small e (shown_in_window offset t w) in
+pub window_is_of_years : (clocks : Clocks) (t : ℕ) (y : ℤ) (m d time : ℕ) → IsCivilDate y m d → time < 86400000
+    → shown_at clocks t ≡ midnight y m d +ℤ pos time → IsFrom2000To2099 clocks t ↔ IsBetween (pos 2000) (pos 2099) y
+window_is_of_years clocks t y m d time h small e = (
+  λ w. let b = day_bounds (shown_at clocks t) (days_from_civil y m d) time small e (shown_in_window clocks t w) in
       (year_from_2000 y m d h b.0, year_before_2100 y m d h b.1),
-  λ b. window_of_shown offset t (shown_bounds (shown_at offset t) (days_from_civil y m d) time small e
+  λ b. window_of_shown clocks t (shown_bounds (shown_at clocks t) (days_from_civil y m d) time small e
       (from_2000 y m d b.0 h.2.0) (before_2100 y m d h b.1)),
 )

@@ -6,16 +6,19 @@ use Rattle.jiff_core.specs.Calendar.{IsBetween, days_from_civil}
 use Rattle.jiff_core.specs.Date.{epoch_day, IsYmd}
 use Rattle.jiff_core.specs.Time.{time_nanos}
 use Rattle.jiff_core.specs.DateTime.{civil_nanos}
-use Rattle.jiff_core.specs.Timestamp.{IsTimestampNanos}
+use Rattle.jiff_core.specs.Timestamp.{IsTimestampNanos, nanos_of_seconds}
 use Rattle.jiff_core.proofs.SignedLemmas.{signed_arith, one_part}
 use Rattle.jiff_core.proofs.DateLemmas.{civil}
 use Rattle.jiff_core.proofs.DateTimeLemmas.{civil_nanos-parts, time_nanos_bound}
 use Rattle.gw_time.specs.declared.binary_time.BinaryTime.{BinaryTime}
 use Rattle.gw_time.specs.Tag.{civil_year, time_of_day, civil_milliseconds}
-use Rattle.gw_time.specs.Window.{shown_at, IsFrom2000To2099}
+use Rattle.gw_model.specs.Clocks.{Clocks, is_summer, minutes_ahead, shown_at}
+use Rattle.gw_time.specs.Window.{IsFrom2000To2099}
 use Rattle.gw_time.specs.Spelling.{numbers_at}
 use Rattle.gw_time.proofs.Calendar.{from_2000, before_2100}
-use Rattle.gw_time.proofs.Century.{window_is_of_years}
+use Rattle.gw_time.specs.Laws.{AreStationClocks}
+use Rattle.gw_time.proofs.Century.{IsShown, shown_in_window, window_is_of_years}
+use Rattle.gw_time.proofs.Parts.{minutes_within}
 use Rattle.gw_time.proofs.Months.{numbers_are}
 use Rattle.gw_time.proofs.Spelled.{numbers}
 
@@ -34,11 +37,28 @@ time_bound : (dt : DateTime) → time_nanos dt.time / 1_000_000 < 86_400_000
 time_bound dt = omega (arith, time_nanos_bound dt.time)
 
 -- the window by the year that the clocks show
-pub window_is_of_shown : (offset : ℤ) (t : ℕ) (dt : DateTime) → civil_nanos dt ≡ shown_at offset t *ℤ pos 1_000_000
-    → IsFrom2000To2099 offset t ↔ IsBetween (pos 2000) (pos 2099) dt.date.year
-window_is_of_shown offset t dt e =
-    window_is_of_years offset t dt.date.year dt.date.month dt.date.day (time_nanos dt.time / 1_000_000) (civil dt.date)
-    (time_bound dt) (civil_parts dt (shown_at offset t) e)
+pub window_is_of_shown : (clocks : Clocks) (t : ℕ) (dt : DateTime) → civil_nanos dt ≡ shown_at clocks t *ℤ pos 1_000_000
+    → IsFrom2000To2099 clocks t ↔ IsBetween (pos 2000) (pos 2099) dt.date.year
+window_is_of_shown clocks t dt e =
+    window_is_of_years clocks t dt.date.year dt.date.month dt.date.day (time_nanos dt.time / 1_000_000) (civil dt.date)
+    (time_bound dt) (civil_parts dt (shown_at clocks t) e)
+
+-- what clocks show, in nanoseconds
+pub shown_nanos : (t : ℕ) (minutes seconds instant shown : ℤ) → instant ≡ pos (t * 1_000_000)
+    → seconds ≡ pos 60 *ℤ minutes → shown ≡ instant +ℤ nanos_of_seconds seconds
+    → shown ≡ (pos t +ℤ (pos 60000 *ℤ minutes)) *ℤ pos 1_000_000
+shown_nanos t minutes seconds instant shown e f g = omega (arith, signed_arith)
+
+-- in the window of years no instant is after the last one that has a timestamp
+not_beyond : (t : ℕ) (minutes : ℤ) → negsuc 839 ≤ℤ minutes → IsShown (pos t +ℤ (pos 60000 *ℤ minutes))
+    → t ≤ 253_402_207_200_999
+not_beyond t minutes from h = let high = h.high in omega (arith, signed_arith)
+
+pub shown_has_timestamp : (clocks : Clocks) (t : ℕ) → AreStationClocks clocks → IsFrom2000To2099 clocks t
+    → t ≤ 253_402_207_200_999
+shown_has_timestamp clocks t o h =
+    not_beyond t (minutes_ahead clocks (is_summer clocks t)) (minutes_within clocks (is_summer clocks t) o).0
+    (shown_in_window clocks t h)
 
 -- ---- a civil time as an instant
 
@@ -61,10 +81,10 @@ nanos_in_century dt low high =
     let b = nanos_between (epoch_day d) (time_nanos dt.time) (time_nanos_bound dt.time) day_low day_high in
     record { low = rw (civil_nanos-parts dt) b.0; high = rw (civil_nanos-parts dt) b.1 }
 
--- an instant in nanoseconds, where clocks are at most 840 minutes from UTC
+-- an instant in nanoseconds, where clocks are at most 840 minutes behind UTC and 900 ahead of it
 pub record IsNear (z offset instant : ℤ) : Type 0 where
   pub from : negsuc 839 ≤ℤ offset
-  pub to : offset ≤ℤ pos 840
+  pub to : offset ≤ℤ pos 900
   pub is : instant ≡ z -ℤ (pos 60_000_000_000 *ℤ offset)
 
 pub timestamp_range : (z offset instant : ℤ) → IsInCentury z → IsNear z offset instant → IsTimestampNanos instant
@@ -159,13 +179,14 @@ pub record HasNumbers (dt : DateTime) (x : BinaryTime) : Type 0 where
   pub low : pos 2000 ≤ℤ dt.date.year
   pub high : dt.date.year ≤ℤ pos 2099
 
-equal_numbers : (invalid : Bool) (a a₂ b b₂ c c₂ d d₂ e e₂ f : ℕ) → a ≡ a₂ → b ≡ b₂ → c ≡ c₂ → d ≡ d₂ → e ≡ e₂
-    → numbers invalid a b c d e f ≡ numbers invalid a₂ b₂ c₂ d₂ e₂ f
-equal_numbers invalid a a₂ b b₂ c c₂ d d₂ e e₂ f h i j k l = cc
+equal_numbers : (invalid summer : Bool) (a a₂ b b₂ c c₂ d d₂ e e₂ f : ℕ) → a ≡ a₂ → b ≡ b₂ → c ≡ c₂ → d ≡ d₂ → e ≡ e₂
+    → numbers invalid summer a b c d e f ≡ numbers invalid summer a₂ b₂ c₂ d₂ e₂ f
+equal_numbers invalid summer a a₂ b b₂ c c₂ d d₂ e e₂ f h i j k l = cc
 
 -- they are those of a clock that shows its milliseconds
 pub numbers_shown : (dt : DateTime) (x : BinaryTime) (n : ℕ) → HasNumbers dt x → civil_nanos dt ≡ pos n *ℤ pos 1_000_000
-    → numbers x.invalid x.milliseconds x.minute x.hour x.day x.month x.year ≡ numbers_at x.invalid n
+    → numbers x.invalid x.summer x.milliseconds x.minute x.hour x.day x.month x.year
+    ≡ numbers_at x.invalid x.summer n
 numbers_shown dt x n h e =
     let d = dt.date in
     let t = dt.time in
@@ -176,7 +197,7 @@ numbers_shown dt x n h e =
     time_parts n k.day t.hour t.minute t.second t.subsec_nanosecond t.hour_in t.minute_in t.second_in t.subsec_in
     count in
     let b = century_of n (rw (← e) (nanos_in_century dt h.low h.high)) in
-    let date = numbers_are x.invalid n x.year d b.0 b.1 (k.is ∙ ap (λ (i : ℕ). pos i) p.3) h.year in
-    equal_numbers x.invalid _ _ _ _ _ _ _ _ _ _ x.year (h.milliseconds ∙ p.0) (h.minute ∙ p.1)
+    let date = numbers_are x.invalid x.summer n x.year d b.0 b.1 (k.is ∙ ap (λ (i : ℕ). pos i) p.3) h.year in
+    equal_numbers x.invalid x.summer _ _ _ _ _ _ _ _ _ _ x.year (h.milliseconds ∙ p.0) (h.minute ∙ p.1)
     (h.hour ∙ p.2) h.day h.month
     ∙ date

@@ -1,7 +1,9 @@
 pub mod Calendar
 pub mod Century
 pub mod Parts
+pub mod Rules
 pub mod Round
 pub mod Months
 pub mod Spelled
 pub mod Clocks
+pub mod Written

@@ -130,28 +130,29 @@ date_is date day low high e =
 
 -- ---- the numbers
 
-abbrev numbers_of : Bool → ℕ → ℕ → ℕ → ℕ → BinaryTime
-numbers_of invalid shown year month day = record {
+abbrev numbers_of : Bool → Bool → ℕ → ℕ → ℕ → ℕ → BinaryTime
+numbers_of invalid summer shown year month day = record {
   milliseconds = shown % 60000;
   minute = shown / 60000 % 60;
   invalid = invalid;
+  summer = summer;
   hour = shown / 3600000 % 24;
   day = day;
   month = month;
   year = year;
 }
 
-numbers_same : (shown : ℕ) (invalid : Bool) (y y₂ m m₂ d d₂ : ℕ) → y ≡ y₂ → m ≡ m₂ → d ≡ d₂
-    → numbers_of invalid shown y m d ≡ numbers_of invalid shown y₂ m₂ d₂
-numbers_same shown invalid y y₂ m m₂ d d₂ ey em ed = cc
+numbers_same : (shown : ℕ) (invalid summer : Bool) (y y₂ m m₂ d d₂ : ℕ) → y ≡ y₂ → m ≡ m₂ → d ≡ d₂
+    → numbers_of invalid summer shown y m d ≡ numbers_of invalid summer shown y₂ m₂ d₂
+numbers_same shown invalid summer y y₂ m m₂ d d₂ ey em ed = cc
 
 -- the numbers of a clock with its date
-pub numbers_are : (invalid : Bool) (shown year : ℕ) (date : Date) → 946684800000 ≤ shown → shown < 4102444800000
+pub numbers_are : (invalid summer : Bool) (shown year : ℕ) (date : Date) → 946684800000 ≤ shown → shown < 4102444800000
     → epoch_day date ≡ pos (shown / 86400000) → pos (2000 + year) ≡ date.year
-    → numbers_of invalid shown year date.month date.day ≡ numbers_at invalid shown
-numbers_are invalid shown year date low high e y =
+    → numbers_of invalid summer shown year date.month date.day ≡ numbers_at invalid summer shown
+numbers_are invalid summer shown year date low high e y =
     let d = date_is date (shown / 86400000) (omega arith) (omega arith) e in
-    numbers_same shown invalid _ _ _ _ _ _ (omega (arith, signed_arith, d.0, y)) d.1 d.2
+    numbers_same shown invalid summer _ _ _ _ _ _ (omega (arith, signed_arith, d.0, y)) d.1 d.2
 
 -- ---- the tag
 
@@ -174,17 +175,17 @@ is_shown n e =
     record { low = omega (arith, signed_arith); high = omega (arith, signed_arith) }
 
 -- no tag shows what is before 2000, or from 2100 on
-pub outside : (invalid : Bool) (z : ℤ) → (IsShown z → ⊥) → tag_showing invalid z ≡ None
+pub outside : (invalid summer : Bool) (z : ℤ) → (IsShown z → ⊥) → tag_showing invalid summer z ≡ None
 unfolding tag_showing
-outside invalid (negsuc n) h = refl
-outside invalid (pos n) h = not_chosen _ _ (λ e. h (is_shown n e))
+outside invalid summer (negsuc n) h = refl
+outside invalid summer (pos n) h = not_chosen _ _ (λ e. h (is_shown n e))
 
-inside_at : (invalid : Bool) (n : ℕ) → 946684800000 ≤ n → n < 4102444800000
-    → tag_showing invalid (pos n) ≡ Some (octets_of (numbers_at invalid n))
+inside_at : (invalid summer : Bool) (n : ℕ) → 946684800000 ≤ n → n < 4102444800000
+    → tag_showing invalid summer (pos n) ≡ Some (octets_of (numbers_at invalid summer n))
 unfolding tag_showing
-inside_at invalid n low high = chosen _ _ (and_from _ _ (le-leb _ _ low) (lt-ltb _ _ high))
+inside_at invalid summer n low high = chosen _ _ (and_from _ _ (le-leb _ _ low) (lt-ltb _ _ high))
 
 -- the tag of what a clock shows
-pub inside : (invalid : Bool) (z : ℤ) (n : ℕ) → pos n ≡ z → 946684800000 ≤ n → n < 4102444800000
-    → tag_showing invalid z ≡ Some (octets_of (numbers_at invalid n))
-inside invalid z n e low high = ap (tag_showing invalid) (sym e) ∙ inside_at invalid n low high
+pub inside : (invalid summer : Bool) (z : ℤ) (n : ℕ) → pos n ≡ z → 946684800000 ≤ n → n < 4102444800000
+    → tag_showing invalid summer z ≡ Some (octets_of (numbers_at invalid summer n))
+inside invalid summer z n e low high = ap (tag_showing invalid summer) (sym e) ∙ inside_at invalid summer n low high

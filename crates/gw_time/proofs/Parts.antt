@@ -1,15 +1,17 @@
 -- What a tag that means a stamp is made of.
-use Rattle.std.proofs.Common.{◌≡◌, ℕ, ◌<◌, Bool, true, false, ◌&&◌, nat_lt, nat_le, if◌then◌else◌, refl, arith, ℤ, pos, ◌+ℤ◌, ◌-ℤ◌, ◌*ℤ◌, ◌<ℤ◌, ◌≤ℤ◌, List, Result, Ok, Err}
+use Rattle.std.proofs.Common.{◌≡◌, ℕ, ◌<◌, Bool, true, false, ◌&&◌, nat_lt, nat_le, if◌then◌else◌, refl, arith, ℤ, pos, negsuc, ◌+ℤ◌, ◌-ℤ◌, ◌*ℤ◌, ◌<ℤ◌, ◌≤ℤ◌, List, Result, Ok, Err}
+use Rattle.std.specs.Prelude.{unsigned_abs}
 use Rattle.std.proofs.lemmas.Bool.{and_parts}
 use Rattle.std.proofs.lemmas.Bool.Decides.{nat_tests}
 use Rattle.jiff_core.specs.Calendar.{days_in_month, IsCivilDate}
 use Rattle.jiff_core.proofs.SignedLemmas.{signed_arith, one_part}
 use Rattle.gw_model.specs.declared.point.Stamp.{Stamp}
+use Rattle.gw_model.specs.Clocks.{Clocks, minutes_ahead}
 use Rattle.gw_time.specs.declared.fault.TagFault.{TagFault}
 use Rattle.gw_time.specs.declared.fault.TagFault.TheVariants.{Field, Date}
 use Rattle.gw_time.specs.declared.binary_time.BinaryTime.{BinaryTime}
-use Rattle.gw_time.specs.Tag.{is_in_range, has_day, civil_year, time_of_day, civil_milliseconds, stamp_of, instant_of, tag_meaning, numbers_in}
-use Rattle.gw_time.specs.Laws.{IsOffset}
+use Rattle.gw_time.specs.Tag.{is_in_range, has_day, civil_year, time_of_day, civil_milliseconds, stamp_of, is_of_summer, instant_of, tag_meaning, numbers_in}
+use Rattle.gw_time.specs.Laws.{AreStationClocks}
 use Rattle.gw_time.proofs.Calendar.{from_2000, before_2100}
 
 -- the numbers of a civil time
@@ -52,16 +54,16 @@ civil_time_of x range day =
     }
 
 -- a tag that means a stamp has the numbers of a civil time, and the stamp is that of its instant
-pub record Means (offset : ℤ) (x : BinaryTime) (stamp : Stamp) : Type 0 where
+pub record Means (clocks : Clocks) (x : BinaryTime) (stamp : Stamp) : Type 0 where
   pub civil : IsCivilTime x
-  pub stamp_is : stamp_of x.invalid (instant_of offset x) ≡ stamp
+  pub stamp_is : stamp_of x.invalid (instant_of clocks x) ≡ stamp
 
-pub parts_of : (offset : ℤ) (octets : List ℕ) (stamp : Stamp) → tag_meaning offset octets ≡ Ok stamp
-    → Means offset (numbers_in octets) stamp
+pub parts_of : (clocks : Clocks) (octets : List ℕ) (stamp : Stamp) → tag_meaning clocks octets ≡ Ok stamp
+    → Means clocks (numbers_in octets) stamp
 unfolding tag_meaning
-parts_of offset octets stamp e =
+parts_of clocks octets stamp e =
     let x = numbers_in octets in
-    let p = chosen (is_in_range x) (has_day x) (stamp_of x.invalid (instant_of offset x)) stamp e in
+    let p = chosen (is_in_range x) (has_day x) (stamp_of x.invalid (instant_of clocks x)) stamp e in
     record { civil = civil_time_of x p.0 p.1; stamp_is = p.2 }
 
 -- a time of day is less than a day
@@ -77,10 +79,25 @@ civil_bounds x h =
     let within = time_of_day_bound x h in
     (omega (arith, signed_arith), omega (arith, signed_arith))
 
--- at the instant the clocks show the civil time
-pub instant_shows : (offset : ℤ) (x : BinaryTime) → IsOffset offset → IsCivilTime x
-    → pos (instant_of offset x) +ℤ (pos 60000 *ℤ offset) ≡ civil_milliseconds x
-instant_shows offset x o h =
-    let b = civil_bounds x h in
-    let one = one_part (civil_milliseconds x -ℤ (pos 60000 *ℤ offset)) in
-    omega (arith, signed_arith)
+-- the clocks are at most 840 minutes behind UTC, and 900 ahead of it, with summer time
+pub minutes_within : (clocks : Clocks) (summer : Bool) → AreStationClocks clocks
+    → (negsuc 839 ≤ℤ minutes_ahead clocks summer) × (minutes_ahead clocks summer ≤ℤ pos 900)
+minutes_within clocks true o =
+    let from = o.from in
+    let to = o.to in
+    (omega (arith, signed_arith), omega (arith, signed_arith))
+minutes_within clocks false o =
+    let from = o.from in
+    let to = o.to in
+    (omega (arith, signed_arith), omega (arith, signed_arith))
+
+shows : (minutes z : ℤ) → negsuc 839 ≤ℤ minutes → minutes ≤ℤ pos 900 → pos 946684800000 ≤ℤ z
+    → pos (unsigned_abs (z -ℤ (pos 60000 *ℤ minutes))) +ℤ (pos 60000 *ℤ minutes) ≡ z
+shows minutes z from to low = let one = one_part (z -ℤ (pos 60000 *ℤ minutes)) in omega (arith, signed_arith)
+
+-- clocks as many minutes ahead as the tag says show the civil time at its instant
+pub instant_shows : (clocks : Clocks) (x : BinaryTime) → AreStationClocks clocks → IsCivilTime x
+    → pos (instant_of clocks x) +ℤ (pos 60000 *ℤ minutes_ahead clocks (is_of_summer clocks x)) ≡ civil_milliseconds x
+instant_shows clocks x o h =
+    let m = minutes_within clocks (is_of_summer clocks x) o in
+    shows (minutes_ahead clocks (is_of_summer clocks x)) (civil_milliseconds x) m.0 m.1 (civil_bounds x h).0

@@ -1,5 +1,5 @@
 -- Tags that mean one stamp.
-use Rattle.std.proofs.Common.{◌≡◌, ℕ, ◌+◌, ◌*◌, ◌/◌, ◌%◌, ◌<◌, ◌==◌, Bool, true, false, refl, ap, sym, ◌∙◌, arith, ℤ, pos, ◌+ℤ◌, ◌*ℤ◌, List, slice_index, Ok}
+use Rattle.std.proofs.Common.{◌≡◌, ℕ, ◌+◌, ◌*◌, ◌/◌, ◌%◌, ◌<◌, ◌==◌, ◌&&◌, Bool, true, false, refl, ap, sym, ◌∙◌, arith, ℤ, pos, ◌+ℤ◌, ◌*ℤ◌, List, slice_index, Ok}
 use Rattle.std.proofs.lemmas.Bool.Decides.{nat_tests}
 use Rattle.jiff_core.specs.declared.civil.date.Date as date
 use Rattle.jiff_core.specs.Calendar.{days_from_civil, IsCivilDate}
@@ -7,31 +7,42 @@ use Rattle.jiff_core.proofs.SignedLemmas.{signed_arith}
 use Rattle.jiff_core.proofs.DateLemmas.{epoch_day_injective}
 use Rattle.gw_model.specs.declared.point.Stamp.{Stamp}
 use Rattle.gw_time.specs.declared.binary_time.BinaryTime.{BinaryTime}
-use Rattle.gw_time.specs.Tag.{civil_year, time_of_day, civil_milliseconds, stamp_of, instant_of, tag_meaning, numbers_in, plain}
-use Rattle.gw_time.specs.Window.{HasTag, IsFrom2000To2099, shown_at}
-use Rattle.gw_time.specs.Laws.{IsOffset, AreSevenOctets}
+use Rattle.gw_model.specs.Clocks.{Clocks, tells_summer, is_summer, minutes_ahead, shown_at}
+use Rattle.gw_time.specs.Tag.{civil_year, time_of_day, civil_milliseconds, stamp_of, is_of_summer, instant_of, tag_meaning, numbers_in, kept_summer, plain}
+use Rattle.gw_time.specs.Window.{HasTag, IsFrom2000To2099}
+use Rattle.gw_time.specs.Laws.{AreStationClocks, IsByTheClocks, AreSevenOctets}
 use Rattle.gw_time.proofs.Century.{window_of_shown}
 use Rattle.gw_time.proofs.Parts.{IsCivilTime, Means, parts_of, time_of_day_bound, civil_bounds, instant_shows}
 
 -- ---- what a tag means has a tag
 
-in_window : (offset : ℤ) (x : BinaryTime) → IsOffset offset → IsCivilTime x
-    → IsFrom2000To2099 offset (instant_of offset x)
-in_window offset x o h =
-    let b = civil_bounds x h in
-    let e = instant_shows offset x o h in
-    window_of_shown offset (instant_of offset x) (record { low = rw e b.0; high = rw e b.1 })
-
-has_tag : (offset : ℤ) (invalid : Bool) (t : ℕ) → IsFrom2000To2099 offset t → HasTag offset (stamp_of invalid t)
-has_tag offset true t h = h
-has_tag offset false t h = h
-
-pub meaning_has_tag : (offset : ℤ) (octets : List ℕ) (stamp : Stamp) → IsOffset offset
-    → tag_meaning offset octets ≡ Ok stamp → HasTag offset stamp
-meaning_has_tag offset octets stamp o e =
+-- at its instant the clocks show the civil time, if they are as far ahead as the tag says
+shows_then : (clocks : Clocks) (octets : List ℕ) → AreStationClocks clocks → IsCivilTime (numbers_in octets)
+    → IsByTheClocks clocks octets
+    → shown_at clocks (instant_of clocks (numbers_in octets)) ≡ civil_milliseconds (numbers_in octets)
+shows_then clocks octets o h by =
     let x = numbers_in octets in
-    let m = parts_of offset octets stamp e in
-    rw (← m.stamp_is) (has_tag offset x.invalid (instant_of offset x) (in_window offset x o m.civil))
+    let t = instant_of clocks x in
+    ap (λ (b : Bool). pos t +ℤ (pos 60000 *ℤ minutes_ahead clocks b)) (sym by.summer) ∙ instant_shows clocks x o h
+
+in_window : (clocks : Clocks) (octets : List ℕ) → AreStationClocks clocks → IsCivilTime (numbers_in octets)
+    → IsByTheClocks clocks octets → IsFrom2000To2099 clocks (instant_of clocks (numbers_in octets))
+in_window clocks octets o h by =
+    let x = numbers_in octets in
+    let b = civil_bounds x h in
+    let e = shows_then clocks octets o h by in
+    window_of_shown clocks (instant_of clocks x) (record { low = rw e b.0; high = rw e b.1 })
+
+has_tag : (clocks : Clocks) (invalid : Bool) (t : ℕ) → IsFrom2000To2099 clocks t → HasTag clocks (stamp_of invalid t)
+has_tag clocks true t h = h
+has_tag clocks false t h = h
+
+pub meaning_has_tag : (clocks : Clocks) (octets : List ℕ) (stamp : Stamp) → AreStationClocks clocks
+    → IsByTheClocks clocks octets → tag_meaning clocks octets ≡ Ok stamp → HasTag clocks stamp
+meaning_has_tag clocks octets stamp o by e =
+    let x = numbers_in octets in
+    let m = parts_of clocks octets stamp e in
+    rw (← m.stamp_is) (has_tag clocks x.invalid (instant_of clocks x) (in_window clocks octets o m.civil by))
 
 -- ---- two tags that mean one stamp
 
@@ -67,12 +78,15 @@ pub record SameNumbers (x y : BinaryTime) : Type 0 where
   pub month : x.month ≡ y.month
   pub year : x.year ≡ y.year
 
-same_numbers : (offset : ℤ) (x y : BinaryTime) (stamp : Stamp) → IsOffset offset → Means offset x stamp
-    → Means offset y stamp → SameNumbers x y
-same_numbers offset x y stamp o m n =
-    let s = same_stamp x.invalid y.invalid (instant_of offset x) (instant_of offset y) (m.stamp_is ∙ sym n.stamp_is) in
+same_numbers : (clocks : Clocks) (x y : BinaryTime) (stamp : Stamp) → AreStationClocks clocks → Means clocks x stamp
+    → Means clocks y stamp → is_of_summer clocks x ≡ is_of_summer clocks y → SameNumbers x y
+same_numbers clocks x y stamp o m n summer =
+    let s = same_stamp x.invalid y.invalid (instant_of clocks x) (instant_of clocks y) (m.stamp_is ∙ sym n.stamp_is) in
     let civil : civil_milliseconds x ≡ civil_milliseconds y =
-    sym (instant_shows offset x o m.civil) ∙ ap (λ (t : ℕ). shown_at offset t) s.1 ∙ instant_shows offset y o n.civil in
+    sym (instant_shows clocks x o m.civil)
+    ∙ ap (λ (t : ℕ). pos t +ℤ (pos 60000 *ℤ minutes_ahead clocks (is_of_summer clocks x))) s.1
+    ∙ ap (λ (b : Bool). pos (instant_of clocks y) +ℤ (pos 60000 *ℤ minutes_ahead clocks b)) summer
+    ∙ instant_shows clocks y o n.civil in
     let p = same_day_and_time _ _ _ _ (time_of_day_bound x m.civil) (time_of_day_bound y n.civil) civil in
     let d = same_date (civil_year x) x.month x.day (civil_year y) y.month y.day m.civil.date n.civil.date p.0 in
     let t = same_time_of_day x y m.civil n.civil p.1 in
@@ -93,26 +107,49 @@ low_octet a b c d h k e = (omega arith, omega arith)
 high_bit : (a b : ℕ) → a < 256 → b < 256 → (a / 128 % 2 == 1) ≡ (b / 128 % 2 == 1) → a / 128 ≡ b / 128
 high_bit a b h k e = grind (arith, nat_tests)
 
-same_octets : (a b : List ℕ) → AreSevenOctets a → AreSevenOctets b → SameNumbers (numbers_in a) (numbers_in b)
-    → plain a ≡ plain b
-same_octets a b h k s =
+-- SU is the same where it is kept
+same_summer : (tells : Bool) (a b : ℕ) → a < 256 → b < 256
+    → (tells && (a / 128 % 2 == 1)) ≡ (tells && (b / 128 % 2 == 1)) → kept_summer tells a ≡ kept_summer tells b
+same_summer true a b h k e = ap (λ (n : ℕ). n * 128) (high_bit a b h k e)
+same_summer false a b h k e = refl
+
+same_octets : (clocks : Clocks) (a b : List ℕ) → AreSevenOctets a → AreSevenOctets b
+    → SameNumbers (numbers_in a) (numbers_in b)
+    → is_of_summer clocks (numbers_in a) ≡ is_of_summer clocks (numbers_in b) → plain clocks a ≡ plain clocks b
+same_octets clocks a b h k s summer =
     let l = low_octet (slice_index a 0) (slice_index a 1) (slice_index b 0) (slice_index b 1) (h.octet 0)
     (k.octet 0) s.milliseconds in
     let v = high_bit (slice_index a 2) (slice_index b 2) (h.octet 2) (k.octet 2) s.invalid in
-    rw (l.0, l.1, v, s.minute, s.hour, s.day, s.month, s.year)
+    let u = same_summer (tells_summer clocks) (slice_index a 3) (slice_index b 3) (h.octet 3) (k.octet 3) summer in
+    rw (l.0, l.1, v, u, s.minute, s.hour, s.day, s.month, s.year)
 
-pub one_tag_for : (offset : ℤ) (a b : List ℕ) (stamp : Stamp) → IsOffset offset → AreSevenOctets a → AreSevenOctets b
-    → tag_meaning offset a ≡ Ok stamp → tag_meaning offset b ≡ Ok stamp → plain a ≡ plain b
-one_tag_for offset a b stamp o h k e f =
-    same_octets a b h k
-    (same_numbers offset (numbers_in a) (numbers_in b) stamp o (parts_of offset a stamp e) (parts_of offset b stamp f))
+pub one_tag_for : (clocks : Clocks) (a b : List ℕ) (stamp : Stamp) → AreStationClocks clocks → AreSevenOctets a
+    → AreSevenOctets b → tag_meaning clocks a ≡ Ok stamp → tag_meaning clocks b ≡ Ok stamp
+    → is_of_summer clocks (numbers_in a) ≡ is_of_summer clocks (numbers_in b) → plain clocks a ≡ plain clocks b
+one_tag_for clocks a b stamp o h k e f summer =
+    same_octets clocks a b h k
+    (same_numbers clocks (numbers_in a) (numbers_in b) stamp o (parts_of clocks a stamp e) (parts_of clocks b stamp f)
+    summer) summer
+
+-- two tags by the clocks, of one stamp, are both of summer time or both not
+pub both_of_summer : (clocks : Clocks) (a b : List ℕ) (stamp : Stamp) → tag_meaning clocks a ≡ Ok stamp
+    → tag_meaning clocks b ≡ Ok stamp → IsByTheClocks clocks a → IsByTheClocks clocks b
+    → is_of_summer clocks (numbers_in a) ≡ is_of_summer clocks (numbers_in b)
+both_of_summer clocks a b stamp e f by_a by_b =
+    let x = numbers_in a in
+    let y = numbers_in b in
+    let m = parts_of clocks a stamp e in
+    let n = parts_of clocks b stamp f in
+    let s = same_stamp x.invalid y.invalid (instant_of clocks x) (instant_of clocks y) (m.stamp_is ∙ sym n.stamp_is) in
+    by_a.summer ∙ ap (is_summer clocks) s.1 ∙ sym by_b.summer
 
 -- ---- what clocks show at the instant that a tag means
 
-pub clocks_show : (offset : ℤ) (octets : List ℕ) (invalid : Bool) (t : ℕ) → IsOffset offset
-    → tag_meaning offset octets ≡ Ok (stamp_of invalid t) → shown_at offset t ≡ civil_milliseconds (numbers_in octets)
-clocks_show offset octets invalid t o e =
+pub clocks_show : (clocks : Clocks) (octets : List ℕ) (invalid : Bool) (t : ℕ) → AreStationClocks clocks
+    → IsByTheClocks clocks octets → tag_meaning clocks octets ≡ Ok (stamp_of invalid t)
+    → shown_at clocks t ≡ civil_milliseconds (numbers_in octets)
+clocks_show clocks octets invalid t o by e =
     let x = numbers_in octets in
-    let m = parts_of offset octets (stamp_of invalid t) e in
-    let s = same_stamp x.invalid invalid (instant_of offset x) t m.stamp_is in
-    ap (λ (t : ℕ). shown_at offset t) (sym s.1) ∙ instant_shows offset x o m.civil
+    let m = parts_of clocks octets (stamp_of invalid t) e in
+    let s = same_stamp x.invalid invalid (instant_of clocks x) t m.stamp_is in
+    ap (λ (t : ℕ). shown_at clocks t) (sym s.1) ∙ shows_then clocks octets o m.civil by

@@ -1,4 +1,5 @@
 pub mod Tag
+pub mod Rule
 pub mod Window
 pub mod Spelling
 pub mod Example

@@ -14,6 +14,8 @@ pub struct BinaryTime {
     pub minute: u8,
     /// IV: the time is in doubt.
     pub invalid: bool,
+    /// SU: the time is one of summer time.
+    pub summer: bool,
     pub hour: u8,
     /// Day of month.
     pub day: u8,
@@ -26,7 +28,7 @@ impl BinaryTime {
     ghost use Rattle.gw_time.specs.Tag.{numbers_in, is_in_range, has_day, civil_year, time_of_day, civil_milliseconds};
     ghost use Rattle.gw_time.specs.Spelling.{numbers_at, octets_of};
 
-    /// The numbers in seven octets. SU, the day of week and the reserved bits are not looked at.
+    /// The numbers in seven octets. The day of week and the reserved bits are not looked at.
     pub fn read(tag: &[u8; 7]) -> BinaryTime
         ensures { result ≡ numbers_in tag.now }
     {
@@ -35,6 +37,7 @@ impl BinaryTime {
             milliseconds: u16::from_le_bytes([low, high]),
             minute: minute % 64,
             invalid: minute / 128 % 2 == 1,
+            summer: hour / 128 % 2 == 1,
             hour: hour % 32,
             day: day % 32,
             month: month % 16,
@@ -44,14 +47,14 @@ impl BinaryTime {
 
     /// The octets that have these numbers, and no other bit set.
     pub fn octets(&self) -> [u8; 7]
-        requires { self.now.minute < 64 }
+        requires minute { self.now.minute < 64 }
+        requires hour { self.now.hour < 32 }
         ensures { result ≡ octets_of self.now }
     {
         let [low, high] = self.milliseconds.to_le_bytes();
         let minute = self.minute + 128 * u8::from(self.invalid);
-        [
-            low, high, minute, self.hour, self.day, self.month, self.year,
-        ]
+        let hour = self.hour + 128 * u8::from(self.summer);
+        [low, high, minute, hour, self.day, self.month, self.year]
     }
 
     /// Each number but the day of month is one that a clock or a calendar shows.
@@ -100,12 +103,13 @@ impl BinaryTime {
     }
 
     /// The numbers that show a civil time of whole milliseconds.
-    pub fn showing(shown: DateTime, invalid: bool) -> BinaryTime
+    pub fn showing(shown: DateTime, invalid: bool, summer: bool) -> BinaryTime
         requires low { pos 2000 ≤ℤ shown.date.year }
         requires high { shown.date.year ≤ℤ pos 2099 }
         ensures minute { result.minute < 64 }
+        ensures hour { result.hour < 32 }
         ensures numbers { (n : ℕ) → civil_nanos shown ≡ pos n *ℤ pos 1_000_000
-            → result ≡ numbers_at invalid n }
+            → result ≡ numbers_at invalid summer n }
     {
         let (milliseconds, minute, hour) = numbers_of_time(shown.time());
         let (day, month, year) = numbers_of_date(shown.date());
@@ -113,6 +117,7 @@ impl BinaryTime {
             milliseconds,
             minute,
             invalid,
+            summer,
             hour,
             day,
             month,

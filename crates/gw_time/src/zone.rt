@@ -1,57 +1,115 @@
-//! The offset of civil time.
-ghost use Rattle.std.specs.Prelude.{◌≡◌, ◌↔◌, ◌≤◌, ◌*◌, ℤ, pos, negsuc, ◌≤ℤ◌, ◌-ℤ◌, ◌*ℤ◌, IsSome, IfSome};
+//! The clocks of the station.
+ghost use Rattle.std.specs.Prelude.{◌≡◌, ◌↔◌, ◌≤◌, ◌*◌, ℕ, ℤ, pos, negsuc, ◌≤ℤ◌, ◌-ℤ◌, ◌*ℤ◌, ◌&&◌, IsSome, IfSome};
 ghost use Rattle.jiff_core.specs.DateTime.{civil_nanos};
-ghost use Rattle.gw_time.specs.Window.{shown_at, IsFrom2000To2099};
+ghost use Rattle.jiff_tz.specs.PosixRule.{int_same};
 
 use jiff::Timestamp;
 use jiff::civil::DateTime;
 use jiff::tz::Offset;
+use jiff_tz::posix;
 
 /// The last instant that clocks show at every offset, in milliseconds since 1970: it is in the year 9999.
 const LAST_INSTANT: u64 = 253_402_207_200_999;
 
-/// How many minutes the clocks of the station are ahead of UTC, from -840 to 840.
-#[derive(Clone, Copy, Debug, PartialEq, Eq)]
+/// How many minutes the clocks of the station are ahead of UTC outside of summer time, from -840 to 840; and the rule for
+/// summer time, if there is one: where by it they are 60 minutes further ahead, they show summer time.
+#[derive(Clone, Copy)]
 pub struct Zone {
     pub offset_minutes: i16,
+    pub rule: Option<posix::TimeZone>,
     pub ghost from: { negsuc 839 ≤ℤ offset_minutes },
     pub ghost to: { offset_minutes ≤ℤ pos 840 },
 }
 
-impl Zone {
-    /// Coordinated universal time.
-    pub const UTC: Zone = Zone { offset_minutes: 0 };
+/// A civil time, and whether it is one of summer time.
+#[derive(Clone, Copy)]
+pub(crate) struct ShownTime {
+    pub civil: DateTime,
+    pub summer: bool,
+}
 
-    /// How far the clocks are ahead of UTC.
-    fn offset(&self) -> Offset
-        ensures { result.seconds ≡ pos 60 *ℤ self.now.offset_minutes }
+impl Zone {
+    ghost use Rattle.gw_model.specs.Clocks.{tells_summer, minutes_ahead, is_summer, shown_at};
+    ghost use Rattle.gw_time.specs.Rule.{clocks_of};
+    ghost use Rattle.gw_time.specs.Window.{IsFrom2000To2099};
+
+    /// Coordinated universal time.
+    pub const UTC: Zone = Zone {
+        offset_minutes: 0,
+        rule: None,
+    };
+
+    /// Whether the clocks show summer time at an instant.
+    #[tactic(auto, unfolding(crate::specs::Rule::clocks_of))]
+    fn is_summer(&self, timestamp: Timestamp) -> bool
+        ensures { (t : ℕ) → timestamp.nanosecond ≡ pos (t * 1_000_000) → result ≡ is_summer (clocks_of self.now) t }
     {
-        Offset::from_seconds(60 * i32::from(self.offset_minutes)).unwrap()
+        match self.rule {
+            None => false,
+            Some(rule) => {
+                let seconds = rule.to_offset(timestamp.to_plain()).seconds;
+                are_equal(seconds, 60 * (i32::from(self.offset_minutes) + 60))
+            }
+        }
+    }
+
+    /// How many minutes the clocks are ahead of UTC, in summer time or outside of it.
+    #[tactic(auto, unfolding(crate::specs::Rule::clocks_of))]
+    fn minutes_ahead(&self, summer: bool) -> i16
+        ensures minutes { result ≡ minutes_ahead (clocks_of self.now) summer }
+        ensures from { negsuc 839 ≤ℤ result }
+        ensures to { result ≤ℤ pos 900 }
+    {
+        if summer {
+            self.offset_minutes + 60
+        } else {
+            self.offset_minutes
+        }
+    }
+
+    /// Whether a civil time with this SU is one of summer time: SU is looked at where there is a rule.
+    #[tactic(auto, unfolding(crate::specs::Rule::clocks_of))]
+    fn is_of_summer(&self, summer: bool) -> bool
+        ensures { result ≡ (tells_summer (clocks_of self.now) && summer) }
+    {
+        self.rule.is_some() && summer
+    }
+
+    /// How far the clocks are ahead of UTC, in summer time or outside of it.
+    fn offset(&self, summer: bool) -> Offset
+        ensures { result.seconds ≡ pos 60 *ℤ minutes_ahead (clocks_of self.now) summer }
+    {
+        Offset::from_seconds(60 * i32::from(self.minutes_ahead(summer))).unwrap()
     }
 
     /// What the clocks show at an instant, where that is in the years 2000 to 2099.
-    pub(crate) fn shown_at(&self, instant: u64) -> Option<DateTime>
-        ensures window { IsSome result ↔ IsFrom2000To2099 self.now.offset_minutes instant }
+    pub(crate) fn shown_at(&self, instant: u64) -> Option<ShownTime>
+        ensures window { IsSome result ↔ IsFrom2000To2099 (clocks_of self.now) instant }
         ensures value { IfSome result
-            (λ shown. civil_nanos shown ≡ shown_at self.now.offset_minutes instant *ℤ pos 1_000_000) }
-        ensures low { IfSome result (λ shown. pos 2000 ≤ℤ shown.date.year) }
-        ensures high { IfSome result (λ shown. shown.date.year ≤ℤ pos 2099) }
+            (λ shown. civil_nanos shown.civil ≡ shown_at (clocks_of self.now) instant *ℤ pos 1_000_000) }
+        ensures summer { IfSome result (λ shown. shown.summer ≡ is_summer (clocks_of self.now) instant) }
+        ensures low { IfSome result (λ shown. pos 2000 ≤ℤ shown.civil.date.year) }
+        ensures high { IfSome result (λ shown. shown.civil.date.year ≤ℤ pos 2099) }
     {
-        let shown = self.offset().to_datetime(timestamp_of(instant)?);
-        if shown.year() < 2000 || shown.year() > 2099 {
+        let timestamp = timestamp_of(instant)?;
+        let summer = self.is_summer(timestamp);
+        let civil = self.offset(summer).to_datetime(timestamp);
+        if civil.year() < 2000 || civil.year() > 2099 {
             return None;
         }
-        Some(shown)
+        Some(ShownTime { civil, summer })
     }
 
-    /// When the clocks show a civil time of whole milliseconds.
-    pub(crate) fn instant_of(&self, shown: DateTime) -> u64
-        requires low { pos 2000 ≤ℤ shown.date.year }
-        requires high { shown.date.year ≤ℤ pos 2099 }
-        ensures { (z : ℤ) → civil_nanos shown ≡ z *ℤ pos 1_000_000
-            → pos result ≡ z -ℤ (pos 60000 *ℤ self.now.offset_minutes) }
+    /// The instant that a civil time of whole milliseconds means, one of summer time if SU says so and there is a rule.
+    pub(crate) fn instant_of(&self, civil: DateTime, summer: bool) -> u64
+        requires low { pos 2000 ≤ℤ civil.date.year }
+        requires high { civil.date.year ≤ℤ pos 2099 }
+        ensures { (z : ℤ) → civil_nanos civil ≡ z *ℤ pos 1_000_000
+            → pos result ≡ z -ℤ (pos 60000 *ℤ minutes_ahead (clocks_of self.now)
+            (tells_summer (clocks_of self.now) && summer)) }
     {
-        let timestamp = self.offset().to_timestamp(shown).unwrap();
+        let offset = self.offset(self.is_of_summer(summer));
+        let timestamp = offset.to_timestamp(civil).unwrap();
         timestamp.as_millisecond() as u64
     }
 }
@@ -65,4 +123,11 @@ fn timestamp_of(instant: u64) -> Option<Timestamp>
         return None;
     }
     Timestamp::from_millisecond(instant as i64).ok()
+}
+
+/// Whether two offsets in seconds are equal.
+fn are_equal(a: i32, b: i32) -> bool
+    ensures { result ≡ int_same a b }
+{
+    a == b
 }

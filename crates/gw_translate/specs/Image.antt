@@ -18,6 +18,7 @@ use Rattle.gw_model.specs.declared.observation.Value.TheVariants.{Single, Double
 use Rattle.gw_model.specs.declared.observation.Quality.{Quality}
 use Rattle.gw_model.specs.declared.observation.Observation.{Observation}
 use Rattle.gw_model.specs.Keys.{same_shown}
+use Rattle.gw_model.specs.Clocks.{Clocks}
 use Rattle.gw_map.specs.Settings.{row_from, row_object}
 use Rattle.gw_time.specs.Spelling.{tag_of}
 use Rattle.gw_translate.specs.Quality.{quality_of}
@@ -62,20 +63,20 @@ raw_image show scale (Two state) q object stamp = observation_of object (Double 
 raw_image show scale (Count n) q object stamp = observation_of object (Total n) q stamp
 raw_image show scale (Number z) q object stamp = analog_image show scale z q object stamp
 
--- the time that is shown: none where clocks that are offset minutes ahead of UTC don't show one of the years 2000 to
+-- the time that is shown: none where the clocks of the station don't show one of the years 2000 to
 -- 2099
-abbrev pub stamp_image : ℤ → Stamp → Stamp
-stamp_image offset stamp = if is_some (tag_of offset stamp) then stamp else Untimed
+abbrev pub stamp_image : Clocks → Stamp → Stamp
+stamp_image clocks stamp = if is_some (tag_of clocks stamp) then stamp else Untimed
 
--- the image of a report by its own row, where clocks are offset minutes ahead of UTC
-abbrev pub image_of : ℤ → Row → Report → Observation
-image_of offset row report =
+-- the image of a report by its own row, by the clocks of the station
+abbrev pub image_of : Clocks → Row → Report → Observation
+image_of clocks row report =
     let quality : Quality = quality_of report.key.kind report.flags in
-    raw_image row.show row.scale report.raw quality (row_object row) (stamp_image offset report.stamp)
+    raw_image row.show row.scale report.raw quality (row_object row) (stamp_image clocks report.stamp)
 
 -- the image of a report by the rows of a point map: none for a point without a row
-abbrev pub image_in : ℤ → List Row → Report → Option Observation
-image_in offset rows report = option_map (λ found. image_of offset found.1 report) (row_from 0 report.key rows)
+abbrev pub image_in : Clocks → List Row → Report → Option Observation
+image_in clocks rows report = option_map (λ found. image_of clocks found.1 report) (row_from 0 report.key rows)
 
 -- an event always, a static value where value or quality isn't what was shown before
 abbrev pub is_news_of : Report → Observation → Observation → Bool

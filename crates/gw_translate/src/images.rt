@@ -2,6 +2,7 @@
 ghost use Rattle.std.specs.Prelude.{◌≡◌, not};
 ghost use Rattle.std.specs.Ordering.{int_eq};
 ghost use Rattle.gw_model.specs.Fit.{IsFit, IsInWindow};
+ghost use Rattle.gw_time.specs.Rule.{clocks_of};
 ghost use Rattle.gw_translate.specs.Quality.{quality_of};
 ghost use Rattle.gw_translate.specs.Image.{nearest_scaled_value, scaled_by, image_of, stamp_image};
 
@@ -73,8 +74,8 @@ fn nearest(number: i32, scale: Scale) -> (i16, bool)
 /// The time that clients are shown: none where a time tag can't show it.
 #[tactic(auto, using(gw_time::proofs::Spelled::window_of_tag, gw_time::proofs::Century::has_tag_is_in_window))]
 fn shown_stamp(stamp: Stamp, zone: &Zone) -> Stamp
-    ensures image { result ≡ stamp_image zone.now.offset_minutes stamp }
-    ensures window { IsInWindow zone.now.offset_minutes result }
+    ensures image { result ≡ stamp_image (clocks_of zone.now) stamp }
+    ensures window { IsInWindow (clocks_of zone.now) result }
 {
     if has_tag(stamp, zone) {
         stamp
@@ -85,8 +86,8 @@ fn shown_stamp(stamp: Stamp, zone: &Zone) -> Stamp
 
 /// The image of a report by the row of its own point, at a station with these clocks.
 pub fn image(report: &Report, row: &Row, zone: &Zone) -> Observation
-    ensures image { result ≡ image_of zone.now.offset_minutes row.now report.now }
-    ensures fit { IsFit zone.now.offset_minutes result }
+    ensures image { result ≡ image_of (clocks_of zone.now) row.now report.now }
+    ensures fit { IsFit (clocks_of zone.now) result }
 {
     let quality = quality(report.key.kind, report.flags);
     let (value, quality) = match (report.raw, row.show) {

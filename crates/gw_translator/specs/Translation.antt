@@ -2,7 +2,7 @@
 use Rattle.std.specs.Prelude.{◌≡◌, ℕ, ◌≢◌, List, [], ◌∷◌, ◌++◌, codes, Some, None, Ok}
 use Rattle.gw_model.specs.declared.point.Report.{Report}
 use Rattle.gw_model.specs.declared.observation.Observation.{Observation}
-use Rattle.gw_map.specs.Settings.{Setup}
+use Rattle.gw_map.specs.Settings.{Setup, station_clocks}
 use Rattle.dnp_app.specs.Control.{confirm_of}
 use Rattle.dnp_app.specs.Response.{Fragment, IsRefused, response_of}
 use Rattle.gw_picture.specs.Picture.{news_of, picture_after}
@@ -13,10 +13,10 @@ use Rattle.gw_translator.specs.declared.decision.Decision.TheVariants.{Empty, No
 
 -- the news among reports that come after such a picture, and the picture after them
 abbrev pub news_in : Setup → List Observation → List Report → List Observation
-news_in setup picture reports = news_of setup.station.offset_minutes setup.rows picture reports
+news_in setup picture reports = news_of (station_clocks setup.station) setup.rows picture reports
 
 abbrev pub picture_after_reports : Setup → List Observation → List Report → List Observation
-picture_after_reports setup picture reports = picture_after setup.station.offset_minutes setup.rows picture reports
+picture_after_reports setup picture reports = picture_after (station_clocks setup.station) setup.rows picture reports
 
 -- what is decided of a line, with the news that are told, and from what was shown before it to what is shown after it
 abbrev pub Decides : Setup → List ℕ → Decision → List Observation → List Observation → List Observation → Type 0

@@ -32,9 +32,8 @@ fn push_news(
     ensures news { OnOk result (news.new.items ≡ news.old.items ++ news_in settings.now picture.old reports.now) }
     ensures picture { OnOk result (picture.new ≡ picture_after_reports settings.now picture.old reports.now) }
 {
-    let zone = settings.zone();
     for report in reports {
-        if let Some(image) = picture.take(report, settings, &zone) {
+        if let Some(image) = picture.take(report, settings) {
             news.push(image)?;
         }
     }

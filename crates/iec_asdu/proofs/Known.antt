@@ -1,5 +1,6 @@
 -- What a type identification tells: the element, and whether a time tag stands behind it.
-use Rattle.std.proofs.Common.{◌≡◌, ◌≢◌, ℕ, ℤ, ◌<◌, ◌≤◌, ◌==◌, Bool, true, false, Some, if◌then◌else◌, not, refl, sym, ap, ◌∙◌, arith, rules}
+use Rattle.std.proofs.Common.{◌≡◌, ◌≢◌, ℕ, ◌<◌, ◌≤◌, ◌==◌, Bool, true, false, Some, if◌then◌else◌, not, refl, sym, ap, ◌∙◌, arith, rules}
+use Rattle.gw_model.specs.Clocks.{Clocks}
 use denote.Enum.Bare.{sameb, differs_true, differs_false}
 use mathlib.Core.Bool.{beq}
 use Rattle.iec_asdu.specs.contracts.types.ElementKind.{the_type}
@@ -40,18 +41,18 @@ same_type kind other timed tagged same =
     sym (named_again kind timed) ∙ (ap (λ (n : ℕ). named n) same ∙ named_again other tagged)
 
 -- each is known
-pub type_known : (offset : ℤ) (kind : ElementKind) (timed : Bool)
-    → layout_of (identification_by kind timed) (monitor_types offset) ≡ Some (layout_at offset (typed kind timed))
-type_known offset SinglePoint false = refl
-type_known offset SinglePoint true = refl
-type_known offset DoublePoint false = refl
-type_known offset DoublePoint true = refl
-type_known offset BitString false = refl
-type_known offset BitString true = refl
-type_known offset ScaledValue false = refl
-type_known offset ScaledValue true = refl
-type_known offset CounterReading false = refl
-type_known offset CounterReading true = refl
+pub type_known : (clocks : Clocks) (kind : ElementKind) (timed : Bool)
+    → layout_of (identification_by kind timed) (monitor_types clocks) ≡ Some (layout_at clocks (typed kind timed))
+type_known clocks SinglePoint false = refl
+type_known clocks SinglePoint true = refl
+type_known clocks DoublePoint false = refl
+type_known clocks DoublePoint true = refl
+type_known clocks BitString false = refl
+type_known clocks BitString true = refl
+type_known clocks ScaledValue false = refl
+type_known clocks ScaledValue true = refl
+type_known clocks CounterReading false = refl
+type_known clocks CounterReading true = refl
 
 -- element and time tag have 1 to 12 octets
 pub type_short : (kind : ElementKind) (timed : Bool)

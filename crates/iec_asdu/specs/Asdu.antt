@@ -1,6 +1,6 @@
 -- What an ASDU with process information means (IEC 60870-5-101, 7.1 and 7.2): type identification, variable
 -- structure qualifier, cause, originator, common address, and information objects to the end.
-use Rattle.std.specs.Prelude.{ℕ, ℤ, ◌+◌, ◌*◌, ◌%◌, Bool, true, false, List, [], ◌∷◌, ◌++◌, zero, suc, length, take, drop, map, Option, Some, None, ◌==◌, if◌then◌else◌, slice_index}
+use Rattle.std.specs.Prelude.{ℕ, ◌+◌, ◌*◌, ◌%◌, Bool, true, false, List, [], ◌∷◌, ◌++◌, zero, suc, length, take, drop, map, Option, Some, None, ◌==◌, if◌then◌else◌, slice_index}
 use Rattle.gw_model.specs.Optional.{◌>>=◌}
 use Rattle.gw_model.specs.declared.point.Stamp.{Stamp}
 use Rattle.gw_model.specs.declared.observation.Value.{Value}
@@ -9,6 +9,7 @@ use Rattle.gw_model.specs.declared.observation.Observation.{Observation}
 use Rattle.iec_asdu.specs.declared.types.ElementKind.{ElementKind}
 use Rattle.iec_asdu.specs.declared.types.ElementKind.TheVariants.{SinglePoint, DoublePoint, BitString, ScaledValue, CounterReading}
 use Rattle.gw_model.specs.Bits.{is_set}
+use Rattle.gw_model.specs.Clocks.{Clocks}
 use Rattle.iec_asdu.specs.Types.{Layout, layout_at}
 
 -- ---- the types
@@ -17,11 +18,11 @@ use Rattle.iec_asdu.specs.Types.{Layout, layout_at}
 abbrev pub element_kinds : List ElementKind
 element_kinds = SinglePoint ∷ DoublePoint ∷ BitString ∷ ScaledValue ∷ CounterReading ∷ []
 
--- each element without time, and with time at a station whose clocks are offset minutes ahead of UTC
-abbrev pub monitor_types : ℤ → List Layout
-monitor_types offset =
-    map (λ kind. layout_at offset (record { element = kind; timed = false })) element_kinds
-    ++ map (λ kind. layout_at offset (record { element = kind; timed = true })) element_kinds
+-- each element without time, and with time at a station whose clocks are clocks minutes ahead of UTC
+abbrev pub monitor_types : Clocks → List Layout
+monitor_types clocks =
+    map (λ kind. layout_at clocks (record { element = kind; timed = false })) element_kinds
+    ++ map (λ kind. layout_at clocks (record { element = kind; timed = true })) element_kinds
 
 -- the type with an identification
 abbrev pub layout_of : ℕ → List Layout → Option Layout

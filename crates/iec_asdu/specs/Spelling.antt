@@ -1,6 +1,6 @@
 -- How observations are spelled as an ASDU, one or more of one type and under one common address: with time, where the
 -- stamp has a tag, and without one elsewhere.
-use Rattle.std.specs.Prelude.{ℕ, ℤ, ◌+◌, Bool, true, false, List, [], ◌∷◌, ◌++◌, length, take, Option, Some, None, if◌then◌else◌}
+use Rattle.std.specs.Prelude.{ℕ, ◌+◌, Bool, true, false, List, [], ◌∷◌, ◌++◌, length, take, Option, Some, None, if◌then◌else◌}
 use Rattle.std.specs.List.{flat_map}
 use Rattle.std.specs.Option.{is_some}
 use Rattle.std.specs.Int.{w16, w32, to_le_bytes}
@@ -8,6 +8,7 @@ use Rattle.gw_model.specs.declared.observation.Value.{Value}
 use Rattle.gw_model.specs.declared.observation.Value.TheVariants.{Single, Double, Scaled, Word, Total}
 use Rattle.gw_model.specs.declared.observation.Quality.{Quality}
 use Rattle.gw_model.specs.declared.observation.Observation.{Observation}
+use Rattle.gw_model.specs.Clocks.{Clocks}
 use Rattle.gw_time.specs.Spelling.{tag_of}
 use Rattle.iec_asdu.specs.declared.types.ElementKind.{ElementKind}
 use Rattle.iec_asdu.specs.declared.types.ElementKind.TheVariants.{SinglePoint, DoublePoint, BitString, ScaledValue, CounterReading}
@@ -46,9 +47,9 @@ spelling_with tag cause x =
     ∷ (to_le_bytes w16 x.common ++ take 3 (to_le_bytes w32 x.address)
     ++ (element_spelling x.value x.quality ++ tag_octets tag))
 
--- the ASDU of an observation, at a station whose clocks are offset minutes ahead of UTC
-abbrev pub spelling : ℤ → ℕ → Observation → List ℕ
-spelling offset cause x = spelling_with (tag_of offset x.stamp) cause x
+-- the ASDU of an observation, at a station whose clocks are clocks minutes ahead of UTC
+abbrev pub spelling : Clocks → ℕ → Observation → List ℕ
+spelling clocks cause x = spelling_with (tag_of clocks x.stamp) cause x
 
 -- ---- several of one type
 
@@ -65,34 +66,34 @@ abbrev pub object_octets_with : Option (List ℕ) → Observation → List ℕ
 object_octets_with tag x = address_octets x.address ++ (element_octets x ++ tag_octets tag)
 
 -- element and time tag of an observation
-abbrev pub information_octets : ℤ → Observation → List ℕ
-information_octets offset x = element_spelling x.value x.quality ++ tag_octets (tag_of offset x.stamp)
+abbrev pub information_octets : Clocks → Observation → List ℕ
+information_octets clocks x = element_spelling x.value x.quality ++ tag_octets (tag_of clocks x.stamp)
 
 -- the same behind its address
-abbrev pub object_octets : ℤ → Observation → List ℕ
-object_octets offset x = address_octets x.address ++ information_octets offset x
+abbrev pub object_octets : Clocks → Observation → List ℕ
+object_octets clocks x = address_octets x.address ++ information_octets clocks x
 
 -- SQ 0: each object with its address; SQ 1: the first one's address, then element behind element
-abbrev pub objects_octets : ℤ → Bool → List Observation → List ℕ
-objects_octets offset false xs = flat_map (object_octets offset) xs
-objects_octets offset true [] = []
-objects_octets offset true (x ∷ xs) = address_octets x.address ++ flat_map (information_octets offset) (x ∷ xs)
+abbrev pub objects_octets : Clocks → Bool → List Observation → List ℕ
+objects_octets clocks false xs = flat_map (object_octets clocks) xs
+objects_octets clocks true [] = []
+objects_octets clocks true (x ∷ xs) = address_octets x.address ++ flat_map (information_octets clocks) (x ∷ xs)
 
 -- the variable structure qualifier: SQ, and the number of objects
 abbrev pub qualifier_of : Bool → ℕ → ℕ
 qualifier_of sequence n = if sequence then 128 + n else n
 
 -- the type identification of an observation
-abbrev pub identification_at : ℤ → Observation → ℕ
-identification_at offset x = type_of x.value (is_some (tag_of offset x.stamp))
+abbrev pub identification_at : Clocks → Observation → ℕ
+identification_at clocks x = type_of x.value (is_some (tag_of clocks x.stamp))
 
 -- the header before these objects: the first one's type and common address, originator 0
-abbrev pub header_octets : ℤ → Bool → ℕ → List Observation → List ℕ
-header_octets offset sequence cause [] = []
-header_octets offset sequence cause (x ∷ xs) =
-    identification_at offset x ∷ qualifier_of sequence (length (x ∷ xs)) ∷ cause ∷ 0 ∷ to_le_bytes w16 x.common
+abbrev pub header_octets : Clocks → Bool → ℕ → List Observation → List ℕ
+header_octets clocks sequence cause [] = []
+header_octets clocks sequence cause (x ∷ xs) =
+    identification_at clocks x ∷ qualifier_of sequence (length (x ∷ xs)) ∷ cause ∷ 0 ∷ to_le_bytes w16 x.common
 
 -- the ASDU of observations that are of the first one's type and under its common address, under this SQ
-unfoldable pub list_spelling : ℤ → Bool → ℕ → List Observation → List ℕ
-list_spelling offset sequence cause xs =
-    header_octets offset sequence cause xs ++ objects_octets offset sequence xs
+unfoldable pub list_spelling : Clocks → Bool → ℕ → List Observation → List ℕ
+list_spelling clocks sequence cause xs =
+    header_octets clocks sequence cause xs ++ objects_octets clocks sequence xs

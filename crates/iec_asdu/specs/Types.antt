@@ -1,12 +1,13 @@
 -- The types of process information in monitor direction (IEC 60870-5-101, 7.2.1.1 and 7.3.1): an information element,
 -- and behind it the time tag CP56Time2a or none.
-use Rattle.std.specs.Prelude.{ℕ, ℤ, ◌+◌, Bool, List, Option, Some, option_map, if◌then◌else◌}
+use Rattle.std.specs.Prelude.{ℕ, ◌+◌, Bool, List, Option, Some, option_map, if◌then◌else◌}
 use Rattle.std.specs.Result.{result_ok}
 use Rattle.gw_model.specs.declared.point.Stamp.{Stamp}
 use Rattle.gw_model.specs.declared.point.Stamp.TheVariants.{Untimed}
 use Rattle.gw_model.specs.declared.observation.Value.{Value}
 use Rattle.gw_model.specs.declared.observation.Value.TheVariants.{Single, Double, Scaled, Word, Total}
 use Rattle.gw_model.specs.declared.observation.Quality.{Quality}
+use Rattle.gw_model.specs.Clocks.{Clocks}
 use Rattle.gw_time.specs.Tag.{tag_meaning}
 use Rattle.iec_asdu.specs.declared.types.ElementKind.{ElementKind}
 use Rattle.iec_asdu.specs.declared.types.ElementKind.TheVariants.{SinglePoint, DoublePoint, BitString, ScaledValue, CounterReading}
@@ -37,9 +38,9 @@ element_value CounterReading octets = option_map (λ x. (Total x.count, x.qualit
 abbrev pub tag_length : Bool → ℕ
 tag_length timed = if timed then 7 else 0
 
--- the stamp that its octets mean, at a station whose clocks are offset minutes ahead of UTC
-abbrev pub tag_stamp : ℤ → Bool → List ℕ → Option Stamp
-tag_stamp offset timed octets = if timed then result_ok (tag_meaning offset octets) else Some Untimed
+-- the stamp that its octets mean, at a station whose clocks are clocks minutes ahead of UTC
+abbrev pub tag_stamp : Clocks → Bool → List ℕ → Option Stamp
+tag_stamp clocks timed octets = if timed then result_ok (tag_meaning clocks octets) else Some Untimed
 
 -- ---- the types
 
@@ -65,12 +66,12 @@ pub record Layout : Type 0 where
   pub tag : ℕ
   pub stamp : List ℕ → Option Stamp
 
--- a type, at a station whose clocks are offset minutes ahead of UTC
-abbrev pub layout_at : ℤ → MonitorType → Layout
-layout_at offset t = record {
+-- a type, at a station whose clocks are clocks minutes ahead of UTC
+abbrev pub layout_at : Clocks → MonitorType → Layout
+layout_at clocks t = record {
   identification = identification_by t.element t.timed;
   element = element_length t.element;
   value = element_value t.element;
   tag = tag_length t.timed;
-  stamp = tag_stamp offset t.timed;
+  stamp = tag_stamp clocks t.timed;
 }

@@ -1,5 +1,6 @@
 //! How many observations one ASDU carries, and under which SQ (IEC 60870-5-101, 7.2.2).
 ghost use Rattle.std.specs.Prelude.{◌≡◌, ◌+◌, ◌-◌, ◌≤◌, ◌∷◌, false, take, is_some, IfSome};
+ghost use Rattle.gw_time.specs.Rule.{clocks_of};
 ghost use Rattle.iec_asdu.specs.Types.{type_length};
 ghost use Rattle.iec_asdu.specs.Packing.{type_at, room_apart, room_in_sequence, is_alike, consecutive_count, in_sequence_count, is_in_sequence};
 
@@ -42,8 +43,8 @@ pub fn front(observations: &[Observation], most: usize) -> &[Observation]
 
 /// Whether an observation is like the first one, of this type: of its type, and under its common address.
 fn is_alike(first: &Observation, observation: &Observation, kind: MonitorType, zone: &Zone) -> bool
-    requires { kind ≡ type_at zone.now.offset_minutes first.now }
-    ensures { result ≡ is_alike zone.now.offset_minutes first.now observation.now }
+    requires { kind ≡ type_at (clocks_of zone.now) first.now }
+    ensures { result ≡ is_alike (clocks_of zone.now) first.now observation.now }
 {
     ElementKind::of(observation.value) == kind.element
         && has_tag(observation.stamp, zone) == kind.timed
@@ -57,8 +58,8 @@ fn count_behind(
     kind: MonitorType,
     zone: &Zone,
 ) -> usize
-    requires { kind ≡ type_at zone.now.offset_minutes first.now }
-    ensures { result ≡ consecutive_count zone.now.offset_minutes first.now (first.now.address + 1) others.now }
+    requires { kind ≡ type_at (clocks_of zone.now) first.now }
+    ensures { result ≡ consecutive_count (clocks_of zone.now) first.now (first.now.address + 1) others.now }
 {
     let mut count = 0;
     let mut expected = u64::from(first.address) + 1;
@@ -80,10 +81,10 @@ pub fn sequence_behind(
     kind: MonitorType,
     zone: &Zone,
 ) -> Option<usize>
-    requires { kind ≡ type_at zone.now.offset_minutes first.now }
-    ensures sequence { is_some result ≡ is_in_sequence zone.now.offset_minutes (first.now ∷ others.now) }
+    requires { kind ≡ type_at (clocks_of zone.now) first.now }
+    ensures sequence { is_some result ≡ is_in_sequence (clocks_of zone.now) (first.now ∷ others.now) }
     ensures behind { IfSome result
-        (λ behind. behind + 1 ≡ in_sequence_count zone.now.offset_minutes (first.now ∷ others.now)) }
+        (λ behind. behind + 1 ≡ in_sequence_count (clocks_of zone.now) (first.now ∷ others.now)) }
 {
     if kind.timed || others.is_empty() {
         return None;

@@ -4,6 +4,7 @@ ghost use Rattle.iec_asdu.specs.Asdu.{Asdu as Meaning, monitor_types, size_of, a
 ghost use Rattle.iec_asdu.specs.Grammar.{IsAsdu};
 ghost use Rattle.gw_model.specs.Bits.{is_set};
 ghost use Rattle.gw_model.specs.Outcome.{Gives};
+ghost use Rattle.gw_time.specs.Rule.{clocks_of};
 ghost use Rattle.iec_asdu.specs.Reading.{is_memory, object_read, read_apart, read_in_sequence, objects_length, objects_read};
 ghost use Rattle.iec_asdu.specs.Types.{layout_at, type_length};
 ghost use Rattle.iec_asdu.specs.Contents.{contents_of, Spells, monitor_contents, contents_read};
@@ -42,8 +43,8 @@ fn read_object(
     octets: &[u8],
     zone: &Zone,
 ) -> Result<Observation, AsduFault>
-    requires { length octets.now ≡ size_of (layout_at zone.now.offset_minutes kind) }
-    ensures { result ≡ object_read common address (layout_at zone.now.offset_minutes kind) octets.now }
+    requires { length octets.now ≡ size_of (layout_at (clocks_of zone.now) kind) }
+    ensures { result ≡ object_read common address (layout_at (clocks_of zone.now) kind) octets.now }
 {
     let (element, tag) = octets.split_at(kind.element.octets());
     let Some((value, quality)) = kind.element.read(element) else {
@@ -71,10 +72,10 @@ fn read_objects_apart(
     objects: &[u8],
     zone: &Zone,
 ) -> Result<Vec<Observation>, AsduFault>
-    requires { count * (3 + size_of (layout_at zone.now.offset_minutes kind)) ≤ length objects.now }
-    ensures read { let layout = layout_at zone.now.offset_minutes kind in
+    requires { count * (3 + size_of (layout_at (clocks_of zone.now) kind)) ≤ length objects.now }
+    ensures read { let layout = layout_at (clocks_of zone.now) kind in
         Gives is_memory (λ v. v.items) result (read_apart common layout count objects.now) }
-    ensures memory { let layout = layout_at zone.now.offset_minutes kind in
+    ensures memory { let layout = layout_at (clocks_of zone.now) kind in
         IfErr result (λ fault. fault ≡ AsduFault.Memory → IsOk (read_apart common layout count objects.now)) }
 {
     let mut found = Vec::new(alloc);
@@ -114,11 +115,11 @@ fn read_objects_in_sequence(
     objects: &[u8],
     zone: &Zone,
 ) -> Result<Vec<Observation>, AsduFault>
-    requires octets { count * size_of (layout_at zone.now.offset_minutes kind) ≤ length objects.now }
+    requires octets { count * size_of (layout_at (clocks_of zone.now) kind) ≤ length objects.now }
     requires first { first ≤ 16777215 }
-    ensures read { let layout = layout_at zone.now.offset_minutes kind in
+    ensures read { let layout = layout_at (clocks_of zone.now) kind in
         Gives is_memory (λ v. v.items) result (read_in_sequence common layout count first objects.now) }
-    ensures memory { let layout = layout_at zone.now.offset_minutes kind in
+    ensures memory { let layout = layout_at (clocks_of zone.now) kind in
         IfErr result (λ fault. fault ≡ AsduFault.Memory
         → IsOk (read_in_sequence common layout count first objects.now)) }
 {
@@ -168,10 +169,10 @@ fn read_objects(
     objects: &[u8],
     zone: &Zone,
 ) -> Result<Vec<Observation>, AsduFault>
-    ensures read { let layout = layout_at zone.now.offset_minutes kind in
+    ensures read { let layout = layout_at (clocks_of zone.now) kind in
         Gives is_memory (λ v. v.items) result
         (objects_read common layout (is_set 7 qualifier) (qualifier % 128) objects.now) }
-    ensures memory { let layout = layout_at zone.now.offset_minutes kind in
+    ensures memory { let layout = layout_at (clocks_of zone.now) kind in
         IfErr result (λ fault. fault ≡ AsduFault.Memory
         → IsOk (objects_read common layout (is_set 7 qualifier) (qualifier % 128) objects.now)) }
 {
@@ -206,9 +207,9 @@ fn read_objects(
 /// The whole ASDU.
 #[tactic(auto, unfolding(crate::specs::Reading::asdu_read))]
 fn read_whole(alloc: Global, octets: &[u8], zone: &Zone) -> Result<Monitor, AsduFault>
-    ensures exact { let types = monitor_types zone.now.offset_minutes in
+    ensures exact { let types = monitor_types (clocks_of zone.now) in
         Gives is_memory monitor_contents result (contents_read types octets.now) }
-    ensures memory { let types = monitor_types zone.now.offset_minutes in
+    ensures memory { let types = monitor_types (clocks_of zone.now) in
         IfErr result (λ fault. fault ≡ AsduFault.Memory → IsOk (contents_read types octets.now)) }
 {
     if octets.len() < HEADER_OCTETS {
@@ -237,17 +238,17 @@ fn read_whole(alloc: Global, octets: &[u8], zone: &Zone) -> Result<Monitor, Asdu
 /// then, object by object, of element and time tag. Want of memory is told only where there is no fault.
 pub fn read_monitor(alloc: Global, octets: &[u8], zone: &Zone) -> Result<Monitor, AsduFault>
     // What is read is spelled so.
-    ensures found { let types = monitor_types zone.now.offset_minutes in
+    ensures found { let types = monitor_types (clocks_of zone.now) in
         IfOk result (λ m. Spells types octets.now (monitor_contents m)) }
     // What is spelled so is read, unless memory runs out.
-    ensures only { let types = monitor_types zone.now.offset_minutes in
+    ensures only { let types = monitor_types (clocks_of zone.now) in
         (asdu : Meaning) → IsAsdu types octets.now asdu
         → Gives is_memory monitor_contents result (Ok (contents_of asdu)) }
     // Which fault it is.
-    ensures exact { let types = monitor_types zone.now.offset_minutes in
+    ensures exact { let types = monitor_types (clocks_of zone.now) in
         Gives is_memory monitor_contents result (contents_read types octets.now) }
     // Memory hides no fault: it runs out only where the octets spell an ASDU.
-    ensures memory { let types = monitor_types zone.now.offset_minutes in
+    ensures memory { let types = monitor_types (clocks_of zone.now) in
         IfErr result (λ fault. fault ≡ AsduFault.Memory → IsOk (contents_read types octets.now)) }
 {
     read_whole(alloc, octets, zone)

@@ -1,6 +1,8 @@
 //! The types of process information in monitor direction that the gateway has (IEC 60870-5-101, 7.2.1 and
 //! 7.3.1), without time and with the time tag CP56Time2a.
-ghost use Rattle.std.specs.Prelude.{◌≡◌, ◌≤◌, ℤ, true, false, length, option_map, ok_or};
+ghost use Rattle.std.specs.Prelude.{◌≡◌, ◌≤◌, true, false, length, option_map, ok_or};
+ghost use Rattle.gw_model.specs.Clocks.{Clocks};
+ghost use Rattle.gw_time.specs.Rule.{clocks_of};
 
 use crate::elements::{BitString, CounterReading, DoublePoint, ScaledValue, SinglePoint};
 use crate::fault::AsduFault;
@@ -139,8 +141,8 @@ impl MonitorType {
 
     /// The type with an identification.
     pub fn of(identification: u8) -> Option<MonitorType>
-        ensures { (offset : ℤ) →
-            option_map (layout_at offset) result ≡ layout_of identification (monitor_types offset) }
+        ensures { (clocks : Clocks) →
+            option_map (layout_at clocks) result ≡ layout_of identification (monitor_types clocks) }
     {
         Some(match identification {
             M_SP_NA_1 => MonitorType::plain(ElementKind::SinglePoint),
@@ -186,7 +188,7 @@ impl MonitorType {
     /// The stamp that a time tag means, if the type has one.
     pub fn stamp(self, tag: &[u8], zone: &Zone) -> Result<Stamp, AsduFault>
         requires { length tag.now ≡ tag_length self.timed }
-        ensures { result ≡ ok_or (tag_stamp zone.now.offset_minutes self.timed tag.now) AsduFault.Tag }
+        ensures { result ≡ ok_or (tag_stamp (clocks_of zone.now) self.timed tag.now) AsduFault.Tag }
     {
         if !self.timed {
             return Ok(Stamp::Untimed);

@@ -4,6 +4,7 @@ ghost use Rattle.std.specs.List.{flat_map};
 ghost use Rattle.std.specs.Int.{w16, to_le_bytes};
 ghost use Rattle.gw_model.specs.Fit.{HasWidth, IsFit};
 ghost use Rattle.gw_time.specs.Spelling.{tag_of};
+ghost use Rattle.gw_time.specs.Rule.{clocks_of};
 ghost use Rattle.iec_asdu.specs.Asdu.{monitor_types, asdu_meaning};
 ghost use Rattle.iec_asdu.specs.Packing.{type_at, alike_count, apart_count, in_sequence_count, is_in_sequence, taken_of, packed_spelling};
 ghost use Rattle.iec_asdu.specs.Types.{identification_by, type_length};
@@ -101,11 +102,11 @@ fn write_alike(
     start: usize,
     out: &mut [u8; 249],
 ) -> Written
-    requires kind { kind ≡ type_at zone.now.offset_minutes first.now }
+    requires kind { kind ≡ type_at (clocks_of zone.now) first.now }
     requires room { start + length others.now * (3 + type_length kind) ≤ 249 }
-    ensures taken { result.taken ≡ alike_count zone.now.offset_minutes first.now others.now }
+    ensures taken { result.taken ≡ alike_count (clocks_of zone.now) first.now others.now }
     ensures written { Writes start result.octets out.old out.new
-        (flat_map (object_octets zone.now.offset_minutes) (take result.taken others.now)) }
+        (flat_map (object_octets (clocks_of zone.now)) (take result.taken others.now)) }
     ensures width { All (λ x. HasWidth x.value) (take result.taken others.now) }
 {
     let mut written = Written {
@@ -139,11 +140,11 @@ fn write_apart(
     zone: &Zone,
     out: &mut [u8; 249],
 ) -> Written
-    requires tag { tag ≡ tag_of zone.now.offset_minutes first.now.stamp }
-    requires kind { kind ≡ type_at zone.now.offset_minutes first.now }
-    ensures taken { result.taken ≡ apart_count zone.now.offset_minutes (first.now ∷ others.now) }
+    requires tag { tag ≡ tag_of (clocks_of zone.now) first.now.stamp }
+    requires kind { kind ≡ type_at (clocks_of zone.now) first.now }
+    ensures taken { result.taken ≡ apart_count (clocks_of zone.now) (first.now ∷ others.now) }
     ensures written { let taken = take result.taken (first.now ∷ others.now) in
-        Writes 6 result.octets out.old out.new (flat_map (object_octets zone.now.offset_minutes) taken) }
+        Writes 6 result.octets out.old out.new (flat_map (object_octets (clocks_of zone.now)) taken) }
     ensures width { All (λ x. HasWidth x.value) (take result.taken (first.now ∷ others.now)) }
 {
     let start = write_object(first, tag, HEADER_OCTETS, out);
@@ -191,17 +192,17 @@ fn write_objects(
     zone: &Zone,
     out: &mut [u8; 249],
 ) -> Written
-    requires tag { tag ≡ tag_of zone.now.offset_minutes first.now.stamp }
-    requires kind { kind ≡ type_at zone.now.offset_minutes first.now }
-    requires sequence { is_some sequence ≡ is_in_sequence zone.now.offset_minutes (first.now ∷ others.now) }
+    requires tag { tag ≡ tag_of (clocks_of zone.now) first.now.stamp }
+    requires kind { kind ≡ type_at (clocks_of zone.now) first.now }
+    requires sequence { is_some sequence ≡ is_in_sequence (clocks_of zone.now) (first.now ∷ others.now) }
     requires behind { IfSome sequence
-        (λ behind. behind + 1 ≡ in_sequence_count zone.now.offset_minutes (first.now ∷ others.now)) }
-    ensures taken { result.taken ≡ taken_of zone.now.offset_minutes (first.now ∷ others.now) }
-    ensures written { let offset = zone.now.offset_minutes in let xs = first.now ∷ others.now in
+        (λ behind. behind + 1 ≡ in_sequence_count (clocks_of zone.now) (first.now ∷ others.now)) }
+    ensures taken { result.taken ≡ taken_of (clocks_of zone.now) (first.now ∷ others.now) }
+    ensures written { let clocks = (clocks_of zone.now) in let xs = first.now ∷ others.now in
         Writes 6 result.octets out.old out.new
-        (objects_octets offset (is_in_sequence offset xs) (take (taken_of offset xs) xs)) }
+        (objects_octets clocks (is_in_sequence clocks xs) (take (taken_of clocks xs) xs)) }
     ensures width { let xs = first.now ∷ others.now in
-        All (λ x. HasWidth x.value) (take (taken_of zone.now.offset_minutes xs) xs) }
+        All (λ x. HasWidth x.value) (take (taken_of (clocks_of zone.now) xs) xs) }
 {
     match sequence {
         Some(behind) => Written {
@@ -234,7 +235,7 @@ fn write_header(
 /// Writes the ASDU of as many observations from the front as it carries: of one type and under one common
 /// address, with time where their stamps have a time tag, and without elsewhere; under SQ 1 where they stand
 /// at consecutive addresses and no fewer of them fit than under SQ 0, else under SQ 0; originator 0. `cause`
-/// is the whole octet of the cause of transmission, `zone` the offset of the station's clocks.
+/// is the whole octet of the cause of transmission, `zone` the clocks of the station's clocks.
 pub fn write_monitor(
     observations: &[Observation],
     cause: u8,
@@ -242,7 +243,7 @@ pub fn write_monitor(
     out: &mut [u8; 249],
 ) -> Written
     requires { 0 < length observations.now }
-    ensures taken { result.taken ≡ taken_of zone.now.offset_minutes observations.now }
+    ensures taken { result.taken ≡ taken_of (clocks_of zone.now) observations.now }
     ensures some { 1 ≤ result.taken }
     ensures within { result.taken ≤ length observations.now }
     ensures most { result.taken ≤ 127 }
@@ -250,12 +251,12 @@ pub fn write_monitor(
     ensures rest { drop result.octets out.new ≡ drop result.octets out.old }
     // Which octets are written, for observations that aren't fit too.
     ensures spelled { take result.octets out.new
-        ≡ packed_spelling zone.now.offset_minutes cause observations.now }
+        ≡ packed_spelling (clocks_of zone.now) cause observations.now }
     // What is written means the observations that were taken, and their common address.
-    ensures meant { let offset = zone.now.offset_minutes in
+    ensures meant { let clocks = (clocks_of zone.now) in
         let written = take result.taken observations.now in
-        All (IsFit offset) written
-        → IsSomeAnd (asdu_meaning (monitor_types offset) (take result.octets out.new)) (λ asdu.
+        All (IsFit clocks) written
+        → IsSomeAnd (asdu_meaning (monitor_types clocks) (take result.octets out.new)) (λ asdu.
         (asdu.cause ≡ cause) × (asdu.originator ≡ 0) × All (λ x. x.common ≡ asdu.common_address) written
         × (asdu.observations ≡ written)) }
 {

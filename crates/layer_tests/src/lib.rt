@@ -7,4 +7,6 @@ mod asdus;
 #[cfg(test)]
 mod largest;
 #[cfg(test)]
+mod summer_time;
+#[cfg(test)]
 mod words;

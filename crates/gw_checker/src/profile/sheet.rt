@@ -131,7 +131,7 @@ pub(crate) fn write_sheet<W: Write>(settings: &Settings, writer: &mut W) -> io::
     write_device(settings.known_addresses(), writer)?;
     write_point_types(rows, writer)?;
     write_command_types(controls, writer)?;
-    write_functions(station.offset_minutes, writer)?;
+    write_functions(station, writer)?;
     write_command_transmission(controls, station.select_ms, writer)?;
     write_limits(station, writer)?;
     write_network(station, writer)
@@ -187,14 +187,19 @@ fn mark_of(rows: &[Row], show: Show) -> char {
 }
 
 /// Writes what the station does, and by how many minutes its clock is ahead of UTC.
-fn write_functions<W: Write>(offset: i16, writer: &mut W) -> io::Result<()> {
+fn write_functions<W: Write>(station: &Station, writer: &mut W) -> io::Result<()> {
     for text in [SYSTEM, CAUSES, FUNCTIONS] {
         writer.write_all(text.as_bytes())?;
     }
-    writeln!(
+    let offset = station.offset_minutes;
+    write!(
         writer,
-        "[x] time tags CP56Time2a: {offset} minutes ahead of UTC, the whole year round"
-    )
+        "[x] time tags CP56Time2a: {offset} minutes ahead of UTC, "
+    )?;
+    match station.rule {
+        None => writer.write_all(b"the whole year round\n"),
+        Some(rule) => writeln!(writer, "60 more with SU by the rule {rule}"),
+    }
 }
 
 /// Writes the time-outs and the windows.

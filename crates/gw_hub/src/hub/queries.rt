@@ -116,7 +116,7 @@ impl Hub {
             return true;
         }
         let settings = self.settings.get();
-        let news = self.picture.news(reports, settings, &settings.zone());
+        let news = self.picture.news(reports, settings);
         self.counts.can_rise(news, 0)
     }
 

@@ -1,5 +1,6 @@
 use Rattle.std.proofs.Common.{◌<◌, ◌≤◌, ◌+◌, length, List, refl, ap, ◌∙◌, arith}
 use Rattle.gw_model.specs.declared.observation.Observation.{Observation}
+use Rattle.gw_map.specs.Settings.{station_clocks}
 use Rattle.gw_picture.proofs.Losses.{losing_length}
 use Rattle.gw_hub.proofs.Losing.{left_at_first, left_behind, left_at_last, rest_length, rest_none, rest_of}
 use Rattle.gw_hub.proofs.Taking.{within_then}
@@ -7,7 +8,7 @@ use Rattle.gw_hub.proofs.news.lose_rows.Goals as goal
 
 pub loop-position-init : goal.loop-position-init
 loop-position-init c = (
-  left_at_first c.args.settings.now.station.offset_minutes c.args.outstation c.args.settings.now.rows c.args.picture.now
+  left_at_first (station_clocks c.args.settings.now.station) c.args.outstation c.args.settings.now.rows c.args.picture.now
       c.args.clients.now.each,
   c.requires.few,
   refl,

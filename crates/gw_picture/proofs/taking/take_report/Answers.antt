@@ -5,6 +5,7 @@ use Rattle.gw_model.specs.declared.observation.Observation.{Observation}
 use Rattle.gw_map.specs.Settings.{row_from}
 use Rattle.gw_model.specs.Fit.{HasWidth}
 use Rattle.gw_model.specs.Places.{change}
+use Rattle.gw_time.specs.Rule.{clocks_of}
 use Rattle.gw_picture.specs.Picture.{picture_by_row, without_time}
 use Rattle.gw_picture.specs.Shown.{IsShown}
 use Rattle.gw_picture.proofs.Shows.{image_shown}
@@ -18,7 +19,7 @@ returns-in-Some-clause-shown c =
     search rules in
     c.show_at.ensures.shown
     ∙ (ap (λ (x : Observation). change c.in-Some.position (λ _. without_time x) picture) c.image-image.ensures.image
-    ∙ ap (λ (row : Option (ℕ × Row)). picture_by_row c.args.zone.now.offset_minutes picture c.args.report.now row)
+    ∙ ap (λ (row : Option (ℕ × Row)). picture_by_row (clocks_of c.args.zone.now) picture c.args.report.now row)
     found)
 
 pub returns-in-Some-clause-keeps : goal.returns-in-Some-clause-keeps

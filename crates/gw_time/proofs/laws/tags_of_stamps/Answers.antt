@@ -1,4 +1,4 @@
-use Rattle.gw_time.proofs.Spelled.{window_of_tag, tag_means, tag_has_seven, tag_is_plain}
+use Rattle.gw_time.proofs.Spelled.{window_of_tag, tag_means, tag_has_seven, tag_is_plain, tag_is_by_the_clocks}
 use Rattle.gw_time.proofs.laws.tags_of_stamps.Goals as goal
 
 pub returns-clause-window : goal.returns-clause-window
@@ -12,3 +12,6 @@ returns-clause-seven c = tag_has_seven
 
 pub returns-clause-plain : goal.returns-clause-plain
 returns-clause-plain c = tag_is_plain
+
+pub returns-clause-by_the_clocks : goal.returns-clause-by_the_clocks
+returns-clause-by_the_clocks c = tag_is_by_the_clocks

@@ -1,29 +1,29 @@
-use Rattle.std.proofs.Common.{◌≡◌, ℤ, ◌+◌, List, [], ◌∷◌, ◌++◌, Option, drop, refl, sym, ap, ◌∙◌, append_assoc}
+use Rattle.std.proofs.Common.{◌≡◌, ◌+◌, List, [], ◌∷◌, ◌++◌, Option, drop, refl, sym, ap, ◌∙◌, append_assoc}
 use Rattle.std.specs.Option.{option_to_list}
 use Rattle.std.proofs.lemmas.List.{append-nil, drop_more, drop_all}
 use Rattle.gw_model.specs.declared.observation.Observation.{Observation}
 use Rattle.gw_model.specs.declared.point.Report.{Report}
-use Rattle.gw_map.specs.Settings.{Setup}
+use Rattle.gw_map.specs.Settings.{Setup, station_clocks}
 use Rattle.gw_picture.specs.Picture.{news_of_report, picture_after_report}
 use Rattle.gw_translator.specs.Translation.{news_in, picture_after_reports}
 use Rattle.gw_translator.proofs.decision.push_news.Goals as goal
 use Rattle.gw_translator.proofs.decision.push_news.Goals.{in-Some+in_ok-push, in_default}
 
 -- a report is taken: its news are told, and those of the rest are left
-news_turn : (setup : Setup) (zone : ℤ) (before after items items' whole : List Observation) (told : Option Observation)
+news_turn : (setup : Setup) (before after items items' whole : List Observation) (told : Option Observation)
     (r : Report) (rest reports : List Report)
-    → zone ≡ setup.station.offset_minutes → reports ≡ r ∷ rest
-    → option_to_list told ≡ news_of_report zone setup.rows before r
-    → after ≡ picture_after_report zone setup.rows before r → items' ≡ items ++ option_to_list told
+    → reports ≡ r ∷ rest
+    → option_to_list told ≡ news_of_report (station_clocks setup.station) setup.rows before r
+    → after ≡ picture_after_report (station_clocks setup.station) setup.rows before r → items' ≡ items ++ option_to_list told
     → items ++ news_in setup before reports ≡ whole → items' ++ news_in setup after rest ≡ whole
-news_turn setup zone before after items items' whole told r rest reports z more news shown new left =
-    rw (new, append_assoc, news, shown, z) (rw more at left)
+news_turn setup before after items items' whole told r rest reports more news shown new left =
+    rw (new, append_assoc, news, shown) (rw more at left)
 
-picture_turn : (setup : Setup) (zone : ℤ) (before after last : List Observation) (r : Report)
+picture_turn : (setup : Setup) (before after last : List Observation) (r : Report)
     (rest reports : List Report)
-    → zone ≡ setup.station.offset_minutes → reports ≡ r ∷ rest → after ≡ picture_after_report zone setup.rows before r
+    → reports ≡ r ∷ rest → after ≡ picture_after_report (station_clocks setup.station) setup.rows before r
     → picture_after_reports setup before reports ≡ last → picture_after_reports setup after rest ≡ last
-picture_turn setup zone before after last r rest reports z more shown left = rw (shown, z) (rw more at left)
+picture_turn setup before after last r rest reports more shown left = rw shown (rw more at left)
 
 -- none are left
 news_end : (setup : Setup) (picture items whole : List Observation) (reports : List Report) → reports ≡ []
@@ -35,7 +35,7 @@ picture_end : (setup : Setup) (picture last : List Observation) (reports : List 
 picture_end setup picture last reports none left = rw none at left
 
 pub loop-report-init : goal.loop-report-init
-loop-report-init c = record { news = refl; picture = refl; zone = c.zone-zone.ensures }
+loop-report-init c = record { news = refl; picture = refl }
 
 pub loop-report-preserved : goal.loop-report-preserved
 loop-report-preserved c =
@@ -49,13 +49,12 @@ loop-report-preserved c =
       | in_default w ↦ rw (w.in_default.is, append-nil) cc
     ] in
     record {
-      news = news_turn c.args.settings.now c.zone-zone.result.offset_minutes c.loop-report.picture c.take.new.self
-          c.loop-report.news.items _ _ c.take.result c.report-item.result rest _ c.loop-report.invariant.zone more
+      news = news_turn c.args.settings.now c.loop-report.picture c.take.new.self
+          c.loop-report.news.items _ _ c.take.result c.report-item.result rest _ more
           c.take.ensures.news c.take.ensures.shown told c.loop-report.invariant.news;
-      picture = picture_turn c.args.settings.now c.zone-zone.result.offset_minutes c.loop-report.picture c.take.new.self
-          _ c.report-item.result rest _ c.loop-report.invariant.zone more c.take.ensures.shown
+      picture = picture_turn c.args.settings.now c.loop-report.picture c.take.new.self
+          _ c.report-item.result rest _ more c.take.ensures.shown
           c.loop-report.invariant.picture;
-      zone = c.loop-report.invariant.zone;
     }
 
 pub returns-clause-news : goal.returns-clause-news

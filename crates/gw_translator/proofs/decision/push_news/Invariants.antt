@@ -9,5 +9,4 @@ invariant-loop-report l = record {
       ≡ l.initial.news.items ++ news_in l.settings l.initial.picture l.reports;
   picture : picture_after_reports l.settings l.picture (drop l.report-index l.reports)
       ≡ picture_after_reports l.settings l.initial.picture l.reports;
-  zone : l.zone.offset_minutes ≡ l.settings.station.offset_minutes;
 }

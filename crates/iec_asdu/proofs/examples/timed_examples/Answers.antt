@@ -1,6 +1,7 @@
 -- The days since 1970 are not counted out: the tag of a stamp means it.
 use Rattle.std.proofs.Common.{negsuc, refl}
 use Rattle.gw_model.specs.declared.point.Stamp.TheVariants.{At, Doubtful}
+use Rattle.gw_model.specs.Clocks.{always_ahead}
 use Rattle.gw_time.specs.Tag.{tag_meaning}
 use Rattle.gw_time.specs.Spelling.{tag_showing, date_after}
 use Rattle.gw_time.proofs.Spelled.{tag_means}
@@ -29,7 +30,7 @@ returns-clause-untimed c = refl
 pub returns-clause-in_sequence : goal.returns-clause-in_sequence
 unfolding asdu_meaning objects_of objects_in_sequence tag_showing date_after
 returns-clause-in_sequence c =
-    rw (tag_means (negsuc 89) (At 1700000000000), tag_means (negsuc 89) (Doubtful 1700000000000)) refl
+    rw (tag_means (always_ahead (negsuc 89)) (At 1700000000000), tag_means (always_ahead (negsuc 89)) (Doubtful 1700000000000)) refl
 
 pub returns-clause-no_millisecond : goal.returns-clause-no_millisecond
 unfolding asdu_meaning objects_of objects_apart tag_meaning

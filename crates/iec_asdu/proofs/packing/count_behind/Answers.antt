@@ -1,4 +1,5 @@
 use Rattle.std.proofs.Common.{◌≡◌, drop, arith}
+use Rattle.gw_time.specs.Rule.{clocks_of}
 use Rattle.iec_asdu.specs.Packing.{consecutive_count}
 use Rattle.iec_asdu.proofs.Counts.{nothing, consecutive_stops, consecutive_leaves, consecutive_goes_on, consecutive_none}
 use Rattle.iec_asdu.proofs.packing.count_behind.Goals as goal
@@ -6,17 +7,17 @@ use Rattle.iec_asdu.proofs.packing.count_behind.Goals.{then-from-expected-via-th
 
 pub returns-then-from-expected : goal.returns-then-from-expected
 returns-then-from-expected c =
-    let offset = c.args.zone.now.offset_minutes in
+    let clocks = (clocks_of c.args.zone.now) in
     let first = c.args.first.now in
     let xs = c.args.others.now in
     let i = c.loop-observation.observation-index in
-    let none : consecutive_count offset first c.loop-observation.expected (drop i xs) ≡ 0 =
+    let none : consecutive_count clocks first c.loop-observation.expected (drop i xs) ≡ 0 =
     elim c.then-from-expected.branch [
       | then-from-expected-via-then-from-expected w ↦
-          consecutive_leaves offset first _ _ xs i nothing c.loop-observation-test.true c.from.ensures
+          consecutive_leaves clocks first _ _ xs i nothing c.loop-observation-test.true c.from.ensures
           w.if-from-expected.true
       | then-from-expected-via-else-from-expected+then-not-is_alike w ↦
-          consecutive_stops offset first _ _ xs i nothing c.loop-observation-test.true w.is_alike.ensures
+          consecutive_stops clocks first _ _ xs i nothing c.loop-observation-test.true w.is_alike.ensures
           w.if-not-is_alike.true
     ] in
     omega arith
@@ -26,7 +27,7 @@ loop-observation-preserved c = record {
   place = omega arith;
   counted = omega (
     arith,
-    consecutive_goes_on c.args.zone.now.offset_minutes c.args.first.now c.loop-observation.expected _ _
+    consecutive_goes_on (clocks_of c.args.zone.now) c.args.first.now c.loop-observation.expected _ _
         c.args.others.now c.loop-observation.observation-index nothing
         c.loop-observation-test.true c.from.ensures c.if-from-expected.false c.is_alike.ensures
         c.if-not-is_alike.false,
@@ -37,6 +38,6 @@ pub returns : goal.returns
 returns c =
     omega (
       arith,
-      consecutive_none c.args.zone.now.offset_minutes c.args.first.now c.loop-observation.expected
+      consecutive_none (clocks_of c.args.zone.now) c.args.first.now c.loop-observation.expected
           c.args.others.now c.loop-observation.observation-index (omega arith),
     )

@@ -1,4 +1,5 @@
 use Rattle.std.proofs.Common.{◌≡◌, ◌∙◌, ◌+◌, ◌-◌, ◌≤◌, ◌||◌, false, ◌++◌, ◌∷◌, [], suc, length, arith, rules}
+use Rattle.gw_time.specs.Rule.{clocks_of}
 use Rattle.iec_asdu.specs.Types.{layout_at, type_length}
 use Rattle.iec_asdu.specs.Reading.{read_apart}
 use Rattle.iec_asdu.proofs.ObjectLoop.{told_of, further, is_right, all_stored, neither, object_fault, apart_object, behind_object, apart_goes_on, apart_fails, apart_done}
@@ -6,7 +7,7 @@ use Rattle.iec_asdu.proofs.reading.read_objects_apart.Goals as goal
 
 pub returns-in-Err : goal.returns-in-Err
 returns-in-Err c =
-    let layout = layout_at c.args.zone.now.offset_minutes c.args.kind in
+    let layout = layout_at (clocks_of c.args.zone.now) c.args.kind in
     let rest = c.loop.rest.now in
     let more : c.args.count - c.loop.counter ≡ suc (c.args.count - (c.loop.counter + 1)) = omega arith in
     let long : 3 ≤ length rest = omega (arith, c.split_at.ensures.front_len, c.split_at.ensures.back_len) in
@@ -24,7 +25,7 @@ returns-in-Err c =
 
 pub loop-preserved : goal.loop-preserved
 loop-preserved c =
-    let layout = layout_at c.args.zone.now.offset_minutes c.args.kind in
+    let layout = layout_at (clocks_of c.args.zone.now) c.args.kind in
     let rest = c.loop.rest.now in
     let more : c.args.count - c.loop.counter ≡ suc (c.args.count - (c.loop.counter + 1)) = omega arith in
     let long : 3 ≤ length rest = omega (arith, c.split_at.ensures.front_len, c.split_at.ensures.back_len) in
@@ -51,7 +52,7 @@ loop-preserved c =
 
 pub returns-then-is_refused-clause-memory : goal.returns-then-is_refused-clause-memory
 returns-then-is_refused-clause-memory c =
-    let layout = layout_at c.args.zone.now.offset_minutes c.args.kind in
+    let layout = layout_at (clocks_of c.args.zone.now) c.args.kind in
     let progress = c.loop.invariant.progress in
     let whole = read_apart c.args.common layout c.args.count c.args.objects.now in
     λ m.
@@ -60,7 +61,7 @@ returns-then-is_refused-clause-memory c =
 
 pub returns-clause-read : goal.returns-clause-read
 returns-clause-read c =
-    let layout = layout_at c.args.zone.now.offset_minutes c.args.kind in
+    let layout = layout_at (clocks_of c.args.zone.now) c.args.kind in
     let progress = c.loop.invariant.progress in
     let whole = read_apart c.args.common layout c.args.count c.args.objects.now in
     all_stored whole progress.front c.loop.found.items

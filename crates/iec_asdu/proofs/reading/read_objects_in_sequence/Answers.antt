@@ -1,4 +1,5 @@
 use Rattle.std.proofs.Common.{◌≡◌, ◌∙◌, ◌+◌, ◌-◌, ◌||◌, false, ◌++◌, ◌∷◌, [], suc, length, arith, rules}
+use Rattle.gw_time.specs.Rule.{clocks_of}
 use Rattle.iec_asdu.specs.Types.{layout_at, type_length}
 use Rattle.iec_asdu.specs.Reading.{read_in_sequence}
 use Rattle.iec_asdu.proofs.ObjectLoop.{told_of, further, is_right, all_stored, neither, object_fault, sequence_object, sequence_goes_on, sequence_fails, sequence_done}
@@ -6,7 +7,7 @@ use Rattle.iec_asdu.proofs.reading.read_objects_in_sequence.Goals as goal
 
 pub returns-in-Err : goal.returns-in-Err
 returns-in-Err c =
-    let layout = layout_at c.args.zone.now.offset_minutes c.args.kind in
+    let layout = layout_at (clocks_of c.args.zone.now) c.args.kind in
     let rest = c.loop-place.rest.now in
     let more : c.args.count - c.loop-place.place ≡ suc (c.args.count - (c.loop-place.place + 1)) = omega arith in
     let at = sequence_object c.args.common layout (c.args.first + c.loop-place.place) c.octets.result rest
@@ -22,7 +23,7 @@ returns-in-Err c =
 
 pub loop-place-preserved : goal.loop-place-preserved
 loop-place-preserved c =
-    let layout = layout_at c.args.zone.now.offset_minutes c.args.kind in
+    let layout = layout_at (clocks_of c.args.zone.now) c.args.kind in
     let rest = c.loop-place.rest.now in
     let more : c.args.count - c.loop-place.place ≡ suc (c.args.count - (c.loop-place.place + 1)) = omega arith in
     let at = sequence_object c.args.common layout (c.args.first + c.loop-place.place) c.octets.result rest
@@ -47,7 +48,7 @@ loop-place-preserved c =
 
 pub returns-then-is_refused-clause-memory : goal.returns-then-is_refused-clause-memory
 returns-then-is_refused-clause-memory c =
-    let layout = layout_at c.args.zone.now.offset_minutes c.args.kind in
+    let layout = layout_at (clocks_of c.args.zone.now) c.args.kind in
     let progress = c.loop-place.invariant.progress in
     let whole = read_in_sequence c.args.common layout c.args.count c.args.first c.args.objects.now in
     λ m. is_right whole progress.front
@@ -55,7 +56,7 @@ returns-then-is_refused-clause-memory c =
 
 pub returns-clause-read : goal.returns-clause-read
 returns-clause-read c =
-    let layout = layout_at c.args.zone.now.offset_minutes c.args.kind in
+    let layout = layout_at (clocks_of c.args.zone.now) c.args.kind in
     let progress = c.loop-place.invariant.progress in
     let whole = read_in_sequence c.args.common layout c.args.count c.args.first c.args.objects.now in
     all_stored whole progress.front c.loop-place.found.items

@@ -2,6 +2,7 @@ use Rattle.std.proofs.Common.{◌≡◌, ◌∙◌, ◌∷◌, ◌-◌, ℕ, Lis
 use Rattle.std.specs.Prelude.{All}
 use Rattle.gw_model.specs.Fit.{HasWidth}
 use Rattle.gw_model.specs.declared.observation.Observation.{Observation}
+use Rattle.gw_time.specs.Rule.{clocks_of}
 use Rattle.iec_asdu.specs.Packing.{taken_of, packed_spelling}
 use Rattle.iec_asdu.proofs.Behind.{writes_before}
 use Rattle.iec_asdu.proofs.Carried.{taken_of_some, taken_of_within, taken_of_few, packed_room, packed_whole, by_first}
@@ -21,17 +22,17 @@ same : (c : After-write_header) → first c ∷ others c ≡ c.args.observations
 same c = by_first c.args.observations.now c.requires
 
 taken : (c : After-write_header)
-    → c.write_objects-written.result.taken ≡ taken_of c.args.zone.now.offset_minutes c.args.observations.now
+    → c.write_objects-written.result.taken ≡ taken_of (clocks_of c.args.zone.now) c.args.observations.now
 taken c =
     c.write_objects-written.ensures.taken
-    ∙ ap (λ (xs : List Observation). taken_of c.args.zone.now.offset_minutes xs) (same c)
+    ∙ ap (λ (xs : List Observation). taken_of (clocks_of c.args.zone.now) xs) (same c)
 
 pub write_header-requires : goal.write_header-requires
 write_header-requires c =
     omega (
       arith,
       c.write_objects-written.ensures.taken,
-      taken_of_few c.args.zone.now.offset_minutes
+      taken_of_few (clocks_of c.args.zone.now)
           (get_or c.args.observations.now 0 nothing
           ∷ take (length c.args.observations.now - 1) (drop 1 c.args.observations.now)),
     )
@@ -41,22 +42,22 @@ returns-clause-taken c = taken c
 
 pub returns-clause-some : goal.returns-clause-some
 returns-clause-some c =
-    omega (arith, taken c, taken_of_some c.args.zone.now.offset_minutes c.args.observations.now c.requires)
+    omega (arith, taken c, taken_of_some (clocks_of c.args.zone.now) c.args.observations.now c.requires)
 
 pub returns-clause-within : goal.returns-clause-within
 returns-clause-within c =
-    omega (arith, taken c, taken_of_within c.args.zone.now.offset_minutes c.args.observations.now)
+    omega (arith, taken c, taken_of_within (clocks_of c.args.zone.now) c.args.observations.now)
 
 pub returns-clause-most : goal.returns-clause-most
 returns-clause-most c =
-    omega (arith, taken c, taken_of_few c.args.zone.now.offset_minutes c.args.observations.now)
+    omega (arith, taken c, taken_of_few (clocks_of c.args.zone.now) c.args.observations.now)
 
 pub returns-clause-room : goal.returns-clause-room
 returns-clause-room c =
     omega (
       arith,
       c.write_objects-written.ensures.written.ends,
-      packed_room c.args.zone.now.offset_minutes (first c ∷ others c) _ _ (omega arith) refl refl,
+      packed_room (clocks_of c.args.zone.now) (first c ∷ others c) _ _ (omega arith) refl refl,
     )
 
 pub returns-clause-rest : goal.returns-clause-rest
@@ -65,14 +66,14 @@ returns-clause-rest c =
 
 spelled : (c : After-write_header)
     → take c.write_objects-written.result.octets c.write_header.new.out
-    ≡ packed_spelling c.args.zone.now.offset_minutes c.args.cause c.args.observations.now
+    ≡ packed_spelling (clocks_of c.args.zone.now) c.args.cause c.args.observations.now
 spelled c =
     (writes_before _ _ _ _ _ _ _ (omega arith) c.write_objects-written.ensures.written c.write_header.ensures).front
-    ∙ packed_whole c.args.zone.now.offset_minutes c.args.cause (first c) (others c) _ _ _ _ c.of.ensures
+    ∙ packed_whole (clocks_of c.args.zone.now) c.args.cause (first c) (others c) _ _ _ _ c.of.ensures
     (c.is_some.ensures ∙ ap (λ (t : Option (List ℕ)). is_some t) c.to_tag-tag.ensures.exact)
     (c.is_some-2.ensures ∙ c.sequence_behind-sequence.ensures.sequence) c.write_objects-written.ensures.taken
     ∙ ap (λ (xs : List Observation).
-    packed_spelling c.args.zone.now.offset_minutes c.args.cause xs) (same c)
+    packed_spelling (clocks_of c.args.zone.now) c.args.cause xs) (same c)
 
 pub returns-clause-spelled : goal.returns-clause-spelled
 returns-clause-spelled c = spelled c
@@ -83,5 +84,5 @@ returns-clause-meant c =
     subst (λ (xs : List Observation). All (λ x. HasWidth x.value) (take c.write_objects-written.result.taken xs))
     (same c) (subst (λ (n : ℕ). All (λ x. HasWidth x.value) (take n (first c ∷ others c)))
     (sym c.write_objects-written.ensures.taken) c.write_objects-written.ensures.width) in
-    written_meant c.args.zone.now.offset_minutes c.args.cause c.args.observations.now _ _ c.requires
+    written_meant (clocks_of c.args.zone.now) c.args.cause c.args.observations.now _ _ c.requires
     (taken c) (spelled c) widths

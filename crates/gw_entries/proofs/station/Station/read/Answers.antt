@@ -15,6 +15,7 @@ seen : (c : goal.In_ok-from_str) → station_seen record {
   common_address = c.number_u16.result;
   master_address = c.number_u16-2.result;
   offset_minutes = to_z w16 (of_z w16 (to_z w64 (of_z w64 c.signed.result)));
+  rule = c.rule.result;
   k = c.number_u16-3.result;
   w = c.number_u16-4.result;
   t1_ms = c.number_u32.result;
@@ -32,6 +33,7 @@ seen c =
       common_address = fits_min _ _ _ _ c.number_u16.ensures s.common_address.1 (lit≤ tt) i;
       master_address = fits_min _ _ _ _ c.number_u16-2.ensures s.master_address (lit≤ tt) i;
       offset_minutes = minutes_fit _ _ c.signed.ensures (s.offset_from, s.offset_to) i;
+      rule = c.rule.ensures i;
       k = fits_min _ _ _ _ c.number_u16-3.ensures s.k.1 (lit≤ tt) i;
       w = fits_min _ _ _ _ c.number_u16-4.ensures (up_to _ _ _ s.w.1 s.k.1) (lit≤ tt) i;
       t1_ms = fits_min _ _ _ _ c.number_u32.ensures s.t1_ms.1 (lit≤ tt) i;

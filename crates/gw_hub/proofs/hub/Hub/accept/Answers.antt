@@ -4,6 +4,7 @@ use Rattle.gw_picture.proofs.ByType.{reports_rows}
 use Rattle.gw_picture.proofs.Lists.{change-length}
 use Rattle.gw_steps.specs.State.{Counts}
 use Rattle.std.specs.Option.{option_to_list}
+use Rattle.gw_map.specs.Settings.{station_clocks}
 use Rattle.gw_steps.specs.Controls.{outcome_ended}
 use Rattle.gw_hub.specs.Hub.{KeepsToSession, news_of_all}
 use Rattle.gw_hub.proofs.Each.{all_mapped}
@@ -38,7 +39,7 @@ invariant_of-self c =
     (record {
       sound = sound_of _ _ c.rows-shown.ensures.sendable
           (subst (ShowsRows _) (sym c.take_reports-news.ensures.picture)
-          (reports_rows c.get.result.now.station.offset_minutes _ _ c.reports-reports.result.now before.rows))
+          (reports_rows (station_clocks c.get.result.now.station) _ _ c.reports-reports.result.now before.rows))
           (ap length c.take.ensures ∙ (change-length _ _ _ ∙ before.masters)) orders;
       sessions = kept_outcomes (option_to_list (outcome_ended _ c.args.ended c.self.inside.controls)) _ _
           c.end_order.ensures.clients

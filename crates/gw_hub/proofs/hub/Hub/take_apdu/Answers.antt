@@ -8,7 +8,7 @@ use Rattle.gw_model.specs.Places.{change}
 use Rattle.gw_model.specs.declared.observation.Observation.{Observation}
 use Rattle.gw_station.specs.Frames.{client_after_apdu}
 use Rattle.gw_steps.specs.declared.step.Step.TheVariants as steps
-use Rattle.gw_map.specs.Settings.{Setup}
+use Rattle.gw_map.specs.Settings.{Setup, station_clocks}
 use Rattle.gw_steps.specs.Steps.{after, can_order, can_rise, client_answered, client_up, command_of, is_beginning, is_ordering, latest, one_if, outcome, raised}
 use Rattle.gw_parts.specs.Clients.{event_at}
 use Rattle.gw_hub.specs.declared.orders.Sender.{Sender}
@@ -47,12 +47,12 @@ settle-requires-clause-number c =
 pub invariant_of-self-2 : goal.invariant_of-self-2
 invariant_of-self-2 c =
     let setup = c.get-settings.result.now in
-    let offset = setup.station.offset_minutes in
+    let clocks = (station_clocks setup.station) in
     let before = rw (← c.get-settings.ensures) at c.self.invariant.sound in
     let counts = c.self.inside.counts in
     let rows = c.rows-picture.ensures in
-    let sends = subst (AllByRecursion (IsSendable offset)) (sym rows.shown)
-    (sendable_shown offset c.self.inside.picture rows.sendable) in
+    let sends = subst (AllByRecursion (IsSendable clocks)) (sym rows.shown)
+    (sendable_shown clocks c.self.inside.picture rows.sendable) in
     let sender : Sender = record { client = c.args.client; session = c.session.result; moment = c.args.moment } in
     let steps : counts.steps + 1 ≤ c.raise.new.self.steps =
     omega (arith, ap (λ (counts : Counts). counts.steps) c.raise.ensures) in

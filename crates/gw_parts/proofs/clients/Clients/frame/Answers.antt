@@ -2,6 +2,7 @@ use Rattle.std.proofs.Common.{◌+◌, List, sym, ap, subst, ◌∙◌, arith}
 use Rattle.std.specs.List.{AllByRecursion}
 use Rattle.std.proofs.Math.ListN.{set}
 use Rattle.std.proofs.lemmas.Result.{err_from_is_err_and}
+use Rattle.gw_map.specs.Settings.{station_clocks}
 use Rattle.gw_station.specs.Client.{Client}
 use Rattle.gw_station.specs.Frames.{client_after_apdu, HasPlace}
 use Rattle.gw_station.specs.Ring.{seen}
@@ -70,9 +71,9 @@ returns-clause-sound c = λ any n i shown all.
     c.in-Some.ensures.item.3.0 c.in-Some.ensures.value in
     let taken = c.in_ok-event.ensures in
     let sound = has_too (IsSoundClient any.station n i) c.args.client c.args.self.now.each old place all in
-    let answers = taken.sendable any.station.offset_minutes shown (sound.answers, sound.rest) in
+    let answers = taken.sendable (station_clocks any.station) shown (sound.answers, sound.rest) in
     let here = sound_after_apdu any.station n i setup picture moment apdu old
-    (subst (CanAnswer any.station.offset_minutes) taken.client answers) sound in
+    (subst (CanAnswer (station_clocks any.station)) taken.client answers) sound in
     subst (AllByRecursion (IsSoundClient any.station (n + 1) i))
     (sym (seen_set r c.from.result c.self.inside.stations.items c.frame.new.self
     ∙ ap (λ (ks : List Client). set ks c.from.result new) view))

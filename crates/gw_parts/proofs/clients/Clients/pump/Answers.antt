@@ -1,5 +1,6 @@
 use Rattle.std.proofs.Common.{◌≡◌, Option, Some, None, sym, ap, ◌∙◌}
 use Rattle.std.specs.Prelude.{option_map}
+use Rattle.gw_map.specs.Settings.{station_clocks}
 use Rattle.iec_apci.specs.declared.buffer.ApduBuf.{ApduBuf}
 use Rattle.iec_apci.specs.Apdu.{ApduContent}
 use Rattle.iec_apci.specs.Buffer.{buffer_of}
@@ -17,7 +18,7 @@ use Rattle.gw_parts.proofs.clients.Clients.pump.Goals as goal
 pub returns-in_default-clause-clients : goal.returns-in_default-clause-clients
 returns-in_default-clause-clients c =
     clients_unchanged c.self.inside.news c.from.result c.args.client
-    (client_after_pump c.args.settings.now.station.offset_minutes c.args.moment) _ _ c.from.ensures
+    (client_after_pump (station_clocks c.args.settings.now.station) c.args.moment) _ _ c.from.ensures
     (ap (λ (k : Clients). k.each) c.self.view_is) c.in_default.ensures.item.3
 
 pub pump-requires-clause-count : goal.pump-requires-clause-count
@@ -38,7 +39,7 @@ pub returns-clause-reply : goal.returns-clause-reply
 returns-clause-reply c =
     let station = c.args.settings.now.station in
     let k = seen c.self.inside.news c.in-Some.station.now in
-    let given_so = given station.offset_minutes c.args.moment k in
+    let given_so = given (station_clocks station) c.args.moment k in
     let place = place_of c.self.inside.news c.from.result c.args.client _ _ c.in-Some.station.now c.from.ensures
     (ap (λ (k : Clients). k.each) c.self.view_is) c.in-Some.ensures.item.3.0 c.in-Some.ensures.value in
     let one : c.match-pump.result ≡ reply_giving given_so = elim c.match-pump.branch [
@@ -51,5 +52,5 @@ returns-clause-reply c =
 pub returns-clause-clients : goal.returns-clause-clients
 returns-clause-clients c =
     clients_changed c.self.inside.news c.from.result c.args.client
-    (client_after_pump c.args.settings.now.station.offset_minutes c.args.moment) _ _ _ _ c.from.ensures
+    (client_after_pump (station_clocks c.args.settings.now.station) c.args.moment) _ _ _ _ c.from.ensures
     (ap (λ (k : Clients). k.each) c.self.view_is) c.in-Some.ensures.value c.pump.ensures.client

@@ -1,6 +1,7 @@
 use Rattle.std.proofs.Common.{◌≡◌, ℕ, List, ◌++◌, take, ap, ◌∙◌, arith}
 use Rattle.std.specs.Prelude.{slice_set}
 use Rattle.gw_model.specs.declared.observation.Observation.{Observation}
+use Rattle.gw_map.specs.Settings.{station_clocks}
 use Rattle.iec_asdu.specs.Packing.{taken_of}
 use Rattle.iec_asdu.proofs.Carried.{packed_spelling_front, taken_of_front}
 use Rattle.gw_answers.specs.Octets.{packed_octets}
@@ -22,13 +23,13 @@ pub returns-clause-asdu : goal.returns-clause-asdu
 returns-clause-asdu c =
     let station = c.args.settings.now.station in
     c.pack_news.ensures.asdu
-    ∙ (ap (λ (xs : List Observation). packed_octets station.offset_minutes 3 0 xs) (front c)
+    ∙ (ap (λ (xs : List Observation). packed_octets (station_clocks station) 3 0 xs) (front c)
     ∙ ap (λ (octets : List ℕ). slice_set octets 3 0)
-    (packed_spelling_front station.offset_minutes 3
+    (packed_spelling_front (station_clocks station) 3
     (news_next (seen c.args.news.now c.args.self.now))))
 
 pub returns-clause-taken : goal.returns-clause-taken
 returns-clause-taken c =
     c.pack_news.ensures.taken
-    ∙ (ap (λ (xs : List Observation). taken_of c.args.settings.now.station.offset_minutes xs) (front c)
-    ∙ taken_of_front c.args.settings.now.station.offset_minutes (news_next (seen c.args.news.now c.args.self.now)))
+    ∙ (ap (λ (xs : List Observation). taken_of (station_clocks c.args.settings.now.station) xs) (front c)
+    ∙ taken_of_front (station_clocks c.args.settings.now.station) (news_next (seen c.args.news.now c.args.self.now)))

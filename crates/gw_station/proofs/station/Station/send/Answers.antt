@@ -1,4 +1,5 @@
 use Rattle.std.proofs.Common.{ap, ◌∙◌}
+use Rattle.gw_map.specs.Settings.{station_clocks}
 use Rattle.iec_apci.specs.Buffer.{buffer_of}
 use Rattle.gw_station.proofs.Sent.{news_some, news_content, news_sent, part_is_first, part_content_is, parts_sent}
 use Rattle.gw_station.specs.Ring.{seen}
@@ -15,24 +16,24 @@ send_parts-requires-clause-first c =
 pub returns-in-News-clause-apdu : goal.returns-in-News-clause-apdu
 returns-in-News-clause-apdu c =
     c.send_news.ensures.apdu
-    ∙ ap buffer_of (news_content c.args.settings.now.station.offset_minutes
+    ∙ ap buffer_of (news_content (station_clocks c.args.settings.now.station)
     (seen c.args.news.now c.args.self.now) c.args.sending c.in-News.field-0 c.in-News.is c.requires.next)
 
 pub returns-in-News-clause-client : goal.returns-in-News-clause-client
 returns-in-News-clause-client c =
     c.send_news.ensures.client
-    ∙ news_sent c.args.settings.now.station.offset_minutes c.args.moment (seen c.args.news.now c.args.self.now) c.args.sending
+    ∙ news_sent (station_clocks c.args.settings.now.station) c.args.moment (seen c.args.news.now c.args.self.now) c.args.sending
     c.in-News.field-0 c.in-News.is c.requires.next
 
 pub returns-in-Part-clause-apdu : goal.returns-in-Part-clause-apdu
 returns-in-Part-clause-apdu c =
     c.send_parts.ensures.apdu
-    ∙ ap buffer_of (part_content_is c.args.settings.now.station.offset_minutes
+    ∙ ap buffer_of (part_content_is (station_clocks c.args.settings.now.station)
     (seen c.args.news.now c.args.self.now) c.args.sending c.in-Part.part c.in-Part.is
     c.requires.next)
 
 pub returns-in-Part-clause-client : goal.returns-in-Part-clause-client
 returns-in-Part-clause-client c =
     ap (seen c.args.news.now) c.send_parts.ensures.seat
-    ∙ parts_sent c.args.settings.now.station.offset_minutes c.args.moment (seen c.args.news.now c.args.self.now) c.args.sending
+    ∙ parts_sent (station_clocks c.args.settings.now.station) c.args.moment (seen c.args.news.now c.args.self.now) c.args.sending
     c.in-Part.part c.in-Part.is c.requires.next

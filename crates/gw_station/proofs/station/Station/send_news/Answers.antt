@@ -1,4 +1,5 @@
 use Rattle.std.proofs.Common.{arith}
+use Rattle.gw_map.specs.Settings.{station_clocks}
 use Rattle.iec_asdu.proofs.Carried.{taken_of_within}
 use Rattle.gw_station.specs.Kept.{news_next}
 use Rattle.gw_station.specs.Ring.{seen}
@@ -11,6 +12,6 @@ forget_news-requires-clause-few c =
     omega (
       arith,
       c.pack_news-packed.ensures.taken,
-      taken_of_within c.args.settings.now.station.offset_minutes (news_next k),
+      taken_of_within (station_clocks c.args.settings.now.station) (news_next k),
       next_within k,
     )

@@ -10,6 +10,7 @@ returns-clause-numbers c n e =
       milliseconds = time.0;
       minute = time.1;
       invalid = c.args.invalid;
+      summer = c.args.summer;
       hour = time.2;
       day = date.0;
       month = date.1;
