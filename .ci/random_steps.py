@@ -78,13 +78,16 @@ def random_control(rng, outstation, show, address):
     return table("[[control]]", **keys)
 
 
+RULES = ["CET-1CEST,M3.5.0,M10.5.0/3", "EST5EDT,M3.2.0,M11.1.0", "IST-1GMT0,M10.5.0,M3.5.0/1"]
+
+
 def random_station(rng, common, k):
     """The table of the station, and its periods."""
     t1 = rng.choice([40, 1000, 15000, 15000, 255000])
     t2, t3 = rng.choice([1, t1 // 2, t1 * 2 // 3, t1 - 1]), rng.choice([30, 2000, 20000, 20000, 255000])
     keys = {"k": k, "w": rng.randint(1, min(k, 8)), "t1_ms": t1, "t2_ms": t2, "t3_ms": t3}
     keys |= {"queue": rng.choice([1, 2, 3, 10, 1000]), "offset_minutes": rng.choice([0, 0, 60, -300, 840, -840])}
-    keys |= {"rule": rng.choice([None, None, "CET-1CEST,M3.5.0,M10.5.0/3", "EST5EDT,M3.2.0,M11.1.0", "IST-1GMT0,M10.5.0,M3.5.0/1"])}
+    keys |= {"rule": rng.choice([None, None, *RULES])}
     select = rng.choice([1, 30, 10000, 10000, 600000])
     return table("[station]", common_address=common, **keys, select_ms=select), [t1, t2, t3, select]
 
