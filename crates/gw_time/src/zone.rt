@@ -1,7 +1,6 @@
 //! The clocks of the station.
 ghost use Rattle.std.specs.Prelude.{◌≡◌, ◌↔◌, ◌≤◌, ◌*◌, ℕ, ℤ, pos, negsuc, ◌≤ℤ◌, ◌-ℤ◌, ◌*ℤ◌, ◌&&◌, IsSome, IfSome};
 ghost use Rattle.jiff_core.specs.DateTime.{civil_nanos};
-ghost use Rattle.jiff_tz.specs.PosixRule.{int_same};
 
 use jiff::Timestamp;
 use jiff::civil::DateTime;
@@ -48,7 +47,7 @@ impl Zone {
             None => false,
             Some(rule) => {
                 let seconds = rule.to_offset(timestamp.to_plain()).seconds;
-                are_equal(seconds, 60 * (i32::from(self.offset_minutes) + 60))
+                seconds == 60 * (i32::from(self.offset_minutes) + 60)
             }
         }
     }
@@ -123,11 +122,4 @@ fn timestamp_of(instant: u64) -> Option<Timestamp>
         return None;
     }
     Timestamp::from_millisecond(instant as i64).ok()
-}
-
-/// Whether two offsets in seconds are equal.
-fn are_equal(a: i32, b: i32) -> bool
-    ensures { result ≡ int_same a b }
-{
-    a == b
 }
