@@ -1,5 +1,5 @@
 -- Short words for the worked examples: qualities, observations, ASDUs of originator 0, and what octets mean.
-use Rattle.std.specs.Prelude.{ℕ, pos, Bool, true, false, List, map, Option, Result}
+use Rattle.std.specs.Prelude.{ℕ, Bool, true, false, List, map, Option, Result}
 use Rattle.gw_model.specs.declared.point.Stamp.TheVariants.{Untimed, At, Doubtful}
 use Rattle.gw_model.specs.declared.observation.Value.{Value}
 use Rattle.gw_model.specs.declared.observation.Value.TheVariants.{Single, Double}
