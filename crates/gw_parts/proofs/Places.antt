@@ -1,5 +1,5 @@
 -- A place of a list that was lent, and a walk over all of them.
-use Rattle.std.specs.Prelude.{replicate, slice_get, IfSome}
+use Rattle.std.specs.Prelude.{replicate, slice_get}
 use Rattle.std.specs.List.{AllByRecursion}
 use Rattle.std.proofs.Common.{◌≡◌, ℕ, zero, suc, ◌+◌, List, [], ◌∷◌, ◌++◌, map, get_or, Some, None, refl, sym, ap, subst, ◌∙◌, arith}
 use Rattle.std.proofs.Math.ListN.{set}
@@ -18,18 +18,6 @@ pub index_changed : {A : Type 0} (n : ℕ) (f : A → A) (xs : List A) (x y : A)
 index_changed n f [] x y there e = refl
 index_changed zero f (z ∷ xs) x y there e = ap (λ (w : _). w ∷ xs) (e ∙ ap f there)
 index_changed (suc n) f (z ∷ xs) x y there e = ap (λ (zs : List _). z ∷ zs) (index_changed n f xs x y there e)
-
--- x was left as it stood there
-pub lent_same : {A : Type 0} (n : ℕ) (xs : List A) (x y : A) → Some x ≡ slice_get xs n → y ≡ x → set xs n y ≡ xs
-lent_same n [] x y there e = refl
-lent_same zero (z ∷ xs) x y there e = ap (λ (w : _). w ∷ xs) (e ∙ some_is x z there)
-lent_same (suc n) (z ∷ xs) x y there e = ap (λ (zs : List _). z ∷ zs) (lent_same n xs x y there e)
-
--- what is left there has what it has
-pub lent_has : {A : Type 0} (P : A → Type 0) (n : ℕ) (xs : List A) (y : A) → P y → IfSome (slice_get (set xs n y) n) P
-lent_has P n [] y holds = tt
-lent_has P zero (z ∷ xs) y holds = holds
-lent_has P (suc n) (z ∷ xs) y holds = lent_has P n xs y holds
 
 -- there is no such place
 pub none_changed : {A : Type 0} (n : ℕ) (f : A → A) (xs : List A) → None ≡ slice_get xs n → xs ≡ change n f xs
