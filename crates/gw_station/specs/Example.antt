@@ -1,5 +1,5 @@
 -- Clients of the worked examples.
-use Rattle.std.specs.Prelude.{ℕ, zero, suc, false, true, List, [], ◌∷◌, replicate, pos}
+use Rattle.std.specs.Prelude.{ℕ, zero, suc, false, true, List, [], ◌∷◌, replicate}
 use Rattle.std.proofs.Common.{lit≤}
 use Rattle.gw_model.specs.declared.observation.Observation.{Observation}
 use Rattle.gw_model.specs.declared.observation.Value.TheVariants.{Single}

@@ -1,5 +1,5 @@
 //! Worked examples, computed by the definitions.
-ghost use Rattle.std.specs.Prelude.{◌≡◌, [], ◌∷◌, pos, map, length, true, false, Some, None};
+ghost use Rattle.std.specs.Prelude.{◌≡◌, [], ◌∷◌, map, length, true, false, Some, None};
 ghost use Rattle.gw_model.specs.Clocks.{utc};
 ghost use Rattle.iec_apci.specs.declared.apdu.Apdu.TheVariants.{I, S, U};
 ghost use Rattle.iec_apci.specs.declared.apdu.Signal.TheVariants.{StartAct, StartCon, StopAct, StopCon, TestAct, TestCon};
