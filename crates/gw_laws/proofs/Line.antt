@@ -1,6 +1,7 @@
 -- What ties what waits for a client to its session.
 use Rattle.std.proofs.Common.{◌≡◌, ℕ, zero, suc, ◌+◌, ◌-◌, ◌<◌, ◌≤◌, Bool, true, false, List, [], ◌∷◌, ◌++◌, map, length, take, drop, Option, Some, None, refl, sym, ap, subst, ◌∙◌, append_assoc, arith, inl, inr}
-use Rattle.std.specs.Prelude.{◌&&◌, option_map, slice_get, IfSome}
+use Rattle.std.proofs.Math.Bool.{and-false}
+use Rattle.std.specs.Prelude.{option_map, slice_get, IfSome}
 use Rattle.std.specs.Option.{option_to_list}
 use Rattle.std.specs.List.{AllByRecursion}
 use Rattle.std.proofs.lemmas.Bool.{cases_Bool, true≢false}
@@ -233,14 +234,10 @@ signal_taken setup taking moment StopCon (Some hs) k news tied =
 -- ---- an ASDU is taken
 
 -- the answers that it gets
-and_false : (b : Bool) → b && false ≡ false
-and_false true = refl
-and_false false = refl
-
 refused_apart : (setup : Setup) (pending : Bool) (command : Command)
     → AllByRecursion IsApart (option_to_list (refused_act setup pending command))
 refused_apart setup pending command = elim (cases_Bool (is_accepted_act pending command))
-    [ inl is ↦ rw is tt | inr isnt ↦ rw isnt (and_false _, tt) ]
+    [ inl is ↦ rw is tt | inr isnt ↦ rw isnt (and-false _, tt) ]
 
 shown_apart : (x : Option Observation) (originator : ℕ)
     → AllByRecursion IsApart (option_to_list (option_map (λ y. Made (outgoing.Observation 5 originator y)) x))

@@ -119,10 +119,6 @@ signal_up moment StartCon k up = up
 signal_up moment StopCon k up = up
 signal_up moment TestCon k up = up
 
-signal_confirmations : (moment : ℕ) (signal : Signal) (k : Client)
-    → (client_with_signal moment signal k).confirmations ≡ confirmations_taking (U signal) k.confirmations
-signal_confirmations moment signal k = refl
-
 -- an APDU that is taken, before a command in it is answered
 taking_up : (setup : Setup) (picture : List Observation) (moment : ℕ) (a : Apdu) (k : Client) → is_up k.stage ≡ true
     → is_up (client_taking setup picture moment a k).stage ≡ true
