@@ -6,7 +6,8 @@ ghost use Rattle.gw_model.specs.Places.{change};
 ghost use Rattle.gw_answers.specs.Answers.{first_asked};
 ghost use Rattle.gw_answers.specs.Interrogations.{answer_under, asked_addresses, cause_for, is_accepted_act, is_asked_by, is_general, rows_under};
 ghost use Rattle.gw_answers.specs.Outgoing.{under};
-ghost use Rattle.gw_answers.specs.Sections.{commands_in, parts_of, rows_in, AreDistinct};
+ghost use Rattle.gw_map.specs.Settings.{AreDistinct};
+ghost use Rattle.gw_answers.specs.Sections.{commands_in, parts_of, rows_in};
 
 use crate::answering::under;
 use gw_judge::ALL_STATIONS;
