@@ -95,14 +95,15 @@ found_in p n i (x ∷ xs) ys h lt = elim (cases_Bool (p x)) [
   | inr miss ↦ rw miss (found_in p (n + 1) i xs ys (rw miss at h) (omega arith))
 ]
 
-any_more : {K : Type 0} (p : K → Bool) (b : K) (xs : List K) → list_any p xs ≡ true → list_any p (xs ++ b ∷ []) ≡ true
+pub any_more : {K : Type 0} (p : K → Bool) (b : K) (xs : List K) → list_any p xs ≡ true
+    → list_any p (xs ++ b ∷ []) ≡ true
 any_more p b [] h = absurd (true≢false (sym h))
 any_more p b (x ∷ xs) h = elim (cases_Bool (p x)) [
   | inl hit ↦ rw hit
   | inr miss ↦ rw miss (any_more p b xs (rw miss at h))
 ]
 
-fresh_head : (again : Bool) (n : ℕ) (more : List ℕ) → cond again (n ∷ []) [] ++ more ≡ []
+pub fresh_head : (again : Bool) (n : ℕ) (more : List ℕ) → cond again (n ∷ []) [] ++ more ≡ []
     → (again ≡ false) × (more ≡ [])
 fresh_head true n more h = absurd cc
 fresh_head false n more h = (refl, h)
