@@ -1,7 +1,7 @@
 -- A place of a list that was lent, and a walk over all of them.
-use Rattle.std.specs.Prelude.{replicate, slice_get}
+use Rattle.std.specs.Prelude.{slice_get}
 use Rattle.std.specs.List.{AllByRecursion}
-use Rattle.std.proofs.Common.{◌≡◌, ℕ, zero, suc, ◌+◌, List, [], ◌∷◌, ◌++◌, map, get_or, Some, None, refl, sym, ap, subst, ◌∙◌, arith}
+use Rattle.std.proofs.Common.{◌≡◌, ℕ, zero, suc, ◌+◌, List, [], ◌∷◌, ◌++◌, map, get_or, Some, None, refl, sym, ap, subst, ◌∙◌}
 use Rattle.std.proofs.Math.ListN.{set}
 use Rattle.gw_model.specs.Places.{change}
 use Rattle.gw_picture.proofs.Lists.{some_is}
@@ -34,18 +34,6 @@ has_too P (suc n) (z ∷ xs) x there all = has_too P n xs x there all.1
 
 -- ---- so many alike
 
-replicate_suc : {A : Type 0} (n : ℕ) (x : A) → replicate (suc n) x ≡ replicate n x ++ x ∷ []
-replicate_suc zero x = refl
-replicate_suc (suc n) x = ap (λ (zs : List _). x ∷ zs) (replicate_suc n x)
-
 pub map-end : {A B : Type 0} (f : A → B) (xs : List A) (y : A) → map f (xs ++ y ∷ []) ≡ map f xs ++ f y ∷ []
 map-end f [] y = refl
 map-end f (x ∷ xs) y = ap (λ (zs : List _). f x ∷ zs) (map-end f xs y)
-
--- one more of them at the end
-pub one_more : {A : Type 0} (n m : ℕ) (x y : A) (ys more : List A) → m ≡ n + 1 → more ≡ ys ++ y ∷ [] → y ≡ x
-    → ys ≡ replicate n x → more ≡ replicate m x
-one_more n m x y ys more next push is so_far =
-    let e : m ≡ suc n = omega (arith, next) in
-    push ∙ (ap (λ (zs : List _). zs ++ y ∷ []) so_far
-    ∙ (ap (λ (z : _). replicate n x ++ z ∷ []) is ∙ sym (ap (λ (k : ℕ). replicate k x) e ∙ replicate_suc n x)))
