@@ -5,7 +5,7 @@ use Rattle.std.specs.Prelude.{option_map, slice_get, IfSome}
 use Rattle.std.specs.Option.{option_to_list}
 use Rattle.std.specs.List.{AllByRecursion}
 use Rattle.std.proofs.lemmas.Bool.{cases_Bool, true≢false}
-use Rattle.std.proofs.lemmas.List.{append-nil, length-append, length-drop, length-take-le}
+use Rattle.std.proofs.lemmas.List.{append-nil, length-append, length-drop, length-take-le, length-map}
 use Rattle.gw_model.specs.declared.observation.Observation.{Observation}
 use Rattle.gw_model.specs.Clocks.{Clocks}
 use Rattle.gw_map.specs.Settings.{Setup, station_clocks}
@@ -93,10 +93,6 @@ same_split true n m queue rest is same = ap (λ (i : ℕ). map sendings.News (ta
 same_split false n m queue rest is same = rw (nothing_asked rest is)
     (split_anywhere n queue ∙ sym (split_anywhere m queue))
 
-length-queued : (queue : List Observation) → length (map queued queue) ≡ length queue
-length-queued [] = refl
-length-queued (x ∷ queue) = ap suc (length-queued queue)
-
 -- settled ones and the queue are all
 pub settled_is : (setup : Setup) (hs : List Turn) (k : Client) (tied : InSession setup hs k)
     → length (fates setup.station hs) ≡ length tied.settled + length k.queue
@@ -104,7 +100,7 @@ settled_is setup hs k tied = ap length tied.told ∙ omega (
   arith,
   length-append tied.settled
       (map queued k.queue),
-  length-queued k.queue,
+  length-map k.queue queued,
 )
 
 pub line_is : (setup : Setup) (hs : List Turn) (k : Client) → InSession setup hs k → LineTied setup (Some hs) k
