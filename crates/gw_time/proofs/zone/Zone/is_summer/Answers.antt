@@ -5,7 +5,6 @@ use Rattle.std.proofs.Math.Dec.{eqb}
 use mir.Val.{SFits, to_z, of_z}
 use mir.Syntax.{w32}
 use Rattle.jiff_core.specs.declared.Offset.{Offset}
-use Rattle.jiff_core.specs.declared.timestamp.Timestamp.{Timestamp}
 use Rattle.jiff_core.proofs.SignedLemmas.{signed_casts}
 use Rattle.jiff_tz.specs.declared.posix.TimeZone.{TimeZone}
 use Rattle.jiff_tz.specs.PosixRule.{int_same, offset_at}
@@ -24,11 +23,9 @@ unfolding clocks_of is_summer_by_rule
 returns-in-Some c t e =
     let zone = c.args.self.now in
     let rule = c.in-Some.rule in
-    let moment : c.to_plain.result.nanosecond ≡ pos (t * 1_000_000) =
-    ap (λ (x : Timestamp). x.nanosecond) c.to_plain.ensures ∙ e in
     let seconds : c.to_offset-seconds.result.seconds ≡ seconds_ahead (tz_view rule) (pos (t * 1_000_000)) =
     ap (λ (x : Offset). x.seconds) c.to_offset-seconds.ensures
-    ∙ ap (λ (n : ℤ). (offset_at rule n).seconds) moment
+    ∙ ap (λ (n : ℤ). (offset_at rule n).seconds) e
     ∙ sym (seconds_are_jiffs rule (pos (t * 1_000_000))) in
     let in_range = c.to_offset-seconds.result.in_range in
     let offset : ℤ = pos 60 *ℤ to_z w32 (of_z w32 (to_z w32 (of_z w32 c.from.result) +ℤ pos 60)) in
