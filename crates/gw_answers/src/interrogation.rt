@@ -221,10 +221,10 @@ fn rows_under(
 ) -> Result<Vec<Observation>, Memory>
     ensures { IfOk result (λ rows. rows.items ≡ rows_under action picture.now common_address) }
 {
-    let mut rows = Vec::with_capacity(alloc, picture.len())?;
+    let mut rows = Vec::new(alloc);
     for observation in picture {
         if observation.common == common_address && is_asked_by(action, observation) {
-            rows.push_reserved(*observation);
+            rows.push(*observation)?;
         }
     }
     Ok(rows)
