@@ -279,6 +279,11 @@ def asdu(kind, cause, address, element):
     return bytes([kind, 1, cause, 0, 1, 0]) + address.to_bytes(3, "little") + bytes.fromhex(element)
 
 
+def under(common, octets):
+    """An ASDU under another common address."""
+    return octets[:4] + common.to_bytes(2, "little") + octets[6:]
+
+
 def each_alone(octets):
     """The ASDUs of one object each that say the same: of process information, whatever went together. What comes back,
     and what is of another type, has one object."""

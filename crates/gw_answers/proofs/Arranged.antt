@@ -1,5 +1,6 @@
 -- Rows that are arranged by their common addresses.
 use Rattle.std.proofs.Common.{◌≡◌, ℕ, zero, suc, ◌==◌, ◌&&◌, Bool, true, false, cond, List, [], ◌∷◌, ◌++◌, map, Some, refl, sym, ap, ap₂, ◌∙◌, inl, inr}
+use Rattle.std.proofs.Math.Bool.{and-false}
 use Rattle.std.specs.Prelude.{slice_get}
 use Rattle.std.specs.List.{list_any}
 use Rattle.std.proofs.lemmas.Bool.{cases_Bool, true≢false, eqb-true, eq-eqb}
@@ -14,7 +15,8 @@ use Rattle.gw_answers.specs.declared.interrogation.AnswerSection.{AnswerSection}
 use Rattle.gw_answers.specs.declared.outgoing.OwnAsdu.{OwnAsdu}
 use Rattle.gw_answers.specs.Interrogations.{answer_under, answer_with, is_asked_by, rows_under}
 use Rattle.gw_answers.specs.Outgoing.{under}
-use Rattle.gw_answers.specs.Sections.{commands_in, parts_of, rows_in, AreDistinct}
+use Rattle.gw_map.specs.Settings.{AreDistinct}
+use Rattle.gw_answers.specs.Sections.{commands_in, parts_of, rows_in}
 
 -- ---- sections by their acts and their rows
 
@@ -56,17 +58,13 @@ not_here : (action : Action) (xs : List Observation) (x : Observation) (common :
     → rows_under action (xs ++ x ∷ []) common ≡ rows_under action xs common
 not_here action xs x common apart = one_more action xs x common ∙ rw apart (append-nil (rows_under action xs common))
 
-and_false : (b : Bool) → (b && false) ≡ false
-and_false true = refl
-and_false false = refl
-
 pub not_asked : (action : Action) (xs : List Observation) (x : Observation) (addresses : List ℕ)
     → is_asked_by action x ≡ false
     → map (rows_under action (xs ++ x ∷ [])) addresses ≡ map (rows_under action xs) addresses
 not_asked action xs x [] apart = refl
 not_asked action xs x (common ∷ more) apart =
     ap₂ (λ (rows : List Observation) (others : List (List Observation)). rows ∷ others)
-    (not_here action xs x common (ap (λ (b : Bool). (x.common == common) && b) apart ∙ and_false (x.common == common)))
+    (not_here action xs x common (ap (λ (b : Bool). (x.common == common) && b) apart ∙ and-false (x.common == common)))
     (not_asked action xs x more apart)
 
 -- two numbers are compared either way

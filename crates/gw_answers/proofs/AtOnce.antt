@@ -6,7 +6,7 @@ use Rattle.std.specs.Prelude.{option_map}
 use Rattle.gw_model.specs.declared.observation.Observation.{Observation}
 use Rattle.gw_entries.specs.declared.row.Row.{Row}
 use Rattle.gw_map.specs.Settings.{Setup, row_object, control_object, known_addresses, row_at_from, HasSingleAddresses}
-use Rattle.gw_answers.proofs.Distinct.{some_known}
+use Rattle.gw_map.proofs.Known.{some_known}
 use Rattle.iec_apci.specs.declared.apdu.Asdu.{Asdu}
 use Rattle.iec_command.specs.declared.command.Command.{Command}
 use Rattle.iec_command.specs.declared.command.Action.{Action}

@@ -1,5 +1,4 @@
 pub mod Meant
 pub mod Sendable
 pub mod AtOnce
-pub mod Distinct
 pub mod Arranged

@@ -6,7 +6,7 @@ use Rattle.std.proofs.lemmas.Bool.{cases_Bool}
 use Rattle.gw_model.specs.declared.observation.Observation.{Observation}
 use Rattle.gw_model.specs.Clocks.{Clocks}
 use Rattle.gw_entries.specs.declared.row.Row.{Row as AnyRow}
-use Rattle.gw_map.specs.Settings.{Setup, row_at_from}
+use Rattle.gw_map.specs.Settings.{Setup, row_at_from, AreShort, HasShortAddresses}
 use Rattle.iec_apci.specs.declared.apdu.Asdu.{Asdu}
 use Rattle.iec_command.specs.declared.command.Command.{Command}
 use Rattle.iec_command.specs.declared.command.Action.{Action}
@@ -22,7 +22,7 @@ use Rattle.gw_answers.specs.Outgoing.{command_with, confirmed, under}
 use Rattle.gw_answers.specs.Interrogations.{asked_addresses, is_accepted_act, is_asked_by, rows_under, answer_under, answer_to, cause_for}
 use Rattle.gw_answers.specs.Answers.{shown_by, first_asked, refused_act, answered_action, answered}
 use Rattle.gw_answers.specs.Octets.{octets_in}
-use Rattle.gw_answers.specs.Meaning.{AreShort, HasShortAddresses, IsSendable, is_answering, CanSendOutgoing, CanSendAnswer}
+use Rattle.gw_answers.specs.Meaning.{IsSendable, is_answering, CanSendOutgoing, CanSendAnswer}
 
 -- ---- commands
 

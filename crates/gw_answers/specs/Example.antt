@@ -5,7 +5,7 @@ use Rattle.gw_model.specs.declared.observation.Value.{Value}
 use Rattle.gw_model.specs.declared.observation.Value.TheVariants.{Single, Scaled, Total}
 use Rattle.gw_model.specs.declared.observation.Quality.{Quality}
 use Rattle.gw_model.specs.declared.observation.Observation.{Observation}
-use Rattle.gw_model.specs.Clocks.{always_ahead}
+use Rattle.gw_model.specs.Clocks.{utc}
 use Rattle.iec_apci.specs.declared.apdu.Asdu.{Asdu}
 use Rattle.iec_command.specs.declared.command.Command.{Command}
 use Rattle.iec_command.specs.declared.command.Action.{Action}
@@ -45,7 +45,7 @@ asdu_with octets fits =
 -- what an ASDU gets at once, where an interrogation is pending or not
 abbrev pub reply : Bool → (octets : List ℕ) → length octets ≤ 249 → Option (List ℕ)
 reply pending octets fits =
-    option_map (answer_octets (always_ahead (pos 0)))
+    option_map (answer_octets utc)
     (answered setup picture pending (asdu_with octets fits) (judged setup octets))
 
 -- an act of an interrogation
@@ -62,8 +62,8 @@ act action = record {
 
 -- the ASDUs that answer it
 abbrev pub replies : Command → List (List ℕ)
-replies c = map (outgoing_octets (always_ahead (pos 0))) (answer_to (asked_addresses setup c.common_address) c picture)
+replies c = map (outgoing_octets utc) (answer_to (asked_addresses setup c.common_address) c picture)
 
 -- and where these addresses are asked
 abbrev pub replies_of_two : List ℕ → Command → List (List ℕ)
-replies_of_two asked c = map (outgoing_octets (always_ahead (pos 0))) (answer_to asked c picture_of_two)
+replies_of_two asked c = map (outgoing_octets utc) (answer_to asked c picture_of_two)

@@ -1,11 +1,9 @@
 -- What an ASDU means, whether it carries process information or a command.
-use Rattle.std.specs.Prelude.{◌≡◌, ◌<◌, ℕ, ◌%◌, Bool, true, ◌==◌, ◌||◌, IsTrue, List, [], ◌∷◌, Option, Some, None, Result, Ok, Err, is_some, slice_index, slice_set, take}
-use Rattle.std.specs.List.{AllByRecursion}
+use Rattle.std.specs.Prelude.{◌≡◌, ℕ, ◌%◌, Bool, true, ◌==◌, ◌||◌, IsTrue, List, [], ◌∷◌, Option, Some, None, Result, Ok, Err, is_some, slice_index, slice_set, take}
 use Rattle.gw_model.specs.Bits.{is_set}
 use Rattle.gw_model.specs.Fit.{HasWidth, IsFit}
 use Rattle.gw_model.specs.declared.observation.Observation.{Observation}
 use Rattle.gw_model.specs.Clocks.{Clocks}
-use Rattle.gw_map.specs.Settings.{Setup, known_addresses}
 use Rattle.gw_time.specs.Spelling.{tag_of}
 use Rattle.iec_asdu.specs.Asdu.{Asdu, asdu_meaning, monitor_types}
 use Rattle.iec_asdu.specs.Packing.{taken_of}
@@ -86,13 +84,6 @@ Means clocks (Returned asdu cause) meant = ComesBack clocks cause (octets_in asd
 Means clocks (Made x) meant = meant ≡ meant_outgoing clocks x
 
 -- ---- what can be sent
-
--- common addresses of 16 bits
-abbrev pub AreShort : List ℕ → Type 0
-AreShort addresses = AllByRecursion (λ n. n < 65536) addresses
-
-abbrev pub HasShortAddresses : Setup → Type 0
-HasShortAddresses setup = AreShort (known_addresses setup)
 
 -- an ASDU can carry the observation: it is fit, and its number has its element's width
 pub record IsSendable (clocks : Clocks) (x : Observation) : Type 0 where

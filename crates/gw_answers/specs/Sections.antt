@@ -1,6 +1,6 @@
 -- The answer to an interrogation as it is kept: a section for each common address that is asked.
-use Rattle.std.specs.Prelude.{◌≡◌, ℕ, ◌==◌, false, List, [], ◌∷◌, map}
-use Rattle.std.specs.List.{flat_map, list_any}
+use Rattle.std.specs.Prelude.{List, map}
+use Rattle.std.specs.List.{flat_map}
 use Rattle.gw_model.specs.declared.observation.Observation.{Observation}
 use Rattle.iec_command.specs.declared.command.Command.{Command}
 use Rattle.gw_answers.specs.declared.interrogation.AnswerSection.{AnswerSection}
@@ -21,8 +21,3 @@ parts_of sections = map (λ section. answer_with section.command section.rows.it
 -- the parts of sections, one behind the other
 abbrev pub joined : List (List OwnAsdu) → List OwnAsdu
 joined sections = flat_map (λ parts. parts) sections
-
--- no address stands twice
-abbrev pub AreDistinct : List ℕ → Type 0
-AreDistinct [] = Unit {0}
-AreDistinct (address ∷ more) = (list_any (λ other. other == address) more ≡ false) × AreDistinct more

@@ -6,7 +6,8 @@ ghost use Rattle.gw_model.specs.Places.{change};
 ghost use Rattle.gw_answers.specs.Answers.{first_asked};
 ghost use Rattle.gw_answers.specs.Interrogations.{answer_under, asked_addresses, cause_for, is_accepted_act, is_asked_by, is_general, rows_under};
 ghost use Rattle.gw_answers.specs.Outgoing.{under};
-ghost use Rattle.gw_answers.specs.Sections.{commands_in, parts_of, rows_in, AreDistinct};
+ghost use Rattle.gw_map.specs.Settings.{AreDistinct};
+ghost use Rattle.gw_answers.specs.Sections.{commands_in, parts_of, rows_in};
 
 use crate::answering::under;
 use gw_judge::ALL_STATIONS;
@@ -220,10 +221,10 @@ fn rows_under(
 ) -> Result<Vec<Observation>, Memory>
     ensures { IfOk result (λ rows. rows.items ≡ rows_under action picture.now common_address) }
 {
-    let mut rows = Vec::with_capacity(alloc, picture.len())?;
+    let mut rows = Vec::new(alloc);
     for observation in picture {
         if observation.common == common_address && is_asked_by(action, observation) {
-            rows.push_reserved(*observation);
+            rows.push(*observation)?;
         }
     }
     Ok(rows)

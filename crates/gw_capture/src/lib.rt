@@ -1,7 +1,7 @@
 //! What a running gateway steps, captured as lines of a replay in one file, and the lines of the replies in another.
 //!
 //! A worker keeps the line of a step before it is made, and hands it over with the number and the reply that the core
-//! gave. One thread puts what all workers handed over in the order of the numbers, and writes it.
+//! gave. One thread puts what all workers handed over in the order of the numbers, and writes it. `replay` plays such lines.
 #![tactic(auto)]
 
 mod capture;
@@ -14,6 +14,7 @@ mod step_line;
 mod waiting;
 
 pub use capture::Capture;
+pub use gw_replay::replay;
 pub use kept::Kept;
 pub use lines::Lines;
 pub use pumps::Pumps;

@@ -199,7 +199,7 @@ client_down setup past c m r s sound e =
 -- ---- Frame
 
 -- the reply to what a command in an APDU is, is that it was taken
-taken_reply : (command : Option Command) → reply_of_event (event_by None command) ≡ replies.Taken
+pub taken_reply : (command : Option Command) → reply_of_event (event_by None command) ≡ replies.Taken
 taken_reply None = refl
 taken_reply (Some command) = refl
 
@@ -219,7 +219,7 @@ frame_apart setup past c d m a r ne =
     ap (λ (here : Bool). Some (cond here (turn_taking a (picture_of setup.rows (log_of setup past))
     (said_in setup d past m) r) nothing_new)) (ne_eqb c d ne)
 
-frame_turn : (setup : Setup) (past : List Entry) (c m : ℕ) (a : Apdu) (r : Reply)
+pub frame_turn : (setup : Setup) (past : List Entry) (c m : ℕ) (a : Apdu) (r : Reply)
     → turn_of setup c past (entry (steps.Frame c a m) (Ok r))
     ≡ Some (turn_taking a (picture_of setup.rows (log_of setup past)) (said_in setup c past m) r)
 frame_turn setup past c m a r =
@@ -296,7 +296,7 @@ pump setup past c m r s sound e =
 -- ---- Tick
 
 -- the bit of a client tells whether its t1 has passed
-bit_zero : (c : ℕ) → has_bit c 0 ≡ false
+pub bit_zero : (c : ℕ) → has_bit c 0 ≡ false
 bit_zero zero = refl
 bit_zero (suc c) = bit_zero c
 

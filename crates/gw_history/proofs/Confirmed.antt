@@ -1,6 +1,7 @@
 -- What a reply confirms is what is due by the history.
 use Rattle.std.proofs.Common.{◌≡◌, ℕ, Bool, true, false, cond, List, [], ◌∷◌, Option, Some, None, Result, Ok, Err, refl, ap, subst, ◌∙◌}
-use Rattle.std.specs.Prelude.{slice_get, ◌||◌}
+use Rattle.std.proofs.Math.Bool.{or-false}
+use Rattle.std.specs.Prelude.{slice_get}
 use Rattle.gw_model.specs.declared.control.Order.{Order}
 use Rattle.gw_map.specs.Settings.{Setup, station_clocks}
 use Rattle.dnp_app.specs.Response.{Fragment, is_unsolicited}
@@ -42,10 +43,6 @@ answer_confirms (Some a) f = go (is_in_sequence a f) (is_in_place a f) refl refl
     go true false es ep = rw (es, ep) refl
     go false p es ep = rw es refl
 
-or_false : (b : Bool) → b || false ≡ b
-or_false true = refl
-or_false false = refl
-
 -- the confirmation in what is to be said of a fragment is the one that is due
 due_confirms : (setup : Setup) (past : List Entry) (f : Fragment) (m : ℕ)
     → confirmation_in (Some (verdict_due setup past f)) ≡ confirmation_due setup past (steps.Fragment f m)
@@ -56,7 +53,7 @@ due_confirms setup past f m = go (is_unsolicited f) (is_last (last_text f.outsta
     go true true e et = rw (e, et) refl
     go true false e et = rw (e, et) refl
     go false text e et =
-        rw (e, or_false (is_answer (asked_of setup f.outstation past) f))
+        rw (e, or-false (is_answer (asked_of setup f.outstation past) f))
         (answer_confirms (asked_of setup f.outstation past) f)
 
 confirms : (setup : Setup) (past : List Entry) (step : Step) (r : Reply) (s : State) → outcome setup s step ≡ Ok r

@@ -110,7 +110,7 @@ master_lost setup o m r past (Some x) tied =
 -- ---- polls
 
 -- the first octet of each request has its sequence number
-first_octet : (task : Task) (n : ℕ) → slice_index (task_request task n).octets 0 ≡ 192 + n
+pub first_octet : (task : Task) (n : ℕ) → slice_index (task_request task n).octets 0 ≡ 192 + n
 first_octet ClearRestart n = refl
 first_octet (WriteTime time) n = refl
 first_octet (RecordTime wall) n = refl

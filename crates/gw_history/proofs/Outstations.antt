@@ -82,7 +82,7 @@ abbrev master_after_poll : ℕ → ℕ → Option Order → Master → Master
 master_after_poll moment wall None x = master_after_next moment wall x
 master_after_poll moment wall (Some order) x = master_after_order moment order x
 
-polled_outstations : (s : State) (moment o wall : ℕ) (order : Option Order)
+pub polled_outstations : (s : State) (moment o wall : ℕ) (order : Option Order)
     → (parts_after_poll s moment o wall order).outstations
     ≡ change o (master_after_poll moment wall order) s.outstations
 polled_outstations s moment o wall None = refl

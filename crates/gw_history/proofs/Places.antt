@@ -7,6 +7,7 @@ use Rattle.gw_steps.specs.State.{client_limit}
 use Rattle.gw_steps.specs.Steps.{Allowed}
 use Rattle.gw_steps.specs.Runs.{Entry, state_after, AtEach}
 use Rattle.gw_steps.specs.Sound.{LeavesSound}
+use Rattle.gw_steps.proofs.Running.{last_place}
 use Rattle.gw_history.specs.Life.{Turn, turn_of, lived, life, OfEachLife}
 use Rattle.gw_history.specs.Premises.{IsSoundRun, client_at}
 use Rattle.gw_history.proofs.Lives.{Lives}
@@ -69,10 +70,6 @@ slot_lives setup c turn ts (Some k) new goes lives = subst (SlotLives setup c (l
     (goes_on setup turn ts k goes.0 goes.2 lives)
 
 -- ---- each place
-
-last_place : (P : List Entry → Type 0) (past : List Entry) → AtEach P past → P past
-last_place P [] at = at
-last_place P (e ∷ past) at = at.0
 
 earlier : (setup : Setup) (e : Entry) (past : List Entry) → IsSoundRun setup (e ∷ past) → IsSoundRun setup past
 earlier setup e past given =

@@ -66,11 +66,11 @@ all_kept (suc o) f (m ∷ ms) same = all_kept o f ms same
 
 -- ---- what leaves a master up
 
-given_up : (moment : ℕ) (task : Option Task) (m : Master) → (master_after_given moment task m).up ≡ m.up
+pub given_up : (moment : ℕ) (task : Option Task) (m : Master) → (master_after_given moment task m).up ≡ m.up
 given_up moment None m = refl
 given_up moment (Some task) m = refl
 
-late_up : (moment : ℕ) (ex : Exchange) (m : Master) → (master_with_exchange_after moment ex m).up ≡ m.up
+pub late_up : (moment : ℕ) (ex : Exchange) (m : Master) → (master_with_exchange_after moment ex m).up ≡ m.up
 late_up moment Idle m = refl
 late_up moment (Selected order) m = refl
 late_up moment (Waiting w) m = by (is_late moment m.poll w.since)
@@ -85,7 +85,7 @@ answered_up moment f Idle m = refl
 answered_up moment f (Waiting w) m = refl
 answered_up moment f (Selected order) m = refl
 
-fragment_up : (moment : ℕ) (f : Fragment) (m : Master) → (master_after_fragment moment f m).up ≡ m.up
+pub fragment_up : (moment : ℕ) (f : Fragment) (m : Master) → (master_after_fragment moment f m).up ≡ m.up
 fragment_up moment f m = by (accepts m f) (is_unsolicited f)
   where
     by : (a b : Bool)

@@ -10,7 +10,7 @@ use Rattle.gw_steps.specs.Carried.{AreMeant, IsMeant}
 use Rattle.gw_steps.specs.State.{State}
 use Rattle.gw_steps.specs.Runs.{Entry, history}
 use Rattle.gw_steps.proofs.Running.{Ran, run_all}
-use Rattle.gw_history.specs.Premises.{IsSoundRun}
+use Rattle.gw_history.specs.Premises.{HasKnownRows, IsSoundRun}
 use Rattle.gw_hub.proofs.Each.{all_taken}
 
 -- the history that steps make
@@ -23,14 +23,15 @@ history_meant past (s ∷ ss) (r ∷ rs) before all =
 
 -- all steps were made
 pub made : (setup : Setup) (ss : List Step) (rs : List (Result Reply StepFault)) (i : ℕ) (s : State)
-    → HasSingleAddresses setup.rows setup.controls → IsStation setup.station
+    → HasSingleAddresses setup.rows setup.controls → HasKnownRows setup → IsStation setup.station
     → length ss ≤ i → Ran setup (history [] (take i ss) rs) s → AllByRecursion IsMeant (take i ss)
     → IsSoundRun setup (history [] ss rs)
-made setup ss rs i s addresses station all so_far meant =
+made setup ss rs i s addresses known station all so_far meant =
     let ran : Ran setup (history [] ss rs) s = run_all setup ss rs i s all so_far in
     record {
       settings = record {
         addresses = addresses;
+        known = known;
         window = omega (arith, station.k.1);
         queue = omega (arith, station.queue.0);
       };

@@ -12,7 +12,7 @@ ghost use Rattle.gw_steps.specs.Controls.{order_due};
 ghost use Rattle.gw_steps.specs.Steps.{can_order, can_rise, client_up, command_of, is_beginning, is_ordering, latest, one_if, order_ended, reply_of_event, Allowed};
 ghost use Rattle.gw_steps.specs.Runs.{history, state_after, AtEach, IsRun};
 ghost use Rattle.gw_steps.specs.Sound.{IsSoundState};
-ghost use Rattle.gw_history.specs.Premises.{IsSoundRun};
+ghost use Rattle.gw_history.specs.Premises.{HasKnownRows, IsSoundRun};
 ghost use Rattle.gw_laws.specs.Connections.{Connections};
 ghost use Rattle.gw_laws.specs.Promises.{Promises};
 ghost use Rattle.gw_orders.specs.Bonds.{Bonds, HasShortIndex};
@@ -248,12 +248,20 @@ impl Hub {
             self.new.state ≡ state_after self.old.setup (history [] steps.now replies.items)) }
         ensures setup { self.new.setup ≡ self.old.setup }
     {
+        self.attest_rows();
         let mut replies = Vec::with_capacity(self.alloc, steps.len())?;
         for step in steps {
             step.attest();
             replies.push(self.step(step))?;
         }
         Ok(replies)
+    }
+
+    /// Tells a proof what the settings keep of their rows. It does nothing.
+    fn attest_rows(&self)
+        ensures { HasKnownRows self.now.setup }
+    {
+        let _rows = self.settings.get().rows();
     }
 
     /// Makes a step. A step with a fault changes nothing.

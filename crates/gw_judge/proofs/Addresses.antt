@@ -1,41 +1,14 @@
 -- A common address is known exactly where some outstation has it, or it is that of a station without outstations.
-use Rattle.std.proofs.Common.{◌≡◌, ℕ, ◌==◌, Bool, true, false, not, ◌⊎◌, inl, inr, List, [], ◌∷◌, map, refl, sym, ap, ◌∙◌}
-use Rattle.std.specs.Prelude.{Any, filter}
-use Rattle.std.specs.List.{list_any}
+use Rattle.std.proofs.Common.{◌≡◌, ℕ, ◌==◌, true, ◌⊎◌, inl, inr, List, [], ◌∷◌, map, refl, sym, ◌∙◌}
+use Rattle.std.specs.Prelude.{Any}
 use Rattle.std.proofs.lemmas.Bool.{cases_Bool, true≢false, eqb-true, eq-eqb}
 use Rattle.gw_entries.specs.Setup.{OutstationSetup, StationSetup}
-use Rattle.gw_map.specs.Settings.{Setup, distinct, known_in, is_known}
+use Rattle.gw_map.specs.Settings.{Setup, is_among, known_in, is_known}
+use Rattle.gw_map.proofs.Known.{common_of, among-distinct}
 use Rattle.gw_judge.specs.Acceptable.{HasAddress}
 use Rattle.gw_judge.proofs.Found.{any_here, any_there, any_cases, any_none}
 
-abbrev is_among : ℕ → List ℕ → Bool
-is_among n known = list_any (λ k. k == n) known
-
--- another number than n may be left out
-among_others : (x n : ℕ) (ys : List ℕ) → (x == n) ≡ false
-    → is_among n (filter (λ m. not (m == x)) ys) ≡ is_among n ys
-among_others x n [] other = refl
-among_others x n (y ∷ ys) other = elim (cases_Bool (y == x)) [
-  | inl same ↦
-      let apart : (y == n) ≡ false = ap (λ (k : ℕ). k == n) (eqb-true y x same) ∙ other in
-      rw (same, apart) (among_others x n ys other)
-  | inr kept ↦ elim (cases_Bool (y == n)) [
-    | inl hit ↦ rw (kept, hit)
-    | inr miss ↦ rw (kept, miss) (among_others x n ys other)
-  ]
-]
-
-among_distinct : (n : ℕ) (xs : List ℕ) → is_among n (distinct xs) ≡ is_among n xs
-among_distinct n [] = refl
-among_distinct n (x ∷ xs) = elim (cases_Bool (x == n)) [
-  | inl hit ↦ rw hit
-  | inr miss ↦ rw miss (among_others x n (distinct xs) miss ∙ among_distinct n xs)
-]
-
-abbrev address_of : OutstationSetup → ℕ
-address_of outstation = outstation.common_address
-
-some_has : (n : ℕ) (outstations : List OutstationSetup) → is_among n (map address_of outstations) ≡ true
+some_has : (n : ℕ) (outstations : List OutstationSetup) → is_among (map common_of outstations) n ≡ true
     → Any (λ outstation. outstation.common_address ≡ n) outstations
 some_has n [] h = absurd (true≢false (sym h))
 some_has n (o ∷ more) h = elim (cases_Bool (o.common_address == n)) [
@@ -44,7 +17,7 @@ some_has n (o ∷ more) h = elim (cases_Bool (o.common_address == n)) [
 ]
 
 has_some : (n : ℕ) (outstations : List OutstationSetup) → Any (λ outstation. outstation.common_address ≡ n) outstations
-    → is_among n (map address_of outstations) ≡ true
+    → is_among (map common_of outstations) n ≡ true
 has_some n [] any = absurd (any_none (λ x. x.common_address ≡ n) any)
 has_some n (o ∷ more) any = elim (cases_Bool (o.common_address == n)) [
   | inl hit ↦ rw hit
@@ -60,23 +33,23 @@ module _ (station : StationSetup) where
       Any (λ outstation. outstation.common_address ≡ n) outstations
       ⊎ ((outstations ≡ []) × (n ≡ station.common_address))
 
-  known_has : (outstations : List OutstationSetup) (n : ℕ) → is_among n (known_in station outstations) ≡ true
+  known_has : (outstations : List OutstationSetup) (n : ℕ) → is_among (known_in station outstations) n ≡ true
       → HasOne outstations n
   known_has [] n h = elim (cases_Bool (station.common_address == n)) [
     | inl hit ↦ inr (refl, sym (eqb-true station.common_address n hit))
     | inr miss ↦ absurd (true≢false (sym (rw miss at h)))
   ]
   known_has (o ∷ more) n h =
-      inl (some_has n (o ∷ more) (sym (among_distinct n (map address_of (o ∷ more))) ∙ h))
+      inl (some_has n (o ∷ more) (sym (among-distinct n (map common_of (o ∷ more))) ∙ h))
 
   has_known : (outstations : List OutstationSetup) (n : ℕ) → HasOne outstations n
-      → is_among n (known_in station outstations) ≡ true
+      → is_among (known_in station outstations) n ≡ true
   has_known [] n h = elim h [
     | inl any ↦ absurd (any_none (λ x. x.common_address ≡ n) any)
     | inr alone ↦ rw (eq-eqb station.common_address n (sym alone.1))
   ]
   has_known (o ∷ more) n h = elim h [
-    | inl any ↦ among_distinct n (map address_of (o ∷ more)) ∙ has_some n (o ∷ more) any
+    | inl any ↦ among-distinct n (map common_of (o ∷ more)) ∙ has_some n (o ∷ more) any
     | inr alone ↦ absurd (no_cons alone.0)
   ]
     where

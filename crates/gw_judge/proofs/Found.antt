@@ -1,5 +1,5 @@
 -- Look-ups by an object: what is found is of it, and where none stands twice, whatever is of it is found.
-use Rattle.std.proofs.Common.{◌≡◌, ℕ, zero, suc, ◌+◌, ◌<◌, Bool, true, false, cond, ◌⊎◌, inl, inr, List, [], ◌∷◌, ◌++◌, map, length, slice_get, add-zero, Some, refl, sym, ap, subst, ◌∙◌, arith}
+use Rattle.std.proofs.Common.{◌≡◌, ℕ, zero, suc, ◌+◌, ◌<◌, true, ◌⊎◌, inl, inr, List, [], ◌∷◌, ◌++◌, map, length, slice_get, add-zero, Some, refl, sym, ap, subst, ◌∙◌, arith}
 use Rattle.std.specs.Prelude.{Any, slice_index_or}
 use Rattle.std.specs.List.{list_any}
 use Rattle.std.proofs.lemmas.Bool.{cases_Bool, true≢false}
@@ -9,6 +9,7 @@ use Rattle.gw_model.specs.Keys.{same_object}
 use Rattle.gw_model.proofs.Same.{same_object-true, eq-same_object}
 use Rattle.gw_map.specs.Sections.{repeated}
 use Rattle.gw_map.specs.Settings.{first_from}
+use Rattle.gw_map.proofs.Finding.{any_more, fresh_head}
 
 -- ---- some element
 
@@ -31,25 +32,12 @@ any_none P any = let below : any.0 < 0 = any.2 in omega arith
 
 -- ---- objects that stand twice
 
-any_more : (a b : ObjectKey) (xs : List ObjectKey) → list_any (same_object a) xs ≡ true
-    → list_any (same_object a) (xs ++ b ∷ []) ≡ true
-any_more a b [] h = absurd (true≢false (sym h))
-any_more a b (x ∷ xs) h = elim (cases_Bool (same_object a x)) [
-  | inl hit ↦ rw hit
-  | inr miss ↦ rw miss (any_more a b xs (rw miss at h))
-]
-
 any_last : (a b : ObjectKey) (xs : List ObjectKey) → a ≡ b → list_any (same_object a) (xs ++ b ∷ []) ≡ true
 any_last a b [] e = rw (eq-same_object a b e)
 any_last a b (x ∷ xs) e = elim (cases_Bool (same_object a x)) [
   | inl hit ↦ rw hit
   | inr miss ↦ rw miss (any_last a b xs e)
 ]
-
-fresh_head : (again : Bool) (n : ℕ) (more : List ℕ) → cond again (n ∷ []) [] ++ more ≡ []
-    → (again ≡ false) × (more ≡ [])
-fresh_head true n more h = absurd cc
-fresh_head false n more h = (refl, h)
 
 -- ---- the first of an object
 
@@ -75,7 +63,8 @@ module _ {A : Type 0} (f : A → ObjectKey) (P : A → Type 0) where
       let (fresh, behind) = fresh_head (list_any (same_object (f x)) old) n behind_it single in
       elim (any_cases (λ x. (f x ≡ a) × P x) x xs any) [
         | inl here ↦ true≢false (sym there ∙ ap (λ (b : ObjectKey). list_any (same_object b) old) (sym here.0) ∙ fresh)
-        | inr later ↦ none_again a (n + 1) (old ++ f x ∷ []) xs more (any_more a (f x) old there) behind later
+        | inr later ↦
+            none_again a (n + 1) (old ++ f x ∷ []) xs more (any_more (same_object a) (f x) old there) behind later
       ]
 
   -- whatever is of the object, where none stands twice

@@ -15,7 +15,7 @@ use Rattle.gw_picture.specs.Picture.{without_time}
 use Rattle.gw_picture.specs.Log.{last_observation, picture_of}
 use Rattle.gw_picture.proofs.Addresses.{is_fresh, is_single}
 use Rattle.gw_picture.proofs.Lists.{some_is, map-get}
-use Rattle.gw_picture.proofs.Logs.{shown_by}
+use Rattle.gw_picture.proofs.Logs.{shown_by, last_observation-object}
 use Rattle.iec_command.specs.declared.command.Action.{Action}
 use Rattle.gw_answers.specs.Interrogations.{is_asked_by, rows_under}
 use Rattle.gw_station.proofs.All.{all-append}
@@ -104,17 +104,6 @@ known_still object known (x ∷ xs) all =
 
 -- ---- what a picture shows
 
-shown_object : (object : ObjectKey) (shown : Observation) (log : List Observation) → object_of shown ≡ object
-    → object_of (last_observation object shown log) ≡ object
-shown_object object shown [] e = e
-shown_object object shown (x ∷ log) e =
-    shown_object object (cond (same_object (object_of x) object) (without_time x) shown) log
-    (by (same_object (object_of x) object) refl)
-  where
-    by : (here : Bool) → same_object (object_of x) object ≡ here → object_of (cond here (without_time x) shown) ≡ object
-    by true is = same_object-true (object_of x) object is
-    by false is = e
-
 fresh_get : (object : ObjectKey) (rows : List Row) (n : ℕ) (row : Row) → is_fresh object rows ≡ true
     → slice_get rows n ≡ Some row
     → row_object row ≡ object → ⊥
@@ -158,7 +147,8 @@ shown_is rows log m x single get n row at same = by (slice_get rows m) refl (sym
     by (Some r) gm e =
         let is : shown_by log r ≡ x = some_is (shown_by log r) x e in
         let object : row_object r ≡ row_object row =
-        sym (shown_object (row_object r) (opening r) log refl) ∙ (ap (λ (y : Observation). object_of y) is ∙ same) in
+        sym (last_observation-object (row_object r) (opening r) log refl)
+        ∙ (ap (λ (y : Observation). object_of y) is ∙ same) in
         sym is ∙ ap (shown_by log) (same_row rows m n r row single gm at object)
 
 all_filtered : (P : Observation → Type 0) (p : Observation → Bool) (xs : List Observation)
@@ -185,7 +175,7 @@ elsewhere object (r ∷ rows) log p known fresh =
     let parts = and_parts (not (same_object object (row_object r))) (is_fresh object rows) fresh in
     let rest = elsewhere object rows log p known parts.1 in
     let x : Observation = shown_by log r in
-    let is : object_of x ≡ row_object r = shown_object (row_object r) (opening r) log refl in
+    let is : object_of x ≡ row_object r = last_observation-object (row_object r) (opening r) log refl in
     let apart : same_object (object_of x) object ≡ false =
     ap (λ (a : ObjectKey). same_object a object) is
     ∙ other_object object (row_object r) (not-true (same_object object (row_object r)) parts.0) in
@@ -212,7 +202,7 @@ shown_last (r ∷ rows) log p zero row known single get passes =
     here is =
         let x : Observation = shown_by log r in
         let at : same_object (object_of x) (row_object r) ≡ true = eq-same_object (object_of x) (row_object r)
-        (shown_object (row_object r) (opening r) log refl) in
+        (last_observation-object (row_object r) (opening r) log refl) in
         rw is (ap (λ (same : Bool). last_known (row_object r) (cond same (Some (known_of x)) known)
         (filter p (picture_of rows log))) at
         ∙ elsewhere (row_object r) rows log p (Some (known_of x))
@@ -274,7 +264,7 @@ asked_last (common ∷ asked) action rows log n row known single get among is =
 
     under_it : common ≡ row.common_address → x.common == common ≡ true
     under_it same = eq-eqb x.common common
-        (ap (λ (o : ObjectKey). o.common_address) (shown_object object (opening row) log refl) ∙ sym same)
+        (ap (λ (o : ObjectKey). o.common_address) (last_observation-object object (opening row) log refl) ∙ sym same)
 
     last : common ≡ row.common_address → last_known object known mine ≡ Some (known_of x)
     last same = shown_last rows log (λ y. y.common == common && is_asked_by action y) n row known single get

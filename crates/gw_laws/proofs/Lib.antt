@@ -8,6 +8,10 @@ pub mod Waits
 pub mod Watches
 pub mod Numbers
 pub mod Fronts
+pub mod KnownCommands
+pub mod KnownOrders
+pub mod KnownTurns
+pub mod KnownWaits
 pub mod News
 pub mod Line
 pub mod Held

@@ -1,10 +1,11 @@
 -- What ties what waits for a client to its session.
 use Rattle.std.proofs.Common.{◌≡◌, ℕ, zero, suc, ◌+◌, ◌-◌, ◌<◌, ◌≤◌, Bool, true, false, List, [], ◌∷◌, ◌++◌, map, length, take, drop, Option, Some, None, refl, sym, ap, subst, ◌∙◌, append_assoc, arith, inl, inr}
-use Rattle.std.specs.Prelude.{◌&&◌, option_map, slice_get, IfSome}
+use Rattle.std.proofs.Math.Bool.{and-false}
+use Rattle.std.specs.Prelude.{option_map, slice_get, IfSome}
 use Rattle.std.specs.Option.{option_to_list}
 use Rattle.std.specs.List.{AllByRecursion}
 use Rattle.std.proofs.lemmas.Bool.{cases_Bool, true≢false}
-use Rattle.std.proofs.lemmas.List.{append-nil, length-append, length-drop, length-take-le}
+use Rattle.std.proofs.lemmas.List.{append-nil, length-append, length-drop, length-take-le, length-map}
 use Rattle.gw_model.specs.declared.observation.Observation.{Observation}
 use Rattle.gw_model.specs.Clocks.{Clocks}
 use Rattle.gw_map.specs.Settings.{Setup, station_clocks}
@@ -92,10 +93,6 @@ same_split true n m queue rest is same = ap (λ (i : ℕ). map sendings.News (ta
 same_split false n m queue rest is same = rw (nothing_asked rest is)
     (split_anywhere n queue ∙ sym (split_anywhere m queue))
 
-length-queued : (queue : List Observation) → length (map queued queue) ≡ length queue
-length-queued [] = refl
-length-queued (x ∷ queue) = ap suc (length-queued queue)
-
 -- settled ones and the queue are all
 pub settled_is : (setup : Setup) (hs : List Turn) (k : Client) (tied : InSession setup hs k)
     → length (fates setup.station hs) ≡ length tied.settled + length k.queue
@@ -103,7 +100,7 @@ settled_is setup hs k tied = ap length tied.told ∙ omega (
   arith,
   length-append tied.settled
       (map queued k.queue),
-  length-queued k.queue,
+  length-map k.queue queued,
 )
 
 pub line_is : (setup : Setup) (hs : List Turn) (k : Client) → InSession setup hs k → LineTied setup (Some hs) k
@@ -233,14 +230,10 @@ signal_taken setup taking moment StopCon (Some hs) k news tied =
 -- ---- an ASDU is taken
 
 -- the answers that it gets
-and_false : (b : Bool) → b && false ≡ false
-and_false true = refl
-and_false false = refl
-
 refused_apart : (setup : Setup) (pending : Bool) (command : Command)
     → AllByRecursion IsApart (option_to_list (refused_act setup pending command))
 refused_apart setup pending command = elim (cases_Bool (is_accepted_act pending command))
-    [ inl is ↦ rw is tt | inr isnt ↦ rw isnt (and_false _, tt) ]
+    [ inl is ↦ rw is tt | inr isnt ↦ rw isnt (and-false _, tt) ]
 
 shown_apart : (x : Option Observation) (originator : ℕ)
     → AllByRecursion IsApart (option_to_list (option_map (λ y. Made (outgoing.Observation 5 originator y)) x))

@@ -30,7 +30,7 @@ use Rattle.gw_answers.specs.declared.outgoing.OwnAsdu.{OwnAsdu}
 use Rattle.gw_answers.specs.Interrogations.{asked_addresses, is_general, is_accepted_act}
 use Rattle.gw_answers.specs.Answers.{shown_by, refused_act, answered_action, answered, command_by}
 use Rattle.gw_answers.specs.Meaning.{Meant}
-use Rattle.gw_answers.proofs.Distinct.{some_known}
+use Rattle.gw_map.proofs.Known.{some_known}
 use Rattle.gw_station.specs.declared.event.Said.{Said}
 use Rattle.gw_station.specs.declared.sending.Sending.{Sending}
 use Rattle.gw_station.specs.declared.sending.Sending.TheVariants as sendings

@@ -8,7 +8,6 @@ use Rattle.circular_buffer.specs.Buffer.{keep_last}
 use Rattle.gw_model.specs.declared.observation.Observation.{Observation}
 use Rattle.gw_model.specs.Fit.{IsFit}
 use Rattle.gw_model.specs.Clocks.{Clocks}
-use Rattle.gw_entries.specs.Setup.{StationSetup}
 use Rattle.gw_map.specs.Settings.{Setup, station_clocks}
 use Rattle.iec_asdu.specs.Fitting.{AreAlike}
 use Rattle.iec_asdu.specs.Packing.{taken_of}
@@ -56,6 +55,9 @@ use Rattle.gw_history.proofs.Lives.{Becomes, Came, IsFresh, Lives, lives_all}
 use Rattle.gw_laws.specs.Fates.{spontaneous_of, spontaneous_in, Element, is_put_out, is_dropped, items_of, fates, gone, fates_with_news, fates_with_put_out}
 use Rattle.gw_laws.specs.Line.{MeansFront}
 use Rattle.gw_laws.specs.News.{IsOfStation, TellsNews, Speaks, News}
+use Rattle.gw_laws.proofs.KnownCommands.{IsKnownAnswer, IsKnownObservation}
+use Rattle.gw_laws.proofs.KnownTurns.{IsKnownTurn, life_known}
+use Rattle.gw_laws.proofs.KnownWaits.{IsKnownSending, WaitsKnown, line_known, waits_known}
 use Rattle.gw_laws.proofs.Offered.{IsOffered, offered_is}
 use Rattle.gw_laws.proofs.Fronts.{says_front, NewsGo, news_go, parts_no_news}
 use Rattle.gw_laws.proofs.Parts.{IsRequested, answer_no_news}
@@ -92,10 +94,12 @@ NewsTied setup (Some hs) k = InSession setup hs k
 -- ---- what an I format says
 
 -- observations of the station
-informs : (station : StationSetup) (cause originator : ℕ) (x : Observation)
-    → IsTrue (cause == 3 || cause == 5 || cause == 20 || cause == 37) → IsFit (station_clocks station) x
-    → IsOfStation station (Tells (asdu_of (station_clocks station) cause originator x))
-informs station cause originator x is fit = inl (record { cause = is; common = (refl, tt); fit = (fit, tt) })
+informs : (setup : Setup) (cause originator : ℕ) (x : Observation)
+    → IsTrue (cause == 3 || cause == 5 || cause == 20 || cause == 37) → IsKnownObservation setup x
+    → IsFit (station_clocks setup.station) x
+    → IsOfStation setup (Tells (asdu_of (station_clocks setup.station) cause originator x))
+informs setup cause originator x is known fit =
+    inl (record { cause = is; known = known; common = (refl, tt); fit = (fit, tt) })
 
 all_fit : (clocks : Clocks) (xs : List Observation) → AllByRecursion (IsSendable clocks) xs
     → AllByRecursion (IsFit clocks) xs
@@ -108,32 +112,33 @@ one_common : (clocks : Clocks) (x : Observation) (xs : List Observation) → Are
 one_common clocks x [] alike = tt
 one_common clocks x (y ∷ xs) alike = (alike.0.1, one_common clocks x xs alike.1)
 
-pack_informs : (station : StationSetup) (cause originator : ℕ) (x : Observation) (xs : List Observation)
-    → IsTrue (cause == 3 || cause == 5 || cause == 20 || cause == 37)
-    → AllByRecursion (IsSendable (station_clocks station)) (x ∷ xs)
-    → IsOfStation station (Tells (packed_asdu (station_clocks station) cause originator x xs))
-pack_informs station cause originator x xs is all =
-    let n : ℕ = taken_of (station_clocks station) (x ∷ xs) in
+pack_informs : (setup : Setup) (cause originator : ℕ) (x : Observation) (xs : List Observation)
+    → IsTrue (cause == 3 || cause == 5 || cause == 20 || cause == 37) → IsKnownObservation setup x
+    → AllByRecursion (IsSendable (station_clocks setup.station)) (x ∷ xs)
+    → IsOfStation setup (Tells (packed_asdu (station_clocks setup.station) cause originator x xs))
+pack_informs setup cause originator x xs is known all =
+    let clocks : Clocks = (station_clocks setup.station) in
+    let n : ℕ = taken_of clocks (x ∷ xs) in
     inl (record {
       cause = is;
-      common = one_common (station_clocks station) x (take n (x ∷ xs)) (taken_fits (station_clocks station) x xs).alike;
-      fit = all_fit (station_clocks station) (take n (x ∷ xs))
-          (all-take (IsSendable (station_clocks station)) n (x ∷ xs) all);
+      known = known;
+      common = one_common clocks x (take n (x ∷ xs)) (taken_fits clocks x xs).alike;
+      fit = all_fit clocks (take n (x ∷ xs)) (all-take (IsSendable clocks) n (x ∷ xs) all);
     })
 
-answer_of_station : (station : StationSetup) (answer : AsduAnswer) (meant : Meant)
-    → CanSendAnswer (station_clocks station) answer → Means (station_clocks station) answer meant
-    → IsOfStation station meant
-answer_of_station station (Returned asdu cause) (Tells told) can means =
-    inr (cause, can.1, can.2, refused_with (station_clocks station) cause (octets_in asdu) (Tells told) can.0 means)
-answer_of_station station (Returned asdu cause) (Commands c) can means =
-    inr (cause, can.1, can.2, refused_with (station_clocks station) cause (octets_in asdu) (Commands c) can.0 means)
-answer_of_station station (Returned asdu cause) (Unread octets) can means =
-    (cause, can.1, can.2, refused_with (station_clocks station) cause (octets_in asdu) (Unread octets) can.0 means)
-answer_of_station station (Made (outgoing.Command c)) meant can means =
-    subst (IsOfStation station) (sym means) (inl can.0)
-answer_of_station station (Made (outgoing.Observation cause originator x)) meant can means =
-    subst (IsOfStation station) (sym means) (informs station cause originator x (rw can.0 refl) can.1.fit)
+answer_of_station : (setup : Setup) (answer : AsduAnswer) (meant : Meant)
+    → CanSendAnswer (station_clocks setup.station) answer → IsKnownAnswer setup answer
+    → Means (station_clocks setup.station) answer meant → IsOfStation setup meant
+answer_of_station setup (Returned asdu cause) (Tells told) can known means =
+    inr (cause, can.1, can.2, refused_with (station_clocks setup.station) cause (octets_in asdu) (Tells told) can.0 means)
+answer_of_station setup (Returned asdu cause) (Commands c) can known means =
+    inr (cause, can.1, can.2, refused_with (station_clocks setup.station) cause (octets_in asdu) (Commands c) can.0 means)
+answer_of_station setup (Returned asdu cause) (Unread octets) can known means =
+    (cause, can.1, can.2, refused_with (station_clocks setup.station) cause (octets_in asdu) (Unread octets) can.0 means)
+answer_of_station setup (Made (outgoing.Command c)) meant can known means =
+    subst (IsOfStation setup) (sym means) (inl (record { cause = can.0; known = known }))
+answer_of_station setup (Made (outgoing.Observation cause originator x)) meant can known means =
+    subst (IsOfStation setup) (sym means) (informs setup cause originator x (rw can.0 refl) known can.1.fit)
 
 -- rows of the answer to an interrogation are asked for
 abbrev IsRequestedSending : Sending → Type 0
@@ -144,28 +149,30 @@ abbrev IsRequestedFirst : List Sending → Type 0
 IsRequestedFirst (sendings.Part part ∷ line) = IsRequested part
 IsRequestedFirst _ = Unit {0}
 
-front_of_station : (station : StationSetup) (l : List Sending) (meant : Meant)
-    → MeansFront (station_clocks station) l meant
-    → AllByRecursion (CanSend (station_clocks station)) l → IsRequestedFirst l → IsOfStation station meant
-front_of_station station [] meant means all is = absurd means
-front_of_station station (sendings.Answer answer ∷ l) meant means all is =
-    answer_of_station station answer meant all.0 means
-front_of_station station (sendings.News x ∷ l) meant means all is =
-    subst (IsOfStation station) (sym means)
-    (pack_informs station 3 0 x (news_front l) refl (all.0, news_sendable (station_clocks station) l all.1))
-front_of_station station (sendings.Part (outgoing.Command c) ∷ l) meant means all is =
-    subst (IsOfStation station) (sym means) (inl all.0.0)
-front_of_station station (sendings.Part (outgoing.Observation cause originator x) ∷ l) meant means all is =
-    subst (IsOfStation station) (sym means)
-    (pack_informs station cause originator x (rows_front cause originator l) (asked is)
-    (all.0, rows_sendable (station_clocks station) cause originator l all.1))
+front_of_station : (setup : Setup) (l : List Sending) (meant : Meant)
+    → MeansFront (station_clocks setup.station) l meant
+    → AllByRecursion (CanSend (station_clocks setup.station)) l → AllByRecursion (IsKnownSending setup) l
+    → IsRequestedFirst l → IsOfStation setup meant
+front_of_station setup [] meant means all known is = absurd means
+front_of_station setup (sendings.Answer answer ∷ l) meant means all known is =
+    answer_of_station setup answer meant all.0 known.0 means
+front_of_station setup (sendings.News x ∷ l) meant means all known is =
+    subst (IsOfStation setup) (sym means)
+    (pack_informs setup 3 0 x (news_front l) refl known.0
+    (all.0, news_sendable (station_clocks setup.station) l all.1))
+front_of_station setup (sendings.Part (outgoing.Command c) ∷ l) meant means all known is =
+    subst (IsOfStation setup) (sym means) (inl (record { cause = all.0.0; known = known.0 }))
+front_of_station setup (sendings.Part (outgoing.Observation cause originator x) ∷ l) meant means all known is =
+    subst (IsOfStation setup) (sym means)
+    (pack_informs setup cause originator x (rows_front cause originator l) (asked is) known.0
+    (all.0, rows_sendable (station_clocks setup.station) cause originator l all.1))
   where
     asked : (cause ≡ 20) ⊎ (cause ≡ 37) → IsTrue (cause == 3 || cause == 5 || cause == 20 || cause == 37)
     asked (inl is) = rw is refl
     asked (inr is) = rw is refl
-front_of_station station (sendings.Confirm signal ∷ l) meant means all is = absurd means
-front_of_station station (sendings.Test ∷ l) meant means all is = absurd means
-front_of_station station (sendings.SFormat ∷ l) meant means all is = absurd means
+front_of_station setup (sendings.Confirm signal ∷ l) meant means all known is = absurd means
+front_of_station setup (sendings.Test ∷ l) meant means all known is = absurd means
+front_of_station setup (sendings.SFormat ∷ l) meant means all known is = absurd means
 
 own_news : (clocks : Clocks) (x : Observation) (xs : List Observation)
     → spontaneous_of (Tells (packed_asdu clocks 3 0 x xs)) ≡ take (taken_of clocks (x ∷ xs)) (x ∷ xs)
@@ -527,50 +534,53 @@ requested_first setup k all = first (line k)
 
 -- an I format is offered in a session alone
 says_in_session : (setup : Setup) (s : Option (List Turn)) (k : Client) (meant : Meant)
-    → is_started k.stage ≡ true → NewsTied setup s k
+    → is_started k.stage ≡ true → NewsTied setup s k → WaitsKnown setup k
     → MeansFront (station_clocks setup.station) (line k) meant
     → AllByRecursion (CanSend (station_clocks setup.station)) (line k)
-    → (is_some s ≡ true) × IsOfStation setup.station meant
-says_in_session setup None k meant started tied means all = absurd (true≢false (sym started ∙ tied.stopped))
-says_in_session setup (Some hs) k meant started tied means all =
-    (refl, front_of_station setup.station (line k) meant means all (requested_first setup k tied.parts))
+    → (is_some s ≡ true) × IsOfStation setup meant
+says_in_session setup None k meant started tied known means all = absurd (true≢false (sym started ∙ tied.stopped))
+says_in_session setup (Some hs) k meant started tied known means all = (
+  refl,
+  front_of_station setup (line k) meant means all (line_known setup k known) (requested_first setup k tied.parts),
+)
 
 says_of_station : (setup : Setup) (x : Sending) (ts : List Turn) (k : Client)
     → IsOffered k x → CanSend (station_clocks setup.station) x
     → AllByRecursion (CanSend (station_clocks setup.station)) (line k)
-    → NewsTied setup (session ts) k → Speaks setup.station (PutsOut (says setup k x) ∷ ts)
-says_of_station setup (sendings.Confirm signal) ts k is can all tied = tt
-says_of_station setup sendings.Test ts k is can all tied = tt
-says_of_station setup sendings.SFormat ts k is can all tied = tt
-says_of_station setup (sendings.Answer answer) ts k is can all tied =
-    says_in_session setup (session ts) k _ is.in_session tied
+    → NewsTied setup (session ts) k → WaitsKnown setup k → Speaks setup (PutsOut (says setup k x) ∷ ts)
+says_of_station setup (sendings.Confirm signal) ts k is can all tied known = tt
+says_of_station setup sendings.Test ts k is can all tied known = tt
+says_of_station setup sendings.SFormat ts k is can all tied known = tt
+says_of_station setup (sendings.Answer answer) ts k is can all tied known =
+    says_in_session setup (session ts) k _ is.in_session tied known
     (says_front setup (sendings.Answer answer) k is can all) all
-says_of_station setup (sendings.Part part) ts k is can all tied =
-    says_in_session setup (session ts) k _ is.in_session tied
+says_of_station setup (sendings.Part part) ts k is can all tied known =
+    says_in_session setup (session ts) k _ is.in_session tied known
     (says_front setup (sendings.Part part) k is can all) all
-says_of_station setup (sendings.News x) ts k is can all tied =
-    says_in_session setup (session ts) k _ is.in_session tied
+says_of_station setup (sendings.News x) ts k is can all tied known =
+    says_in_session setup (session ts) k _ is.in_session tied known
     (says_front setup (sendings.News x) k is can all) all
 
 speaks : (setup : Setup) → 0 < setup.station.queue
-    → (ts : List Turn) (k : Client) → Lives setup ts k → Speaks setup.station ts
-speaks setup some [] k lives = tt
-speaks setup some (Idle brought ∷ ts) k lives = tt
-speaks setup some (Takes a taking ∷ ts) k lives = tt
-speaks setup some (Ends ∷ ts) k lives = tt
-speaks setup some (PutsOut said ∷ ts) k lives =
+    → (ts : List Turn) (k : Client) → Lives setup ts k → AllByRecursion (IsKnownTurn setup) ts → Speaks setup ts
+speaks setup some [] k lives known = tt
+speaks setup some (Idle brought ∷ ts) k lives known = tt
+speaks setup some (Takes a taking ∷ ts) k lives known = tt
+speaks setup some (Ends ∷ ts) k lives known = tt
+speaks setup some (PutsOut said ∷ ts) k lives known =
     let gave = lives.2 in
-    subst (λ (x : ApduMeaning). Speaks setup.station (PutsOut x ∷ ts)) (sym gave.says)
+    subst (λ (x : ApduMeaning). Speaks setup (PutsOut x ∷ ts)) (sym gave.says)
     (says_of_station setup gave.sending ts lives.0
     (offered_is gave.moment lives.0 gave.sending gave.first) gave.can gave.all
-    (news_tied setup some ts lives.0 lives.1))
+    (news_tied setup some ts lives.0 lives.1) (waits_known setup ts lives.0 lives.1 known.1))
 
 pub tells_news : (setup : Setup) (past : List Entry) → Place setup past → News setup past
 tells_news setup past place = record {
   picture = place.known.tied.picture;
   sessions = λ c. begun c (client_at setup c past) (place.known.lives c);
   queues = λ c. news c (client_at setup c past) (place.known.lives c);
-  speaks = of_each setup (Speaks setup.station) (speaks setup some) past place;
+  speaks = λ c within. of_each setup (λ (ts : List Turn). AllByRecursion (IsKnownTurn setup) ts → Speaks setup ts)
+      (speaks setup some) past place c within (life_known setup place.given.settings.known c past);
 }
   where
     some : 0 < setup.station.queue

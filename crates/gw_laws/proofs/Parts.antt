@@ -1,5 +1,6 @@
 -- What is put out of the answer to an interrogation, and what isn't.
 use Rattle.std.proofs.Common.{◌≡◌, ℕ, ◌+◌, ◌%◌, ◌<◌, ◌≤◌, Bool, true, false, eqb, List, [], ◌∷◌, ◌++◌, length, map, drop, Option, Some, None, refl, sym, ap, subst, ◌∙◌, append_assoc, length-append, arith, inl, inr, take}
+use Rattle.std.proofs.Math.Bool.{and-false}
 use Rattle.std.specs.Prelude.{◌&&◌, ◌||◌, not, nat_lt, filter, option_map, ◌⊎◌}
 use Rattle.std.specs.List.{AllByRecursion}
 use Rattle.std.proofs.lemmas.Bool.{lt-ltb, le-ltb, ne_eqb}
@@ -76,13 +77,9 @@ part_no_news clocks (outgoing.Observation cause originator x) meant (inr is) mea
 no_parts : (c : Command) → is_interrogation c.action && not c.negative ≡ false → parts_of_command c ≡ []
 no_parts c e = rw e refl
 
-and_false : (b : Bool) → b && false ≡ false
-and_false true = refl
-and_false false = refl
-
 negative_apart : (c : Command) → c.negative ≡ true → parts_of_command c ≡ []
 negative_apart c e = no_parts c (ap (λ (b : Bool). is_interrogation c.action && not b) e
-    ∙ and_false (is_interrogation c.action))
+    ∙ and-false (is_interrogation c.action))
 
 -- an octet of a cause from 44 on is neither 20 nor 37
 neither : (cause octet : ℕ) → octet % 64 ≡ cause → 44 ≤ cause → eqb octet 20 || eqb octet 37 ≡ false

@@ -43,7 +43,7 @@ use Rattle.gw_history.specs.Accepted.{moment_after}
 use Rattle.gw_history.specs.Life.{Brought, Turn, Idle, Takes, PutsOut, Ends, is_closed_in, life, lived, nothing_new, said_in, turn_giving, turn_of, turn_taking}
 use Rattle.gw_history.specs.Log.{log_of}
 use Rattle.gw_history.specs.Premises.{client_at}
-use Rattle.gw_history.proofs.Clients.{Goes, SlotGoes, all_go}
+use Rattle.gw_history.proofs.Clients.{Goes, SlotGoes, all_go, taken_reply, frame_turn}
 use Rattle.gw_history.proofs.Tied.{told_moment}
 use Rattle.gw_history.proofs.Places.{Known, Place, SlotLives}
 use Rattle.gw_history.proofs.Told.{sound_at}
@@ -119,10 +119,6 @@ signal_up moment StartCon k up = up
 signal_up moment StopCon k up = up
 signal_up moment TestCon k up = up
 
-signal_confirmations : (moment : ℕ) (signal : Signal) (k : Client)
-    → (client_with_signal moment signal k).confirmations ≡ confirmations_taking (U signal) k.confirmations
-signal_confirmations moment signal k = refl
-
 -- an APDU that is taken, before a command in it is answered
 taking_up : (setup : Setup) (picture : List Observation) (moment : ℕ) (a : Apdu) (k : Client) → is_up k.stage ≡ true
     → is_up (client_taking setup picture moment a k).stage ≡ true
@@ -141,11 +137,6 @@ taking_confirmations : (setup : Setup) (picture : List Observation) (moment : �
 taking_confirmations setup picture moment (I ns nr asdu) k = refl
 taking_confirmations setup picture moment (S nr) k = refl
 taking_confirmations setup picture moment (U signal) k = refl
-
--- the reply to what a command in an APDU is, is that it was taken
-taken_reply : (command : Option Command) → reply_of_event (event_by None command) ≡ replies.Taken
-taken_reply None = refl
-taken_reply (Some command) = refl
 
 framed : (setup : Setup) (picture shown : List Observation) (said told : Command → Said) (now : ℕ) (a : Apdu)
     (x : Option Connection) (k : Client) (why : Option Why) → close_of setup a k ≡ why → is_up k.stage ≡ true
@@ -266,13 +257,6 @@ frame_apart : (setup : Setup) (past : List Entry) (c d m : ℕ) (a : Apdu) (r : 
 frame_apart setup past c d m a r ne =
     ap (λ (here : Bool). Some (cond here (turn_taking a (picture_of setup.rows (log_of setup past))
     (said_in setup d past m) r) nothing_new)) (ne_eqb c d ne)
-
-frame_turn : (setup : Setup) (past : List Entry) (c m : ℕ) (a : Apdu) (r : Reply)
-    → turn_of setup c past (entry (steps.Frame c a m) (Ok r))
-    ≡ Some (turn_taking a (picture_of setup.rows (log_of setup past)) (said_in setup c past m) r)
-frame_turn setup past c m a r =
-    ap (λ (here : Bool). Some (cond here (turn_taking a (picture_of setup.rows (log_of setup past))
-    (said_in setup c past m) r) nothing_new)) (eq-eqb c c refl)
 
 pump_apart : (setup : Setup) (past : List Entry) (c d m : ℕ) (r : Reply) → (c ≡ d → ⊥)
     → turn_of setup d past (entry (steps.Pump c m) (Ok r)) ≡ Some (cond false Ends (Idle nothing))

@@ -32,6 +32,7 @@ use Rattle.gw_history.proofs.Lives.{Lives}
 use Rattle.gw_history.proofs.Places.{Known, Place, SlotLives}
 use Rattle.gw_history.proofs.Tied.{told_moment}
 use Rattle.gw_history.proofs.Told.{sound_at}
+use Rattle.gw_history.proofs.Clients.{bit_zero}
 use Rattle.gw_laws.specs.Connection.{Connection, OfStanding, connection, is_so, turns}
 use Rattle.gw_laws.specs.Signals.{waiting}
 use Rattle.gw_laws.specs.Line.{line}
@@ -232,10 +233,6 @@ pump setup past c m r fit e known linked =
     (subst (SlotLinked setup (connection setup c past)) up.1 (linked c))))
 
 -- ---- Tick
-
-bit_zero : (c : ℕ) → has_bit c 0 ≡ false
-bit_zero zero = refl
-bit_zero (suc c) = bit_zero c
 
 abbrev late_at : ℕ → Option Client → Bool
 late_at now None = false

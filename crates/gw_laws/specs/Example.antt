@@ -2,7 +2,7 @@
 use Rattle.std.specs.Prelude.{ℕ, ◌-◌, pos, Bool, true, false, List, [], ◌∷◌, ◌++◌, drop, take, unwrap_or, Option, Some, None}
 use Rattle.gw_model.specs.declared.observation.Value.TheVariants.{Scaled, Single}
 use Rattle.gw_model.specs.declared.observation.Observation.{Observation}
-use Rattle.gw_model.specs.Clocks.{always_ahead}
+use Rattle.gw_model.specs.Clocks.{utc}
 use Rattle.gw_translate.specs.Example.{good}
 use Rattle.gw_picture.specs.Example.{observation_at, unknown}
 use Rattle.iec_apci.specs.declared.apdu.Apdu.TheVariants.{I}
@@ -80,7 +80,7 @@ row_under common = shown_under common 4101 (Single false) (invalid true)
 abbrev pub answering : ℕ → List Turn
 answering common =
     PutsOut (IFormat 0 1 (Commands (answered_with 10 common)))
-    ∷ PutsOut (IFormat 0 1 (Tells (asdu_of (always_ahead (pos 0)) 20 0 (row_under common))))
+    ∷ PutsOut (IFormat 0 1 (Tells (asdu_of utc 20 0 (row_under common))))
     ∷ PutsOut (IFormat 0 1 (Commands (answered_with 7 common))) ∷ []
 
 -- the first turns of both, so many

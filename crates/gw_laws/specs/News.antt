@@ -1,11 +1,12 @@
 -- News: at each point of a run the picture is that of the log, and for each client's session the observations that
 -- were put out with cause 3 (spontaneous), followed by those queued, are the news since its STARTDT, in order, less
--- those dropped. An I format is put out in a session alone, and carries what a station may say.
+-- those dropped. An I format is put out in a session alone, and carries what a station may say: under a common address
+-- that clients may use, but for what comes back as unknown.
 use Rattle.std.specs.Prelude.{◌≡◌, ◌⊎◌, ℕ, ◌≤◌, ◌==◌, true, ◌||◌, IsTrue, is_some, List, ◌∷◌, ◌++◌, length, IfSome}
 use Rattle.std.specs.List.{AllByRecursion}
 use Rattle.gw_model.specs.Fit.{IsFit}
 use Rattle.gw_entries.specs.Setup.{StationSetup}
-use Rattle.gw_map.specs.Settings.{Setup, station_clocks}
+use Rattle.gw_map.specs.Settings.{Setup, is_known, station_clocks}
 use Rattle.gw_picture.specs.Log.{picture_of}
 use Rattle.iec_asdu.specs.Asdu.{Asdu}
 use Rattle.iec_command.specs.declared.command.Command.{Command}
@@ -21,25 +22,27 @@ use Rattle.gw_laws.specs.Fates.{items_of, is_queued, is_dropped, is_kept, fates,
 -- ---- what a station may say
 
 -- process information: spontaneous (3), requested (5), or interrogated (20, 37), of observations that are fit, all under
--- one common address
-pub record IsInformation (station : StationSetup) (asdu : Asdu) : Type 0 where
+-- one common address, which is a known one
+pub record IsInformation (setup : Setup) (asdu : Asdu) : Type 0 where
   pub cause : IsTrue (asdu.cause == 3 || asdu.cause == 5 || asdu.cause == 20 || asdu.cause == 37)
+  pub known : IsTrue (is_known setup asdu.common_address)
   pub common : AllByRecursion (λ x. x.common ≡ asdu.common_address) asdu.observations
-  pub fit : AllByRecursion (IsFit (station_clocks station)) asdu.observations
+  pub fit : AllByRecursion (IsFit (station_clocks setup.station)) asdu.observations
 
--- the confirmation of an activation (7) or a deactivation (9), or a termination (10)
-abbrev pub IsConfirmation : Command → Type 0
-IsConfirmation c = IsTrue (c.cause == 7 || c.cause == 9 || c.cause == 10)
+-- the confirmation of an activation (7) or a deactivation (9), or a termination (10), under a known common address
+pub record IsConfirmation (setup : Setup) (c : Command) : Type 0 where
+  pub cause : IsTrue (c.cause == 7 || c.cause == 9 || c.cause == 10)
+  pub known : IsTrue (is_known setup c.common_address)
 
 -- what is unknown comes back: P/N is set, and the cause is one from 44 to 47
 abbrev pub IsUnknown : Meant → Type 0
 IsUnknown meant = (cause : ℕ) × (44 ≤ cause) × (cause ≤ 47) × IsRefusedWith cause meant
 
 -- an I format carries one of these
-abbrev pub IsOfStation : StationSetup → Meant → Type 0
-IsOfStation station (Tells asdu) = IsInformation station asdu ⊎ IsUnknown (Tells asdu)
-IsOfStation station (Commands c) = IsConfirmation c ⊎ IsUnknown (Commands c)
-IsOfStation station (Unread octets) = IsUnknown (Unread octets)
+abbrev pub IsOfStation : Setup → Meant → Type 0
+IsOfStation setup (Tells asdu) = IsInformation setup asdu ⊎ IsUnknown (Tells asdu)
+IsOfStation setup (Commands c) = IsConfirmation setup c ⊎ IsUnknown (Commands c)
+IsOfStation setup (Unread octets) = IsUnknown (Unread octets)
 
 -- ---- the law
 
@@ -50,10 +53,10 @@ pub record TellsNews (station : StationSetup) (hs : List Turn) (k : Client) : Ty
   pub dropped : k.dropped ≡ length (items_of is_dropped (fates station hs))
 
 -- an I format is put out in a session alone, and carries what the station says
-abbrev pub Speaks : StationSetup → List Turn → Type 0
-Speaks station (PutsOut (IFormat ns nr meant) ∷ ts) =
-    (is_some (session ts) ≡ true) × IsOfStation station meant
-Speaks station _ = Unit {0}
+abbrev pub Speaks : Setup → List Turn → Type 0
+Speaks setup (PutsOut (IFormat ns nr meant) ∷ ts) =
+    (is_some (session ts) ≡ true) × IsOfStation setup meant
+Speaks setup _ = Unit {0}
 
 pub record News (setup : Setup) (past : List Entry) : Type 0 where
   pub picture : (state_after setup past).picture ≡ picture_of setup.rows (log_of setup past)
@@ -61,4 +64,4 @@ pub record News (setup : Setup) (past : List Entry) : Type 0 where
       IfSome (client_at setup c past) (λ k. is_started k.stage ≡ is_some (session (life setup c past)))
   pub queues : (c : ℕ) →
       IfSome (client_at setup c past) (TellsNews setup.station (turns_in (session (life setup c past))))
-  pub speaks : OfEachLife (Speaks setup.station) setup past
+  pub speaks : OfEachLife (Speaks setup) setup past

@@ -1,6 +1,6 @@
 //! The laws of every run of the step relation. Their premises: no two rows or controls of the settings are of one
-//! object, the window k is below 32,768, a queue takes some news, each state of the run is sound, and each fragment is
-//! what its octets mean. A hub keeps them by its type.
+//! object, each row has a known common address, the window k is below 32,768, a queue takes some news, each state of
+//! the run is sound, and each fragment is what its octets mean. A hub keeps them by its type.
 ghost use Rattle.std.specs.Prelude.{List};
 ghost use Rattle.gw_map.specs.Settings.{Setup};
 ghost use Rattle.gw_steps.specs.Runs.{AtEach, Entry};

@@ -1,5 +1,5 @@
 -- Looking up rows and controls by an index.
-use Rattle.std.proofs.Common.{◌≡◌, ℕ, zero, suc, ◌+◌, ◌-◌, ◌<◌, ◌≤◌, ◌==◌, add-zero, List, [], ◌∷◌, ◌++◌, length, map, get_or, slice_get, position, Option, Some, None, option_map, Bool, true, false, cond, refl, ap, sym, ◌∙◌, inl, inr, arith}
+use Rattle.std.proofs.Common.{◌≡◌, ℕ, zero, suc, ◌+◌, ◌-◌, ◌<◌, ◌≤◌, ◌==◌, add-zero, List, [], ◌∷◌, ◌++◌, length, map, get_or, slice_get, position, Option, Some, None, Bool, true, false, cond, refl, ap, sym, ◌∙◌, inl, inr, arith}
 use Rattle.std.specs.List.{position_from, list_any}
 use Rattle.std.specs.Map.{keys_of}
 use Rattle.std.proofs.lemmas.Bool.{cases_Bool, true≢false}
@@ -95,14 +95,15 @@ found_in p n i (x ∷ xs) ys h lt = elim (cases_Bool (p x)) [
   | inr miss ↦ rw miss (found_in p (n + 1) i xs ys (rw miss at h) (omega arith))
 ]
 
-any_more : {K : Type 0} (p : K → Bool) (b : K) (xs : List K) → list_any p xs ≡ true → list_any p (xs ++ b ∷ []) ≡ true
+pub any_more : {K : Type 0} (p : K → Bool) (b : K) (xs : List K) → list_any p xs ≡ true
+    → list_any p (xs ++ b ∷ []) ≡ true
 any_more p b [] h = absurd (true≢false (sym h))
 any_more p b (x ∷ xs) h = elim (cases_Bool (p x)) [
   | inl hit ↦ rw hit
   | inr miss ↦ rw miss (any_more p b xs (rw miss at h))
 ]
 
-fresh_head : (again : Bool) (n : ℕ) (more : List ℕ) → cond again (n ∷ []) [] ++ more ≡ []
+pub fresh_head : (again : Bool) (n : ℕ) (more : List ℕ) → cond again (n ∷ []) [] ++ more ≡ []
     → (again ≡ false) × (more ≡ [])
 fresh_head true n more h = absurd cc
 fresh_head false n more h = (refl, h)
@@ -142,12 +143,6 @@ pub position-from : {K : Type 0} (p : K → Bool) (xs : List K) (r : Option ℕ)
     → position_from p 0 xs ≡ r
 position-from p xs r e = sym (e ∙ position_from-zero p xs)
 
-pub slice_get-map : {A B : Type 0} (f : A → B) (xs : List A) (i : ℕ)
-    → slice_get (map f xs) i ≡ option_map f (slice_get xs i)
-slice_get-map f [] i = refl
-slice_get-map f (x ∷ xs) zero = refl
-slice_get-map f (x ∷ xs) (suc i) = slice_get-map f xs i
-
 pub some_front-zero : {A K : Type 0} (p : K → Bool) (t : A → Bool) (f : A → K) (same : (x : A) → p (f x) ≡ t x) (i : ℕ)
     (xs : List A) (more : List K) (y : A)
     → position_from p 0 (map f xs ++ more) ≡ Some i → slice_get xs i ≡ Some y → first_from t 0 xs ≡ Some (i, y)
@@ -163,14 +158,6 @@ some_behind p t f same i j front xs y h le e g =
     let zero_j : 0 + j ≡ j = omega arith in
     some_front p t f same (0 + length front) 0 i j xs [] y
     (rw append-nil (behind p 0 i front (map f xs) h (omega arith))) g (omega arith) ∙ ap (λ k. Some (k, y)) zero_j
-
-pub past_behind : {A K : Type 0} (p : K → Bool) (t : A → Bool) (f : A → K) (same : (x : A) → p (f x) ≡ t x) (i j : ℕ)
-    (front : List K) (xs : List A)
-    → position_from p 0 (front ++ map f xs) ≡ Some i → length front ≤ i → j ≡ i - length front → slice_get xs j ≡ None
-    → first_from t 0 xs ≡ None
-past_behind p t f same i j front xs h le e g =
-    past_front p t f same (0 + length front) 0 i j xs []
-    (rw append-nil (behind p 0 i front (map f xs) h (omega arith))) g (omega arith)
 
 pub none_at_all : {A K : Type 0} (p : K → Bool) (t : A → Bool) (f : A → K) (same : (x : A) → p (f x) ≡ t x)
     (front : List K) (xs : List A)

@@ -1,6 +1,6 @@
 -- The known common addresses.
-use Rattle.std.proofs.Common.{◌≡◌, IsTrue, ℕ, zero, suc, ◌+◌, ◌≤◌, arith, ◌<◌, List, [], ◌∷◌, ◌++◌, length, map, take, filter, get_or, Bool, true, false, not, ◌==◌, cond, refl, ap, sym, ◌∙◌, inl, inr}
-use Rattle.std.specs.List.{list_any, AllByRecursion}
+use Rattle.std.proofs.Common.{◌≡◌, IsTrue, ℕ, zero, suc, ◌+◌, ◌≤◌, arith, ◌<◌, List, [], ◌∷◌, ◌++◌, length, map, take, filter, get_or, true, false, not, ◌==◌, cond, refl, ap, sym, ◌∙◌, inl, inr}
+use Rattle.std.specs.List.{AllByRecursion}
 use Rattle.std.proofs.lemmas.Bool.{cases_Bool, eq-eqb, eqb-true}
 use Rattle.std.proofs.lemmas.List.{append-nil, take_more, map-append}
 use Rattle.toml.specs.Data.{Members}
@@ -16,9 +16,6 @@ use Rattle.gw_map.proofs.Finding.{eq_comm}
 abbrev pub without : ℕ → List ℕ → List ℕ
 without n xs = filter (λ m. not (m == n)) xs
 
-abbrev pub has : ℕ → List ℕ → Bool
-has n xs = list_any (λ m. m == n) xs
-
 without-append : (n : ℕ) (xs ys : List ℕ) → without n (xs ++ ys) ≡ without n xs ++ without n ys
 without-append n [] ys = refl
 without-append n (x ∷ xs) ys = elim (cases_Bool (x == n)) [
@@ -27,30 +24,30 @@ without-append n (x ∷ xs) ys = elim (cases_Bool (x == n)) [
 ]
 
 -- another number is still there
-has-without : (n k : ℕ) (xs : List ℕ) → (k == n) ≡ false → has n (without k xs) ≡ has n xs
-has-without n k [] other = refl
-has-without n k (x ∷ xs) other = elim (cases_Bool (x == k)) [
+among-without : (n k : ℕ) (xs : List ℕ) → (k == n) ≡ false → is_among (without k xs) n ≡ is_among xs n
+among-without n k [] other = refl
+among-without n k (x ∷ xs) other = elim (cases_Bool (x == k)) [
   | inl same ↦ let differs : (x == n) ≡ false = ap (λ m. m == n) (eqb-true x k same) ∙ other in
-      rw (same, differs) (has-without n k xs other)
+      rw (same, differs) (among-without n k xs other)
   | inr kept ↦ elim (cases_Bool (x == n)) [
     | inl here ↦ rw (kept, here)
-    | inr there ↦ rw (kept, there) (has-without n k xs other)
+    | inr there ↦ rw (kept, there) (among-without n k xs other)
   ]
 ]
 
 -- one number more
 abbrev pub with : ℕ → List ℕ → List ℕ
-with n xs = cond (has n xs) xs (xs ++ n ∷ [])
+with n xs = cond (is_among xs n) xs (xs ++ n ∷ [])
 
 without-with : (k n : ℕ) (xs : List ℕ) → k ∷ without k (with n xs) ≡ with n (k ∷ without k xs)
 without-with k n xs = elim (cases_Bool (k == n)) [
-  | inl same ↦ let back : (n == k) ≡ true = eq_comm n k ∙ same in elim (cases_Bool (has n xs)) [
+  | inl same ↦ let back : (n == k) ≡ true = eq_comm n k ∙ same in elim (cases_Bool (is_among xs n)) [
     | inl there ↦ rw (same, there)
     | inr missing ↦ rw (same, missing) (ap (λ zs. k ∷ zs) (without-append k xs (n ∷ []) ∙ rw back (append-nil _)))
   ]
-  | inr other ↦ let back : (n == k) ≡ false = eq_comm n k ∙ other in elim (cases_Bool (has n xs)) [
-    | inl there ↦ rw (other, has-without n k xs other, there)
-    | inr missing ↦ rw (other, has-without n k xs other, missing)
+  | inr other ↦ let back : (n == k) ≡ false = eq_comm n k ∙ other in elim (cases_Bool (is_among xs n)) [
+    | inl there ↦ rw (other, among-without n k xs other, there)
+    | inr missing ↦ rw (other, among-without n k xs other, missing)
         (ap (λ zs. k ∷ zs) (without-append k xs (n ∷ []) ∙ rw back))
   ]
 ]
@@ -84,28 +81,28 @@ pub known-some : (station : StationSetup) (outstations : List OutstationSetup) (
 known-some station [] known e some = absurd (some e)
 known-some station (outstation ∷ more) known e some = e
 
-has-distinct : (n : ℕ) (xs : List ℕ) → has n (distinct xs) ≡ has n xs
-has-distinct n [] = refl
-has-distinct n (x ∷ xs) = elim (cases_Bool (x == n)) [
+pub among-distinct : (n : ℕ) (xs : List ℕ) → is_among (distinct xs) n ≡ is_among xs n
+among-distinct n [] = refl
+among-distinct n (x ∷ xs) = elim (cases_Bool (x == n)) [
   | inl here ↦ rw here
-  | inr there ↦ rw there (has-without n x (distinct xs) there ∙ has-distinct n xs)
+  | inr there ↦ rw there (among-without n x (distinct xs) there ∙ among-distinct n xs)
 ]
 
-has-common_at : (n position : ℕ) (outstations : List OutstationSetup) → 1 ≤ n → n ≡ common_at position outstations
-    → has n (map common_of outstations) ≡ true
-has-common_at n position [] some is = absurd (omega (arith, is))
-has-common_at n zero (outstation ∷ more) some is = rw (eq-eqb outstation.common_address n (sym is))
-has-common_at n (suc position) (outstation ∷ more) some is = elim (cases_Bool (outstation.common_address == n)) [
+among-common_at : (n position : ℕ) (outstations : List OutstationSetup) → 1 ≤ n → n ≡ common_at position outstations
+    → is_among (map common_of outstations) n ≡ true
+among-common_at n position [] some is = absurd (omega (arith, is))
+among-common_at n zero (outstation ∷ more) some is = rw (eq-eqb outstation.common_address n (sym is))
+among-common_at n (suc position) (outstation ∷ more) some is = elim (cases_Bool (outstation.common_address == n)) [
   | inl here ↦ rw here
-  | inr there ↦ rw there (has-common_at n position more some is)
+  | inr there ↦ rw there (among-common_at n position more some is)
 ]
 
 -- a common address of an outstation is known
 known-at : (station : StationSetup) (outstations : List OutstationSetup) (n position : ℕ) → 1 ≤ n
-    → n ≡ common_at position outstations → has n (known_in station outstations) ≡ true
+    → n ≡ common_at position outstations → is_among (known_in station outstations) n ≡ true
 known-at station [] n position some is = absurd (omega (arith, is))
 known-at station (outstation ∷ more) n position some is =
-    has-distinct n (map common_of (outstation ∷ more)) ∙ has-common_at n position (outstation ∷ more) some is
+    among-distinct n (map common_of (outstation ∷ more)) ∙ among-common_at n position (outstation ∷ more) some is
 
 first_same : {A : Type 0} (a b : A) (xs ys : List A) → a ∷ xs ≡ b ∷ ys → a ≡ b
 first_same a b xs ys e = cc
@@ -144,15 +141,8 @@ all-more P (x ∷ xs) n all p = (all.0, all-more P xs n all.1 p)
 
 -- some address is known
 pub some_known : (setup : Setup) → known_addresses setup ≡ [] → ⊥
-some_known setup none = by setup.outstations none
+some_known setup none = some_of setup.station setup.outstations none
   where
-    no_first : (n : ℕ) (ns : List ℕ) → n ∷ ns ≡ [] → ⊥
-    no_first n ns h = cc
-
-    by : (outstations : List OutstationSetup) → known_in setup.station outstations ≡ [] → ⊥
-    by [] h = no_first _ _ h
-    by (outstation ∷ more) h = no_first _ _ h
-
-pub empty-from_length : (xs : List ℕ) → length xs ≡ 0 → xs ≡ []
-empty-from_length [] e = refl
-empty-from_length (x ∷ xs) e = absurd cc
+    some_of : (station : StationSetup) (outstations : List OutstationSetup) → known_in station outstations ≡ [] → ⊥
+    some_of station [] e = cc
+    some_of station (outstation ∷ more) e = cc

@@ -4,3 +4,4 @@ pub mod Repeats
 pub mod Whole
 pub mod Finding
 pub mod Known
+pub mod Distinct

@@ -1,6 +1,7 @@
 -- Going over the entries of a section.
-use Rattle.std.proofs.Common.{◌≡◌, ℕ, zero, suc, ◌+◌, ◌<◌, ◌≤◌, List, [], ◌∷◌, ◌++◌, length, map, drop, take, get_or, Some, None, true, false, nat_le, refl, ap, sym, ◌∙◌, arith, codes}
-use Rattle.std.proofs.lemmas.List.{drop_all, drop_more, take_more, map-append}
+use Rattle.std.proofs.Common.{◌≡◌, ℕ, ◌+◌, ◌<◌, ◌≤◌, List, [], ◌∷◌, ◌++◌, length, map, drop, take, get_or, Some, None, false, nat_le, refl, ap, sym, ◌∙◌, arith, codes}
+use Rattle.std.proofs.lemmas.List.{drop_all, drop_more, take_all, take_more, map-append}
+use Rattle.std.proofs.lemmas.Simd.{map-map}
 use Rattle.std.proofs.lemmas.Bool.Decides.{nat_tests}
 use Rattle.std.proofs.lemmas.Option.{same_Some}
 use Rattle.toml.specs.Data.{Data, string, integer, float, boolean, datetime, array, table, Items, Members, as_array}
@@ -57,21 +58,7 @@ pub count_told : (section : Section) (room : ℕ) (tables : List Members) → ro
 unfolding first
 count_told section room tables many = let no : nat_le (length tables) room ≡ false = grind (arith, nat_tests) in rw no
 
-pub count_fine : (section : Section) (room : ℕ) (tables : List Members) → length tables ≤ room
-    → placed section 0 (count_wrongs room tables) ≡ []
-count_fine section room tables few = let yes : nat_le (length tables) room ≡ true = grind (arith, nat_tests) in rw yes
-
 -- ---- the end of a loop
-
-map-map : {X Y Z : Type 0} (f : Y → Z) (g : X → Y) (xs : List X) → map f (map g xs) ≡ map (λ x. f (g x)) xs
-map-map f g [] = refl
-map-map f g (x ∷ xs) = ap (λ ys. f (g x) ∷ ys) (map-map f g xs)
-
-pub take_all : {X : Type 0} (xs : List X) (n : ℕ) → length xs ≤ n → take n xs ≡ xs
-take_all [] zero h = refl
-take_all [] (suc n) h = refl
-take_all (x ∷ xs) zero h = absurd (omega arith)
-take_all (x ∷ xs) (suc n) h = ap (λ ys. x ∷ ys) (take_all xs n (omega arith))
 
 -- all entries are left behind
 pub each_from-end : {X : Type 0} (F : ℕ → Members → List Complaint) (g : X → Members) (all : List X) (i : ℕ)
@@ -83,13 +70,8 @@ each_from-end F g all i h so = so ∙ rw (drop_all i all h)
 pub map_take-end : {X Y Z : Type 0} (f : Y → Z) (g : X → Y) (all : List X) (i : ℕ) (done : List Z) → length all ≤ i
     → done ≡ map (λ x. f (g x)) (take i all)
     → done ≡ map f (map g all)
-map_take-end f g all i done h so = so ∙ ap (map (λ x. f (g x))) (take_all all i h) ∙ sym (map-map f g all)
-
--- ---- a section put together
-
-pub section_told : (f : SettingsFault) (cs ds : List Complaint) → cs ≡ [] → IsTold f ds → IsTold f (cs ++ ds)
-section_told f cs ds none told = rw none told
+map_take-end f g all i done h so = so ∙ ap (map (λ x. f (g x))) (take_all i all h) ∙ sym (map-map f g all)
 
 pub take_end : {X Y : Type 0} (f : X → Y) (all : List X) (i : ℕ) (done : List Y) → length all ≤ i
     → done ≡ map f (take i all) → done ≡ map f all
-take_end f all i done h so = so ∙ ap (map f) (take_all all i h)
+take_end f all i done h so = so ∙ ap (map f) (take_all i all h)

@@ -3,7 +3,7 @@ use Rattle.std.proofs.Common.{◌≡◌, ℕ, ◌+◌, ◌-◌, nat_lt, codes, �
 use Rattle.std.specs.List.{list_any}
 use Rattle.std.specs.Map.{lookup}
 use Rattle.std.proofs.lemmas.Bool.{cases_Bool}
-use Rattle.std.proofs.lemmas.List.{drop_all, drop_more, take_more, map-append, append-nil}
+use Rattle.std.proofs.lemmas.List.{drop_all, drop_more, take_all, take_more, map-append, append-nil}
 use Rattle.gw_model.specs.declared.point.Kind.{Kind}
 use Rattle.gw_model.specs.declared.point.Kind.TheVariants.{Binary, Output, Double, Counter, Analog}
 use Rattle.gw_model.specs.declared.point.PointKey.{PointKey}
@@ -17,7 +17,6 @@ use Rattle.gw_entries.specs.declared.fault.Section.TheVariants as of
 use Rattle.gw_map.specs.Sections.{repeated, double_address, double_addresses}
 use Rattle.gw_entries.specs.Complaints.{complaint}
 use Rattle.std.proofs.lemmas.Bool.Decides.{nat_tests}
-use Rattle.gw_map.proofs.Loops.{take_all}
 
 -- ---- the comparison of points
 
@@ -108,7 +107,7 @@ kept_more f old all i d done h so e =
 
 pub kept_end : {X A : Type 0} (f : X → A) (old : List A) (all : List X) (i : ℕ) (done : List A) → length all ≤ i
     → done ≡ old ++ map f (take i all) → done ≡ old ++ map f all
-kept_end f old all i done h so = so ∙ ap (λ xs. old ++ map f xs) (take_all all i h)
+kept_end f old all i done h so = so ∙ ap (λ xs. old ++ map f xs) (take_all i all h)
 
 pub not-true : (b : Bool) → not b ≡ true → b ≡ false
 not-true true h = absurd cc

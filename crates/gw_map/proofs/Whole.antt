@@ -2,7 +2,8 @@
 use Rattle.std.proofs.Common.{◌≡◌, ℕ, ◌≤◌, arith, codes, min, List, [], ◌∷◌, length, map, Result, Ok, Err, refl, ap, sym, ◌∙◌}
 use Rattle.std.specs.Map.{values_of}
 use Rattle.std.specs.Result.{result_map_both}
-use Rattle.std.proofs.lemmas.List.{length-map}
+use Rattle.std.proofs.lemmas.List.{length-map, map-id}
+use Rattle.std.proofs.lemmas.Simd.{map-map}
 use Rattle.std.proofs.lemmas.Option.{same_Some}
 use Rattle.toml.specs.Data.{Members}
 use Rattle.gw_model.specs.Outcome.{Gives}
@@ -27,14 +28,6 @@ use Rattle.gw_entries.specs.Values.{outstation_of, source_of, row_of, control_of
 pub same_length : {X Y Z : Type 0} (n : ℕ) (g : X → Z) (f : Y → Z) (items : List X) (ts : List Y) → n ≡ length items
     → map g items ≡ map f ts → n ≡ length ts
 same_length n g f items ts e same = e ∙ sym (length-map items g) ∙ ap length same ∙ length-map ts f
-
-pub map_same : {X : Type 0} (xs : List X) → map (λ x. x) xs ≡ xs
-map_same [] = refl
-map_same (x ∷ xs) = ap (λ ys. x ∷ ys) (map_same xs)
-
-map-map : {X Y Z : Type 0} (f : Y → Z) (g : X → Y) (xs : List X) → map f (map g xs) ≡ map (λ x. f (g x)) xs
-map-map f g [] = refl
-map-map f g (x ∷ xs) = ap (λ ys. f (g x) ∷ ys) (map-map f g xs)
 
 abbrev pub object : ℕ → ℕ → ObjectKey
 object common address = record { common_address = common; address = address }
@@ -68,25 +61,24 @@ module _ (outstations : List OutstationSetup) where
       ∙ part_of {Z = ControlFields} (λ fields. object fields.common_address fields.address)
       control_fields (control_of outstations) controls ts same
 
--- the outstations that were read are those of the file
-pub outstations_meant : (top : Members) (station : StationSetup) (items found : List OutstationSetup)
-    → station ≡ station_in top → found ≡ items
+-- the outstations that were read are those of the file, and a point or control may name each of them
+pub record AreRead (top : Members) (items : List OutstationSetup) : Type 0 where
+  pub meant : items ≡ outstations_in top
+  pub counted : min (length items) 255 ≡ length (outstations_in top)
+
+pub outstations_read : (top : Members) (station : StationSetup) (n : ℕ) (items : List OutstationSetup)
+    → station ≡ station_in top → n ≤ 32 → n ≡ length items
     → map (λ outstation. outstation) items
     ≡ map (λ ms. outstation_of station.common_address ms) (entries (codes "outstation") top)
-    → found ≡ outstations_in top
-outstations_meant top station items found is found_is e =
-    found_is ∙ sym (map_same items) ∙ e
-    ∙ ap (λ (s : StationSetup). map (outstation_of s.common_address) (entries (codes "outstation") top)) is
-
--- a point or control may name each of them
-pub outstations_counted : (top : Members) (n : ℕ) (items found : List OutstationSetup) → n ≤ 32 → n ≡ length items
-    → found ≡ items → found ≡ outstations_in top → min (length found) 255 ≡ length (outstations_in top)
-outstations_counted top n items found few is found_is meant =
-    let counted : length found ≡ n = ap length found_is ∙ sym is in
-    fewer counted ∙ ap length meant
+    → AreRead top items
+outstations_read top station n items is few count e =
+    let meant : items ≡ outstations_in top =
+    sym (map-id items) ∙ e
+    ∙ ap (λ (s : StationSetup). map (outstation_of s.common_address) (entries (codes "outstation") top)) is in
+    record { meant = meant; counted = fewer ∙ ap length meant }
   where
-    fewer : length found ≡ n → min (length found) 255 ≡ length found
-    fewer counted = grind arith
+    fewer : min (length items) 255 ≡ length items
+    fewer = grind arith
 
 values-keyed : (rows : List Row) → values_of (map (λ row. (row.key, row)) rows) ≡ rows
 values-keyed [] = refl

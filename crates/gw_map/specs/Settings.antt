@@ -1,5 +1,5 @@
 -- The settings as the other parts see them, and the look-ups in them.
-use Rattle.std.specs.Prelude.{◌≡◌, IsTrue, ℕ, ◌+◌, Bool, not, ◌==◌, ◌&&◌, List, [], ◌∷◌, ◌++◌, map, filter, Option, Some, None, if◌then◌else◌}
+use Rattle.std.specs.Prelude.{◌≡◌, IsTrue, ℕ, ◌+◌, ◌<◌, Bool, false, not, ◌==◌, ◌&&◌, List, [], ◌∷◌, ◌++◌, map, filter, Option, Some, None, if◌then◌else◌}
 use Rattle.std.specs.List.{list_any, AllByRecursion}
 use Rattle.std.specs.Map.{values_of}
 use Rattle.gw_model.specs.declared.point.PointKey.{PointKey}
@@ -63,6 +63,18 @@ is_among addresses n = list_any (λ address. address == n) addresses
 
 abbrev pub is_known : Setup → ℕ → Bool
 is_known s n = is_among (known_addresses s) n
+
+-- no address stands twice
+abbrev pub AreDistinct : List ℕ → Type 0
+AreDistinct [] = Unit {0}
+AreDistinct (address ∷ more) = (is_among more address ≡ false) × AreDistinct more
+
+-- addresses of 16 bits
+abbrev pub AreShort : List ℕ → Type 0
+AreShort addresses = AllByRecursion (λ n. n < 65536) addresses
+
+abbrev pub HasShortAddresses : Setup → Type 0
+HasShortAddresses setup = AreShort (known_addresses setup)
 
 -- ---- look-ups
 

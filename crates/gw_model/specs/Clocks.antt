@@ -30,3 +30,7 @@ shown_at clocks t = pos t +ℤ (pos 60000 *ℤ minutes_ahead clocks (is_summer c
 -- clocks that are always so many minutes ahead of UTC
 abbrev pub always_ahead : ℤ → Clocks
 always_ahead offset = record { offset_minutes = offset; summer = None }
+
+-- those of UTC
+abbrev pub utc : Clocks
+utc = always_ahead (pos 0)

@@ -1,6 +1,11 @@
 //! Points of an outstation, what a fragment reports of them, and the objects as which clients see them.
-ghost use Rattle.std.specs.Prelude.{IsTrue};
+ghost use Rattle.std.specs.Prelude.{◌+◌, ◌*◌, IsTrue};
+ghost use Rattle.std.specs.Hash as fed;
+ghost use Rattle.std.specs.Cmp.Rules.{hashing};
+ghost use Rattle.std.proofs.Common.{rules};
 ghost use Rattle.gw_model.specs.Point.{is_of_kind, is_stamped};
+
+use std::hash::{Hash, Hasher};
 
 /// The kinds of point that an outstation has (IEEE Std 1815, object library).
 #[derive(Clone, Copy, Debug, PartialEq, Eq, Hash)]
@@ -27,10 +32,21 @@ pub struct PointKey {
 
 /// Which information object: the common address of its station, and its information object address
 /// (IEC 60870-5-101, 7.2.4 and 7.2.5).
-#[derive(Clone, Copy, Debug, PartialEq, Eq, Hash)]
+#[derive(Clone, Copy, Debug, PartialEq, Eq)]
 pub struct ObjectKey {
     pub common_address: u16,
     pub address: u32,
+}
+
+/// One word, so that a look-up by both addresses hashes as little as one by a single address.
+impl Hash for ObjectKey {
+    ghost hash_input = { λ key. fed.u64 (4294967296 * key.common_address + key.address) };
+
+    ghost respects_eq = { Prim.search (hashing, rules) };
+
+    fn hash<H: Hasher>(&self, state: &mut H) {
+        state.write_u64((u64::from(self.common_address) << 32) + u64::from(self.address));
+    }
 }
 
 /// A point's value as the outstation sends it.

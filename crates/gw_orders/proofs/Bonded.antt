@@ -25,7 +25,7 @@ use Rattle.gw_steps.specs.State.{State, at_first}
 use Rattle.gw_steps.specs.Steps.{Allowed, command_of, latest}
 use Rattle.gw_steps.specs.Runs.{AtEach, Entry, IsRun, state_after}
 use Rattle.gw_steps.specs.Sound.{LeavesSound}
-use Rattle.gw_steps.proofs.Running.{entry}
+use Rattle.gw_steps.proofs.Running.{entry, last_place, at_each}
 use Rattle.gw_orders.specs.Executes.{Execute, execute_answered, execute_by, execute_in, execute_of, executes, numbered}
 use Rattle.gw_orders.specs.Marks.{Mark, Asked, Answered, given_in, marks}
 use Rattle.gw_orders.specs.ToldOnce.{TellsOnce, told}
@@ -72,10 +72,6 @@ pub record Place (setup : Setup) (past : List Entry) : Type 0 where
   pub bound : LastIsBound setup past
   pub told : ToldTied (story setup past) (state_after setup past).controls.outgoing (told setup past)
 
-last_place : (P : List Entry → Type 0) (past : List Entry) → AtEach P past → P past
-last_place P [] at = at
-last_place P (e ∷ past) at = at.0
-
 earlier : (setup : Setup) (e : Entry) (past : List Entry) → IsControlRun setup (e ∷ past) → IsControlRun setup past
 earlier setup e past given = record { run = given.run.1; sound = given.sound.1; indices = given.indices }
 
@@ -97,11 +93,6 @@ places setup (e ∷ past) given =
           (last_place (Place setup) past so_far),
       so_far,
     )
-
-at_each : (P Q : List Entry → Type 0) → ((past : List Entry) → P past → Q past) → (past : List Entry) → AtEach P past
-    → AtEach Q past
-at_each P Q law [] at = law [] at
-at_each P Q law (e ∷ past) at = (law (e ∷ past) at.0, at_each P Q law past at.1)
 
 -- ---- requests are bound
 

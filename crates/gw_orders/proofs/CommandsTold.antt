@@ -7,7 +7,7 @@ use Rattle.gw_steps.specs.declared.step.Step.{Step}
 use Rattle.gw_steps.specs.declared.step.Reply.{Reply}
 use Rattle.gw_steps.specs.declared.step.StepFault.{StepFault}
 use Rattle.gw_steps.specs.Runs.{AtEach, Entry, state_after}
-use Rattle.gw_steps.proofs.Running.{entry}
+use Rattle.gw_steps.proofs.Running.{entry, last_place}
 use Rattle.gw_history.specs.Premises.{IsSoundRun}
 use Rattle.gw_history.proofs.Places.{Place as HistoryPlace, places as history_places}
 use Rattle.gw_orders.specs.Bonds.{HasShortIndex}
@@ -24,10 +24,6 @@ use Rattle.gw_orders.proofs.Up.{AreUp, first_up, up_more}
 record Place (setup : Setup) (past : List Entry) : Type 0 where
   selects : Selects setup past (state_after setup past)
   up : AreUp past (state_after setup past)
-
-last_place : (P : List Entry → Type 0) (past : List Entry) → AtEach P past → P past
-last_place P [] at = at
-last_place P (e ∷ past) at = at.0
 
 places : (setup : Setup) (past : List Entry) → AtEach (HistoryPlace setup) past → AtEach (Place setup) past
 places setup [] at = record { selects = first_selects setup; up = first_up setup }

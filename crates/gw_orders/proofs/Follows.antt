@@ -12,7 +12,7 @@ use Rattle.gw_steps.specs.declared.step.Reply.{Reply}
 use Rattle.gw_steps.specs.State.{State}
 use Rattle.gw_steps.specs.Steps.{Allowed, after}
 use Rattle.gw_steps.specs.Runs.{AtEach, Entry, IsRun, state_after}
-use Rattle.gw_steps.proofs.Running.{entry}
+use Rattle.gw_steps.proofs.Running.{entry, last_place, at_each}
 use Rattle.gw_history.specs.Premises.{IsSoundRun}
 use Rattle.gw_history.proofs.Places.{Place as HistoryPlace, places as history_places}
 use Rattle.gw_orders.specs.Bonds.{HasShortIndex}
@@ -65,10 +65,6 @@ one_more setup past step (Err f) allowed history bonds so_far =
       told = sym (none_due setup past (entry step (Err f)) (length setup.outstations) (λ p. refl));
     }
 
-last_place : (P : List Entry → Type 0) (past : List Entry) → AtEach P past → P past
-last_place P [] at = at
-last_place P (e ∷ past) at = at.0
-
 joined : (setup : Setup) (past : List Entry) → IsRun setup past → AtEach (HistoryPlace setup) past
     → AtEach (BondPlace setup) past → AtEach (Place setup) past
 joined setup [] run history bonds = record {
@@ -86,11 +82,6 @@ pub places : (setup : Setup) (past : List Entry) → IsSoundRun setup past → A
 places setup past given short =
     joined setup past given.run (history_places setup past given)
     (bond_places setup past (record { run = given.run; sound = given.sound; indices = short }))
-
-at_each : (P Q : List Entry → Type 0) → ((past : List Entry) → P past → Q past) → (past : List Entry) → AtEach P past
-    → AtEach Q past
-at_each P Q law [] at = law [] at
-at_each P Q law (e ∷ past) at = (law (e ∷ past) at.0, at_each P Q law past at.1)
 
 pub told_when_due : (setup : Setup) (past : List Entry) → IsSoundRun setup past
     → AllByRecursion HasShortIndex setup.controls → AtEach (TellsDue setup) past

@@ -11,6 +11,7 @@ use Rattle.gw_steps.specs.Controls.{controls_after_closes}
 use Rattle.gw_steps.specs.Runs.{Entry}
 use Rattle.gw_steps.specs.Steps.{bits_of, one_if}
 use Rattle.gw_history.specs.Life.{has_bit}
+use Rattle.gw_history.proofs.Clients.{bit_zero}
 use Rattle.gw_orders.proofs.Ends.{tied_end}
 use Rattle.gw_orders.proofs.Story.{Tied, story}
 use Rattle.gw_orders.specs.Pending.{Pending, after_sessions}
@@ -78,10 +79,6 @@ closing_at (b ∷ bs) i (suc j) c at =
     by true rest = rest
     by false rest = rest
 
-no_bit : (c : ℕ) → has_bit c 0 ≡ false
-no_bit zero = refl
-no_bit (suc c) = no_bit c
-
 lowest : (b : Bool) (n : ℕ) → has_bit 0 (one_if b + 2 * n) ≡ b
 lowest true n = eq-eqb ((1 + 2 * n) % 2) 1 (omega arith)
 lowest false n = ne_eqb ((0 + 2 * n) % 2) 1 (λ (e : (0 + 2 * n) % 2 ≡ 1). omega (arith, e))
@@ -91,7 +88,7 @@ others true n = omega arith
 others false n = omega arith
 
 pub bit_told : (bs : List Bool) (c : ℕ) → has_bit c (bits_of bs) ≡ bit_at c bs
-bit_told [] c = no_bit c
+bit_told [] c = bit_zero c
 bit_told (b ∷ bs) zero = lowest b (bits_of bs)
 bit_told (b ∷ bs) (suc c) = ap (has_bit c) (others b (bits_of bs)) ∙ bit_told bs c
 

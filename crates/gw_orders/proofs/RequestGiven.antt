@@ -39,7 +39,7 @@ use Rattle.gw_steps.specs.Runs.{Entry, state_after}
 use Rattle.gw_steps.proofs.Inversion.{answered, who_is_up}
 use Rattle.gw_steps.proofs.Running.{entry}
 use Rattle.gw_history.specs.Accepted.{AskedRequest, asked_of, poll_at}
-use Rattle.gw_history.proofs.Masters.{AwaitsAs, MasterIs, MasterTied}
+use Rattle.gw_history.proofs.Masters.{AwaitsAs, MasterIs, MasterTied, first_octet}
 use Rattle.gw_history.proofs.Tied.{Tied, told_moment}
 use Rattle.gw_orders.specs.Marks.{marks, request_of}
 use Rattle.gw_orders.proofs.Asks.{reads_operation}
@@ -50,7 +50,7 @@ use Rattle.gw_orders.proofs.Rows.{row_under_way, row_waiting, rows, rows_in}
 use Rattle.gw_orders.proofs.Shapes.{all_unmarked}
 use Rattle.gw_orders.specs.Talk.{Turn, next_number, talk}
 use Rattle.gw_orders.specs.Requests.{Due, EntryGives, GivesDue, IsDue, OfOrder, StepGives, due_at, first_due, in_rank, is_selected, of_oldest}
-use Rattle.gw_orders.proofs.RequestTurns.{IsTold, first_octet}
+use Rattle.gw_orders.proofs.RequestTurns.{IsTold}
 use Rattle.gw_orders.proofs.RequestRanked.{Fits, first_fits}
 use Rattle.gw_orders.proofs.RequestSteps.{Told, ToldAt}
 

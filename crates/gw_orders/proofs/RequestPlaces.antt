@@ -3,6 +3,7 @@ use Rattle.std.proofs.Common.{List, [], ◌∷◌}
 use Rattle.std.specs.List.{AllByRecursion}
 use Rattle.gw_map.specs.Settings.{Setup}
 use Rattle.gw_steps.specs.Runs.{AtEach, Entry, IsRun, state_after}
+use Rattle.gw_steps.proofs.Running.{last_place, at_each}
 use Rattle.gw_history.specs.Premises.{IsSoundRun}
 use Rattle.gw_orders.specs.Bonds.{HasShortIndex}
 use Rattle.gw_orders.proofs.Follows.{Place as OrderPlace, places as order_places}
@@ -23,10 +24,6 @@ known setup past here told = record {
   told = told;
 }
 
-last_place : (P : List Entry → Type 0) (past : List Entry) → AtEach P past → P past
-last_place P [] at = at
-last_place P (e ∷ past) at = at.0
-
 joined : (setup : Setup) (past : List Entry) → IsRun setup past → AtEach (OrderPlace setup) past
     → AtEach (Place setup) past
 joined setup [] run at = record { told = first_told setup; gives = tt }
@@ -40,11 +37,6 @@ joined setup (e ∷ past) run at =
       },
       so_far,
     )
-
-at_each : (P Q : List Entry → Type 0) → ((past : List Entry) → P past → Q past) → (past : List Entry) → AtEach P past
-    → AtEach Q past
-at_each P Q law [] at = law [] at
-at_each P Q law (e ∷ past) at = (law (e ∷ past) at.0, at_each P Q law past at.1)
 
 pub requests_due : (setup : Setup) (past : List Entry) → IsSoundRun setup past
     → AllByRecursion HasShortIndex setup.controls → AtEach (Requests setup) past

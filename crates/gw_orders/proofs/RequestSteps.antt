@@ -30,13 +30,14 @@ use Rattle.gw_steps.specs.declared.step.StepFault.{StepFault}
 use Rattle.gw_steps.specs.declared.step.StepFault.TheVariants.{NoOutstation}
 use Rattle.gw_steps.specs.Controls.{order_due}
 use Rattle.gw_steps.specs.State.{State, at_first}
-use Rattle.gw_steps.specs.Steps.{Allowed, after, can_be_counted, fault_of, is_accepting, latest, needs, outcome, outstation_reply, parts_after_fragment, parts_after_poll, reply_asking, reply_to, request_polled}
+use Rattle.gw_steps.specs.Steps.{Allowed, after, can_be_counted, fault_of, is_accepting, latest, needs, outcome, outstation_reply, parts_after_fragment, reply_asking, reply_to, request_polled}
 use Rattle.gw_steps.specs.Runs.{Entry, state_after}
 use Rattle.gw_steps.proofs.Inversion.{answered, who_is_up}
 use Rattle.gw_steps.proofs.Running.{entry}
 use Rattle.gw_history.specs.Accepted.{AskedRequest, asked_at, asked_of, is_accepted, poll_at}
 use Rattle.gw_history.proofs.Masters.{AwaitsAs, MasterIs, MasterTied, same_accepted}
 use Rattle.gw_history.proofs.Tied.{Tied, told_moment}
+use Rattle.gw_history.proofs.Outstations.{polled_outstations}
 use Rattle.gw_orders.specs.Marks.{request_of}
 use Rattle.gw_orders.specs.Pending.{is_late_at}
 use Rattle.gw_orders.specs.Selections.{moment_at}
@@ -117,12 +118,6 @@ outstation_down setup past o m r s told =
 abbrev master_after_poll : ℕ → ℕ → Option Order → Master → Master
 master_after_poll moment wall None x = master_after_next moment wall x
 master_after_poll moment wall (Some order) x = master_after_order moment order x
-
-polled_outstations : (s : State) (moment o wall : ℕ) (order : Option Order)
-    → (parts_after_poll s moment o wall order).outstations
-    ≡ change o (master_after_poll moment wall order) s.outstations
-polled_outstations s moment o wall None = refl
-polled_outstations s moment o wall (Some order) = refl
 
 request_asked : (given : Option Request) → request_of (reply_asking given) ≡ given
 request_asked None = refl

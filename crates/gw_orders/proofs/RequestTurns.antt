@@ -1,5 +1,6 @@
 -- What ties an outstation's part of the state to the talk with it, and how each turn keeps it.
 use Rattle.std.proofs.Common.{◌≡◌, ℕ, ◌+◌, ◌/◌, ◌%◌, Bool, true, false, cond, not, ◌&&◌, ◌||◌, List, [], ◌∷◌, Option, Some, None, refl, sym, ap, ◌∙◌, arith}
+use Rattle.std.proofs.Math.Bool.{or-false}
 use Rattle.std.specs.Prelude.{◌==◌, option_and_then, option_map, slice_index}
 use Rattle.std.proofs.lemmas.Bool.{eq-eqb, eqb-true, ne_eqb}
 use Rattle.gw_model.specs.declared.poll.Poll.{Poll}
@@ -18,6 +19,7 @@ use Rattle.dnp_master.specs.Master.{Master, due_unanswered, due_without, followi
 use Rattle.dnp_master.specs.Fragments.{clears_restart, control_in, due_once_answered, due_with, exchange_once_answered, indications_in, is_done, master_after_answer, master_after_unsolicited, records_time}
 use Rattle.gw_orders.specs.Talk.{Turn, Up, Sends, Accepts, GivesUp, asked_by, last_asked, last_sent, next_number, number_behind}
 use Rattle.gw_orders.specs.Due.{clear_restart, disabling_due, enabling_due, event_poll, events_wanted, had, iin, integrity_poll, integrity_wanted, is_for, recording_due, restart_due, since, tells_of_events, time_due}
+use Rattle.gw_history.proofs.Masters.{first_octet}
 
 -- ---- the tie
 
@@ -61,10 +63,6 @@ pub record IsTold (m : Master) (ts : List Turn) : Type 0 where
 
 -- ---- it comes up, or is down
 
-or_nothing : (b : Bool) → b || false ≡ b
-or_nothing true = refl
-or_nothing false = refl
-
 abbrev due_up : ℕ → Bool → DueTasks
 due_up moment unsolicited = record nothing_due {
   disable = unsolicited;
@@ -76,7 +74,7 @@ due_up moment unsolicited = record nothing_due {
 
 pub told_up : (moment : ℕ) (m : Master) → IsTold (master_after_up moment m) (Up moment ∷ [])
 told_up moment m = record {
-  due = sym (ap (due_up moment) (or_nothing m.poll.unsolicited));
+  due = sym (ap (due_up moment) (or-false m.poll.unsolicited));
   restart = refl;
   overflow = refl;
   number = refl;
@@ -100,16 +98,6 @@ without moment wall n poll ts EventPoll = refl
 without moment wall n poll ts (Command Select order) = refl
 without moment wall n poll ts (Command Operate order) = refl
 without moment wall n poll ts (Command DirectOperate order) = refl
-
-pub first_octet : (task : Task) (n : ℕ) → slice_index (task_request task n).octets 0 ≡ 192 + n
-first_octet ClearRestart n = refl
-first_octet (WriteTime time) n = refl
-first_octet (RecordTime time) n = refl
-first_octet Disable n = refl
-first_octet Integrity n = refl
-first_octet Enable n = refl
-first_octet EventPoll n = refl
-first_octet (Command operation order) n = refl
 
 behind : (n octet : ℕ) → octet ≡ 192 + n → following n ≡ number_behind octet
 behind n octet e = omega (arith, e)

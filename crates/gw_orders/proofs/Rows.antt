@@ -1,5 +1,6 @@
 -- The orders of the state towards one outstation, as pending ones: the one under way, and then those that wait.
 use Rattle.std.proofs.Common.{◌≡◌, ℕ, Bool, true, false, cond, not, ◌||◌, List, [], ◌∷◌, ◌++◌, map, Option, Some, None, option_map, refl, ap, ◌∙◌}
+use Rattle.std.proofs.Math.Bool.{or-false}
 use Rattle.std.specs.List.{AllByRecursion, filter}
 use Rattle.gw_control.specs.declared.accepted.Accepted.{Accepted}
 use Rattle.gw_control.specs.declared.accepted.UnderWay.{UnderWay}
@@ -30,10 +31,6 @@ pub record Marked (past : List Entry) (q : Option Outgoing) : Type 0 where
 
 -- ---- truth
 
-pub or_false : (b : Bool) → b || false ≡ b
-or_false true = refl
-or_false false = refl
-
 pub or_true : (b : Bool) → b || true ≡ true
 or_true true = refl
 or_true false = refl
@@ -50,7 +47,7 @@ quiet c = false
 pub none_leaves : (past : List Entry) (ps : List Pending) → after_sessions quiet past ps ≡ ps
 none_leaves past [] = refl
 none_leaves past (p ∷ ps) =
-    rw (or_true (is_marked (marks p.number past)), none_leaves past ps, or_false p.left) refl
+    rw (or_true (is_marked (marks p.number past)), none_leaves past ps, or-false p.left) refl
 
 -- ---- sessions end
 

@@ -1,5 +1,6 @@
 -- A tick ends sessions, and then orders whose answers are late.
 use Rattle.std.proofs.Common.{◌≡◌, ℕ, Bool, true, false, cond, ◌&&◌, List, [], ◌∷◌, length, map, Option, Some, None, Ok, option_map, refl, sym, ap, subst, ◌∙◌}
+use Rattle.std.proofs.Math.Bool.{and-false}
 use Rattle.std.specs.Prelude.{option_and_then, slice_get}
 use Rattle.std.specs.List.{AllByRecursion}
 use Rattle.std.proofs.lemmas.List.{length-map}
@@ -41,10 +42,6 @@ use Rattle.gw_orders.proofs.PendingPlaces.{At, at_over, ended_due}
 use Rattle.gw_orders.proofs.Shapes.{all_unmarked}
 use Rattle.gw_orders.proofs.Kept.{StepFollows, Before, due_here, TellingAt}
 
-and_false : (b : Bool) → b && false ≡ false
-and_false true = refl
-and_false false = refl
-
 and_right : (a b : Bool) → a && b ≡ true → b ≡ true
 and_right true b e = e
 and_right false b e = absurd (let no : ⊥ = cc in no)
@@ -54,7 +51,7 @@ not_awaiting : (past : List Entry) (late : Bool) (xs : List Accepted)
     → AllByRecursion (λ x. late && awaits (marks x.order.number past) ≡ false) xs
 not_awaiting past late [] all = tt
 not_awaiting past late (x ∷ xs) all =
-    (ap (λ (ms : List Mark). late && awaits ms) all.0 ∙ and_false late, not_awaiting past late xs all.1)
+    (ap (λ (ms : List Mark). late && awaits ms) all.0 ∙ and-false late, not_awaiting past late xs all.1)
 
 -- an order whose request awaits an answer isn't done
 undone : (ms : List Mark) → awaits ms ≡ true → was_done ms ≡ false

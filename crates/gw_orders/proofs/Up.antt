@@ -1,16 +1,13 @@
 -- At each place of a run an outstation is up where the history tells so.
-use Rattle.std.proofs.Common.{◌≡◌, ℕ, zero, suc, Bool, true, false, cond, List, [], ◌∷◌, map, Option, Some, None, Result, Ok, Err, refl, ap, ◌∙◌, inl, inr}
+use Rattle.std.proofs.Common.{◌≡◌, ℕ, zero, suc, true, false, List, [], ◌∷◌, map, Option, Some, None, Result, Ok, Err, refl, ap, ◌∙◌, inl, inr}
 use Rattle.std.specs.Prelude.{◌==◌, slice_get}
 use Rattle.std.proofs.lemmas.Bool.{cases_Bool, eq-eqb, ne_eqb}
 use Rattle.gw_model.specs.declared.control.Order.{Order}
 use Rattle.gw_entries.specs.Setup.{OutstationSetup}
 use Rattle.gw_map.specs.Settings.{Setup}
-use Rattle.dnp_app.specs.Response.{Fragment, is_unsolicited}
-use Rattle.dnp_master.specs.declared.exchange.Exchange.{Exchange}
-use Rattle.dnp_master.specs.declared.exchange.Exchange.TheVariants.{Idle, Selected, Waiting}
-use Rattle.dnp_master.specs.declared.task.Task.{Task}
-use Rattle.dnp_master.specs.Fragments.{accepts, master_after_answer, master_after_fragment, master_after_unsolicited}
-use Rattle.dnp_master.specs.Master.{Master, due_unanswered, is_late, master_after_given, master_after_next, master_after_order, master_after_tick, master_after_up, master_down, master_with_exchange_after, task_given}
+use Rattle.dnp_app.specs.Response.{Fragment}
+use Rattle.dnp_master.specs.Fragments.{master_after_fragment}
+use Rattle.dnp_master.specs.Master.{Master, master_after_next, master_after_order, master_after_tick, master_after_up, master_down, task_given}
 use Rattle.gw_steps.specs.declared.step.Step.{Step}
 use Rattle.gw_steps.specs.declared.step.Step.TheVariants as steps
 use Rattle.gw_steps.specs.declared.step.Reply.{Reply}
@@ -24,36 +21,7 @@ use Rattle.gw_steps.proofs.Inversion.{answered, who_is_down, who_is_up}
 use Rattle.gw_steps.proofs.Running.{entry}
 use Rattle.gw_orders.specs.Commands.{is_up, up_after}
 use Rattle.gw_orders.proofs.Changed.{all_told, told_changed, told_kept}
-
--- ---- one master
-
-given_up : (moment : ℕ) (task : Option Task) (m : Master) → (master_after_given moment task m).up ≡ m.up
-given_up moment None m = refl
-given_up moment (Some task) m = refl
-
-late_up : (moment : ℕ) (ex : Exchange) (m : Master) → (master_with_exchange_after moment ex m).up ≡ m.up
-late_up moment Idle m = refl
-late_up moment (Selected order) m = refl
-late_up moment (Waiting w) m = by (is_late moment m.poll w.since)
-  where
-    by : (b : Bool)
-        → (cond b (record m { exchange = Idle; due = due_unanswered w.task m.due }) m).up ≡ m.up
-    by true = refl
-    by false = refl
-
-answered_up : (moment : ℕ) (f : Fragment) (ex : Exchange) (m : Master) → (master_after_answer moment f ex m).up ≡ m.up
-answered_up moment f Idle m = refl
-answered_up moment f (Waiting w) m = refl
-answered_up moment f (Selected order) m = refl
-
-fragment_up : (moment : ℕ) (f : Fragment) (m : Master) → (master_after_fragment moment f m).up ≡ m.up
-fragment_up moment f m = by (accepts m f) (is_unsolicited f)
-  where
-    by : (a b : Bool)
-        → (cond a (cond b (master_after_unsolicited f m) (master_after_answer moment f m.exchange m)) m).up ≡ m.up
-    by true true = refl
-    by true false = answered_up moment f m.exchange m
-    by false b = refl
+use Rattle.gw_history.proofs.Ups.{given_up, late_up, fragment_up}
 
 -- ---- each step
 

@@ -1,7 +1,7 @@
 -- A place of a list that was lent, and a walk over all of them.
-use Rattle.std.specs.Prelude.{replicate, slice_get, IfSome}
+use Rattle.std.specs.Prelude.{slice_get}
 use Rattle.std.specs.List.{AllByRecursion}
-use Rattle.std.proofs.Common.{◌≡◌, ℕ, zero, suc, ◌+◌, List, [], ◌∷◌, ◌++◌, map, get_or, Some, None, refl, sym, ap, subst, ◌∙◌, arith}
+use Rattle.std.proofs.Common.{◌≡◌, ℕ, zero, suc, ◌+◌, List, [], ◌∷◌, ◌++◌, map, get_or, Some, None, refl, sym, ap, subst, ◌∙◌}
 use Rattle.std.proofs.Math.ListN.{set}
 use Rattle.gw_model.specs.Places.{change}
 use Rattle.gw_picture.proofs.Lists.{some_is}
@@ -19,18 +19,6 @@ index_changed n f [] x y there e = refl
 index_changed zero f (z ∷ xs) x y there e = ap (λ (w : _). w ∷ xs) (e ∙ ap f there)
 index_changed (suc n) f (z ∷ xs) x y there e = ap (λ (zs : List _). z ∷ zs) (index_changed n f xs x y there e)
 
--- x was left as it stood there
-pub lent_same : {A : Type 0} (n : ℕ) (xs : List A) (x y : A) → Some x ≡ slice_get xs n → y ≡ x → set xs n y ≡ xs
-lent_same n [] x y there e = refl
-lent_same zero (z ∷ xs) x y there e = ap (λ (w : _). w ∷ xs) (e ∙ some_is x z there)
-lent_same (suc n) (z ∷ xs) x y there e = ap (λ (zs : List _). z ∷ zs) (lent_same n xs x y there e)
-
--- what is left there has what it has
-pub lent_has : {A : Type 0} (P : A → Type 0) (n : ℕ) (xs : List A) (y : A) → P y → IfSome (slice_get (set xs n y) n) P
-lent_has P n [] y holds = tt
-lent_has P zero (z ∷ xs) y holds = holds
-lent_has P (suc n) (z ∷ xs) y holds = lent_has P n xs y holds
-
 -- there is no such place
 pub none_changed : {A : Type 0} (n : ℕ) (f : A → A) (xs : List A) → None ≡ slice_get xs n → xs ≡ change n f xs
 none_changed n f [] none = refl
@@ -46,18 +34,6 @@ has_too P (suc n) (z ∷ xs) x there all = has_too P n xs x there all.1
 
 -- ---- so many alike
 
-replicate_suc : {A : Type 0} (n : ℕ) (x : A) → replicate (suc n) x ≡ replicate n x ++ x ∷ []
-replicate_suc zero x = refl
-replicate_suc (suc n) x = ap (λ (zs : List _). x ∷ zs) (replicate_suc n x)
-
 pub map-end : {A B : Type 0} (f : A → B) (xs : List A) (y : A) → map f (xs ++ y ∷ []) ≡ map f xs ++ f y ∷ []
 map-end f [] y = refl
 map-end f (x ∷ xs) y = ap (λ (zs : List _). f x ∷ zs) (map-end f xs y)
-
--- one more of them at the end
-pub one_more : {A : Type 0} (n m : ℕ) (x y : A) (ys more : List A) → m ≡ n + 1 → more ≡ ys ++ y ∷ [] → y ≡ x
-    → ys ≡ replicate n x → more ≡ replicate m x
-one_more n m x y ys more next push is so_far =
-    let e : m ≡ suc n = omega (arith, next) in
-    push ∙ (ap (λ (zs : List _). zs ++ y ∷ []) so_far
-    ∙ (ap (λ (z : _). replicate n x ++ z ∷ []) is ∙ sym (ap (λ (k : ℕ). replicate k x) e ∙ replicate_suc n x)))

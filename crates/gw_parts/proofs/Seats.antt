@@ -7,7 +7,7 @@ use Rattle.gw_model.specs.Places.{change}
 use Rattle.gw_model.specs.declared.observation.Observation.{Observation}
 use Rattle.gw_station.specs.Client.{Client, client_with_news}
 use Rattle.gw_station.specs.Ring.{Ring, Seat, ring_with, seen, Stands}
-use Rattle.gw_station.proofs.Seen.{came, stands_then}
+use Rattle.gw_station.proofs.Seen.{came}
 
 -- ---- a place
 
@@ -84,11 +84,6 @@ pub all_came : (x : Observation) (r : Ring) (ss : List Seat) → length r.items 
 all_came x r [] few within all = refl
 all_came x r (s ∷ ss) few within all =
     let one = came x r s few within all.0 in let rest = all_came x r ss few within all.1 in cc
-
-pub all_stand : (x : Observation) (r : Ring) (ss : List Seat) → length r.items ≤ r.limit → length r.items ≤ r.next
-    → AllByRecursion (Stands r) ss → AllByRecursion (Stands (ring_with x r)) ss
-all_stand x r [] few within all = tt
-all_stand x r (s ∷ ss) few within all = (stands_then x r s few within all.0, all_stand x r ss few within all.1)
 
 pub seen_has : (P : Client → Type 0) (r : Ring) (n : ℕ) (ss : List Seat) (t : Seat) → P (seen r t)
     → IfSome (slice_get (map (seen r) (set ss n t)) n) P

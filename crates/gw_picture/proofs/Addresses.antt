@@ -1,5 +1,5 @@
 -- Where no object stands twice, no row is of the object of a row before it.
-use Rattle.std.proofs.Common.{◌≡◌, ℕ, ◌+◌, Bool, true, false, not, ◌&&◌, cond, List, [], ◌∷◌, ◌++◌, map, refl, sym, ap, ◌∙◌, inl, inr}
+use Rattle.std.proofs.Common.{◌≡◌, ℕ, ◌+◌, Bool, true, not, ◌&&◌, List, [], ◌∷◌, ◌++◌, map, refl, sym, ap, ◌∙◌, inl, inr}
 use Rattle.std.specs.List.{list_any}
 use Rattle.std.proofs.lemmas.Bool.{cases_Bool, true≢false}
 use Rattle.gw_model.specs.declared.point.ObjectKey.{ObjectKey}
@@ -9,6 +9,7 @@ use Rattle.gw_entries.specs.declared.control.Control.{Control}
 use Rattle.gw_entries.specs.declared.row.Row.{Row}
 use Rattle.gw_map.specs.Sections.{repeated}
 use Rattle.gw_map.specs.Settings.{HasSingleAddresses, control_object, row_object}
+use Rattle.gw_map.proofs.Finding.{any_more, fresh_head}
 
 -- no row is of this object
 abbrev pub is_fresh : ObjectKey → List Row → Bool
@@ -19,18 +20,6 @@ is_fresh object (row ∷ rows) = not (same_object object (row_object row)) && is
 abbrev pub is_single : List Row → Bool
 is_single [] = true
 is_single (row ∷ rows) = is_fresh (row_object row) rows && is_single rows
-
-fresh_head : (again : Bool) (n : ℕ) (more : List ℕ) → cond again (n ∷ []) [] ++ more ≡ []
-    → (again ≡ false) × (more ≡ [])
-fresh_head true n more h = absurd cc
-fresh_head false n more h = (refl, h)
-
-any_more : (a b : ObjectKey) (xs : List ObjectKey) → list_any (same_object a) xs ≡ true → list_any (same_object a) (xs ++ b ∷ []) ≡ true
-any_more a b [] h = absurd (true≢false (sym h))
-any_more a b (x ∷ xs) h = elim (cases_Bool (same_object a x)) [
-  | inl hit ↦ rw hit
-  | inr miss ↦ rw miss (any_more a b xs (rw miss at h))
-]
 
 any_last : (a : ObjectKey) (xs : List ObjectKey) → list_any (same_object a) (xs ++ a ∷ []) ≡ true
 any_last a [] = rw (eq-same_object a a refl)
@@ -50,7 +39,8 @@ fresh_behind a n old (row ∷ rows) more there h =
       | inl hit ↦
           absurd (true≢false (sym there ∙ ap (λ (b : ObjectKey). list_any (same_object b) old) (same_object-true a (row_object row) hit) ∙ fresh))
       | inr miss ↦
-          rw miss (fresh_behind a (n + 1) (old ++ row_object row ∷ []) rows more (any_more a (row_object row) old there) behind)
+          rw miss (fresh_behind a (n + 1) (old ++ row_object row ∷ []) rows more
+          (any_more (same_object a) (row_object row) old there) behind)
     ]
 
 single_behind : (n : ℕ) (old : List ObjectKey) (rows : List Row) (more : List ObjectKey)

@@ -125,16 +125,6 @@ row_one outstation row x = go (is_lost_with outstation row x)
     go true = omega arith
     go false = omega arith
 
-both_one : (outstation : ℕ) (row : Option Row) (shown : Option Observation)
-    → length (losses_of_both outstation row shown) ≤ 1
-both_one outstation None shown = omega arith
-both_one outstation (Some row) None = omega arith
-both_one outstation (Some row) (Some x) = row_one outstation row x
-
-pub losses_one : (outstation : ℕ) (rows : List Row) (picture : List Observation) (n : ℕ)
-    → length (losses_at outstation rows picture n) ≤ 1
-losses_one outstation rows picture n = both_one outstation (slice_get rows n) (slice_get picture n)
-
 pub losses_few : (outstation : ℕ) (rows : List Row) (picture : List Observation)
     → length (losses_of outstation rows picture) ≤ length picture
 losses_few outstation [] picture = omega arith

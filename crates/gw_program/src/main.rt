@@ -6,10 +6,10 @@ mod running;
 
 use crate::running::run;
 use clap::error::ErrorKind;
+use gw_capture::replay;
 use gw_checker::{CheckReport, Unusable, explain, read_file, read_settings, write_warnings};
 use gw_command_line::{Asked, LineFault, command_line as read_words};
 use gw_map::{DEFAULT_SETTINGS, Settings};
-use gw_replay::replay;
 use gw_server::Host;
 use gw_translator::translate;
 use std::env;

@@ -1,10 +1,11 @@
 //! What an operator is told of controls: each command that comes, what the client is told of it, each request that is
 //! given for it, and what becomes of it.
 
-use crate::desk::Desk;
+use gw_clock::Clock;
+use gw_connections::{About, Call, Fate, Reply, Run, Verdict, control_command};
 use gw_journal::{CommandEvent, JournalEvent, OrderEvent};
 use gw_model::Ended;
-use gw_threads::{About, Call, Clock, Fate, Reply, Run, Verdict, control_command};
+use gw_peers::Desk;
 use iec_apci::Apdus;
 use iec_command::Command;
 use std::sync::Wait;
@@ -12,100 +13,108 @@ use std::sync::Wait;
 /// The octets in front of an ASDU in its APDU.
 const FRONT: usize = 6;
 
-impl<'a, R: Wait, C: Clock> Desk<'a, R, C> {
-    /// Tells what a step did with a control, if it did something.
-    pub(crate) fn tell_of_controls(&self, call: &Call<'_>) {
-        match (call.about, call.reply) {
-            (
-                About::Frame {
-                    client,
-                    command: Some(command),
-                    ..
-                },
-                Ok(_),
-            ) => {
-                let order = call.orders.accepted();
-                self.tell_command(client, command, CommandEvent::Came { order });
-            }
-            (About::Poll(outstation), Ok(Reply::Request(request))) => {
-                if let Some(order) = request.bond {
-                    self.tell_order(outstation, order, OrderEvent::Given(*request));
-                }
-            }
-            (
-                About::Fragment { outstation, .. },
-                Ok(
-                    Reply::Verdict(
-                        Verdict::Accepted {
-                            control: Some(ended),
-                            ..
-                        },
-                    ),
-                ),
-            ) => self.tell_end(outstation, *ended),
-            _ => {}
-        }
-        self.tell_settled(call);
-    }
-
-    /// Tells what a client is told of its commands for controls by a run of pumps.
-    pub(crate) fn tell_of_commands(&self, run: &Run<'_>) {
-        for apdu in Apdus(run.octets) {
-            if let Some(command) = command_in(apdu) {
-                self.tell_command(run.client, command, CommandEvent::Told);
-            }
-        }
-    }
-
-    /// Tells what happened with a command of a client.
-    fn tell_command(&self, client: u8, command: Command, what: CommandEvent) {
-        let Some(card) = self.board.client(client) else {
-            return;
-        };
-        let address = card.figures.lock(self.rt).address;
-        if let Some(address) = address {
-            self.tell(JournalEvent::Command {
+/// Tells what a step did with a control, if it did something.
+pub fn tell_of_controls<R: Wait, C: Clock>(desk: &Desk<'_, R, C>, call: &Call<'_>) {
+    match (call.about, call.reply) {
+        (
+            About::Frame {
                 client,
-                address,
-                command,
-                what,
-            });
+                command: Some(command),
+                ..
+            },
+            Ok(_),
+        ) => {
+            let order = call.orders.accepted();
+            tell_command(desk, client, command, CommandEvent::Came { order });
+        }
+        (About::Poll(outstation), Ok(Reply::Request(request))) => {
+            if let Some(order) = request.bond {
+                tell_order(desk, outstation, order, OrderEvent::Given(*request));
+            }
+        }
+        (
+            About::Fragment { outstation, .. },
+            Ok(
+                Reply::Verdict(
+                    Verdict::Accepted {
+                        control: Some(ended),
+                        ..
+                    },
+                ),
+            ),
+        ) => tell_end(desk, outstation, *ended),
+        _ => {}
+    }
+    tell_settled(desk, call);
+}
+
+/// Tells what a client is told of its commands for controls by a run of pumps.
+pub fn tell_of_commands<R: Wait, C: Clock>(desk: &Desk<'_, R, C>, run: &Run<'_>) {
+    for apdu in Apdus(run.octets) {
+        if let Some(command) = command_in(apdu) {
+            tell_command(desk, run.client, command, CommandEvent::Told);
         }
     }
+}
 
-    /// Tells what happened with an order to an outstation.
-    fn tell_order(&self, outstation: u8, order: u64, what: OrderEvent) {
-        self.tell(JournalEvent::Order {
-            outstation,
-            order,
+/// Tells what happened with a command of a client.
+fn tell_command<R: Wait, C: Clock>(
+    desk: &Desk<'_, R, C>,
+    client: u8,
+    command: Command,
+    what: CommandEvent,
+) {
+    let Some(card) = desk.board.client(client) else {
+        return;
+    };
+    let address = card.figures.lock(desk.rt).address;
+    if let Some(address) = address {
+        desk.tell(JournalEvent::Command {
+            client,
+            address,
+            command,
             what,
         });
     }
+}
 
-    /// Tells how an order ended with an answer.
-    fn tell_end(&self, outstation: u8, ended: Ended) {
-        let what = if ended.done {
-            OrderEvent::Done
-        } else {
-            OrderEvent::Refused
+/// Tells what happened with an order to an outstation.
+fn tell_order<R: Wait, C: Clock>(
+    desk: &Desk<'_, R, C>,
+    outstation: u8,
+    order: u64,
+    what: OrderEvent,
+) {
+    desk.tell(JournalEvent::Order {
+        outstation,
+        order,
+        what,
+    });
+}
+
+/// Tells how an order ended with an answer.
+fn tell_end<R: Wait, C: Clock>(desk: &Desk<'_, R, C>, outstation: u8, ended: Ended) {
+    let what = if ended.done {
+        OrderEvent::Done
+    } else {
+        OrderEvent::Refused
+    };
+    tell_order(desk, outstation, ended.number, what);
+}
+
+/// Tells what became of the orders that ended by a step without an answer.
+fn tell_settled<R: Wait, C: Clock>(desk: &Desk<'_, R, C>, call: &Call<'_>) {
+    for settled in call.orders.settled() {
+        let what = match settled.fate {
+            Fate::Lost => OrderEvent::Lost,
+            Fate::Unanswered => OrderEvent::Unanswered,
+            Fate::LetGo => OrderEvent::LetGo,
         };
-        self.tell_order(outstation, ended.number, what);
+        tell_order(desk, settled.outstation, settled.order, what);
     }
-
-    /// Tells what became of the orders that ended by a step without an answer.
-    fn tell_settled(&self, call: &Call<'_>) {
-        for settled in call.orders.settled() {
-            let what = match settled.fate {
-                Fate::Lost => OrderEvent::Lost,
-                Fate::Unanswered => OrderEvent::Unanswered,
-                Fate::LetGo => OrderEvent::LetGo,
-            };
-            self.tell_order(settled.outstation, settled.order, what);
-        }
-        let left_out = call.orders.left_out();
-        if left_out > 0 {
-            self.tell(JournalEvent::ControlsLeftOut(left_out));
-        }
+    let left_out = call.orders.left_out();
+    if left_out > 0 {
+        desk.tell(JournalEvent::ControlsLeftOut(left_out));
     }
 }
 

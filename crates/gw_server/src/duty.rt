@@ -1,16 +1,13 @@
 //! What the server's threads do.
 
-use crate::client::serve_place;
-use crate::connection::Passes;
-use crate::host::Host;
-use crate::house::{CLIENTS, House, Site};
-use crate::input::await_end;
-use crate::lobby::Lobby;
-use crate::lookout::look_out;
-use crate::outstation::serve_outstation;
+use crate::site::{CLIENTS, Site};
 use crate::status::serve_status;
+use gw_clock::Clock;
+use gw_connections::{
+    Gate, Host, House, Pass, Passes, clock, look_out, serve_outstation, serve_place,
+};
 use gw_model::Memory;
-use gw_threads::{Clock, Gate, Pass, clock};
+use gw_peers::{Lobby, await_end};
 use std::sync::ledger::Ledger;
 
 /// What one thread does, until the server ends.
@@ -53,9 +50,9 @@ impl<L: Ledger + Send + Sync> Duty<L> {
             Duty::Journal => desk.journal.write_on(desk.rt),
             Duty::Lookout => look_out(desk, house.shared),
             Duty::Status => serve_status(desk, house.shared, site),
-            Duty::Input => await_end(desk.rt, lobby, site),
+            Duty::Input => await_end(desk.rt, lobby, &site.door),
             Duty::Clock(pass) => {
-                let (pass, _) = clock(desk.rt, house.shared, pass, desk.clock, house.watched);
+                let (pass, _) = clock(desk.rt, house.shared, pass, desk.clock, house.gate);
                 return Returned::One(pass);
             }
             Duty::Outstation(outstation, passes) => {
@@ -113,7 +110,7 @@ fn add_peers<L: Ledger>(
     passes: &mut Vec<Pass<L>>,
     site: &Site<'_>,
 ) -> Result<(), Memory> {
-    if site.options.until_eof.is_some() {
+    if site.door.until_eof.is_some() {
         add(duties, Duty::Input)?;
     }
     for place in (0..CLIENTS).rev() {
@@ -127,7 +124,7 @@ fn add_peers<L: Ledger>(
 
 /// Adds the duties of the status, the lookout and the journal.
 fn add_others<L: Ledger>(duties: &mut Vec<Duty<L>>, site: &Site<'_>) -> Result<(), Memory> {
-    if site.options.status.is_some() {
+    if site.status.is_some() {
         add(duties, Duty::Status)?;
     }
     add(duties, Duty::Lookout)?;

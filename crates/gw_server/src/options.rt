@@ -1,8 +1,8 @@
 //! What is said of a run beside its settings.
 
-use crate::network::Network;
+use gw_peers::{Door, Network};
 use std::io::Stdin;
-use std::net::{IpAddr, TcpListener};
+use std::net::TcpListener;
 
 /// What is said of a run beside its settings.
 #[derive(Clone, Copy)]
@@ -20,8 +20,13 @@ pub struct Options<'a> {
 }
 
 impl<'a> Options<'a> {
-    /// Whether clients may come from an address.
-    pub fn allows(&self, address: IpAddr) -> bool {
-        self.allow.is_empty() || self.allow.iter().any(|network| network.has(address))
+    /// Where clients come in who connect to a listener.
+    pub fn door(&self, listener: &'a TcpListener) -> Door<'a> {
+        Door {
+            listener,
+            sessions: self.sessions,
+            allow: self.allow,
+            until_eof: self.until_eof,
+        }
     }
 }

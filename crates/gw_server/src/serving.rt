@@ -2,21 +2,16 @@
 ghost use Rattle.std.specs.Prelude.{◌≡◌, ◌<◌, IfOk};
 ghost use Rattle.std.specs.Thread.{IsSend, IsSync};
 
-use crate::accepting::accept;
-use crate::board::Board;
-use crate::desk::Desk;
 use crate::duty::{Duty, Returned, add_duties};
-use crate::host::Host;
-use crate::house::{CLIENTS, House, Site};
-use crate::lobby::Lobby;
-use crate::lookout::{ANY_TIME, look_at_outstations};
 use crate::options::Options;
-use crate::plan::plans_of;
+use crate::site::{CLIENTS, Site};
 use crate::watched::Watched;
+use gw_clock::Clock;
+use gw_connections::{ANY_TIME, Closed, Gate, Host, House, Hub, Pass, Shared, look_at_outstations};
 use gw_journal::{Journal, JournalEvent};
 use gw_map::Settings;
 use gw_model::Memory;
-use gw_threads::{Clock, Closed, Gate, Hub, Pass, Shared};
+use gw_peers::{Board, Desk, Lobby, accept, plans_of};
 use std::alloc::Global;
 use std::io;
 use std::marker::Brand;
@@ -87,9 +82,10 @@ pub fn serve_as<R: Host, C: Clock + Sync, G: Gate + Sync>(
 ) -> Result<Closed, Memory> {
     let plans = plans_of(alloc, &settings)?;
     let site = Site {
-        listener,
+        door: options.door(listener),
         plans: &plans,
-        options,
+        version: options.version,
+        status: options.status,
         started: clock.wall(),
     };
     let board = Board::new(alloc, usize::from(site.outstations()), CLIENTS)?;
@@ -151,7 +147,7 @@ fn serve_with<L: Ledger + Send + Sync, R: Host, C: Clock + Sync, G: Gate + Sync>
     let house = House {
         desk,
         shared: &shared,
-        watched: &watched,
+        gate: &watched,
     };
     serve_in(&house, site, passes)
 }
@@ -189,7 +185,7 @@ fn perform_all<L: Ledger + Send + Sync, R: Host, C: Clock + Sync, G: Gate + Sync
         {
             let is_complete = start_all(scope, house, &lobby, site, duties, &mut threads);
             if is_complete {
-                accept(house.desk, &lobby, site);
+                accept(house.desk, &lobby, &site.door);
             } else {
                 house.shared.stop();
                 house.desk.journal.close(house.desk.rt);
@@ -235,7 +231,7 @@ fn end_all<L: Ledger, R: Host, C: Clock, G>(
     passes: &mut Vec<Pass<L>>,
 ) {
     let (desk, shared) = (house.desk, house.shared);
-    if site.options.until_eof.is_some() {
+    if site.door.until_eof.is_some() {
         join_last(desk.rt, threads, 1, passes);
         shared.stop();
         desk.board.dismiss_all(desk.rt);

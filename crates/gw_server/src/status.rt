@@ -1,17 +1,13 @@
 //! The status, served on an address of its own.
 ghost use Rattle.std.specs.Prelude.{None};
 
-use crate::accepting::look_up_from_accept;
-use crate::board::{ClientCard, OutstationCard};
-use crate::desk::Desk;
-use crate::house::Site;
-use crate::lookout::pause;
-use crate::plan::Plan;
-use crate::sockets::shut;
+use crate::site::Site;
+use gw_clock::Clock;
+use gw_connections::{Figures, OrderCounts, Shared, pause};
 use gw_http::{HttpRequest, Resource, answer, receive, refuse};
 use gw_model::Memory;
+use gw_peers::{ClientCard, Desk, OutstationCard, Plan, look_up_from_accept, shut};
 use gw_status::{ClientStatus, Metrics, OrderStatus, OutstationStatus, Page, Status};
-use gw_threads::{Clock, Figures, OrderCounts, Shared};
 use std::alloc::Global;
 use std::io::{self, ErrorKind, Read, Write};
 use std::net::TcpStream;
@@ -106,7 +102,7 @@ pub fn serve_status<L: Ledger, R: Wait + Sleeps, C: Clock>(
     shared: &Shared<L>,
     site: &Site<'_>,
 ) {
-    let Some(listener) = site.options.status else {
+    let Some(listener) = site.status else {
         return;
     };
     look_up_from_accept(listener);
@@ -192,7 +188,7 @@ fn status_of<R: Wait, C: Clock>(
     counted: &Figures,
 ) -> Result<Status, Memory> {
     let mut status = Status {
-        version: site.options.version,
+        version: site.version,
         now: desk.clock.wall(),
         started: site.started,
         steps: counted.calls,
@@ -221,7 +217,7 @@ fn add_outstations<R: Wait>(
 ) -> Result<(), Memory> {
     for (position, card) in cards.iter().enumerate() {
         if let (Some(plan), Some(orders)) = (plans.get(position), counted.orders.get(position)) {
-            outstations.push(card.status(rt, plan.connect.clone()?, *orders))?;
+            outstations.push(outstation_status(rt, card, plan.connect.clone()?, *orders))?;
         }
     }
     Ok(())
@@ -235,27 +231,30 @@ fn add_clients<R: Wait>(
     counted: &Figures,
 ) -> Result<(), Memory> {
     for (place, card) in cards.iter().enumerate() {
-        clients.push(card.status(rt, counted, place))?;
+        clients.push(client_status(rt, card, counted, place))?;
     }
     Ok(())
 }
 
-impl OutstationCard {
-    /// How it is with the outstation that is reached at a place, and with its orders.
-    fn status<R: Wait>(&self, rt: &R, place: String, orders: OrderCounts) -> OutstationStatus {
-        let figures = self.figures.lock(rt);
-        OutstationStatus {
-            place,
-            connected_since: figures.connected_since,
-            last_answer: figures.last_answer,
-            requests: figures.requests,
-            unanswered: figures.unanswered,
-            refused: figures.refused,
-            skipped: figures.skipped,
-            indications: figures.indications,
-            events: figures.events,
-            orders: orders_of(orders),
-        }
+/// How it is with an outstation that is reached at a place, and with its orders.
+fn outstation_status<R: Wait>(
+    rt: &R,
+    card: &OutstationCard,
+    place: String,
+    orders: OrderCounts,
+) -> OutstationStatus {
+    let figures = card.figures.lock(rt);
+    OutstationStatus {
+        place,
+        connected_since: figures.connected_since,
+        last_answer: figures.last_answer,
+        requests: figures.requests,
+        unanswered: figures.unanswered,
+        refused: figures.refused,
+        skipped: figures.skipped,
+        indications: figures.indications,
+        events: figures.events,
+        orders: orders_of(orders),
     }
 }
 
@@ -270,19 +269,22 @@ fn orders_of(counts: OrderCounts) -> OrderStatus {
     }
 }
 
-impl ClientCard {
-    /// How it is with the place at a position.
-    fn status<R: Wait>(&self, rt: &R, counted: &Figures, place: usize) -> ClientStatus {
-        let figures = self.figures.lock(rt);
-        ClientStatus {
-            address: figures.address,
-            connected_since: figures.connected_since,
-            session: figures.started,
-            unacknowledged: number_at(&counted.unacknowledged, place),
-            queued: number_at(&counted.queued, place),
-            dropped: counted.dropped.get(place).copied().unwrap_or(0),
-            closes: figures.closes,
-        }
+/// How it is with the place at a position.
+fn client_status<R: Wait>(
+    rt: &R,
+    card: &ClientCard,
+    counted: &Figures,
+    place: usize,
+) -> ClientStatus {
+    let figures = card.figures.lock(rt);
+    ClientStatus {
+        address: figures.address,
+        connected_since: figures.connected_since,
+        session: figures.started,
+        unacknowledged: number_at(&counted.unacknowledged, place),
+        queued: number_at(&counted.queued, place),
+        dropped: counted.dropped.get(place).copied().unwrap_or(0),
+        closes: figures.closes,
     }
 }
 

@@ -1,10 +1,12 @@
 //! The server's gate: it keeps what is known of each peer, tells the journal what an operator should know, and hands on
 //! to the gate that it was given. No lock of the core is held here.
 
-use crate::desk::Desk;
+use crate::controls::{tell_of_commands, tell_of_controls};
 use dnp_app::AppFault;
+use gw_clock::Clock;
+use gw_connections::{About, Call, Gate, Place, Reply, Run, Step, Verdict};
 use gw_journal::{JournalEvent, Noticed, Unreadable};
-use gw_threads::{About, Call, Clock, Gate, Place, Reply, Run, Step, Verdict};
+use gw_peers::Desk;
 use iec_apci::{Apdu, Signal};
 use std::sync::Wait;
 
@@ -21,104 +23,114 @@ pub struct Watched<'a, R, C, G> {
     pub gate: &'a G,
 }
 
-impl<'a, R: Wait, C: Clock> Desk<'a, R, C> {
-    /// A fragment of an outstation was taken by the step of this number.
-    fn answered(&self, step: u64, outstation: u8, indications: [u8; 2], ended: bool, events: u32) {
-        let Some(card) = self.board.outstation(outstation) else {
-            return;
-        };
-        let wall = self.clock.wall();
-        let noticed = card
-            .figures
-            .lock(self.rt)
-            .answered(step, wall, indications, ended, u64::from(events));
-        self.tell_noticed(outstation, noticed);
-    }
+/// A fragment of an outstation was taken by the step of this number.
+fn answered<R: Wait, C: Clock>(
+    desk: &Desk<'_, R, C>,
+    step: u64,
+    outstation: u8,
+    indications: [u8; 2],
+    ended: bool,
+    events: u32,
+) {
+    let Some(card) = desk.board.outstation(outstation) else {
+        return;
+    };
+    let wall = desk.clock.wall();
+    let noticed = card
+        .figures
+        .lock(desk.rt)
+        .answered(step, wall, indications, ended, u64::from(events));
+    tell_noticed(desk, outstation, noticed);
+}
 
-    /// Tells what was noticed of an outstation.
-    fn tell_noticed(&self, outstation: u8, noticed: Noticed) {
-        if noticed.restarted {
-            self.tell(JournalEvent::OutstationRestarted { outstation });
-        }
-        if noticed.overflowed {
-            self.tell(JournalEvent::EventsOverflowed { outstation });
-        }
-        if noticed.clock_not_set {
-            self.tell(JournalEvent::ClockNotSet { outstation });
-        }
+/// Tells what was noticed of an outstation.
+fn tell_noticed<R: Wait, C: Clock>(desk: &Desk<'_, R, C>, outstation: u8, noticed: Noticed) {
+    if noticed.restarted {
+        desk.tell(JournalEvent::OutstationRestarted { outstation });
     }
-
-    /// A request goes to an outstation, which the step of this number gave.
-    fn asked(&self, step: u64, outstation: u8, request: &[u8]) {
-        if let Some(card) = self.board.outstation(outstation) {
-            let writes_time = writes_time(request);
-            card.figures.lock(self.rt).asked(step, true, writes_time);
-        }
+    if noticed.overflowed {
+        desk.tell(JournalEvent::EventsOverflowed { outstation });
     }
+    if noticed.clock_not_set {
+        desk.tell(JournalEvent::ClockNotSet { outstation });
+    }
+}
 
-    /// A fragment of an outstation with these octets was refused.
-    fn refused(&self, outstation: u8, octets: &[u8], fault: &AppFault) {
-        let Some(card) = self.board.outstation(outstation) else {
-            return;
-        };
-        let (wall, fault) = (self.clock.wall(), Unreadable::of(fault, octets));
-        let told = card.figures.lock(self.rt).refused(wall, fault);
-        if let Some(left_out) = told {
-            self.tell(JournalEvent::FragmentRefused {
+/// A request goes to an outstation, which the step of this number gave.
+fn asked<R: Wait, C: Clock>(desk: &Desk<'_, R, C>, step: u64, outstation: u8, request: &[u8]) {
+    if let Some(card) = desk.board.outstation(outstation) {
+        let writes_time = writes_time(request);
+        card.figures.lock(desk.rt).asked(step, true, writes_time);
+    }
+}
+
+/// A fragment of an outstation with these octets was refused.
+fn refused<R: Wait, C: Clock>(
+    desk: &Desk<'_, R, C>,
+    outstation: u8,
+    octets: &[u8],
+    fault: &AppFault,
+) {
+    let Some(card) = desk.board.outstation(outstation) else {
+        return;
+    };
+    let (wall, fault) = (desk.clock.wall(), Unreadable::of(fault, octets));
+    let told = card.figures.lock(desk.rt).refused(wall, fault);
+    if let Some(left_out) = told {
+        desk.tell(JournalEvent::FragmentRefused {
+            outstation,
+            fault,
+            left_out,
+        });
+    }
+}
+
+/// A client sent the act of a U format.
+fn signalled<R: Wait, C: Clock>(desk: &Desk<'_, R, C>, client: u8, signal: Signal) {
+    let Some(card) = desk.board.client(client) else {
+        return;
+    };
+    match signal {
+        Signal::StartAct => {
+            if let Some(address) = card.starts(desk.rt) {
+                desk.tell(JournalEvent::TransferStarted { client, address });
+            }
+        }
+        Signal::StopAct => {
+            if let Some(address) = card.stops(desk.rt, desk.clock.moment()) {
+                desk.tell(JournalEvent::TransferStopped { client, address });
+            }
+        }
+        Signal::TestAct | Signal::StartCon | Signal::StopCon | Signal::TestCon => {}
+    }
+}
+
+/// Notes what a step did, and tells of it.
+fn made<R: Wait, C: Clock>(desk: &Desk<'_, R, C>, call: &Call<'_>) {
+    match (call.about, call.reply) {
+        (
+            About::Fragment {
                 outstation,
-                fault,
-                left_out,
-            });
+                indications,
+                events,
+                ..
+            },
+            Ok(Reply::Verdict(Verdict::Accepted { end, .. })),
+        ) => answered(desk, call.number, outstation, indications, *end, events),
+        (About::Poll(outstation), Ok(Reply::Request(request))) => {
+            asked(desk, call.number, outstation, request.as_slice());
         }
+        (
+            About::Frame {
+                client,
+                signal: Some(signal),
+                ..
+            },
+            Ok(Reply::Taken),
+        ) => signalled(desk, client, signal),
+        _ => {}
     }
-
-    /// A client sent the act of a U format.
-    fn signalled(&self, client: u8, signal: Signal) {
-        let Some(card) = self.board.client(client) else {
-            return;
-        };
-        match signal {
-            Signal::StartAct => {
-                if let Some(address) = card.starts(self.rt) {
-                    self.tell(JournalEvent::TransferStarted { client, address });
-                }
-            }
-            Signal::StopAct => {
-                if let Some(address) = card.stops(self.rt, self.clock.moment()) {
-                    self.tell(JournalEvent::TransferStopped { client, address });
-                }
-            }
-            Signal::TestAct | Signal::StartCon | Signal::StopCon | Signal::TestCon => {}
-        }
-    }
-
-    /// Notes what a step did, and tells of it.
-    fn made(&self, call: &Call<'_>) {
-        match (call.about, call.reply) {
-            (
-                About::Fragment {
-                    outstation,
-                    indications,
-                    events,
-                    ..
-                },
-                Ok(Reply::Verdict(Verdict::Accepted { end, .. })),
-            ) => self.answered(call.number, outstation, indications, *end, events),
-            (About::Poll(outstation), Ok(Reply::Request(request))) => {
-                self.asked(call.number, outstation, request.as_slice());
-            }
-            (
-                About::Frame {
-                    client,
-                    signal: Some(signal),
-                    ..
-                },
-                Ok(Reply::Taken),
-            ) => self.signalled(client, signal),
-            _ => {}
-        }
-        self.tell_of_controls(call);
-    }
+    tell_of_controls(desk, call);
 }
 
 impl<'a, R: Wait, C: Clock, G: Gate> Gate for Watched<'a, R, C, G> {
@@ -128,7 +140,7 @@ impl<'a, R: Wait, C: Clock, G: Gate> Gate for Watched<'a, R, C, G> {
 
     fn refused(&self, outstation: u8, octets: &[u8], fault: &AppFault) {
         self.gate.refused(outstation, octets, fault);
-        self.desk.refused(outstation, octets, fault);
+        refused(self.desk, outstation, octets, fault);
     }
 
     fn skipped(&self, outstation: u8, octets: u32) {
@@ -153,12 +165,12 @@ impl<'a, R: Wait, C: Clock, G: Gate> Gate for Watched<'a, R, C, G> {
     }
 
     fn made(&self, call: &Call<'_>, line: Option<Vec<u8>>) {
-        self.desk.made(call);
+        made(self.desk, call);
         self.gate.made(call, line);
     }
 
     fn pumped(&self, run: &Run<'_>) {
-        self.desk.tell_of_commands(run);
+        tell_of_commands(self.desk, run);
         self.gate.pumped(run);
     }
 }

@@ -8,7 +8,7 @@ use Rattle.std.proofs.lemmas.List.Folds.{flat_map-map}
 use Rattle.gw_model.specs.declared.observation.Observation.{Observation}
 use Rattle.gw_model.specs.Clocks.{Clocks}
 use Rattle.gw_entries.specs.Ranges.{IsWithin}
-use Rattle.gw_map.specs.Settings.{Setup}
+use Rattle.gw_map.specs.Settings.{Setup, AreShort, HasShortAddresses}
 use Rattle.iec_apci.specs.declared.apdu.Asdu.{Asdu}
 use Rattle.iec_command.specs.declared.command.Command.{Command}
 use Rattle.iec_command.specs.declared.command.Action.{Action}
@@ -26,7 +26,7 @@ use Rattle.gw_answers.specs.Interrogations.{answer_to, answer_under, asked_addre
 use Rattle.gw_answers.specs.Sections.{joined}
 use Rattle.gw_answers.specs.Answers.{shown_at, refused_act, answered_action, answered}
 use Rattle.gw_answers.specs.Octets.{octets_in, IsReturnable}
-use Rattle.gw_answers.specs.Meaning.{AreShort, HasShortAddresses, IsSendable, CanSendAnswer, CanSendOutgoing}
+use Rattle.gw_answers.specs.Meaning.{IsSendable, CanSendAnswer, CanSendOutgoing}
 use Rattle.gw_answers.proofs.Sendable.{asked_short, answered_can, answer_to_can}
 use Rattle.gw_station.specs.Answers.{is_pending, answers_with, is_asking, rest_with, client_judging}
 use Rattle.gw_station.specs.Client.{Client}

@@ -8,7 +8,7 @@ use Rattle.std.proofs.lemmas.Option.{same_Some}
 use Rattle.gw_model.specs.declared.observation.Observation.{Observation}
 use Rattle.gw_model.specs.Clocks.{Clocks}
 use Rattle.iec_asdu.specs.Packing.{taken_of}
-use Rattle.iec_asdu.proofs.Carried.{taken_of_some, taken_of_within}
+use Rattle.iec_asdu.proofs.Carried.{taken_of_within}
 use Rattle.gw_answers.specs.declared.outgoing.AsduAnswer.{AsduAnswer}
 use Rattle.gw_answers.specs.declared.outgoing.OwnAsdu.{OwnAsdu}
 use Rattle.gw_answers.specs.declared.outgoing.OwnAsdu.TheVariants as outgoing
@@ -206,16 +206,6 @@ parts_within clocks rest (outgoing.Observation cause originator x) e =
       taken_of_within clocks (parts_front cause originator rest),
       front_within cause originator rest,
     )
-
--- one at least goes
-pub parts_some : (clocks : Clocks) (rest : List OwnAsdu) (part : OwnAsdu) → slice_get rest 0 ≡ Some part
-    → 1 ≤ parts_together clocks part rest
-parts_some clocks rest (outgoing.Command command) e = omega arith
-parts_some clocks [] (outgoing.Observation cause originator x) e = absurd cc
-parts_some clocks (p ∷ rest) (outgoing.Observation cause originator x) e =
-    let same : p ≡ outgoing.Observation cause originator x = same_Some _ _ e in
-    rw same (rw (eq-eqb cause cause refl, eq-eqb originator originator refl)
-    (taken_of_some clocks (x ∷ parts_front cause originator rest) (omega arith)))
 
 -- where an answer doesn't wait, and no news before it, parts are first
 pub bare_line : (answers : List AsduAnswer) (older : ℕ) (queue : List Observation) (rest : List OwnAsdu)

@@ -1,10 +1,10 @@
 -- Clients of the worked examples.
-use Rattle.std.specs.Prelude.{ℕ, zero, suc, false, true, List, [], ◌∷◌, replicate, pos}
+use Rattle.std.specs.Prelude.{ℕ, zero, suc, false, true, List, [], ◌∷◌, replicate}
 use Rattle.std.proofs.Common.{lit≤}
 use Rattle.gw_model.specs.declared.observation.Observation.{Observation}
 use Rattle.gw_model.specs.declared.observation.Value.TheVariants.{Single}
 use Rattle.gw_model.specs.declared.point.Stamp.TheVariants.{Untimed}
-use Rattle.gw_model.specs.Clocks.{always_ahead}
+use Rattle.gw_model.specs.Clocks.{utc}
 use Rattle.iec_apci.specs.declared.apdu.Asdu.{Asdu}
 use Rattle.iec_apci.specs.declared.apdu.Apdu.{Apdu}
 use Rattle.iec_apci.specs.declared.apdu.Apdu.TheVariants.{I, S, U}
@@ -67,7 +67,7 @@ taking moment apdus c = taking_in setup picture moment apdus c
 -- so many pumps at a moment
 abbrev pub pumped : ℕ → ℕ → Client → Client
 pumped moment zero c = c
-pumped moment (suc n) c = pumped moment n (client_after_pump (always_ahead (pos 0)) moment c)
+pumped moment (suc n) c = pumped moment n (client_after_pump utc moment c)
 
 -- STARTDT was confirmed
 abbrev pub started_from : Client → Client

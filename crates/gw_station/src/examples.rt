@@ -1,6 +1,6 @@
 //! Worked examples, computed by the definitions.
-ghost use Rattle.std.specs.Prelude.{◌≡◌, [], ◌∷◌, pos, map, length, true, false, Some, None};
-ghost use Rattle.gw_model.specs.Clocks.{always_ahead};
+ghost use Rattle.std.specs.Prelude.{◌≡◌, [], ◌∷◌, map, length, true, false, Some, None};
+ghost use Rattle.gw_model.specs.Clocks.{utc};
 ghost use Rattle.iec_apci.specs.declared.apdu.Apdu.TheVariants.{I, S, U};
 ghost use Rattle.iec_apci.specs.declared.apdu.Signal.TheVariants.{StartAct, StartCon, StopAct, StopCon, TestAct, TestCon};
 ghost use Rattle.iec_apci.specs.Apdu.{Information, Supervisory, Unnumbered};
@@ -23,11 +23,11 @@ ghost use Rattle.gw_station.specs.Example.{acknowledged, all_asked, command, con
 #[tactic(auto, unfolding(iec_asdu::specs::Spelling::list_spelling, iec_asdu::specs::Packing::packed_spelling, iec_asdu::specs::Packing::taken_of, iec_asdu::specs::Packing::is_in_sequence, iec_asdu::specs::Packing::in_sequence_count, iec_asdu::specs::Packing::apart_count, iec_asdu::specs::Packing::alike_count, iec_asdu::specs::Packing::consecutive_count))]
 pub fn control_functions()
     // Nothing before STARTDT act; then its confirmation; then nothing, or what waits.
-    ensures stopped { given (always_ahead (pos 0)) 0 connected ≡ None }
-    ensures confirmation { given (always_ahead (pos 0)) 0 (taking 0 (U StartAct ∷ []) connected) ≡ Some (Unnumbered StartCon) }
-    ensures nothing { given (always_ahead (pos 0)) 0 started ≡ None }
+    ensures stopped { given utc 0 connected ≡ None }
+    ensures confirmation { given utc 0 (taking 0 (U StartAct ∷ []) connected) ≡ Some (Unnumbered StartCon) }
+    ensures nothing { given utc 0 started ≡ None }
     // A second STARTDT act is confirmed before the news, and the session goes on.
-    ensures twice { given (always_ahead (pos 0)) 0 (taking 0 (U StartAct ∷ []) waiting) ≡ Some (Unnumbered StartCon) }
+    ensures twice { given utc 0 (taking 0 (U StartAct ∷ []) waiting) ≡ Some (Unnumbered StartCon) }
     ensures goes_on { (taking 0 (U StartAct ∷ []) waiting).queue ≡ switched_on ∷ [] }
     ensures begins { map (begins (U StartAct)) (connected ∷ started ∷ tested 32 connected ∷ [])
         ≡ true ∷ false ∷ false ∷ [] }
@@ -35,13 +35,13 @@ pub fn control_functions()
     ensures unheard { (client_with_news (switched_on ∷ []) connected).queue ≡ [] }
     // STOPDT act is confirmed and ends the session: what waits is gone, and its numbers go on. Without a session it is
     // confirmed too.
-    ensures stop { given (always_ahead (pos 0)) 0 (taking 0 (U StopAct ∷ []) waiting) ≡ Some (Unnumbered StopCon) }
+    ensures stop { given utc 0 (taking 0 (U StopAct ∷ []) waiting) ≡ Some (Unnumbered StopCon) }
     ensures stops { (taking 0 (U StopAct ∷ []) waiting).queue ≡ [] }
-    ensures numbers { given (always_ahead (pos 0)) 0 (client_with_news (switched_on ∷ [])
+    ensures numbers { given utc 0 (client_with_news (switched_on ∷ [])
         (pumped 0 2 (taking 0 (U StopAct ∷ U StartAct ∷ []) (pumped 0 1 waiting))))
         ≡ Some (Information 1 0 (1 ∷ 1 ∷ 3 ∷ 0 ∷ 1 ∷ 0 ∷ 0x05 ∷ 0x10 ∷ 0 ∷ 1 ∷ [])) }
     ensures not_started { (taking 0 (U StopAct ∷ []) connected).stage ≡ Stopped }
-    ensures stop_twice { given (always_ahead (pos 0)) 0 (taking 0 (U StopAct ∷ []) connected) ≡ Some (Unnumbered StopCon) }
+    ensures stop_twice { given utc 0 (taking 0 (U StopAct ∷ []) connected) ≡ Some (Unnumbered StopCon) }
     // Confirmations wait in order, over STOPDT too.
     ensures in_order { (taking 0 (U TestAct ∷ U StopAct ∷ U StartAct ∷ []) started).confirmations
         ≡ TestCon ∷ StopCon ∷ StartCon ∷ [] }
@@ -73,21 +73,20 @@ pub fn overflows()
 #[tactic(auto, unfolding(iec_command::specs::Commands::command_of, iec_asdu::specs::Spelling::list_spelling, iec_asdu::specs::Packing::packed_spelling, iec_asdu::specs::Packing::taken_of, iec_asdu::specs::Packing::is_in_sequence, iec_asdu::specs::Packing::in_sequence_count, iec_asdu::specs::Packing::apart_count, iec_asdu::specs::Packing::alike_count, iec_asdu::specs::Packing::consecutive_count))]
 pub fn numbered_formats()
     // News with N(S) 0, then 1; N(R) counts what came.
-    ensures news { given (always_ahead (pos 0)) 0 waiting
-        ≡ Some (Information 0 0 (1 ∷ 1 ∷ 3 ∷ 0 ∷ 1 ∷ 0 ∷ 0x05 ∷ 0x10 ∷ 0 ∷ 1 ∷ [])) }
-    ensures more_news { given (always_ahead (pos 0)) 0
+    ensures news { given utc 0 waiting ≡ Some (Information 0 0 (1 ∷ 1 ∷ 3 ∷ 0 ∷ 1 ∷ 0 ∷ 0x05 ∷ 0x10 ∷ 0 ∷ 1 ∷ [])) }
+    ensures more_news { given utc 0
         (taking 0 (I 0 1 command ∷ []) (client_with_news (switched_on ∷ []) (pumped 0 1 waiting)))
         ≡ Some (Information 1 1 (1 ∷ 1 ∷ 3 ∷ 0 ∷ 1 ∷ 0 ∷ 0x05 ∷ 0x10 ∷ 0 ∷ 1 ∷ [])) }
     // Two news in one ASDU; those behind an interrogation go apart from those before it.
-    ensures packed { given (always_ahead (pos 0)) 0 (client_with_news (switched_off ∷ []) waiting)
+    ensures packed { given utc 0 (client_with_news (switched_off ∷ []) waiting)
         ≡ Some (Information 0 0 (1 ∷ 2 ∷ 3 ∷ 0 ∷ 1 ∷ 0 ∷ 0x05 ∷ 0x10 ∷ 0 ∷ 1 ∷ 0x05 ∷ 0x10 ∷ 0 ∷ 0 ∷ [])) }
     ensures all_gone { (pumped 0 1 (client_with_news (switched_off ∷ []) waiting)).queue ≡ [] }
     ensures apart { (pumped 0 1 (client_with_news (switched_off ∷ []) (interrogated waiting))).queue
         ≡ switched_off ∷ [] }
     // So do those of another common address.
-    ensures by_address { given (always_ahead (pos 0)) 0 (client_with_news (second_on ∷ []) waiting)
+    ensures by_address { given utc 0 (client_with_news (second_on ∷ []) waiting)
         ≡ Some (Information 0 0 (1 ∷ 1 ∷ 3 ∷ 0 ∷ 1 ∷ 0 ∷ 0x05 ∷ 0x10 ∷ 0 ∷ 1 ∷ [])) }
-    ensures other_address { given (always_ahead (pos 0)) 0 (pumped 0 1 (client_with_news (second_on ∷ []) waiting))
+    ensures other_address { given utc 0 (pumped 0 1 (client_with_news (second_on ∷ []) waiting))
         ≡ Some (Information 1 0 (1 ∷ 1 ∷ 3 ∷ 0 ∷ 2 ∷ 0 ∷ 0x05 ∷ 0x10 ∷ 0 ∷ 1 ∷ [])) }
     // An I format closes: without a session; with a wrong number; with fewer than 6 octets. In that order.
     ensures first { close_of setup (I 1 1 cut) connected ≡ Some NotStarted }
@@ -108,9 +107,9 @@ pub fn numbered_formats()
 #[tactic(auto, unfolding(iec_command::specs::Commands::command_of, iec_asdu::specs::Spelling::list_spelling, iec_asdu::specs::Packing::packed_spelling, iec_asdu::specs::Packing::taken_of, iec_asdu::specs::Packing::is_in_sequence, iec_asdu::specs::Packing::in_sequence_count, iec_asdu::specs::Packing::apart_count, iec_asdu::specs::Packing::alike_count, iec_asdu::specs::Packing::consecutive_count))]
 pub fn windows_and_timers()
     // t3: TESTFR act once, before news; t1 runs from it, and ends by its confirmation.
-    ensures quiet { given (always_ahead (pos 0)) 19999 started ≡ None }
-    ensures test { given (always_ahead (pos 0)) 20000 waiting ≡ Some (Unnumbered TestAct) }
-    ensures test_once { given (always_ahead (pos 0)) 20000 (pumped 20000 1 started) ≡ None }
+    ensures quiet { given utc 19999 started ≡ None }
+    ensures test { given utc 20000 waiting ≡ Some (Unnumbered TestAct) }
+    ensures test_once { given utc 20000 (pumped 20000 1 started) ≡ None }
     ensures t1 { map (λ moment. is_timed_out moment (pumped 20000 1 started)) (34999 ∷ 35000 ∷ [])
         ≡ false ∷ true ∷ [] }
     ensures answered { is_timed_out 35000 (taking 34000 (U TestCon ∷ []) (pumped 20000 1 started)) ≡ false }
@@ -118,12 +117,12 @@ pub fn windows_and_timers()
     ensures timer { (client_after_tick 35000 (pumped 20000 1 started)).stage ≡ Down }
     ensures down { is_timed_out 35000 (client_after_close (pumped 20000 1 started)) ≡ false }
     // k: two wait, so the third isn't put out; w: one I format isn't enough for an S format, but t2 is.
-    ensures full { map (λ moment. given (always_ahead (pos 0)) moment narrow_full) (0 ∷ 9999 ∷ 10000 ∷ [])
+    ensures full { map (λ moment. given utc moment narrow_full) (0 ∷ 9999 ∷ 10000 ∷ [])
         ≡ None ∷ None ∷ Some (Supervisory 1) ∷ [] }
-    ensures full_w { given (always_ahead (pos 0)) 0 (taking 0 (I 1 0 command ∷ []) narrow_full) ≡ Some (Supervisory 2) }
-    ensures room { given (always_ahead (pos 0)) 0 (taking 0 (S 1 ∷ []) narrow_full)
+    ensures full_w { given utc 0 (taking 0 (I 1 0 command ∷ []) narrow_full) ≡ Some (Supervisory 2) }
+    ensures room { given utc 0 (taking 0 (S 1 ∷ []) narrow_full)
         ≡ Some (Information 2 1 (1 ∷ 1 ∷ 3 ∷ 0 ∷ 1 ∷ 0 ∷ 0x05 ∷ 0x10 ∷ 0 ∷ 1 ∷ [])) }
-    ensures receipted { given (always_ahead (pos 0)) 10000 (pumped 10000 1 narrow_full) ≡ None }
+    ensures receipted { given utc 10000 (pumped 10000 1 narrow_full) ≡ None }
     ensures runs_out { map (λ moment. is_timed_out moment narrow_full) (14999 ∷ 15000 ∷ []) ≡ false ∷ true ∷ [] }
     // A connection begins with nothing of the one before.
     ensures anew { client_after_up 0 (client_after_close narrow_full) ≡ client_after_up 0 narrow }
@@ -132,31 +131,31 @@ pub fn windows_and_timers()
 /// The answer to an interrogation, with N(R) 1: confirmation, rows, termination.
 #[tactic(auto, unfolding(iec_command::specs::Commands::command_of, iec_asdu::specs::Spelling::list_spelling, iec_asdu::specs::Packing::packed_spelling, iec_asdu::specs::Packing::taken_of, iec_asdu::specs::Packing::is_in_sequence, iec_asdu::specs::Packing::in_sequence_count, iec_asdu::specs::Packing::apart_count, iec_asdu::specs::Packing::alike_count, iec_asdu::specs::Packing::consecutive_count))]
 pub fn interrogations()
-    ensures confirmation { given (always_ahead (pos 0)) 0 (interrogated started)
+    ensures confirmation { given utc 0 (interrogated started)
         ≡ Some (Information 0 1 (0x64 ∷ 1 ∷ 7 ∷ 0 ∷ 1 ∷ 0 ∷ 0 ∷ 0 ∷ 0 ∷ 0x14 ∷ [])) }
-    ensures first_row { given (always_ahead (pos 0)) 0 (pumped 0 1 (interrogated started))
+    ensures first_row { given utc 0 (pumped 0 1 (interrogated started))
         ≡ Some (Information 1 1 (1 ∷ 1 ∷ 0x14 ∷ 0 ∷ 1 ∷ 0 ∷ 5 ∷ 0x10 ∷ 0 ∷ 0xC0 ∷ [])) }
-    ensures second_row { given (always_ahead (pos 0)) 0 (pumped 0 2 (interrogated started))
+    ensures second_row { given utc 0 (pumped 0 2 (interrogated started))
         ≡ Some (Information 2 1 (0x0B ∷ 1 ∷ 0x14 ∷ 0 ∷ 1 ∷ 0 ∷ 0x69 ∷ 0x10 ∷ 0 ∷ 0 ∷ 0 ∷ 0xC0 ∷ [])) }
-    ensures termination { given (always_ahead (pos 0)) 0 (pumped 0 3 (interrogated started))
+    ensures termination { given utc 0 (pumped 0 3 (interrogated started))
         ≡ Some (Information 3 1 (0x64 ∷ 1 ∷ 0x0A ∷ 0 ∷ 1 ∷ 0 ∷ 0 ∷ 0 ∷ 0 ∷ 0x14 ∷ [])) }
-    ensures nothing { given (always_ahead (pos 0)) 0 (pumped 0 4 (interrogated started)) ≡ None }
+    ensures nothing { given utc 0 (pumped 0 4 (interrogated started)) ≡ None }
     // A second one is refused, before the parts that are left; behind the termination it is accepted.
-    ensures second { given (always_ahead (pos 0)) 0 (taking 0 (I 1 1 interrogation ∷ []) (pumped 0 1 (interrogated started)))
+    ensures second { given utc 0 (taking 0 (I 1 1 interrogation ∷ []) (pumped 0 1 (interrogated started)))
         ≡ Some (Information 1 2 (0x64 ∷ 1 ∷ 0x47 ∷ 0 ∷ 1 ∷ 0 ∷ 0 ∷ 0 ∷ 0 ∷ 0x14 ∷ [])) }
-    ensures again { given (always_ahead (pos 0)) 0 (taking 0 (I 1 4 interrogation ∷ []) (pumped 0 4 (interrogated started)))
+    ensures again { given utc 0 (taking 0 (I 1 4 interrogation ∷ []) (pumped 0 4 (interrogated started)))
         ≡ Some (Information 4 2 (0x64 ∷ 1 ∷ 7 ∷ 0 ∷ 1 ∷ 0 ∷ 0 ∷ 0 ∷ 0 ∷ 0x14 ∷ [])) }
     // News that came before it come first, later ones last.
-    ensures older_first { given (always_ahead (pos 0)) 0 (client_with_news (switched_off ∷ []) (interrogated waiting))
+    ensures older_first { given utc 0 (client_with_news (switched_off ∷ []) (interrogated waiting))
         ≡ Some (Information 0 1 (1 ∷ 1 ∷ 3 ∷ 0 ∷ 1 ∷ 0 ∷ 5 ∷ 0x10 ∷ 0 ∷ 1 ∷ [])) }
-    ensures then_answer { given (always_ahead (pos 0)) 0 (pumped 0 1 (client_with_news (switched_off ∷ []) (interrogated waiting)))
+    ensures then_answer { given utc 0 (pumped 0 1 (client_with_news (switched_off ∷ []) (interrogated waiting)))
         ≡ Some (Information 1 1 (0x64 ∷ 1 ∷ 7 ∷ 0 ∷ 1 ∷ 0 ∷ 0 ∷ 0 ∷ 0 ∷ 0x14 ∷ [])) }
-    ensures later_last { given (always_ahead (pos 0)) 0 (pumped 0 5 (client_with_news (switched_off ∷ []) (interrogated waiting)))
+    ensures later_last { given utc 0 (pumped 0 5 (client_with_news (switched_off ∷ []) (interrogated waiting)))
         ≡ Some (Information 5 1 (1 ∷ 1 ∷ 3 ∷ 0 ∷ 1 ∷ 0 ∷ 5 ∷ 0x10 ∷ 0 ∷ 0 ∷ [])) }
     // Of two older ones the first was pushed out.
-    ensures pushed_out { given (always_ahead (pos 0)) 0 pushed_out
+    ensures pushed_out { given utc 0 pushed_out
         ≡ Some (Information 0 1 (1 ∷ 1 ∷ 3 ∷ 0 ∷ 1 ∷ 0 ∷ 5 ∷ 0x10 ∷ 0 ∷ 0 ∷ [])) }
-    ensures not_another { given (always_ahead (pos 0)) 0 (pumped 0 1 pushed_out)
+    ensures not_another { given utc 0 (pumped 0 1 pushed_out)
         ≡ Some (Information 1 1 (0x64 ∷ 1 ∷ 7 ∷ 0 ∷ 1 ∷ 0 ∷ 0 ∷ 0 ∷ 0 ∷ 0x14 ∷ [])) }
     // STOPDT ends it.
     ensures stopped { (taking 0 (U StopAct ∷ []) (interrogated started)).rest ≡ [] }
@@ -167,45 +166,46 @@ pub fn interrogations()
 /// interrogation of all stations (65535) has a confirmation, the rows and a termination for each, with N(R) 1.
 #[tactic(auto, unfolding(iec_command::specs::Commands::command_of, iec_asdu::specs::Spelling::list_spelling, iec_asdu::specs::Packing::packed_spelling, iec_asdu::specs::Packing::taken_of, iec_asdu::specs::Packing::is_in_sequence, iec_asdu::specs::Packing::in_sequence_count, iec_asdu::specs::Packing::apart_count, iec_asdu::specs::Packing::alike_count, iec_asdu::specs::Packing::consecutive_count))]
 pub fn interrogations_of_all()
-    ensures first_confirmation { given (always_ahead (pos 0)) 0 (all_asked started)
+    ensures first_confirmation { given utc 0 (all_asked started)
         ≡ Some (Information 0 1 (0x64 ∷ 1 ∷ 7 ∷ 0 ∷ 1 ∷ 0 ∷ 0 ∷ 0 ∷ 0 ∷ 0x14 ∷ [])) }
-    ensures first_row { given (always_ahead (pos 0)) 0 (pumped 0 1 (all_asked started))
+    ensures first_row { given utc 0 (pumped 0 1 (all_asked started))
         ≡ Some (Information 1 1 (1 ∷ 1 ∷ 0x14 ∷ 0 ∷ 1 ∷ 0 ∷ 5 ∷ 0x10 ∷ 0 ∷ 0xC0 ∷ [])) }
-    ensures first_termination { given (always_ahead (pos 0)) 0 (pumped 0 2 (all_asked started))
+    ensures first_termination { given utc 0 (pumped 0 2 (all_asked started))
         ≡ Some (Information 2 1 (0x64 ∷ 1 ∷ 0x0A ∷ 0 ∷ 1 ∷ 0 ∷ 0 ∷ 0 ∷ 0 ∷ 0x14 ∷ [])) }
-    ensures second_confirmation { given (always_ahead (pos 0)) 0 (pumped 0 3 (all_asked started))
+    ensures second_confirmation { given utc 0 (pumped 0 3 (all_asked started))
         ≡ Some (Information 3 1 (0x64 ∷ 1 ∷ 7 ∷ 0 ∷ 2 ∷ 0 ∷ 0 ∷ 0 ∷ 0 ∷ 0x14 ∷ [])) }
-    ensures second_row { given (always_ahead (pos 0)) 0 (pumped 0 4 (all_asked started))
+    ensures second_row { given utc 0 (pumped 0 4 (all_asked started))
         ≡ Some (Information 4 1 (1 ∷ 1 ∷ 0x14 ∷ 0 ∷ 2 ∷ 0 ∷ 5 ∷ 0x10 ∷ 0 ∷ 0xC0 ∷ [])) }
-    ensures second_termination { given (always_ahead (pos 0)) 0 (pumped 0 5 (all_asked started))
+    ensures second_termination { given utc 0 (pumped 0 5 (all_asked started))
         ≡ Some (Information 5 1 (0x64 ∷ 1 ∷ 0x0A ∷ 0 ∷ 2 ∷ 0 ∷ 0 ∷ 0 ∷ 0 ∷ 0x14 ∷ [])) }
-    ensures nothing { given (always_ahead (pos 0)) 0 (pumped 0 6 (all_asked started)) ≡ None }
+    ensures nothing { given utc 0 (pumped 0 6 (all_asked started)) ≡ None }
     // A second act, to whichever address, is refused until the last termination, behind the first one too: by its address,
     // and where it is for all stations by the first known one. Behind the last termination it is accepted.
-    ensures second_act { given (always_ahead (pos 0)) 0 (taking_of_two (I 1 3 interrogation_of_all ∷ []) (pumped 0 3 (all_asked started)))
+    ensures second_act { given utc 0 (taking_of_two (I 1 3 interrogation_of_all ∷ []) (pumped 0 3 (all_asked started)))
         ≡ Some (Information 3 2 (0x64 ∷ 1 ∷ 0x47 ∷ 0 ∷ 1 ∷ 0 ∷ 0 ∷ 0 ∷ 0 ∷ 0x14 ∷ [])) }
-    ensures act_of_second { given (always_ahead (pos 0)) 0
+    ensures act_of_second { given utc 0
         (taking_of_two (I 1 3 interrogation_of_second ∷ []) (pumped 0 3 (all_asked started)))
         ≡ Some (Information 3 2 (0x64 ∷ 1 ∷ 0x47 ∷ 0 ∷ 2 ∷ 0 ∷ 0 ∷ 0 ∷ 0 ∷ 0x14 ∷ [])) }
-    ensures again { given (always_ahead (pos 0)) 0
+    ensures again { given utc 0
         (taking_of_two (I 1 6 interrogation_of_second ∷ []) (pumped 0 6 (all_asked started)))
         ≡ Some (Information 6 2 (0x64 ∷ 1 ∷ 7 ∷ 0 ∷ 2 ∷ 0 ∷ 0 ∷ 0 ∷ 0 ∷ 0x14 ∷ [])) }
     // News that come between stay behind the last termination.
-    ensures not_between { given (always_ahead (pos 0)) 0 (pumped 0 1 (client_with_news (switched_off ∷ []) (pumped 0 2 (all_asked started))))
+    ensures not_between { given utc 0
+        (pumped 0 1 (client_with_news (switched_off ∷ []) (pumped 0 2 (all_asked started))))
         ≡ Some (Information 3 1 (0x64 ∷ 1 ∷ 7 ∷ 0 ∷ 2 ∷ 0 ∷ 0 ∷ 0 ∷ 0 ∷ 0x14 ∷ [])) }
-    ensures news_last { given (always_ahead (pos 0)) 0 (pumped 0 4 (client_with_news (switched_off ∷ []) (pumped 0 2 (all_asked started))))
+    ensures news_last { given utc 0 (pumped 0 4 (client_with_news (switched_off ∷ []) (pumped 0 2 (all_asked started))))
         ≡ Some (Information 6 1 (1 ∷ 1 ∷ 3 ∷ 0 ∷ 1 ∷ 0 ∷ 5 ∷ 0x10 ∷ 0 ∷ 0 ∷ [])) }
     // With k = 1 it goes on when the last one is acknowledged.
-    ensures waits { given (always_ahead (pos 0)) 0 (pumped 0 1 (acknowledged 2 (all_asked (started_from narrowest)))) ≡ None }
-    ensures goes_on { given (always_ahead (pos 0)) 0 (acknowledged 3 (all_asked (started_from narrowest)))
+    ensures waits { given utc 0 (pumped 0 1 (acknowledged 2 (all_asked (started_from narrowest)))) ≡ None }
+    ensures goes_on { given utc 0 (acknowledged 3 (all_asked (started_from narrowest)))
         ≡ Some (Information 3 1 (0x64 ∷ 1 ∷ 7 ∷ 0 ∷ 2 ∷ 0 ∷ 0 ∷ 0 ∷ 0 ∷ 0x14 ∷ [])) }
     // An act to one address asks its rows alone.
-    ensures of_second { given (always_ahead (pos 0)) 0 (pumped 0 1 (taking_of_two (I 0 0 interrogation_of_second ∷ []) started))
+    ensures of_second { given utc 0 (pumped 0 1 (taking_of_two (I 0 0 interrogation_of_second ∷ []) started))
         ≡ Some (Information 1 1 (1 ∷ 1 ∷ 0x14 ∷ 0 ∷ 2 ∷ 0 ∷ 5 ∷ 0x10 ∷ 0 ∷ 0xC0 ∷ [])) }
-    ensures none_of_first { given (always_ahead (pos 0)) 0 (pumped 0 3 (taking_of_two (I 0 0 interrogation_of_second ∷ []) started))
+    ensures none_of_first { given utc 0 (pumped 0 3 (taking_of_two (I 0 0 interrogation_of_second ∷ []) started))
         ≡ None }
     // Without an outstation there is the station's address, which has no rows.
-    ensures no_rows { given (always_ahead (pos 0)) 0 (pumped 0 1 (taking_in of_none [] 0 (I 0 0 interrogation_of_all ∷ []) started))
+    ensures no_rows { given utc 0 (pumped 0 1 (taking_in of_none [] 0 (I 0 0 interrogation_of_all ∷ []) started))
         ≡ Some (Information 1 1 (0x64 ∷ 1 ∷ 0x0A ∷ 0 ∷ 1 ∷ 0 ∷ 0 ∷ 0 ∷ 0 ∷ 0x14 ∷ [])) }
 {}
 
@@ -213,7 +213,7 @@ pub fn interrogations_of_all()
 #[tactic(auto, unfolding(iec_command::specs::Commands::command_of, iec_asdu::specs::Spelling::list_spelling, iec_asdu::specs::Packing::packed_spelling, iec_asdu::specs::Packing::taken_of, iec_asdu::specs::Packing::is_in_sequence, iec_asdu::specs::Packing::in_sequence_count, iec_asdu::specs::Packing::apart_count, iec_asdu::specs::Packing::alike_count, iec_asdu::specs::Packing::consecutive_count))]
 pub fn answers()
     // A read is answered before older news and before the answer to an interrogation.
-    ensures read { given (always_ahead (pos 0)) 0 (taking 0 (I 1 0 reading ∷ []) (interrogated waiting))
+    ensures read { given utc 0 (taking 0 (I 1 0 reading ∷ []) (interrogated waiting))
         ≡ Some (Information 0 2 (1 ∷ 1 ∷ 5 ∷ 0 ∷ 1 ∷ 0 ∷ 5 ∷ 0x10 ∷ 0 ∷ 0xC0 ∷ [])) }
     // 32 may wait; an interrogation wants no place, a command to be executed two.
     ensures most { event_of setup (I 31 0 reading) (reads 31 started) ≡ Taken }

@@ -25,6 +25,16 @@ use Rattle.gw_steps.specs.Sound.{IsSoundState, LeavesSound}
 abbrev pub entry : Step → Result Reply StepFault → Entry
 entry step reply = record { step = step; reply = reply }
 
+-- what holds at each place holds at the last one
+pub last_place : (P : List Entry → Type 0) (past : List Entry) → AtEach P past → P past
+last_place P [] at = at
+last_place P (e ∷ past) at = at.0
+
+pub at_each : (P Q : List Entry → Type 0) → ((past : List Entry) → P past → Q past) → (past : List Entry)
+    → AtEach P past → AtEach Q past
+at_each P Q law [] at = law [] at
+at_each P Q law (e ∷ past) at = (law (e ∷ past) at.0, at_each P Q law past at.1)
+
 -- a run that led to a state, with sound states all the way
 pub record Ran (setup : Setup) (past : List Entry) (s : State) : Type 0 where
   pub run : IsRun setup past

@@ -17,7 +17,6 @@ mod putting;
 mod row;
 mod source;
 mod ticking;
-mod times;
 mod wire;
 mod worker_end;
 
@@ -26,6 +25,7 @@ pub use client_reading::client_reader;
 pub use client_writing::client_writer;
 pub use ends::{Arrival, Incoming, Outgoing, Unwritten};
 pub use gate::{Gate, OpenGate, Place};
+pub use gw_clock::Clock;
 pub use gw_shared::{
     Batch, Bell, CloseFault, Closed, Core, Counts, Entry, Fate, Figures, Hub, Kept, KeptStep,
     OrderCounts, Orders, Pass, Pumped, Recorder, Reply, Shared, Step, StepFault, Verdict, Why,
@@ -37,5 +37,4 @@ pub use outstation_writing::outstation_writer;
 pub use putting::{Gathered, Put, Source, put_out};
 pub use source::HubSource;
 pub use ticking::clock;
-pub use times::Clock;
 pub use worker_end::WorkerEnd;

@@ -3,7 +3,7 @@ ghost use Rattle.std.specs.Prelude.{◌≡◌};
 
 use crate::call::make_call;
 use crate::gate::Gate;
-use crate::times::Clock;
+use gw_clock::Clock;
 use gw_shared::{Pass, Shared, Step};
 use std::sync::Wait;
 use std::sync::ledger::Ledger;

@@ -8,7 +8,7 @@ use crate::call::Run;
 use crate::gate::{Gate, Place};
 use crate::lost::lose_client;
 use crate::putting::{Gathered, Source};
-use crate::times::Clock;
+use gw_clock::Clock;
 use gw_shared::{Batch, Hub, LONGEST_APDU, Pass, Pumped, Shared, Step, apdu_in};
 use std::marker::Model;
 use std::sync::Wait;

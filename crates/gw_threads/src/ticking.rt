@@ -3,8 +3,8 @@ ghost use Rattle.std.specs.Prelude.{◌≡◌};
 
 use crate::call::make_call;
 use crate::gate::Gate;
-use crate::times::Clock;
 use crate::worker_end::WorkerEnd;
+use gw_clock::Clock;
 use gw_shared::{Pass, Shared, Step};
 use std::rt::Clock as Sleeps;
 use std::sync::Wait;

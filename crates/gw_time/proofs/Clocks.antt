@@ -44,10 +44,18 @@ window_is_of_shown clocks t dt e =
     (time_bound dt) (civil_parts dt (shown_at clocks t) e)
 
 -- what clocks show, in nanoseconds
-pub shown_nanos : (t : ℕ) (minutes seconds instant shown : ℤ) → instant ≡ pos (t * 1_000_000)
+nanos_ahead : (t : ℕ) (minutes seconds instant shown : ℤ) → instant ≡ pos (t * 1_000_000)
     → seconds ≡ pos 60 *ℤ minutes → shown ≡ instant +ℤ nanos_of_seconds seconds
     → shown ≡ (pos t +ℤ (pos 60000 *ℤ minutes)) *ℤ pos 1_000_000
-shown_nanos t minutes seconds instant shown e f g = omega (arith, signed_arith)
+nanos_ahead t minutes seconds instant shown e f g = omega (arith, signed_arith)
+
+pub shown_nanos : (clocks : Clocks) (t : ℕ) (summer : Bool) (seconds instant shown : ℤ) → instant ≡ pos (t * 1_000_000)
+    → summer ≡ is_summer clocks t → seconds ≡ pos 60 *ℤ minutes_ahead clocks summer
+    → shown ≡ instant +ℤ nanos_of_seconds seconds
+    → shown ≡ shown_at clocks t *ℤ pos 1_000_000
+shown_nanos clocks t summer seconds instant shown e f g h =
+    nanos_ahead t (minutes_ahead clocks (is_summer clocks t)) seconds instant shown e
+    (g ∙ ap (λ (b : Bool). pos 60 *ℤ minutes_ahead clocks b) f) h
 
 -- in the window of years no instant is after the last one that has a timestamp
 not_beyond : (t : ℕ) (minutes : ℤ) → negsuc 839 ≤ℤ minutes → IsShown (pos t +ℤ (pos 60000 *ℤ minutes))

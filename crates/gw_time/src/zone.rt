@@ -1,11 +1,9 @@
 //! The clocks of the station.
-ghost use Rattle.std.specs.Prelude.{◌≡◌, ◌↔◌, ◌≤◌, ◌*◌, ℕ, ℤ, pos, negsuc, ◌≤ℤ◌, ◌-ℤ◌, ◌*ℤ◌, ◌&&◌, IsSome, IfSome};
+ghost use Rattle.std.specs.Prelude.{◌≡◌, ◌↔◌, ◌≤◌, ◌*◌, ℕ, ℤ, pos, negsuc, ◌≤ℤ◌, ◌-ℤ◌, ◌*ℤ◌, ◌&&◌, int_div, IsSome, IfSome};
 ghost use Rattle.jiff_core.specs.DateTime.{civil_nanos};
-ghost use Rattle.jiff_tz.specs.PosixRule.{int_same};
 
-use jiff::Timestamp;
-use jiff::civil::DateTime;
-use jiff::tz::Offset;
+use jiff_core::civil::DateTime;
+use jiff_core::{Offset, Timestamp};
 use jiff_tz::posix;
 
 /// The last instant that clocks show at every offset, in milliseconds since 1970: it is in the year 9999.
@@ -47,8 +45,8 @@ impl Zone {
         match self.rule {
             None => false,
             Some(rule) => {
-                let seconds = rule.to_offset(timestamp.to_plain()).seconds;
-                are_equal(seconds, 60 * (i32::from(self.offset_minutes) + 60))
+                let seconds = rule.to_offset(timestamp).seconds;
+                seconds == 60 * (i32::from(self.offset_minutes) + 60)
             }
         }
     }
@@ -79,7 +77,7 @@ impl Zone {
     fn offset(&self, summer: bool) -> Offset
         ensures { result.seconds ≡ pos 60 *ℤ minutes_ahead (clocks_of self.now) summer }
     {
-        Offset::from_seconds(60 * i32::from(self.minutes_ahead(summer))).unwrap()
+        Offset::from_seconds(60 * i64::from(self.minutes_ahead(summer))).unwrap()
     }
 
     /// What the clocks show at an instant, where that is in the years 2000 to 2099.
@@ -94,7 +92,7 @@ impl Zone {
         let timestamp = timestamp_of(instant)?;
         let summer = self.is_summer(timestamp);
         let civil = self.offset(summer).to_datetime(timestamp);
-        if civil.year() < 2000 || civil.year() > 2099 {
+        if civil.date.year < 2000 || civil.date.year > 2099 {
             return None;
         }
         Some(ShownTime { civil, summer })
@@ -110,7 +108,7 @@ impl Zone {
     {
         let offset = self.offset(self.is_of_summer(summer));
         let timestamp = offset.to_timestamp(civil).unwrap();
-        timestamp.as_millisecond() as u64
+        milliseconds_of(timestamp) as u64
     }
 }
 
@@ -122,12 +120,12 @@ fn timestamp_of(instant: u64) -> Option<Timestamp>
     if instant > LAST_INSTANT {
         return None;
     }
-    Timestamp::from_millisecond(instant as i64).ok()
+    Timestamp::from_nanosecond(i128::from(instant) * 1_000_000).ok()
 }
 
-/// Whether two offsets in seconds are equal.
-fn are_equal(a: i32, b: i32) -> bool
-    ensures { result ≡ int_same a b }
+/// The whole milliseconds from 1970 to a time, towards zero.
+fn milliseconds_of(timestamp: Timestamp) -> i64
+    ensures { result ≡ int_div timestamp.nanosecond (pos 1_000_000) }
 {
-    a == b
+    (timestamp.nanosecond / 1_000_000) as i64
 }

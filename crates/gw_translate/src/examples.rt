@@ -4,7 +4,7 @@ ghost use Rattle.gw_model.specs.declared.point.Kind.TheVariants as kinds;
 ghost use Rattle.gw_model.specs.declared.point.Stamp.TheVariants.{At, Doubtful};
 ghost use Rattle.gw_model.specs.declared.observation.Value.TheVariants.{Single, Double, Scaled, Word, Total};
 ghost use Rattle.gw_model.specs.Point.{is_stamped};
-ghost use Rattle.gw_model.specs.Clocks.{always_ahead};
+ghost use Rattle.gw_model.specs.Clocks.{always_ahead, utc};
 ghost use Rattle.gw_entries.specs.Shown.{is_shown_by};
 ghost use Rattle.gw_translate.specs.Quality.{quality_of};
 ghost use Rattle.gw_translate.specs.Image.{image_of, image_in};
@@ -50,63 +50,58 @@ pub fn qualities_by_example()
 #[tactic(auto, unfolding(gw_time::specs::Spelling::tag_showing, gw_time::specs::Spelling::date_after))]
 pub fn images_by_example()
     // Flags 81, FF and 00 of a binary input.
-    ensures on { image_of (always_ahead (pos 0)) binary_row (binary 0x81 true) ≡ observation (Single true) good }
-    ensures doubtful { image_of (always_ahead (pos 0)) binary_row (binary 0xFF true)
+    ensures on { image_of utc binary_row (binary 0x81 true) ≡ observation (Single true) good }
+    ensures doubtful { image_of utc binary_row (binary 0xFF true)
         ≡ observation (Single true) (record good { iv = true; nt = true; sb = true; bl = true }) }
-    ensures off { image_of (always_ahead (pos 0)) binary_row (binary 0x00 false) ≡ observation (Single false) invalid }
-    ensures output { image_of (always_ahead (pos 0)) output_row (output 0xA1 true) ≡ observation (Single true) good }
-    ensures double { image_of (always_ahead (pos 0)) double_row (intermediate_input 0x01) ≡ observation (Double 0) good }
+    ensures off { image_of utc binary_row (binary 0x00 false) ≡ observation (Single false) invalid }
+    ensures output { image_of utc output_row (output 0xA1 true) ≡ observation (Single true) good }
+    ensures double { image_of utc double_row (intermediate_input 0x01) ≡ observation (Double 0) good }
     // Analog values as scaled ones: the ends of 16 bits, and one beyond each.
-    ensures highest { image_of (always_ahead (pos 0)) scaled_row (analog 0x01 (pos 32767)) ≡ observation (Scaled (pos 32767)) good }
-    ensures lowest { image_of (always_ahead (pos 0)) scaled_row (analog 0x01 (negsuc 32767))
-        ≡ observation (Scaled (negsuc 32767)) good }
-    ensures above { image_of (always_ahead (pos 0)) scaled_row (analog 0x01 (pos 32768)) ≡ observation (Scaled (pos 32767)) overflow }
-    ensures below { image_of (always_ahead (pos 0)) scaled_row (analog 0x01 (negsuc 32768))
+    ensures highest { image_of utc scaled_row (analog 0x01 (pos 32767)) ≡ observation (Scaled (pos 32767)) good }
+    ensures lowest { image_of utc scaled_row (analog 0x01 (negsuc 32767)) ≡ observation (Scaled (negsuc 32767)) good }
+    ensures above { image_of utc scaled_row (analog 0x01 (pos 32768)) ≡ observation (Scaled (pos 32767)) overflow }
+    ensures below { image_of utc scaled_row (analog 0x01 (negsuc 32768))
         ≡ observation (Scaled (negsuc 32767)) overflow }
-    ensures far_above { image_of (always_ahead (pos 0)) scaled_row (analog 0x01 (pos 40000))
-        ≡ observation (Scaled (pos 32767)) overflow }
-    ensures far_below { image_of (always_ahead (pos 0)) scaled_row (analog 0x01 (negsuc 39999))
+    ensures far_above { image_of utc scaled_row (analog 0x01 (pos 40000)) ≡ observation (Scaled (pos 32767)) overflow }
+    ensures far_below { image_of utc scaled_row (analog 0x01 (negsuc 39999))
         ≡ observation (Scaled (negsuc 32767)) overflow }
     // Halved: truncated toward zero on both sides, and clamped only then. Enlarged as far as it goes.
-    ensures halved { image_of (always_ahead (pos 0)) halved_row (analog 0x01 (pos 7)) ≡ observation (Scaled (pos 3)) good }
-    ensures halved_below { image_of (always_ahead (pos 0)) halved_row (analog 0x01 (negsuc 6)) ≡ observation (Scaled (negsuc 2)) good }
-    ensures halved_to_zero { image_of (always_ahead (pos 0)) halved_row (analog 0x01 (negsuc 0)) ≡ observation (Scaled (pos 0)) good }
-    ensures halved_first { image_of (always_ahead (pos 0)) halved_row (analog 0x01 (pos 65535))
-        ≡ observation (Scaled (pos 32767)) good }
-    ensures halved_above { image_of (always_ahead (pos 0)) halved_row (analog 0x01 (pos 65536))
+    ensures halved { image_of utc halved_row (analog 0x01 (pos 7)) ≡ observation (Scaled (pos 3)) good }
+    ensures halved_below { image_of utc halved_row (analog 0x01 (negsuc 6)) ≡ observation (Scaled (negsuc 2)) good }
+    ensures halved_to_zero { image_of utc halved_row (analog 0x01 (negsuc 0)) ≡ observation (Scaled (pos 0)) good }
+    ensures halved_first { image_of utc halved_row (analog 0x01 (pos 65535)) ≡ observation (Scaled (pos 32767)) good }
+    ensures halved_above { image_of utc halved_row (analog 0x01 (pos 65536))
         ≡ observation (Scaled (pos 32767)) overflow }
-    ensures enlarged { image_of (always_ahead (pos 0)) enlarged_row (analog 0x01 (negsuc 0))
-        ≡ observation (Scaled (negsuc 32766)) good }
-    ensures enlarged_lowest { image_of (always_ahead (pos 0)) enlarged_row (analog 0x01 (negsuc 2147483647))
+    ensures enlarged { image_of utc enlarged_row (analog 0x01 (negsuc 0)) ≡ observation (Scaled (negsuc 32766)) good }
+    ensures enlarged_lowest { image_of utc enlarged_row (analog 0x01 (negsuc 2147483647))
         ≡ observation (Scaled (negsuc 32767)) overflow }
     // Over range by the outstation's own word.
-    ensures over_range { image_of (always_ahead (pos 0)) scaled_row (analog 0x21 (pos 7)) ≡ observation (Scaled (pos 7)) overflow }
+    ensures over_range { image_of utc scaled_row (analog 0x21 (pos 7)) ≡ observation (Scaled (pos 7)) overflow }
     // As words: two's complement, without overflow.
-    ensures word { image_of (always_ahead (pos 0)) word_row (analog 0x01 (negsuc 0)) ≡ observation (Word 0xFFFFFFFF) good }
-    ensures least_word { image_of (always_ahead (pos 0)) word_row (analog 0x01 (negsuc 2147483647))
-        ≡ observation (Word 0x80000000) good }
-    ensures large_word { image_of (always_ahead (pos 0)) word_row (analog 0x01 (pos 40000)) ≡ observation (Word 40000) good }
-    ensures word_over_range { image_of (always_ahead (pos 0)) word_row (analog 0x21 (pos 7)) ≡ observation (Word 7) overflow }
+    ensures word { image_of utc word_row (analog 0x01 (negsuc 0)) ≡ observation (Word 0xFFFFFFFF) good }
+    ensures least_word { image_of utc word_row (analog 0x01 (negsuc 2147483647)) ≡ observation (Word 0x80000000) good }
+    ensures large_word { image_of utc word_row (analog 0x01 (pos 40000)) ≡ observation (Word 40000) good }
+    ensures word_over_range { image_of utc word_row (analog 0x21 (pos 7)) ≡ observation (Word 7) overflow }
     // A counter that rolled over, and one whose source is lost.
-    ensures rollover { image_of (always_ahead (pos 0)) counter_row (counter 0x21 0xFFFFFFFF)
+    ensures rollover { image_of utc counter_row (counter 0x21 0xFFFFFFFF)
         ≡ observation (Total 0xFFFFFFFF) (record good { cy = true }) }
-    ensures lost { image_of (always_ahead (pos 0)) counter_row (counter 0x05 7) ≡ observation (Total 7) invalid }
+    ensures lost { image_of utc counter_row (counter 0x05 7) ≡ observation (Total 7) invalid }
     // An event of 14 November 2023; one in doubt; one of 1970, and the first of 2000 where clocks are 60 minutes
     // ahead of UTC.
-    ensures timed { image_of (always_ahead (pos 0)) binary_row (timed_event 0x81 true (At 1700000000000))
+    ensures timed { image_of utc binary_row (timed_event 0x81 true (At 1700000000000))
         ≡ record (observation (Single true) good) { stamp = At 1700000000000 } }
-    ensures in_doubt { image_of (always_ahead (pos 0)) binary_row (timed_event 0x81 true (Doubtful 1700000000000))
+    ensures in_doubt { image_of utc binary_row (timed_event 0x81 true (Doubtful 1700000000000))
         ≡ record (observation (Single true) good) { stamp = Doubtful 1700000000000 } }
-    ensures long_ago { image_of (always_ahead (pos 0)) binary_row (timed_event 0x81 true (At 1)) ≡ observation (Single true) good }
+    ensures long_ago { image_of utc binary_row (timed_event 0x81 true (At 1)) ≡ observation (Single true) good }
     ensures first { image_of (always_ahead (pos 60)) binary_row (timed_event 0x81 true (At 946681200000))
         ≡ record (observation (Single true) good) { stamp = At 946681200000 } }
     ensures before_first { image_of (always_ahead (pos 60)) binary_row (timed_event 0x81 true (At 946681199999))
         ≡ observation (Single true) good }
-    ensures year_2100 { image_of (always_ahead (pos 0)) binary_row (timed_event 0x81 true (At 4102444800000))
+    ensures year_2100 { image_of utc binary_row (timed_event 0x81 true (At 4102444800000))
         ≡ observation (Single true) good }
     // By a point map: none for a point without a row.
-    ensures mapped { image_in (always_ahead (pos 0)) (binary_row ∷ []) (binary 0x81 true) ≡ Some (observation (Single true) good) }
-    ensures unmapped { image_in (always_ahead (pos 0)) (binary_row ∷ []) (output 0x81 true) ≡ None }
+    ensures mapped { image_in utc (binary_row ∷ []) (binary 0x81 true) ≡ Some (observation (Single true) good) }
+    ensures unmapped { image_in utc (binary_row ∷ []) (output 0x81 true) ≡ None }
 {}
 
 /// By which types each kind of point may be shown: single, double, scaled, word, total; and an event alone may have a

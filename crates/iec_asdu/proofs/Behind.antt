@@ -7,9 +7,6 @@ use Rattle.std.proofs.lemmas.Slice.{take-put_mid, drop-put_mid}
 use borrow.Rule.Slice.PartMut.{put_mid}
 use Rattle.iec_asdu.specs.Buffer.{Writes}
 
-pub writes_none : (start : ℕ) (old : List ℕ) → Writes start start old old []
-writes_none start old = record { ends = omega arith; front = sym (append-nil (take start old)); rest = refl }
-
 pub writes_part : (start k : ℕ) (old octets written : List ℕ) → start ≤ length old → length octets ≡ k
     → written ≡ octets
     → Writes start (start + k) old (put_mid start (start + k - start) old written) octets

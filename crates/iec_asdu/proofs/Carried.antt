@@ -69,13 +69,6 @@ sequence_whole : (clocks : Clocks) (ys : List Observation) → 0 < length ys
 sequence_whole clocks [] some = absurd (omega arith)
 sequence_whole clocks (y ∷ ys) some = omega arith
 
--- under SQ 1 the first one's address comes first
-pub sequence_octets : (clocks : Clocks) (xs : List Observation) (d : Observation) → 0 < length xs
-    → objects_octets clocks true xs
-    ≡ address_octets (get_or xs 0 d).address ++ flat_map (information_octets clocks) xs
-sequence_octets clocks [] d some = absurd (omega arith)
-sequence_octets clocks (x ∷ xs) d some = refl
-
 -- ---- what is carried
 
 -- so many from the front of a list with this first one, under this SQ

@@ -1,11 +1,11 @@
 -- Short words for the worked examples: qualities, observations, ASDUs of originator 0, and what octets mean.
-use Rattle.std.specs.Prelude.{ℕ, pos, Bool, true, false, List, map, Option, Result}
+use Rattle.std.specs.Prelude.{ℕ, Bool, true, false, List, map, Option, Result}
 use Rattle.gw_model.specs.declared.point.Stamp.TheVariants.{Untimed, At, Doubtful}
 use Rattle.gw_model.specs.declared.observation.Value.{Value}
 use Rattle.gw_model.specs.declared.observation.Value.TheVariants.{Single, Double}
 use Rattle.gw_model.specs.declared.observation.Quality.{Quality}
 use Rattle.gw_model.specs.declared.observation.Observation.{Observation}
-use Rattle.gw_model.specs.Clocks.{always_ahead}
+use Rattle.gw_model.specs.Clocks.{utc}
 use Rattle.iec_asdu.specs.declared.fault.AsduFault.{AsduFault}
 use Rattle.iec_asdu.specs.Types.{type_length}
 use Rattle.iec_asdu.specs.Asdu.{Asdu, element_kinds, monitor_types, asdu_meaning}
@@ -81,14 +81,14 @@ asdu identification cause common observations = record {
 
 -- what octets mean at a station whose clocks show UTC, and their first fault
 abbrev pub meaning : List ℕ → Option Asdu
-meaning octets = asdu_meaning (monitor_types (always_ahead (pos 0))) octets
+meaning octets = asdu_meaning (monitor_types utc) octets
 
 abbrev pub reading : List ℕ → Result Asdu AsduFault
-reading octets = asdu_read (monitor_types (always_ahead (pos 0))) octets
+reading octets = asdu_read (monitor_types utc) octets
 
 -- how many observations one ASDU carries, and whether under SQ 1, at a station whose clocks show UTC
 abbrev pub packing : List Observation → Bool × ℕ
-packing xs = (is_in_sequence (always_ahead (pos 0)) xs, taken_of (always_ahead (pos 0)) xs)
+packing xs = (is_in_sequence utc xs, taken_of utc xs)
 
 -- how many objects of each element fit, under SQ 0 without time and with time, and under SQ 1
 abbrev pub rooms_apart : Bool → List ℕ

@@ -1,7 +1,7 @@
 //! Worked examples of what ASDUs mean, computed by the definitions.
 ghost use Rattle.std.specs.Prelude.{◌≡◌, pos, negsuc, true, false, [], ◌∷◌, None, Some, Err};
 ghost use Rattle.gw_model.specs.declared.observation.Value.TheVariants.{Single, Double, Scaled, Word, Total};
-ghost use Rattle.gw_model.specs.Clocks.{always_ahead};
+ghost use Rattle.gw_model.specs.Clocks.{always_ahead, utc};
 ghost use Rattle.iec_asdu.specs.declared.fault.AsduFault.TheVariants.{Short, Long, UnknownType, ZeroObjects, Reserved, Tag};
 ghost use Rattle.iec_asdu.specs.Asdu.{monitor_types, asdu_meaning};
 ghost use Rattle.iec_asdu.specs.Packing.{apart_count, in_sequence_count, packed_spelling};
@@ -81,10 +81,10 @@ pub fn asdu_examples()
 /// ASDUs with time: what is written of an observation, and what octets mean.
 pub fn timed_examples()
     // Single-point 4101 on at 22:13:20 on 14 November 2023, and in doubt 65,535 milliseconds later, in UTC.
-    ensures event { spelling (always_ahead (pos 0)) 3 (timed_observation 4101 (Single true) good 1700000000000)
+    ensures event { spelling utc 3 (timed_observation 4101 (Single true) good 1700000000000)
         ≡ 0x1E ∷ 0x01 ∷ 0x03 ∷ 0x00 ∷ 0x01 ∷ 0x00 ∷ 0x05 ∷ 0x10 ∷ 0x00 ∷ 0x01 ∷ 0x20 ∷ 0x4E ∷ 0x0D ∷ 0x16 ∷ 0x0E
         ∷ 0x0B ∷ 0x17 ∷ [] }
-    ensures doubtful { spelling (always_ahead (pos 0)) 3 (doubtful_observation 4101 (Single true) good 1700000065535)
+    ensures doubtful { spelling utc 3 (doubtful_observation 4101 (Single true) good 1700000065535)
         ≡ 0x1E ∷ 0x01 ∷ 0x03 ∷ 0x00 ∷ 0x01 ∷ 0x00 ∷ 0x05 ∷ 0x10 ∷ 0x00 ∷ 0x01 ∷ 0xBF ∷ 0x63 ∷ 0x8E ∷ 0x16 ∷ 0x0E
         ∷ 0x0B ∷ 0x17 ∷ [] }
     // A total in the last millisecond of 2099, with clocks 60 minutes ahead of UTC; a millisecond later without time.
@@ -138,21 +138,21 @@ pub fn packing_examples()
     ensures then_untimed { packing (single_event 4101 ∷ single_event 4102 ∷ single_on 4103 ∷ []) ≡ (false, 2) }
     // So does another common address: of two at consecutive addresses the first goes alone, under SQ 0 and under SQ 1;
     // of three whose common address changes behind the second, two.
-    ensures other_apart { apart_count (always_ahead (pos 0)) (single_on 4101 ∷ under 2 (single_on 4102) ∷ []) ≡ 1 }
-    ensures other_in_sequence { in_sequence_count (always_ahead (pos 0)) (single_on 4101 ∷ under 2 (single_on 4102) ∷ []) ≡ 1 }
+    ensures other_apart { apart_count utc (single_on 4101 ∷ under 2 (single_on 4102) ∷ []) ≡ 1 }
+    ensures other_in_sequence { in_sequence_count utc (single_on 4101 ∷ under 2 (single_on 4102) ∷ []) ≡ 1 }
     ensures other { packing (single_on 4101 ∷ under 2 (single_on 4102) ∷ []) ≡ (false, 1) }
     ensures then_other { packing (single_on 4101 ∷ single_on 4102 ∷ under 2 (single_on 4103) ∷ []) ≡ (true, 2) }
     ensures twice_then_other { packing (single_on 4101 ∷ single_on 4101 ∷ under 2 (single_on 4101) ∷ []) ≡ (false, 2) }
     ensures timed_then_other { packing (single_event 4101 ∷ under 2 (single_event 4102) ∷ []) ≡ (false, 1) }
-    ensures other_spelled { packed_spelling (always_ahead (pos 0)) 3
+    ensures other_spelled { packed_spelling utc 3
         (under 258 (single_on 4101) ∷ under 258 (single_on 4102) ∷ single_on 4103 ∷ [])
         ≡ 0x01 ∷ 0x82 ∷ 0x03 ∷ 0x00 ∷ 0x02 ∷ 0x01 ∷ 0x05 ∷ 0x10 ∷ 0x00 ∷ 0x01 ∷ 0x01 ∷ [] }
     // Three single-points at consecutive addresses, interrogated, under SQ 1; an address twice, under SQ 0.
-    ensures in_sequence { packed_spelling (always_ahead (pos 0)) 20
+    ensures in_sequence { packed_spelling utc 20
         (untimed_observation 4101 (Single true) good ∷ untimed_observation 4102 (Single false) good
         ∷ untimed_observation 4103 (Single false) invalid_not_topical ∷ [])
         ≡ 0x01 ∷ 0x83 ∷ 0x14 ∷ 0x00 ∷ 0x01 ∷ 0x00 ∷ 0x05 ∷ 0x10 ∷ 0x00 ∷ 0x01 ∷ 0x00 ∷ 0xC0 ∷ [] }
-    ensures apart { packed_spelling (always_ahead (pos 0)) 3 (single_on 4101 ∷ untimed_observation 4101 (Single false) good ∷ [])
+    ensures apart { packed_spelling utc 3 (single_on 4101 ∷ untimed_observation 4101 (Single false) good ∷ [])
         ≡ 0x01 ∷ 0x02 ∷ 0x03 ∷ 0x00 ∷ 0x01 ∷ 0x00 ∷ 0x05 ∷ 0x10 ∷ 0x00 ∷ 0x01 ∷ 0x05 ∷ 0x10 ∷ 0x00 ∷ 0x00 ∷ [] }
 {}
 

@@ -1,14 +1,14 @@
-//! Tests of what an operator sees, through the public calls of its crates: the journal's lines and figures, what
-//! becomes of orders, the status and its answers, and what a run is captured as.
+//! Tests of what an operator sees, through the public calls of its crates: the journal's lines and figures, and the
+//! status and its answers.
 #![tactic(auto)]
 
 #[cfg(test)]
-mod capture;
+mod causes;
 #[cfg(test)]
 mod commands;
 #[cfg(test)]
-mod journal;
+mod figures;
 #[cfg(test)]
-mod orders;
+mod journal;
 #[cfg(test)]
 mod status;

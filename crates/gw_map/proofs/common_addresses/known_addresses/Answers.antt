@@ -1,10 +1,10 @@
-use Rattle.std.proofs.Common.{◌≡◌, ◌+◌, map, take, length, ap, sym, ◌∙◌, arith}
+use Rattle.std.proofs.Common.{◌≡◌, ℕ, ◌+◌, List, map, take, length, ap, sym, ◌∙◌, arith}
 use Rattle.std.specs.Prelude.{vec_len}
 use Rattle.std.proofs.lemmas.Bool.{eqb-true, true≢false}
+use Rattle.std.proofs.lemmas.List.{take_all, nil_from_length}
 use Rattle.gw_entries.specs.Ranges.{IsWithin}
-use Rattle.gw_map.specs.Settings.{distinct}
-use Rattle.gw_map.proofs.Loops.{take_all}
-use Rattle.gw_map.proofs.Known.{has, with, common_of, distinct-more, known-none, known-some, empty-from_length, all-more}
+use Rattle.gw_map.specs.Settings.{distinct, is_among}
+use Rattle.gw_map.proofs.Known.{with, common_of, distinct-more, known-none, known-some, all-more}
 use Rattle.gw_map.proofs.common_addresses.known_addresses.Goals as goal
 use Rattle.gw_map.proofs.common_addresses.known_addresses.Goals.{then-not-contains+in_ok-push, else-not-contains, then-is_empty+in_ok-push-2, else-is_empty}
 
@@ -23,8 +23,10 @@ next c =
     ∙ rw (← c.loop-outstation.invariant.known, ← same)
 
 there : (c : goal.Joined-not-contains)
-    → c.contains.result ≡ has c.outstation.inside.common_address c.loop-outstation.known.items
-there c = c.contains.ensures.value ∙ ap (has c.outstation.inside.common_address) c.deref.ensures.value
+    → c.contains.result ≡ is_among c.loop-outstation.known.items c.outstation.inside.common_address
+there c =
+    c.contains.ensures.value
+    ∙ ap (λ (ns : List ℕ). is_among ns c.outstation.inside.common_address) c.deref.ensures.value
 
 pub loop-outstation-preserved : goal.loop-outstation-preserved
 loop-outstation-preserved c = elim c.if-not-contains.branch [
@@ -52,12 +54,12 @@ asked : (c : goal.Joined-is_empty)
 asked c =
     c.loop-outstation.invariant.known
     ∙ ap (λ outstations. distinct (map common_of outstations))
-    (take_all c.args.outstations.now c.loop-outstation.outstation-index c.loop-outstation-test.false)
+    (take_all c.loop-outstation.outstation-index c.args.outstations.now c.loop-outstation-test.false)
 
 pub returns-clause-known : goal.returns-clause-known
 returns-clause-known c = elim c.if-is_empty.branch [
   | then-is_empty+in_ok-push-2 w ↦
-      let none = empty-from_length c.loop-outstation.known.items (omega (arith, counted c, eqb-true _ _ (sym c.is_empty.ensures ∙ w.if-is_empty.true))) in
+      let none = nil_from_length c.loop-outstation.known.items (omega (arith, counted c, eqb-true _ _ (sym c.is_empty.ensures ∙ w.if-is_empty.true))) in
       ap (λ v. v.items) w.known-is ∙ w.in_ok-push-2.ensures.items
       ∙ rw (none, ap (λ s. s.common_address) c.station.view_is)
       (known-none c.args.station.now c.args.outstations.now c.loop-outstation.known.items (asked c) none)

@@ -1,8 +1,8 @@
 -- The days since 1970 are not counted out: a stamp is in the window where it has a tag.
-use Rattle.std.proofs.Common.{◌≡◌, ℕ, ◌+◌, ◌-◌, pos, List, Some, None, refl}
+use Rattle.std.proofs.Common.{◌≡◌, ℕ, ◌+◌, ◌-◌, List, Some, None, refl}
 use Rattle.gw_model.specs.declared.point.Stamp.{Stamp}
 use Rattle.gw_model.specs.declared.point.Stamp.TheVariants.{At, Doubtful}
-use Rattle.gw_model.specs.Clocks.{Clocks, always_ahead}
+use Rattle.gw_model.specs.Clocks.{Clocks, utc}
 use Rattle.gw_time.specs.Window.{HasTag}
 use Rattle.gw_time.specs.Spelling.{tag_showing, date_after, tag_of}
 use Rattle.gw_time.specs.Example.{IsFirst, IsLast}
@@ -38,8 +38,8 @@ returns c = record {
   last_utc = last _ _ _ refl refl;
   last_60 = last _ _ _ refl refl;
   last_east = last _ _ _ refl refl;
-  february_2100 = untagged (always_ahead (pos 0)) (At 4107456000000) refl;
-  doubtful_2100 = untagged (always_ahead (pos 0)) (Doubtful 4107456000000) refl;
-  epoch = untagged (always_ahead (pos 0)) (At 0) refl;
+  february_2100 = untagged utc (At 4107456000000) refl;
+  doubtful_2100 = untagged utc (Doubtful 4107456000000) refl;
+  epoch = untagged utc (At 0) refl;
   untimed = λ has. has;
 }

@@ -41,7 +41,7 @@ loop-step-preserved c =
 pub returns-clause-run : goal.returns-clause-run
 returns-clause-run c =
     made c.args.self.now.setup c.args.steps.now c.loop-step.replies.items c.loop-step.step-index c.loop-step.self.state
-    c.requires.addresses c.requires.station
+    c.requires.addresses c.attest_rows.ensures c.requires.station
     c.loop-step-test.false c.loop-step.invariant.2 c.loop-step.invariant.3
 
 pub returns-clause-replies : goal.returns-clause-replies

@@ -1,15 +1,15 @@
-use Rattle.std.proofs.Common.{◌≡◌, length, min, map, codes, sym, ap, ◌∙◌}
+use Rattle.std.proofs.Common.{◌≡◌, length, map, codes, sym, ap, ◌∙◌}
 use Rattle.std.specs.Map.{values_of}
 use Rattle.std.proofs.lemmas.Result.{err_from_is_err_and}
 use Rattle.toml.specs.View.{table_view}
-use Rattle.gw_map.specs.Sections.{entries, outstations_in, section_complaints}
+use Rattle.gw_map.specs.Sections.{entries, section_complaints}
 use Rattle.gw_entries.specs.Fields.{row_fields}
 use Rattle.gw_entries.specs.Values.{row_of}
 use Rattle.gw_map.proofs.Known.{rows_known, controls_known}
 use Rattle.gw_map.proofs.Repeats.{map-nothing}
 use Rattle.gw_entries.proofs.Told.{told_front}
 use Rattle.gw_map.specs.Settings.{objects_of, known_in}
-use Rattle.gw_map.proofs.Whole.{same_length, same_keys, same_objects, same_control_objects, outstations_meant, outstations_counted, kept_values}
+use Rattle.gw_map.proofs.Whole.{same_length, same_keys, same_objects, same_control_objects, outstations_read, kept_values}
 use Rattle.gw_map.proofs.settings.Settings.from_table.Goals as goal
 
 pub returns-in_err-check_keys : goal.returns-in_err-check_keys
@@ -35,34 +35,20 @@ returns-in_err-outstations c =
 pub returns-in_err-rows : goal.returns-in_err-rows
 unfolding section_complaints
 returns-in_err-rows c =
-    let os : c.deref.result.now ≡ outstations_in (table_view c.args.top.now) =
-    outstations_meant (table_view c.args.top.now) c.in_ok-station.station _ c.deref.result.now c.in_ok-station.ensures.1
-    c.deref.ensures.value c.in_ok-outstations.ensures.read.1 in
-    let n : min (length c.deref.result.now) 255 ≡ length (outstations_in (table_view c.args.top.now)) =
-    outstations_counted (table_view c.args.top.now) _ _ c.deref.result.now c.in_ok-outstations.ensures.few
-    c.in_ok-outstations.outstations.ok.0 c.deref.ensures.value os in
+    let read = outstations_read (table_view c.args.top.now) _ _ _ c.in_ok-station.ensures.1
+    c.in_ok-outstations.ensures.few c.in_ok-outstations.outstations.ok.0 c.in_ok-outstations.ensures.read.1 in
     let p = err_from_is_err_and c.from_residual-in_err-rows.result c.from_residual-in_err-rows.ensures.1 in
     rw (p.1, p.2) (rw (
       c.in_ok-check_keys.ensures,
       c.in_ok-station.ensures.0,
       c.in_ok-outstations.ensures.read.0,
-    ) (told_front _ _ _ (rw n at c.in_err-rows.ensures.read)))
+    ) (told_front _ _ _ (rw (c.deref.ensures.value, read.counted) at c.in_err-rows.ensures.read)))
 
 pub returns-in_err-controls : goal.returns-in_err-controls
 unfolding section_complaints
 returns-in_err-controls c =
-    let os : c.deref.result.now ≡ outstations_in (table_view c.args.top.now) =
-    outstations_meant (table_view c.args.top.now) c.in_ok-station.station _ c.deref.result.now c.in_ok-station.ensures.1
-    c.deref.ensures.value c.in_ok-outstations.ensures.read.1 in
-    let n : min (length c.deref.result.now) 255 ≡ length (outstations_in (table_view c.args.top.now)) =
-    outstations_counted (table_view c.args.top.now) _ _ c.deref.result.now c.in_ok-outstations.ensures.few
-    c.in_ok-outstations.outstations.ok.0 c.deref.ensures.value os in
-    let os2 : c.deref-2.result.now ≡ outstations_in (table_view c.args.top.now) =
-    outstations_meant (table_view c.args.top.now) c.in_ok-station.station _ c.deref-2.result.now c.in_ok-station.ensures.1
-    c.deref-2.ensures.value c.in_ok-outstations.ensures.read.1 in
-    let n2 : min (length c.deref-2.result.now) 255 ≡ length (outstations_in (table_view c.args.top.now)) =
-    outstations_counted (table_view c.args.top.now) _ _ c.deref-2.result.now c.in_ok-outstations.ensures.few
-    c.in_ok-outstations.outstations.ok.0 c.deref-2.ensures.value os2 in
+    let read = outstations_read (table_view c.args.top.now) _ _ _ c.in_ok-station.ensures.1
+    c.in_ok-outstations.ensures.few c.in_ok-outstations.outstations.ok.0 c.in_ok-outstations.ensures.read.1 in
     let m : c.len.result ≡ length (entries (codes "point") (table_view c.args.top.now)) =
     same_length _ row_fields (row_of c.deref.result.now) _ _ (c.len.ensures ∙ c.in_ok-rows.rows.ok.0)
     c.in_ok-rows.ensures.read.1 in
@@ -71,26 +57,16 @@ returns-in_err-controls c =
       c.in_ok-check_keys.ensures,
       c.in_ok-station.ensures.0,
       c.in_ok-outstations.ensures.read.0,
-      (rw n at c.in_ok-rows.ensures.read.0),
+      (rw (c.deref.ensures.value, read.counted) at c.in_ok-rows.ensures.read.0),
       ← m,
       ← c.saturating_sub-room.ensures,
-    ) (told_front _ _ _ (rw n2 at c.in_err-controls.ensures.read)))
+    ) (told_front _ _ _ (rw (c.deref-2.ensures.value, read.counted) at c.in_err-controls.ensures.read)))
 
 pub returns-in_err-points : goal.returns-in_err-points
 unfolding section_complaints
 returns-in_err-points c =
-    let os : c.deref.result.now ≡ outstations_in (table_view c.args.top.now) =
-    outstations_meant (table_view c.args.top.now) c.in_ok-station.station _ c.deref.result.now c.in_ok-station.ensures.1
-    c.deref.ensures.value c.in_ok-outstations.ensures.read.1 in
-    let n : min (length c.deref.result.now) 255 ≡ length (outstations_in (table_view c.args.top.now)) =
-    outstations_counted (table_view c.args.top.now) _ _ c.deref.result.now c.in_ok-outstations.ensures.few
-    c.in_ok-outstations.outstations.ok.0 c.deref.ensures.value os in
-    let os2 : c.deref-2.result.now ≡ outstations_in (table_view c.args.top.now) =
-    outstations_meant (table_view c.args.top.now) c.in_ok-station.station _ c.deref-2.result.now c.in_ok-station.ensures.1
-    c.deref-2.ensures.value c.in_ok-outstations.ensures.read.1 in
-    let n2 : min (length c.deref-2.result.now) 255 ≡ length (outstations_in (table_view c.args.top.now)) =
-    outstations_counted (table_view c.args.top.now) _ _ c.deref-2.result.now c.in_ok-outstations.ensures.few
-    c.in_ok-outstations.outstations.ok.0 c.deref-2.ensures.value os2 in
+    let read = outstations_read (table_view c.args.top.now) _ _ _ c.in_ok-station.ensures.1
+    c.in_ok-outstations.ensures.few c.in_ok-outstations.outstations.ok.0 c.in_ok-outstations.ensures.read.1 in
     let m : c.len.result ≡ length (entries (codes "point") (table_view c.args.top.now)) =
     same_length _ row_fields (row_of c.deref.result.now) _ _ (c.len.ensures ∙ c.in_ok-rows.rows.ok.0)
     c.in_ok-rows.ensures.read.1 in
@@ -100,43 +76,35 @@ returns-in_err-points c =
       c.in_ok-check_keys.ensures,
       c.in_ok-station.ensures.0,
       c.in_ok-outstations.ensures.read.0,
-      (rw n at c.in_ok-rows.ensures.read.0),
+      (rw (c.deref.ensures.value, read.counted) at c.in_ok-rows.ensures.read.0),
       ← m,
       ← c.saturating_sub-room.ensures,
-      (rw n2 at c.in_ok-controls.ensures.read.0),
+      (rw (c.deref-2.ensures.value, read.counted) at c.in_ok-controls.ensures.read.0),
       ← k,
     ) (told_front _ _ _ c.in_err-points.ensures))
 
 pub returns-in_err-addresses : goal.returns-in_err-addresses
 unfolding section_complaints
 returns-in_err-addresses c =
-    let os : c.deref.result.now ≡ outstations_in (table_view c.args.top.now) =
-    outstations_meant (table_view c.args.top.now) c.in_ok-station.station _ c.deref.result.now c.in_ok-station.ensures.1
-    c.deref.ensures.value c.in_ok-outstations.ensures.read.1 in
-    let n : min (length c.deref.result.now) 255 ≡ length (outstations_in (table_view c.args.top.now)) =
-    outstations_counted (table_view c.args.top.now) _ _ c.deref.result.now c.in_ok-outstations.ensures.few
-    c.in_ok-outstations.outstations.ok.0 c.deref.ensures.value os in
-    let os2 : c.deref-2.result.now ≡ outstations_in (table_view c.args.top.now) =
-    outstations_meant (table_view c.args.top.now) c.in_ok-station.station _ c.deref-2.result.now c.in_ok-station.ensures.1
-    c.deref-2.ensures.value c.in_ok-outstations.ensures.read.1 in
-    let n2 : min (length c.deref-2.result.now) 255 ≡ length (outstations_in (table_view c.args.top.now)) =
-    outstations_counted (table_view c.args.top.now) _ _ c.deref-2.result.now c.in_ok-outstations.ensures.few
-    c.in_ok-outstations.outstations.ok.0 c.deref-2.ensures.value os2 in
+    let read = outstations_read (table_view c.args.top.now) _ _ _ c.in_ok-station.ensures.1
+    c.in_ok-outstations.ensures.few c.in_ok-outstations.outstations.ok.0 c.in_ok-outstations.ensures.read.1 in
     let m : c.len.result ≡ length (entries (codes "point") (table_view c.args.top.now)) =
     same_length _ row_fields (row_of c.deref.result.now) _ _ (c.len.ensures ∙ c.in_ok-rows.rows.ok.0)
     c.in_ok-rows.ensures.read.1 in
     let k = same_keys _ _ _ _ c.deref-3.ensures.value c.in_ok-rows.ensures.read.1 in
-    let a = same_objects _ _ _ _ c.deref-4.ensures.value (rw os at c.in_ok-rows.ensures.read.1) in
-    let b = same_control_objects _ _ _ _ c.deref-5.ensures.value (rw os2 at c.in_ok-controls.ensures.read.1) in
+    let rows = rw (c.deref.ensures.value, read.meant) at c.in_ok-rows.ensures.read.1 in
+    let controls = rw (c.deref-2.ensures.value, read.meant) at c.in_ok-controls.ensures.read.1 in
+    let a = same_objects _ _ _ _ c.deref-4.ensures.value rows in
+    let b = same_control_objects _ _ _ _ c.deref-5.ensures.value controls in
     let p = err_from_is_err_and c.from_residual-in_err-addresses.result c.from_residual-in_err-addresses.ensures.1 in
     rw (p.1, p.2) (rw (
       c.in_ok-check_keys.ensures,
       c.in_ok-station.ensures.0,
       c.in_ok-outstations.ensures.read.0,
-      (rw n at c.in_ok-rows.ensures.read.0),
+      (rw (c.deref.ensures.value, read.counted) at c.in_ok-rows.ensures.read.0),
       ← m,
       ← c.saturating_sub-room.ensures,
-      (rw n2 at c.in_ok-controls.ensures.read.0),
+      (rw (c.deref-2.ensures.value, read.counted) at c.in_ok-controls.ensures.read.0),
       ← k,
       c.in_ok-points.ensures.0,
       ← a,
@@ -173,34 +141,26 @@ invariant_of-result c =
 pub returns : goal.returns
 unfolding section_complaints
 returns c =
-    let os : c.deref.result.now ≡ outstations_in (table_view c.args.top.now) =
-    outstations_meant (table_view c.args.top.now) c.in_ok-station.station _ c.deref.result.now c.in_ok-station.ensures.1
-    c.deref.ensures.value c.in_ok-outstations.ensures.read.1 in
-    let n : min (length c.deref.result.now) 255 ≡ length (outstations_in (table_view c.args.top.now)) =
-    outstations_counted (table_view c.args.top.now) _ _ c.deref.result.now c.in_ok-outstations.ensures.few
-    c.in_ok-outstations.outstations.ok.0 c.deref.ensures.value os in
-    let os2 : c.deref-2.result.now ≡ outstations_in (table_view c.args.top.now) =
-    outstations_meant (table_view c.args.top.now) c.in_ok-station.station _ c.deref-2.result.now c.in_ok-station.ensures.1
-    c.deref-2.ensures.value c.in_ok-outstations.ensures.read.1 in
-    let n2 : min (length c.deref-2.result.now) 255 ≡ length (outstations_in (table_view c.args.top.now)) =
-    outstations_counted (table_view c.args.top.now) _ _ c.deref-2.result.now c.in_ok-outstations.ensures.few
-    c.in_ok-outstations.outstations.ok.0 c.deref-2.ensures.value os2 in
+    let read = outstations_read (table_view c.args.top.now) _ _ _ c.in_ok-station.ensures.1
+    c.in_ok-outstations.ensures.few c.in_ok-outstations.outstations.ok.0 c.in_ok-outstations.ensures.read.1 in
     let m : c.len.result ≡ length (entries (codes "point") (table_view c.args.top.now)) =
     same_length _ row_fields (row_of c.deref.result.now) _ _ (c.len.ensures ∙ c.in_ok-rows.rows.ok.0)
     c.in_ok-rows.ensures.read.1 in
     let k = same_keys _ _ _ _ c.deref-3.ensures.value c.in_ok-rows.ensures.read.1 in
-    let a = same_objects _ _ _ _ c.deref-4.ensures.value (rw os at c.in_ok-rows.ensures.read.1) in
-    let b = same_control_objects _ _ _ _ c.deref-5.ensures.value (rw os2 at c.in_ok-controls.ensures.read.1) in
+    let rows = rw (c.deref.ensures.value, read.meant) at c.in_ok-rows.ensures.read.1 in
+    let controls = rw (c.deref-2.ensures.value, read.meant) at c.in_ok-controls.ensures.read.1 in
+    let a = same_objects _ _ _ _ c.deref-4.ensures.value rows in
+    let b = same_control_objects _ _ _ _ c.deref-5.ensures.value controls in
     let values : values_of c.in_ok-points.points.entries ≡ c.deref-3.result.now =
     kept_values _ _ c.in_ok-points.ensures.1 in (
       rw (
         c.in_ok-check_keys.ensures,
         c.in_ok-station.ensures.0,
         c.in_ok-outstations.ensures.read.0,
-        (rw n at c.in_ok-rows.ensures.read.0),
+        (rw (c.deref.ensures.value, read.counted) at c.in_ok-rows.ensures.read.0),
         ← m,
         ← c.saturating_sub-room.ensures,
-        (rw n2 at c.in_ok-controls.ensures.read.0),
+        (rw (c.deref-2.ensures.value, read.counted) at c.in_ok-controls.ensures.read.0),
         ← k,
         c.in_ok-points.ensures.0,
         ← a,
@@ -209,8 +169,8 @@ returns c =
       ),
       λ i. record {
         station = c.in_ok-station.ensures.1 i;
-        outstations = (sym c.deref.ensures.value ∙ os) i;
-        rows = (ap (map row_fields) (values ∙ c.deref-3.ensures.value) ∙ (rw os at c.in_ok-rows.ensures.read.1)) i;
-        controls = (rw os2 at c.in_ok-controls.ensures.read.1) i;
+        outstations = read.meant i;
+        rows = (ap (map row_fields) (values ∙ c.deref-3.ensures.value) ∙ rows) i;
+        controls = controls i;
       },
     )

@@ -1,8 +1,9 @@
 use Rattle.std.proofs.Common.{map, option_map, Some, None, refl, sym, ap, ◌∙◌, arith}
+use Rattle.std.proofs.lemmas.Option.{slice_get-map}
 use Rattle.std.specs.Map.{values_of}
 use Rattle.gw_model.specs.Keys.{same_object}
 use Rattle.gw_map.specs.Settings.{row_object, control_object}
-use Rattle.gw_map.proofs.Finding.{none_front, past_front, some_front-zero, position-from, slice_get-map}
+use Rattle.gw_map.proofs.Finding.{none_front, past_front, some_front-zero, position-from}
 use Rattle.gw_map.proofs.Whole.{object}
 use Rattle.gw_map.proofs.settings.Settings.row_at.Goals as goal
 

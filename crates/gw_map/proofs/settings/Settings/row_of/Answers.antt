@@ -1,10 +1,11 @@
 use Rattle.std.proofs.Common.{◌≡◌, [], map, option_map, Some, None, sym, ap, ◌∙◌}
+use Rattle.std.proofs.lemmas.Option.{slice_get-map}
 use Rattle.std.specs.List.{position_from}
 use Rattle.std.specs.Map.{values_of, keys_of}
 use Rattle.std.proofs.lemmas.List.{append-nil}
 use Rattle.gw_model.specs.contracts.point.PointKeyPartialEq.TheImpl.{eq-value}
 use Rattle.gw_model.specs.Keys.{same_key}
-use Rattle.gw_map.proofs.Finding.{none_front, some_front-zero, position-from, slice_get-map, key_test, keys_kept}
+use Rattle.gw_map.proofs.Finding.{none_front, some_front-zero, position-from, key_test, keys_kept}
 use Rattle.gw_map.proofs.settings.Settings.row_of.Goals as goal
 
 pub returns-in_err-position : goal.returns-in_err-position

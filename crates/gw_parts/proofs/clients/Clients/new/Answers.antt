@@ -3,7 +3,7 @@ use Rattle.std.specs.List.{AllByRecursion}
 use Rattle.std.specs.Prelude.{replicate}
 use Rattle.std.proofs.lemmas.List.{length-replicate}
 use Rattle.gw_station.specs.Ring.{Ring, seat_down, seen, Stands}
-use Rattle.gw_parts.proofs.Places.{one_more}
+use Rattle.gw_control.proofs.Places.{one_more}
 use Rattle.gw_parts.proofs.Seats.{seen_alike, stand_alike}
 use Rattle.gw_parts.proofs.clients.Clients.new.Goals as goal
 

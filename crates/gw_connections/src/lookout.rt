@@ -1,8 +1,7 @@
 //! What is told once in a while.
 
-use crate::board::ClientCard;
-use crate::desk::Desk;
 use gw_journal::{DueNotes, JournalEvent, Refused};
+use gw_peers::{ClientCard, Desk};
 use gw_threads::{Clock, Figures, Shared};
 use std::rt::Clock as Sleeps;
 use std::sync::Wait;

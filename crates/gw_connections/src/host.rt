@@ -1,4 +1,4 @@
-//! What the server uses of the system.
+//! What connections, and a server of them, use of the system.
 
 use std::net::{Net, TcpListener, TcpStream};
 use std::rt::Clock;

@@ -1,6 +1,6 @@
 //! Standard input, whose end asks the server to end.
 
-use crate::house::Site;
+use crate::door::Door;
 use crate::lobby::Lobby;
 use std::io::{ErrorKind, Lock, Read, Stdin};
 use std::sync::Wait;
@@ -10,8 +10,8 @@ const PIECE: usize = 512;
 
 /// Waits until standard input ends, or can't be read, where that is to end the server; then no further client is
 /// accepted.
-pub fn await_end<R: Wait>(rt: &R, lobby: &Lobby, site: &Site<'_>) {
-    if let Some(stdin) = site.options.until_eof {
+pub fn await_end<R: Wait>(rt: &R, lobby: &Lobby, door: &Door<'_>) {
+    if let Some(stdin) = door.until_eof {
         read_to_end(rt, &stdin);
         lobby.end(rt);
     }

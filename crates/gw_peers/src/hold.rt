@@ -1,6 +1,6 @@
 //! How a client holds its place.
 
-use crate::sockets::shut;
+use crate::tcp::shut;
 use std::net::{IpAddr, SocketAddr, TcpStream};
 
 /// The milliseconds in which a client that has connected, or has stopped data transfer, may be about to start it.

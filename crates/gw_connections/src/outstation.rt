@@ -1,14 +1,13 @@
 //! One outstation: its workers, connection after connection.
 
 use crate::connection::{Connection, Link, Passes, Peer, exchange};
-use crate::desk::Desk;
 use crate::ending::Ending;
 use crate::host::Host;
 use crate::house::House;
 use crate::lookout::pause;
-use crate::plan::Plan;
-use crate::sockets::{OutstationSocket, shut};
+use crate::sockets::OutstationSocket;
 use gw_journal::{Cause, Failure, JournalEvent};
+use gw_peers::{Desk, Plan, shut};
 use gw_threads::{Clock, Gate, Line, Step};
 use std::net::{TcpStream, ToSocketAddrs};
 use std::sync::Wait;

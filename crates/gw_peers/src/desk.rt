@@ -1,8 +1,8 @@
 //! Where the server's threads tell what happens.
 
 use crate::board::Board;
+use gw_clock::Clock;
 use gw_journal::{Journal, JournalEvent};
-use gw_threads::Clock;
 use std::alloc::Global;
 use std::sync::Wait;
 

@@ -1,6 +1,6 @@
 //! The system's clocks.
 
-use gw_threads::Clock;
+use crate::times::Clock;
 use std::io;
 use std::rt::Clock as SystemTimes;
 use std::time::Duration;

@@ -3,10 +3,10 @@ ghost use Rattle.std.specs.Prelude.{◌≡◌, ◌≤◌, None, IfOk, length};
 ghost use Rattle.gw_threads.specs.Ends.{IsWithin};
 
 use crate::ending::Ending;
-use crate::plan::Plan;
+use gw_peers::Plan;
 use gw_threads::{Arrival, Incoming, Outgoing, Unwritten};
 use std::io::{self, ErrorKind, Read, Write};
-use std::net::{Shutdown, TcpStream};
+use std::net::TcpStream;
 use std::time::Duration;
 
 /// How often an interrupted call is made again.
@@ -49,11 +49,6 @@ impl<'a> OutstationSocket<'a> {
         let _ = stream.set_write_timeout(Some(plan.response));
         OutstationSocket { stream, ending }
     }
-}
-
-/// Ends a connection in both directions; whoever reads or writes on it comes back.
-pub fn shut(stream: &TcpStream) {
-    let _ = stream.shutdown(Shutdown::Both);
 }
 
 /// Reads once; an interrupted read is made again.

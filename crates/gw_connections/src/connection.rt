@@ -4,9 +4,10 @@ ghost use Rattle.std.specs.Thread.{IsSend, IsSync};
 use crate::ending::Ending;
 use crate::host::Host;
 use crate::house::House;
-use crate::sockets::{ClientSocket, OutstationSocket, shut};
+use crate::sockets::{ClientSocket, OutstationSocket};
 use dnp_receive::Receiver;
 use gw_journal::Cause;
+use gw_peers::shut;
 use gw_threads::{
     Clock, Gate, Line, Pass, WorkerEnd, client_reader, client_writer, outstation_reader,
     outstation_writer,
@@ -107,7 +108,7 @@ fn read<L: Ledger, R: Wait, C: Clock, G: Gate>(
     connection: &Connection<'_, '_>,
     pass: Pass<L>,
 ) -> (Pass<L>, WorkerEnd) {
-    let (desk, shared, gate) = (house.desk, house.shared, house.watched);
+    let (desk, shared, gate) = (house.desk, house.shared, house.gate);
     let ended = match &connection.peer {
         Peer::Client { client, socket } => {
             let mut input = *socket;
@@ -142,7 +143,7 @@ fn write<L: Ledger, R: Wait + Sleeps, C: Clock, G: Gate>(
     connection: &Connection<'_, '_>,
     pass: Pass<L>,
 ) -> (Pass<L>, WorkerEnd) {
-    let (rt, clock, shared, gate) = (house.desk.rt, house.desk.clock, house.shared, house.watched);
+    let (rt, clock, shared, gate) = (house.desk.rt, house.desk.clock, house.shared, house.gate);
     let ended = match &connection.peer {
         Peer::Client { client, socket } => {
             let mut output = *socket;

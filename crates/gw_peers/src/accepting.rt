@@ -1,15 +1,14 @@
 //! Clients that connect.
 
 use crate::desk::Desk;
+use crate::door::Door;
 use crate::hold::Hold;
-use crate::house::Site;
 use crate::lobby::{Lobby, Visit};
 use crate::refusals::Refusals;
+use crate::tcp::look_up_from_accept;
+use gw_clock::Clock;
 use gw_journal::{Failure, JournalEvent};
-use gw_threads::Clock;
 use std::io::ErrorKind;
-use std::net::{TcpListener, TcpStream};
-use std::os::fd::OwnedFd;
 use std::rt::Clock as Sleeps;
 use std::sync::Wait;
 use std::thread;
@@ -17,9 +16,6 @@ use std::time::Duration;
 
 /// The milliseconds until it is tried again where no connection could be accepted.
 const PAUSE_MS: u64 = 1000;
-
-/// The milliseconds behind which it is looked whether clients are still to be accepted.
-const LOOK_MS: u64 = 100;
 
 /// How far accepting has come.
 #[derive(Drop)]
@@ -42,15 +38,15 @@ impl Reception {
 }
 
 /// Accepts clients, each while a place is free, until there were as many as there may be, or standard input has ended.
-pub fn accept<R: Wait + Sleeps, C: Clock>(desk: &Desk<'_, R, C>, lobby: &Lobby, site: &Site<'_>) {
-    if site.options.until_eof.is_some() {
-        look_up_from_accept(site.listener);
+pub fn accept<R: Wait + Sleeps, C: Clock>(desk: &Desk<'_, R, C>, lobby: &Lobby, door: &Door<'_>) {
+    if door.until_eof.is_some() {
+        look_up_from_accept(door.listener);
     }
-    if let Ok(address) = site.listener.local_addr() {
+    if let Ok(address) = door.listener.local_addr() {
         desk.tell(JournalEvent::Listening(address));
     }
     let mut reception = Reception {
-        left: site.options.sessions,
+        left: door.sessions,
         order: 0,
         refusals: Refusals::new(desk.alloc),
     };
@@ -58,7 +54,7 @@ pub fn accept<R: Wait + Sleeps, C: Clock>(desk: &Desk<'_, R, C>, lobby: &Lobby, 
         if reception.left == Some(0) || !lobby.wait_for_seat(desk.rt) {
             return;
         }
-        accept_next(desk, lobby, site, &mut reception);
+        accept_next(desk, lobby, door, &mut reception);
     }
 }
 
@@ -66,12 +62,12 @@ pub fn accept<R: Wait + Sleeps, C: Clock>(desk: &Desk<'_, R, C>, lobby: &Lobby, 
 fn accept_next<R: Wait + Sleeps, C: Clock>(
     desk: &Desk<'_, R, C>,
     lobby: &Lobby,
-    site: &Site<'_>,
+    door: &Door<'_>,
     reception: &mut Reception,
 ) {
-    match site.listener.accept() {
+    match door.listener.accept() {
         Ok((stream, address)) => {
-            if site.options.allows(address.ip()) {
+            if door.lets_in(address.ip()) {
                 seat(desk, lobby, Visit { stream, address }, reception.admit());
             } else if let Some(left_out) = reception.refusals.ask(address.ip(), desk.clock.wall()) {
                 let address = address.ip();
@@ -100,14 +96,5 @@ fn seat<R: Wait, C: Clock>(desk: &Desk<'_, R, C>, lobby: &Lobby, visit: Visit, o
     if lobby.seat(desk.rt, place, visit) {
         desk.tell(JournalEvent::AllPlacesTaken);
         desk.board.make_room(desk.rt, address.ip(), place, moment);
-    }
-}
-
-/// Lets a listener come back from a wait for a client every 100 milliseconds: a listener has no option for that, but
-/// those of its socket are shared by its handles.
-pub fn look_up_from_accept(listener: &TcpListener) {
-    if let Ok(handle) = listener.try_clone() {
-        let stream = TcpStream::from(OwnedFd::from(handle));
-        let _ = stream.set_read_timeout(Some(Duration::from_millis(LOOK_MS)));
     }
 }

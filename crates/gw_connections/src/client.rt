@@ -1,15 +1,13 @@
 //! One place for clients: its workers, client after client.
 
-use crate::board::ClientCard;
 use crate::connection::{Connection, Passes, Peer, exchange};
-use crate::desk::Desk;
 use crate::ending::Ending;
 use crate::host::Host;
 use crate::house::House;
-use crate::lobby::{Lobby, Visit};
 use crate::lookout::{ANY_TIME, tell_dropped};
-use crate::sockets::{ClientSocket, shut};
+use crate::sockets::ClientSocket;
 use gw_journal::{Cause, JournalEvent};
+use gw_peers::{ClientCard, Desk, Lobby, Visit, shut};
 use gw_threads::{Clock, Gate, Step, Why};
 use std::net::{SocketAddr, TcpStream};
 use std::sync::Wait;

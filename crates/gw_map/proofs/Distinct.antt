@@ -1,19 +1,12 @@
--- Known common addresses: there are some, and none stands twice.
-use Rattle.std.proofs.Common.{◌≡◌, ℕ, ◌==◌, Bool, false, not, List, [], ◌∷◌, map, refl, inl, inr, arith}
-use Rattle.std.specs.Prelude.{filter}
-use Rattle.std.specs.List.{AllByRecursion, list_any}
+-- No known common address stands twice.
+use Rattle.std.proofs.Common.{◌≡◌, ℕ, ◌==◌, Bool, false, not, List, [], ◌∷◌, map, filter, refl, inl, inr}
 use Rattle.std.proofs.lemmas.Bool.{cases_Bool, true≢false}
-use Rattle.gw_entries.specs.Ranges.{IsWithin}
 use Rattle.gw_entries.specs.Setup.{OutstationSetup, StationSetup}
-use Rattle.gw_map.specs.Settings.{Setup, distinct, known_in, known_addresses}
-use Rattle.gw_answers.specs.Meaning.{AreShort}
-use Rattle.gw_answers.specs.Sections.{AreDistinct}
-
-abbrev is_among : ℕ → List ℕ → Bool
-is_among n xs = list_any (λ m. m == n) xs
+use Rattle.gw_map.specs.Settings.{Setup, distinct, is_among, known_in, known_addresses, AreDistinct}
+use Rattle.gw_map.proofs.Known.{without, common_of}
 
 -- what is left out isn't there
-none_left : (n : ℕ) (xs : List ℕ) → is_among n (filter (λ m. not (m == n)) xs) ≡ false
+none_left : (n : ℕ) (xs : List ℕ) → is_among (without n xs) n ≡ false
 none_left n [] = refl
 none_left n (x ∷ xs) = elim (cases_Bool (x == n)) [
   | inl same ↦ rw same (none_left n xs)
@@ -21,7 +14,7 @@ none_left n (x ∷ xs) = elim (cases_Bool (x == n)) [
 ]
 
 -- what isn't there isn't there once some are left out
-still_none : (n : ℕ) (p : ℕ → Bool) (xs : List ℕ) → is_among n xs ≡ false → is_among n (filter p xs) ≡ false
+still_none : (n : ℕ) (p : ℕ → Bool) (xs : List ℕ) → is_among xs n ≡ false → is_among (filter p xs) n ≡ false
 still_none n p [] none = refl
 still_none n p (x ∷ xs) none = elim (cases_Bool (x == n)) [
   | inl same ↦ absurd (true≢false (rw same at none))
@@ -45,20 +38,7 @@ distinct_are (x ∷ xs) =
 
 known_are : (station : StationSetup) (outstations : List OutstationSetup) → AreDistinct (known_in station outstations)
 known_are station [] = (refl, tt)
-known_are station (o ∷ more) = distinct_are (map (λ outstation. outstation.common_address) (o ∷ more))
+known_are station (o ∷ more) = distinct_are (map common_of (o ∷ more))
 
 pub known_distinct : (setup : Setup) → AreDistinct (known_addresses setup)
 known_distinct setup = known_are setup.station setup.outstations
-
-some_of : (station : StationSetup) (outstations : List OutstationSetup) → known_in station outstations ≡ [] → ⊥
-some_of station [] e = cc
-some_of station (o ∷ more) e = cc
-
--- there is one
-pub some_known : (setup : Setup) → known_addresses setup ≡ [] → ⊥
-some_known setup e = some_of setup.station setup.outstations e
-
--- and they have 16 bits
-pub short_addresses : (addresses : List ℕ) → AllByRecursion (IsWithin 1 65534) addresses → AreShort addresses
-short_addresses [] all = tt
-short_addresses (address ∷ more) all = (omega (arith, all.0.1), short_addresses more all.1)

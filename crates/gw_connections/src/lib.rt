@@ -1,0 +1,23 @@
+//! Connections on TCP sockets, one after another: those to the outstations, and those of the clients at each place. A
+//! connection has a reader and a writer, each in a thread of its own, and ends once both have; an operator is told why.
+#![tactic(auto)]
+
+mod client;
+mod connection;
+mod ending;
+mod host;
+mod house;
+mod lookout;
+mod outstation;
+mod sockets;
+
+pub use client::serve_place;
+pub use connection::Passes;
+pub use gw_threads::{
+    About, Call, Closed, Fate, Figures, Gate, Hub, OpenGate, OrderCounts, Pass, Place, Pumped,
+    Reply, Run, Shared, Step, StepFault, Verdict, clock, control_command,
+};
+pub use host::Host;
+pub use house::House;
+pub use lookout::{ANY_TIME, look_at_outstations, look_out, pause};
+pub use outstation::serve_outstation;

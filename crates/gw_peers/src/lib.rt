@@ -1,0 +1,25 @@
+//! The gateway's peers: the ways to the outstations; which clients may connect, the places that they get, and which
+//! gives way where all are taken; what is known of each, and the desk where an operator is told of it.
+#![tactic(auto)]
+
+mod accepting;
+mod board;
+mod desk;
+mod door;
+mod hold;
+mod input;
+mod lobby;
+mod network;
+mod plan;
+mod refusals;
+mod tcp;
+
+pub use accepting::accept;
+pub use board::{Board, ClientCard, OutstationCard};
+pub use desk::Desk;
+pub use door::Door;
+pub use input::await_end;
+pub use lobby::{Lobby, Visit};
+pub use network::Network;
+pub use plan::{Plan, plans_of};
+pub use tcp::{look_up_from_accept, shut};

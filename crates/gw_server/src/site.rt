@@ -1,0 +1,35 @@
+//! What is served.
+ghost use Rattle.std.specs.Prelude.{◌≤◌};
+
+use gw_peers::{Door, Plan};
+use std::net::TcpListener;
+
+/// How many outstations there can be.
+pub const OUTSTATIONS: u8 = 32;
+
+/// How many clients there can be.
+pub const CLIENTS: u8 = 8;
+
+/// What is served.
+#[derive(Drop)]
+pub struct Site<'a> {
+    /// Where clients come in.
+    pub door: Door<'a>,
+    /// The ways to the outstations.
+    pub plans: &'a [Plan],
+    /// The gateway's version.
+    pub version: &'static str,
+    /// Where the status is served, if it is.
+    pub status: Option<&'a TcpListener>,
+    /// When the server started, in milliseconds since 1970 in UTC.
+    pub started: u64,
+}
+
+impl<'a> Site<'a> {
+    /// How many outstations are served.
+    pub fn outstations(&self) -> u8
+        ensures { result ≤ 32 }
+    {
+        self.plans.len().min(usize::from(OUTSTATIONS)) as u8
+    }
+}
