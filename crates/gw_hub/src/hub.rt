@@ -3,7 +3,6 @@ ghost use Rattle.std.specs.Prelude.{◌≡◌, ◌<◌, ◌^◌, [], length, tru
 ghost use Rattle.std.specs.List.{AllByRecursion};
 ghost use Rattle.gw_entries.specs.Ranges.{IsStation};
 ghost use Rattle.gw_map.specs.Settings.{HasSingleAddresses};
-ghost use Rattle.gw_station.specs.Client.{limits_of};
 ghost use Rattle.gw_steps.specs.declared.step.Step.TheVariants as steps;
 ghost use Rattle.gw_steps.specs.declared.step.StepFault.TheVariants.{Spent};
 ghost use Rattle.gw_steps.specs.State.{at_first, first_after};
@@ -25,6 +24,7 @@ ghost use Rattle.gw_hub.specs.Hub.{can_count, can_take, controls_polled, state_c
 use crate::common::Common;
 use crate::news::{lose_rows, take_reports};
 use crate::orders::{Sender, end_order, lose_orders, pass_time, settle};
+use crate::parts::{CLIENTS, Parts, clients_over, field_over};
 use crate::tally::{Counts, Tally};
 use dnp_app::Response;
 use dnp_master::Verdict;
@@ -36,14 +36,10 @@ use gw_picture::Picture;
 use gw_station::Event;
 use gw_steps::{Reply, Step, StepFault};
 use iec_apci::Apdu;
-use iec_window::Limits;
 use std::alloc::Global;
 use std::marker::Model;
 
 mod queries;
-
-/// How many clients there can be.
-const CLIENTS: u8 = 8;
 
 /// Outstations and clients, and what goes from one to the other. It makes one step at a time, and
 /// waits for nobody.
@@ -102,28 +98,19 @@ impl Hub {
     {
         // The contracts of `rows` and `station` tell what all settings keep.
         let _rows = settings.rows();
+        let _station = settings.station();
         attest_indices(settings.controls());
-        let station = settings.station();
-        let outstations = Outstations::new(alloc, settings.outstations())?;
-        let picture = Picture::new(alloc, &settings)?;
-        let clients = Clients::new(
-            alloc,
-            CLIENTS,
-            &limits_of(station),
-            station.queue,
-            counts.news,
-        )?;
-        let controls = Controls::after(alloc, &settings, counts.orders)?;
+        let parts = Parts::after(alloc, &settings, &counts)?;
         let common = Common::new(alloc, settings)?;
         let counts = Tally::new(&counts);
         Ok(Hub {
             alloc,
             settings: common,
-            outstations,
-            picture,
-            clients,
+            outstations: parts.outstations,
+            picture: parts.picture,
+            clients: parts.clients,
             sessions: [0; CLIENTS as usize],
-            controls,
+            controls: parts.controls,
             counts,
             moment: 0,
         })
@@ -151,17 +138,38 @@ impl Hub {
     pub fn copy_over(&self, spare: Hub) -> Result<Hub, Memory>
         ensures { IfOk result (λ hub. hub ≡ self.now) }
     {
+        let parts = spare.into_parts();
+        let field = field_over(
+            &self.outstations,
+            &self.picture,
+            (parts.outstations, parts.picture),
+        )?;
+        let clients = clients_over(
+            &self.clients,
+            &self.controls,
+            (parts.clients, parts.controls),
+        )?;
         Ok(Hub {
             alloc: self.alloc,
             settings: self.settings.copy()?,
-            outstations: self.outstations.copy_over(spare.outstations)?,
-            picture: self.picture.copy_over(spare.picture)?,
-            clients: self.clients.copy_over(spare.clients)?,
+            outstations: field.0,
+            picture: field.1,
+            clients: clients.0,
             sessions: self.sessions,
-            controls: self.controls.copy_over(spare.controls)?,
+            controls: clients.1,
             counts: self.counts.copy(),
             moment: self.moment,
         })
+    }
+
+    /// What of it took memory, besides its settings.
+    fn into_parts(self) -> Parts {
+        Parts {
+            outstations: self.outstations,
+            picture: self.picture,
+            clients: self.clients,
+            controls: self.controls,
+        }
     }
 
     /// Makes steps one after the other on a new hub; gives it with a reply for each of them.
@@ -587,18 +595,5 @@ fn reply_of(event: Event) -> Reply
     match event {
         Event::Taken | Event::Command(_) => Reply::Taken,
         Event::Closed(why) => Reply::Closed(why),
-    }
-}
-
-/// The parameters of the clients' connections.
-fn limits_of(station: &Station) -> Limits
-    ensures { result ≡ limits_of station.now }
-{
-    Limits {
-        k: station.k,
-        w: station.w,
-        t1: u64::from(station.t1_ms),
-        t2: u64::from(station.t2_ms),
-        t3: u64::from(station.t3_ms),
     }
 }

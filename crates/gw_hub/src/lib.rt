@@ -8,6 +8,7 @@ mod hub;
 pub mod laws;
 mod news;
 mod orders;
+mod parts;
 mod tally;
 
 pub use dnp_master::{Ignored, Verdict};

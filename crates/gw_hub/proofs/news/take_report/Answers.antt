@@ -1,4 +1,4 @@
-use Rattle.std.proofs.Common.{◌≡◌, [], subst}
+use Rattle.std.proofs.Common.{◌≡◌, []}
 use Rattle.gw_map.specs.Settings.{station_clocks}
 use Rattle.gw_picture.specs.Picture.{news_of_report}
 use Rattle.gw_hub.proofs.Taking.{came_none}

@@ -10,13 +10,13 @@ pub invariant_of-result : goal.invariant_of-result
 invariant_of-result c =
     let settings = c.args.settings in
     let state : State = first_after settings (tally_of c.args.counts) c.args.counts.orders in
-    let outstations : c.in_ok-outstations.outstations ≡ state.outstations = search rules in
-    let picture : c.in_ok-picture.picture ≡ state.picture = search rules in
-    let clients : c.in_ok-clients.clients.each ≡ state.clients = search rules in
-    let news : c.in_ok-clients.clients.news ≡ c.args.counts.news = search rules in
+    let outstations : c.in_ok-parts.parts.outstations ≡ state.outstations = search rules in
+    let picture : c.in_ok-parts.parts.picture ≡ state.picture = search rules in
+    let clients : c.in_ok-parts.parts.clients.each ≡ state.clients = search rules in
+    let news : c.in_ok-parts.parts.clients.news ≡ c.args.counts.news = search rules in
     let common : c.in_ok-common.common ≡ settings = search rules in
     let counts : c.new-counts.result ≡ state.counts = search rules in
-    let controls : c.in_ok-controls.controls ≡ state.controls = search rules in
+    let controls : c.in_ok-parts.parts.controls ≡ state.controls = search rules in
     let first = sound_after settings (tally_of c.args.counts) c.args.counts.orders in
     rw (outstations, picture, clients, counts, common, controls)
     (record {
