@@ -4,5 +4,6 @@ pub mod Keeps
 pub mod Sounds
 pub mod Once
 pub mod Stays
+pub mod Commands
 pub mod Whole
 pub mod Held

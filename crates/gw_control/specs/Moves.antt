@@ -104,19 +104,24 @@ pub record IsWholeOrder (c : Command) : Type 0 where
   pub whole : IsWhole c
   pub operating : is_operating c.action ≡ true
 
--- also that of an order under way
-abbrev pub IsWholeUnderWay : Option UnderWay → Type 0
-IsWholeUnderWay None = Unit {0}
-IsWholeUnderWay (Some u) = IsWholeOrder u.accepted.command
+-- the command of an order under way has a property, if there is one
+abbrev pub OfUnderWay : (Command → Type 0) → Option UnderWay → Type 0
+OfUnderWay P None = Unit {0}
+OfUnderWay P (Some u) = P u.accepted.command
 
-pub record IsWholeOutgoing (o : Outgoing) : Type 0 where
-  pub waiting : AllByRecursion (λ x. IsWholeOrder x.command) o.waiting
-  pub under_way : IsWholeUnderWay o.under_way
+-- the command of each order of an outstation does
+pub record OfOutgoing (P : Command → Type 0) (o : Outgoing) : Type 0 where
+  pub waiting : AllByRecursion (λ x. P x.command) o.waiting
+  pub under_way : OfUnderWay P o.under_way
+
+-- the command of each order
+abbrev pub AllCommands : (Command → Type 0) → Controls → Type 0
+AllCommands P v = AllByRecursion (OfOutgoing P) v.outgoing
 
 abbrev pub HasWholeCommands : Controls → Type 0
-HasWholeCommands v = AllByRecursion IsWholeOutgoing v.outgoing
+HasWholeCommands v = AllCommands IsWholeOrder v
 
--- a command that comes has
+-- a command that comes has the bits of its places
 abbrev pub IsWholeMove : Move → Type 0
 IsWholeMove (Comes a) = IsWhole a.command
 IsWholeMove (Takes outstation) = Unit {0}
