@@ -1,4 +1,4 @@
-pub mod Sections
+pub mod Listed
 pub mod Loops
 pub mod Repeats
 pub mod Whole

@@ -161,3 +161,8 @@ double_split points controls =
 pub map-nothing : {A B : Type 0} (f : A → B) (xs : List A) → map f xs ≡ [] → xs ≡ []
 map-nothing f [] h = refl
 map-nothing f (x ∷ xs) h = absurd cc
+
+-- nothing stands twice at all
+pub nothing_twice : {A : Type 0} (xs ys : List A) → xs ++ ys ≡ [] → (xs ≡ []) × (ys ≡ [])
+nothing_twice [] ys e = (refl, e)
+nothing_twice (x ∷ xs) ys e = absurd cc

@@ -19,9 +19,9 @@ use Rattle.gw_entries.specs.Faults.{refusal_of, is_no_memory}
 use Rattle.gw_entries.specs.Fields.{row_fields, control_fields}
 use Rattle.gw_entries.specs.Setup.{StationSetup, OutstationSetup, RowFields, ControlFields}
 use Rattle.gw_entries.specs.Faults.{refused}
-use Rattle.gw_map.specs.Meaning.{answer_to}
-use Rattle.gw_map.specs.Sections.{entries, station_in, outstations_in, object_in}
-use Rattle.gw_map.specs.Settings.{row_object, control_object}
+use Rattle.gw_map.specs.Meaning.{answer_to, setup_of}
+use Rattle.gw_map.specs.Sections.{entries, station_in, outstations_in, object_in, repeat_complaints}
+use Rattle.gw_map.specs.Settings.{Setup, SetupFields, setup_fields, repeats_in, row_object, control_object}
 use Rattle.gw_entries.specs.Tables.{point_keys, control_keys}
 use Rattle.gw_entries.specs.Values.{outstation_of, source_of, row_of, control_of}
 
@@ -97,3 +97,21 @@ gives view (Err (Toml e)) cs v t = absurd t
 gives view (Err (Refused fault place)) [] v t = absurd cc
 gives view (Err (Refused fault place)) (c ∷ cs) v t = ap (λ c. Err (refused c)) (same_Some _ _ t)
 gives view (Err Memory) cs v t = tt
+
+-- what stands twice among the sections that were read
+pub repeats_read : (top : Members) (s : Setup) → setup_fields s ≡ setup_of top
+    → repeats_in s
+    ≡ repeat_complaints (map source_of (entries (codes "point") top))
+    (map (object_in point_keys (outstations_in top)) (entries (codes "point") top))
+    (map (object_in control_keys (outstations_in top)) (entries (codes "control") top))
+repeats_read top s same =
+    let outstations = outstations_in top in
+    let rows : map row_fields s.rows ≡ map (row_of outstations) (entries (codes "point") top) =
+    ap (λ (fields : SetupFields). fields.rows) same in
+    let controls : map control_fields s.controls ≡ map (control_of outstations) (entries (codes "control") top) =
+    ap (λ (fields : SetupFields). fields.controls) same in
+    rw (
+      same_keys outstations s.rows s.rows _ refl rows,
+      same_objects outstations s.rows s.rows _ refl rows,
+      same_control_objects outstations s.controls s.controls _ refl controls,
+    )

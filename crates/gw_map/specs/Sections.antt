@@ -114,16 +114,24 @@ double_addresses points controls =
 
 -- ---- the whole
 
+-- the complaints of the sections, each by itself
+abbrev pub sections_complaints : Members → List Complaint
+sections_complaints ms =
+    placed Top 0 (wrong_at UnknownKey (unknown_keys top_keys ms))
+    ++ (station_complaints (get_member (codes "station") ms)
+    ++ (outstation_complaints ms
+    ++ (point_complaints (length (outstations_in ms)) ms
+    ++ control_complaints (length (outstations_in ms)) (length (entries (codes "point") ms)) ms)))
+
+-- the complaints of what stands twice
+abbrev pub repeat_complaints : List PointKey → List ObjectKey → List ObjectKey → List Complaint
+repeat_complaints sources points controls = double_sources sources ++ double_addresses points controls
+
 abbrev pub complaints_of : Members → List Complaint
 complaints_of ms =
     let outstations = outstations_in ms in
     let points = entries (codes "point") ms in
     let controls = entries (codes "control") ms in
-    placed Top 0 (wrong_at UnknownKey (unknown_keys top_keys ms))
-    ++ (station_complaints (get_member (codes "station") ms)
-    ++ (outstation_complaints ms
-    ++ (point_complaints (length outstations) ms
-    ++ (control_complaints (length outstations) (length points) ms
-    ++ (double_sources (map source_of points)
-    ++ double_addresses (map (object_in point_keys outstations) points)
-    (map (object_in control_keys outstations) controls))))))
+    sections_complaints ms
+    ++ repeat_complaints (map source_of points) (map (object_in point_keys outstations) points)
+    (map (object_in control_keys outstations) controls)

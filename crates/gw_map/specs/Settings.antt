@@ -9,7 +9,8 @@ use Rattle.gw_model.specs.Clocks.{Clocks}
 use Rattle.gw_time.specs.Rule.{clocks_by}
 use Rattle.gw_entries.specs.declared.row.Row.{Row}
 use Rattle.gw_entries.specs.declared.control.Control.{Control}
-use Rattle.gw_map.specs.Sections.{repeated}
+use Rattle.gw_map.specs.Sections.{repeated, repeat_complaints}
+use Rattle.gw_entries.specs.Complaints.{Complaint}
 use Rattle.gw_entries.specs.Setup.{StationSetup, OutstationSetup, RowFields, ControlFields}
 use Rattle.gw_entries.specs.Fields.{row_fields, control_fields}
 use Rattle.gw_entries.specs.Ranges.{IsWithin}
@@ -108,6 +109,10 @@ control_object control = record { common_address = control.common_address; addre
 abbrev pub objects_of : List Row → List Control → List ObjectKey
 objects_of rows controls = map row_object rows ++ map control_object controls
 
+-- the complaints of what stands twice
+abbrev pub repeats_in : Setup → List Complaint
+repeats_in s = repeat_complaints (map (λ row. row.key) s.rows) (map row_object s.rows) (map control_object s.controls)
+
 -- no two rows have one point
 abbrev pub HasSingleSources : List Row → Type 0
 HasSingleSources rows = repeated same_key 0 [] (map (λ row. row.key) rows) ≡ []
@@ -123,11 +128,14 @@ pub record IsKept (points : List (PointKey × Row)) (controls : List Control) (o
   pub sources : HasSingleSources (values_of points)
   pub single : HasSingleAddresses (values_of points) controls
 
--- the known addresses are in their range, and each point's and each control's is one of them
-pub record IsKnowing (station : StationSetup) (outstations : List OutstationSetup) (rows : List Row)
-    (controls : List Control) (addresses : List ℕ) : Type 0 where
+-- these are the known addresses, in their range
+pub record AreKnown (station : StationSetup) (outstations : List OutstationSetup) (addresses : List ℕ) : Type 0 where
   pub known : addresses ≡ known_in station outstations
   pub within : AllByRecursion (IsWithin 1 65534) (known_in station outstations)
+
+-- each point's and each control's common address is a known one
+pub record AreUnderKnown (station : StationSetup) (outstations : List OutstationSetup) (rows : List Row)
+    (controls : List Control) : Type 0 where
   pub each_row : AllByRecursion
       (λ (row : Row). IsTrue (is_among (known_in station outstations) row.common_address)) rows
   pub each_control : AllByRecursion

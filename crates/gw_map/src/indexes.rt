@@ -1,25 +1,26 @@
 //! The indexes of the settings: points by their source, and points and controls by their information object.
-ghost use Rattle.std.specs.Prelude.{◌≡◌, length, map, codes};
+ghost use Rattle.std.specs.Prelude.{◌≡◌, length, map, codes, IfOk};
+ghost use Rattle.std.specs.List.{AllByRecursion};
 ghost use Rattle.gw_entries.specs.Answers.{Tells};
 ghost use Rattle.gw_map.specs.Answers.{Adds};
 ghost use Rattle.gw_entries.specs.Complaints.{complaint};
 ghost use Rattle.gw_map.specs.Sections.{double_sources, double_addresses};
 ghost use Rattle.gw_entries.specs.Faults.{refusal_of};
 ghost use Rattle.gw_entries.specs.Faults.{refused};
-ghost use Rattle.gw_map.specs.Settings.{row_object, control_object, objects_of};
+ghost use Rattle.gw_entries.specs.Ranges.{IsWithin};
+ghost use Rattle.gw_map.specs.Settings.{row_object, control_object, objects_of, repeats_in, known_addresses};
 ghost use Rattle.gw_entries.specs.declared.fault.Fault.TheVariants.{DoubleAddress};
 ghost use Rattle.gw_entries.specs.declared.fault.Section.TheVariants as of;
 
+use crate::common_addresses::known_addresses;
+use crate::sections::Sections;
 use gw_entries::{Control, Fault, KeyFault, Row, Section, SettingsFault};
 use gw_model::{ObjectKey, PointKey};
 use indexmap::{IndexMap, IndexSet};
 use std::alloc::Global;
 
 /// The rows by their points, in order. The first row whose point has a row before is refused.
-pub(crate) fn point_map(
-    alloc: Global,
-    rows: &[Row],
-) -> Result<IndexMap<PointKey, Row>, SettingsFault>
+fn point_map(alloc: Global, rows: &[Row]) -> Result<IndexMap<PointKey, Row>, SettingsFault>
     ensures { Tells (λ points. points.entries) result (double_sources (map (λ row. row.key) rows.now))
         (map (λ row. (row.key, row)) rows.now) }
 {
@@ -83,7 +84,7 @@ fn add_control_addresses(
 }
 
 /// The information objects of the points, then of the controls. The first that stood before is refused.
-pub(crate) fn address_index(
+fn address_index(
     alloc: Global,
     rows: &[Row],
     controls: &[Control],
@@ -96,4 +97,36 @@ pub(crate) fn address_index(
     add_addresses(&mut addresses, rows)?;
     add_control_addresses(&mut addresses, controls)?;
     Ok(addresses)
+}
+
+/// The indexes of sections.
+#[derive(Drop)]
+pub(crate) struct Indexes {
+    /// The rows by their points.
+    pub(crate) points: IndexMap<PointKey, Row>,
+    /// The information objects of the points, then of the controls.
+    pub(crate) addresses: IndexSet<ObjectKey>,
+    /// The common addresses that clients may use.
+    pub(crate) known: Vec<u16>,
+}
+
+impl Indexes {
+    /// Those of sections. The first point or control whose source or information object stood before is refused.
+    pub(crate) fn of(alloc: Global, sections: &Sections) -> Result<Indexes, SettingsFault>
+        ensures points { Tells (λ indexes. indexes.points.entries) result (repeats_in sections.now)
+            (map (λ row. (row.key, row)) sections.now.rows) }
+        ensures addresses { IfOk result (λ indexes. indexes.addresses.keys
+            ≡ objects_of sections.now.rows sections.now.controls) }
+        ensures known { IfOk result (λ indexes. indexes.known.items ≡ known_addresses sections.now) }
+        ensures within { IfOk result (λ indexes. AllByRecursion (IsWithin 1 65534) indexes.known.items) }
+    {
+        let known = known_addresses(alloc, &sections.station, &sections.outstations)?;
+        let points = point_map(alloc, &sections.rows)?;
+        let addresses = address_index(alloc, &sections.rows, &sections.controls)?;
+        Ok(Indexes {
+            points,
+            addresses,
+            known,
+        })
+    }
 }

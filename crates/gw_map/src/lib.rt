@@ -6,6 +6,7 @@ mod defaults;
 pub mod examples;
 mod indexes;
 mod lists;
+mod sections;
 mod settings;
 
 pub use defaults::DEFAULT_SETTINGS;

@@ -12,10 +12,9 @@ ghost use Rattle.gw_map.specs.Meaning.{setup_of, reading_of};
 ghost use Rattle.gw_entries.specs.Ranges.{IsStation, IsWithin};
 ghost use Rattle.gw_map.specs.Settings.{setup_fields, station_clocks, known_addresses, is_known, row_from, row_at_from, control_at_from, HasSingleSources, HasSingleAddresses};
 
-use crate::common_addresses::known_addresses;
-use crate::indexes::{address_index, point_map};
-use crate::lists::{OUTSTATIONS, ROWS, entries_in, station_in};
-use gw_entries::{Control, Outstation, Row, Section, SettingsFault, Station, check_keys};
+use crate::indexes::Indexes;
+use crate::sections::Sections;
+use gw_entries::{Control, Outstation, Row, SettingsFault, Station};
 use gw_model::{ObjectKey, PointKey};
 use gw_time::Zone;
 use indexmap::{IndexMap, IndexSet};
@@ -38,7 +37,7 @@ pub struct Settings {
 
 impl Model for Settings {
     ghost use Rattle.std.specs.Map.{values_of};
-    ghost use Rattle.gw_map.specs.Settings.{Setup, IsKept, IsKnowing};
+    ghost use Rattle.gw_map.specs.Settings.{Setup, IsKept, AreKnown, AreUnderKnown};
 
     ghost Value = { Setup };
 
@@ -50,7 +49,8 @@ impl Model for Settings {
     } };
 
     ghost invariant = { λ s. IsKept s.points.entries s.controls.items s.addresses.keys
-        × IsKnowing s.station s.outstations.items (values_of s.points.entries) s.controls.items s.known.items };
+        × AreKnown s.station s.outstations.items s.known.items
+        × AreUnderKnown s.station s.outstations.items (values_of s.points.entries) s.controls.items };
 }
 
 impl fmt::Debug for Settings {
@@ -75,36 +75,15 @@ impl Settings {
     fn from_table(alloc: Global, top: &Table) -> Result<Settings, SettingsFault>
         ensures { Tells setup_fields result (complaints_of (table_view top.now)) (setup_of (table_view top.now)) }
     {
-        check_keys(alloc, top, Section::Top, 0)?;
-        let station = station_in(alloc, top)?;
-        let outstations: Vec<Outstation> = entries_in(
-            alloc,
-            top,
-            Section::Outstation,
-            OUTSTATIONS,
-            &station,
-            &[],
-        )?;
-        let rows: Vec<Row> = entries_in(alloc, top, Section::Point, ROWS, &station, &outstations)?;
-        let room = ROWS.saturating_sub(rows.len());
-        let controls: Vec<Control> = entries_in(
-            alloc,
-            top,
-            Section::Control,
-            room,
-            &station,
-            &outstations,
-        )?;
-        let points = point_map(alloc, &rows)?;
-        let addresses = address_index(alloc, &rows, &controls)?;
-        let known = known_addresses(alloc, &station, &outstations)?;
+        let sections = Sections::read(alloc, top)?;
+        let indexes = Indexes::of(alloc, &sections)?;
         Ok(Settings {
-            station,
-            outstations,
-            points,
-            controls,
-            addresses,
-            known,
+            station: sections.station,
+            outstations: sections.outstations,
+            points: indexes.points,
+            controls: sections.controls,
+            addresses: indexes.addresses,
+            known: indexes.known,
         })
     }
 

@@ -3,7 +3,7 @@ use Rattle.std.proofs.lemmas.List.{map-append}
 use Rattle.toml.specs.Data.{as_table}
 use Rattle.toml.specs.View.{view, table_view}
 use Rattle.gw_map.specs.Answers.{seen}
-use Rattle.gw_map.proofs.Sections.{after-none, one_more_table, no_more_tables, all_tables}
+use Rattle.gw_map.proofs.Listed.{after-none, one_more_table, no_more_tables, all_tables}
 use Rattle.gw_map.proofs.lists.as_tables.Goals as goal
 
 pub loop-value-init : goal.loop-value-init

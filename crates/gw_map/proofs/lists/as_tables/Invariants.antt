@@ -3,7 +3,7 @@ use Rattle.std.proofs.Common.{◌≡◌, drop}
 use Rattle.toml.specs.View.{items_view}
 use Rattle.gw_map.specs.Answers.{seen}
 use Rattle.gw_map.specs.Sections.{tables_of}
-use Rattle.gw_map.proofs.Sections.{after}
+use Rattle.gw_map.proofs.Listed.{after}
 use Rattle.gw_map.proofs.lists.as_tables.Given as goal
 
 abbrev pub invariant-loop-value : goal.invariant-loop-value

@@ -1,5 +1,5 @@
 use Rattle.std.proofs.Common.{sym}
-use Rattle.gw_map.proofs.Sections.{station_missing, station_no_table, station_table}
+use Rattle.gw_map.proofs.Listed.{station_missing, station_no_table, station_table}
 use Rattle.gw_entries.proofs.Told.{tells_first}
 use Rattle.gw_map.proofs.lists.station_in.Goals as goal
 

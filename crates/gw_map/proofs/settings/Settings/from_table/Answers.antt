@@ -1,176 +1,61 @@
-use Rattle.std.proofs.Common.{◌≡◌, length, map, codes, sym, ap, ◌∙◌}
+use Rattle.std.proofs.Common.{◌≡◌, List, map, sym, ap, ◌∙◌}
 use Rattle.std.specs.Map.{values_of}
 use Rattle.std.proofs.lemmas.Result.{err_from_is_err_and}
 use Rattle.toml.specs.View.{table_view}
-use Rattle.gw_map.specs.Sections.{entries, section_complaints}
-use Rattle.gw_entries.specs.Fields.{row_fields}
-use Rattle.gw_entries.specs.Values.{row_of}
-use Rattle.gw_map.proofs.Known.{rows_known, controls_known}
-use Rattle.gw_map.proofs.Repeats.{map-nothing}
+use Rattle.gw_entries.specs.declared.row.Row.{Row}
 use Rattle.gw_entries.proofs.Told.{told_front}
-use Rattle.gw_map.specs.Settings.{objects_of, known_in}
-use Rattle.gw_map.proofs.Whole.{same_length, same_keys, same_objects, same_control_objects, outstations_read, kept_values}
+use Rattle.gw_map.specs.Settings.{SetupFields, setup_fields, objects_of}
+use Rattle.gw_map.proofs.Repeats.{map-nothing, nothing_twice}
+use Rattle.gw_map.proofs.Whole.{kept_values, repeats_read}
 use Rattle.gw_map.proofs.settings.Settings.from_table.Goals as goal
 
-pub returns-in_err-check_keys : goal.returns-in_err-check_keys
-unfolding section_complaints
-returns-in_err-check_keys c =
+pub returns-in_err-sections : goal.returns-in_err-sections
+returns-in_err-sections c =
     let p = err_from_is_err_and c.from_residual.result c.from_residual.ensures.1 in
-    rw (p.1, p.2) (told_front _ _ _ c.in_err-check_keys.ensures)
+    rw (p.1, p.2) (told_front _ _ _ c.in_err-sections.ensures)
 
-pub returns-in_err-station : goal.returns-in_err-station
-unfolding section_complaints
-returns-in_err-station c =
-    let p = err_from_is_err_and c.from_residual-in_err-station.result c.from_residual-in_err-station.ensures.1 in
-    rw (p.1, p.2) (rw c.in_ok-check_keys.ensures (told_front _ _ _ c.in_err-station.ensures))
-
-pub returns-in_err-outstations : goal.returns-in_err-outstations
-unfolding section_complaints
-returns-in_err-outstations c =
-    let p =
-    err_from_is_err_and c.from_residual-in_err-outstations.result c.from_residual-in_err-outstations.ensures.1 in
+pub returns-in_err-indexes : goal.returns-in_err-indexes
+returns-in_err-indexes c =
+    let p = err_from_is_err_and c.from_residual-in_err-indexes.result c.from_residual-in_err-indexes.ensures.1 in
     rw (p.1, p.2)
-    (rw (c.in_ok-check_keys.ensures, c.in_ok-station.ensures.0) (told_front _ _ _ c.in_err-outstations.ensures.read))
-
-pub returns-in_err-rows : goal.returns-in_err-rows
-unfolding section_complaints
-returns-in_err-rows c =
-    let read = outstations_read (table_view c.args.top.now) _ _ _ c.in_ok-station.ensures.1
-    c.in_ok-outstations.ensures.few c.in_ok-outstations.outstations.ok.0 c.in_ok-outstations.ensures.read.1 in
-    let p = err_from_is_err_and c.from_residual-in_err-rows.result c.from_residual-in_err-rows.ensures.1 in
-    rw (p.1, p.2) (rw (
-      c.in_ok-check_keys.ensures,
-      c.in_ok-station.ensures.0,
-      c.in_ok-outstations.ensures.read.0,
-    ) (told_front _ _ _ (rw (c.deref.ensures.value, read.counted) at c.in_err-rows.ensures.read)))
-
-pub returns-in_err-controls : goal.returns-in_err-controls
-unfolding section_complaints
-returns-in_err-controls c =
-    let read = outstations_read (table_view c.args.top.now) _ _ _ c.in_ok-station.ensures.1
-    c.in_ok-outstations.ensures.few c.in_ok-outstations.outstations.ok.0 c.in_ok-outstations.ensures.read.1 in
-    let m : c.len.result ≡ length (entries (codes "point") (table_view c.args.top.now)) =
-    same_length _ row_fields (row_of c.deref.result.now) _ _ (c.len.ensures ∙ c.in_ok-rows.rows.ok.0)
-    c.in_ok-rows.ensures.read.1 in
-    let p = err_from_is_err_and c.from_residual-in_err-controls.result c.from_residual-in_err-controls.ensures.1 in
-    rw (p.1, p.2) (rw (
-      c.in_ok-check_keys.ensures,
-      c.in_ok-station.ensures.0,
-      c.in_ok-outstations.ensures.read.0,
-      (rw (c.deref.ensures.value, read.counted) at c.in_ok-rows.ensures.read.0),
-      ← m,
-      ← c.saturating_sub-room.ensures,
-    ) (told_front _ _ _ (rw (c.deref-2.ensures.value, read.counted) at c.in_err-controls.ensures.read)))
-
-pub returns-in_err-points : goal.returns-in_err-points
-unfolding section_complaints
-returns-in_err-points c =
-    let read = outstations_read (table_view c.args.top.now) _ _ _ c.in_ok-station.ensures.1
-    c.in_ok-outstations.ensures.few c.in_ok-outstations.outstations.ok.0 c.in_ok-outstations.ensures.read.1 in
-    let m : c.len.result ≡ length (entries (codes "point") (table_view c.args.top.now)) =
-    same_length _ row_fields (row_of c.deref.result.now) _ _ (c.len.ensures ∙ c.in_ok-rows.rows.ok.0)
-    c.in_ok-rows.ensures.read.1 in
-    let k = same_keys _ _ _ _ c.deref-3.ensures.value c.in_ok-rows.ensures.read.1 in
-    let p = err_from_is_err_and c.from_residual-in_err-points.result c.from_residual-in_err-points.ensures.1 in
-    rw (p.1, p.2) (rw (
-      c.in_ok-check_keys.ensures,
-      c.in_ok-station.ensures.0,
-      c.in_ok-outstations.ensures.read.0,
-      (rw (c.deref.ensures.value, read.counted) at c.in_ok-rows.ensures.read.0),
-      ← m,
-      ← c.saturating_sub-room.ensures,
-      (rw (c.deref-2.ensures.value, read.counted) at c.in_ok-controls.ensures.read.0),
-      ← k,
-    ) (told_front _ _ _ c.in_err-points.ensures))
-
-pub returns-in_err-addresses : goal.returns-in_err-addresses
-unfolding section_complaints
-returns-in_err-addresses c =
-    let read = outstations_read (table_view c.args.top.now) _ _ _ c.in_ok-station.ensures.1
-    c.in_ok-outstations.ensures.few c.in_ok-outstations.outstations.ok.0 c.in_ok-outstations.ensures.read.1 in
-    let m : c.len.result ≡ length (entries (codes "point") (table_view c.args.top.now)) =
-    same_length _ row_fields (row_of c.deref.result.now) _ _ (c.len.ensures ∙ c.in_ok-rows.rows.ok.0)
-    c.in_ok-rows.ensures.read.1 in
-    let k = same_keys _ _ _ _ c.deref-3.ensures.value c.in_ok-rows.ensures.read.1 in
-    let rows = rw (c.deref.ensures.value, read.meant) at c.in_ok-rows.ensures.read.1 in
-    let controls = rw (c.deref-2.ensures.value, read.meant) at c.in_ok-controls.ensures.read.1 in
-    let a = same_objects _ _ _ _ c.deref-4.ensures.value rows in
-    let b = same_control_objects _ _ _ _ c.deref-5.ensures.value controls in
-    let p = err_from_is_err_and c.from_residual-in_err-addresses.result c.from_residual-in_err-addresses.ensures.1 in
-    rw (p.1, p.2) (rw (
-      c.in_ok-check_keys.ensures,
-      c.in_ok-station.ensures.0,
-      c.in_ok-outstations.ensures.read.0,
-      (rw (c.deref.ensures.value, read.counted) at c.in_ok-rows.ensures.read.0),
-      ← m,
-      ← c.saturating_sub-room.ensures,
-      (rw (c.deref-2.ensures.value, read.counted) at c.in_ok-controls.ensures.read.0),
-      ← k,
-      c.in_ok-points.ensures.0,
-      ← a,
-      ← b,
-    ) c.in_err-addresses.ensures)
+    (rw (
+      c.in_ok-sections.ensures.0,
+      ← repeats_read (table_view c.args.top.now) c.in_ok-sections.sections c.in_ok-sections.ensures.1,
+    ) c.in_err-indexes.ensures.points)
 
 pub invariant_of-result : goal.invariant_of-result
 invariant_of-result c =
-    let values : values_of c.in_ok-points.points.entries ≡ c.deref-3.result.now =
-    kept_values _ _ c.in_ok-points.ensures.1 in
-    let rows : values_of c.in_ok-points.points.entries ≡ c.deref-4.result.now =
-    values ∙ c.deref-3.ensures.value ∙ sym c.deref-4.ensures.value in
-    let known : c.in_ok-known.known.items
-    ≡ known_in c.in_ok-station.station c.in_ok-outstations.outstations.items =
-    c.in_ok-known.ensures.known ∙ ap (known_in c.in_ok-station.station) c.deref-6.ensures.value in (
+    let rows = c.sections.inside.rows.items in
+    let controls = c.sections.inside.controls.items in
+    let indexed = rw (← c.sections.view_is) at c.in_ok-indexes.ensures in
+    let values : values_of c.in_ok-indexes.indexes.points.entries ≡ rows = kept_values _ _ indexed.points.1 in
+    let once = nothing_twice _ _ indexed.points.0 in (
       record {
-        keyed = c.in_ok-points.ensures.1 ∙ ap (map (λ row. (row.key, row))) (sym values);
-        addressed = c.in_ok-addresses.ensures.1 ∙ ap (λ rows. objects_of rows c.deref-5.result.now) (sym rows)
-            ∙ ap (objects_of _) c.deref-5.ensures.value;
-        sources = rw values (map-nothing _ _ c.in_ok-points.ensures.0);
-        single = rw (rows, ← c.deref-5.ensures.value) (map-nothing _ _ c.in_ok-addresses.ensures.0);
+        keyed = indexed.points.1 ∙ ap (map (λ row. (row.key, row))) (sym values);
+        addressed = indexed.addresses ∙ ap (λ (rows : _). objects_of rows controls) (sym values);
+        sources = rw values (map-nothing _ _ once.0);
+        single = rw values (map-nothing _ _ once.1);
       },
-      record {
-        known = known;
-        within = rw known at c.in_ok-known.ensures.within;
-        each_row = rw (values ∙ c.deref-3.ensures.value) (rows_known c.in_ok-station.station
-            c.in_ok-outstations.outstations.items c.in_ok-rows.rows.items _
-            (rw c.deref.ensures.value at c.in_ok-rows.ensures.read.1));
-        each_control = controls_known c.in_ok-station.station c.in_ok-outstations.outstations.items
-            c.in_ok-controls.controls.items _ (rw c.deref-2.ensures.value at c.in_ok-controls.ensures.read.1);
-      },
+      record { known = indexed.known; within = rw indexed.known at indexed.within },
+      record { each_row = rw values c.sections.invariant.each_row; each_control = c.sections.invariant.each_control },
     )
 
 pub returns : goal.returns
-unfolding section_complaints
 returns c =
-    let read = outstations_read (table_view c.args.top.now) _ _ _ c.in_ok-station.ensures.1
-    c.in_ok-outstations.ensures.few c.in_ok-outstations.outstations.ok.0 c.in_ok-outstations.ensures.read.1 in
-    let m : c.len.result ≡ length (entries (codes "point") (table_view c.args.top.now)) =
-    same_length _ row_fields (row_of c.deref.result.now) _ _ (c.len.ensures ∙ c.in_ok-rows.rows.ok.0)
-    c.in_ok-rows.ensures.read.1 in
-    let k = same_keys _ _ _ _ c.deref-3.ensures.value c.in_ok-rows.ensures.read.1 in
-    let rows = rw (c.deref.ensures.value, read.meant) at c.in_ok-rows.ensures.read.1 in
-    let controls = rw (c.deref-2.ensures.value, read.meant) at c.in_ok-controls.ensures.read.1 in
-    let a = same_objects _ _ _ _ c.deref-4.ensures.value rows in
-    let b = same_control_objects _ _ _ _ c.deref-5.ensures.value controls in
-    let values : values_of c.in_ok-points.points.entries ≡ c.deref-3.result.now =
-    kept_values _ _ c.in_ok-points.ensures.1 in (
+    let top = table_view c.args.top.now in
+    let indexed = rw (← c.sections.view_is) at c.in_ok-indexes.ensures in
+    let values : values_of c.in_ok-indexes.indexes.points.entries ≡ c.sections.inside.rows.items =
+    kept_values _ _ indexed.points.1 in
+    let fields : (rows : List Row) → SetupFields = λ rows. setup_fields (record {
+      station = c.sections.inside.station;
+      outstations = c.sections.inside.outstations.items;
+      rows = rows;
+      controls = c.sections.inside.controls.items;
+    }) in (
       rw (
-        c.in_ok-check_keys.ensures,
-        c.in_ok-station.ensures.0,
-        c.in_ok-outstations.ensures.read.0,
-        (rw (c.deref.ensures.value, read.counted) at c.in_ok-rows.ensures.read.0),
-        ← m,
-        ← c.saturating_sub-room.ensures,
-        (rw (c.deref-2.ensures.value, read.counted) at c.in_ok-controls.ensures.read.0),
-        ← k,
-        c.in_ok-points.ensures.0,
-        ← a,
-        ← b,
-        c.in_ok-addresses.ensures.0,
+        c.in_ok-sections.ensures.0,
+        ← repeats_read top c.in_ok-sections.sections c.in_ok-sections.ensures.1,
+        c.in_ok-indexes.ensures.points.0,
       ),
-      λ i. record {
-        station = c.in_ok-station.ensures.1 i;
-        outstations = read.meant i;
-        rows = (ap (map row_fields) (values ∙ c.deref-3.ensures.value) ∙ rows) i;
-        controls = controls i;
-      },
+      ap fields values ∙ ap setup_fields c.sections.view_is ∙ c.in_ok-sections.ensures.1,
     )
