@@ -10,6 +10,7 @@ use Rattle.iec_apci.specs.declared.apdu.Asdu.{Asdu}
 use Rattle.iec_apci.specs.declared.apdu.Signal.{Signal}
 use Rattle.iec_apci.specs.declared.apdu.Signal.TheVariants.{StartAct, StartCon, StopAct, StopCon, TestAct, TestCon}
 use Rattle.iec_apci.specs.Apdu.{confirmation_of}
+use Rattle.iec_window.specs.Counts.{WindowCounts}
 use Rattle.iec_command.specs.declared.command.Command.{Command}
 use Rattle.iec_command.specs.declared.command.Action.{Action}
 use Rattle.iec_command.specs.declared.command.Action.TheVariants as actions
@@ -20,12 +21,13 @@ use Rattle.gw_judge.specs.declared.judging.Judged.TheVariants.{Malformed, Refuse
 use Rattle.gw_answers.specs.declared.outgoing.AsduAnswer.{AsduAnswer}
 use Rattle.gw_answers.specs.declared.outgoing.AsduAnswer.TheVariants.{Made}
 use Rattle.gw_answers.specs.declared.outgoing.OwnAsdu.TheVariants as outgoing
-use Rattle.gw_answers.specs.Interrogations.{is_accepted_act}
-use Rattle.gw_answers.specs.Answers.{places_for, refused_act, shown_at, answered_action, answered}
+use Rattle.gw_answers.specs.declared.outgoing.OwnAsdu.{OwnAsdu}
+use Rattle.gw_answers.specs.Interrogations.{is_accepted_act, is_general}
+use Rattle.gw_answers.specs.Answers.{places_for, refused_act, shown_at, answered_action, answered, command_by, control_command}
 use Rattle.gw_station.specs.declared.event.Why.TheVariants.{Flooded}
-use Rattle.gw_station.specs.Client.{Client}
-use Rattle.gw_station.specs.Answers.{is_pending, answers_with, client_judging, places, places_taken}
-use Rattle.gw_station.specs.Frames.{floods, closes_judged, confirmations_with}
+use Rattle.gw_station.specs.Client.{Client, is_started}
+use Rattle.gw_station.specs.Answers.{is_asking, is_pending, answers_with, client_judging, older_with, places, places_taken, rest_with}
+use Rattle.gw_station.specs.Frames.{floods, closes_judged, confirmations_with, event_taking, HasPlace}
 use Rattle.gw_station.proofs.Opens.{open_i}
 
 -- ---- nothing closes
@@ -66,10 +68,11 @@ refused_needs setup pending c = elim (cases_Bool (is_accepted_act pending c)) [
   | inr refused ↦ rw refused (at_least_one (is_execute c))
 ]
 
--- a read is no interrogation
-read_is_none : (pending : Bool) (c : Command) → c.action ≡ actions.Read → is_accepted_act pending c ≡ false
-read_is_none pending c e = elim (cases_Bool (c.cause == 6)) [
-  | inl is ↦ rw (is, e) refl
+-- what asks for one point is no interrogation
+not_general : (pending : Bool) (c : Command) (action : Action) → c.action ≡ action → is_general action ≡ false
+    → is_accepted_act pending c ≡ false
+not_general pending c action e single = elim (cases_Bool (c.cause == 6)) [
+  | inl is ↦ rw (is, e, single) refl
   | inr isnt ↦ rw isnt refl
 ]
 
@@ -77,7 +80,7 @@ read_needs : (pending : Bool) (c : Command) (shown : Option Observation) → c.a
     → IfSome (option_map (λ x. Made (outgoing.Observation 5 c.originator x)) shown)
     (λ _. 1 ≤ places_for pending (Accepted c))
 read_needs pending c None e = tt
-read_needs pending c (Some x) e = rw (read_is_none pending c e) (at_least_one (is_execute c))
+read_needs pending c (Some x) e = rw (not_general pending c actions.Read e refl) (at_least_one (is_execute c))
 
 action_needs : (setup : Setup) (picture : List Observation) (pending : Bool) (c : Command) (action : Action)
     → c.action ≡ action
@@ -110,3 +113,39 @@ answers_few setup picture ns nr asdu j c taken =
     ltb-false places (places_taken c + places_for (is_pending c.rest) j) (open_i ns nr j c taken).places in
     let answer = answered setup picture (is_pending c.rest) asdu j in
     omega (arith, fits, answers_within answer c.answers _ (answered_needs setup picture (is_pending c.rest) asdu j))
+
+-- ---- commands for controls
+
+-- one is no interrogation, and isn't answered at once
+placed : (setup : Setup) (picture : List Observation) (k : Client) (window : WindowCounts) (older : ℕ)
+    (rest : List OwnAsdu) (c : Command) (action : Action)
+    → c.action ≡ action → is_started k.stage ≡ true
+    → places_taken k + places_for (is_pending k.rest) (Accepted c) ≤ places
+    → HasPlace (event_taking (control_command c action)) (record k {
+      window = window;
+      answers = answers_with (answered_action setup picture (is_pending k.rest) c action) k.answers;
+      older = older;
+      rest = rest;
+    })
+placed setup picture k window older rest c (actions.Single x) e started fits =
+    (started, rw (not_general (is_pending k.rest) c (actions.Single x) e refl) at fits)
+placed setup picture k window older rest c (actions.Double x) e started fits =
+    (started, rw (not_general (is_pending k.rest) c (actions.Double x) e refl) at fits)
+placed setup picture k window older rest c (actions.Setpoint x) e started fits =
+    (started, rw (not_general (is_pending k.rest) c (actions.Setpoint x) e refl) at fits)
+placed setup picture k window older rest c (actions.Interrogation qualifier) e started fits = tt
+placed setup picture k window older rest c (actions.CounterInterrogation qualifier) e started fits = tt
+placed setup picture k window older rest c actions.Read e started fits = tt
+
+-- its answer finds a place, and two where it is to be executed
+pub has_place : (setup : Setup) (picture : List Observation) (ns nr : ℕ) (asdu : Asdu) (j : Judged) (k : Client)
+    (window : WindowCounts)
+    → first_of (closes_judged ns nr j k) ≡ None
+    → HasPlace (event_taking (command_by j)) (record (client_judging setup picture asdu j k) { window = window })
+has_place setup picture ns nr asdu Malformed k window taken = tt
+has_place setup picture ns nr asdu (Refuse cause execute) k window taken = tt
+has_place setup picture ns nr asdu (Accepted c) k window taken =
+    let admits = open_i ns nr (Accepted c) k taken in
+    placed setup picture k window (older_with (Accepted c) (is_asking (Accepted c) k) k)
+    (rest_with setup picture (Accepted c) (is_asking (Accepted c) k) k) c c.action refl admits.started
+    (ltb-false places (places_taken k + places_for (is_pending k.rest) (Accepted c)) admits.places)

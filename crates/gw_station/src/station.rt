@@ -140,6 +140,8 @@ impl Station {
     pub fn copy_over(&self, spare: Station) -> Result<Station, Memory>
         ensures { IfOk result (λ copy. copy ≡ self.now) }
     {
+        // Nothing of its answer is used.
+        drop(spare.rest);
         let window = self.window.copy_over(spare.window)?;
         let confirmations = refilled(spare.confirmations, &self.confirmations, MOST_CONFIRMATIONS)?;
         let answers = refilled(spare.answers, &self.answers, MOST_ANSWERS)?;
