@@ -9,7 +9,7 @@ use Rattle.gw_steps.specs.State.{Hub, State}
 use Rattle.gw_steps.specs.Steps.{Allowed}
 use Rattle.gw_record.specs.declared.entry.Entry.{Entry}
 use Rattle.gw_record.specs.Recorded.{replayed, state_following, IsReplay}
-use Rattle.gw_record.specs.Recording.{Recording, Replays, Tape, rolled, call_of, tape_on, tape_with}
+use Rattle.gw_record.specs.Recording.{Replays, Tape, call_of, tape_with}
 
 -- what a step leads to
 pub following : (setup : Setup) (s : State) (step : Step) (reply : Result Reply StepFault) (new : State)
@@ -49,11 +49,3 @@ replays-push (Some tape) old new counts actor step reply replays allowed setup =
           (subst (λ (s : State). Allowed base so_far step reply s) leads there),
       leads ∙ sym (replayed-push base tape.base.state tape.entries e),
     )
-
--- the recorder began anew at the hub
-pub replays-rolled : (old : Recording) (hub : Hub) → Replays (rolled old hub).tape hub
-replays-rolled old hub = go old.tape
-  where
-    go : (tape : Option Tape) → Replays (option_map (λ (t : Tape). tape_on hub old.counts t.capacity) tape) hub
-    go None = tt
-    go (Some tape) = (refl, tt, refl)

@@ -15,7 +15,7 @@ use Rattle.gw_threads.specs.Written.{Asking, GivesTo, IsGivenTo, IsPumped, IsPut
 use Rattle.gw_threads.specs.declared.worker_end.WorkerEnd.{WorkerEnd}
 use Rattle.gw_threads.specs.declared.worker_end.WorkerEnd.TheVariants as ends
 use Rattle.gw_threads.proofs.Carried.{pumped_carries}
-use Rattle.gw_threads.proofs.Runs.{appends-more, appends-none}
+use Rattle.gw_threads.proofs.Runs.{appends-more}
 use Rattle.gw_threads.specs.declared.putting.Put.{Put}
 use Rattle.gw_threads.specs.declared.putting.Put.TheVariants.{Ended, Unwritten, More}
 
@@ -75,9 +75,6 @@ all-append : (client : ℕ) (a b : List ApduBuf) → AllByRecursion (IsPutOut cl
     → AllByRecursion (IsPutOut client) b → AllByRecursion (IsPutOut client) (a ++ b)
 all-append client [] b first more = more
 all-append client (x ∷ a) b first more = (first.0, all-append client a b first.1 more)
-
-pub wrote-first : (client : ℕ) (x : Option (List ℕ)) → Wrote client x x
-wrote-first client x = record { apdus = []; each = tt; taken = appends-none x }
 
 pub wrote-then : (client : ℕ) (x y z : Option (List ℕ)) → Wrote client x y → Wrote client y z → Wrote client x z
 wrote-then client x y z first more = record {
