@@ -87,7 +87,7 @@ pub fn run<H: Host>(
     }
 }
 
-/// Reads the settings file, and serves.
+/// Reads the settings file, listens, and serves.
 fn serve_file<H: Host>(
     rt: &HostRuntime,
     host: &H,
@@ -95,66 +95,97 @@ fn serve_file<H: Host>(
     sessions: Option<u32>,
     asked: &RunOptions,
 ) -> Result<Closed, Unserved> {
-    let octets = read_file(rt.alloc(), rt, file)?;
-    let settings = read_settings(rt.alloc(), octets.as_slice())?;
-    let started = started(rt.alloc(), file, octets.as_slice(), &settings)?;
-    serve_settings(rt, host, settings, started, sessions, asked)
-}
-
-/// Listens, and serves.
-fn serve_settings<H: Host>(
-    rt: &HostRuntime,
-    host: &H,
-    settings: Settings,
-    started: JournalEvent,
-    sessions: Option<u32>,
-    asked: &RunOptions,
-) -> Result<Closed, Unserved> {
-    let allow = networks_of(rt.alloc(), &asked.allow)?;
-    let status = status_listener(host, asked.status)?;
-    let Ok(listener) = open(host, &settings) else {
-        return Err(Unserved::Listen);
-    };
-    let options = Options {
-        version: VERSION,
-        sessions,
-        allow: &allow,
-        until_eof: asked.until_eof.then_some(rt.stdin()),
-        status: status.as_ref(),
-    };
-    serve_on(rt, host, settings, started, &listener, options, asked)
-}
-
-/// Tells that the gateway starts, and serves on a listener.
-fn serve_on<H: Host>(
-    rt: &HostRuntime,
-    host: &H,
-    settings: Settings,
-    started: JournalEvent,
-    listener: &TcpListener,
-    options: Options<'_>,
-    asked: &RunOptions,
-) -> Result<Closed, Unserved> {
-    let journal = journal_of(rt.alloc(), &settings, is_journal(rt))?;
+    let (settings, source) = read_source(rt, file)?;
     let clock = SystemClock::new(host);
-    let wall = clock.wall();
-    journal.tell(host, wall, started);
-    tell_doubts(rt.alloc(), host, &journal, wall, &settings)?;
+    let (entrances, journal) = begin(rt, host, &clock, &settings, source, asked)?;
     let site = Site {
         alloc: rt.alloc(),
         host,
-        listener,
-        options,
+        listener: &entrances.listener,
+        options: Options {
+            version: VERSION,
+            sessions,
+            allow: &entrances.allow,
+            until_eof: asked.until_eof.then_some(rt.stdin()),
+            status: entrances.status.as_ref(),
+        },
         journal: &journal,
         clock: &clock,
     };
-    match asked.record {
-        Some(path) => {
-            let files = record_files(rt, path)?;
-            site.serve_recorded(settings, files, u64::from(asked.record_size))
+    site.serve_asked(rt, settings, asked)
+}
+
+/// Listens, and begins the journal.
+fn begin<H: Host>(
+    rt: &HostRuntime,
+    host: &H,
+    clock: &SystemClock<'_, H>,
+    settings: &Settings,
+    source: Source<'_>,
+    asked: &RunOptions,
+) -> Result<(Entrances, Journal), Unserved> {
+    let entrances = Entrances::open(rt.alloc(), host, settings, asked)?;
+    let journal = begun_journal(rt, host, clock, settings, source)?;
+    Ok((entrances, journal))
+}
+
+/// A settings file: its name, and the SHA-256 of its octets.
+#[derive(Clone, Copy)]
+struct Source<'a> {
+    file: &'a str,
+    digest: [u8; 32],
+}
+
+/// The settings of a file.
+fn read_source<'a>(rt: &HostRuntime, file: &'a str) -> Result<(Settings, Source<'a>), Unserved> {
+    let octets = read_file(rt.alloc(), rt, file)?;
+    let settings = read_settings(rt.alloc(), octets.as_slice())?;
+    let digest = Sha256::digest(octets.as_slice());
+    Ok((settings, Source { file, digest }))
+}
+
+/// Where connections are accepted, and from whom.
+#[derive(Drop)]
+struct Entrances {
+    allow: Vec<Network>,
+    status: Option<TcpListener>,
+    listener: TcpListener,
+}
+
+impl Entrances {
+    /// Listens for control centres, and for those who ask for the status.
+    fn open<H: Host>(
+        alloc: Global,
+        host: &H,
+        settings: &Settings,
+        asked: &RunOptions,
+    ) -> Result<Entrances, Unserved> {
+        let allow = networks_of(alloc, &asked.allow)?;
+        let status = status_listener(host, asked.status)?;
+        match open(host, settings) {
+            Ok(listener) => Ok(Entrances {
+                allow,
+                status,
+                listener,
+            }),
+            Err(_) => Err(Unserved::Listen),
         }
-        None => Ok(site.serve(settings, &OpenGate)?),
     }
+}
+
+/// The journal, which is told that the gateway starts.
+fn begun_journal<H: Host>(
+    rt: &HostRuntime,
+    host: &H,
+    clock: &SystemClock<'_, H>,
+    settings: &Settings,
+    source: Source<'_>,
+) -> Result<Journal, Unserved> {
+    let journal = journal_of(rt.alloc(), settings, is_journal(rt))?;
+    let wall = clock.wall();
+    journal.tell(host, wall, started(rt.alloc(), settings, source)?);
+    tell_doubts(rt.alloc(), host, &journal, wall, settings)?;
+    Ok(journal)
 }
 
 /// The files of a record: that of the steps, and that of the replies.
@@ -178,6 +209,22 @@ struct Site<'a, H> {
 }
 
 impl<'a, H: Host> Site<'a, H> {
+    /// Serves, and takes each step down where that is asked for.
+    fn serve_asked(
+        &self,
+        rt: &HostRuntime,
+        settings: Settings,
+        asked: &RunOptions,
+    ) -> Result<Closed, Unserved> {
+        match asked.record {
+            Some(path) => {
+                let files = record_files(rt, path)?;
+                self.serve_recorded(settings, files, u64::from(asked.record_size))
+            }
+            None => Ok(self.serve(settings, &OpenGate)?),
+        }
+    }
+
     /// Serves, with a gate.
     fn serve<G: Gate + Sync>(&self, settings: Settings, gate: &G) -> Result<Closed, Memory> {
         serve_as(
@@ -262,17 +309,16 @@ fn is_journal(rt: &HostRuntime) -> bool {
     env::var(rt, "JOURNAL_STREAM").is_ok()
 }
 
-/// That the gateway starts, with this settings file and its octets.
+/// That the gateway starts, with the settings of a file.
 fn started(
     alloc: Global,
-    file: &str,
-    octets: &[u8],
     settings: &Settings,
+    source: Source<'_>,
 ) -> Result<JournalEvent, AllocError> {
     Ok(JournalEvent::Started {
         version: VERSION,
-        file: String::from_str(alloc, file)?,
-        digest: Sha256::digest(octets),
+        file: String::from_str(alloc, source.file)?,
+        digest: source.digest,
         rows: settings.rows().len(),
         controls: settings.controls().len(),
         outstations: settings.outstations().len(),

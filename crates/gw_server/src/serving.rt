@@ -11,7 +11,7 @@ use gw_connections::{ANY_TIME, Closed, Gate, Host, House, Hub, Pass, Shared, loo
 use gw_journal::{Journal, JournalEvent};
 use gw_map::Settings;
 use gw_model::Memory;
-use gw_peers::{Board, Desk, Lobby, accept, plans_of};
+use gw_peers::{Board, Desk, Lobby, Plan, accept, plans_of};
 use std::alloc::Global;
 use std::io;
 use std::marker::Brand;
@@ -80,7 +80,7 @@ pub fn serve_as<R: Host, C: Clock + Sync, G: Gate + Sync>(
     clock: &C,
     gate: &G,
 ) -> Result<Closed, Memory> {
-    let plans = plans_of(alloc, &settings)?;
+    let (plans, board) = plans_and_board(alloc, &settings)?;
     let site = Site {
         door: options.door(listener),
         plans: &plans,
@@ -88,7 +88,6 @@ pub fn serve_as<R: Host, C: Clock + Sync, G: Gate + Sync>(
         status: options.status,
         started: clock.wall(),
     };
-    let board = Board::new(alloc, usize::from(site.outstations()), CLIENTS)?;
     let desk = Desk {
         alloc,
         rt,
@@ -99,6 +98,13 @@ pub fn serve_as<R: Host, C: Clock + Sync, G: Gate + Sync>(
     let opening = Opening::of(alloc, settings, site.outstations())?;
     let blank = Blank::new(opening.actors as u64);
     serve_with::<Brand, R, C, G>(&desk, &site, blank, opening, gate)
+}
+
+/// The ways to the outstations, and a board with a card for each of them and for each client.
+fn plans_and_board(alloc: Global, settings: &Settings) -> Result<(Vec<Plan>, Board), Memory> {
+    let plans = plans_of(alloc, settings)?;
+    let board = Board::new(alloc, plans.len(), CLIENTS)?;
+    Ok((plans, board))
 }
 
 /// What a shared core is made of.

@@ -64,10 +64,6 @@ all-append : (P : ApduBuf → Type 0) (a b : List ApduBuf) → AllByRecursion P 
 all-append P [] b first more = more
 all-append P (x ∷ a) b first more = (first.0, all-append P a b first.1 more)
 
--- no APDU yet
-pub pumped-first : (client : ℕ) (octets : List ℕ) → ArePumped client octets octets
-pumped-first client octets = record { apdus = []; pumped = tt; octets = sym (append-nil octets) }
-
 -- one more
 pub pumped_one : (client : ℕ) (x y z : List ℕ) (apdu : ApduBuf) → ArePumped client x y
     → IsPumped client (Ok (Apdu apdu))

@@ -1,8 +1,8 @@
 //! What lies under the lock.
-ghost use Rattle.std.specs.Prelude.{◌≡◌, ◌+◌, ◌<◌, ◌≤◌, false, IfOk};
+ghost use Rattle.std.specs.Prelude.{◌≡◌, ◌+◌, ◌<◌, ◌≤◌, Some, false, replicate, IfOk};
 ghost use Rattle.gw_steps.specs.Sound.{IsSoundState};
 ghost use Rattle.gw_steps.specs.Steps.{Allowed};
-ghost use Rattle.gw_record.specs.Recording.{is_tape_full, noted};
+ghost use Rattle.gw_record.specs.Recording.{is_tape_full, noted, tape_on};
 ghost use Rattle.gw_shared.specs.Pumping.{GoesOn, IsPumpedNext, IsPumpedRun, MayGoOn};
 ghost use Rattle.gw_shared.specs.Turn.{last_call, Answers, IsMadeReady, Steps};
 
@@ -52,6 +52,22 @@ impl<L: Ledger> Model for Core<L> {
         × (sum c.recorder.counts ≡ c.made) × Replays c.recorder.tape c.hub };
 }
 
+/// The recorder of a hub on which no call was made, and what becomes of orders.
+fn records_of(
+    alloc: Global,
+    hub: &Hub,
+    actors: usize,
+    capacity: usize,
+) -> Result<(Recorder, Fates), Memory>
+    requires { 0 < capacity }
+    ensures counts { IfOk result (λ records. records.0.counts ≡ replicate actors 0) }
+    ensures tape { IfOk result (λ records. records.0.tape ≡ Some (tape_on hub.now (replicate actors 0) capacity)) }
+{
+    let fates = Fates::new(alloc)?;
+    let recorder = Recorder::new(alloc, hub, actors, capacity)?;
+    Ok((recorder, fates))
+}
+
 impl<L: Ledger> Core<L> {
     /// A core on which no call was made.
     pub fn new(
@@ -67,8 +83,7 @@ impl<L: Ledger> Core<L> {
         ensures hub { IfOk result (λ core. core.hub ≡ hub) }
         ensures made { IfOk result (λ core. core.made ≡ 0) }
     {
-        let fates = Fates::new(alloc)?;
-        let recorder = Recorder::new(alloc, &hub, actors, capacity)?;
+        let (recorder, fates) = records_of(alloc, &hub, actors, capacity)?;
         Ok(Core {
             hub,
             recorder,

@@ -67,6 +67,22 @@ fn passes<L: Ledger>(alloc: Global, share: Share<L>, actors: usize) -> Result<Ve
     Ok(passes)
 }
 
+/// A pass for each actor, and the bells of those who serve.
+fn passes_and_bells<L: Ledger>(
+    alloc: Global,
+    share: Share<L>,
+    actors: usize,
+) -> Result<(Vec<Pass<L>>, Bells), Memory>
+    requires parts { (share.parts ≡ L.parts) × (share.parts ≡ actors) }
+    requires amount { share.amount ≡ 0 }
+    requires some { 0 < actors }
+    ensures { IfOk result (λ made. made.0.items ≡ map unused (range_with_len 0 actors)) }
+{
+    let passes = passes(alloc, share, actors)?;
+    let bells = Bells::new(alloc)?;
+    Ok((passes, bells))
+}
+
 impl<L: Ledger> Shared<L> {
     /// A hub under its lock, for so many actors; the recorder keeps `capacity` calls at most. Gives a pass for each
     /// actor too, by their positions.
@@ -85,8 +101,7 @@ impl<L: Ledger> Shared<L> {
             ≡ map unused (range_with_len 0 actors)) }
     {
         let (book, share) = blank.open::<L>();
-        let passes = passes(alloc, share, actors)?;
-        let bells = Bells::new(alloc)?;
+        let (passes, bells) = passes_and_bells(alloc, share, actors)?;
         let core = Core::new(alloc, hub, book, actors, capacity)?;
         let shared = Shared {
             actors,
