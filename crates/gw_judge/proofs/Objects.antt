@@ -1,5 +1,5 @@
 -- A command's object is found where it is there.
-use Rattle.std.proofs.Common.{◌≡◌, ℕ, ◌+◌, true, not, List, [], ◌∷◌, ◌++◌, length, map, Option, Some, None, refl, ap, ◌∙◌}
+use Rattle.std.proofs.Common.{◌≡◌, ℕ, ◌+◌, true, not, List, [], ◌++◌, length, map, Option, Some, None, refl, ap, ◌∙◌}
 use Rattle.std.specs.Prelude.{◌≢◌, Any}
 use Rattle.std.proofs.lemmas.Bool.{eqb-true, eq-eqb}
 use Rattle.std.proofs.lemmas.List.{append-nil}
@@ -16,7 +16,7 @@ use Rattle.gw_model.specs.declared.point.ObjectKey.{ObjectKey}
 use Rattle.gw_model.specs.Keys.{same_object}
 use Rattle.gw_map.specs.Sections.{repeated}
 use Rattle.gw_map.specs.Settings.{Setup, row_object, control_object, row_at_from, control_at_from, HasSingleAddresses}
-use Rattle.gw_map.proofs.Repeats.{repeated-append}
+use Rattle.gw_map.proofs.Repeats.{nil_parts, repeated-append}
 use Rattle.iec_command.specs.declared.command.Action.{Action}
 use Rattle.iec_command.specs.declared.command.Action.TheVariants.{Single, Double, Setpoint, Interrogation, CounterInterrogation, Read}
 use Rattle.iec_command.specs.declared.command.SingleCommand.{SingleCommand}
@@ -56,10 +56,6 @@ row_found rows controls object single any =
 
 -- ---- a control
 
-right_empty : (xs ys : List ℕ) → xs ++ ys ≡ [] → ys ≡ []
-right_empty [] ys h = h
-right_empty (x ∷ xs) ys h = absurd cc
-
 -- no control is of the object of a row or of a control before it
 controls_single : (rows : List Row) (controls : List Control) → HasSingleAddresses rows controls
     → let front = map row_object rows in
@@ -67,7 +63,7 @@ controls_single : (rows : List Row) (controls : List Control) → HasSingleAddre
 controls_single rows controls single =
     let front = map row_object rows in
     let apart = repeated-append same_object 0 [] front (map control_object controls) in
-    rw append-nil (right_empty (repeated same_object 0 [] front) _ (rw apart at single))
+    rw append-nil (nil_parts (repeated same_object 0 [] front) _ (rw apart at single)).1
 
 module _ (action : Action) (IsSo : Operates → Type 0) where
   abbrev IsControl : Control → Type 0

@@ -17,7 +17,7 @@ use Rattle.gw_model.specs.declared.point.ObjectKey.{ObjectKey}
 use Rattle.gw_model.specs.Keys.{same_key, same_object}
 use Rattle.gw_model.proofs.Same.{same_object-true}
 use Rattle.gw_entries.specs.declared.row.Row.{Row}
-use Rattle.gw_map.proofs.Repeats.{repeated-append, key_of, key_eq}
+use Rattle.gw_map.proofs.Repeats.{nil_parts, repeated-append, key_of, key_eq}
 
 no_some : {A : Type 0} (x : A) → Some x ≡ None → ⊥
 no_some x e = cc
@@ -124,17 +124,13 @@ clean f a n m old (y ∷ ys) h there =
           (any_more (same_object a) (f y) old there))
     ]
 
-right_empty : {A : Type 0} (xs ys : List A) → xs ++ ys ≡ [] → ys ≡ []
-right_empty [] ys h = h
-right_empty (x ∷ xs) ys h = absurd cc
-
 pub only_in_front : {A : Type 0} (f : A → ObjectKey) (a : ObjectKey) (i : ℕ) (front : List ObjectKey) (ys : List A)
     → repeated same_object 0 [] (front ++ map f ys) ≡ []
     → position_from (same_object a) 0 (front ++ map f ys) ≡ Some i → i < length front
     → first_from (λ y. same_object a (f y)) 0 ys ≡ None
 only_in_front f a i front ys single found lt =
     clean f a (0 + length front) 0 front ys
-    (right_empty (repeated same_object 0 [] front) _ (rw (repeated-append same_object 0 [] front (map f ys)) at single))
+    (nil_parts (repeated same_object 0 [] front) _ (rw (repeated-append same_object 0 [] front (map f ys)) at single)).1
     (found_in (same_object a) 0 i front (map f ys) found (omega arith))
 
 -- ---- in terms of positions

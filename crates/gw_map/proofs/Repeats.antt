@@ -162,7 +162,7 @@ pub map-nothing : {A B : Type 0} (f : A → B) (xs : List A) → map f xs ≡ []
 map-nothing f [] h = refl
 map-nothing f (x ∷ xs) h = absurd cc
 
--- nothing stands twice at all
-pub nothing_twice : {A : Type 0} (xs ys : List A) → xs ++ ys ≡ [] → (xs ≡ []) × (ys ≡ [])
-nothing_twice [] ys e = (refl, e)
-nothing_twice (x ∷ xs) ys e = absurd cc
+-- nothing in two parts
+pub nil_parts : {A : Type 0} (xs ys : List A) → xs ++ ys ≡ [] → (xs ≡ []) × (ys ≡ [])
+nil_parts [] ys e = (refl, e)
+nil_parts (x ∷ xs) ys e = absurd cc

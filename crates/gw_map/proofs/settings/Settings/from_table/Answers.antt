@@ -5,7 +5,7 @@ use Rattle.toml.specs.View.{table_view}
 use Rattle.gw_entries.specs.declared.row.Row.{Row}
 use Rattle.gw_entries.proofs.Told.{told_front}
 use Rattle.gw_map.specs.Settings.{SetupFields, setup_fields, objects_of}
-use Rattle.gw_map.proofs.Repeats.{map-nothing, nothing_twice}
+use Rattle.gw_map.proofs.Repeats.{map-nothing, nil_parts}
 use Rattle.gw_map.proofs.Whole.{kept_values, repeats_read}
 use Rattle.gw_map.proofs.settings.Settings.from_table.Goals as goal
 
@@ -29,7 +29,7 @@ invariant_of-result c =
     let controls = c.sections.inside.controls.items in
     let indexed = rw (← c.sections.view_is) at c.in_ok-indexes.ensures in
     let values : values_of c.in_ok-indexes.indexes.points.entries ≡ rows = kept_values _ _ indexed.points.1 in
-    let once = nothing_twice _ _ indexed.points.0 in (
+    let once = nil_parts _ _ indexed.points.0 in (
       record {
         keyed = indexed.points.1 ∙ ap (map (λ row. (row.key, row))) (sym values);
         addressed = indexed.addresses ∙ ap (λ (rows : _). objects_of rows controls) (sym values);
