@@ -15,7 +15,7 @@ use crate::task::Task;
 use gw_model::Poll;
 
 /// The tasks that are due, and the moments from which the two periods run.
-#[derive(Clone, Copy, Debug, PartialEq, Eq)]
+#[derive(Clone, Copy)]
 pub struct DueTasks {
     pub clear_restart: bool,
     /// The time to be written, where it was recorded.

@@ -8,7 +8,7 @@ use dnp_app::Operation;
 use gw_model::{Ended, Order, Poll};
 
 /// A request that awaits its answer, or the next fragment of it.
-#[derive(Clone, Copy, Debug, PartialEq, Eq)]
+#[derive(Clone, Copy)]
 pub struct Awaited {
     pub task: Task,
     /// The sequence number of the next fragment of the answer.
@@ -29,7 +29,7 @@ impl Awaited {
 }
 
 /// What goes on between the master and an outstation.
-#[derive(Clone, Copy, Debug, PartialEq, Eq)]
+#[derive(Clone, Copy)]
 pub enum Exchange {
     /// No request awaits its answer.
     Idle,

@@ -4,7 +4,7 @@ ghost use Rattle.dnp_master.specs.Master.{no_indications};
 ghost use Rattle.dnp_master.specs.Fragments.{indications_of};
 
 /// The internal indications that the master acts on.
-#[derive(Clone, Copy, Debug, PartialEq, Eq)]
+#[derive(Clone, Copy)]
 pub struct Indications {
     /// Events of class 1, 2 or 3 wait: IIN1.1 to IIN1.3.
     pub events: bool,

@@ -7,7 +7,7 @@ use std::marker::Model;
 const MOST: usize = 2048;
 
 /// The octets of a response. They need no memory of their own.
-#[derive(Debug, Drop)]
+#[derive(Drop)]
 pub struct KeptOctets {
     octets: [u8; MOST],
     len: usize,

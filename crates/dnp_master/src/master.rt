@@ -45,7 +45,7 @@ use std::marker::Model;
 
 /// The master towards one outstation (IEEE Std 1815, clause 4). It takes no memory. Moments are in milliseconds; an
 /// interval that would begin after it ended counts as 0.
-#[derive(Debug, Drop)]
+#[derive(Drop)]
 pub struct Master {
     poll: Poll,
     up: bool,

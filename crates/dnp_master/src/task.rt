@@ -10,7 +10,7 @@ use dnp_app::{
 use gw_model::{Ended, Order};
 
 /// A task of the master towards one outstation. Times are wall times in milliseconds since 1970 in UTC.
-#[derive(Clone, Copy, Debug, PartialEq, Eq)]
+#[derive(Clone, Copy)]
 pub enum Task {
     /// Clears the internal indication of a restart.
     ClearRestart,

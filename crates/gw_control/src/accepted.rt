@@ -7,7 +7,7 @@ use gw_model::Order;
 use iec_command::Command;
 
 /// An execute that was accepted, with its order.
-#[derive(Clone, Copy, Debug)]
+#[derive(Clone, Copy)]
 pub struct Accepted {
     pub order: Order,
     /// Whose it is, in which session.
@@ -31,7 +31,7 @@ impl Accepted {
 }
 
 /// An accepted execute whose order is under way to its outstation.
-#[derive(Clone, Copy, Debug)]
+#[derive(Clone, Copy)]
 pub struct UnderWay {
     pub accepted: Accepted,
     /// Its session has ended, so its outcome is told nobody.

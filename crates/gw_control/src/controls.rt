@@ -48,7 +48,7 @@ const CLIENTS: usize = 8;
 
 /// The clients' selections of controls, and their orders on the way to outstations. Only `new`, `copy` and `copy_over`
 /// take memory. Moments are in milliseconds; an interval that would begin after it ended counts as 0.
-#[derive(Debug, Drop)]
+#[derive(Drop)]
 pub struct Controls {
     /// For each client the session that stands, where a control was selected in it.
     sessions: [Option<u64>; CLIENTS],

@@ -15,7 +15,7 @@ use std::marker::Model;
 pub const MOST_WAITING: usize = 16;
 
 /// The orders that wait for an outstation, and the one that is under way to it.
-#[derive(Debug, Drop)]
+#[derive(Drop)]
 pub struct Outgoing {
     /// Oldest first.
     waiting: VecDeque<Accepted>,

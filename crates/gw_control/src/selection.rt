@@ -6,7 +6,7 @@ use crate::asked::AskedCommand;
 use iec_command::Action;
 
 /// A client's selection of a control.
-#[derive(Clone, Copy, Debug)]
+#[derive(Clone, Copy)]
 pub struct Selection {
     pub client: u8,
     pub session: u64,

@@ -8,7 +8,7 @@ use std::marker::Model;
 use std::sync::Arc;
 
 /// Settings, which never change, so that copies share them.
-#[derive(Debug, Drop)]
+#[derive(Drop)]
 pub struct Common {
     settings: Arc<Settings>,
 }

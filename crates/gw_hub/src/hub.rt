@@ -43,7 +43,7 @@ mod queries;
 
 /// Outstations and clients, and what goes from one to the other. It makes one step at a time, and
 /// waits for nobody.
-#[derive(Debug, Drop)]
+#[derive(Drop)]
 pub struct Hub {
     alloc: Global,
     settings: Common,
@@ -100,8 +100,8 @@ impl Hub {
         let _rows = settings.rows();
         let _station = settings.station();
         attest_indices(settings.controls());
-        let parts = Parts::after(alloc, &settings, &counts)?;
         let common = Common::new(alloc, settings)?;
+        let parts = Parts::after(alloc, common.get(), &counts)?;
         let counts = Tally::new(&counts);
         Ok(Hub {
             alloc,

@@ -19,7 +19,7 @@ pub struct Counts {
 }
 
 /// The steps that were made without a fault, the news, and the sessions of all clients.
-#[derive(Debug, Drop)]
+#[derive(Drop)]
 pub struct Tally {
     steps: u64,
     news: u64,

@@ -25,7 +25,7 @@ use std::alloc::Global;
 use std::marker::Model;
 
 /// For each client its station, and the last news, for all of them.
-#[derive(Debug, Drop)]
+#[derive(Drop)]
 pub struct Clients {
     news: NewsRing,
     stations: Vec<Station>,

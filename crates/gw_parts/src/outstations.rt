@@ -18,7 +18,7 @@ use std::alloc::Global;
 use std::marker::Model;
 
 /// The master towards each outstation.
-#[derive(Debug, Drop)]
+#[derive(Drop)]
 pub struct Outstations {
     masters: Vec<Master>,
 }

@@ -20,7 +20,7 @@ use std::alloc::Global;
 use std::marker::Model;
 
 /// For each row of the point map its value and quality as last shown, without a time.
-#[derive(Debug, Drop)]
+#[derive(Drop)]
 pub struct Picture {
     shown: Vec<Observation>,
 }

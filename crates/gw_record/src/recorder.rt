@@ -13,7 +13,7 @@ use std::marker::Model;
 
 /// Counts the calls of each actor, and keeps the last ones on a tape: a hub as it was, and the calls since. Once memory
 /// was refused for a new base it is off for good, and counts alone.
-#[derive(Debug, Drop)]
+#[derive(Drop)]
 pub struct Recorder {
     counts: Vec<u64>,
     tape: Option<Tape>,
@@ -110,7 +110,7 @@ impl Recorder {
         ensures { self.new ≡ recording_off self.old }
     {
         let NoRoom { cause: _ } = refused;
-        self.tape = None;
+        drop(self.tape.take());
     }
 
     /// What it keeps; none where it is off.

@@ -10,7 +10,7 @@ use std::marker::Model;
 use std::mem;
 
 /// A hub as it was, how many calls each actor had made then, and the calls since.
-#[derive(Debug, Drop)]
+#[derive(Drop)]
 pub struct Tape {
     alloc: Global,
     capacity: usize,

@@ -5,7 +5,7 @@ ghost use Rattle.gw_station.specs.Ring.{dropped_in, first_waiting, news_from, ol
 use crate::ring::NewsRing;
 
 /// Where a client of a session stands in the news, by their numbers.
-#[derive(Clone, Copy, Debug)]
+#[derive(Clone, Copy)]
 pub struct Cursor {
     /// The first that it wasn't given. Those before the oldest that is kept are dropped.
     pub first: u64,

@@ -23,7 +23,7 @@ use std::sync::ArcSlice;
 const COMMANDS: usize = 2;
 
 /// The parts of an answer that aren't put out yet.
-#[derive(Debug, Drop)]
+#[derive(Drop)]
 pub struct PartsLeft {
     /// The answer, a section for each common address, as long as a part of it is left. Copies share it, for it never
     /// changes.

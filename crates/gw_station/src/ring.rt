@@ -10,7 +10,7 @@ use std::marker::Model;
 
 /// The last news, as many as may wait for a client, and how many there were. Each has as its number how many came
 /// before it.
-#[derive(Debug, Drop)]
+#[derive(Drop)]
 pub struct NewsRing {
     news: HeapCircularBuffer<Observation>,
     /// The number of the next.

@@ -54,7 +54,7 @@ const MOST_CONFIRMATIONS: usize = 32;
 const MOST_ANSWERS: usize = 32;
 
 /// A client's connection, and what is to be put out to it.
-#[derive(Debug, Drop)]
+#[derive(Drop)]
 pub struct Station {
     alloc: Global,
     stage: Stage,

@@ -1,7 +1,7 @@
 //! The parameters of a connection.
 
 /// The parameters k, w, t1, t2 and t3 of a connection (IEC 60870-5-104, 5.1, 5.2 and 5.5).
-#[derive(Clone, Copy, Debug)]
+#[derive(Clone, Copy)]
 pub struct Limits {
     /// How many I formats may be sent before one is acknowledged.
     pub k: u16,

@@ -22,7 +22,7 @@ const NUMBERS: u64 = 32_768;
 ///
 /// Moments are milliseconds of any clock. A moment that lies before an earlier one is taken as it is:
 /// no time has passed then.
-#[derive(Debug, Drop)]
+#[derive(Drop)]
 pub struct Window {
     limits: Limits,
     // I formats sent: how many are acknowledged, and when each of the others was sent, the oldest first.
