@@ -1,5 +1,6 @@
 //! iec_asdu: each bit of the information elements alone, as IEC 60870-5-101, 7.2.6, numbers them, the most objects, and
 //! what one ASDU carries of a list.
+use crate::checks::{same, same_list};
 use gw_model::{Observation, Quality, Stamp, Value};
 use gw_time::Zone;
 use iec_asdu::{AsduFault, read_monitor, write_monitor};
@@ -167,10 +168,10 @@ fn check_read(
     count: u8,
 ) -> Result<(), Fail> {
     let observations = read(rt.alloc(), asdu)?;
-    assert_eq!(rt; observations.len(), usize::from(count), "{asdu:?}");
+    same(rt, &observations.len(), &usize::from(count));
     for (found, place) in observations.iter().zip(0..count) {
         let address = 200_704 + u32::from(place);
-        assert_eq!(rt; *found, Observation { address, ..first }, "{asdu:?}");
+        same(rt, found, &Observation { address, ..first });
     }
     Ok(())
 }
@@ -179,8 +180,8 @@ fn check_read(
 fn check_written(rt: &impl Abort, observation: Observation, asdu: &[u8]) {
     let mut out = [0xAA; 249];
     let written = write_monitor(&[observation], 3, &Zone::UTC, &mut out);
-    assert_eq!(rt; written.taken, 1);
-    assert_eq!(rt; out[..written.octets], *asdu);
+    same(rt, &written.taken, &1);
+    same_list(rt, &out[..written.octets], asdu);
 }
 
 fn read(alloc: Global, asdu: &[u8]) -> Result<Vec<Observation>, Fail> {
@@ -219,14 +220,16 @@ fn check_rows(
 fn each_bit(rt: HostRuntime) -> Result<(), Fail> {
     check_rows(&rt, ELEMENTS, true, true)?;
     check_rows(&rt, WITHOUT_BIT, true, false)?;
-    check_rows(&rt, PASSED_OVER, false, true)?;
+    check_rows(&rt, PASSED_OVER, false, true)
+}
+
+#[test]
+fn reserved_bits(rt: HostRuntime) -> Result<(), Fail> {
     for (identification, front, bits) in RESERVED {
         for bit in *bits {
             let asdu = asdu_of(rt.alloc(), *identification, 1, front, *bit)?;
-            match read_monitor(rt.alloc(), &asdu, &Zone::UTC) {
-                Ok(_) => assert!(rt; false, "{asdu:?}"),
-                Err(fault) => assert_eq!(rt; fault, AsduFault::Reserved, "{asdu:?}"),
-            }
+            let fault = read_monitor(rt.alloc(), &asdu, &Zone::UTC).err();
+            same(&rt, &fault, &Some(AsduFault::Reserved));
         }
     }
     Ok(())
@@ -336,9 +339,9 @@ fn check_carried(
     let written = write_monitor(list, 3, &Zone::UTC, &mut out);
     let asdu = &out[..written.octets];
     let found = read(rt.alloc(), asdu)?;
-    assert_eq!(rt; out[1], qualifier);
-    assert_eq!(rt; written.taken, usize::from(qualifier % 128));
-    assert_eq!(rt; found.as_slice(), &list[..written.taken]);
+    same(rt, &out[1], &qualifier);
+    same(rt, &written.taken, &usize::from(qualifier % 128));
+    same_list(rt, found.as_slice(), &list[..written.taken]);
     Ok(Vec::from_slice(rt.alloc(), asdu)?)
 }
 
@@ -368,7 +371,7 @@ fn fullest(rt: HostRuntime) -> Result<(), Fail> {
             for (qualifier, consecutive, step) in [(*in_sequence, 128, 1), (*apart, 1, 2)] {
                 let asdu = asdu_at(rt.alloc(), *identification, qualifier, front, *last, step)?;
                 let written = check_carried(&rt, &list_of(first, consecutive), qualifier)?;
-                assert_eq!(&rt; written, asdu);
+                same(&rt, &written, &asdu);
             }
         }
     }
@@ -400,7 +403,7 @@ fn prefixes(rt: HostRuntime) -> Result<(), Fail> {
         let list = list_of(first, *consecutive);
         let part = list.get(..*count).unwrap_or(&[]);
         let written = check_carried(&rt, part, *qualifier)?;
-        assert_eq!(&rt; written.get(1).copied(), Some(*qualifier));
+        same(&rt, &written.get(1).copied(), &Some(*qualifier));
     }
     Ok(())
 }

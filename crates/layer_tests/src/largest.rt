@@ -2,6 +2,7 @@
 //! from a limit of the code.
 ghost use Rattle.std.specs.Prelude.{◌≤◌, length};
 
+use crate::checks::{same, same_list};
 use dnp_app::Response;
 use dnp_link::laws::events_of;
 use dnp_link::{LinkEvent, LinkFeed, SkipReason, write_frame};
@@ -43,7 +44,7 @@ fn check_part(
     match (found.last(), told.last()) {
         (Some(header), Some(report)) => {
             let counts = (found.len(), header.count, told.len(), report.key.index);
-            assert_eq!(rt; counts, wanted);
+            same(rt, &counts, &wanted);
         }
         _ => assert!(rt; false),
     }
@@ -55,7 +56,7 @@ fn check_part(
 fn most_headers(rt: HostRuntime) -> Result<(), Fail> {
     let mut part = repeated(rt.alloc(), b"", b"\x33\x02\x07\x00", 510)?;
     part.extend_from_slice(b"\x02\x01\x17\x02\x05\x81\x06\x81")?;
-    assert_eq!(rt; part.len(), 2048);
+    same(&rt, &part.len(), &2048);
     check_part(&rt, &part, (511, 2, 2, 6))
 }
 
@@ -126,13 +127,13 @@ fn check_stream(
     pieces: &[&[u8]],
     fragment: &[u8],
 ) -> Result<(), Fail> {
-    assert_eq!(rt; count_events(rt.alloc(), pieces)?, 682);
-    assert_eq!(rt; count_fragments(rt.alloc(), pieces)?, 27);
+    same(rt, &count_events(rt.alloc(), pieces)?, &682);
+    same(rt, &count_fragments(rt.alloc(), pieces)?, &27);
     let responses = read_responses(rt.alloc(), pieces)?;
-    assert_eq!(rt; responses.len(), 27);
+    same(rt, &responses.len(), &27);
     for response in &responses {
-        assert_eq!(rt; response.octets(), fragment);
-        assert_eq!(rt; response.reports().len(), 16_296);
+        same_list(rt, response.octets(), fragment);
+        same(rt, &response.reports().len(), &16_296);
     }
     Ok(())
 }
@@ -144,7 +145,7 @@ fn long_stream(
 ) -> Result<Vec<u8>, Fail> {
     let mut stream = stream_of(rt.alloc(), fragment, 27)?;
     stream.extend_from_slice(&[0; 439])?;
-    assert_eq!(rt; stream.len(), 65_536);
+    same(rt, &stream.len(), &65_536);
     Ok(stream)
 }
 
@@ -171,7 +172,7 @@ fn many_largest_responses(rt: HostRuntime) -> Result<(), Fail> {
 fn a_large_piece_of_a_link(rt: HostRuntime) -> Result<(), Fail> {
     let stream = long_stream(&rt, &largest_fragment())?;
     let piece = repeated(rt.alloc(), b"", &stream, 16)?;
-    assert_eq!(rt; count_events(rt.alloc(), &[&piece])?, 10_912);
+    same(&rt, &count_events(rt.alloc(), &[&piece])?, &10_912);
     Ok(())
 }
 
@@ -180,7 +181,7 @@ fn count_in_fragment(rt: &(impl Abort + AllocGlobal), fragment: &[u8]) -> Result
     requires { length fragment.now ≤ 2048 }
 {
     let stream = framed(rt.alloc(), fragment)?;
-    assert_eq!(rt; count_fragments(rt.alloc(), &[&stream])?, 1);
+    same(rt, &count_fragments(rt.alloc(), &[&stream])?, &1);
     Ok(read_responses(rt.alloc(), &[&stream])?.len())
 }
 
@@ -188,15 +189,17 @@ fn count_in_fragment(rt: &(impl Abort + AllocGlobal), fragment: &[u8]) -> Result
 /// without its octets. The same with the octets of the object is a response.
 #[test]
 fn refused_fragments(rt: HostRuntime) -> Result<(), Fail> {
-    assert_eq!(rt; count_in_fragment(&rt, b"\xC0\x81\0")?, 0);
-    assert_eq!(rt; count_in_fragment(&rt, b"\xC0\x01\x3C\x02\x06")?, 0);
-    assert_eq!(rt;
-        count_in_fragment(&rt, b"\xC0\x81\0\0\x02\x01\x17\x01\x05")?,
-        0
+    same(&rt, &count_in_fragment(&rt, b"\xC0\x81\0")?, &0);
+    same(&rt, &count_in_fragment(&rt, b"\xC0\x01\x3C\x02\x06")?, &0);
+    same(
+        &rt,
+        &count_in_fragment(&rt, b"\xC0\x81\0\0\x02\x01\x17\x01\x05")?,
+        &0,
     );
-    assert_eq!(rt;
-        count_in_fragment(&rt, b"\xC0\x81\0\0\x02\x01\x17\x01\x05\x81")?,
-        1
+    same(
+        &rt,
+        &count_in_fragment(&rt, b"\xC0\x81\0\0\x02\x01\x17\x01\x05\x81")?,
+        &1,
     );
     Ok(())
 }
@@ -214,9 +217,9 @@ fn count_in_segments(rt: &(impl Abort + AllocGlobal), carried: &[[u8; 2]]) -> Re
 #[test]
 fn dropped_segments(rt: HostRuntime) -> Result<(), Fail> {
     let alone: [[u8; 2]; 3] = [[0x85, 0xAA], [0xC6, 0xBB], [0x87, 0xCC]];
-    assert_eq!(rt; count_in_segments(&rt, &alone)?, 1);
+    same(&rt, &count_in_segments(&rt, &alone)?, &1);
     let behind_a_gap: [[u8; 2]; 3] = [[0x45, 0xAA], [0x07, 0xBB], [0x88, 0xCC]];
-    assert_eq!(rt; count_in_segments(&rt, &behind_a_gap)?, 0);
+    same(&rt, &count_in_segments(&rt, &behind_a_gap)?, &0);
     Ok(())
 }
 
@@ -235,9 +238,13 @@ fn check_events(rt: &impl Abort, feed: &mut LinkFeed) {
         assert!(rt; matches!(feed.next(), Some(LinkEvent::Frame(_))));
     }
     for _ in 0..439u16 {
-        assert_eq!(rt; feed.next(), Some(LinkEvent::Skipped(SkipReason::BadStart)));
+        same(
+            rt,
+            &feed.next(),
+            &Some(LinkEvent::Skipped(SkipReason::BadStart)),
+        );
     }
-    assert_eq!(rt; feed.next(), None);
+    same(rt, &feed.next(), &None);
 }
 
 /// All before the first event is asked for.
@@ -274,7 +281,7 @@ fn check_unfinished(rt: &impl Abort, taken: &Taken) {
 /// The fragment is finished, and is this one.
 fn check_finished(rt: &impl Abort, taken: &Taken, fragment: &[u8]) {
     match taken {
-        Taken::Fragment(found) => assert_eq!(rt; found.as_slice(), fragment),
+        Taken::Fragment(found) => same_list(rt, found.as_slice(), fragment),
         _ => assert!(rt; false),
     }
 }
@@ -305,8 +312,8 @@ fn fed(alloc: Global, front: &[u8], behind: &[u8]) -> Result<ApduFeed, Fail> {
 fn check_longest(rt: &impl Abort, feed: &mut ApduFeed) {
     match feed.next() {
         Some(Ok(Apdu::I { ns, nr, asdu })) => {
-            assert_eq!(rt; (ns, nr), (1, 2));
-            assert_eq!(rt; asdu.as_slice(), [0x11; 249].as_slice());
+            same(rt, &(ns, nr), &(1, 2));
+            same_list(rt, asdu.as_slice(), [0x11; 249].as_slice());
         }
         _ => assert!(rt; false),
     }
@@ -315,7 +322,7 @@ fn check_longest(rt: &impl Abort, feed: &mut ApduFeed) {
 /// How many APDUs pieces hold; none may end in a fault.
 fn count_apdus(rt: &(impl Abort + AllocGlobal), pieces: &[&[u8]]) -> Result<usize, Fail> {
     let (apdus, fault) = apdus_of(rt.alloc(), pieces)?;
-    assert_eq!(rt; fault, None);
+    same(rt, &fault, &None);
     Ok(apdus.len())
 }
 
@@ -331,7 +338,7 @@ fn check_all(rt: &impl Abort, feed: &mut ApduFeed, count: u16) {
     for _ in 0..count {
         check_longest(rt, feed);
     }
-    assert_eq!(rt; feed.next(), None);
+    same(rt, &feed.next(), &None);
 }
 
 /// 257 of the longest APDUs and the first octet of another in one piece, and as many again behind them.
@@ -339,7 +346,7 @@ fn check_all(rt: &impl Abort, feed: &mut ApduFeed, count: u16) {
 fn longest_apdus(rt: HostRuntime) -> Result<(), Fail> {
     let behind = longest_behind(rt.alloc())?;
     let stream = repeated(rt.alloc(), b"\x68", &behind, 1)?;
-    assert_eq!(rt; stream.len(), 65_536);
+    same(&rt, &stream.len(), &65_536);
     check_all(&rt, &mut fed(rt.alloc(), &stream, &behind)?, 514);
     Ok(())
 }
@@ -348,7 +355,7 @@ fn longest_apdus(rt: HostRuntime) -> Result<(), Fail> {
 #[test]
 fn a_large_piece_of_apdus(rt: HostRuntime) -> Result<(), Fail> {
     let piece = repeated(rt.alloc(), b"\x68", &longest_behind(rt.alloc())?, 16)?;
-    assert_eq!(rt; count_apdus(&rt, &[&piece])?, 4112);
+    same(&rt, &count_apdus(&rt, &[&piece])?, &4112);
     Ok(())
 }
 
@@ -361,7 +368,7 @@ fn count_in_hundreds(rt: &(impl Abort + AllocGlobal), stream: &[u8]) -> Result<u
 #[test]
 fn longest_apdus_in_pieces(rt: HostRuntime) -> Result<(), Fail> {
     let stream = repeated(rt.alloc(), b"\x68", &longest_behind(rt.alloc())?, 1)?;
-    assert_eq!(rt; count_in_hundreds(&rt, &stream)?, 257);
+    same(&rt, &count_in_hundreds(&rt, &stream)?, &257);
     Ok(())
 }
 

@@ -5,6 +5,8 @@
 #[cfg(test)]
 mod asdus;
 #[cfg(test)]
+mod checks;
+#[cfg(test)]
 mod largest;
 #[cfg(test)]
 mod summer_time;

@@ -1,4 +1,5 @@
 //! gw_time: time tags by rules for summer time, each with the instant that it means.
+use crate::checks::same_at;
 use gw_model::Stamp;
 use gw_time::{Zone, from_tag, to_tag};
 use jiff_tz::posix;
@@ -100,20 +101,36 @@ fn zone(offset_minutes: i16, rule: &str) -> Result<Zone, Fail> {
 fn summer_time(rt: HostRuntime) -> Result<(), Fail> {
     for (offset, rule, instant, tag) in SHOWN {
         let zone = zone(*offset, rule)?;
-        assert_eq!(rt; to_tag(Stamp::At(*instant), &zone), Some(*tag), "{instant}");
-        assert_eq!(rt; from_tag(tag, &zone), Ok(Stamp::At(*instant)), "{instant}");
+        same_at(
+            &rt,
+            &to_tag(Stamp::At(*instant), &zone),
+            &Some(*tag),
+            instant,
+        );
+        same_at(
+            &rt,
+            &from_tag(tag, &zone),
+            &Ok(Stamp::At(*instant)),
+            instant,
+        );
     }
     for (offset, rule, instant, tag) in BY_ARITHMETIC {
-        assert_eq!(rt;
-            from_tag(tag, &zone(*offset, rule)?),
-            Ok(Stamp::At(*instant)),
-            "{instant}"
+        same_at(
+            &rt,
+            &from_tag(tag, &zone(*offset, rule)?),
+            &Ok(Stamp::At(*instant)),
+            instant,
         );
     }
     for (offset, rule, instant) in WITHOUT_TAG {
         let zone = zone(*offset, rule)?;
-        assert_eq!(rt; to_tag(Stamp::At(*instant), &zone), None, "{instant}");
-        assert_eq!(rt; to_tag(Stamp::Doubtful(*instant), &zone), None, "{instant}");
+        same_at(&rt, &to_tag(Stamp::At(*instant), &zone), &None, instant);
+        same_at(
+            &rt,
+            &to_tag(Stamp::Doubtful(*instant), &zone),
+            &None,
+            instant,
+        );
     }
     Ok(())
 }

@@ -1,4 +1,5 @@
 //! The numbers and words of faults.
+use crate::checks::{same, same_text};
 use dnp_app::AppFault;
 use dnp_link::SkipReason;
 use dnp_objects::{HeaderFault, ObjectFault};
@@ -16,7 +17,7 @@ fn check_words<F: Display>(
     wanted: &str,
 ) -> Result<(), Fail> {
     let shown = format!(in rt.alloc(); "{fault}")?;
-    assert_eq!(rt; shown.as_str(), wanted);
+    same_text(rt, shown.as_str(), wanted);
     Ok(())
 }
 
@@ -75,7 +76,7 @@ const REASONS: &[(SkipReason, u8)] = &[
 ];
 
 #[test]
-fn words_of_faults(rt: HostRuntime) -> Result<(), Fail> {
+fn words_of_faults_of_fragments(rt: HostRuntime) -> Result<(), Fail> {
     for (why, text) in OBJECT_FAULTS {
         let fault = ObjectFault {
             why: *why,
@@ -86,19 +87,29 @@ fn words_of_faults(rt: HostRuntime) -> Result<(), Fail> {
     for (fault, text) in APP_FAULTS {
         check_words(&rt, fault, text)?;
     }
+    Ok(())
+}
+
+#[test]
+fn words_and_numbers_of_faults_of_apdus(rt: HostRuntime) -> Result<(), Fail> {
     for (fault, number, text) in ASDU_FAULTS {
-        assert_eq!(rt; *fault as u8, *number);
+        same(&rt, &(*fault as u8), number);
         check_words(&rt, fault, text)?;
     }
     for (fault, number, text) in APCI_FAULTS {
-        assert_eq!(rt; *fault as u8, *number);
+        same(&rt, &(*fault as u8), number);
         check_words(&rt, fault, text)?;
     }
+    Ok(())
+}
+
+#[test]
+fn words_of_faults_of_windows_and_numbers_of_reasons(rt: HostRuntime) -> Result<(), Fail> {
     for (fault, text) in WINDOW_FAULTS {
         check_words(&rt, fault, text)?;
     }
     for (why, number) in REASONS {
-        assert_eq!(rt; *why as u8, *number);
+        same(&rt, &(*why as u8), number);
     }
     Ok(())
 }

@@ -1,5 +1,6 @@
 //! Tests of the words for why a connection ended, a call to the system failed, or a fragment was refused.
 
+use crate::checks::{same, same_text};
 use dnp_app::read_response;
 use gw_journal::{Cause, Failure, Unreadable};
 use gw_station::Why;
@@ -18,7 +19,7 @@ fn check_words(
     words: &str,
 ) -> Result<(), AllocError> {
     let text = format!(in alloc; "{value}")?;
-    assert_eq!(rt; text.as_str(), words);
+    same_text(rt, text.as_str(), words);
     Ok(())
 }
 
@@ -114,17 +115,19 @@ fn failures(rt: HostRuntime) -> Result<(), Fail> {
         for (kind, words) in table {
             let failure = Failure::from(*kind);
             check_words(&rt, rt.alloc(), failure, words)?;
-            assert_eq!(rt; Failure::from_code(failure.code()), failure);
+            same(&rt, &Failure::from_code(failure.code()), &failure);
         }
     }
-    assert_eq!(rt; Failure::from_code(0), Failure::Other);
-    assert_eq!(rt;
-        Failure::of_look_up(ErrorKind::Uncategorized),
-        Failure::NoSuchHost
+    same(&rt, &Failure::from_code(0), &Failure::Other);
+    same(
+        &rt,
+        &Failure::of_look_up(ErrorKind::Uncategorized),
+        &Failure::NoSuchHost,
     );
-    assert_eq!(rt;
-        Failure::of_look_up(ErrorKind::InvalidInput),
-        Failure::NoAddress
+    same(
+        &rt,
+        &Failure::of_look_up(ErrorKind::InvalidInput),
+        &Failure::NoAddress,
     );
     Ok(())
 }

@@ -1,5 +1,6 @@
 //! Tests of the lines of commands and orders, and of the room that notes have.
 
+use crate::checks::{same, same_text};
 use crate::journal::{address, check_line};
 use dnp_app::Request;
 use gw_journal::{
@@ -171,9 +172,9 @@ fn check_fault(
     match read_command(asdu) {
         Ok(_) => assert!(rt; false),
         Err(fault) => {
-            assert_eq!(rt; fault as u8, number);
+            same(rt, &(fault as u8), &number);
             let shown = format!(in rt.alloc(); "{fault}")?;
-            assert_eq!(rt; shown.as_str(), words);
+            same_text(rt, shown.as_str(), words);
         }
     }
     Ok(())
@@ -205,16 +206,16 @@ fn left_out(rt: HostRuntime) -> Result<(), Fail> {
     for wall in 0..most + 3 {
         add(&mut waiting, wall);
     }
-    assert_eq!(rt; next_of(&mut waiting), Some((0, None)));
+    same(&rt, &next_of(&mut waiting), &Some((0, None)));
     add(&mut waiting, 9000);
     add(&mut waiting, 9001);
     for wall in 1..most {
-        assert_eq!(rt; next_of(&mut waiting), Some((wall, None)));
+        same(&rt, &next_of(&mut waiting), &Some((wall, None)));
     }
-    assert_eq!(rt; next_of(&mut waiting), Some((most + 2, Some(3))));
-    assert_eq!(rt; next_of(&mut waiting), Some((9000, None)));
-    assert_eq!(rt; next_of(&mut waiting), Some((9001, Some(1))));
-    assert_eq!(rt; next_of(&mut waiting), None);
+    same(&rt, &next_of(&mut waiting), &Some((most + 2, Some(3))));
+    same(&rt, &next_of(&mut waiting), &Some((9000, None)));
+    same(&rt, &next_of(&mut waiting), &Some((9001, Some(1))));
+    same(&rt, &next_of(&mut waiting), &None);
     Ok(())
 }
 
@@ -255,15 +256,15 @@ fn orders_left_out(rt: HostRuntime) -> Result<(), Fail> {
         add_order(&mut waiting, order);
     }
     for wall in 0..most {
-        assert_eq!(rt; next_of(&mut waiting), Some((wall, None)));
+        same(&rt, &next_of(&mut waiting), &Some((wall, None)));
     }
     add_order(&mut waiting, 9000);
     for order in 0..orders {
-        assert_eq!(rt; order_of(&mut waiting), Some(Ok(order)));
+        same(&rt, &order_of(&mut waiting), &Some(Ok(order)));
     }
-    assert_eq!(rt; order_of(&mut waiting), Some(Err(2)));
-    assert_eq!(rt; order_of(&mut waiting), Some(Ok(9000)));
-    assert_eq!(rt; next_of(&mut waiting), Some((most + 4, Some(5))));
-    assert_eq!(rt; next_of(&mut waiting), None);
+    same(&rt, &order_of(&mut waiting), &Some(Err(2)));
+    same(&rt, &order_of(&mut waiting), &Some(Ok(9000)));
+    same(&rt, &next_of(&mut waiting), &Some((most + 4, Some(5))));
+    same(&rt, &next_of(&mut waiting), &None);
     Ok(())
 }

@@ -1,5 +1,6 @@
 //! Tests of the figures of peers, and of throttles, by example.
 
+use crate::checks::{same, same_at};
 use crate::journal::{WALL, address};
 use gw_journal::{
     Cause, ClientFigures, DueNotes, Noticed, OutstationFigures, Refused, Throttle, Unreadable,
@@ -23,13 +24,13 @@ const PENDING: &[(u64, Option<u64>)] = &[(1099, None), (1100, Some(11)), (3000, 
 #[test]
 fn throttled(rt: HostRuntime) {
     let mut throttle = Throttle::new(1000);
-    assert_eq!(rt; throttle.pending(0), None);
+    same(&rt, &throttle.pending(0), &None);
     for (now, told) in ASKED {
-        assert_eq!(rt; throttle.ask(*now), *told, "at {now}");
+        same_at(&rt, &throttle.ask(*now), told, now);
     }
     throttle.add(10);
     for (now, told) in PENDING {
-        assert_eq!(rt; throttle.pending(*now), *told, "at {now}");
+        same_at(&rt, &throttle.pending(*now), told, now);
     }
 }
 
@@ -76,17 +77,18 @@ fn rising_indications(rt: HostRuntime) {
     for _ in 0..2 {
         figures.connected(WALL);
         for (indications, noticed) in INDICATIONS {
-            assert_eq!(rt;
-                figures.answered(0, WALL + 7, *indications, false, 2),
-                *noticed
+            same(
+                &rt,
+                &figures.answered(0, WALL + 7, *indications, false, 2),
+                noticed,
             );
         }
     }
     let since = (figures.connected_since, figures.last_answer);
-    assert_eq!(rt; since, (Some(WALL), Some(WALL + 7)));
-    assert_eq!(rt; (figures.indications, figures.events), (0x0880, 24));
+    same(&rt, &since, &(Some(WALL), Some(WALL + 7)));
+    same(&rt, &(figures.indications, figures.events), &(0x0880, 24));
     figures.lost();
-    assert_eq!(rt; figures.connected_since, None);
+    same(&rt, &figures.connected_since, &None);
 }
 
 /// Whether the time is written, the first octet of internal indications of the answer, and what is new then.
@@ -108,17 +110,26 @@ fn clocks(rt: HostRuntime) {
     figures.connected(WALL);
     for (writes_time, indications, noticed) in SETTINGS_OF_THE_CLOCK {
         figures.asked(0, true, *writes_time);
-        assert_eq!(rt;
-            figures.answered(0, WALL, [*indications, 0], true, 0),
-            *noticed
+        same(
+            &rt,
+            &figures.answered(0, WALL, [*indications, 0], true, 0),
+            noticed,
         );
     }
     // An unsolicited response, or the answer to a later request, tells nothing of it.
     figures.connected(WALL);
     figures.asked(0, true, true);
-    assert_eq!(rt; figures.answered(0, WALL, [0x10, 0], false, 0), NOTHING);
+    same(
+        &rt,
+        &figures.answered(0, WALL, [0x10, 0], false, 0),
+        &NOTHING,
+    );
     figures.asked(0, true, false);
-    assert_eq!(rt; figures.answered(0, WALL, [0x10, 0], true, 0), NOTHING);
+    same(
+        &rt,
+        &figures.answered(0, WALL, [0x10, 0], true, 0),
+        &NOTHING,
+    );
 }
 
 /// Whether a request that awaits its answer is sent, or else whether a fragment comes that ends the answer; and how
@@ -144,15 +155,15 @@ fn unanswered_requests(rt: HostRuntime) {
         } else {
             figures.answered(0, WALL, [0, 0], *answer, 0);
         }
-        assert_eq!(rt; figures.unanswered, *unanswered);
+        same(&rt, &figures.unanswered, unanswered);
     }
-    assert_eq!(rt; figures.due(WALL).unanswered, Some(2));
+    same(&rt, &figures.due(WALL).unanswered, &Some(2));
     figures.asked(0, true, false);
-    assert_eq!(rt; figures.due(WALL + 59_999).unanswered, None);
-    assert_eq!(rt; figures.due(WALL + 60_000).unanswered, Some(1));
+    same(&rt, &figures.due(WALL + 59_999).unanswered, &None);
+    same(&rt, &figures.due(WALL + 60_000).unanswered, &Some(1));
     figures.connected(WALL);
     figures.asked(0, true, false);
-    assert_eq!(rt; (figures.requests, figures.unanswered), (8, 3));
+    same(&rt, &(figures.requests, figures.unanswered), &(8, 3));
 }
 
 /// The workers tell of a request before the answer to the one before, which counts as answered all the same.
@@ -162,15 +173,21 @@ fn overtaken_answer(rt: HostRuntime) {
     figures.connected(WALL);
     figures.asked(2, true, false);
     figures.asked(5, true, true);
-    assert_eq!(rt; figures.unanswered, 1);
-    assert_eq!(rt; figures.answered(4, WALL, [0x10, 0], true, 0), NOTHING);
-    assert_eq!(rt;
-        (figures.unanswered, figures.due(WALL).unanswered),
-        (0, None)
+    same(&rt, &figures.unanswered, &1);
+    same(
+        &rt,
+        &figures.answered(4, WALL, [0x10, 0], true, 0),
+        &NOTHING,
     );
-    assert_eq!(rt;
-        figures.answered(7, WALL, [0x10, 0], true, 0),
-        CLOCK_NOT_SET
+    same(
+        &rt,
+        &(figures.unanswered, figures.due(WALL).unanswered),
+        &(0, None),
+    );
+    same(
+        &rt,
+        &figures.answered(7, WALL, [0x10, 0], true, 0),
+        &CLOCK_NOT_SET,
     );
 }
 
@@ -193,13 +210,14 @@ fn overtaken_setting_of_the_clock(rt: HostRuntime) {
     figures.asked(1, true, false);
     for (step, writes_time, indications, noticed) in OVERTAKEN {
         figures.asked(*step + 1, true, *writes_time);
-        assert_eq!(rt;
-            figures.answered(*step, WALL, [*indications, 0], true, 0),
-            *noticed,
-            "at step {step}"
+        same_at(
+            &rt,
+            &figures.answered(*step, WALL, [*indications, 0], true, 0),
+            noticed,
+            step,
         );
     }
-    assert_eq!(rt; (figures.requests, figures.unanswered), (7, 0));
+    same(&rt, &(figures.requests, figures.unanswered), &(7, 0));
 }
 
 /// Nothing is due.
@@ -231,16 +249,16 @@ const DUE: DueNotes = DueNotes {
 #[test]
 fn refused_and_skipped(rt: HostRuntime) {
     let mut figures = OutstationFigures::new();
-    assert_eq!(rt; figures.refused(WALL, FUNCTION_0), Some(0));
-    assert_eq!(rt; figures.due(WALL + 1000), NOTHING_DUE);
+    same(&rt, &figures.refused(WALL, FUNCTION_0), &Some(0));
+    same(&rt, &figures.due(WALL + 1000), &NOTHING_DUE);
     for (wall, fault, told) in REFUSED {
-        assert_eq!(rt; figures.refused(*wall, *fault), *told, "at {wall}");
+        same_at(&rt, &figures.refused(*wall, *fault), told, wall);
     }
     figures.skipped(7);
     figures.skipped(5);
-    assert_eq!(rt; figures.due(WALL + 3000), DUE);
-    assert_eq!(rt; figures.due(WALL + 70_000), NOTHING_DUE);
-    assert_eq!(rt; (figures.refused, figures.skipped), (4, 12));
+    same(&rt, &figures.due(WALL + 3000), &DUE);
+    same(&rt, &figures.due(WALL + 70_000), &NOTHING_DUE);
+    same(&rt, &(figures.refused, figures.skipped), &(4, 12));
 }
 
 /// Each cause, and how many connections ended for each kind of cause once it was counted beside those before it.
@@ -261,11 +279,11 @@ fn closes(rt: HostRuntime) {
         figures.connected(address(), WALL);
         figures.started = true;
         let status = (figures.address, figures.connected_since, figures.started);
-        assert_eq!(rt; status, (Some(address()), Some(WALL), true));
+        same(&rt, &status, &(Some(address()), Some(WALL), true));
         figures.ended(cause);
         let status = (figures.address, figures.connected_since, figures.started);
-        assert_eq!(rt; status, (None, None, false));
-        assert_eq!(rt; counts_of(&figures), *counts);
+        same(&rt, &status, &(None, None, false));
+        same(&rt, &counts_of(&figures), counts);
     }
 }
 
@@ -298,12 +316,12 @@ fn dropped_news(rt: HostRuntime) {
     let mut figures = ClientFigures::new();
     figures.connected(address(), WALL);
     for (wall, total, told) in DROPPED {
-        assert_eq!(rt; figures.dropped(*wall, *total), *told, "at {wall}");
+        same_at(&rt, &figures.dropped(*wall, *total), told, wall);
     }
     // The next client at the place is told at once of the first that is dropped for it.
     figures.connected(address(), WALL + 70_000);
-    assert_eq!(rt; figures.dropped(WALL + 70_000, 10), None);
-    assert_eq!(rt; figures.dropped(WALL + 70_001, 13), Some(3));
-    assert_eq!(rt; figures.dropped(WALL + 70_002, 15), None);
-    assert_eq!(rt; figures.dropped(u64::MAX, 19), Some(6));
+    same(&rt, &figures.dropped(WALL + 70_000, 10), &None);
+    same(&rt, &figures.dropped(WALL + 70_001, 13), &Some(3));
+    same(&rt, &figures.dropped(WALL + 70_002, 15), &None);
+    same(&rt, &figures.dropped(u64::MAX, 19), &Some(6));
 }

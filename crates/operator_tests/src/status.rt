@@ -1,5 +1,6 @@
 //! Tests of printed texts and worked requests.
 
+use crate::checks::{same, same_text};
 use gw_http::{
     HttpRequest, MOST_FIELDS, MOST_OCTETS, RequestFault, Resource, answer, receive, refuse,
 };
@@ -212,12 +213,21 @@ fn received_slowly(octets: &[u8]) -> &'static str {
 
 #[test]
 fn comes_slowly(rt: HostRuntime) {
-    assert_eq!(rt;
+    same_text(
+        &rt,
         received_slowly(b"GET /metrics HTTP/1.1\r\n\r\n"),
-        "metrics"
+        "metrics",
     );
-    assert_eq!(rt; received_slowly(b"GET /metrics HTTP/1.1\r\n\r"), "nothing");
-    assert_eq!(rt; received_slowly(b"GET\t/ HTTP/1.1\r\n\r\n"), "malformed");
+    same_text(
+        &rt,
+        received_slowly(b"GET /metrics HTTP/1.1\r\n\r"),
+        "nothing",
+    );
+    same_text(
+        &rt,
+        received_slowly(b"GET\t/ HTTP/1.1\r\n\r\n"),
+        "malformed",
+    );
 }
 
 /// A request with so many fields.
@@ -243,16 +253,25 @@ fn with_target(alloc: Global, count: usize) -> Result<String, AllocError> {
 #[test]
 fn limits(rt: HostRuntime) -> Result<(), Fail> {
     let most = with_fields(rt.alloc(), MOST_FIELDS)?;
-    assert_eq!(rt; word_of(receive(&mut most.as_str().as_bytes())), "page");
+    same_text(&rt, word_of(receive(&mut most.as_str().as_bytes())), "page");
     let more = with_fields(rt.alloc(), MOST_FIELDS + 1)?;
-    assert_eq!(rt; word_of(receive(&mut more.as_str().as_bytes())), "too long");
+    same_text(
+        &rt,
+        word_of(receive(&mut more.as_str().as_bytes())),
+        "too long",
+    );
     let longest = with_target(rt.alloc(), MOST_OCTETS - 17)?;
-    assert_eq!(rt; longest.len(), MOST_OCTETS);
-    assert_eq!(rt; word_of(receive(&mut longest.as_str().as_bytes())), "page");
+    same(&rt, &longest.len(), &MOST_OCTETS);
+    same_text(
+        &rt,
+        word_of(receive(&mut longest.as_str().as_bytes())),
+        "page",
+    );
     let longer = with_target(rt.alloc(), MOST_OCTETS - 16)?;
-    assert_eq!(rt;
+    same_text(
+        &rt,
         word_of(receive(&mut longer.as_str().as_bytes())),
-        "too long"
+        "too long",
     );
     Ok(())
 }
@@ -279,13 +298,14 @@ fn refusals(rt: HostRuntime) -> Result<(), Fail> {
             "HTTP/1.1 {line}\r\nContent-Type: text/plain; charset=utf-8\r\n\
             Content-Length: {length}\r\nCache-Control: no-store\r\n{allow}Connection: close\r\n\r\n{line}\n"
         )?;
-        assert_eq!(rt; text.as_str(), wanted.as_str());
+        same_text(&rt, text.as_str(), wanted.as_str());
     }
     let text = refuse(rt.alloc(), RequestFault::NotFound, true)?;
-    assert_eq!(rt;
+    same_text(
+        &rt,
         text.as_str(),
         "HTTP/1.1 404 Not Found\r\nContent-Type: text/plain; charset=utf-8\r\n\
-        Content-Length: 14\r\nCache-Control: no-store\r\nConnection: close\r\n\r\n"
+        Content-Length: 14\r\nCache-Control: no-store\r\nConnection: close\r\n\r\n",
     );
     Ok(())
 }
@@ -430,7 +450,7 @@ fn metrics(rt: HostRuntime) -> Result<(), Fail> {
     let wanted = format!(in rt.alloc();
         "{OF_GATEWAY}{OF_OUTSTATIONS}{OF_INDICATIONS}{OF_ORDERS}{OF_CLIENTS}"
     )?;
-    assert_eq!(rt; text.as_str(), wanted.as_str());
+    same_text(&rt, text.as_str(), wanted.as_str());
     Ok(())
 }
 
@@ -442,9 +462,9 @@ Content-Length: 2\r\nCache-Control: no-store\r\nConnection: close\r\n\r\n";
 fn answered(rt: HostRuntime) -> Result<(), Fail> {
     let text = answer(rt.alloc(), Resource::Metrics, false, "a\n")?;
     let wanted = format!(in rt.alloc(); "{HEAD}a\n")?;
-    assert_eq!(rt; text.as_str(), wanted.as_str());
+    same_text(&rt, text.as_str(), wanted.as_str());
     let head = answer(rt.alloc(), Resource::Metrics, true, "a\n")?;
-    assert_eq!(rt; head.as_str(), HEAD);
+    same_text(&rt, head.as_str(), HEAD);
     Ok(())
 }
 
@@ -501,6 +521,6 @@ fn page(rt: HostRuntime) -> Result<(), Fail> {
     let text = format!(in rt.alloc(); "{}", Page(&status))?;
     let wanted = format!(in rt.alloc(); "{PAGE_TOP}{PAGE_REST}")?;
     let (_, body) = text.as_str().split_once("<body>\n").ok_or("no body")?;
-    assert_eq!(rt; body, wanted.as_str());
+    same_text(&rt, body, wanted.as_str());
     Ok(())
 }
