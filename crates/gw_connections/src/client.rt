@@ -3,23 +3,24 @@
 use crate::connection::{Connection, Passes, Peer, exchange};
 use crate::ending::Ending;
 use crate::host::Host;
-use crate::house::House;
+use crate::house::{House, is_made};
 use crate::lookout::{ANY_TIME, tell_dropped};
 use crate::sockets::ClientSocket;
 use gw_journal::{Cause, JournalEvent};
 use gw_peers::{ClientCard, Desk, Lobby, Visit, shut};
-use gw_threads::{Clock, Gate, Step, Why};
+use gw_threads::{Calls, Clock, Gate, Step, Why};
 use std::net::{SocketAddr, TcpStream};
 use std::sync::Wait;
 use std::sync::ledger::Ledger;
 
 /// Serves the clients that get this place, until no further one comes.
-pub fn serve_place<L: Ledger + Send + Sync, R: Host, C: Clock + Sync, G: Gate + Sync>(
-    house: &House<'_, L, R, C, G>,
-    lobby: &Lobby,
-    place: u8,
-    passes: Passes<L>,
-) -> Passes<L> {
+pub fn serve_place<
+    L: Ledger + Send + Sync,
+    S: Calls<L> + Sync,
+    R: Host,
+    C: Clock + Sync,
+    G: Gate + Sync,
+>(house: &House<'_, S, R, C, G>, lobby: &Lobby, place: u8, passes: Passes<L>) -> Passes<L> {
     let mut passes = passes;
     let Some(card) = house.desk.board.client(place) else {
         return passes;
@@ -37,8 +38,14 @@ pub fn serve_place<L: Ledger + Send + Sync, R: Host, C: Clock + Sync, G: Gate + 
 }
 
 /// Serves one client.
-fn serve_visit<L: Ledger + Send + Sync, R: Host, C: Clock + Sync, G: Gate + Sync>(
-    house: &House<'_, L, R, C, G>,
+fn serve_visit<
+    L: Ledger + Send + Sync,
+    S: Calls<L> + Sync,
+    R: Host,
+    C: Clock + Sync,
+    G: Gate + Sync,
+>(
+    house: &House<'_, S, R, C, G>,
     card: &ClientCard,
     client: u8,
     passes: Passes<L>,
@@ -47,7 +54,7 @@ fn serve_visit<L: Ledger + Send + Sync, R: Host, C: Clock + Sync, G: Gate + Sync
     let mut passes = passes;
     let (desk, address) = (house.desk, visit.address);
     let moment = desk.clock.moment();
-    if !house.makes(&mut passes.reader, Step::ClientUp { client, moment }) {
+    if !is_made(house, &mut passes.reader, Step::ClientUp { client, moment }) {
         shut(&visit.stream);
         card.free(desk.rt);
         return passes;
@@ -102,8 +109,14 @@ fn told_as(leaves: bool, stopping: bool, met: Cause) -> Cause {
 }
 
 /// Serves one client on its connection, until that ends; why it ended.
-fn serve_stream<L: Ledger + Send + Sync, R: Host, C: Clock + Sync, G: Gate + Sync>(
-    house: &House<'_, L, R, C, G>,
+fn serve_stream<
+    L: Ledger + Send + Sync,
+    S: Calls<L> + Sync,
+    R: Host,
+    C: Clock + Sync,
+    G: Gate + Sync,
+>(
+    house: &House<'_, S, R, C, G>,
     client: u8,
     passes: Passes<L>,
     stream: &TcpStream,

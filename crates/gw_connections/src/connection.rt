@@ -9,7 +9,7 @@ use dnp_receive::Receiver;
 use gw_journal::Cause;
 use gw_peers::shut;
 use gw_threads::{
-    Clock, Gate, Line, Pass, WorkerEnd, client_reader, client_writer, outstation_reader,
+    Calls, Clock, Gate, Line, Pass, WorkerEnd, client_reader, client_writer, outstation_reader,
     outstation_writer,
 };
 use std::net::TcpStream;
@@ -74,8 +74,14 @@ impl<'a, 'b> Connection<'a, 'b> {
 }
 
 /// Both workers of a connection, the writer in a thread of its own, until both have ended; why it ended.
-pub fn exchange<L: Ledger + Send + Sync, R: Host, C: Clock + Sync, G: Gate + Sync>(
-    house: &House<'_, L, R, C, G>,
+pub fn exchange<
+    L: Ledger + Send + Sync,
+    S: Calls<L> + Sync,
+    R: Host,
+    C: Clock + Sync,
+    G: Gate + Sync,
+>(
+    house: &House<'_, S, R, C, G>,
     connection: &Connection<'_, '_>,
     passes: Passes<L>,
 ) -> (Passes<L>, Cause) {
@@ -84,7 +90,7 @@ pub fn exchange<L: Ledger + Send + Sync, R: Host, C: Clock + Sync, G: Gate + Syn
         thread::scope_env(),
         house.desk.rt,
         move |scope| -> ((Pass<L>, WorkerEnd), (Pass<L>, WorkerEnd))
-            requires { IsSend L.row × IsSync L.row × IsSync R.row × IsSync C.row × IsSync G.row }
+            requires { IsSend L.row × IsSync L.row × IsSync S.row × IsSync R.row × IsSync C.row × IsSync G.row }
         {
             let writing = scope.spawn(move || write(house, connection, writer));
             if writing.is_err() {
@@ -103,8 +109,8 @@ pub fn exchange<L: Ledger + Send + Sync, R: Host, C: Clock + Sync, G: Gate + Syn
 }
 
 /// The reader, and the end of its connection.
-fn read<L: Ledger, R: Wait, C: Clock, G: Gate>(
-    house: &House<'_, L, R, C, G>,
+fn read<L: Ledger, S: Calls<L>, R: Wait, C: Clock, G: Gate>(
+    house: &House<'_, S, R, C, G>,
     connection: &Connection<'_, '_>,
     pass: Pass<L>,
 ) -> (Pass<L>, WorkerEnd) {
@@ -138,8 +144,8 @@ fn read<L: Ledger, R: Wait, C: Clock, G: Gate>(
 }
 
 /// The writer, and the end of its connection.
-fn write<L: Ledger, R: Wait + Sleeps, C: Clock, G: Gate>(
-    house: &House<'_, L, R, C, G>,
+fn write<L: Ledger, S: Calls<L>, R: Wait + Sleeps, C: Clock, G: Gate>(
+    house: &House<'_, S, R, C, G>,
     connection: &Connection<'_, '_>,
     pass: Pass<L>,
 ) -> (Pass<L>, WorkerEnd) {

@@ -1,21 +1,23 @@
 //! What the threads share that make steps on the core.
 
 use gw_peers::Desk;
-use gw_threads::{Clock, Gate, Pass, Shared, Step, make_call};
+use gw_threads::{Calls, Clock, Gate, Pass, Step, make_call};
 use std::sync::Wait;
 use std::sync::ledger::Ledger;
 
 /// What the threads share that make steps on the core.
 #[derive(Drop)]
-pub struct House<'a, L: Ledger, R, C, G> {
+pub struct House<'a, S, R, C, G> {
     pub desk: &'a Desk<'a, R, C>,
-    pub shared: &'a Shared<L>,
+    pub shared: &'a S,
     pub gate: &'a G,
 }
 
-impl<'a, L: Ledger, R: Wait, C: Clock, G: Gate> House<'a, L, R, C, G> {
-    /// Makes a step on the core; whether it was made.
-    pub fn makes(&self, pass: &mut Pass<L>, step: Step) -> bool {
-        make_call(self.desk.rt, self.shared, pass, step, self.gate).is_ok()
-    }
+/// Makes a step on the core; whether it was made.
+pub fn is_made<L: Ledger, S: Calls<L>, R: Wait, C: Clock, G: Gate>(
+    house: &House<'_, S, R, C, G>,
+    pass: &mut Pass<L>,
+    step: Step,
+) -> bool {
+    make_call(house.desk.rt, house.shared, pass, step, house.gate).is_ok()
 }

@@ -14,8 +14,8 @@ mod sockets;
 pub use client::serve_place;
 pub use connection::Passes;
 pub use gw_threads::{
-    About, Call, Closed, Fate, Figures, Gate, Hub, OpenGate, OrderCounts, Pass, Place, Pumped,
-    Reply, Run, Shared, Step, StepFault, Verdict, clock, control_command,
+    About, Call, Calls, Closed, Fate, Figures, Gate, Hub, OpenGate, OrderCounts, Pass, Place,
+    Pumped, Reply, Run, Shared, Step, StepFault, Verdict, clock, control_command,
 };
 pub use host::Host;
 pub use house::House;

@@ -2,7 +2,7 @@
 
 use gw_journal::{DueNotes, JournalEvent, Refused};
 use gw_peers::{ClientCard, Desk};
-use gw_threads::{Clock, Figures, Shared};
+use gw_threads::{Calls, Clock, Figures};
 use std::rt::Clock as Sleeps;
 use std::sync::Wait;
 use std::sync::ledger::Ledger;
@@ -19,9 +19,12 @@ const PIECES: u32 = 10;
 pub const ANY_TIME: u64 = u64::MAX;
 
 /// Looks at what is known of all peers each second, and tells what is due, until the server ends.
-pub fn look_out<L: Ledger, R: Wait + Sleeps, C: Clock>(desk: &Desk<'_, R, C>, shared: &Shared<L>) {
+pub fn look_out<L: Ledger, S: Calls<L>, R: Wait + Sleeps, C: Clock>(
+    desk: &Desk<'_, R, C>,
+    shared: &S,
+) {
     for _ in desk.rt.forever() {
-        pause(desk.rt, shared);
+        pause::<L, S, R>(desk.rt, shared);
         if shared.stopping() {
             return;
         }
@@ -32,7 +35,7 @@ pub fn look_out<L: Ledger, R: Wait + Sleeps, C: Clock>(desk: &Desk<'_, R, C>, sh
 }
 
 /// Lets a second pass, or less where the server ends.
-pub fn pause<L: Ledger, R: Sleeps>(rt: &R, shared: &Shared<L>) {
+pub fn pause<L: Ledger, S: Calls<L>, R: Sleeps>(rt: &R, shared: &S) {
     for _ in 0..PIECES {
         if shared.stopping() {
             return;

@@ -3,12 +3,12 @@
 use crate::connection::{Connection, Link, Passes, Peer, exchange};
 use crate::ending::Ending;
 use crate::host::Host;
-use crate::house::House;
+use crate::house::{House, is_made};
 use crate::lookout::pause;
 use crate::sockets::OutstationSocket;
 use gw_journal::{Cause, Failure, JournalEvent};
 use gw_peers::{Desk, Plan, shut};
-use gw_threads::{Clock, Gate, Line, Step};
+use gw_threads::{Calls, Clock, Gate, Line, Step};
 use std::net::{TcpStream, ToSocketAddrs};
 use std::sync::Wait;
 use std::sync::ledger::Ledger;
@@ -17,12 +17,13 @@ use std::sync::ledger::Ledger;
 const AGAIN_MS: u64 = 3_600_000;
 
 /// Keeps a connection to an outstation, until the server ends.
-pub fn serve_outstation<L: Ledger + Send + Sync, R: Host, C: Clock + Sync, G: Gate + Sync>(
-    house: &House<'_, L, R, C, G>,
-    outstation: u8,
-    plan: &Plan,
-    passes: Passes<L>,
-) -> Passes<L> {
+pub fn serve_outstation<
+    L: Ledger + Send + Sync,
+    S: Calls<L> + Sync,
+    R: Host,
+    C: Clock + Sync,
+    G: Gate + Sync,
+>(house: &House<'_, S, R, C, G>, outstation: u8, plan: &Plan, passes: Passes<L>) -> Passes<L> {
     let mut passes = passes;
     let mut told = None;
     for _ in house.desk.rt.forever() {
@@ -36,7 +37,7 @@ pub fn serve_outstation<L: Ledger + Send + Sync, R: Host, C: Clock + Sync, G: Ga
             }
             Err(cause) => tell_unreachable(house.desk, outstation, &mut told, cause),
         }
-        pause(house.desk.rt, house.shared);
+        pause::<L, S, R>(house.desk.rt, house.shared);
     }
     passes
 }
@@ -84,8 +85,14 @@ fn connect<R: Host>(rt: &R, plan: &Plan) -> Result<TcpStream, Failure> {
 }
 
 /// One connection, from its up step to its end.
-fn serve_connection<L: Ledger + Send + Sync, R: Host, C: Clock + Sync, G: Gate + Sync>(
-    house: &House<'_, L, R, C, G>,
+fn serve_connection<
+    L: Ledger + Send + Sync,
+    S: Calls<L> + Sync,
+    R: Host,
+    C: Clock + Sync,
+    G: Gate + Sync,
+>(
+    house: &House<'_, S, R, C, G>,
     outstation: u8,
     plan: &Plan,
     passes: Passes<L>,
@@ -93,7 +100,8 @@ fn serve_connection<L: Ledger + Send + Sync, R: Host, C: Clock + Sync, G: Gate +
 ) -> Passes<L> {
     let mut passes = passes;
     let moment = house.desk.clock.moment();
-    if !house.makes(
+    if !is_made(
+        house,
         &mut passes.reader,
         Step::OutstationUp { outstation, moment },
     ) {
@@ -128,8 +136,14 @@ fn end<R: Wait, C: Clock>(desk: &Desk<'_, R, C>, outstation: u8, cause: Cause) {
 }
 
 /// Serves an outstation on its connection, until that ends; why it ended.
-fn serve_stream<L: Ledger + Send + Sync, R: Host, C: Clock + Sync, G: Gate + Sync>(
-    house: &House<'_, L, R, C, G>,
+fn serve_stream<
+    L: Ledger + Send + Sync,
+    S: Calls<L> + Sync,
+    R: Host,
+    C: Clock + Sync,
+    G: Gate + Sync,
+>(
+    house: &House<'_, S, R, C, G>,
     outstation: u8,
     plan: &Plan,
     passes: Passes<L>,

@@ -1,6 +1,6 @@
 //! TCP connections as the workers' ends.
 ghost use Rattle.std.specs.Prelude.{◌≡◌, ◌≤◌, None, IfOk, length};
-ghost use Rattle.gw_threads.specs.Ends.{IsWithin};
+ghost use Rattle.gw_ends.specs.Ends.{IsWithin};
 
 use crate::ending::Ending;
 use gw_peers::Plan;

@@ -5,3 +5,4 @@ pub mod Controls
 pub mod Example
 pub mod Moves
 pub mod Held
+pub mod Effects

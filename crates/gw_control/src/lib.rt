@@ -5,14 +5,18 @@ mod accepted;
 mod answer;
 mod asked;
 mod controls;
+mod effect;
 pub mod examples;
 mod intent;
 pub mod laws;
 mod outgoing;
 mod selection;
+mod settled;
 
 pub use accepted::{Accepted, UnderWay};
 pub use answer::{Answer, Outcome};
 pub use controls::Controls;
+pub use effect::Orders;
 pub use intent::control_for;
 pub use outgoing::{MOST_WAITING, Outgoing};
+pub use settled::{Fate, OrderCounts, Settled};

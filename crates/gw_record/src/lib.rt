@@ -8,8 +8,6 @@ mod recorder;
 mod tape;
 
 pub use entry::Entry;
-pub use gw_hub::{
-    Accepted, Apdu, ApduBuf, Counts, Hub, Outgoing, Reply, Step, StepFault, Verdict, Why,
-};
+pub use gw_hub::{Apdu, ApduBuf, Counts, Hub, Reply, Step, StepFault, Verdict, Why};
 pub use kept::{Kept, KeptStep};
 pub use recorder::{Dump, NoRoom, Recorder};

@@ -4,7 +4,7 @@ use crate::site::{CLIENTS, Site};
 use crate::status::serve_status;
 use gw_clock::Clock;
 use gw_connections::{
-    Gate, Host, House, Pass, Passes, clock, look_out, serve_outstation, serve_place,
+    Calls, Gate, Host, House, Pass, Passes, clock, look_out, serve_outstation, serve_place,
 };
 use gw_model::Memory;
 use gw_peers::{Lobby, await_end};
@@ -39,17 +39,17 @@ pub enum Returned<L: Ledger> {
 
 impl<L: Ledger + Send + Sync> Duty<L> {
     /// Does it.
-    pub fn perform<R: Host, C: Clock + Sync, G: Gate + Sync>(
+    pub fn perform<S: Calls<L> + Sync, R: Host, C: Clock + Sync, G: Gate + Sync>(
         self,
-        house: &House<'_, L, R, C, G>,
+        house: &House<'_, S, R, C, G>,
         lobby: &Lobby,
         site: &Site<'_>,
     ) -> Returned<L> {
         let desk = house.desk;
         match self {
             Duty::Journal => desk.journal.write_on(desk.rt),
-            Duty::Lookout => look_out(desk, house.shared),
-            Duty::Status => serve_status(desk, house.shared, site),
+            Duty::Lookout => look_out::<L, S, R, C>(desk, house.shared),
+            Duty::Status => serve_status::<L, S, R, C>(desk, house.shared, site),
             Duty::Input => await_end(desk.rt, lobby, &site.door),
             Duty::Clock(pass) => {
                 let (pass, _) = clock(desk.rt, house.shared, pass, desk.clock, house.gate);

@@ -7,7 +7,9 @@ use crate::options::Options;
 use crate::site::{CLIENTS, Site};
 use crate::watched::Watched;
 use gw_clock::Clock;
-use gw_connections::{ANY_TIME, Closed, Gate, Host, House, Hub, Pass, Shared, look_at_outstations};
+use gw_connections::{
+    ANY_TIME, Calls, Closed, Gate, Host, House, Hub, Pass, Shared, look_at_outstations,
+};
 use gw_journal::{Journal, JournalEvent};
 use gw_map::Settings;
 use gw_model::Memory;
@@ -160,7 +162,7 @@ fn serve_with<L: Ledger + Send + Sync, R: Host, C: Clock + Sync, G: Gate + Sync>
 
 /// Serves with these passes, which come back and are counted together.
 fn serve_in<L: Ledger + Send + Sync, R: Host, C: Clock + Sync, G: Gate + Sync>(
-    house: &House<'_, L, R, C, G>,
+    house: &House<'_, Shared<L>, R, C, G>,
     site: &Site<'_>,
     passes: Vec<Pass<L>>,
 ) -> Result<Closed, Memory> {
@@ -175,8 +177,14 @@ fn serve_in<L: Ledger + Send + Sync, R: Host, C: Clock + Sync, G: Gate + Sync>(
 }
 
 /// Runs a thread for each duty, the last one first, while clients are accepted; the passes come back.
-fn perform_all<L: Ledger + Send + Sync, R: Host, C: Clock + Sync, G: Gate + Sync>(
-    house: &House<'_, L, R, C, G>,
+fn perform_all<
+    L: Ledger + Send + Sync,
+    S: Calls<L> + Sync,
+    R: Host,
+    C: Clock + Sync,
+    G: Gate + Sync,
+>(
+    house: &House<'_, S, R, C, G>,
     site: &Site<'_>,
     duties: &mut Vec<Duty<L>>,
     passes: &mut Vec<Pass<L>>,
@@ -187,7 +195,7 @@ fn perform_all<L: Ledger + Send + Sync, R: Host, C: Clock + Sync, G: Gate + Sync
         thread::scope_env(),
         house.desk.rt,
         |scope| -> bool
-            requires { IsSend L.row × IsSync L.row × IsSync R.row × IsSync C.row × IsSync G.row }
+            requires { IsSend L.row × IsSync L.row × IsSync S.row × IsSync R.row × IsSync C.row × IsSync G.row }
         {
             let is_complete = start_all(scope, house, &lobby, site, duties, &mut threads);
             if is_complete {
@@ -205,9 +213,17 @@ fn perform_all<L: Ledger + Send + Sync, R: Host, C: Clock + Sync, G: Gate + Sync
 }
 
 /// Starts a thread for each duty, the last one first, until one can't be; whether all were.
-fn start_all<'s, E, L: Ledger + Send + Sync, R: Host, C: Clock + Sync, G: Gate + Sync>(
+fn start_all<
+    's,
+    E,
+    L: Ledger + Send + Sync + 's,
+    S: Calls<L> + Sync,
+    R: Host,
+    C: Clock + Sync,
+    G: Gate + Sync,
+>(
     scope: &Scope<'s, E>,
-    house: &'s House<'_, L, R, C, G>,
+    house: &'s House<'_, S, R, C, G>,
     lobby: &'s Lobby,
     site: &'s Site<'_>,
     duties: &mut Vec<Duty<L>>,
@@ -230,8 +246,8 @@ fn start_all<'s, E, L: Ledger + Send + Sync, R: Host, C: Clock + Sync, G: Gate +
 /// Lets the threads end once no further client is accepted: those of the places, then the others, and behind what still
 /// waited to be told the journal's. The passes come back. The thread that reads standard input was started last, behind
 /// those of the places, and the journal's first.
-fn end_all<L: Ledger, R: Host, C: Clock, G>(
-    house: &House<'_, L, R, C, G>,
+fn end_all<L: Ledger, S: Calls<L>, R: Host, C: Clock, G>(
+    house: &House<'_, S, R, C, G>,
     site: &Site<'_>,
     threads: &mut Vec<JoinHandle<Returned<L>>>,
     passes: &mut Vec<Pass<L>>,

@@ -3,7 +3,7 @@ ghost use Rattle.std.specs.Prelude.{None};
 
 use crate::site::Site;
 use gw_clock::Clock;
-use gw_connections::{Figures, OrderCounts, Shared, pause};
+use gw_connections::{Calls, Figures, OrderCounts, pause};
 use gw_http::{HttpRequest, Resource, answer, receive, refuse};
 use gw_model::Memory;
 use gw_peers::{ClientCard, Desk, OutstationCard, Plan, look_up_from_accept, shut};
@@ -97,9 +97,9 @@ impl<'a, C: Clock> Write for Punctual<'a, C> {
 }
 
 /// Answers requests, one after another, until the server ends, where the status is served.
-pub fn serve_status<L: Ledger, R: Wait + Sleeps, C: Clock>(
+pub fn serve_status<L: Ledger, S: Calls<L>, R: Wait + Sleeps, C: Clock>(
     desk: &Desk<'_, R, C>,
-    shared: &Shared<L>,
+    shared: &S,
     site: &Site<'_>,
 ) {
     let Some(listener) = site.status else {
@@ -111,17 +111,17 @@ pub fn serve_status<L: Ledger, R: Wait + Sleeps, C: Clock>(
             return;
         }
         match listener.accept() {
-            Ok((stream, _)) => serve_request(desk, shared, site, &stream),
+            Ok((stream, _)) => serve_request::<L, S, R, C>(desk, shared, site, &stream),
             Err(error) if error.kind() == ErrorKind::WouldBlock => {}
-            Err(_) => pause(desk.rt, shared),
+            Err(_) => pause::<L, S, R>(desk.rt, shared),
         }
     }
 }
 
 /// Answers the request that comes on a connection, if one comes in time.
-fn serve_request<L: Ledger, R: Wait, C: Clock>(
+fn serve_request<L: Ledger, S: Calls<L>, R: Wait, C: Clock>(
     desk: &Desk<'_, R, C>,
-    shared: &Shared<L>,
+    shared: &S,
     site: &Site<'_>,
     stream: &TcpStream,
 ) {

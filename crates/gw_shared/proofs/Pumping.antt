@@ -1,5 +1,5 @@
 -- Runs of pumps, one after the other.
-use Rattle.std.proofs.Common.{◌≡◌, ◌+◌, ◌≤◌, inl, inr, ℕ, List, [], ◌∷◌, ◌++◌, Result, Ok, refl, sym, ap, ◌∙◌, append_assoc, arith}
+use Rattle.std.proofs.Common.{◌≡◌, ◌+◌, ◌≤◌, inl, inr, ℕ, List, [], ◌∷◌, ◌++◌, Result, Ok, sym, ap, ◌∙◌, append_assoc, arith}
 use Rattle.std.specs.List.{AllByRecursion}
 use Rattle.std.proofs.lemmas.List.{append-nil}
 use Rattle.iec_apci.specs.declared.buffer.ApduBuf.{ApduBuf}
@@ -8,15 +8,11 @@ use Rattle.gw_steps.specs.declared.step.Reply.{Reply}
 use Rattle.gw_steps.specs.declared.step.Reply.TheVariants.{Apdu}
 use Rattle.gw_steps.specs.declared.step.StepFault.{StepFault}
 use Rattle.gw_shared.specs.Turn.{Answers, Pass}
-use Rattle.gw_shared.specs.Pumping.{ArePumped, IsGivenTo, IsPumped, IsPumpedRun, MayGoOn, joined, octets_in}
+use Rattle.gw_shared.specs.Pumping.{ArePumped, IsGivenTo, IsPumped, IsPumpedRun, MayGoOn}
+use Rattle.gw_ends.specs.Octets.{joined, octets_in}
+use Rattle.gw_ends.proofs.Joined.{joined-append}
 use Rattle.gw_shared.specs.declared.pumped.Pumped.{Pumped}
 use Rattle.gw_shared.specs.declared.pumped.Pumped.TheVariants.{Ended, More}
-
-pub joined-append : (a b : List ApduBuf) → joined (a ++ b) ≡ joined a ++ joined b
-joined-append [] b = refl
-joined-append (x ∷ a) b =
-    ap (λ (octets : List ℕ). octets_in x ++ octets) (joined-append a b)
-    ∙ sym (append_assoc (octets_in x) (joined a) (joined b))
 
 -- what a call that pumps is answered with
 pub given_pumped : (mine after : Pass) (client moment : ℕ) (answer : ℕ × Result Reply StepFault)

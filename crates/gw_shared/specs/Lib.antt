@@ -1,5 +1,3 @@
 pub mod Turn
 pub mod Totals
 pub mod Pumping
-pub mod Orders
-pub mod Fates

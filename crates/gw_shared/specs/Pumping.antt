@@ -1,5 +1,5 @@
--- What pumps for a client are answered with, and the octets of the APDUs among it.
-use Rattle.std.specs.Prelude.{◌≡◌, ◌⊎◌, ℕ, ◌+◌, ◌≤◌, ◌<◌, Bool, true, false, List, [], ◌∷◌, ◌++◌, length, take, Option, Some, None, Result, Ok, Err}
+-- What pumps for a client are answered with.
+use Rattle.std.specs.Prelude.{◌≡◌, ◌⊎◌, ℕ, ◌+◌, ◌≤◌, ◌<◌, false, List, ◌++◌, length, Option, Some, None, Result, Ok, Err}
 use Rattle.std.specs.List.{AllByRecursion}
 use Rattle.iec_apci.specs.declared.buffer.ApduBuf.{ApduBuf}
 use Rattle.gw_map.specs.Settings.{Setup}
@@ -11,18 +11,10 @@ use Rattle.gw_steps.specs.declared.step.StepFault.TheVariants.{Spent}
 use Rattle.gw_steps.specs.State.{State}
 use Rattle.gw_steps.specs.Steps.{Allowed}
 use Rattle.gw_steps.specs.Sound.{IsSoundState}
+use Rattle.gw_ends.specs.Octets.{is_apdu, joined, octets_in}
 use Rattle.gw_shared.specs.declared.pumped.Pumped.{Pumped}
 use Rattle.gw_shared.specs.declared.pumped.Pumped.TheVariants.{Ended, More}
 use Rattle.gw_shared.specs.Turn.{Pass}
-
--- the octets of an APDU, without the zeros behind them
-abbrev pub octets_in : ApduBuf → List ℕ
-octets_in apdu = take apdu.len apdu.octets
-
--- the octets of APDUs, one after another
-abbrev pub joined : List ApduBuf → List ℕ
-joined [] = []
-joined (apdu ∷ more) = octets_in apdu ++ joined more
 
 -- in some sound state a pump of the client is answered so
 pub record IsPumped (client : ℕ) (reply : Result Reply StepFault) : Type 0 where
@@ -36,10 +28,6 @@ pub record IsPumped (client : ℕ) (reply : Result Reply StepFault) : Type 0 whe
 -- what a pump of the client gives: an answer, or that no further call can be counted
 abbrev pub IsGivenTo : ℕ → Result Reply StepFault → Type 0
 IsGivenTo client reply = IsPumped client reply ⊎ (reply ≡ Err Spent)
-
-abbrev pub is_apdu : Result Reply StepFault → Bool
-is_apdu (Ok (Apdu apdu)) = true
-is_apdu _ = false
 
 -- APDUs, each the answer to a pump of the client, came behind other octets
 pub record ArePumped (client : ℕ) (before after : List ℕ) : Type 0 where

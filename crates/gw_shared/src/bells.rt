@@ -1,7 +1,7 @@
 //! The bells of the workers that write.
 
-use crate::roused::{CLIENTS, OUTSTATIONS, Roused};
 use gw_bell::Bell;
+use gw_effects::{CLIENTS, OUTSTATIONS, Roused};
 use gw_model::Memory;
 use std::alloc::Global;
 

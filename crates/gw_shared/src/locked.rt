@@ -6,15 +6,10 @@ ghost use Rattle.gw_record.specs.Recording.{is_tape_full, noted, tape_on};
 ghost use Rattle.gw_shared.specs.Pumping.{GoesOn, IsPumpedNext, IsPumpedRun, MayGoOn};
 ghost use Rattle.gw_shared.specs.Turn.{last_call, Answers, IsMadeReady, Steps};
 
-use crate::awake::Awake;
-use crate::batch::{Batch, LONGEST_APDU};
-use crate::dropped::{Dropped, Watch};
-use crate::fates::Fates;
-use crate::figures::Figures;
-use crate::pace::{Load, Pace};
 use crate::pass::Pass;
-use crate::pumped::{Pumped, apdu_in};
-use crate::roused::{Roused, Topic};
+use crate::pumped::Pumped;
+use gw_effects::{Awake, Dropped, Fates, Figures, Load, Pace, Roused, Topic, Watch};
+use gw_ends::{Batch, LONGEST_APDU, apdu_in};
 use gw_model::Memory;
 use gw_record::{Hub, Recorder, Reply, Step, StepFault};
 use std::alloc::Global;

@@ -1,7 +1,7 @@
 //! The right to make calls.
 ghost use Rattle.std.specs.Prelude.{◌≡◌};
 
-use crate::orders::Orders;
+use gw_effects::Orders;
 use std::marker::Model;
 use std::sync::ledger::{Ledger, Share};
 

@@ -4,16 +4,13 @@ ghost use Rattle.std.specs.List.{range_with_len};
 ghost use Rattle.gw_shared.specs.Pumping.{IsPumpedRun, MayGoOn};
 ghost use Rattle.gw_shared.specs.Turn.{unused, Answers};
 
-use crate::batch::Batch;
 use crate::bells::Bells;
-use crate::figures::Figures;
 use crate::locked::Core;
-use crate::orders::Orders;
-use crate::pace::Load;
 use crate::pass::Pass;
 use crate::pumped::Pumped;
-use crate::roused::Roused;
 use gw_bell::Bell;
+use gw_effects::{Figures, Load, Orders, Roused};
+use gw_ends::Batch;
 use gw_model::Memory;
 use gw_record::{Hub, Recorder, Reply, Step, StepFault};
 use std::alloc::Global;
@@ -40,6 +37,57 @@ impl<L: Ledger> Model for Shared<L> {
     ghost view = { λ s. s.actors };
 
     ghost invariant = { λ s. (s.actors ≡ L.parts) × (0 < s.actors) };
+}
+
+/// What passes make calls on, from many threads.
+pub trait Calls<L: Ledger> {
+    /// Makes a call under the lock (`Core::step`), and wakes those whom the step may serve. Gives the call's number and
+    /// its reply.
+    fn step<R: Wait>(
+        &self,
+        rt: &R,
+        pass: &mut Pass<L>,
+        step: Step,
+    ) -> (u64, Result<Reply, StepFault>)
+        ensures { Answers pass.old pass.new step result };
+
+    /// Pumps for a client under one hold of the lock (`Core::pump`), which serves nobody else.
+    fn pump<R: Wait>(
+        &self,
+        rt: &R,
+        pass: &mut Pass<L>,
+        client: u8,
+        moment: u64,
+        batch: &mut Batch,
+    ) -> Pumped
+        ensures run { IsPumpedRun client batch.old batch.new result }
+        ensures more { MayGoOn pass.old pass.new batch.new result }
+        ensures own { pass.new.actor ≡ pass.old.actor };
+
+    /// The bell that rings where something may be due towards an outstation; none beyond the 32nd.
+    fn outstation_bell(&self, outstation: u8) -> Option<&Bell>;
+
+    /// The bell that rings where something may wait for a client; none beyond the eighth.
+    fn client_bell(&self, client: u8) -> Option<&Bell>;
+
+    /// Whether a client is up.
+    fn stands<R: Wait>(&self, rt: &R, client: u8) -> bool;
+
+    /// What a fragment with so many observations brought, which was taken last, where a client that was given something
+    /// within the last second has more than half of its queue waiting, or would have with as much again.
+    fn load<R: Wait>(&self, rt: &R, size: u64, moment: u64) -> Option<Load>;
+
+    /// Whether such a client still waits for some of it.
+    fn is_outrun<R: Wait>(&self, rt: &R, load: Load, moment: u64) -> bool;
+
+    /// What is counted.
+    fn figures<R: Wait>(&self, rt: &R) -> Figures;
+
+    /// Asks all workers to end.
+    fn stop(&self);
+
+    /// Whether the workers were asked to end.
+    fn stopping(&self) -> bool;
 }
 
 /// A pass for each actor, cut off a share of all parts.
@@ -112,79 +160,6 @@ impl<L: Ledger> Shared<L> {
         Ok((shared, passes))
     }
 
-    /// Makes a call under the lock (`Core::step`), and wakes those whom the step may serve. Gives the call's number and
-    /// its reply.
-    pub fn step<R: Wait>(
-        &self,
-        rt: &R,
-        pass: &mut Pass<L>,
-        step: Step,
-    ) -> (u64, Result<Reply, StepFault>)
-        ensures { Answers pass.old pass.new step result }
-    {
-        let (answer, roused) = self.core.lock(rt).answer(pass, step);
-        self.bells.ring(roused);
-        answer
-    }
-
-    /// Pumps for a client under one hold of the lock (`Core::pump`), which serves nobody else.
-    pub fn pump<R: Wait>(
-        &self,
-        rt: &R,
-        pass: &mut Pass<L>,
-        client: u8,
-        moment: u64,
-        batch: &mut Batch,
-    ) -> Pumped
-        ensures run { IsPumpedRun client batch.old batch.new result }
-        ensures more { MayGoOn pass.old pass.new batch.new result }
-        ensures own { pass.new.actor ≡ pass.old.actor }
-    {
-        self.core.lock(rt).pump(pass, client, moment, batch)
-    }
-
-    /// The bell that rings where something may be due towards an outstation; none beyond the 32nd.
-    pub fn outstation_bell(&self, outstation: u8) -> Option<&Bell> {
-        self.bells.of_outstation(outstation)
-    }
-
-    /// The bell that rings where something may wait for a client; none beyond the eighth.
-    pub fn client_bell(&self, client: u8) -> Option<&Bell> {
-        self.bells.of_client(client)
-    }
-
-    /// Whether a client is up.
-    pub fn stands<R: Wait>(&self, rt: &R, client: u8) -> bool {
-        self.core.lock(rt).stands(client)
-    }
-
-    /// What a fragment with so many observations brought, which was taken last, where a client that was given something
-    /// within the last second has more than half of its queue waiting, or would have with as much again.
-    pub fn load<R: Wait>(&self, rt: &R, size: u64, moment: u64) -> Option<Load> {
-        self.core.lock(rt).load(size, moment)
-    }
-
-    /// Whether such a client still waits for some of it.
-    pub fn is_outrun<R: Wait>(&self, rt: &R, load: Load, moment: u64) -> bool {
-        self.core.lock(rt).is_outrun(load, moment)
-    }
-
-    /// What is counted.
-    pub fn figures<R: Wait>(&self, rt: &R) -> Figures {
-        self.core.lock(rt).figures()
-    }
-
-    /// Asks all workers to end.
-    pub fn stop(&self) {
-        self.stopping.store(true, Ordering::SeqCst);
-        self.bells.ring(Roused::everybody());
-    }
-
-    /// Whether the workers were asked to end.
-    pub fn stopping(&self) -> bool {
-        self.stopping.load(Ordering::SeqCst)
-    }
-
     /// How many actors there are.
     pub fn actors(&self) -> usize
         ensures actors { result ≡ self.now }
@@ -211,5 +186,62 @@ impl<L: Ledger> Shared<L> {
             stopping: _,
         } = self;
         core.into_inner().into_parts()
+    }
+}
+
+impl<L: Ledger> Calls<L> for Shared<L> {
+    fn step<R: Wait>(
+        &self,
+        rt: &R,
+        pass: &mut Pass<L>,
+        step: Step,
+    ) -> (u64, Result<Reply, StepFault>) {
+        let (answer, roused) = self.core.lock(rt).answer(pass, step);
+        self.bells.ring(roused);
+        answer
+    }
+
+    fn pump<R: Wait>(
+        &self,
+        rt: &R,
+        pass: &mut Pass<L>,
+        client: u8,
+        moment: u64,
+        batch: &mut Batch,
+    ) -> Pumped {
+        self.core.lock(rt).pump(pass, client, moment, batch)
+    }
+
+    fn outstation_bell(&self, outstation: u8) -> Option<&Bell> {
+        self.bells.of_outstation(outstation)
+    }
+
+    fn client_bell(&self, client: u8) -> Option<&Bell> {
+        self.bells.of_client(client)
+    }
+
+    fn stands<R: Wait>(&self, rt: &R, client: u8) -> bool {
+        self.core.lock(rt).stands(client)
+    }
+
+    fn load<R: Wait>(&self, rt: &R, size: u64, moment: u64) -> Option<Load> {
+        self.core.lock(rt).load(size, moment)
+    }
+
+    fn is_outrun<R: Wait>(&self, rt: &R, load: Load, moment: u64) -> bool {
+        self.core.lock(rt).is_outrun(load, moment)
+    }
+
+    fn figures<R: Wait>(&self, rt: &R) -> Figures {
+        self.core.lock(rt).figures()
+    }
+
+    fn stop(&self) {
+        self.stopping.store(true, Ordering::SeqCst);
+        self.bells.ring(Roused::everybody());
+    }
+
+    fn stopping(&self) -> bool {
+        self.stopping.load(Ordering::SeqCst)
     }
 }

@@ -1,19 +1,14 @@
 -- What a pump puts out tells of fit observations.
-use Rattle.std.proofs.Common.{◌≡◌, ℕ, zero, suc, ◌/◌, ◌%◌, ◌≤◌, Bool, false, List, [], ◌∷◌, ◌++◌, length, take, Option, Some, None, Ok, refl, sym, ap, subst, ◌∙◌, arith}
-use Rattle.std.specs.Prelude.{slice_get, slice_set, option_map, is_some, IfSome, IsSomeAnd}
-use Rattle.std.specs.Int.{w16, w32, to_le_bytes}
+use Rattle.std.proofs.Common.{◌≡◌, ℕ, zero, suc, ◌%◌, ◌≤◌, false, List, [], ◌∷◌, take, Option, Some, None, Ok, refl, sym, ap, subst, ◌∙◌, arith}
+use Rattle.std.specs.Prelude.{slice_get, option_map, IfSome, IsSomeAnd}
 use Rattle.std.specs.List.{AllByRecursion}
 use Rattle.std.proofs.lemmas.Bool.{true≢false, eq-eqb, ne_eqb}
 use Rattle.gw_model.specs.declared.observation.Observation.{Observation}
 use Rattle.gw_model.specs.Fit.{IsFit}
 use Rattle.gw_model.specs.Clocks.{Clocks}
-use Rattle.gw_time.specs.Spelling.{tag_of}
 use Rattle.iec_apci.specs.declared.buffer.ApduBuf.{ApduBuf}
 use Rattle.iec_apci.specs.Buffer.{buffer_of}
-use Rattle.iec_asdu.specs.Packing.{is_in_sequence, packed_spelling, taken_of}
-use Rattle.iec_asdu.specs.Spelling.{type_of, element_spelling, header_octets, identification_at, list_spelling, objects_octets, qualifier_of, tag_octets, spelling}
-use Rattle.iec_command.specs.declared.command.Command.{Command}
-use Rattle.iec_command.specs.Commands.{type_of as command_type, element_of, cause_octet, spelling as command_spelling}
+use Rattle.iec_asdu.specs.Packing.{taken_of}
 use Rattle.gw_answers.specs.declared.outgoing.AsduAnswer.{AsduAnswer}
 use Rattle.gw_answers.specs.declared.outgoing.AsduAnswer.TheVariants.{Returned, Made}
 use Rattle.gw_answers.specs.declared.outgoing.OwnAsdu.{OwnAsdu}

@@ -4,20 +4,20 @@ use Rattle.std.specs.List.{AllByRecursion}
 use Rattle.std.specs.Io.KnownBytes.{Appends}
 use Rattle.iec_apci.specs.declared.buffer.ApduBuf.{ApduBuf}
 use Rattle.gw_steps.specs.declared.step.Reply.TheVariants.{Apdu}
-use Rattle.gw_threads.specs.PutOut.{Gave, GivesAll, Handed, IsGathered, IsPut, MayHaveEnded, joined}
+use Rattle.gw_ends.specs.PutOut.{Gave, GivesAll, Handed, IsGathered, IsPut, MayHaveEnded, joined}
 use Rattle.gw_shared.specs.Pumping.{ArePumped, IsPumpedRun}
 use Rattle.gw_shared.specs.declared.pumped.Pumped.{Pumped}
 use Rattle.gw_shared.specs.declared.pumped.Pumped.TheVariants as pumps
-use Rattle.gw_shared.proofs.Pumping.{joined-append}
-use Rattle.gw_threads.specs.declared.putting.Gathered.{Gathered}
+use Rattle.gw_ends.proofs.Joined.{joined-append}
+use Rattle.gw_ends.specs.declared.putting.Gathered.{Gathered}
 use Rattle.std.proofs.Math.Seq.{take-append-add}
 use Rattle.gw_threads.specs.Written.{Asking, GivesTo, IsGivenTo, IsPumped, IsPutOut, Writes, WritesPut, Wrote, WroteFront, gathered_by}
-use Rattle.gw_threads.specs.declared.worker_end.WorkerEnd.{WorkerEnd}
-use Rattle.gw_threads.specs.declared.worker_end.WorkerEnd.TheVariants as ends
+use Rattle.gw_ends.specs.declared.worker_end.WorkerEnd.{WorkerEnd}
+use Rattle.gw_ends.specs.declared.worker_end.WorkerEnd.TheVariants as ends
 use Rattle.gw_threads.proofs.Carried.{pumped_carries}
-use Rattle.gw_threads.proofs.Runs.{appends-more}
-use Rattle.gw_threads.specs.declared.putting.Put.{Put}
-use Rattle.gw_threads.specs.declared.putting.Put.TheVariants.{Ended, Unwritten, More}
+use Rattle.gw_ends.proofs.Runs.{appends-more}
+use Rattle.gw_ends.specs.declared.putting.Put.{Put}
+use Rattle.gw_ends.specs.declared.putting.Put.TheVariants.{Ended, Unwritten, More}
 
 -- an APDU is the answer to a pump
 is_put_out : (client : ℕ) (apdu : ApduBuf) → IsGivenTo client (Some (Ok (Apdu apdu))) → IsPutOut client apdu

@@ -1,4 +1,2 @@
-pub mod Framing
-pub mod Runs
 pub mod Gathering
 pub mod Carried

@@ -10,13 +10,13 @@ use Rattle.gw_shared.specs.Pumping.{IsGivenTo as IsAnswerTo}
 use Rattle.gw_shared.specs.declared.pumped.Pumped.{Pumped}
 use Rattle.gw_shared.specs.declared.pumped.Pumped.TheVariants as pumps
 use Rattle.gw_threads.specs.Carries.{CarriesFit}
-use Rattle.gw_threads.specs.PutOut.{Given, joined}
-use Rattle.gw_threads.specs.declared.putting.Gathered.{Gathered}
-use Rattle.gw_threads.specs.declared.putting.Gathered.TheVariants as gathering
-use Rattle.gw_threads.specs.declared.putting.Put.{Put}
-use Rattle.gw_threads.specs.declared.putting.Put.TheVariants as puts
-use Rattle.gw_threads.specs.declared.worker_end.WorkerEnd.{WorkerEnd}
-use Rattle.gw_threads.specs.declared.worker_end.WorkerEnd.TheVariants as ends
+use Rattle.gw_ends.specs.PutOut.{Given, joined}
+use Rattle.gw_ends.specs.declared.putting.Gathered.{Gathered}
+use Rattle.gw_ends.specs.declared.putting.Gathered.TheVariants as gathering
+use Rattle.gw_ends.specs.declared.putting.Put.{Put}
+use Rattle.gw_ends.specs.declared.putting.Put.TheVariants as puts
+use Rattle.gw_ends.specs.declared.worker_end.WorkerEnd.{WorkerEnd}
+use Rattle.gw_ends.specs.declared.worker_end.WorkerEnd.TheVariants as ends
 
 -- what the writer of a client is given of the shared core: nothing where it is asked to end; an answer to a pump; or
 -- that no further call can be counted

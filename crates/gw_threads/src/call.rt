@@ -3,7 +3,7 @@ ghost use Rattle.std.specs.Prelude.{◌≡◌};
 
 use crate::gate::Gate;
 use dnp_app::Response;
-use gw_shared::{Orders, Pass, Pumped, Reply, Shared, Step, StepFault};
+use gw_shared::{Calls, Orders, Pass, Pumped, Reply, Step, StepFault};
 use iec_apci::{Apdu, Signal};
 use iec_command::{Action, Command, read_command};
 use std::sync::Wait;
@@ -148,9 +148,9 @@ pub struct Run<'a> {
 }
 
 /// Makes a step on the shared core, and tells the gate of it. Gives the reply.
-pub fn make_call<L: Ledger, R: Wait, G: Gate>(
+pub fn make_call<L: Ledger, S: Calls<L>, R: Wait, G: Gate>(
     rt: &R,
-    shared: &Shared<L>,
+    shared: &S,
     pass: &mut Pass<L>,
     step: Step,
     gate: &G,

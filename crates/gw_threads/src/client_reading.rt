@@ -1,14 +1,13 @@
 //! The reader of a client.
 ghost use Rattle.std.specs.Prelude.{◌≡◌, IfSome};
-ghost use Rattle.gw_threads.specs.Ends.{IsOfSteps, MayEnd};
+ghost use Rattle.gw_ends.specs.Ends.{IsOfSteps, MayEnd};
 
 use crate::call::make_call;
-use crate::ends::{Arrival, Incoming};
 use crate::gate::{Gate, Place};
 use crate::lost::lose_client;
-use crate::worker_end::WorkerEnd;
 use gw_clock::Clock;
-use gw_shared::{Pass, Reply, Shared, Step, StepFault};
+use gw_ends::{Arrival, Incoming, WorkerEnd};
+use gw_shared::{Calls, Pass, Reply, Step, StepFault};
 use iec_apci::{ApciFault, Apdu, ApduFeed};
 use std::alloc::Global;
 use std::sync::Wait;
@@ -19,9 +18,9 @@ const PIECE: usize = 4096;
 
 /// What the reader of a client works with.
 #[derive(Drop)]
-struct Reading<'a, L: Ledger, R: Wait, C: Clock, G: Gate> {
+struct Reading<'a, L: Ledger, S: Calls<L>, R: Wait, C: Clock, G: Gate> {
     rt: &'a R,
-    shared: &'a Shared<L>,
+    shared: &'a S,
     pass: Pass<L>,
     client: u8,
     clock: &'a C,
@@ -31,10 +30,10 @@ struct Reading<'a, L: Ledger, R: Wait, C: Clock, G: Gate> {
 /// Makes a step of each APDU that comes from a client, until its octets end or are none, the core closes the
 /// connection, or the client isn't up any more. What ends the connection is told to the core, unless the core ended
 /// it.
-pub fn client_reader<'a, L: Ledger, R: Wait, I: Incoming, C: Clock, G: Gate>(
+pub fn client_reader<'a, L: Ledger, S: Calls<L>, R: Wait, I: Incoming, C: Clock, G: Gate>(
     alloc: Global,
     rt: &'a R,
-    shared: &'a Shared<L>,
+    shared: &'a S,
     pass: Pass<L>,
     client: u8,
     input: &mut I,
@@ -59,7 +58,7 @@ pub fn client_reader<'a, L: Ledger, R: Wait, I: Incoming, C: Clock, G: Gate>(
     (pass, end)
 }
 
-impl<'a, L: Ledger, R: Wait, C: Clock, G: Gate> Reading<'a, L, R, C, G> {
+impl<'a, L: Ledger, S: Calls<L>, R: Wait, C: Clock, G: Gate> Reading<'a, L, S, R, C, G> {
     /// Piece after piece, until the worker is to end.
     fn read_on<I: Incoming>(&mut self, feed: &mut ApduFeed, input: &mut I) -> WorkerEnd
         ensures own { self.new.pass.actor ≡ self.old.pass.actor }
@@ -84,7 +83,8 @@ impl<'a, L: Ledger, R: Wait, C: Clock, G: Gate> Reading<'a, L, R, C, G> {
         ensures own { self.new.pass.actor ≡ self.old.pass.actor }
         ensures end { IfSome result (MayEnd I.can_fail) }
     {
-        match input.receive(buffer) {
+        let arrival = input.receive(buffer);
+        match arrival {
             Arrival::Octets(count) => self.take(feed, &buffer[..count]),
             Arrival::Later => {
                 if self.shared.stands(self.rt, self.client) {
@@ -93,8 +93,7 @@ impl<'a, L: Ledger, R: Wait, C: Clock, G: Gate> Reading<'a, L, R, C, G> {
                     Some(WorkerEnd::Stopping)
                 }
             }
-            Arrival::End => Some(WorkerEnd::EndOfInput),
-            Arrival::Fault => Some(WorkerEnd::ReadFault),
+            Arrival::End | Arrival::Fault => arrival.end(),
         }
     }
 

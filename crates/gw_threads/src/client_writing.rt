@@ -1,24 +1,22 @@
 //! The writer of a client.
 ghost use Rattle.std.specs.Prelude.{◌≡◌, IfSome};
-ghost use Rattle.gw_threads.specs.Ends.{MayEndWriting};
-ghost use Rattle.gw_threads.specs.PutOut.{MayBePut};
+ghost use Rattle.gw_ends.specs.Ends.{MayEndWriting};
+ghost use Rattle.gw_ends.specs.PutOut.{MayBePut};
 ghost use Rattle.gw_threads.specs.Written.{Writes, WritesIfEnded, WritesPut};
 
-use crate::ends::Outgoing;
 use crate::gate::Gate;
-use crate::putting::{Put, put_out};
 use crate::source::SharedSource;
-use crate::worker_end::WorkerEnd;
 use gw_clock::Clock;
-use gw_shared::{Batch, Pass, Shared};
+use gw_ends::{Batch, Outgoing, Put, WorkerEnd, put_out};
+use gw_shared::{Calls, Pass};
 use std::sync::Wait;
 use std::sync::ledger::Ledger;
 
 /// Hands over what the core puts out to a client, until the client isn't up any more, writing fails, or it is asked
 /// to end. Where nothing waits it sleeps until a step may bring something.
-pub fn client_writer<'a, L: Ledger, R: Wait, W: Outgoing, C: Clock, G: Gate>(
+pub fn client_writer<'a, L: Ledger, S: Calls<L>, R: Wait, W: Outgoing, C: Clock, G: Gate>(
     rt: &'a R,
-    shared: &'a Shared<L>,
+    shared: &'a S,
     pass: Pass<L>,
     client: u8,
     writer: &mut W,
@@ -36,8 +34,8 @@ pub fn client_writer<'a, L: Ledger, R: Wait, W: Outgoing, C: Clock, G: Gate>(
 }
 
 /// Run after run, until the worker is to end.
-fn write_on<L: Ledger, R: Wait, W: Outgoing, C: Clock, G: Gate>(
-    source: &mut SharedSource<'_, L, R, C, G>,
+fn write_on<L: Ledger, S: Calls<L>, R: Wait, W: Outgoing, C: Clock, G: Gate>(
+    source: &mut SharedSource<'_, L, S, R, C, G>,
     writer: &mut W,
     batch: &mut Batch,
 ) -> WorkerEnd
@@ -54,8 +52,8 @@ fn write_on<L: Ledger, R: Wait, W: Outgoing, C: Clock, G: Gate>(
 }
 
 /// One run, and the sleep behind it; how the worker ends, if it does.
-fn write_run<L: Ledger, R: Wait, W: Outgoing, C: Clock, G: Gate>(
-    source: &mut SharedSource<'_, L, R, C, G>,
+fn write_run<L: Ledger, S: Calls<L>, R: Wait, W: Outgoing, C: Clock, G: Gate>(
+    source: &mut SharedSource<'_, L, S, R, C, G>,
     writer: &mut W,
     batch: &mut Batch,
 ) -> Option<WorkerEnd>
@@ -64,27 +62,18 @@ fn write_run<L: Ledger, R: Wait, W: Outgoing, C: Clock, G: Gate>(
     ensures end { IfSome result (MayEndWriting W.can_fail) }
 {
     let rung = source.rung();
-    match put_run(source, writer, batch) {
-        Put::More => None,
-        Put::Ended(None) => Some(WorkerEnd::Stopping),
-        Put::Ended(Some(Ok(_))) => {
-            source.wait(rung);
-            None
-        }
-        Put::Ended(Some(Err(_))) => {
-            source.lose();
-            Some(WorkerEnd::Stopping)
-        }
-        Put::Unwritten => {
-            source.lose();
-            Some(WorkerEnd::WriteFault)
-        }
+    let put = put_run(source, writer, batch);
+    match put {
+        Put::Ended(Some(Ok(_))) => source.wait(rung),
+        Put::Ended(Some(Err(_))) | Put::Unwritten => source.lose(),
+        Put::Ended(None) | Put::More => {}
     }
+    put.end()
 }
 
 /// Hands over one run of what the core puts out to the client.
-fn put_run<L: Ledger, R: Wait, W: Outgoing, C: Clock, G: Gate>(
-    source: &mut SharedSource<'_, L, R, C, G>,
+fn put_run<L: Ledger, S: Calls<L>, R: Wait, W: Outgoing, C: Clock, G: Gate>(
+    source: &mut SharedSource<'_, L, S, R, C, G>,
     writer: &mut W,
     batch: &mut Batch,
 ) -> Put

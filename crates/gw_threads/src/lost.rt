@@ -4,14 +4,14 @@ ghost use Rattle.std.specs.Prelude.{◌≡◌};
 use crate::call::make_call;
 use crate::gate::Gate;
 use gw_clock::Clock;
-use gw_shared::{Pass, Shared, Step};
+use gw_shared::{Calls, Pass, Step};
 use std::sync::Wait;
 use std::sync::ledger::Ledger;
 
 /// The connection to a client is lost. Where it was lost before, nothing changes.
-pub fn lose_client<L: Ledger, R: Wait, C: Clock, G: Gate>(
+pub fn lose_client<L: Ledger, S: Calls<L>, R: Wait, C: Clock, G: Gate>(
     rt: &R,
-    shared: &Shared<L>,
+    shared: &S,
     pass: &mut Pass<L>,
     client: u8,
     clock: &C,
@@ -24,9 +24,9 @@ pub fn lose_client<L: Ledger, R: Wait, C: Clock, G: Gate>(
 }
 
 /// The connection to an outstation is lost. Where it was lost before, nothing changes.
-pub fn lose_outstation<L: Ledger, R: Wait, C: Clock, G: Gate>(
+pub fn lose_outstation<L: Ledger, S: Calls<L>, R: Wait, C: Clock, G: Gate>(
     rt: &R,
-    shared: &Shared<L>,
+    shared: &S,
     pass: &mut Pass<L>,
     outstation: u8,
     clock: &C,

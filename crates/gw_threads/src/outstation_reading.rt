@@ -1,18 +1,16 @@
 //! The reader of an outstation.
 ghost use Rattle.std.specs.Prelude.{◌≡◌, ◌≤◌, length, IfSome};
-ghost use Rattle.gw_threads.specs.Ends.{IsOfFrames, MayEndBetween};
+ghost use Rattle.gw_ends.specs.Ends.{IsOfFrames, MayEndBetween};
 
 use crate::call::make_call;
-use crate::ends::{Arrival, Incoming, Outgoing};
 use crate::gate::{Gate, Place};
-use crate::line::Line;
 use crate::lost::lose_outstation;
-use crate::worker_end::WorkerEnd;
 use dnp_app::{AppFault, Response, read_response};
 use dnp_link::{Frame, LinkEvent, LinkFeed};
 use dnp_receive::Receiver;
 use gw_clock::Clock;
-use gw_shared::{Bell, Pass, Reply, Shared, Step, StepFault, Verdict};
+use gw_ends::{Arrival, Incoming, Line, Outgoing, WorkerEnd};
+use gw_shared::{Bell, Calls, Pass, Reply, Step, StepFault, Verdict};
 use std::alloc::Global;
 use std::sync::Wait;
 use std::sync::ledger::Ledger;
@@ -29,10 +27,10 @@ const NAP_MS: u64 = 5;
 
 /// What the reader of an outstation works with.
 #[derive(Drop)]
-struct Reading<'a, 'b, L: Ledger, R: Wait, W: Outgoing, C: Clock, G: Gate> {
+struct Reading<'a, 'b, L: Ledger, S: Calls<L>, R: Wait, W: Outgoing, C: Clock, G: Gate> {
     alloc: Global,
     rt: &'a R,
-    shared: &'a Shared<L>,
+    shared: &'a S,
     pass: Pass<L>,
     outstation: u8,
     line: &'b Line<W>,
@@ -48,10 +46,20 @@ struct Reading<'a, 'b, L: Ledger, R: Wait, W: Outgoing, C: Clock, G: Gate> {
 /// link, and confirmations. It ends where its octets end, reading or writing fails, memory runs out, or the
 /// outstation isn't up any more; that is told to the core. Where a client that reads doesn't keep up with a fragment, it
 /// waits before it reads on, so that the outstation is held back; but no longer than `patience_ms` milliseconds.
-pub fn outstation_reader<'a, 'b, L: Ledger, R: Wait, I: Incoming, W: Outgoing, C: Clock, G: Gate>(
+pub fn outstation_reader<
+    'a,
+    'b,
+    L: Ledger,
+    S: Calls<L>,
+    R: Wait,
+    I: Incoming,
+    W: Outgoing,
+    C: Clock,
+    G: Gate,
+>(
     alloc: Global,
     rt: &'a R,
-    shared: &'a Shared<L>,
+    shared: &'a S,
     pass: Pass<L>,
     outstation: u8,
     receiver: Receiver,
@@ -84,7 +92,16 @@ pub fn outstation_reader<'a, 'b, L: Ledger, R: Wait, I: Incoming, W: Outgoing, C
     (pass, end)
 }
 
-impl<'a, 'b, L: Ledger, R: Wait, W: Outgoing, C: Clock, G: Gate> Reading<'a, 'b, L, R, W, C, G> {
+impl<'a, 'b, L: Ledger, S: Calls<L>, R: Wait, W: Outgoing, C: Clock, G: Gate> Reading<
+    'a,
+    'b,
+    L,
+    S,
+    R,
+    W,
+    C,
+    G,
+> {
     /// Piece after piece, until the worker is to end.
     fn read_on<I: Incoming>(
         &mut self,
@@ -115,11 +132,10 @@ impl<'a, 'b, L: Ledger, R: Wait, W: Outgoing, C: Clock, G: Gate> Reading<'a, 'b,
         ensures own { self.new.pass.actor ≡ self.old.pass.actor }
         ensures end { IfSome result (MayEndBetween I.can_fail W.can_fail) }
     {
-        match input.receive(buffer) {
+        let arrival = input.receive(buffer);
+        match arrival {
             Arrival::Octets(count) => self.take(feed, receiver, &buffer[..count]),
-            Arrival::Later => None,
-            Arrival::End => Some(WorkerEnd::EndOfInput),
-            Arrival::Fault => Some(WorkerEnd::ReadFault),
+            Arrival::Later | Arrival::End | Arrival::Fault => arrival.end(),
         }
     }
 

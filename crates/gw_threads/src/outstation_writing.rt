@@ -1,16 +1,14 @@
 //! The writer towards an outstation.
 ghost use Rattle.std.specs.Prelude.{◌≡◌, IfSome};
-ghost use Rattle.gw_threads.specs.Ends.{MayEndWriting};
+ghost use Rattle.gw_ends.specs.Ends.{MayEndWriting};
 
 use crate::call::make_call;
-use crate::ends::Outgoing;
 use crate::gate::{Gate, Place};
-use crate::line::Line;
 use crate::lost::lose_outstation;
 use crate::row::{REST_MS, RequestStreak};
-use crate::worker_end::WorkerEnd;
 use gw_clock::Clock;
-use gw_shared::{Pass, Reply, Shared, Step, StepFault};
+use gw_ends::{Line, Outgoing, WorkerEnd};
+use gw_shared::{Calls, Pass, Reply, Step, StepFault};
 use std::rt::Clock as Sleeps;
 use std::sync::Wait;
 use std::sync::ledger::Ledger;
@@ -20,9 +18,9 @@ use std::time::Duration;
 /// Sends an outstation the requests that the core gives, until it isn't up any more, writing fails, or the worker is
 /// asked to end. Where none is due it sleeps until a step may bring one; behind 100 requests in a row it rests for 20
 /// milliseconds.
-pub fn outstation_writer<L: Ledger, R: Wait + Sleeps, W: Outgoing, C: Clock, G: Gate>(
+pub fn outstation_writer<L: Ledger, S: Calls<L>, R: Wait + Sleeps, W: Outgoing, C: Clock, G: Gate>(
     rt: &R,
-    shared: &Shared<L>,
+    shared: &S,
     pass: Pass<L>,
     outstation: u8,
     line: &Line<W>,
@@ -46,9 +44,9 @@ pub fn outstation_writer<L: Ledger, R: Wait + Sleeps, W: Outgoing, C: Clock, G: 
 }
 
 /// Sends the next request, or sleeps where none is due; how the worker ends, if it does.
-fn write_next<L: Ledger, R: Wait + Sleeps, W: Outgoing, C: Clock, G: Gate>(
+fn write_next<L: Ledger, S: Calls<L>, R: Wait + Sleeps, W: Outgoing, C: Clock, G: Gate>(
     rt: &R,
-    shared: &Shared<L>,
+    shared: &S,
     pass: &mut Pass<L>,
     outstation: u8,
     line: &Line<W>,
@@ -60,7 +58,7 @@ fn write_next<L: Ledger, R: Wait + Sleeps, W: Outgoing, C: Clock, G: Gate>(
     ensures end { IfSome result (MayEndWriting W.can_fail) }
 {
     // Read before all that a ring may tell of.
-    let rung = rung(shared, outstation);
+    let rung = rung::<L, S>(shared, outstation);
     if shared.stopping() {
         return Some(WorkerEnd::Stopping);
     }
@@ -74,7 +72,7 @@ fn write_next<L: Ledger, R: Wait + Sleeps, W: Outgoing, C: Clock, G: Gate>(
             WorkerEnd::WriteFault
         }
         Ok(_) => {
-            wait(rt, shared, outstation, rung);
+            wait::<L, S, R>(rt, shared, outstation, rung);
             return None;
         }
         Err(_) => WorkerEnd::Stopping,
@@ -91,14 +89,14 @@ fn rest<R: Sleeps>(rt: &R, row: &mut RequestStreak, moment: u64) {
 }
 
 /// Waits until the outstation's bell was rung more often.
-fn wait<L: Ledger, R: Wait>(rt: &R, shared: &Shared<L>, outstation: u8, rung: u64) {
+fn wait<L: Ledger, S: Calls<L>, R: Wait>(rt: &R, shared: &S, outstation: u8, rung: u64) {
     if let Some(bell) = shared.outstation_bell(outstation) {
         bell.wait(rt, rung);
     }
 }
 
 /// How often the outstation's bell was rung.
-fn rung<L: Ledger>(shared: &Shared<L>, outstation: u8) -> u64 {
+fn rung<L: Ledger, S: Calls<L>>(shared: &S, outstation: u8) -> u64 {
     match shared.outstation_bell(outstation) {
         Some(bell) => bell.rung(),
         None => 0,
@@ -106,9 +104,9 @@ fn rung<L: Ledger>(shared: &Shared<L>, outstation: u8) -> u64 {
 }
 
 /// Asks the core for the next request.
-fn poll<L: Ledger, R: Wait, C: Clock, G: Gate>(
+fn poll<L: Ledger, S: Calls<L>, R: Wait, C: Clock, G: Gate>(
     rt: &R,
-    shared: &Shared<L>,
+    shared: &S,
     pass: &mut Pass<L>,
     outstation: u8,
     clock: &C,

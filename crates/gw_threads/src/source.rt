@@ -1,61 +1,30 @@
 //! What gives the replies to pumps.
-ghost use Rattle.std.specs.Prelude.{◌≡◌, IfSome, ℕ, Option, Result};
-ghost use Rattle.gw_steps.specs.declared.step.Step.TheVariants as steps;
-ghost use Rattle.gw_steps.specs.Steps.{Allowed};
+ghost use Rattle.std.specs.Prelude.{◌≡◌};
 ghost use Rattle.gw_threads.specs.Written.{gathered_by, GivesTo};
 
 use crate::call::Run;
 use crate::gate::{Gate, Place};
 use crate::lost::lose_client;
-use crate::putting::{Gathered, Source};
 use gw_clock::Clock;
-use gw_shared::{Batch, Hub, LONGEST_APDU, Pass, Pumped, Shared, Step, apdu_in};
+use gw_ends::{Batch, Gathered, Source};
+use gw_shared::{Calls, Pass, Pumped};
 use std::marker::Model;
 use std::sync::Wait;
 use std::sync::ledger::Ledger;
 
-/// A hub alone, pumped for one client at one moment.
-#[derive(Drop)]
-pub struct HubSource {
-    pub hub: Hub,
-    pub client: u8,
-    pub moment: u64,
-}
-
-impl Source for HubSource {
-    ghost Gives = { λ old given new. (new.client ≡ old.client) × (new.moment ≡ old.moment) × IfSome given (λ reply.
-        Allowed old.hub.setup old.hub.state (steps.Pump old.client old.moment) reply new.hub.state) };
-
-    fn gather(&mut self, batch: &mut Batch) -> Gathered {
-        if !batch.has_room(LONGEST_APDU) {
-            return Gathered::More;
-        }
-        let (client, moment) = (self.client, self.moment);
-        let reply = self.hub.step(&Step::Pump { client, moment });
-        match apdu_in(reply) {
-            Some(apdu) => {
-                batch.add(apdu.as_slice());
-                Gathered::More
-            }
-            None => Gathered::Ended(Some(reply)),
-        }
-    }
-
-    fn before_write(&self) {}
-}
-
 /// The shared core, pumped for one client with a pass.
 #[derive(Drop)]
-pub struct SharedSource<'a, L: Ledger, R: Wait, C: Clock, G: Gate> {
+pub struct SharedSource<'a, L: Ledger, S: Calls<L>, R: Wait, C: Clock, G: Gate> {
     rt: &'a R,
-    shared: &'a Shared<L>,
+    shared: &'a S,
     pass: Pass<L>,
     client: u8,
     clock: &'a C,
     gate: &'a G,
 }
 
-impl<'a, L: Ledger, R: Wait, C: Clock, G: Gate> Model for SharedSource<'a, L, R, C, G> {
+impl<'a, L: Ledger, S: Calls<L>, R: Wait, C: Clock, G: Gate> Model
+    for SharedSource<'a, L, S, R, C, G> {
     ghost use Rattle.gw_threads.specs.Written.{Asking};
 
     ghost Value = { Asking };
@@ -63,16 +32,16 @@ impl<'a, L: Ledger, R: Wait, C: Clock, G: Gate> Model for SharedSource<'a, L, R,
     ghost view = { λ s. record { client = s.client; actor = s.pass.actor } };
 }
 
-impl<'a, L: Ledger, R: Wait, C: Clock, G: Gate> SharedSource<'a, L, R, C, G> {
+impl<'a, L: Ledger, S: Calls<L>, R: Wait, C: Clock, G: Gate> SharedSource<'a, L, S, R, C, G> {
     /// A worker with a pass, which asks for a client.
     pub fn new(
         rt: &'a R,
-        shared: &'a Shared<L>,
+        shared: &'a S,
         pass: Pass<L>,
         client: u8,
         clock: &'a C,
         gate: &'a G,
-    ) -> SharedSource<'a, L, R, C, G>
+    ) -> SharedSource<'a, L, S, R, C, G>
         ensures { result ≡ record { client = client; actor = pass.actor } }
     {
         SharedSource {
@@ -128,7 +97,8 @@ impl<'a, L: Ledger, R: Wait, C: Clock, G: Gate> SharedSource<'a, L, R, C, G> {
     }
 }
 
-impl<'a, L: Ledger, R: Wait, C: Clock, G: Gate> Source for SharedSource<'a, L, R, C, G> {
+impl<'a, L: Ledger, S: Calls<L>, R: Wait, C: Clock, G: Gate> Source
+    for SharedSource<'a, L, S, R, C, G> {
     ghost Gives = { GivesTo };
 
     fn gather(&mut self, batch: &mut Batch) -> Gathered {

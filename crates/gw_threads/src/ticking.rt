@@ -3,9 +3,9 @@ ghost use Rattle.std.specs.Prelude.{◌≡◌};
 
 use crate::call::make_call;
 use crate::gate::Gate;
-use crate::worker_end::WorkerEnd;
 use gw_clock::Clock;
-use gw_shared::{Pass, Shared, Step};
+use gw_ends::WorkerEnd;
+use gw_shared::{Calls, Pass, Step};
 use std::rt::Clock as Sleeps;
 use std::sync::Wait;
 use std::sync::ledger::Ledger;
@@ -16,9 +16,9 @@ use std::time::Duration;
 const TICK_MS: u64 = 100;
 
 /// Makes a tick every 100 milliseconds, until it is asked to end or no further step can be counted.
-pub fn clock<L: Ledger, R: Wait + Sleeps, C: Clock, G: Gate>(
+pub fn clock<L: Ledger, S: Calls<L>, R: Wait + Sleeps, C: Clock, G: Gate>(
     rt: &R,
-    shared: &Shared<L>,
+    shared: &S,
     pass: Pass<L>,
     clock: &C,
     gate: &G,
@@ -37,9 +37,9 @@ pub fn clock<L: Ledger, R: Wait + Sleeps, C: Clock, G: Gate>(
 }
 
 /// Makes a tick; whether it was made.
-fn tick<L: Ledger, R: Wait, C: Clock, G: Gate>(
+fn tick<L: Ledger, S: Calls<L>, R: Wait, C: Clock, G: Gate>(
     rt: &R,
-    shared: &Shared<L>,
+    shared: &S,
     pass: &mut Pass<L>,
     clock: &C,
     gate: &G,

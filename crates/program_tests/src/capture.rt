@@ -1,5 +1,6 @@
 //! Tests of what is written, and of how a capture ends.
 
+use crate::checks::{same, same_list, same_text};
 use gw_capture::{Capture, Kept, Lines, Pumps, push_step};
 use gw_replay::{Instruction, read_instruction};
 use gw_shared::{Apdu, Reply, Step, StepFault};
@@ -46,7 +47,7 @@ fn line_of<R: Abort + AllocGlobal>(rt: &R, step: &Step) -> Vec<u8> {
 fn steps_are_read_again(rt: HostRuntime) -> Result<(), Fail> {
     for line in STEPS {
         let wanted = format!(in rt.alloc(); "{line}\n")?;
-        assert_eq!(rt; line_again(&rt, line).as_slice(), wanted.as_bytes());
+        same_list(&rt, line_again(&rt, line).as_slice(), wanted.as_bytes());
     }
     Ok(())
 }
@@ -80,12 +81,13 @@ fn pumps_are_taken_apart(rt: HostRuntime) -> Result<(), Fail> {
         };
         let lines = Lines::of_pumps(rt.alloc(), &pumps)?;
         let answers = format!(in rt.alloc(); "{APDU_LINES}{last}")?;
-        assert_eq!(rt; (lines.first, lines.count), (7, *count));
-        assert_eq!(rt;
+        same(&rt, &(lines.first, lines.count), &(7, *count));
+        same_list(
+            &rt,
             lines.steps.as_slice(),
-            pump_lines(rt.alloc(), *told)?.as_slice()
+            pump_lines(rt.alloc(), *told)?.as_slice(),
         );
-        assert_eq!(rt; lines.answers.as_slice(), answers.as_bytes());
+        same_list(&rt, lines.answers.as_slice(), answers.as_bytes());
     }
     Ok(())
 }
@@ -194,14 +196,15 @@ fn check_written<R: Abort + Wait + AllocGlobal>(
         File::new(rt.alloc(), usize::MAX),
     );
     let ended = capture.write_on(rt, &mut steps, &mut answers);
-    assert_eq!(rt; steps.octets.as_slice(), wanted_steps.as_bytes());
-    assert_eq!(rt; answers.octets.as_slice(), wanted_answers.as_bytes());
-    assert_eq!(rt;
-        ended,
-        RecordEnd {
+    same_list(rt, steps.octets.as_slice(), wanted_steps.as_bytes());
+    same_list(rt, answers.octets.as_slice(), wanted_answers.as_bytes());
+    same(
+        rt,
+        &ended,
+        &RecordEnd {
             step: 10,
-            cause: RecordEndCause::Closed
-        }
+            cause: RecordEndCause::Closed,
+        },
     );
 }
 
@@ -302,7 +305,11 @@ fn check_case<R: Abort + Wait + AllocGlobal>(rt: &R, case: &Case) -> Result<(), 
     let mut steps = File::new(rt.alloc(), case.most_steps);
     let mut answers = File::new(rt.alloc(), case.most_answers);
     let ended = capture.write_on(rt, &mut steps, &mut answers);
-    assert_eq!(rt; (ended, steps.octets.len()), (case.ended, case.written));
+    same(
+        rt,
+        &(ended, steps.octets.len()),
+        &(case.ended, case.written),
+    );
     assert!(rt; matches!(capture.keep(&Step::Tick { moment: 0 }), Kept::Nothing));
     Ok(())
 }
@@ -320,14 +327,15 @@ fn step_without_line(rt: HostRuntime) {
     capture.put_step(&rt, kept, 2, Ok(Reply::Taken));
     assert!(rt; !capture.is_on());
     let (ended, steps) = ended_of(&rt, &capture);
-    assert_eq!(rt;
-        ended,
-        RecordEnd {
+    same(
+        &rt,
+        &ended,
+        &RecordEnd {
             step: 2,
-            cause: RecordEndCause::NotWritten
-        }
+            cause: RecordEndCause::NotWritten,
+        },
     );
-    assert_eq!(rt; steps.as_slice(), b"tick 10\n".as_slice());
+    same_list(&rt, steps.as_slice(), b"tick 10\n".as_slice());
 }
 
 /// How a capture ends, and the lines of its steps.
@@ -395,20 +403,23 @@ fn flushed_where_nothing_waits(rt: HostRuntime) -> Result<(), Fail> {
     let mut steps = Feeding::new(&rt, rt.alloc(), Some(&capture));
     let mut answers = Feeding::new(&rt, rt.alloc(), None);
     let ended = capture.write_on(&rt, &mut steps, &mut answers);
-    assert_eq!(rt;
-        ended,
-        RecordEnd {
+    same(
+        &rt,
+        &ended,
+        &RecordEnd {
             step: 80_001,
-            cause: RecordEndCause::Closed
-        }
+            cause: RecordEndCause::Closed,
+        },
     );
-    assert_eq!(rt;
+    same_list(
+        &rt,
         steps.at_flushes.as_slice(),
-        [280_000, 560_000, 560_000].as_slice()
+        [280_000, 560_000, 560_000].as_slice(),
     );
-    assert_eq!(rt;
+    same_list(
+        &rt,
         answers.at_flushes.as_slice(),
-        [440_000, 880_000, 880_000].as_slice()
+        [440_000, 880_000, 880_000].as_slice(),
     );
     Ok(())
 }
@@ -434,7 +445,7 @@ fn endings_are_told(rt: HostRuntime) -> Result<(), Fail> {
         };
         let text = format!(in rt.alloc(); "{ended}")?;
         let wanted = format!(in rt.alloc(); "recording ended at step 17: {words}")?;
-        assert_eq!(rt; text.as_str(), wanted.as_str());
+        same_text(&rt, text.as_str(), wanted.as_str());
     }
     Ok(())
 }
@@ -445,14 +456,15 @@ fn nothing_is_captured(rt: HostRuntime) {
     put_tick(&rt, &capture, 1, 10, TICKED);
     capture.put_pumps(&rt, &RUN);
     let (ended, steps) = ended_of(&rt, &capture);
-    assert_eq!(rt;
-        ended,
-        RecordEnd {
+    same(
+        &rt,
+        &ended,
+        &RecordEnd {
             step: 1,
-            cause: RecordEndCause::Closed
-        }
+            cause: RecordEndCause::Closed,
+        },
     );
-    assert_eq!(rt; steps.len(), 0);
+    same(&rt, &steps.len(), &0);
 }
 
 /// How many ticks each of two workers hands over.
@@ -486,13 +498,14 @@ fn workers_beside_the_writer(rt: HostRuntime) -> Result<(), Fail> {
             shared.close(handle);
         },
     );
-    assert_eq!(rt;
-        ended,
-        RecordEnd {
+    same(
+        &rt,
+        &ended,
+        &RecordEnd {
             step: 2001,
-            cause: RecordEndCause::Closed
-        }
+            cause: RecordEndCause::Closed,
+        },
     );
-    assert_eq!(rt; steps.as_slice(), wanted.as_slice());
+    same_list(&rt, steps.as_slice(), wanted.as_slice());
     Ok(())
 }

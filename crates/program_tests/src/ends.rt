@@ -1,4 +1,5 @@
 //! Tests of gw_input: what a program writes at last, and its status, at ends that no run of it is sure to show.
+use crate::checks::{same, same_list};
 use gw_input::{Stop, finish};
 use std::test::Fail;
 
@@ -10,8 +11,8 @@ fn ends(rt: HostRuntime) -> Result<(), Fail> {
     for (stop, text) in ENDS {
         let mut output = Vec::new(rt.alloc());
         let status = finish(Err(*stop), &mut output);
-        assert_eq!(rt; output.as_slice(), text.as_bytes());
-        assert_eq!(rt; status, 1);
+        same_list(&rt, output.as_slice(), text.as_bytes());
+        same(&rt, &status, &1);
     }
     Ok(())
 }

@@ -1,4 +1,5 @@
 //! The hub and what it stands on: a long run of steps, and numbers and words.
+use crate::checks::{same, same_text};
 use gw_map::{DEFAULT_SETTINGS, Settings};
 use gw_replay::{Hub, Reply, Step, StepFault, Why};
 use gw_time::TagFault;
@@ -33,8 +34,8 @@ fn replies_to(alloc: Global, steps: Vec<Step>) -> Result<Vec<Result<Reply, StepF
 #[test]
 fn a_long_run(rt: HostRuntime) -> Result<(), Fail> {
     let replies = replies_to(rt.alloc(), many_steps(rt.alloc())?)?;
-    assert_eq!(rt; replies.len(), 10_001);
-    assert_eq!(rt; replies.last(), Some(&Ok(Reply::Nothing)));
+    same(&rt, &replies.len(), &10_001);
+    same(&rt, &replies.last(), &Some(&Ok(Reply::Nothing)));
     Ok(())
 }
 
@@ -48,7 +49,7 @@ fn causes_are_numbered(rt: HostRuntime) {
         Why::Flooded,
         Why::Timer,
     ];
-    assert_eq!(rt; causes.map(|why| why as u8), [1, 2, 3, 4, 5]);
+    same(&rt, &causes.map(|why| why as u8), &[1, 2, 3, 4, 5]);
 }
 
 #[test]
@@ -57,8 +58,8 @@ fn words_of_faults_of_tags(rt: HostRuntime) -> Result<(), Fail> {
         (TagFault::Field, 1, "1 Field"),
         (TagFault::Date, 2, "2 Date"),
     ] {
-        assert_eq!(rt; fault as u8, number);
-        assert_eq!(rt; fault.to_string(rt.alloc())?.as_str(), text);
+        same(&rt, &(fault as u8), &number);
+        same_text(&rt, fault.to_string(rt.alloc())?.as_str(), text);
     }
     Ok(())
 }

@@ -6,6 +6,8 @@
 #[cfg(test)]
 mod capture;
 #[cfg(test)]
+mod checks;
+#[cfg(test)]
 mod controls;
 #[cfg(test)]
 mod ends;

@@ -1,9 +1,10 @@
 //! Tests of what calls on a shared core tell of the orders that end without an answer, and of how orders are counted.
 ghost use Rattle.std.specs.Prelude.{◌≡◌};
 
+use crate::checks::{same, same_list};
 use gw_map::Settings;
 use gw_replay::{Instruction, read_instruction};
-use gw_shared::{Fate, Hub, Pass, Settled, Shared, Step};
+use gw_shared::{Calls, Fate, Hub, Pass, Settled, Shared, Step};
 use std::marker::Brand;
 use std::process::Abort;
 use std::sync::Wait;
@@ -137,7 +138,7 @@ fn run<L: Ledger, R: Wait + Abort + AllocGlobal>(rt: &R, blank: Blank, hub: Hub,
             make(rt, &shared, &mut pass, line, &mut ended);
         }
     }
-    assert_eq!(rt; ended.as_slice(), course.settled);
+    same_list(rt, ended.as_slice(), course.settled);
     check_counts(rt, &shared, course);
 }
 
@@ -168,6 +169,6 @@ fn step_of<R: Abort + AllocGlobal>(rt: &R, line: &str) -> Step {
 fn check_counts<L: Ledger, R: Wait + Abort>(rt: &R, shared: &Shared<L>, course: &Course) {
     let orders = shared.figures(rt).orders[0];
     let counts = [orders.done, orders.failed, orders.let_go, orders.waiting()];
-    assert_eq!(rt; orders.accepted, 2);
-    assert_eq!(rt; counts, course.counts);
+    same(rt, &orders.accepted, &2);
+    same(rt, &counts, &course.counts);
 }

@@ -1,4 +1,5 @@
 //! Tests of gw_replay: words and numbers that no transcript shows.
+use crate::checks::same_list;
 use gw_replay::{Reply, StepFault, Why, push_reply};
 use std::test::Fail;
 
@@ -15,6 +16,6 @@ fn replies(rt: HostRuntime) -> Result<(), Fail> {
         push_reply(&mut text, reply)?;
     }
     let want = b"closed Timer\nticked 0 4 7\nfault 5 Memory\nfault 6 Spent\n";
-    assert_eq!(rt; text.as_slice(), want.as_slice());
+    same_list(&rt, text.as_slice(), want.as_slice());
     Ok(())
 }

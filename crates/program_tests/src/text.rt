@@ -1,4 +1,5 @@
 //! Tests of gw_text.
+use crate::checks::{same_list, same_text};
 use dnp_app::AppFault;
 use dnp_objects::{HeaderFault, ObjectFault};
 use gw_model::Memory;
@@ -23,7 +24,7 @@ fn check_refusal(rt: &(impl Abort + AllocGlobal), fault: AppFault) -> Result<(),
     let mut output = Vec::new(rt.alloc());
     write_refusal(&mut output, fault)?;
     let shown = format!(in rt.alloc(); "refused {fault}\n")?;
-    assert_eq!(rt; output.as_slice(), shown.as_str().as_bytes());
+    same_list(rt, output.as_slice(), shown.as_str().as_bytes());
     Ok(())
 }
 
@@ -39,6 +40,6 @@ fn refusals(rt: HostRuntime) -> Result<(), Fail> {
         };
         check_refusal(&rt, AppFault::Object(fault))?;
     }
-    assert_eq!(rt; Memory.to_string(rt.alloc())?.as_str(), "Memory");
+    same_text(&rt, Memory.to_string(rt.alloc())?.as_str(), "Memory");
     Ok(())
 }

@@ -1,7 +1,8 @@
 //! Steps as the lines of a replay, and calls of them on a shared core.
 
+use crate::checks::{same, same_list};
 use gw_replay::{Instruction, push_reply, read_instruction};
-use gw_threads::{Pass, Reply, Shared, Step, StepFault};
+use gw_threads::{Calls, Pass, Reply, Shared, Step, StepFault};
 use std::process::Abort;
 use std::sync::Wait;
 use std::sync::ledger::Ledger;
@@ -40,7 +41,7 @@ pub fn answers_of<L: Ledger, R: Wait + Abort + AllocGlobal>(
     let mut answers = Vec::new(rt.alloc());
     for ((wanted, line), (actor, _)) in (1..u64::MAX).zip(lines.lines()).zip(turns) {
         let (number, answer) = ask(rt, shared, passes, *actor, step_of(rt, line));
-        assert_eq!(rt; number, wanted);
+        same(rt, &number, &wanted);
         answers.push(answer).expect(rt, "memory");
     }
     answers
@@ -79,5 +80,5 @@ pub fn check_answers<R: Abort + AllocGlobal>(rt: &R, answers: &[Answer], wanted:
     for answer in answers {
         push_reply(&mut text, *answer).expect(rt, "memory");
     }
-    assert_eq!(rt; text.as_slice(), wanted.as_bytes());
+    same_list(rt, text.as_slice(), wanted.as_bytes());
 }

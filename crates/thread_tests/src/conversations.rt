@@ -3,6 +3,7 @@
 ghost use Rattle.std.specs.Prelude.{◌≡◌};
 
 use crate::asking::{Answer, Turn, answers_of, check_answers, steps_of};
+use crate::checks::{same, same_list, same_text};
 use crate::opening::{end, hub_on, open, settings_of};
 use crate::telling::{entries_since, push_call, push_entry};
 use gw_map::DEFAULT_SETTINGS;
@@ -282,14 +283,14 @@ fn check<R: Abort + AllocGlobal>(
     total: u64,
     recorder: &Recorder,
 ) {
-    assert_eq!(rt; total, answers.len() as u64);
+    same(rt, &total, &(answers.len() as u64));
     let Conversation {
         lines,
         replies,
         recording,
     } = *conversation;
     check_answers(rt, answers, replies);
-    assert_eq!(rt; answers, answers_alone(rt, lines).as_slice());
+    same_list(rt, answers, answers_alone(rt, lines).as_slice());
     check_recorder(rt, recorder, recording, lines, answers);
 }
 
@@ -313,7 +314,7 @@ fn check_recorder<R: Abort + AllocGlobal>(
         push_entry(rt, &mut kept, entry);
     }
     let made = text_of_calls(rt, recording, lines, answers);
-    assert_eq!(rt; kept.as_str(), made.as_str());
+    same_text(rt, kept.as_str(), made.as_str());
 }
 
 /// The lines of the calls that the recorder is to keep.

@@ -1,5 +1,6 @@
 //! What workers gave and took, beside the calls that a recorder has kept of them.
 
+use crate::checks::same;
 use crate::held::{CLIENT_1_WRITER, OUTSTATION_0_READER};
 use crate::memory::has_termination;
 use crate::peers::{MASTER, SOURCES, Source};
@@ -21,7 +22,7 @@ pub fn check_outstations<R: Abort + AllocGlobal>(rt: &R, entries: &[Entry]) {
         let responses = responses_of(rt.alloc(), outstation, &[octets], MASTER, address).expect(
             rt, "memory",
         );
-        assert_eq!(rt; responses.len(), 2);
+        same(rt, &responses.len(), &2);
         assert!(rt;
             are_stepped(entries, source.reader, &responses),
             "outstation {outstation}"

@@ -1,16 +1,20 @@
-//! Tests of the shared core, its recorder and the workers round it, through their public calls: that these end, what
-//! they hand over, and that they go on beside one another, of which no contract tells. `server_tests` has the server,
-//! and `.ci/serve` what the built program does.
+//! Tests of the shared core, its recorder and the workers round it, and of the server over the loopback, through their
+//! public calls: that these end, what they hand over, and that they go on beside one another, of which no contract
+//! tells. `.ci/serve` has what the built program does.
 #![tactic(auto)]
 
 #[cfg(test)]
 mod asking;
+#[cfg(test)]
+mod checks;
 #[cfg(test)]
 mod conversations;
 #[cfg(test)]
 mod held;
 #[cfg(test)]
 mod kept;
+#[cfg(test)]
+mod loopback;
 #[cfg(test)]
 mod memory;
 #[cfg(test)]
@@ -21,6 +25,8 @@ mod peers;
 mod putting;
 #[cfg(test)]
 mod reading_ends;
+#[cfg(test)]
+mod seen;
 #[cfg(test)]
 mod spent;
 #[cfg(test)]

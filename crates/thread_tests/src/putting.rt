@@ -1,6 +1,7 @@
 //! Tests of put_out over a hub alone: what a writer takes of the replies to pumps, and where it fails.
 
 use crate::asking::{step_of, steps_of};
+use crate::checks::{same_at, same_list};
 use crate::memory::Client;
 use crate::opening::{copy_of, hub_on};
 use crate::telling::answer_of;
@@ -27,7 +28,7 @@ const RUN: &[u8] = &[
 #[test]
 fn puts_out(rt: HostRuntime) {
     let hub = hub_after(&rt);
-    assert_eq!(rt; replies_to_pumps(&rt, &hub).as_slice(), RUN);
+    same_list(&rt, replies_to_pumps(&rt, &hub).as_slice(), RUN);
     let ended = Put::Ended(Some(Ok(Reply::Nothing)));
     check_put(&rt, &hub, RUN.len(), ended);
     for room in [0, 5, 6, 21, 30, RUN.len() - 1] {
@@ -70,10 +71,11 @@ fn check_put<R: Abort + AllocGlobal>(rt: &R, hub: &Hub, room: usize, end: Put) {
         has_ended: &has_ended,
     };
     let ended = put(copy_of(rt, hub), &mut writer);
-    assert_eq!(rt;
-        (ended, Some(writer.octets.as_slice())),
-        (end, RUN.get(..room)),
-        "room for {room}"
+    same_at(
+        rt,
+        &(ended, Some(writer.octets.as_slice())),
+        &(end, RUN.get(..room)),
+        &room,
     );
 }
 

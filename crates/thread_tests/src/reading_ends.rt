@@ -2,10 +2,11 @@
 ghost use Rattle.std.specs.Prelude.{◌≡◌};
 
 use crate::asking::bring_up;
+use crate::checks::same;
 use crate::memory::read_client;
 use crate::opening::{hub_on, open, total_of};
 use gw_map::DEFAULT_SETTINGS;
-use gw_threads::{Hub, OpenGate, Pass, Shared, Why, WorkerEnd};
+use gw_threads::{Calls, Hub, OpenGate, Pass, Shared, Why, WorkerEnd};
 use iec_apci::ApciFault;
 use std::marker::Brand;
 use std::process::Abort;
@@ -46,9 +47,13 @@ fn read<L: Ledger, R: Wait + Abort + AllocGlobal>(
     let (shared, mut passes) = open::<L, R>(rt, blank, hub, 1, 8);
     bring_up(rt, &shared, &mut passes, &[(0, 1)], "open 0 0", "ok\n");
     assert!(rt; shared.stands(rt, 0));
-    assert_eq!(rt; end_of_reading(rt, &shared, &mut passes, octets), wanted);
+    same(
+        rt,
+        &end_of_reading(rt, &shared, &mut passes, octets),
+        &wanted,
+    );
     assert!(rt; !shared.stands(rt, 0));
-    assert_eq!(rt; total_of(rt, &shared, passes), 2);
+    same(rt, &total_of(rt, &shared, passes), &2);
 }
 
 /// Why the reader ends, which works with the last pass.

@@ -1,6 +1,7 @@
 //! What a recorder has kept.
 
 use crate::asking::{Answer, Turn};
+use crate::checks::same;
 use crate::opening::copy_of;
 use dnp_app::KeptResponse;
 use gw_threads::{Entry, Hub, Kept, KeptStep, Recorder, Step};
@@ -11,10 +12,10 @@ use std::process::Abort;
 /// answers their steps as they were answered.
 pub fn entries_since<'a, R: Abort>(rt: &R, recorder: &'a Recorder, counts: &[u64]) -> &'a [Entry] {
     let dump = recorder.dump().expect(rt, "a recorder that is on");
-    assert_eq!(rt; dump.counts, counts);
+    same(rt, &dump.counts, &counts);
     let mut hub = copy_of(rt, dump.base);
     for entry in dump.entries {
-        assert_eq!(rt; answer_of_kept(rt, &mut hub, &entry.step), entry.reply);
+        same(rt, &answer_of_kept(rt, &mut hub, &entry.step), &entry.reply);
     }
     dump.entries
 }

@@ -3,6 +3,7 @@
 ghost use Rattle.std.specs.Prelude.{◌≡◌};
 
 use crate::asking::{Turn, bring_up};
+use crate::checks::same;
 use crate::held::{
     CLIENT_0_READER, CLIENT_0_WRITER, CLIENT_1_READER, CLIENT_1_WRITER, Held, OUTSTATION_0_READER,
     OUTSTATION_1_READER,
@@ -14,7 +15,7 @@ use crate::peers::{FROM_CLIENT, MASTER, SOURCES, Still, TWO_OUTSTATIONS};
 use crate::telling::entries_since;
 use dnp_receive::Receiver;
 use gw_threads::{
-    CloseFault, Hub, Line, Pass, Recorder, Shared, WorkerEnd, client_writer, clock,
+    Calls, CloseFault, Hub, Line, Pass, Recorder, Shared, WorkerEnd, client_writer, clock,
     outstation_reader, outstation_writer,
 };
 use std::marker::Brand;
@@ -165,7 +166,7 @@ fn perform_all<L: Ledger + Send + Sync, R: Host>(
 fn perform<L: Ledger, R: Host>(scene: &Scene<'_, L, R>, pass: Pass<L>) -> Pass<L> {
     let (role, wanted) = *WORKERS.get(pass.actor()).expect(scene.rt, "a worker");
     let (pass, end) = perform_as(scene, role, pass);
-    assert_eq!(scene.rt; end, wanted);
+    same(scene.rt, &end, &wanted);
     // The clock and this one were at work.
     if scene.at_work.fetch_sub(1, Ordering::SeqCst) == 2 {
         assert!(scene.rt; !scene.shared.stopping());
@@ -289,7 +290,7 @@ fn check_refusal<L: Ledger, R: Host>(
     let mut passes = passes;
     let missing = passes.pop().expect(rt, "a pass");
     let mut passes = refused(rt, shared, passes);
-    assert_eq!(rt; passes.len(), 8);
+    same(rt, &passes.len(), &8);
     passes.push(missing).expect(rt, "memory");
     passes
 }
@@ -305,7 +306,7 @@ fn refused<L: Ledger, R: Host>(rt: &R, shared: &Shared<L>, passes: Vec<Pass<L>>)
 /// All calls were kept, and the peers' workers took and gave what was stepped.
 fn check<R: Host>(rt: &R, recorder: &Recorder, taken: &[Taken; 2], total: u64) {
     let entries = entries_since(rt, recorder, &[0; 9]);
-    assert_eq!(rt; entries.len() as u64, total);
+    same(rt, &(entries.len() as u64), &total);
     assert!(rt; is_answered_first(entries));
     check_outstations(rt, entries);
     let [first, second] = taken;

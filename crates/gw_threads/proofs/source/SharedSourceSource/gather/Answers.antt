@@ -1,5 +1,5 @@
 use Rattle.std.proofs.Common.{ℕ, ap, subst}
-use Rattle.gw_threads.specs.PutOut.{IsGathered}
+use Rattle.gw_ends.specs.PutOut.{IsGathered}
 use Rattle.gw_threads.specs.Written.{Asking, GivesTo}
 use Rattle.gw_threads.proofs.Gathering.{gathered-by}
 use Rattle.gw_threads.proofs.source.SharedSourceSource.gather.Goals as goal

@@ -1,0 +1,86 @@
+//! How orders end, and how many did.
+ghost use Rattle.std.specs.Prelude.{◌≡◌, ◌-◌};
+
+/// What became of an order without an answer of its outstation.
+#[derive(Clone, Copy, Debug, PartialEq, Eq)]
+pub enum Fate {
+    /// Its outstation was lost.
+    Lost,
+    /// It was given, and no answer came in time.
+    Unanswered,
+    /// Its client's session ended before it was given.
+    LetGo,
+}
+
+/// An order that ended without an answer of its outstation.
+#[derive(Clone, Copy, Debug, PartialEq, Eq)]
+pub struct Settled {
+    /// Its number.
+    pub order: u64,
+    /// The outstation that it was for.
+    pub outstation: u8,
+    /// What became of it.
+    pub fate: Fate,
+}
+
+/// How many orders for an outstation were accepted, and what became of them.
+#[derive(Clone, Copy)]
+pub struct OrderCounts {
+    /// Those that were accepted.
+    pub accepted: u64,
+    /// Those that the outstation did.
+    pub done: u64,
+    /// Those that failed.
+    pub failed: u64,
+    /// Those that were let go.
+    pub let_go: u64,
+}
+
+/// One more.
+fn add_one(count: &mut u64) {
+    *count = count.saturating_add(1);
+}
+
+impl OrderCounts {
+    /// None.
+    pub fn nothing() -> OrderCounts {
+        OrderCounts {
+            accepted: 0,
+            done: 0,
+            failed: 0,
+            let_go: 0,
+        }
+    }
+
+    /// How many have not ended: they wait for the outstation, or for its answer.
+    pub fn waiting(self) -> u64
+        ensures { result ≡ self.accepted - self.done - self.failed - self.let_go }
+    {
+        self.accepted
+            .saturating_sub(self.done)
+            .saturating_sub(self.failed)
+            .saturating_sub(self.let_go)
+    }
+
+    /// One more was accepted.
+    pub fn accept(&mut self) {
+        add_one(&mut self.accepted);
+    }
+
+    /// One ended with an answer.
+    pub fn answer(&mut self, done: bool) {
+        if done {
+            add_one(&mut self.done);
+        } else {
+            add_one(&mut self.failed);
+        }
+    }
+
+    /// One ended without one.
+    pub fn settle(&mut self, fate: Fate) {
+        match fate {
+            Fate::Lost | Fate::Unanswered => add_one(&mut self.failed),
+            Fate::LetGo => add_one(&mut self.let_go),
+        }
+    }
+}

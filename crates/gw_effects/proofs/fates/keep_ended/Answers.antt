@@ -1,0 +1,10 @@
+use Rattle.std.specs.Prelude.{not}
+use Rattle.std.proofs.Common.{rules}
+use Rattle.std.proofs.lemmas.Fn.{filter_same}
+use Rattle.gw_steps.specs.Controls.{is_on_its_way}
+use Rattle.gw_effects.proofs.fates.keep_ended.Goals as goal
+
+pub returns : goal.returns
+returns c =
+    filter_same _ (λ x. not (is_on_its_way c.args.hub.now.state x.settled.outstation x.settled.order)) _
+    (λ x b f' k. search rules) _ _ c.retain.ensures.filtered

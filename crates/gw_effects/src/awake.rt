@@ -1,0 +1,36 @@
+//! Which writers needn't be rung for.
+
+use crate::roused::{Roused, Topic};
+use gw_hub::{Reply, StepFault};
+
+/// The writers of clients that are awake: each that was rung for and hasn't been told since that nothing is due. It
+/// asks again before it sleeps, so whoever steps meanwhile needn't ring.
+#[derive(Clone, Copy)]
+pub struct Awake {
+    writers: Roused,
+}
+
+impl Awake {
+    /// All sleep.
+    pub fn nobody() -> Awake {
+        Awake {
+            writers: Roused::nobody(),
+        }
+    }
+
+    /// A writer that is told of no APDU may sleep now.
+    pub fn told(&mut self, topic: Topic, reply: &Result<Reply, StepFault>) {
+        match (topic, reply) {
+            (Topic::Pump(_), Ok(Reply::Apdu(_))) => {}
+            (Topic::Pump(client), _) => self.writers = self.writers.without_client(client),
+            _ => {}
+        }
+    }
+
+    /// Those of the workers that a step serves for whom the bell has to ring; they are awake then.
+    pub fn rouse(&mut self, served: Roused) -> Roused {
+        let asleep = served.without_clients_of(self.writers);
+        self.writers = self.writers.with_clients_of(served);
+        asleep
+    }
+}

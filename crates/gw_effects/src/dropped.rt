@@ -1,0 +1,81 @@
+//! What was dropped for clients, over all their data transfers.
+
+use crate::roused::{CLIENTS, Topic};
+use gw_hub::Hub;
+
+/// What was dropped for the clients whose data transfer a step may end, before it is made.
+#[derive(Clone, Copy)]
+pub enum Watch {
+    /// It ends none.
+    Nobody,
+    /// A client, and how many observations.
+    One(u8, u64),
+    /// Each client's.
+    All([u64; 8]),
+}
+
+impl Watch {
+    /// What is to be watched in a hub before a step about something.
+    pub fn of(topic: Topic, hub: &Hub) -> Watch {
+        match topic {
+            Topic::Client(client) => Watch::One(client, hub.dropped(client)),
+            Topic::Tick => Watch::All(dropped_in(hub)),
+            Topic::Poll(_) | Topic::Pump(_) | Topic::Fragment(_) | Topic::Up(_) | Topic::Loss(_) =>
+                Watch::Nobody,
+        }
+    }
+}
+
+/// What was dropped for each client in its data transfer.
+fn dropped_in(hub: &Hub) -> [u64; 8] {
+    let mut counts = [0; 8];
+    for client in 0..CLIENTS {
+        counts[usize::from(client)] = hub.dropped(client);
+    }
+    counts
+}
+
+/// For each client how many observations were dropped in those data transfers that have ended, which a hub forgets.
+#[derive(Clone, Copy)]
+pub struct Dropped {
+    counts: [u64; 8],
+}
+
+impl Dropped {
+    /// No data transfer has ended.
+    pub fn new() -> Dropped {
+        Dropped { counts: [0; 8] }
+    }
+
+    /// A step was made that left the hub so: a client of whom fewer are counted than before has ended its data
+    /// transfer.
+    pub fn note(&mut self, before: Watch, hub: &Hub) {
+        match before {
+            Watch::Nobody => {}
+            Watch::One(client, count) => self.compare(client, count, hub),
+            Watch::All(counts) => {
+                for client in 0..CLIENTS {
+                    self.compare(client, counts[usize::from(client)], hub);
+                }
+            }
+        }
+    }
+
+    /// Counts what was dropped for a client before, where its data transfer has ended.
+    fn compare(&mut self, client: u8, before: u64, hub: &Hub) {
+        if hub.dropped(client) < before {
+            if let Some(count) = self.counts.get_mut(usize::from(client)) {
+                *count = count.saturating_add(before);
+            }
+        }
+    }
+
+    /// What was dropped for each client, with that of the data transfer that stands.
+    pub fn in_all(&self, hub: &Hub) -> [u64; 8] {
+        let mut counts = dropped_in(hub);
+        for client in 0..usize::from(CLIENTS) {
+            counts[client] = counts[client].saturating_add(self.counts[client]);
+        }
+        counts
+    }
+}

@@ -1,0 +1,45 @@
+//! What is counted under the lock.
+
+use crate::dropped::Dropped;
+use crate::fates::Fates;
+use crate::roused::{CLIENTS, OUTSTATIONS};
+use gw_control::OrderCounts;
+use gw_hub::Hub;
+
+/// How many calls were made, how many observations were news, what waits for clients, and what became of orders.
+#[derive(Clone, Copy)]
+pub struct Figures {
+    /// The calls.
+    pub calls: u64,
+    /// The observations that were news.
+    pub news: u64,
+    /// For each client the news that wait.
+    pub queued: [usize; 8],
+    /// For each client the I formats sent that are not acknowledged.
+    pub unacknowledged: [usize; 8],
+    /// For each client the news that were dropped, in all its data transfers and those of the clients before it.
+    pub dropped: [u64; 8],
+    /// For each outstation its orders.
+    pub orders: [OrderCounts; OUTSTATIONS as usize],
+}
+
+impl Figures {
+    /// Those of a hub on which so many calls were made, with what was dropped in data transfers that have ended, and
+    /// with what became of orders.
+    pub fn of(calls: u64, hub: &Hub, dropped: &Dropped, fates: &Fates) -> Figures {
+        let mut queued = [0; 8];
+        let mut unacknowledged = [0; 8];
+        for client in 0..CLIENTS {
+            queued[usize::from(client)] = hub.queued(client);
+            unacknowledged[usize::from(client)] = hub.unacknowledged(client);
+        }
+        Figures {
+            calls,
+            news: hub.news(),
+            queued,
+            unacknowledged,
+            dropped: dropped.in_all(hub),
+            orders: fates.counts(),
+        }
+    }
+}

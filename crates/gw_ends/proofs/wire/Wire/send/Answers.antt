@@ -1,0 +1,38 @@
+use Rattle.std.proofs.Common.{List, ℕ, ◌++◌, ◌∷◌, [], sym, ap, subst, ◌∙◌, append_assoc, arith}
+use Rattle.std.proofs.lemmas.List.{length-append}
+use Rattle.std.specs.Io.KnownBytes.{Appends}
+use Rattle.dnp_link.specs.Frame.{frame, frame_content}
+use Rattle.gw_ends.proofs.Framing.{framed-one, front-written}
+use Rattle.gw_ends.proofs.Runs.{appends-more}
+use Rattle.gw_ends.proofs.wire.Wire.send.Goals as goal
+
+pub segments-preserved : goal.segments-preserved
+segments-preserved g c =
+    let own = c.args.self.now.own in
+    let peer = c.args.self.now.peer in
+    let before = c.segments.yielded in
+    let segment = c.in-Some.segment in
+    let front = front-written _ _ _ _ c.write_frame-end.ensures.written c.write_frame-end.array_long
+    (omega (arith, c.write_frame-end.ensures.length, c.octets.ensures.within)) in
+    let framed_so =
+    front
+    ∙ (ap (λ (user : List ℕ). frame (frame_content 196 c.segments.self.peer c.segments.self.own user))
+    c.octets.ensures.octets
+    ∙ (ap (λ (n : ℕ). frame (frame_content 196 n c.segments.self.own segment)) c.segments.invariant.peer
+    ∙ ap (λ (n : ℕ). frame (frame_content 196 peer n segment)) c.segments.invariant.own))
+    in
+    record {
+      own = c.segments.invariant.own;
+      peer = c.segments.invariant.peer;
+      sequence = omega (arith, c.segments.invariant.sequence, length-append before (segment ∷ []));
+      segments =
+          append_assoc before (segment ∷ []) c.next.new.self
+          ∙ (ap (λ (rest : List (List ℕ)). before ++ rest) (sym c.in-Some.ensures.steps)
+          ∙ c.segments.invariant.segments);
+      handed =
+          subst (Appends (g.W.Outgoing.contents c.args.self.now.writer) (g.W.Outgoing.contents c.hand.new.self))
+          (sym (framed-one own peer before segment))
+          (appends-more _ _ _ _ _ c.segments.invariant.handed
+          (subst (Appends (g.W.Outgoing.contents c.segments.self.writer) (g.W.Outgoing.contents c.hand.new.self))
+          framed_so c.in_ok-hand.ensures.ok));
+    }

@@ -1,0 +1,15 @@
+-- The segments so far were handed over, a frame each.
+use Rattle.std.proofs.Common.{◌≡◌, ◌+◌, ◌%◌, ◌++◌, length}
+use Rattle.std.specs.Io.KnownBytes.{Appends}
+use Rattle.gw_ends.specs.Framed.{framed}
+use Rattle.gw_ends.proofs.wire.Wire.send.Given as goal
+
+abbrev pub invariant-segments : goal.invariant-segments
+invariant-segments g l = record {
+  own : l.self.own ≡ l.initial.self.own;
+  peer : l.self.peer ≡ l.initial.self.peer;
+  sequence : l.self.sequence % 64 ≡ (l.initial.self.sequence + length l.yielded) % 64;
+  segments : l.yielded ++ l.segment-iterator ≡ l.initial.segment-iterator;
+  handed : Appends (g.W.Outgoing.contents l.initial.self.writer) (g.W.Outgoing.contents l.self.writer)
+      (framed l.initial.self.own l.initial.self.peer l.yielded);
+}

@@ -1,0 +1,4 @@
+pub mod Ends
+pub mod Framed
+pub mod Octets
+pub mod PutOut

@@ -1,0 +1,70 @@
+//! Fragments on the link to an outstation.
+ghost use Rattle.std.specs.Prelude.{◌≡◌, ◌≤◌, ◌<◌, ◌+◌, ◌%◌, length, take, ℕ, OnErr, OnOk};
+ghost use Rattle.std.specs.Io.KnownBytes.{Appends};
+ghost use Rattle.dnp_transport.specs.Cut.{segments_of};
+ghost use Rattle.gw_ends.specs.Ends.{CanFail};
+ghost use Rattle.gw_ends.specs.Framed.{framed};
+
+use crate::ends::{Outgoing, Unwritten};
+use dnp_link::write_frame;
+use dnp_transport::segments;
+use std::marker::Model;
+
+/// The control octet of what a master sends: DIR and PRM are set, and the function is UNCONFIRMED_USER_DATA (IEEE Std
+/// 1815-2012, clause 9).
+const USER_DATA: u8 = 0xC4;
+
+/// The most octets of a fragment that one segment carries.
+pub const ONE_SEGMENT: usize = 249;
+
+/// The way to an outstation: where octets go, the addresses of the link, and the next sequence number of the transport
+/// function.
+#[derive(Drop)]
+pub struct Wire<W: Outgoing> {
+    writer: W,
+    own: u16,
+    peer: u16,
+    sequence: u8,
+}
+
+impl<W: Outgoing> Wire<W> {
+    /// A link on which nothing was sent.
+    pub fn new(writer: W, own: u16, peer: u16) -> Wire<W> {
+        Wire {
+            writer,
+            own,
+            peer,
+            sequence: 0,
+        }
+    }
+
+    /// Sends a fragment of at most 2,048 octets, a frame for each segment: one where it has at most 249.
+    pub fn send(&mut self, fragment: &[u8]) -> Result<(), Unwritten>
+        requires { length fragment.now ≤ 2048 }
+        ensures ok { OnOk result (Appends (W.contents self.old.writer) (W.contents self.new.writer)
+            (framed self.old.own self.old.peer (segments_of fragment.now (self.old.sequence % 64)))) }
+        ensures err { OnErr result (CanFail W.can_fail) }
+        ensures addresses { (self.new.own ≡ self.old.own) × (self.new.peer ≡ self.old.peer) }
+        // The next sequence number is behind those of the segments.
+        ensures sequence { OnOk result (self.new.sequence % 64
+            ≡ (self.old.sequence + length (segments_of fragment.now (self.old.sequence % 64))) % 64) }
+    {
+        'segments: for segment in segments(fragment, self.sequence % 64) {
+            let mut frame = [0; 292];
+            let end = write_frame(USER_DATA, self.peer, self.own, segment.octets(), &mut frame);
+            self.writer.hand(&frame[..end])?;
+            self.sequence = (self.sequence % 64 + 1) % 64;
+        }
+        Ok(())
+    }
+
+    /// Sends a frame of the link as it is.
+    pub fn answer(&mut self, frame: &[u8]) -> Result<(), Unwritten>
+        ensures ok { OnOk result (Appends (W.contents self.old.writer) (W.contents self.new.writer) frame.now) }
+        ensures err { OnErr result (CanFail W.can_fail) }
+        ensures addresses { (self.new.own ≡ self.old.own) × (self.new.peer ≡ self.old.peer) }
+        ensures sequence { self.new.sequence ≡ self.old.sequence }
+    {
+        self.writer.hand(frame)
+    }
+}

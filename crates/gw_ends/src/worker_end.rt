@@ -1,0 +1,23 @@
+//! How workers end.
+
+use gw_station::Why;
+use iec_apci::ApciFault;
+
+/// Why a worker ended.
+#[derive(Clone, Copy, Debug, PartialEq, Eq)]
+pub enum WorkerEnd {
+    /// The core closed the client's connection.
+    Closed(Why),
+    /// The peer sends nothing more.
+    EndOfInput,
+    /// Reading failed.
+    ReadFault,
+    /// Writing failed.
+    WriteFault,
+    /// The peer's octets are no APDUs.
+    Malformed(ApciFault),
+    /// Memory ran out.
+    Memory,
+    /// It was asked to end, or its peer isn't up any more, or no further step can be counted.
+    Stopping,
+}

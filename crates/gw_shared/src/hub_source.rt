@@ -1,0 +1,37 @@
+//! A hub alone, as a source of replies.
+ghost use Rattle.std.specs.Prelude.{◌≡◌, IfSome};
+ghost use Rattle.gw_steps.specs.declared.step.Step.TheVariants as steps;
+ghost use Rattle.gw_steps.specs.Steps.{Allowed};
+
+use gw_ends::{Batch, Gathered, LONGEST_APDU, Source, apdu_in};
+use gw_record::{Hub, Step};
+
+/// A hub alone, pumped for one client at one moment.
+#[derive(Drop)]
+pub struct HubSource {
+    pub hub: Hub,
+    pub client: u8,
+    pub moment: u64,
+}
+
+impl Source for HubSource {
+    ghost Gives = { λ old given new. (new.client ≡ old.client) × (new.moment ≡ old.moment) × IfSome given (λ reply.
+        Allowed old.hub.setup old.hub.state (steps.Pump old.client old.moment) reply new.hub.state) };
+
+    fn gather(&mut self, batch: &mut Batch) -> Gathered {
+        if !batch.has_room(LONGEST_APDU) {
+            return Gathered::More;
+        }
+        let (client, moment) = (self.client, self.moment);
+        let reply = self.hub.step(&Step::Pump { client, moment });
+        match apdu_in(reply) {
+            Some(apdu) => {
+                batch.add(apdu.as_slice());
+                Gathered::More
+            }
+            None => Gathered::Ended(Some(reply)),
+        }
+    }
+
+    fn before_write(&self) {}
+}

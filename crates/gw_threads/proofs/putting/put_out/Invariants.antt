@@ -1,8 +1,0 @@
--- The APDUs so far were given and taken.
-use Rattle.gw_threads.specs.PutOut.{Handed}
-use Rattle.gw_threads.proofs.putting.put_out.Given as goal
-
-abbrev pub invariant-batches : goal.invariant-batches
-invariant-batches g l =
-    Handed g.S.Source.Gives l.initial.source l.source (g.W.Outgoing.contents l.initial.writer)
-    (g.W.Outgoing.contents l.writer)
