@@ -8,7 +8,7 @@ use crate::lookout::{ANY_TIME, tell_dropped};
 use crate::sockets::ClientSocket;
 use gw_journal::{Cause, JournalEvent};
 use gw_peers::{ClientCard, Desk, Lobby, Visit, shut};
-use gw_threads::{Calls, Clock, Gate, Step, Why};
+use gw_readers::{Calls, Clock, Gate, Step, Why};
 use std::net::{SocketAddr, TcpStream};
 use std::sync::Wait;
 use std::sync::ledger::Ledger;

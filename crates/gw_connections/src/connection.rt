@@ -8,7 +8,7 @@ use crate::sockets::{ClientSocket, OutstationSocket};
 use dnp_receive::Receiver;
 use gw_journal::Cause;
 use gw_peers::shut;
-use gw_threads::{
+use gw_readers::{
     Calls, Clock, Gate, Line, Pass, WorkerEnd, client_reader, client_writer, outstation_reader,
     outstation_writer,
 };

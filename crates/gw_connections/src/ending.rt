@@ -1,7 +1,7 @@
 //! How a connection ended, of which two workers tell.
 
 use gw_journal::{Cause, Failure};
-use gw_threads::WorkerEnd;
+use gw_readers::WorkerEnd;
 use std::io::ErrorKind;
 use std::sync::atomic::{AtomicU64, Ordering};
 

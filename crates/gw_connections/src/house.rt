@@ -1,7 +1,7 @@
 //! What the threads share that make steps on the core.
 
 use gw_peers::Desk;
-use gw_threads::{Calls, Clock, Gate, Pass, Step, make_call};
+use gw_readers::{Calls, Clock, Gate, Pass, Step, make_call};
 use std::sync::Wait;
 use std::sync::ledger::Ledger;
 

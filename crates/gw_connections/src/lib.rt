@@ -13,11 +13,11 @@ mod sockets;
 
 pub use client::serve_place;
 pub use connection::Passes;
-pub use gw_threads::{
-    About, Call, Calls, Closed, Fate, Figures, Gate, Hub, OpenGate, OrderCounts, Pass, Place,
-    Pumped, Reply, Run, Shared, Step, StepFault, Verdict, clock, control_command,
+pub use gw_readers::{
+    Call, Calls, Closed, Gate, Hub, OpenGate, Pass, Place, Pumped, Run, Shared, Step, StepFault,
+    clock,
 };
 pub use host::Host;
 pub use house::House;
-pub use lookout::{ANY_TIME, look_at_outstations, look_out, pause};
+pub use lookout::{ANY_TIME, look_at_outstations, look_out};
 pub use outstation::serve_outstation;

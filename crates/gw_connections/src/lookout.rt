@@ -2,18 +2,10 @@
 
 use gw_journal::{DueNotes, JournalEvent, Refused};
 use gw_peers::{ClientCard, Desk};
-use gw_threads::{Calls, Clock, Figures};
+use gw_readers::{Calls, Clock, Figures, pause};
 use std::rt::Clock as Sleeps;
 use std::sync::Wait;
 use std::sync::ledger::Ledger;
-use std::thread;
-use std::time::Duration;
-
-/// The milliseconds of a piece of a pause, after each of which the server may end.
-const PIECE_MS: u64 = 100;
-
-/// How many pieces a second has.
-const PIECES: u32 = 10;
 
 /// A time at which whatever waits for its time is due.
 pub const ANY_TIME: u64 = u64::MAX;
@@ -31,16 +23,6 @@ pub fn look_out<L: Ledger, S: Calls<L>, R: Wait + Sleeps, C: Clock>(
         let wall = desk.clock.wall();
         look_at_outstations(desk, wall);
         look_at_clients(desk, &shared.figures(desk.rt), wall);
-    }
-}
-
-/// Lets a second pass, or less where the server ends.
-pub fn pause<L: Ledger, S: Calls<L>, R: Sleeps>(rt: &R, shared: &S) {
-    for _ in 0..PIECES {
-        if shared.stopping() {
-            return;
-        }
-        thread::sleep(rt, Duration::from_millis(PIECE_MS));
     }
 }
 

@@ -4,7 +4,7 @@ ghost use Rattle.gw_ends.specs.Ends.{IsWithin};
 
 use crate::ending::Ending;
 use gw_peers::Plan;
-use gw_threads::{Arrival, Incoming, Outgoing, Unwritten};
+use gw_readers::{Arrival, Incoming, Outgoing, Unwritten};
 use std::io::{self, ErrorKind, Read, Write};
 use std::net::TcpStream;
 use std::time::Duration;

@@ -1,13 +1,12 @@
 //! What the server's threads do.
 
-use crate::site::{CLIENTS, Site};
-use crate::status::serve_status;
 use gw_clock::Clock;
 use gw_connections::{
     Calls, Gate, Host, House, Pass, Passes, clock, look_out, serve_outstation, serve_place,
 };
 use gw_model::Memory;
 use gw_peers::{Lobby, await_end};
+use gw_watch::{CLIENTS, Site, serve_status};
 use std::sync::ledger::Ledger;
 
 /// What one thread does, until the server ends.

@@ -1,14 +1,10 @@
-//! The gateway on sockets: it listens for control centres, connects to outstations, and runs the workers round the
-//! shared core, each in a thread of its own, with an operator told of what they do, and the status served.
+//! The gateway on sockets: it listens for control centres, connects to outstations, and runs the workers round a shared
+//! core, each in a thread of its own, until it is to end.
 #![tactic(auto)]
 
-mod controls;
 mod duty;
 mod options;
 mod serving;
-mod site;
-mod status;
-mod watched;
 
 pub use gw_clock::{Clock, SystemClock};
 pub use gw_connections::{Call, Closed, Gate, Host, OpenGate, Place, Pumped, Run, Step, StepFault};

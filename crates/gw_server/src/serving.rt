@@ -4,8 +4,6 @@ ghost use Rattle.std.specs.Thread.{IsSend, IsSync};
 
 use crate::duty::{Duty, Returned, add_duties};
 use crate::options::Options;
-use crate::site::{CLIENTS, Site};
-use crate::watched::Watched;
 use gw_clock::Clock;
 use gw_connections::{
     ANY_TIME, Calls, Closed, Gate, Host, House, Hub, Pass, Shared, look_at_outstations,
@@ -14,6 +12,7 @@ use gw_journal::{Journal, JournalEvent};
 use gw_map::Settings;
 use gw_model::Memory;
 use gw_peers::{Board, Desk, Lobby, Plan, accept, plans_of};
+use gw_watch::{CLIENTS, Site, Watched};
 use std::alloc::Global;
 use std::io;
 use std::marker::Brand;

@@ -3,6 +3,7 @@
 #![tactic(auto)]
 
 mod bells;
+mod calls;
 mod close;
 mod hub_source;
 mod locked;
@@ -10,6 +11,7 @@ mod pass;
 mod pumped;
 mod shared;
 
+pub use calls::Calls;
 pub use close::{CloseFault, Closed};
 pub use gw_bell::Bell;
 pub use gw_effects::{Fate, Figures, Load, OrderCounts, Orders, Settled};
@@ -21,4 +23,4 @@ pub use hub_source::HubSource;
 pub use locked::Core;
 pub use pass::Pass;
 pub use pumped::Pumped;
-pub use shared::{Calls, Shared};
+pub use shared::Shared;

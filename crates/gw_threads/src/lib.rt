@@ -1,22 +1,18 @@
-//! The workers round the shared core: readers, which take octets from a peer, turn them into steps and make these;
-//! writers, which ask the core what goes to a peer and hand it over; and the clock. The core's lock isn't held while
-//! octets are read from a peer, taken apart or handed over. Each worker gives its pass back when it ends, and tells
-//! why it ended.
+//! Workers round the shared core: calls on it, the gate that is told of them, the clock, and the writers, which ask the core
+//! what goes to a peer and hand it over (the readers are `gw_readers`). The core's lock isn't held while octets are handed
+//! over. Each worker gives its pass back when it ends, and tells why it ended.
 #![tactic(auto)]
 
 mod call;
-mod client_reading;
 mod client_writing;
 mod gate;
 mod lost;
-mod outstation_reading;
 mod outstation_writing;
 mod row;
 mod source;
 mod ticking;
 
 pub use call::{About, Call, Run, control_command, make_call};
-pub use client_reading::client_reader;
 pub use client_writing::client_writer;
 pub use gate::{Gate, OpenGate, Place};
 pub use gw_clock::Clock;
@@ -29,6 +25,6 @@ pub use gw_shared::{
     KeptStep, OrderCounts, Orders, Pass, Pumped, Recorder, Reply, Shared, Step, StepFault, Verdict,
     Why,
 };
-pub use outstation_reading::outstation_reader;
+pub use lost::{lose_client, lose_outstation};
 pub use outstation_writing::outstation_writer;
-pub use ticking::clock;
+pub use ticking::{clock, pause};

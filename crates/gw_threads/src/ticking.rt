@@ -1,4 +1,4 @@
-//! The clock's ticks.
+//! The clock's ticks, and pauses.
 ghost use Rattle.std.specs.Prelude.{◌≡◌};
 
 use crate::call::make_call;
@@ -14,6 +14,12 @@ use std::time::Duration;
 
 /// The milliseconds from one tick to the next.
 const TICK_MS: u64 = 100;
+
+/// The milliseconds of a piece of a pause, after each of which the server may end.
+const PIECE_MS: u64 = 100;
+
+/// How many pieces a second has.
+const PIECES: u32 = 10;
 
 /// Makes a tick every 100 milliseconds, until it is asked to end or no further step can be counted.
 pub fn clock<L: Ledger, S: Calls<L>, R: Wait + Sleeps, C: Clock, G: Gate>(
@@ -48,4 +54,14 @@ fn tick<L: Ledger, S: Calls<L>, R: Wait, C: Clock, G: Gate>(
 {
     let moment = clock.moment();
     make_call(rt, shared, pass, Step::Tick { moment }, gate).is_ok()
+}
+
+/// Lets a second pass, or less where the server ends.
+pub fn pause<L: Ledger, S: Calls<L>, R: Sleeps>(rt: &R, shared: &S) {
+    for _ in 0..PIECES {
+        if shared.stopping() {
+            return;
+        }
+        thread::sleep(rt, Duration::from_millis(PIECE_MS));
+    }
 }

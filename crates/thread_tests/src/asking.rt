@@ -1,8 +1,8 @@
 //! Steps as the lines of a replay, and calls of them on a shared core.
 
 use crate::checks::{same, same_list};
+use gw_readers::{Calls, Pass, Reply, Shared, Step, StepFault};
 use gw_replay::{Instruction, push_reply, read_instruction};
-use gw_threads::{Calls, Pass, Reply, Shared, Step, StepFault};
 use std::process::Abort;
 use std::sync::Wait;
 use std::sync::ledger::Ledger;

@@ -7,7 +7,7 @@ use crate::checks::{same, same_list, same_text};
 use crate::opening::{end, hub_on, open, settings_of};
 use crate::telling::{entries_since, push_call, push_entry};
 use gw_map::DEFAULT_SETTINGS;
-use gw_threads::{Hub, Recorder};
+use gw_readers::{Hub, Recorder};
 use std::marker::Brand;
 use std::process::Abort;
 use std::sync::Wait;

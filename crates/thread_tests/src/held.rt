@@ -1,6 +1,6 @@
 //! A gate that holds workers until clients have taken an interrogation's termination.
 
-use gw_threads::{Gate, Place};
+use gw_readers::{Gate, Place};
 use std::rt::Clock;
 use std::sync::atomic::{AtomicBool, AtomicU64, Ordering};
 use std::thread;

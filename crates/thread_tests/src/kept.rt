@@ -6,7 +6,7 @@ use crate::memory::has_termination;
 use crate::peers::{MASTER, SOURCES, Source};
 use dnp_app::Response;
 use dnp_receive::responses_of;
-use gw_threads::{Entry, Kept, Reply};
+use gw_readers::{Entry, Kept, Reply};
 use std::process::Abort;
 use std::sync::{Mutex, Wait};
 

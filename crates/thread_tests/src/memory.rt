@@ -2,7 +2,7 @@
 ghost use Rattle.std.specs.Prelude.{None};
 
 use crate::peers::Still;
-use gw_threads::{
+use gw_readers::{
     Arrival, Gate, Incoming, Outgoing, Pass, Shared, Unwritten, WorkerEnd, client_reader,
 };
 use std::sync::Wait;

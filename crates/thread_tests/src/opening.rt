@@ -2,7 +2,7 @@
 ghost use Rattle.std.specs.Prelude.{◌≡◌, ◌<◌};
 
 use gw_map::Settings;
-use gw_threads::{Hub, Pass, Recorder, Shared};
+use gw_readers::{Hub, Pass, Recorder, Shared};
 use std::alloc::Global;
 use std::process::Abort;
 use std::sync::Wait;

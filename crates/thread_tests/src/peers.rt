@@ -1,7 +1,7 @@
 //! What outstations and clients send, and a clock that stands still.
 
 use crate::held::{OUTSTATION_0_READER, OUTSTATION_1_READER};
-use gw_threads::Clock;
+use gw_readers::Clock;
 
 /// A clock that stands still.
 #[derive(Clone, Copy)]

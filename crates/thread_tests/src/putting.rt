@@ -6,7 +6,7 @@ use crate::memory::Client;
 use crate::opening::{copy_of, hub_on};
 use crate::telling::answer_of;
 use gw_map::DEFAULT_SETTINGS;
-use gw_threads::{Batch, Hub, HubSource, Put, Reply, apdu_in, put_out};
+use gw_readers::{Batch, Hub, HubSource, Put, Reply, apdu_in, put_out};
 use std::process::Abort;
 use std::sync::atomic::AtomicBool;
 

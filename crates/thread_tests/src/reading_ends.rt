@@ -6,7 +6,7 @@ use crate::checks::same;
 use crate::memory::read_client;
 use crate::opening::{hub_on, open, total_of};
 use gw_map::DEFAULT_SETTINGS;
-use gw_threads::{Calls, Hub, OpenGate, Pass, Shared, Why, WorkerEnd};
+use gw_readers::{Calls, Hub, OpenGate, Pass, Shared, Why, WorkerEnd};
 use iec_apci::ApciFault;
 use std::marker::Brand;
 use std::process::Abort;

@@ -5,7 +5,7 @@ use crate::asking::{check_answers, steps_of};
 use crate::opening::settings_of;
 use crate::telling::answer_of;
 use gw_map::DEFAULT_SETTINGS;
-use gw_threads::{Counts, Hub};
+use gw_readers::{Counts, Hub};
 use std::process::Abort;
 
 const NONE: Counts = Counts {

@@ -4,7 +4,7 @@ use crate::asking::{Answer, Turn};
 use crate::checks::same;
 use crate::opening::copy_of;
 use dnp_app::KeptResponse;
-use gw_threads::{Entry, Hub, Kept, KeptStep, Recorder, Step};
+use gw_readers::{Entry, Hub, Kept, KeptStep, Recorder, Step};
 use std::fmt::Write;
 use std::process::Abort;
 

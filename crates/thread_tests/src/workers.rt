@@ -14,7 +14,7 @@ use crate::opening::{end, hub_on, open};
 use crate::peers::{FROM_CLIENT, MASTER, SOURCES, Still, TWO_OUTSTATIONS};
 use crate::telling::entries_since;
 use dnp_receive::Receiver;
-use gw_threads::{
+use gw_readers::{
     Calls, CloseFault, Hub, Line, Pass, Recorder, Shared, WorkerEnd, client_writer, clock,
     outstation_reader, outstation_writer,
 };

@@ -2,15 +2,14 @@
 ghost use Rattle.std.specs.Prelude.{◌≡◌, ◌≤◌, length, IfSome};
 ghost use Rattle.gw_ends.specs.Ends.{IsOfFrames, MayEndBetween};
 
-use crate::call::make_call;
-use crate::gate::{Gate, Place};
-use crate::lost::lose_outstation;
 use dnp_app::{AppFault, Response, read_response};
 use dnp_link::{Frame, LinkEvent, LinkFeed};
 use dnp_receive::Receiver;
-use gw_clock::Clock;
 use gw_ends::{Arrival, Incoming, Line, Outgoing, WorkerEnd};
-use gw_shared::{Bell, Calls, Pass, Reply, Step, StepFault, Verdict};
+use gw_threads::{
+    Bell, Calls, Clock, Gate, Pass, Place, Reply, Step, StepFault, Verdict, lose_outstation,
+    make_call,
+};
 use std::alloc::Global;
 use std::sync::Wait;
 use std::sync::ledger::Ledger;

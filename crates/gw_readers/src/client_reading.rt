@@ -2,12 +2,8 @@
 ghost use Rattle.std.specs.Prelude.{◌≡◌, IfSome};
 ghost use Rattle.gw_ends.specs.Ends.{IsOfSteps, MayEnd};
 
-use crate::call::make_call;
-use crate::gate::{Gate, Place};
-use crate::lost::lose_client;
-use gw_clock::Clock;
 use gw_ends::{Arrival, Incoming, WorkerEnd};
-use gw_shared::{Calls, Pass, Reply, Step, StepFault};
+use gw_threads::{Calls, Clock, Gate, Pass, Place, Reply, Step, StepFault, lose_client, make_call};
 use iec_apci::{ApciFault, Apdu, ApduFeed};
 use std::alloc::Global;
 use std::sync::Wait;

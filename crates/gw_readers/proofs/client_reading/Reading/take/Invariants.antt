@@ -1,5 +1,5 @@
 use Rattle.std.proofs.Common.{◌≡◌}
-use Rattle.gw_threads.proofs.client_reading.Reading.take.Given as goal
+use Rattle.gw_readers.proofs.client_reading.Reading.take.Given as goal
 
 -- the pass is the one that was given
 abbrev pub invariant-apdus : goal.invariant-apdus

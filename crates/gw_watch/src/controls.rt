@@ -1,11 +1,10 @@
 //! What an operator is told of controls: each command that comes, what the client is told of it, each request that is
 //! given for it, and what becomes of it.
 
-use gw_clock::Clock;
-use gw_connections::{About, Call, Fate, Reply, Run, Verdict, control_command};
 use gw_journal::{CommandEvent, JournalEvent, OrderEvent};
 use gw_model::Ended;
 use gw_peers::Desk;
+use gw_threads::{About, Call, Clock, Fate, Reply, Run, Verdict, control_command};
 use iec_apci::Apdus;
 use iec_command::Command;
 use std::sync::Wait;

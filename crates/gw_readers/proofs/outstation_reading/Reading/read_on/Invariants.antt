@@ -1,5 +1,5 @@
 use Rattle.std.proofs.Common.{◌≡◌}
-use Rattle.gw_threads.proofs.outstation_reading.Reading.read_on.Given as goal
+use Rattle.gw_readers.proofs.outstation_reading.Reading.read_on.Given as goal
 
 -- the pass is the one that was given
 abbrev pub invariant-pieces : goal.invariant-pieces

@@ -3,10 +3,9 @@
 
 use crate::controls::{tell_of_commands, tell_of_controls};
 use dnp_app::AppFault;
-use gw_clock::Clock;
-use gw_connections::{About, Call, Gate, Place, Reply, Run, Step, Verdict};
 use gw_journal::{JournalEvent, Noticed, Unreadable};
 use gw_peers::Desk;
+use gw_threads::{About, Call, Clock, Gate, Place, Reply, Run, Step, Verdict};
 use iec_apci::{Apdu, Signal};
 use std::sync::Wait;
 

@@ -2,12 +2,11 @@
 ghost use Rattle.std.specs.Prelude.{None};
 
 use crate::site::Site;
-use gw_clock::Clock;
-use gw_connections::{Calls, Figures, OrderCounts, pause};
 use gw_http::{HttpRequest, Resource, answer, receive, refuse};
 use gw_model::Memory;
 use gw_peers::{ClientCard, Desk, OutstationCard, Plan, look_up_from_accept, shut};
 use gw_status::{ClientStatus, Metrics, OrderStatus, OutstationStatus, Page, Status};
+use gw_threads::{Calls, Clock, Figures, OrderCounts, pause};
 use std::alloc::Global;
 use std::io::{self, ErrorKind, Read, Write};
 use std::net::TcpStream;
