@@ -1,13 +1,11 @@
 -- The settings, put together.
 use Rattle.std.proofs.Common.{◌≡◌, ℕ, ◌≤◌, arith, codes, min, List, [], ◌∷◌, length, map, Result, Ok, Err, refl, ap, sym, ◌∙◌}
-use Rattle.std.specs.Map.{values_of}
 use Rattle.std.specs.Result.{result_map_both}
 use Rattle.std.proofs.lemmas.List.{length-map, map-id}
 use Rattle.std.proofs.lemmas.Simd.{map-map}
 use Rattle.std.proofs.lemmas.Option.{same_Some}
 use Rattle.toml.specs.Data.{Members}
 use Rattle.gw_model.specs.Outcome.{Gives}
-use Rattle.gw_model.specs.declared.point.PointKey.{PointKey}
 use Rattle.gw_model.specs.declared.point.ObjectKey.{ObjectKey}
 use Rattle.gw_entries.specs.declared.control.Control.{Control}
 use Rattle.gw_entries.specs.declared.fault.SettingsFault.{SettingsFault}
@@ -79,14 +77,6 @@ outstations_read top station n items is few count e =
   where
     fewer : min (length items) 255 ≡ length items
     fewer = grind arith
-
-values-keyed : (rows : List Row) → values_of (map (λ row. (row.key, row)) rows) ≡ rows
-values-keyed [] = refl
-values-keyed (row ∷ rows) = ap (λ more. row ∷ more) (values-keyed rows)
-
-pub kept_values : (entries : List (PointKey × Row)) (rows : List Row) → entries ≡ map (λ row. (row.key, row)) rows
-    → values_of entries ≡ rows
-kept_values entries rows e = ap (λ es. values_of es) e ∙ values-keyed rows
 
 -- an answer by complaints is the reading
 pub gives : {X Y : Type 0} (view : X → Y) (r : Result X SettingsFault) (cs : List Complaint) (v : Y) → Tells view r cs v

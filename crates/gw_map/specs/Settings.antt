@@ -1,7 +1,7 @@
 -- The settings as the other parts see them, and the look-ups in them.
 use Rattle.std.specs.Prelude.{◌≡◌, IsTrue, ℕ, ◌+◌, ◌<◌, Bool, false, not, ◌==◌, ◌&&◌, List, [], ◌∷◌, ◌++◌, map, filter, Option, Some, None, if◌then◌else◌}
-use Rattle.std.specs.List.{list_any, AllByRecursion}
-use Rattle.std.specs.Map.{values_of}
+use Rattle.std.specs.List.{list_any, position_from, AllByRecursion}
+use Rattle.std.specs.Map.{lookup}
 use Rattle.gw_model.specs.declared.point.PointKey.{PointKey}
 use Rattle.gw_model.specs.declared.point.ObjectKey.{ObjectKey}
 use Rattle.gw_model.specs.Keys.{same_key, same_object}
@@ -121,12 +121,18 @@ HasSingleSources rows = repeated same_key 0 [] (map (λ row. row.key) rows) ≡ 
 abbrev pub HasSingleAddresses : List Row → List Control → Type 0
 HasSingleAddresses rows controls = repeated same_object 0 [] (objects_of rows controls) ≡ []
 
--- what the indexes hold: each row at its point, and every information object
-pub record IsKept (points : List (PointKey × Row)) (controls : List Control) (objects : List ObjectKey) : Type 0 where
-  pub keyed : points ≡ map (λ row. (row.key, row)) (values_of points)
-  pub addressed : objects ≡ objects_of (values_of points) controls
-  pub sources : HasSingleSources (values_of points)
-  pub single : HasSingleAddresses (values_of points) controls
+-- each key is found at the first place where it stands among these, and no other is found
+abbrev pub IsIndex : {K : Type 0} → (K → K → Bool) → List (K × ℕ) → List K → Type 0
+IsIndex {K} same entries keys = (key : K) → lookup (same key) entries ≡ position_from (same key) 0 keys
+
+-- what the indexes hold: the rows' positions by their points and by their information objects, and the controls'
+pub record IsKept (rows : List Row) (controls : List Control) (row_sources : List (PointKey × ℕ))
+    (row_objects control_objects : List (ObjectKey × ℕ)) : Type 0 where
+  pub by_source : IsIndex same_key row_sources (map (λ row. row.key) rows)
+  pub by_object : IsIndex same_object row_objects (map row_object rows)
+  pub control_by_object : IsIndex same_object control_objects (map control_object controls)
+  pub sources : HasSingleSources rows
+  pub single : HasSingleAddresses rows controls
 
 -- these are the known addresses, in their range
 pub record AreKnown (station : StationSetup) (outstations : List OutstationSetup) (addresses : List ℕ) : Type 0 where

@@ -17,8 +17,8 @@ use crate::sections::Sections;
 use gw_entries::{Control, Outstation, Row, SettingsFault, Station};
 use gw_model::{ObjectKey, PointKey};
 use gw_time::Zone;
-use indexmap::{IndexMap, IndexSet};
 use std::alloc::Global;
+use std::collections::HashMap;
 use std::fmt;
 use std::marker::Model;
 use toml::Table;
@@ -29,14 +29,17 @@ use toml::Table;
 pub struct Settings {
     station: Station,
     outstations: Vec<Outstation>,
-    points: IndexMap<PointKey, Row>,
+    rows: Vec<Row>,
     controls: Vec<Control>,
-    addresses: IndexSet<ObjectKey>,
     known: Vec<u16>,
+    /// The positions of the rows by their points, and by their information objects.
+    row_sources: HashMap<PointKey, usize>,
+    row_objects: HashMap<ObjectKey, usize>,
+    /// The positions of the controls by their information objects.
+    control_objects: HashMap<ObjectKey, usize>,
 }
 
 impl Model for Settings {
-    ghost use Rattle.std.specs.Map.{values_of};
     ghost use Rattle.gw_map.specs.Settings.{Setup, IsKept, AreKnown, AreUnderKnown};
 
     ghost Value = { Setup };
@@ -44,13 +47,14 @@ impl Model for Settings {
     ghost view = { λ s. record {
       station = s.station;
       outstations = s.outstations.items;
-      rows = values_of s.points.entries;
+      rows = s.rows.items;
       controls = s.controls.items;
     } };
 
-    ghost invariant = { λ s. IsKept s.points.entries s.controls.items s.addresses.keys
+    ghost invariant = { λ s. IsKept s.rows.items s.controls.items
+        s.row_sources.entries s.row_objects.entries s.control_objects.entries
         × AreKnown s.station s.outstations.items s.known.items
-        × AreUnderKnown s.station s.outstations.items (values_of s.points.entries) s.controls.items };
+        × AreUnderKnown s.station s.outstations.items s.rows.items s.controls.items };
 }
 
 impl fmt::Debug for Settings {
@@ -80,10 +84,12 @@ impl Settings {
         Ok(Settings {
             station: sections.station,
             outstations: sections.outstations,
-            points: indexes.points,
+            rows: sections.rows,
             controls: sections.controls,
-            addresses: indexes.addresses,
             known: indexes.known,
+            row_sources: indexes.sources,
+            row_objects: indexes.points,
+            control_objects: indexes.controls,
         })
     }
 
@@ -137,8 +143,7 @@ impl Settings {
         ensures addresses { HasSingleAddresses self.now.rows self.now.controls }
         ensures known { AllByRecursion (λ (row : Row). IsTrue (is_known self.now row.common_address)) self.now.rows }
     {
-        let _known = &self.addresses;
-        self.points.values().as_slice()
+        self.rows.as_slice()
     }
 
     /// The controls, in the order of the file.
@@ -154,8 +159,8 @@ impl Settings {
     pub fn row_of(&self, key: &PointKey) -> Option<(usize, &Row)>
         ensures { option_map (λ found. (found.0, found.1.now)) result ≡ row_from 0 key.now self.now.rows }
     {
-        let (position, _, row) = self.points.get_full(key)?;
-        Some((position, row))
+        let position = *self.row_sources.get(key)?;
+        Some((position, self.rows.get(position)?))
     }
 
     /// The row with a common address and an address, with its position in `rows`.
@@ -167,9 +172,8 @@ impl Settings {
             common_address,
             address,
         };
-        let position = self.addresses.get_index_of(&object)?;
-        let (_, row) = self.points.get_index(position)?;
-        Some((position, row))
+        let position = *self.row_objects.get(&object)?;
+        Some((position, self.rows.get(position)?))
     }
 
     /// The control with a common address and an address, with its position in `controls`.
@@ -181,8 +185,7 @@ impl Settings {
             common_address,
             address,
         };
-        let place = self.addresses.get_index_of(&object)?;
-        let position = place.checked_sub(self.points.len())?;
+        let position = *self.control_objects.get(&object)?;
         Some((position, self.controls.get(position)?))
     }
 }

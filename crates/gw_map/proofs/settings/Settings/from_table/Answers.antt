@@ -1,12 +1,10 @@
-use Rattle.std.proofs.Common.{◌≡◌, List, map, sym, ap, ◌∙◌}
-use Rattle.std.specs.Map.{values_of}
+use Rattle.std.proofs.Common.{ap, ◌∙◌}
 use Rattle.std.proofs.lemmas.Result.{err_from_is_err_and}
 use Rattle.toml.specs.View.{table_view}
-use Rattle.gw_entries.specs.declared.row.Row.{Row}
 use Rattle.gw_entries.proofs.Told.{told_front}
-use Rattle.gw_map.specs.Settings.{SetupFields, setup_fields, objects_of}
+use Rattle.gw_map.specs.Settings.{setup_fields}
 use Rattle.gw_map.proofs.Repeats.{map-nothing, nil_parts}
-use Rattle.gw_map.proofs.Whole.{kept_values, repeats_read}
+use Rattle.gw_map.proofs.Whole.{repeats_read}
 use Rattle.gw_map.proofs.settings.Settings.from_table.Goals as goal
 
 pub returns-in_err-sections : goal.returns-in_err-sections
@@ -21,41 +19,30 @@ returns-in_err-indexes c =
     (rw (
       c.in_ok-sections.ensures.0,
       ← repeats_read (table_view c.args.top.now) c.in_ok-sections.sections c.in_ok-sections.ensures.1,
-    ) c.in_err-indexes.ensures.points)
+    ) c.in_err-indexes.ensures.passes)
 
 pub invariant_of-result : goal.invariant_of-result
 invariant_of-result c =
-    let rows = c.sections.inside.rows.items in
-    let controls = c.sections.inside.controls.items in
     let indexed = rw (← c.sections.view_is) at c.in_ok-indexes.ensures in
-    let values : values_of c.in_ok-indexes.indexes.points.entries ≡ rows = kept_values _ _ indexed.points.1 in
-    let once = nil_parts _ _ indexed.points.0 in (
+    let once = nil_parts _ _ indexed.passes in (
       record {
-        keyed = indexed.points.1 ∙ ap (map (λ row. (row.key, row))) (sym values);
-        addressed = indexed.addresses ∙ ap (λ (rows : _). objects_of rows controls) (sym values);
-        sources = rw values (map-nothing _ _ once.0);
-        single = rw values (map-nothing _ _ once.1);
+        by_source = indexed.sources;
+        by_object = indexed.points;
+        control_by_object = indexed.controls;
+        sources = map-nothing _ _ once.0;
+        single = map-nothing _ _ once.1;
       },
       record { known = indexed.known; within = rw indexed.known at indexed.within },
-      record { each_row = rw values c.sections.invariant.each_row; each_control = c.sections.invariant.each_control },
+      record { each_row = c.sections.invariant.each_row; each_control = c.sections.invariant.each_control },
     )
 
 pub returns : goal.returns
 returns c =
-    let top = table_view c.args.top.now in
-    let indexed = rw (← c.sections.view_is) at c.in_ok-indexes.ensures in
-    let values : values_of c.in_ok-indexes.indexes.points.entries ≡ c.sections.inside.rows.items =
-    kept_values _ _ indexed.points.1 in
-    let fields : (rows : List Row) → SetupFields = λ rows. setup_fields (record {
-      station = c.sections.inside.station;
-      outstations = c.sections.inside.outstations.items;
-      rows = rows;
-      controls = c.sections.inside.controls.items;
-    }) in (
+    let top = table_view c.args.top.now in (
       rw (
         c.in_ok-sections.ensures.0,
         ← repeats_read top c.in_ok-sections.sections c.in_ok-sections.ensures.1,
-        c.in_ok-indexes.ensures.points.0,
+        c.in_ok-indexes.ensures.passes,
       ),
-      ap fields values ∙ ap setup_fields c.sections.view_is ∙ c.in_ok-sections.ensures.1,
+      ap setup_fields c.sections.view_is ∙ c.in_ok-sections.ensures.1,
     )

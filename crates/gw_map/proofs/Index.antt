@@ -1,0 +1,196 @@
+-- Positions by keys: an index of some keys, with one more, and what it finds.
+use Rattle.std.proofs.Common.{◌≡◌, ℕ, ◌+◌, ◌<◌, ◌≤◌, ◌==◌, List, [], ◌∷◌, ◌++◌, length, map, take, get_or, slice_get, subst, Option, Some, None, Bool, true, false, ◌&&◌, cond, is_some, refl, ap, sym, ◌∙◌, inl, inr, arith}
+use Rattle.std.specs.List.{position_from, list_any}
+use Rattle.std.specs.Map.{lookup}
+use Rattle.std.proofs.lemmas.Bool.{cases_Bool, true≢false, and_parts, eqb-true}
+use Rattle.std.proofs.lemmas.List.{append-nil, length-map, length-take-le, take_all}
+use Rattle.gw_model.specs.declared.point.Kind.{Kind}
+use Rattle.gw_model.specs.declared.point.Kind.TheVariants.{Binary, Output, Double, Counter, Analog}
+use Rattle.gw_model.specs.declared.point.PointKey.{PointKey}
+use Rattle.gw_model.specs.declared.point.ObjectKey.{ObjectKey}
+use Rattle.gw_model.specs.contracts.point.PointKeyPartialEq.TheImpl.{eq-value}
+use Rattle.gw_model.specs.Keys.{same_key, same_object}
+use Rattle.gw_map.specs.Settings.{first_from, IsIndex}
+use Rattle.gw_map.proofs.Finding.{none_front, past_front, some_front-zero, eq_comm, key_sym}
+use Rattle.gw_map.proofs.Loops.{map_take-more}
+use Rattle.gw_map.proofs.Repeats.{key_of, key_eq}
+
+-- ---- positions
+
+pub is_some-position : {K : Type 0} (p : K → Bool) (n : ℕ) (xs : List K) → is_some (position_from p n xs) ≡ list_any p xs
+is_some-position p n [] = refl
+is_some-position p n (x ∷ xs) = elim (cases_Bool (p x)) [
+  | inl hit ↦ rw hit
+  | inr miss ↦ rw miss (is_some-position p (n + 1) xs)
+]
+
+none-position : {K : Type 0} (p : K → Bool) (n : ℕ) (xs : List K) → list_any p xs ≡ false → position_from p n xs ≡ None
+none-position p n [] h = refl
+none-position p n (x ∷ xs) h = elim (cases_Bool (p x)) [
+  | inl hit ↦ absurd (true≢false (rw hit at h))
+  | inr miss ↦ rw miss (none-position p (n + 1) xs (rw miss at h))
+]
+
+-- one more, which is found where none of the others was
+last-position : {K : Type 0} (p : K → Bool) (n : ℕ) (xs : List K) (y : K) → list_any p xs ≡ false
+    → position_from p n (xs ++ y ∷ []) ≡ cond (p y) (Some (n + length xs)) None
+last-position p n [] y h = let e : n ≡ n + 0 = omega arith in rw (← e)
+last-position p n (x ∷ xs) y h = elim (cases_Bool (p x)) [
+  | inl hit ↦ absurd (true≢false (rw hit at h))
+  | inr miss ↦ let e : (n + 1) + length xs ≡ n + length (x ∷ xs) = omega arith in
+      rw miss (last-position p (n + 1) xs y (rw miss at h) ∙ ap (λ i. cond (p y) (Some i) None) e)
+]
+
+last-place : {K : Type 0} (p : K → Bool) (xs : List K) (y : K) → list_any p xs ≡ false
+    → position_from p 0 (xs ++ y ∷ []) ≡ cond (p y) (Some (length xs)) None
+last-place p xs y h =
+    let e : 0 + length xs ≡ length xs = omega arith in
+    last-position p 0 xs y h ∙ ap (λ i. cond (p y) (Some i) None) e
+
+front-position : {K : Type 0} (p : K → Bool) (n : ℕ) (xs : List K) (y : K) → list_any p xs ≡ true
+    → position_from p n (xs ++ y ∷ []) ≡ position_from p n xs
+front-position p n [] y h = absurd (true≢false (sym h))
+front-position p n (x ∷ xs) y h = elim (cases_Bool (p x)) [
+  | inl hit ↦ rw hit
+  | inr miss ↦ rw miss (front-position p (n + 1) xs y (rw miss at h))
+]
+
+-- ---- one of two lists
+
+pub any-front : {K : Type 0} (p : K → Bool) (xs ys : List K) → list_any p xs ≡ true → list_any p (xs ++ ys) ≡ true
+any-front p [] ys h = absurd (true≢false (sym h))
+any-front p (x ∷ xs) ys h = elim (cases_Bool (p x)) [
+  | inl hit ↦ rw hit
+  | inr miss ↦ rw miss (any-front p xs ys (rw miss at h))
+]
+
+pub any-behind : {K : Type 0} (p : K → Bool) (xs ys : List K) → list_any p ys ≡ true → list_any p (xs ++ ys) ≡ true
+any-behind p [] ys h = h
+any-behind p (x ∷ xs) ys h = elim (cases_Bool (p x)) [
+  | inl hit ↦ rw hit
+  | inr miss ↦ rw miss (any-behind p xs ys h)
+]
+
+pub any-neither : {K : Type 0} (p : K → Bool) (xs ys : List K) → list_any p xs ≡ false → list_any p ys ≡ false
+    → list_any p (xs ++ ys) ≡ false
+any-neither p [] ys h g = g
+any-neither p (x ∷ xs) ys h g = elim (cases_Bool (p x)) [
+  | inl hit ↦ absurd (true≢false (rw hit at h))
+  | inr miss ↦ rw miss (any-neither p xs ys (rw miss at h) g)
+]
+
+-- ---- an index, key by key
+
+pub index-none : {K : Type 0} (same : K → K → Bool) (entries : List (K × ℕ)) → entries ≡ [] → IsIndex same entries []
+index-none same entries e = λ key. ap (λ es. lookup (same key) es) e
+
+-- whether it has a key
+pub index-has : {K : Type 0} (same : K → K → Bool) (entries : List (K × ℕ)) (keys : List K) (key : K)
+    → IsIndex same entries keys → is_some (lookup (same key) entries) ≡ list_any (same key) keys
+index-has same entries keys key index = ap is_some (index key) ∙ is_some-position (same key) 0 keys
+
+module _ {K : Type 0} (same : K → K → Bool) (turned : (a b : K) → same a b ≡ same b a)
+    (decides : (a b : K) → same a b ≡ true → a ≡ b) where
+  index-more : (old new : List (K × ℕ)) (keys : List K) (key : K) → IsIndex same old keys
+      → list_any (same key) keys ≡ false
+      → ((other : K) → lookup (same other) new ≡ cond (same key other) (Some (length keys)) (lookup (same other) old))
+      → IsIndex same new (keys ++ key ∷ [])
+  index-more old new keys key index fresh put = λ other. elim (cases_Bool (same key other)) [
+    | inl hit ↦
+        let is : key ≡ other = decides key other hit in
+        let none : list_any (same other) keys ≡ false = ap (λ k. list_any (same k) keys) (sym is) ∙ fresh in
+        put other ∙ rw hit (sym (last-place (same other) keys key none ∙ rw (turned other key ∙ hit) refl))
+    | inr miss ↦ put other ∙ rw miss (index other ∙ elim (cases_Bool (list_any (same other) keys)) [
+      | inl there ↦ sym (front-position (same other) 0 keys key there)
+      | inr absent ↦ none-position (same other) 0 keys absent
+          ∙ sym (last-place (same other) keys key absent ∙ rw (turned other key ∙ miss) refl)
+    ])
+  ]
+
+  -- an index of the front of some, with the next one at its position
+  pub index-next : {X : Type 0} (f : X → K) (all : List X) (i : ℕ) (d : X) (old new : List (K × ℕ)) (key : K)
+      → i < length all → key ≡ f (get_or all i d) → IsIndex same old (map f (take i all))
+      → list_any (same key) (map f (take i all)) ≡ false
+      → ((other : K) → lookup (same other) new ≡ cond (same key other) (Some i) (lookup (same other) old))
+      → IsIndex same new (map f (take (i + 1) all))
+  index-next f all i d old new key within is index fresh put =
+      let place : i ≡ length (map f (take i all)) = sym (length-map (take i all) f ∙ length-take-le i all (omega arith)) in
+      subst (λ keys. IsIndex same new keys) (map_take-more f all i d (map f (take i all)) key within refl is)
+      (index-more old new (map f (take i all)) key index fresh
+      (λ other. put other ∙ ap (λ n. cond (same key other) (Some n) (lookup (same other) old)) place))
+
+-- an index of the front that is all
+pub index-end : {X K : Type 0} (same : K → K → Bool) (f : X → K) (all : List X) (i : ℕ) (entries : List (K × ℕ))
+    → length all ≤ i → IsIndex same entries (map f (take i all)) → IsIndex same entries (map f all)
+index-end same f all i entries h index = subst (λ xs. IsIndex same entries (map f xs)) (take_all i all h) index
+
+-- ---- points and information objects
+
+pub object_sym : (a b : ObjectKey) → same_object a b ≡ same_object b a
+object_sym a b = rw (eq_comm a.common_address b.common_address, eq_comm a.address b.address)
+
+same-parts : (k l : Kind) (o i p j : ℕ) → k ≡ l → ((o == p) && true) && (i == j) ≡ true → key_of o k i ≡ key_of p l j
+same-parts k l o i p j same e =
+    let both = and_parts ((o == p) && true) (i == j) e in
+    let first = and_parts (o == p) true both.0 in
+    let outstations : o ≡ p = eqb-true o p first.0 in
+    let indexes : i ≡ j = eqb-true i j both.1 in
+    rw (outstations, indexes, same)
+
+key-true_by : (o i p j : ℕ) (k l : Kind) → same_key (key_of o k i) (key_of p l j) ≡ true → key_of o k i ≡ key_of p l j
+key-true_by o i p j Binary Binary e = same-parts Binary Binary o i p j refl e
+key-true_by o i p j Output Output e = same-parts Output Output o i p j refl e
+key-true_by o i p j Double Double e = same-parts Double Double o i p j refl e
+key-true_by o i p j Counter Counter e = same-parts Counter Counter o i p j refl e
+key-true_by o i p j Analog Analog e = same-parts Analog Analog o i p j refl e
+key-true_by o i p j _ _ e =
+    absurd (true≢false (sym (and_parts (o == p) false (and_parts ((o == p) && false) (i == j) e).0).1))
+
+pub key-true : (a b : PointKey) → same_key a b ≡ true → a ≡ b
+key-true a b e = key-true_by a.outstation a.index b.outstation b.index a.kind b.kind e
+
+lookup-same : {K X : Type 0} (p q : K → Bool) (entries : List (K × X)) → ((key : K) → p key ≡ q key)
+    → lookup p entries ≡ lookup q entries
+lookup-same p q [] same = refl
+lookup-same p q (e ∷ es) same = rw (same e.0, lookup-same p q es same)
+
+-- the map compares points as this does
+pub by_key : (key : PointKey) (entries : List (PointKey × ℕ))
+    → lookup (eq-value.it key) entries ≡ lookup (same_key key) entries
+by_key key entries = lookup-same (eq-value.it key) (same_key key) entries (key_eq key)
+
+pub has_key : (key : PointKey) (entries : List (PointKey × ℕ)) (keys : List PointKey) → IsIndex same_key entries keys
+    → is_some (lookup (eq-value.it key) entries) ≡ list_any (same_key key) keys
+has_key key entries keys index = ap is_some (by_key key entries) ∙ index-has same_key entries keys key index
+
+pub key-next : {X : Type 0} (f : X → PointKey) (all : List X) (i : ℕ) (d : X) (old new : List (PointKey × ℕ))
+    (key : PointKey) → i < length all → key ≡ f (get_or all i d) → IsIndex same_key old (map f (take i all))
+    → list_any (same_key key) (map f (take i all)) ≡ false
+    → ((other : PointKey) → lookup (eq-value.it other) new
+    ≡ cond (eq-value.it key other) (Some i) (lookup (eq-value.it other) old))
+    → IsIndex same_key new (map f (take (i + 1) all))
+key-next f all i d old new key within is index fresh put =
+    index-next same_key key_sym key-true f all i d old new key within is index fresh
+    (λ other. sym (by_key other new) ∙ put other ∙ rw (key_eq key other, by_key other old) refl)
+
+-- ---- what is found
+
+module _ {A K : Type 0} (same : K → K → Bool) (f : A → K) (key : K) (entries : List (K × ℕ)) (xs : List A)
+    (index : IsIndex same entries (map f xs)) where
+  at-position : (found : Option ℕ) → lookup (same key) entries ≡ found
+      → position_from (same key) 0 (map f xs ++ []) ≡ found
+  at-position found e = rw append-nil (sym (index key) ∙ e)
+
+  pub finds-none : (t : A → Bool) → ((x : A) → same key (f x) ≡ t x) → lookup (same key) entries ≡ None
+      → first_from t 0 xs ≡ None
+  finds-none t is e = none_front (same key) t f is 0 0 xs [] (at-position None e)
+
+  pub finds-nothing : (t : A → Bool) → ((x : A) → same key (f x) ≡ t x) → (i : ℕ)
+      → lookup (same key) entries ≡ Some i → slice_get xs i ≡ None
+      → first_from t 0 xs ≡ None
+  finds-nothing t is i e out = past_front (same key) t f is 0 0 i i xs [] (at-position (Some i) e) out (omega arith)
+
+  pub finds : (t : A → Bool) → ((x : A) → same key (f x) ≡ t x) → (i : ℕ) (x : A)
+      → lookup (same key) entries ≡ Some i → slice_get xs i ≡ Some x
+      → first_from t 0 xs ≡ Some (i, x)
+  finds t is i x e there = some_front-zero (same key) t f is i xs [] x (at-position (Some i) e) there
