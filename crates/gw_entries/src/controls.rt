@@ -50,46 +50,44 @@ fn operates(show: ControlShow, pulses: Pulses, scale: Scale) -> Operates
     }
 }
 
-impl Control {
-    /// The control of a table, where these outstations stand before it.
-    pub fn read(
-        alloc: Global,
-        table: &Table,
-        position: usize,
-        outstations: &[Outstation],
-    ) -> Result<Control, SettingsFault>
-        ensures { Tells control_fields result
-            (placed of.Control position
-            (table_wrongs (min (length outstations.now) 255) control_keys control_mismatches (table_view table.now)))
-            (control_of outstations.now (table_view table.now)) }
-    {
-        let entry = Entry {
-            table,
-            section: Section::Control,
-        };
-        entry.check(alloc, position, count_of(outstations))?;
-        let show = entry.word("show", &SHOWS, ControlShow::Single);
-        if let Some(key) = mismatch(entry, show) {
-            return Err(entry.mismatched(key, position));
-        }
-        let pulses = Pulses {
-            rest: entry.word("rest", &RESTS, Rest::Latch),
-            short_ms: entry.number_u32("short_ms"),
-            long_ms: entry.number_u32("long_ms"),
-        };
-        let scale = Scale {
-            num: entry.number_u16("num"),
-            den: entry.number_u16("den"),
-        };
-        let outstation = entry.number_u16("outstation") as u8;
-        Ok(Control {
-            outstation,
-            index: entry.number_u16("index"),
-            common_address: common_at(outstations, outstation),
-            address: entry.number_u32("address"),
-            select: entry.flag("select"),
-            mode: entry.word("mode", &MODES, Mode::Direct),
-            operates: operates(show, pulses, scale),
-        })
+/// The control of a table, where these outstations stand before it.
+pub fn read_control(
+    alloc: Global,
+    table: &Table,
+    position: usize,
+    outstations: &[Outstation],
+) -> Result<Control, SettingsFault>
+    ensures { Tells control_fields result
+        (placed of.Control position
+        (table_wrongs (min (length outstations.now) 255) control_keys control_mismatches (table_view table.now)))
+        (control_of outstations.now (table_view table.now)) }
+{
+    let entry = Entry {
+        table,
+        section: Section::Control,
+    };
+    entry.check(alloc, position, count_of(outstations))?;
+    let show = entry.word("show", &SHOWS, ControlShow::Single);
+    if let Some(key) = mismatch(entry, show) {
+        return Err(entry.mismatched(key, position));
     }
+    let pulses = Pulses {
+        rest: entry.word("rest", &RESTS, Rest::Latch),
+        short_ms: entry.number_u32("short_ms"),
+        long_ms: entry.number_u32("long_ms"),
+    };
+    let scale = Scale {
+        num: entry.number_u16("num"),
+        den: entry.number_u16("den"),
+    };
+    let outstation = entry.number_u16("outstation") as u8;
+    Ok(Control {
+        outstation,
+        index: entry.number_u16("index"),
+        common_address: common_at(outstations, outstation),
+        address: entry.number_u32("address"),
+        select: entry.flag("select"),
+        mode: entry.word("mode", &MODES, Mode::Direct),
+        operates: operates(show, pulses, scale),
+    })
 }

@@ -111,7 +111,7 @@ impl fmt::Display for KeyPlace {
 pub enum SettingsFault {
     /// The text is no TOML document: what is wrong with it, with line and column.
     #[error("1 Toml")]
-    Toml(toml::de::Error),
+    Toml(String),
     /// The first that is wrong with what the document says.
     #[error("{0} {1}")]
     Refused(Fault, KeyPlace),

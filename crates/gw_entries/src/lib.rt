@@ -14,10 +14,12 @@ mod row;
 mod station;
 
 pub use control::{Control, Mode, Operates, Pulses, Rest};
+pub use controls::read_control;
 pub use entry::value_at;
 pub use fault::{Fault, KeyFault, KeyName, KeyPlace, Section, SettingsFault};
 pub use key::{Absence, Key, KeyContent};
 pub use keys::{check_keys, keys_of};
-pub use outstation::Outstation;
+pub use outstation::{Outstation, read_outstation};
+pub use points::read_row;
 pub use row::{Row, Scale, Show};
-pub use station::Station;
+pub use station::{Station, read_station};

@@ -45,36 +45,34 @@ impl Model for Outstation {
     ghost invariant = { λ s. IsOutstation (outstation_seen s) };
 }
 
-impl Outstation {
-    /// The outstation of a table. Its common address is the station's, where the table has none.
-    pub fn read(
-        alloc: Global,
-        table: &Table,
-        position: usize,
-        station: &Station,
-    ) -> Result<Outstation, SettingsFault>
-        ensures { Tells (λ s. s) result
-            (placed OfOutstation position (table_wrongs 0 outstation_keys no_mismatches (table_view table.now)))
-            (outstation_of station.now.common_address (table_view table.now)) }
-    {
-        let entry = Entry {
-            table,
-            section: Section::Outstation,
-        };
-        entry.check(alloc, position, 0)?;
-        Ok(Outstation {
-            address: entry.number_u16("address"),
-            poll: Poll {
-                poll_ms: entry.number("poll_ms"),
-                integrity_ms: entry.number("integrity_ms"),
-                response_ms: entry.number("response_ms"),
-                unsolicited: entry.flag("unsolicited"),
-                lan_time: entry.flag("lan_time"),
-            },
-            common_address: own_or(entry, station.common_address),
-            connect: String::from_str(alloc, entry.text("connect"))?,
-        })
-    }
+/// The outstation of a table. Its common address is the station's, where the table has none.
+pub fn read_outstation(
+    alloc: Global,
+    table: &Table,
+    position: usize,
+    station: &Station,
+) -> Result<Outstation, SettingsFault>
+    ensures { Tells (λ s. s) result
+        (placed OfOutstation position (table_wrongs 0 outstation_keys no_mismatches (table_view table.now)))
+        (outstation_of station.now.common_address (table_view table.now)) }
+{
+    let entry = Entry {
+        table,
+        section: Section::Outstation,
+    };
+    entry.check(alloc, position, 0)?;
+    Ok(Outstation {
+        address: entry.number_u16("address"),
+        poll: Poll {
+            poll_ms: entry.number("poll_ms"),
+            integrity_ms: entry.number("integrity_ms"),
+            response_ms: entry.number("response_ms"),
+            unsolicited: entry.flag("unsolicited"),
+            lan_time: entry.flag("lan_time"),
+        },
+        common_address: own_or(entry, station.common_address),
+        connect: String::from_str(alloc, entry.text("connect"))?,
+    })
 }
 
 /// The common address that stands in a table, or else the station's.

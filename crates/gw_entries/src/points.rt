@@ -74,43 +74,41 @@ fn mismatch(entry: Entry, kind: Kind, show: Show) -> Option<&'static str>
     }
 }
 
-impl Row {
-    /// The row of a table, where these outstations stand before it.
-    pub fn read(
-        alloc: Global,
-        table: &Table,
-        position: usize,
-        outstations: &[Outstation],
-    ) -> Result<Row, SettingsFault>
-        ensures { Tells row_fields result
-            (placed of.Point position (table_wrongs (min (length outstations.now) 255) point_keys point_mismatches
-            (table_view table.now)))
-            (row_of outstations.now (table_view table.now)) }
-    {
-        let entry = Entry {
-            table,
-            section: Section::Point,
-        };
-        entry.check(alloc, position, count_of(outstations))?;
-        let kind = entry.word("kind", &KINDS, Kind::Binary);
-        let show = entry.word("show", &SHOWS, usual_show(kind));
-        if let Some(key) = mismatch(entry, kind, show) {
-            return Err(entry.mismatched(key, position));
-        }
-        let outstation = entry.number_u16("outstation") as u8;
-        Ok(Row {
-            key: PointKey {
-                outstation,
-                kind,
-                index: entry.number_u16("index"),
-            },
-            common_address: common_at(outstations, outstation),
-            address: entry.number_u32("address"),
-            show,
-            scale: Scale {
-                num: entry.number_u16("num"),
-                den: entry.number_u16("den"),
-            },
-        })
+/// The row of a table, where these outstations stand before it.
+pub fn read_row(
+    alloc: Global,
+    table: &Table,
+    position: usize,
+    outstations: &[Outstation],
+) -> Result<Row, SettingsFault>
+    ensures { Tells row_fields result
+        (placed of.Point position (table_wrongs (min (length outstations.now) 255) point_keys point_mismatches
+        (table_view table.now)))
+        (row_of outstations.now (table_view table.now)) }
+{
+    let entry = Entry {
+        table,
+        section: Section::Point,
+    };
+    entry.check(alloc, position, count_of(outstations))?;
+    let kind = entry.word("kind", &KINDS, Kind::Binary);
+    let show = entry.word("show", &SHOWS, usual_show(kind));
+    if let Some(key) = mismatch(entry, kind, show) {
+        return Err(entry.mismatched(key, position));
     }
+    let outstation = entry.number_u16("outstation") as u8;
+    Ok(Row {
+        key: PointKey {
+            outstation,
+            kind,
+            index: entry.number_u16("index"),
+        },
+        common_address: common_at(outstations, outstation),
+        address: entry.number_u32("address"),
+        show,
+        scale: Scale {
+            num: entry.number_u16("num"),
+            den: entry.number_u16("den"),
+        },
+    })
 }

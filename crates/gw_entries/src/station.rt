@@ -57,32 +57,30 @@ impl Model for Station {
     ghost invariant = { λ s. IsStation (station_seen s) };
 }
 
-impl Station {
-    /// The station of a table.
-    pub fn read(alloc: Global, table: &Table) -> Result<Station, SettingsFault>
-        ensures { Tells (λ s. s) result
-            (placed OfStation 0 (table_wrongs 0 station_keys no_mismatches (table_view table.now)))
-            (station_of (table_view table.now)) }
-    {
-        let entry = Entry {
-            table,
-            section: Section::Station,
-        };
-        entry.check(alloc, 0, 0)?;
-        Ok(Station {
-            common_address: entry.number_u16("common_address"),
-            master_address: entry.number_u16("master_address"),
-            offset_minutes: entry.signed("offset_minutes") as i16,
-            rule: entry.rule("rule"),
-            k: entry.number_u16("k"),
-            w: entry.number_u16("w"),
-            t1_ms: entry.number_u32("t1_ms"),
-            t2_ms: entry.number_u32("t2_ms"),
-            t3_ms: entry.number_u32("t3_ms"),
-            queue: entry.number_u32("queue"),
-            select_ms: entry.number_u32("select_ms"),
-            recorder: entry.number_u32("recorder"),
-            listen: String::from_str(alloc, entry.text("listen"))?,
-        })
-    }
+/// The station of a table.
+pub fn read_station(alloc: Global, table: &Table) -> Result<Station, SettingsFault>
+    ensures { Tells (λ s. s) result
+        (placed OfStation 0 (table_wrongs 0 station_keys no_mismatches (table_view table.now)))
+        (station_of (table_view table.now)) }
+{
+    let entry = Entry {
+        table,
+        section: Section::Station,
+    };
+    entry.check(alloc, 0, 0)?;
+    Ok(Station {
+        common_address: entry.number_u16("common_address"),
+        master_address: entry.number_u16("master_address"),
+        offset_minutes: entry.signed("offset_minutes") as i16,
+        rule: entry.rule("rule"),
+        k: entry.number_u16("k"),
+        w: entry.number_u16("w"),
+        t1_ms: entry.number_u32("t1_ms"),
+        t2_ms: entry.number_u32("t2_ms"),
+        t3_ms: entry.number_u32("t3_ms"),
+        queue: entry.number_u32("queue"),
+        select_ms: entry.number_u32("select_ms"),
+        recorder: entry.number_u32("recorder"),
+        listen: String::from_str(alloc, entry.text("listen"))?,
+    })
 }

@@ -13,7 +13,8 @@ ghost use Rattle.gw_entries.specs.Values.{outstation_of, row_of, control_of};
 ghost use Rattle.gw_entries.specs.declared.fault.Section.TheVariants as of;
 
 use gw_entries::{
-    Control, Fault, KeyFault, Outstation, Row, Section, SettingsFault, Station, value_at,
+    Control, Fault, KeyFault, Outstation, Row, Section, SettingsFault, Station, read_control,
+    read_outstation, read_row, read_station, value_at,
 };
 use std::alloc::{AllocError, Global};
 use toml::{Table, Value};
@@ -91,7 +92,7 @@ pub(crate) fn station_in(alloc: Global, top: &Table) -> Result<Station, Settings
     let Some(table) = value.as_table() else {
         return Err(at_top(Fault::WrongType, Section::Station));
     };
-    Station::read(alloc, table)
+    read_station(alloc, table)
 }
 
 /// What settings have a list of.
@@ -145,7 +146,7 @@ impl Listed for Outstation {
         station: &Station,
         _outstations: &[Outstation],
     ) -> Result<Outstation, SettingsFault> {
-        Outstation::read(alloc, table, position, station)
+        read_outstation(alloc, table, position, station)
     }
 }
 
@@ -168,7 +169,7 @@ impl Listed for Row {
         _station: &Station,
         outstations: &[Outstation],
     ) -> Result<Row, SettingsFault> {
-        Row::read(alloc, table, position, outstations)
+        read_row(alloc, table, position, outstations)
     }
 }
 
@@ -191,7 +192,7 @@ impl Listed for Control {
         _station: &Station,
         outstations: &[Outstation],
     ) -> Result<Control, SettingsFault> {
-        Control::read(alloc, table, position, outstations)
+        read_control(alloc, table, position, outstations)
     }
 }
 

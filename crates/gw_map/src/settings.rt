@@ -72,7 +72,7 @@ impl Settings {
         match toml::table_from_str(alloc, text) {
             Ok(table) => Settings::from_table(alloc, &table),
             Err(error) if error.is_memory() => Err(SettingsFault::Memory),
-            Err(error) => Err(SettingsFault::Toml(error)),
+            Err(error) => Err(SettingsFault::Toml(format!(in alloc; "{error}")?)),
         }
     }
 

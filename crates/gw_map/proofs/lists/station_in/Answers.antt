@@ -14,4 +14,4 @@ returns-in_default-as_table c =
 pub returns : goal.returns
 returns c =
     let found = station_table _ _ (sym c.in-Some-as_table.ensures) in
-    rw (← c.in-Some.ensures, found.0, found.1) c.read.ensures
+    rw (← c.in-Some.ensures, found.0, found.1) c.read_station.ensures

@@ -9,7 +9,7 @@ use Rattle.gw_entries.proofs.Mismatches.{kind_read, show_read, point_mismatch, n
 use Rattle.gw_entries.proofs.Ranges.{point_within, fits_min, fits_within, position_cast, position_fits, position_within}
 use Rattle.gw_entries.proofs.Told.{tells_wrong, told_front}
 use Rattle.gw_entries.proofs.Unknown.{table_parts, nothing_placed}
-use Rattle.gw_entries.proofs.row.Row.read.Goals as goal
+use Rattle.gw_entries.proofs.points.read_row.Goals as goal
 
 pub returns-in_err-check : goal.returns-in_err-check
 returns-in_err-check c =

@@ -9,7 +9,7 @@ use Rattle.gw_entries.specs.Values.{number_in, own_or, outstation_of}
 use Rattle.gw_entries.proofs.Ranges.{outstation_within, own_fits, fits_min}
 use Rattle.gw_entries.proofs.Unknown.{table_parts}
 use Rattle.gw_entries.proofs.Told.{told_front}
-use Rattle.gw_entries.proofs.outstation.Outstation.read.Goals as goal
+use Rattle.gw_entries.proofs.outstation.read_outstation.Goals as goal
 
 common : (c : goal.In_ok-from_str) → c.station.inside.common_address ≡ c.args.station.now.common_address
 common c = ap (λ s. s.common_address) c.station.view_is

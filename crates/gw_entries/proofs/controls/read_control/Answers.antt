@@ -9,7 +9,7 @@ use Rattle.gw_entries.proofs.Mismatches.{control_show_read, mode_read, rest_read
 use Rattle.gw_entries.proofs.Ranges.{control_within, fits_min, fits_within, position_cast, position_fits, position_within}
 use Rattle.gw_entries.proofs.Told.{tells_wrong, told_front}
 use Rattle.gw_entries.proofs.Unknown.{table_parts, nothing_placed}
-use Rattle.gw_entries.proofs.control.Control.read.Goals as goal
+use Rattle.gw_entries.proofs.controls.read_control.Goals as goal
 
 pub returns-in_err-check : goal.returns-in_err-check
 returns-in_err-check c =

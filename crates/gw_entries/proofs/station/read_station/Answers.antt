@@ -9,7 +9,7 @@ use Rattle.gw_entries.specs.Values.{station_of}
 use Rattle.gw_entries.proofs.Ranges.{station_within, fits_min, up_to, below_to, minutes_cast, minutes_fit}
 use Rattle.gw_entries.proofs.Unknown.{table_parts}
 use Rattle.gw_entries.proofs.Told.{told_front}
-use Rattle.gw_entries.proofs.station.Station.read.Goals as goal
+use Rattle.gw_entries.proofs.station.read_station.Goals as goal
 
 seen : (c : goal.In_ok-from_str) → station_seen record {
   common_address = c.number_u16.result;
