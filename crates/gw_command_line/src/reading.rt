@@ -4,7 +4,7 @@
 //! its subcommands as values, and what each subcommand asks for.
 
 ghost use Rattle.std.specs.Prelude.{◌≡◌, [], IfErr, IfOk, Some, false, map, option_map};
-ghost use Rattle.clap.specs.Words.{app_of, fault_of, first_of, found_of, rows_of, rule_of, subcommand_rows_of};
+ghost use Rattle.clap.specs.Words.{App, Rule, app_of, fault_of, first_of, found_of, rows_of, rule_of, subcommand_rows_of, with_rule, with_subcommand};
 ghost use Rattle.clap.specs.Walk.{texts};
 ghost use Rattle.clap.specs.declared.builder.command.Command.TheViews.{out-Command as fields_of};
 ghost use Rattle.gw_command_line.specs.CommandLine.{IsRefusal, alone, as_fault, asked_of, check, file_app, file_in, file_rule, flag_rule, gateway, is_used, number_from, number_in, number_of, number_rule, options_in, options_of, request_of, run, run_in, serve, spelled, text_rule, texts_in, texts_rule, translate};
@@ -128,15 +128,43 @@ fn gateway_alone<'a>(alloc: Global) -> Command<'a>
 fn gateway_command<'a>(alloc: Global) -> Result<Command<'a>, AllocError>
     ensures { IfOk result (λ command. app_of command ≡ gateway) }
 {
-    gateway_alone(alloc)
-        .subcommand(check_command(alloc)?)?
-        .subcommand(translate_command(alloc)?)?
-        .subcommand(file_command(
-            alloc,
-            "replay",
-            "Makes steps of the core, and writes its replies",
-        )?)?
-        .subcommand(run_command(alloc)?)
+    let replay = file_command(
+        alloc,
+        "replay",
+        "Makes steps of the core, and writes its replies",
+    );
+    let program = with_subcommand(Ok(gateway_alone(alloc)), check_command(alloc));
+    let program = with_subcommand(program, translate_command(alloc));
+    let program = with_subcommand(program, replay);
+    with_subcommand(program, run_command(alloc))
+}
+
+/// The program with a subcommand more.
+fn with_subcommand<'a>(
+    program: Result<Command<'a>, AllocError>,
+    subcommand: Result<Command<'a>, AllocError>,
+) -> Result<Command<'a>, AllocError>
+    ensures { (app below : App) → IfOk program.entry (λ command. app_of command ≡ app)
+        → IfOk subcommand.entry (λ command. app_of command ≡ below)
+        → IfOk subcommand.entry (λ command. (fields_of command).has_globals ≡ false)
+        → IfOk result (λ command. app_of command ≡ with_subcommand app below.top) }
+{
+    program?.subcommand(subcommand?)
+}
+
+/// A command with an argument more, which is not global.
+fn with_argument<'a>(
+    command: Result<Command<'a>, AllocError>,
+    argument: Arg<'a>,
+) -> Result<Command<'a>, AllocError>
+    requires { argument.global ≡ false }
+    ensures app { (app : App) (rule : Rule) → IfOk command.entry (λ old. app_of old ≡ app)
+        → rule_of argument.entry ≡ rule
+        → IfOk result (λ new. app_of new ≡ with_rule app rule) }
+    ensures local { IfOk command.entry (λ old. (fields_of old).has_globals ≡ false)
+        → IfOk result (λ new. (fields_of new).has_globals ≡ false) }
+{
+    command?.arg(argument)
 }
 
 /// `gateway NAME FILE`.
@@ -154,16 +182,17 @@ fn check_command<'a>(alloc: Global) -> Result<Command<'a>, AllocError>
     ensures app { IfOk result (λ command. app_of command ≡ check) }
     ensures local { IfOk result (λ command. (fields_of command).has_globals ≡ false) }
 {
-    file_command(
-        alloc,
-        "check",
-        "Tells what a settings file means, or what is wrong with it",
-    )?
-    .arg(flag_argument(
+    let profile = flag_argument(
         alloc,
         "profile",
         "Writes the interoperability list of the station and its signals instead",
-    ))
+    );
+    let command = file_command(
+        alloc,
+        "check",
+        "Tells what a settings file means, or what is wrong with it",
+    );
+    with_argument(command, profile)
 }
 
 /// `gateway translate`.
@@ -181,24 +210,27 @@ fn serve_command<'a>(alloc: Global) -> Result<Command<'a>, AllocError>
     ensures app { IfOk result (λ command. app_of command ≡ serve) }
     ensures local { IfOk result (λ command. (fields_of command).has_globals ≡ false) }
 {
-    file_command(
-        alloc,
-        "run",
-        "Serves control centres, and outstations for them",
-    )?
-    .arg(number_argument(
+    let sessions = number_argument(
         alloc,
         "sessions",
         "N",
         "Ends after so many connections of control centres, 1 to 1000000",
-    ))?
-    .arg(texts_argument(
+    );
+    let allow = texts_argument(
         alloc,
         "allow",
         "ADDRESS",
         "Serves only clients from this IP address, or from ADDRESS/BITS; may be used several times",
-    ))?
-    .arg(flag_argument(alloc, "until-eof", "Ends in order when standard input ends"))
+    );
+    let until_eof = flag_argument(alloc, "until-eof", "Ends in order when standard input ends");
+    let command = file_command(
+        alloc,
+        "run",
+        "Serves control centres, and outstations for them",
+    );
+    let command = with_argument(command, sessions);
+    let command = with_argument(command, allow);
+    with_argument(command, until_eof)
 }
 
 /// `gateway run`.
@@ -206,25 +238,27 @@ fn run_command<'a>(alloc: Global) -> Result<Command<'a>, AllocError>
     ensures app { IfOk result (λ command. app_of command ≡ run) }
     ensures local { IfOk result (λ command. (fields_of command).has_globals ≡ false) }
 {
-    serve_command(alloc)?
-        .arg(text_argument(
-            alloc,
-            "status",
-            "ADDRESS:PORT",
-            "Serves a status page there",
-        ))?
-        .arg(text_argument(
-            alloc,
-            "record",
-            "FILE",
-            "Writes the run to this file, as lines of a replay",
-        ))?
-        .arg(number_argument(
-            alloc,
-            "record-size",
-            "MB",
-            "The most megabytes that the file of --record may have, 1 to 1000000; 256 where none are said",
-        ))
+    let status = text_argument(
+        alloc,
+        "status",
+        "ADDRESS:PORT",
+        "Serves a status page there",
+    );
+    let record = text_argument(
+        alloc,
+        "record",
+        "FILE",
+        "Writes the run to this file, as lines of a replay",
+    );
+    let record_size = number_argument(
+        alloc,
+        "record-size",
+        "MB",
+        "The most megabytes that the file of --record may have, 1 to 1000000; 256 where none are said",
+    );
+    let command = with_argument(serve_command(alloc), status);
+    let command = with_argument(command, record);
+    with_argument(command, record_size)
 }
 
 /// The settings file that has to be named.

@@ -20,73 +20,82 @@ const DEVICE: &str = "Interoperability of the controlled station, IEC 60870-5-10
 9.5 Application layer
 [x] transmission mode 1: least significant octet first
 [ ] common address of ASDU: one octet
-";
+[x] common address of ASDU: two octets:";
 
-const ADDRESSES: &str = "[ ] information object address: one or two octets; structured
+const ADDRESSES: &str = "
+[ ] information object address: one or two octets; structured
 [x] information object address: three octets, unstructured
 [ ] cause of transmission: one octet
 [x] cause of transmission: two octets, with originator address
 [x] length of APDU: 253 at most, in both directions
 ";
 
-/// A way to show a point, at its place among the types.
+/// A way to show a point, without time or with it, at its place among the types.
 #[derive(Clone, Copy)]
 struct Listed {
     show: Show,
+    is_timed: bool,
     /// The lines of the types behind it that no point has.
     unused_behind: &'static str,
 }
 
-const WITHOUT_TIME: [Listed; 5] = [
+const POINT_TYPES: [Listed; 10] = [
     Listed {
         show: Show::Single,
+        is_timed: false,
         unused_behind: "",
     },
     Listed {
         show: Show::Double,
+        is_timed: false,
         unused_behind: "[ ] 5 M_ST_NA_1 step position information\n",
     },
     Listed {
         show: Show::Word,
+        is_timed: false,
         unused_behind: "[ ] 9 M_ME_NA_1 measured value, normalized\n",
     },
     Listed {
         show: Show::Scaled,
+        is_timed: false,
         unused_behind: "[ ] 13 M_ME_NC_1 measured value, short floating point\n",
     },
     Listed {
         show: Show::Total,
+        is_timed: false,
         unused_behind: "[ ] 20 M_PS_NA_1 packed single-point information with status change detection
 [ ] 21 M_ME_ND_1 measured value, normalized, without quality
 [ ] 2, 4, 6, 8, 10, 12, 14, 16 to 19: with CP24Time2a
 ",
     },
-];
-
-const WITH_TIME: [Listed; 5] = [
     Listed {
         show: Show::Single,
+        is_timed: true,
         unused_behind: "",
     },
     Listed {
         show: Show::Double,
+        is_timed: true,
         unused_behind: "[ ] 32 M_ST_TB_1 step position information, with CP56Time2a\n",
     },
     Listed {
         show: Show::Word,
+        is_timed: true,
         unused_behind: "[ ] 34 M_ME_TD_1 measured value, normalized, with CP56Time2a\n",
     },
     Listed {
         show: Show::Scaled,
+        is_timed: true,
         unused_behind: "[ ] 36 M_ME_TF_1 measured value, short floating point, with CP56Time2a\n",
     },
     Listed {
         show: Show::Total,
+        is_timed: true,
         unused_behind: "[ ] 38 M_EP_TD_1, 39 M_EP_TE_1, 40 M_EP_TF_1 protection equipment, with CP56Time2a\n",
     },
 ];
 
-const SYSTEM: &str = "
+const FUNCTIONS: &str = "
 System information, parameters and file transfer
 [ ] 70 M_EI_NA_1 end of initialization
 [x] 100 C_IC_NA_1 interrogation command: QOI 20 (station)
@@ -97,9 +106,7 @@ System information, parameters and file transfer
 [ ] 105 C_RP_NA_1 reset process command
 [ ] 106 C_CD_NA_1 delay acquisition command
 [ ] 110 to 113: parameters; 120 to 127: file transfer
-";
 
-const CAUSES: &str = "
 Type identification and cause of transmission
 1, 3, 7, 11: 3 spontaneous, 5 requested, 20 interrogated by station interrogation
 15: 3 spontaneous, 37 requested by general counter request
@@ -108,9 +115,7 @@ Type identification and cause of transmission
 100, 101: 6 and 8 are taken; 7 and 10 are sent, and 7, 9, 45, 46 and 47 with P/N 1
 102: 5 is taken; 45, 46 and 47 are sent with P/N 1
 any other that a client sends: 44 is sent with P/N 1
-";
 
-const FUNCTIONS: &str = "
 9.6 Basic application functions
 [ ] station initialization: remote initialization
 [ ] cyclic data transmission
@@ -140,41 +145,31 @@ pub(crate) fn write_sheet<W: Write>(settings: &Settings, writer: &mut W) -> io::
 /// Writes what the station is, and by which common addresses it is addressed.
 fn write_device<W: Write>(known: &[u16], writer: &mut W) -> io::Result<()> {
     writer.write_all(DEVICE.as_bytes())?;
-    writer.write_all(b"[x] common address of ASDU: two octets:")?;
     for common_address in known {
         write!(writer, " {common_address}")?;
     }
-    writer.write_all(b"\n")?;
     writer.write_all(ADDRESSES.as_bytes())
 }
 
 /// Writes the types of process information in monitor direction, of which those are used that a point has.
 fn write_point_types<W: Write>(rows: &[Row], writer: &mut W) -> io::Result<()> {
     writer.write_all(b"\nProcess information in monitor direction\n")?;
-    for listed in WITHOUT_TIME {
-        write_untimed(listed, mark_of(rows, listed.show), writer)?;
-    }
-    for listed in WITH_TIME {
-        write_timed(listed, mark_of(rows, listed.show), writer)?;
+    for listed in &POINT_TYPES {
+        write_type(listed, mark_of(rows, listed.show), writer)?;
     }
     Ok(())
 }
 
-/// Writes the type without time of a way to show a point, and those behind it.
-fn write_untimed<W: Write>(listed: Listed, mark: char, writer: &mut W) -> io::Result<()> {
+/// Writes a type of a way to show a point, and those behind it.
+fn write_type<W: Write>(listed: &Listed, mark: char, writer: &mut W) -> io::Result<()> {
     let types = point_types(listed.show);
-    let (untimed, about, behind) = (types.untimed, types.about, listed.unused_behind);
-    write!(writer, "[{mark}] {untimed} {about}\n{behind}")
-}
-
-/// Writes the type with time of a way to show a point, and those behind it.
-fn write_timed<W: Write>(listed: Listed, mark: char, writer: &mut W) -> io::Result<()> {
-    let types = point_types(listed.show);
-    let (timed, about, behind) = (types.timed, types.about, listed.unused_behind);
-    write!(
-        writer,
-        "[{mark}] {timed} {about}, with CP56Time2a\n{behind}"
-    )
+    let (name, tag) = if listed.is_timed {
+        (types.timed, ", with CP56Time2a")
+    } else {
+        (types.untimed, "")
+    };
+    let (about, behind) = (types.about, listed.unused_behind);
+    write!(writer, "[{mark}] {name} {about}{tag}\n{behind}")
 }
 
 /// What stands in the brackets at the types of a way to show a point.
@@ -188,9 +183,7 @@ fn mark_of(rows: &[Row], show: Show) -> char {
 
 /// Writes what the station does, and by how many minutes its clock is ahead of UTC.
 fn write_functions<W: Write>(station: &Station, writer: &mut W) -> io::Result<()> {
-    for text in [SYSTEM, CAUSES, FUNCTIONS] {
-        writer.write_all(text.as_bytes())?;
-    }
+    writer.write_all(FUNCTIONS.as_bytes())?;
     let offset = station.offset_minutes;
     write!(
         writer,

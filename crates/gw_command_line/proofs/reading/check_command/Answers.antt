@@ -1,18 +1,8 @@
-use Rattle.std.proofs.Common.{◌∙◌, ◌||◌, Bool, ap₂}
-use Rattle.std.proofs.lemmas.Result.{IfOk-weaker}
-use Rattle.clap.specs.Words.{with_rule}
 use Rattle.gw_command_line.proofs.reading.check_command.Goals as goal
 
 pub returns-clause-app : goal.returns-clause-app
 returns-clause-app c =
-    IfOk-weaker c.arg.result _ _
-    (λ command added. added.shape c.flag_argument.ensures.local
-    ∙ ap₂ with_rule c.in_ok-file_command.ensures.app c.flag_argument.ensures.rule)
-    c.arg.ensures
+    c.with_argument.ensures.app _ _ c.file_command-command.ensures.app c.flag_argument-profile.ensures.rule
 
 pub returns-clause-local : goal.returns-clause-local
-returns-clause-local c =
-    IfOk-weaker c.arg.result _ _
-    (λ command added. added.globals
-    ∙ ap₂ (λ (a b : Bool). a || b) c.in_ok-file_command.ensures.local c.flag_argument.ensures.local)
-    c.arg.ensures
+returns-clause-local c = c.with_argument.ensures.local c.file_command-command.ensures.local

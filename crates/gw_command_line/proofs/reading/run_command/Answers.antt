@@ -1,24 +1,14 @@
-use Rattle.std.proofs.Common.{◌∙◌, ◌||◌, Bool, ap₂}
-use Rattle.std.proofs.lemmas.Result.{IfOk-weaker}
-use Rattle.clap.specs.Words.{with_rule}
 use Rattle.gw_command_line.proofs.reading.run_command.Goals as goal
 
 pub returns-clause-app : goal.returns-clause-app
 returns-clause-app c =
-    IfOk-weaker c.arg-3.result _ _
-    (λ command added. added.shape c.number_argument.ensures.local
-    ∙ ap₂ with_rule (c.in_ok-arg-2.ensures.shape c.text_argument-2.ensures.local
-    ∙ ap₂ with_rule (c.in_ok-arg.ensures.shape c.text_argument.ensures.local
-    ∙ ap₂ with_rule c.in_ok-serve_command.ensures.app c.text_argument.ensures.rule) c.text_argument-2.ensures.rule)
-    c.number_argument.ensures.rule)
-    c.arg-3.ensures
+    c.with_argument.ensures.app _ _
+    (c.with_argument-command-2.ensures.app _ _
+    (c.with_argument-command.ensures.app _ _ c.serve_command.ensures.app c.text_argument-status.ensures.rule)
+    c.text_argument-record.ensures.rule)
+    c.number_argument-record_size.ensures.rule
 
 pub returns-clause-local : goal.returns-clause-local
 returns-clause-local c =
-    IfOk-weaker c.arg-3.result _ _
-    (λ command added. added.globals
-    ∙ ap₂ (λ (a b : Bool). a || b) (c.in_ok-arg-2.ensures.globals
-    ∙ ap₂ (λ (a b : Bool). a || b) (c.in_ok-arg.ensures.globals
-    ∙ ap₂ (λ (a b : Bool). a || b) c.in_ok-serve_command.ensures.local c.text_argument.ensures.local)
-    c.text_argument-2.ensures.local) c.number_argument.ensures.local)
-    c.arg-3.ensures
+    c.with_argument.ensures.local
+    (c.with_argument-command-2.ensures.local (c.with_argument-command.ensures.local c.serve_command.ensures.local))
