@@ -45,20 +45,25 @@ impl Cause {
 
 impl fmt::Display for Cause {
     fn fmt<W: fmt::Write>(&self, f: &mut fmt::Formatter<W>) -> fmt::Result {
-        match self {
-            Cause::Closed(why) => write!(f, "closed: {}", words_of(*why)),
-            Cause::EndOfInput => f.write_str("lost: end of input"),
-            Cause::Silent { seconds } => write!(f, "lost: silent for {seconds} s"),
+        let words = match *self {
+            Cause::Closed(why) => words_of(why),
+            Cause::EndOfInput => "lost: end of input",
+            Cause::Silent { seconds } => return write!(f, "lost: silent for {seconds} s"),
             Cause::Slow { milliseconds } => {
-                write!(f, "lost: a write took longer than {milliseconds} ms")
+                return write!(f, "lost: a write took longer than {milliseconds} ms");
             }
-            Cause::NotRead(failure) => write_failure(f, "read", *failure),
-            Cause::NotWritten(failure) => write_failure(f, "written", *failure),
-            Cause::NotApdus(fault) => write!(f, "lost: no APDUs came: {}", words_of_fault(*fault)),
-            Cause::Memory => f.write_str("lost: no memory"),
-            Cause::GaveWay => f.write_str("closed: gave way to a newer connection of its address"),
-            Cause::GatewayEnds => f.write_str("closed: the gateway ends"),
-        }
+            Cause::NotRead(failure) => {
+                return write_failure(f, "nothing could be read: ", failure);
+            }
+            Cause::NotWritten(failure) => {
+                return write_failure(f, "nothing could be written: ", failure);
+            }
+            Cause::NotApdus(fault) => words_of_fault(fault),
+            Cause::Memory => "lost: no memory",
+            Cause::GaveWay => "closed: gave way to a newer connection of its address",
+            Cause::GatewayEnds => "closed: the gateway ends",
+        };
+        f.write_str(words)
     }
 }
 
@@ -68,29 +73,30 @@ fn write_failure<W: fmt::Write>(
     undone: &str,
     failure: Failure,
 ) -> fmt::Result {
-    if failure.ends_connection() {
-        write!(f, "lost: {failure}")
+    let before = if failure.ends_connection() {
+        ""
     } else {
-        write!(f, "lost: nothing could be {undone}: {failure}")
-    }
+        undone
+    };
+    write!(f, "lost: {before}{failure}")
 }
 
-/// Why the core closed a client's connection.
+/// That the core closed a client's connection, and why.
 fn words_of(why: Why) -> &'static str {
     match why {
-        Why::Sequence => "a wrong sequence number",
-        Why::NotStarted => "an I format before STARTDT",
-        Why::Malformed => "an ASDU of a wrong length or number of objects",
-        Why::Flooded => "more than 32 answers would wait",
-        Why::Timer => "t1 expired",
+        Why::Sequence => "closed: a wrong sequence number",
+        Why::NotStarted => "closed: an I format before STARTDT",
+        Why::Malformed => "closed: an ASDU of a wrong length or number of objects",
+        Why::Flooded => "closed: more than 32 answers would wait",
+        Why::Timer => "closed: t1 expired",
     }
 }
 
-/// What stands where an APDU should begin.
+/// That no APDUs came, and what stands where one should begin.
 fn words_of_fault(fault: ApciFault) -> &'static str {
     match fault {
-        ApciFault::Start => "a start octet other than 0x68",
-        ApciFault::Length => "a length outside 4 to 253",
-        ApciFault::Control => "a control field of no format",
+        ApciFault::Start => "lost: no APDUs came: a start octet other than 0x68",
+        ApciFault::Length => "lost: no APDUs came: a length outside 4 to 253",
+        ApciFault::Control => "lost: no APDUs came: a control field of no format",
     }
 }

@@ -99,45 +99,54 @@ fn double_state(state: u8) -> &'static str {
 impl<'a> fmt::Display for AskedWords<'a> {
     fn fmt<W: fmt::Write>(&self, f: &mut fmt::Formatter<W>) -> fmt::Result {
         let AskedWords(command) = *self;
+        let cause = AskedCause(command.cause);
+        let words = ControlWords(command);
         let negative = if command.negative { ", with P/N" } else { "" };
         let test = if command.test { ", a test" } else { "" };
-        let words = ControlWords(command);
-        write_cause(f, command.cause)?;
-        write!(f, "{words}{negative}{test}")
+        write!(f, "{cause}{words}{negative}{test}")
     }
 }
 
-/// Writes the cause of transmission of a command that came, unless it is activation.
-fn write_cause<W: fmt::Write>(f: &mut fmt::Formatter<W>, cause: u8) -> fmt::Result {
-    match cause {
-        ACTIVATION => Ok(()),
-        DEACTIVATION => f.write_str("deactivation of "),
-        _ => write!(f, "cause {cause} of "),
+/// The cause of transmission of a command that came, unless it is activation.
+#[derive(Clone, Copy)]
+struct AskedCause(u8);
+
+impl fmt::Display for AskedCause {
+    fn fmt<W: fmt::Write>(&self, f: &mut fmt::Formatter<W>) -> fmt::Result {
+        match self.0 {
+            ACTIVATION => Ok(()),
+            DEACTIVATION => f.write_str("deactivation of "),
+            cause => write!(f, "cause {cause} of "),
+        }
     }
 }
 
 impl<'a> fmt::Display for ToldWords<'a> {
     fn fmt<W: fmt::Write>(&self, f: &mut fmt::Formatter<W>) -> fmt::Result {
         let ToldWords(command) = *self;
-        let negative = if command.negative { ", negative" } else { "" };
         let words = ControlWords(command);
-        write!(f, "{words}: ")?;
-        write_answer(f, command.cause)?;
-        f.write_str(negative)
+        let answer = Answer(command.cause);
+        let negative = if command.negative { ", negative" } else { "" };
+        write!(f, "{words}: {answer}{negative}")
     }
 }
 
-/// Writes what a command is answered by its cause of transmission.
-fn write_answer<W: fmt::Write>(f: &mut fmt::Formatter<W>, cause: u8) -> fmt::Result {
-    let words = match cause {
-        ACTIVATION_CONFIRMATION => "confirmed",
-        DEACTIVATION_CONFIRMATION => "deactivation confirmed",
-        ACTIVATION_TERMINATION => "terminated",
-        UNKNOWN_TYPE => "unknown type",
-        UNKNOWN_CAUSE => "unknown cause",
-        UNKNOWN_COMMON_ADDRESS => "unknown common address",
-        UNKNOWN_OBJECT_ADDRESS => "unknown object address",
-        _ => return write!(f, "cause {cause}"),
-    };
-    f.write_str(words)
+/// What a command is answered by its cause of transmission.
+#[derive(Clone, Copy)]
+struct Answer(u8);
+
+impl fmt::Display for Answer {
+    fn fmt<W: fmt::Write>(&self, f: &mut fmt::Formatter<W>) -> fmt::Result {
+        let words = match self.0 {
+            ACTIVATION_CONFIRMATION => "confirmed",
+            DEACTIVATION_CONFIRMATION => "deactivation confirmed",
+            ACTIVATION_TERMINATION => "terminated",
+            UNKNOWN_TYPE => "unknown type",
+            UNKNOWN_CAUSE => "unknown cause",
+            UNKNOWN_COMMON_ADDRESS => "unknown common address",
+            UNKNOWN_OBJECT_ADDRESS => "unknown object address",
+            cause => return write!(f, "cause {cause}"),
+        };
+        f.write_str(words)
+    }
 }

@@ -72,13 +72,16 @@ impl<'a> fmt::Display for Spaced<'a> {
 
 impl fmt::Display for OrderEvent {
     fn fmt<W: fmt::Write>(&self, f: &mut fmt::Formatter<W>) -> fmt::Result {
-        match self {
-            OrderEvent::Given(request) => write!(f, "given: {}", Spaced(request.as_slice())),
-            OrderEvent::Done => f.write_str("done"),
-            OrderEvent::Refused => f.write_str("failed: the outstation answered otherwise"),
-            OrderEvent::Unanswered => f.write_str("failed: no answer in time"),
-            OrderEvent::Lost => f.write_str("failed: the outstation was lost"),
-            OrderEvent::LetGo => f.write_str("let go: its session ended before it was given"),
-        }
+        let words = match self {
+            OrderEvent::Given(request) => {
+                return write!(f, "given: {}", Spaced(request.as_slice()));
+            }
+            OrderEvent::Done => "done",
+            OrderEvent::Refused => "failed: the outstation answered otherwise",
+            OrderEvent::Unanswered => "failed: no answer in time",
+            OrderEvent::Lost => "failed: the outstation was lost",
+            OrderEvent::LetGo => "let go: its session ended before it was given",
+        };
+        f.write_str(words)
     }
 }

@@ -1,16 +1,15 @@
 //! The lines of the journal.
 
 use crate::command_words::{AskedWords, ToldWords};
-use crate::control_event::{CommandEvent, OrderEvent};
+use crate::control_event::CommandEvent;
 use crate::counted::{AndMore, Counted};
 use crate::doubt::Doubt;
-use crate::event::{JournalEvent, Subject};
-use crate::unreadable::Unreadable;
+use crate::event::{JournalEvent, Priority, Subject};
 use gw_text::Plain;
 use iec_command::Command;
-use jiff::Timestamp;
+use jiff_core::Timestamp;
+use jiff_fmt::temporal::DateTimePrinter;
 use std::fmt;
-use std::net::SocketAddr;
 
 /// An event, and when it was.
 #[derive(Drop)]
@@ -38,9 +37,9 @@ struct Instant(u64);
 
 impl fmt::Display for Instant {
     fn fmt<W: fmt::Write>(&self, f: &mut fmt::Formatter<W>) -> fmt::Result {
-        let wall = i64::try_from(self.0).unwrap_or(i64::MAX);
-        match Timestamp::from_millisecond(wall) {
-            Ok(instant) => write!(f, "{instant:.3}"),
+        let printer = DateTimePrinter::new().precision(Some(3));
+        match Timestamp::from_nanosecond(i128::from(self.0) * 1_000_000) {
+            Ok(instant) => f.write_str(printer.timestamp_text(instant).as_str()),
             Err(_) => f.write_str("-"),
         }
     }
@@ -61,48 +60,63 @@ impl<'a> fmt::Display for Hexadecimal<'a> {
 
 impl<'a> fmt::Display for NoteLine<'a> {
     fn fmt<W: fmt::Write>(&self, f: &mut fmt::Formatter<W>) -> fmt::Result {
-        self.write_priority(f)?;
-        write!(f, "{} ", Instant(self.note.wall))?;
-        match self.note.event.subject() {
-            Subject::Gateway => self.write_of_gateway(f),
-            Subject::Outstation(outstation) => self.write_of_outstation(f, outstation),
-            Subject::Client(client, address) => self.write_of_client(f, client, address),
+        let NoteLine {
+            note,
+            places,
+            with_priority,
+        } = *self;
+        let priority = InFront(if with_priority {
+            Some(note.event.priority())
+        } else {
+            None
+        });
+        let instant = Instant(note.wall);
+        let happened = Happened {
+            event: &note.event,
+            places,
+        };
+        write!(f, "{priority}{instant} {happened}")
+    }
+}
+
+/// The priority, as journald reads it in front of a line; nothing where it doesn't stand there.
+#[derive(Clone, Copy)]
+struct InFront(Option<Priority>);
+
+impl fmt::Display for InFront {
+    fn fmt<W: fmt::Write>(&self, f: &mut fmt::Formatter<W>) -> fmt::Result {
+        match self.0 {
+            Some(priority) => write!(f, "<{}>", priority as u8),
+            None => Ok(()),
         }
     }
 }
 
-impl<'a> NoteLine<'a> {
-    /// Writes the priority, if it stands in front.
-    fn write_priority<W: fmt::Write>(&self, f: &mut fmt::Formatter<W>) -> fmt::Result {
-        if self.with_priority {
-            write!(f, "<{}>", self.note.event.priority() as u8)
-        } else {
-            Ok(())
+/// Whom an event is of, and what happened, in words.
+#[derive(Clone, Copy)]
+struct Happened<'a> {
+    event: &'a JournalEvent,
+    places: &'a [String],
+}
+
+impl<'a> fmt::Display for Happened<'a> {
+    fn fmt<W: fmt::Write>(&self, f: &mut fmt::Formatter<W>) -> fmt::Result {
+        match self.event.subject() {
+            Subject::Gateway => self.write_of_gateway(f),
+            Subject::Outstation(outstation) => {
+                let place = self.place(outstation);
+                let what = OutstationWords(self.event);
+                write!(f, "outstation {outstation} {place} {what}")
+            }
+            Subject::Client(client, address) => {
+                let what = ClientWords(self.event);
+                write!(f, "client {client} {address} {what}")
+            }
         }
     }
+}
 
-    /// Writes which outstation it is, and what happened to it.
-    fn write_of_outstation<W: fmt::Write>(
-        &self,
-        f: &mut fmt::Formatter<W>,
-        outstation: u8,
-    ) -> fmt::Result {
-        let place = self.place(outstation);
-        write!(f, "outstation {outstation} {place} ")?;
-        self.write_event_of_outstation(f)
-    }
-
-    /// Writes which client it is, and what happened to it.
-    fn write_of_client<W: fmt::Write>(
-        &self,
-        f: &mut fmt::Formatter<W>,
-        client: u8,
-        address: SocketAddr,
-    ) -> fmt::Result {
-        write!(f, "client {client} {address} ")?;
-        self.write_event_of_client(f)
-    }
-
+impl<'a> Happened<'a> {
     /// Where an outstation is reached.
     fn place(&self, outstation: u8) -> Plain<'a> {
         match self.places.get(usize::from(outstation)) {
@@ -113,7 +127,7 @@ impl<'a> NoteLine<'a> {
 
     /// Writes what happened to the gateway as a whole.
     fn write_of_gateway<W: fmt::Write>(&self, f: &mut fmt::Formatter<W>) -> fmt::Result {
-        match &self.note.event {
+        match self.event {
             JournalEvent::Started { .. } => self.write_start(f),
             JournalEvent::Doubtful(doubt) => self.write_doubt(f, *doubt),
             JournalEvent::Listening(address) => write!(f, "listening on {address}"),
@@ -143,16 +157,19 @@ impl<'a> NoteLine<'a> {
             rows,
             controls,
             outstations,
-        } = &self.note.event
+        } = self.event
         else {
             return Ok(());
         };
-        let (file, digest) = (Plain(file.as_str()), Hexadecimal(digest));
-        write!(f, "gateway {version} started: {file} (SHA-256 {digest}), ")?;
-        let points = Counted(*rows as u64, "point");
-        let controls = Counted(*controls as u64, "control");
-        let outstations = Counted(*outstations as u64, "outstation");
-        write!(f, "{points}, {controls}, {outstations}")
+        write!(
+            f,
+            "gateway {version} started: {} (SHA-256 {}), {}, {}, {}",
+            Plain(file.as_str()),
+            Hexadecimal(digest),
+            Counted(*rows as u64, "point"),
+            Counted(*controls as u64, "control"),
+            Counted(*outstations as u64, "outstation")
+        )
     }
 
     /// Writes what is doubtful in the settings.
@@ -174,41 +191,48 @@ impl<'a> NoteLine<'a> {
             }
         }
     }
+}
 
-    /// Writes what happened to an outstation.
-    fn write_event_of_outstation<W: fmt::Write>(&self, f: &mut fmt::Formatter<W>) -> fmt::Result {
-        match &self.note.event {
-            JournalEvent::OutstationConnected { .. } => f.write_str("connected"),
+/// What happened to an outstation, in words.
+#[derive(Clone, Copy)]
+struct OutstationWords<'a>(&'a JournalEvent);
+
+impl<'a> fmt::Display for OutstationWords<'a> {
+    fn fmt<W: fmt::Write>(&self, f: &mut fmt::Formatter<W>) -> fmt::Result {
+        let words = match self.0 {
+            JournalEvent::OutstationConnected { .. } => "connected",
             JournalEvent::OutstationUnreachable { cause, .. } => {
-                write!(f, "not connected: {cause}")
+                return write!(f, "not connected: {cause}");
             }
-            JournalEvent::OutstationLost { cause, .. } => write!(f, "{cause}"),
-            JournalEvent::OutstationRestarted { .. } => f.write_str("restarted (IIN1.7)"),
-            JournalEvent::EventsOverflowed { .. } => {
-                f.write_str("its event buffer overflowed (IIN2.3)")
-            }
-            JournalEvent::ClockNotSet { .. } => {
-                f.write_str("its clock can't be set (IIN1.4 stays)")
-            }
+            JournalEvent::OutstationLost { cause, .. } => return write!(f, "{cause}"),
+            JournalEvent::OutstationRestarted { .. } => "restarted (IIN1.7)",
+            JournalEvent::EventsOverflowed { .. } => "its event buffer overflowed (IIN2.3)",
+            JournalEvent::ClockNotSet { .. } => "its clock can't be set (IIN1.4 stays)",
             JournalEvent::Unanswered { count, .. } => {
-                write_counted(f, *count, "request", "unanswered")
+                return write_counted(f, *count, "request", "unanswered");
             }
             JournalEvent::FragmentRefused {
                 fault,
                 left_out,
                 ..
-            } => write_refused(f, fault, *left_out),
+            } => return write!(f, "unreadable: {fault}{}", AndMore(*left_out)),
             JournalEvent::OctetsSkipped { count, .. } => {
-                write_counted(f, *count, "octet", "skipped by the link")
+                return write_counted(f, *count, "octet", "skipped by the link");
             }
-            JournalEvent::Order { order, what, .. } => write_order(f, *order, what),
-            _ => Ok(()),
-        }
+            JournalEvent::Order { order, what, .. } => return write!(f, "order {order} {what}"),
+            _ => "",
+        };
+        f.write_str(words)
     }
+}
 
-    /// Writes what happened to a client.
-    fn write_event_of_client<W: fmt::Write>(&self, f: &mut fmt::Formatter<W>) -> fmt::Result {
-        match &self.note.event {
+/// What happened to a client, in words.
+#[derive(Clone, Copy)]
+struct ClientWords<'a>(&'a JournalEvent);
+
+impl<'a> fmt::Display for ClientWords<'a> {
+    fn fmt<W: fmt::Write>(&self, f: &mut fmt::Formatter<W>) -> fmt::Result {
+        match self.0 {
             JournalEvent::ClientConnected { .. } => f.write_str("connected"),
             JournalEvent::TransferStarted { .. } => f.write_str("data transfer started"),
             JournalEvent::TransferStopped { .. } => f.write_str("data transfer stopped"),
@@ -231,25 +255,6 @@ fn write_counted<W: fmt::Write>(
 ) -> fmt::Result {
     let things = Counted(count, name);
     write!(f, "{things} {what}")
-}
-
-/// Writes why a fragment was refused, and how many more were.
-fn write_refused<W: fmt::Write>(
-    f: &mut fmt::Formatter<W>,
-    fault: &Unreadable,
-    left_out: u64,
-) -> fmt::Result {
-    let more = AndMore(left_out);
-    write!(f, "unreadable: {fault}{more}")
-}
-
-/// Writes what happened with an order.
-fn write_order<W: fmt::Write>(
-    f: &mut fmt::Formatter<W>,
-    order: u64,
-    what: &OrderEvent,
-) -> fmt::Result {
-    write!(f, "order {order} {what}")
 }
 
 /// Writes what happened with a command.

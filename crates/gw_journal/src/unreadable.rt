@@ -89,27 +89,30 @@ impl fmt::Display for Unreadable {
                 place,
                 why,
             } => {
-                write!(f, "group {group} variation {variation} at {place}")?;
-                write_why(f, why, qualifier)
+                let why = Why(why, qualifier);
+                write!(f, "group {group} variation {variation} at {place} {why}")
             }
             Unreadable::Memory => f.write_str("no memory"),
         }
     }
 }
 
-/// Writes what is wrong with an object header, or its objects.
-fn write_why<W: fmt::Write>(
-    f: &mut fmt::Formatter<W>,
-    why: HeaderFault,
-    qualifier: u8,
-) -> fmt::Result {
-    match why {
-        HeaderFault::UnknownObject => f.write_str(" is unknown"),
-        HeaderFault::UnknownQualifier => write!(f, " has qualifier 0x{qualifier:02X}"),
-        HeaderFault::ShortRange => f.write_str(" is cut off in its range"),
-        HeaderFault::StopBeforeStart => f.write_str(" stops before it starts"),
-        HeaderFault::ShortData => f.write_str(" is cut off in its objects"),
-        HeaderFault::TooMany => f.write_str(" comes after 512 other headers"),
-        HeaderFault::Memory => f.write_str(" finds no memory"),
+/// What is wrong with an object header of some qualifier, or its objects.
+#[derive(Clone, Copy)]
+struct Why(HeaderFault, u8);
+
+impl fmt::Display for Why {
+    fn fmt<W: fmt::Write>(&self, f: &mut fmt::Formatter<W>) -> fmt::Result {
+        let Why(why, qualifier) = *self;
+        let words = match why {
+            HeaderFault::UnknownObject => "is unknown",
+            HeaderFault::UnknownQualifier => return write!(f, "has qualifier 0x{qualifier:02X}"),
+            HeaderFault::ShortRange => "is cut off in its range",
+            HeaderFault::StopBeforeStart => "stops before it starts",
+            HeaderFault::ShortData => "is cut off in its objects",
+            HeaderFault::TooMany => "comes after 512 other headers",
+            HeaderFault::Memory => "finds no memory",
+        };
+        f.write_str(words)
     }
 }

@@ -1,8 +1,9 @@
 //! The figures of a place for a client.
 
-use crate::family::{Family, Figure};
-use crate::status::{ClientStatus, Closes};
+use crate::family::{COUNTER, Family, Figure, GAUGE};
+use crate::status::ClientStatus;
 use std::fmt;
+use std::net::SocketAddr;
 
 /// What there is a figure of.
 #[derive(Clone, Copy)]
@@ -16,55 +17,58 @@ enum ClientFigure {
 }
 
 /// All of them, in the order in which they are told.
-const CLIENT_FIGURES: [ClientFigure; 6] = [
-    ClientFigure::Connected,
-    ClientFigure::ConnectedSince,
-    ClientFigure::DataTransfer,
-    ClientFigure::Unacknowledged,
-    ClientFigure::Queued,
-    ClientFigure::Dropped,
+const CLIENT_FIGURES: &[(ClientFigure, Family)] = &[
+    (
+        ClientFigure::Connected,
+        Family {
+            kind: GAUGE,
+            name: "gateway_client_connected",
+            help: "Whether a client is connected at this place.",
+        },
+    ),
+    (
+        ClientFigure::ConnectedSince,
+        Family {
+            kind: GAUGE,
+            name: "gateway_client_connection_start_time_seconds",
+            help: "Unix time since which the connection stands.",
+        },
+    ),
+    (
+        ClientFigure::DataTransfer,
+        Family {
+            kind: GAUGE,
+            name: "gateway_client_data_transfer",
+            help: "Whether data transfer is started.",
+        },
+    ),
+    (
+        ClientFigure::Unacknowledged,
+        Family {
+            kind: GAUGE,
+            name: "gateway_client_unacknowledged_apdus",
+            help: "I formats sent and not acknowledged.",
+        },
+    ),
+    (
+        ClientFigure::Queued,
+        Family {
+            kind: GAUGE,
+            name: "gateway_client_queued_observations",
+            help: "Observations that wait.",
+        },
+    ),
+    (
+        ClientFigure::Dropped,
+        Family {
+            kind: COUNTER,
+            name: "gateway_client_dropped_observations_total",
+            help: "Observations dropped since too many waited.",
+        },
+    ),
 ];
 
-/// Who is connected.
-const INFO: Family = Family::Gauge("gateway_client_info", "Who is connected at this place.");
-
-/// Why connections ended.
-const CLOSES: Family = Family::Counter(
-    "gateway_client_closes_total",
-    "Connections of this place that ended, by cause.",
-);
-
 impl ClientFigure {
-    /// Its family.
-    fn family(self) -> Family {
-        match self {
-            ClientFigure::Connected => Family::Gauge(
-                "gateway_client_connected",
-                "Whether a client is connected at this place.",
-            ),
-            ClientFigure::ConnectedSince => Family::Gauge(
-                "gateway_client_connection_start_time_seconds",
-                "Unix time since which the connection stands.",
-            ),
-            ClientFigure::DataTransfer => Family::Gauge(
-                "gateway_client_data_transfer",
-                "Whether data transfer is started.",
-            ),
-            ClientFigure::Unacknowledged => Family::Gauge(
-                "gateway_client_unacknowledged_apdus",
-                "I formats sent and not acknowledged.",
-            ),
-            ClientFigure::Queued => Family::Gauge(
-                "gateway_client_queued_observations",
-                "Observations that wait.",
-            ),
-            ClientFigure::Dropped => Family::Counter(
-                "gateway_client_dropped_observations_total",
-                "Observations dropped since too many waited.",
-            ),
-        }
-    }
-
     /// What it is at a place, if there is one.
     fn figure(self, client: &ClientStatus) -> Option<Figure> {
         match self {
@@ -78,89 +82,95 @@ impl ClientFigure {
     }
 }
 
-/// Writes the figures of the places.
-pub fn write_clients<W: fmt::Write>(
-    f: &mut fmt::Formatter<W>,
-    clients: &[ClientStatus],
-) -> fmt::Result {
-    for what in CLIENT_FIGURES {
-        write_family(f, what, clients)?;
+/// The figures of the places.
+#[derive(Clone, Copy)]
+pub struct ClientFamilies<'a>(pub &'a [ClientStatus]);
+
+impl<'a> fmt::Display for ClientFamilies<'a> {
+    fn fmt<W: fmt::Write>(&self, f: &mut fmt::Formatter<W>) -> fmt::Result {
+        for (what, family) in CLIENT_FIGURES {
+            write_family(f, *what, family, self.0)?;
+        }
+        Ok(())
     }
-    write_addresses(f, clients)?;
-    write_closes(f, clients)
 }
 
-/// Writes a family of figures, one for each place.
+/// Writes a family of figures, one for each place that has one.
 fn write_family<W: fmt::Write>(
     f: &mut fmt::Formatter<W>,
     what: ClientFigure,
+    family: &Family,
     clients: &[ClientStatus],
 ) -> fmt::Result {
-    what.family().write(f)?;
+    write!(f, "{family}")?;
     for (number, client) in clients.iter().enumerate() {
-        write_figure(f, what, number, client)?;
-    }
-    Ok(())
-}
-
-/// Writes the figure of a place, if there is one.
-fn write_figure<W: fmt::Write>(
-    f: &mut fmt::Formatter<W>,
-    what: ClientFigure,
-    number: usize,
-    client: &ClientStatus,
-) -> fmt::Result {
-    let Some(figure) = what.figure(client) else {
-        return Ok(());
-    };
-    let name = what.family().name();
-    writeln!(f, "{name}{{client=\"{number}\"}} {figure}")
-}
-
-/// Writes who is connected at each place. The address, which changes with each connection, is a label of this family
-/// alone.
-fn write_addresses<W: fmt::Write>(
-    f: &mut fmt::Formatter<W>,
-    clients: &[ClientStatus],
-) -> fmt::Result {
-    INFO.write(f)?;
-    for (number, client) in clients.iter().enumerate() {
-        if let Some(address) = client.address {
-            let name = INFO.name();
-            writeln!(f, "{name}{{client=\"{number}\",address=\"{address}\"}} 1")?;
+        if let Some(figure) = what.figure(client) {
+            writeln!(f, "{}{{client=\"{number}\"}} {figure}", family.name)?;
         }
     }
     Ok(())
 }
 
-/// Writes why connections of each place ended.
-fn write_closes<W: fmt::Write>(f: &mut fmt::Formatter<W>, clients: &[ClientStatus]) -> fmt::Result {
-    CLOSES.write(f)?;
-    for (number, client) in clients.iter().enumerate() {
-        write_closes_of(f, number, client.closes)?;
+/// Who is connected at each place. The address, which changes with each connection, is a label of this family alone.
+#[derive(Clone, Copy)]
+pub struct Addresses<'a>(pub &'a [ClientStatus]);
+
+impl<'a> fmt::Display for Addresses<'a> {
+    fn fmt<W: fmt::Write>(&self, f: &mut fmt::Formatter<W>) -> fmt::Result {
+        f.write_str(
+            "# HELP gateway_client_info Who is connected at this place.\n\
+            # TYPE gateway_client_info gauge\n",
+        )?;
+        for (number, client) in self.0.iter().enumerate() {
+            write_address(f, number, client.address)?;
+        }
+        Ok(())
     }
-    Ok(())
+}
+
+/// Writes who is connected at a place, if somebody is.
+fn write_address<W: fmt::Write>(
+    f: &mut fmt::Formatter<W>,
+    number: usize,
+    address: Option<SocketAddr>,
+) -> fmt::Result {
+    match address {
+        Some(address) => writeln!(
+            f,
+            "gateway_client_info{{client=\"{number}\",address=\"{address}\"}} 1"
+        ),
+        None => Ok(()),
+    }
+}
+
+/// Why connections of each place ended.
+#[derive(Clone, Copy)]
+pub struct CloseCauses<'a>(pub &'a [ClientStatus]);
+
+impl<'a> fmt::Display for CloseCauses<'a> {
+    fn fmt<W: fmt::Write>(&self, f: &mut fmt::Formatter<W>) -> fmt::Result {
+        f.write_str(
+            "# HELP gateway_client_closes_total Connections of this place that ended, by cause.\n\
+            # TYPE gateway_client_closes_total counter\n",
+        )?;
+        for (number, client) in self.0.iter().enumerate() {
+            write_closes(f, number, &client.closes.by_cause())?;
+        }
+        Ok(())
+    }
 }
 
 /// Writes why connections of a place ended.
-fn write_closes_of<W: fmt::Write>(
+fn write_closes<W: fmt::Write>(
     f: &mut fmt::Formatter<W>,
     number: usize,
-    closes: Closes,
+    closes: &[(&'static str, u64)],
 ) -> fmt::Result {
-    for (cause, count) in closes.by_cause() {
-        write_close(f, number, cause, count)?;
+    for (cause, count) in closes {
+        writeln!(
+            f,
+            "gateway_client_closes_total{{client=\"{number}\",cause=\"{cause}\"}} {count}"
+        )?;
     }
     Ok(())
-}
-
-/// Writes how many connections of a place ended for a cause.
-fn write_close<W: fmt::Write>(
-    f: &mut fmt::Formatter<W>,
-    number: usize,
-    cause: &str,
-    count: u64,
-) -> fmt::Result {
-    let name = CLOSES.name();
-    writeln!(f, "{name}{{client=\"{number}\",cause=\"{cause}\"}} {count}")
 }

@@ -2,53 +2,75 @@
 
 use std::fmt;
 
-/// A text as HTML shows it, between tags and in an attribute's quotation marks.
+/// A text as it stands in another.
 #[derive(Clone, Copy)]
-pub struct Html<'a>(pub &'a str);
+pub struct Escaped<'a> {
+    text: &'a str,
+    /// What stands for characters that have a meaning of their own there.
+    escapes: &'static [(char, &'static str)],
+    /// What the backslash of a control character's escape needs in front.
+    before_backslash: &'static str,
+}
 
-impl<'a> fmt::Display for Html<'a> {
+/// The escapes of HTML.
+const OF_HTML: &[(char, &str)] = &[
+    ('&', "&amp;"),
+    ('<', "&lt;"),
+    ('>', "&gt;"),
+    ('"', "&quot;"),
+    ('\'', "&#39;"),
+];
+
+/// Those of the value of a label of Prometheus.
+const OF_LABEL: &[(char, &str)] = &[('\\', "\\\\"), ('"', "\\\""), ('\n', "\\n")];
+
+impl<'a> Escaped<'a> {
+    /// A text as HTML shows it, between tags and in an attribute's quotation marks.
+    pub fn html(text: &'a str) -> Escaped<'a> {
+        Escaped {
+            text,
+            escapes: OF_HTML,
+            before_backslash: "",
+        }
+    }
+
+    /// A text as the value of a label of Prometheus, without its quotation marks. Of the backslashes of
+    /// `escape_default` each is one of the value itself, but that of a line feed.
+    pub fn label(text: &'a str) -> Escaped<'a> {
+        Escaped {
+            text,
+            escapes: OF_LABEL,
+            before_backslash: "\\",
+        }
+    }
+
+    /// What stands for a character, if it has a meaning of its own.
+    fn escape_of(self, character: char) -> Option<&'static str> {
+        for (special, escape) in self.escapes {
+            if *special == character {
+                return Some(escape);
+            }
+        }
+        None
+    }
+
+    /// Writes what stands for a character.
+    fn write<W: fmt::Write>(self, f: &mut fmt::Formatter<W>, character: char) -> fmt::Result {
+        match self.escape_of(character) {
+            Some(escape) => f.write_str(escape),
+            None if character.is_control() => {
+                write!(f, "{}{}", self.before_backslash, character.escape_default())
+            }
+            None => f.write_char(character),
+        }
+    }
+}
+
+impl<'a> fmt::Display for Escaped<'a> {
     fn fmt<W: fmt::Write>(&self, f: &mut fmt::Formatter<W>) -> fmt::Result {
-        for character in self.0.chars() {
-            write_html(f, character)?;
+        for character in self.text.chars() {
+            self.write(f, character)?;
         }
         Ok(())
-    }
-}
-
-/// Writes a character as HTML shows it.
-fn write_html<W: fmt::Write>(f: &mut fmt::Formatter<W>, character: char) -> fmt::Result {
-    match character {
-        '&' => f.write_str("&amp;"),
-        '<' => f.write_str("&lt;"),
-        '>' => f.write_str("&gt;"),
-        '"' => f.write_str("&quot;"),
-        '\'' => f.write_str("&#39;"),
-        _ if character.is_control() => write!(f, "{}", character.escape_default()),
-        _ => f.write_char(character),
-    }
-}
-
-/// A text as the value of a label of Prometheus, without its quotation marks.
-#[derive(Clone, Copy)]
-pub struct Label<'a>(pub &'a str);
-
-impl<'a> fmt::Display for Label<'a> {
-    fn fmt<W: fmt::Write>(&self, f: &mut fmt::Formatter<W>) -> fmt::Result {
-        for character in self.0.chars() {
-            write_label(f, character)?;
-        }
-        Ok(())
-    }
-}
-
-/// Writes a character of a label's value. Of the backslashes of `escape_default` each is one of the value itself, but
-/// that of a line feed.
-fn write_label<W: fmt::Write>(f: &mut fmt::Formatter<W>, character: char) -> fmt::Result {
-    match character {
-        '\\' => f.write_str("\\\\"),
-        '"' => f.write_str("\\\""),
-        '\n' => f.write_str("\\n"),
-        _ if character.is_control() => write!(f, "\\{}", character.escape_default()),
-        _ => f.write_char(character),
     }
 }

@@ -2,29 +2,24 @@
 
 use std::fmt;
 
-/// What a family of figures is called, and what it tells.
+/// Figures that go up and down.
+pub const GAUGE: &str = "gauge";
+
+/// Figures that go up alone while the program runs.
+pub const COUNTER: &str = "counter";
+
+/// What a family of figures is called, and what it tells. It is shown as the lines above its figures.
 #[derive(Clone, Copy)]
-pub enum Family {
-    /// Figures that go up and down.
-    Gauge(&'static str, &'static str),
-    /// Figures that go up alone while the program runs.
-    Counter(&'static str, &'static str),
+pub struct Family {
+    /// `GAUGE` or `COUNTER`.
+    pub kind: &'static str,
+    pub name: &'static str,
+    pub help: &'static str,
 }
 
-impl Family {
-    /// Its name.
-    pub fn name(self) -> &'static str {
-        match self {
-            Family::Gauge(name, _) | Family::Counter(name, _) => name,
-        }
-    }
-
-    /// Writes the lines above its figures.
-    pub fn write<W: fmt::Write>(self, f: &mut fmt::Formatter<W>) -> fmt::Result {
-        let (name, help, kind) = match self {
-            Family::Gauge(name, help) => (name, help, "gauge"),
-            Family::Counter(name, help) => (name, help, "counter"),
-        };
+impl fmt::Display for Family {
+    fn fmt<W: fmt::Write>(&self, f: &mut fmt::Formatter<W>) -> fmt::Result {
+        let Family { kind, name, help } = *self;
         write!(f, "# HELP {name} {help}\n# TYPE {name} {kind}\n")
     }
 }
@@ -48,10 +43,7 @@ impl fmt::Display for Figure {
     fn fmt<W: fmt::Write>(&self, f: &mut fmt::Formatter<W>) -> fmt::Result {
         match *self {
             Figure::Count(count) => write!(f, "{count}"),
-            Figure::Time(time) => {
-                let (seconds, rest) = (time / 1000, time % 1000);
-                write!(f, "{seconds}.{rest:03}")
-            }
+            Figure::Time(time) => write!(f, "{}.{:03}", time / 1000, time % 1000),
         }
     }
 }

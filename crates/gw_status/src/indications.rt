@@ -6,27 +6,32 @@ use std::fmt;
 /// How many bits have a meaning: IIN1.0 to IIN2.5.
 pub const MEANINGS: u32 = 14;
 
+/// Their names.
+const MEANT: &[&str] = &[
+    "ALL_STATIONS",
+    "CLASS_1",
+    "CLASS_2",
+    "CLASS_3",
+    "NEED_TIME",
+    "LOCAL_CONTROL",
+    "TROUBLE",
+    "RESTART",
+    "NO_FUNCTION",
+    "OBJECT_UNKNOWN",
+    "PARAMETER_ERROR",
+    "OVERFLOW",
+    "ALREADY_EXECUTING",
+    "CONFIGURATION_CORRUPT",
+];
+
 /// Those that tell of something that is wrong: IIN1.6, IIN2.0 to IIN2.3 and IIN2.5.
 const TROUBLES: u16 = 0x2F40;
 
 /// The name of a bit.
 pub fn name_of(bit: u32) -> &'static str {
-    match bit {
-        0 => "ALL_STATIONS",
-        1 => "CLASS_1",
-        2 => "CLASS_2",
-        3 => "CLASS_3",
-        4 => "NEED_TIME",
-        5 => "LOCAL_CONTROL",
-        6 => "TROUBLE",
-        7 => "RESTART",
-        8 => "NO_FUNCTION",
-        9 => "OBJECT_UNKNOWN",
-        10 => "PARAMETER_ERROR",
-        11 => "OVERFLOW",
-        12 => "ALREADY_EXECUTING",
-        13 => "CONFIGURATION_CORRUPT",
-        _ => "RESERVED",
+    match MEANT.get(bit as usize) {
+        Some(name) => name,
+        None => "RESERVED",
     }
 }
 
@@ -54,8 +59,7 @@ impl fmt::Display for Names {
         let mut separator = "";
         for bit in 0..16u32 {
             if is_set(self.0, bit) {
-                f.write_str(separator)?;
-                f.write_str(name_of(bit))?;
+                write!(f, "{separator}{}", name_of(bit))?;
                 separator = ", ";
             }
         }

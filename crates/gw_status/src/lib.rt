@@ -7,7 +7,6 @@ mod escaped;
 mod family;
 mod indications;
 mod metrics;
-mod order_figure;
 mod outstation_figure;
 mod page;
 mod rows;

@@ -1,10 +1,11 @@
 //! All figures in Prometheus' text format.
 
-use crate::client_figure::write_clients;
-use crate::escaped::Label;
-use crate::family::{Family, Figure};
-use crate::order_figure::write_orders;
-use crate::outstation_figure::write_outstations;
+use crate::client_figure::{Addresses, ClientFamilies, CloseCauses};
+use crate::escaped::Escaped;
+use crate::family::Figure;
+use crate::outstation_figure::{
+    Indications, ORDER_FIGURES, OUTSTATION_FIGURES, OutstationFamilies,
+};
 use crate::status::Status;
 use std::fmt;
 
@@ -14,47 +15,52 @@ pub struct Metrics<'a>(pub &'a Status);
 
 impl<'a> fmt::Display for Metrics<'a> {
     fn fmt<W: fmt::Write>(&self, f: &mut fmt::Formatter<W>) -> fmt::Result {
-        write_version(f, self.0.version)?;
-        write_gateway(f, self.0)?;
-        write_outstations(f, self.0.outstations.as_slice())?;
-        write_orders(f, self.0.outstations.as_slice())?;
-        write_clients(f, self.0.clients.as_slice())
+        let outstations = self.0.outstations.as_slice();
+        let clients = self.0.clients.as_slice();
+        write!(
+            f,
+            "{}{}{}{}{}{}{}",
+            GatewayFigures(self.0),
+            OutstationFamilies {
+                families: OUTSTATION_FIGURES,
+                outstations
+            },
+            Indications(outstations),
+            OutstationFamilies {
+                families: ORDER_FIGURES,
+                outstations
+            },
+            ClientFamilies(clients),
+            Addresses(clients),
+            CloseCauses(clients)
+        )
     }
 }
 
-/// The version of the gateway.
-const INFO: Family = Family::Gauge("gateway_info", "The version of the gateway.");
+/// The figures of the gateway as a whole, each in a family of its own.
+#[derive(Clone, Copy)]
+struct GatewayFigures<'a>(&'a Status);
 
-/// For how long it runs.
-const UPTIME: Family = Family::Gauge("gateway_uptime_seconds", "Time since the gateway started.");
-
-/// The steps of its core.
-const STEPS: Family = Family::Counter("gateway_steps_total", "Steps of the core.");
-
-/// What was news for clients.
-const NEWS: Family = Family::Counter("gateway_news_total", "Spontaneous observations.");
-
-/// Writes the gateway's version.
-fn write_version<W: fmt::Write>(f: &mut fmt::Formatter<W>, version: &'static str) -> fmt::Result {
-    INFO.write(f)?;
-    let (name, version) = (INFO.name(), Label(version));
-    writeln!(f, "{name}{{version=\"{version}\"}} 1")
-}
-
-/// Writes the figures of the gateway as a whole.
-fn write_gateway<W: fmt::Write>(f: &mut fmt::Formatter<W>, status: &Status) -> fmt::Result {
-    write_alone(f, UPTIME, Figure::Time(status.uptime()))?;
-    write_alone(f, STEPS, Figure::Count(status.steps))?;
-    write_alone(f, NEWS, Figure::Count(status.news))
-}
-
-/// Writes a family of one figure.
-fn write_alone<W: fmt::Write>(
-    f: &mut fmt::Formatter<W>,
-    family: Family,
-    figure: Figure,
-) -> fmt::Result {
-    family.write(f)?;
-    let name = family.name();
-    writeln!(f, "{name} {figure}")
+impl<'a> fmt::Display for GatewayFigures<'a> {
+    fn fmt<W: fmt::Write>(&self, f: &mut fmt::Formatter<W>) -> fmt::Result {
+        write!(
+            f,
+            "# HELP gateway_info The version of the gateway.\n\
+            # TYPE gateway_info gauge\n\
+            gateway_info{{version=\"{}\"}} 1\n\
+            # HELP gateway_uptime_seconds Time since the gateway started.\n\
+            # TYPE gateway_uptime_seconds gauge\n\
+            gateway_uptime_seconds {}\n\
+            # HELP gateway_steps_total Steps of the core.\n\
+            # TYPE gateway_steps_total counter\n\
+            gateway_steps_total {}\n\
+            # HELP gateway_news_total Spontaneous observations.\n\
+            # TYPE gateway_news_total counter\n\
+            gateway_news_total {}\n",
+            Escaped::label(self.0.version),
+            Figure::Time(self.0.uptime()),
+            self.0.steps,
+            self.0.news
+        )
+    }
 }

@@ -1,14 +1,14 @@
 //! The figures of an outstation.
 
-use crate::escaped::Label;
-use crate::family::{Family, Figure};
+use crate::escaped::Escaped;
+use crate::family::{COUNTER, Family, Figure, GAUGE};
 use crate::indications::{MEANINGS, is_set, name_of};
 use crate::status::OutstationStatus;
 use std::fmt;
 
 /// What there is a figure of.
 #[derive(Clone, Copy)]
-enum OutstationFigure {
+pub enum OutstationFigure {
     Connected,
     ConnectedSince,
     LastAnswer,
@@ -17,161 +17,230 @@ enum OutstationFigure {
     Refused,
     Skipped,
     Events,
+    Accepted,
+    Done,
+    Failed,
+    LetGo,
+    Waiting,
 }
 
-/// All of them, in the order in which they are told.
-const OUTSTATION_FIGURES: [OutstationFigure; 8] = [
-    OutstationFigure::Connected,
-    OutstationFigure::ConnectedSince,
-    OutstationFigure::LastAnswer,
-    OutstationFigure::Requests,
-    OutstationFigure::Unanswered,
-    OutstationFigure::Refused,
-    OutstationFigure::Skipped,
-    OutstationFigure::Events,
+/// The figures of the connection and of what came on it, in the order in which they are told.
+pub const OUTSTATION_FIGURES: &[(OutstationFigure, Family)] = &[
+    (
+        OutstationFigure::Connected,
+        Family {
+            kind: GAUGE,
+            name: "gateway_outstation_connected",
+            help: "Whether a connection to the outstation stands.",
+        },
+    ),
+    (
+        OutstationFigure::ConnectedSince,
+        Family {
+            kind: GAUGE,
+            name: "gateway_outstation_connection_start_time_seconds",
+            help: "Unix time since which the connection stands.",
+        },
+    ),
+    (
+        OutstationFigure::LastAnswer,
+        Family {
+            kind: GAUGE,
+            name: "gateway_outstation_last_answer_time_seconds",
+            help: "Unix time of the last answer.",
+        },
+    ),
+    (
+        OutstationFigure::Requests,
+        Family {
+            kind: COUNTER,
+            name: "gateway_outstation_requests_total",
+            help: "Requests sent to the outstation.",
+        },
+    ),
+    (
+        OutstationFigure::Unanswered,
+        Family {
+            kind: COUNTER,
+            name: "gateway_outstation_unanswered_requests_total",
+            help: "Requests not answered in time.",
+        },
+    ),
+    (
+        OutstationFigure::Refused,
+        Family {
+            kind: COUNTER,
+            name: "gateway_outstation_refused_fragments_total",
+            help: "Fragments of the outstation that were refused.",
+        },
+    ),
+    (
+        OutstationFigure::Skipped,
+        Family {
+            kind: COUNTER,
+            name: "gateway_outstation_skipped_bytes_total",
+            help: "Octets of the outstation that the link skipped.",
+        },
+    ),
+    (
+        OutstationFigure::Events,
+        Family {
+            kind: COUNTER,
+            name: "gateway_outstation_events_total",
+            help: "Events that the outstation reported.",
+        },
+    ),
 ];
 
-/// The internal indications.
-const INDICATION: Family = Family::Gauge(
-    "gateway_outstation_indication",
-    "Whether the last response had this internal indication.",
-);
+/// Those of the orders for it, likewise.
+pub const ORDER_FIGURES: &[(OutstationFigure, Family)] = &[
+    (
+        OutstationFigure::Accepted,
+        Family {
+            kind: COUNTER,
+            name: "gateway_outstation_orders_total",
+            help: "Commands accepted as orders for the outstation.",
+        },
+    ),
+    (
+        OutstationFigure::Done,
+        Family {
+            kind: COUNTER,
+            name: "gateway_outstation_done_orders_total",
+            help: "Orders that the outstation did.",
+        },
+    ),
+    (
+        OutstationFigure::Failed,
+        Family {
+            kind: COUNTER,
+            name: "gateway_outstation_failed_orders_total",
+            help: "Orders that failed.",
+        },
+    ),
+    (
+        OutstationFigure::LetGo,
+        Family {
+            kind: COUNTER,
+            name: "gateway_outstation_let_go_orders_total",
+            help: "Orders whose client's session ended before they were given.",
+        },
+    ),
+    (
+        OutstationFigure::Waiting,
+        Family {
+            kind: GAUGE,
+            name: "gateway_outstation_waiting_orders",
+            help: "Orders that wait for the outstation, or for its answer.",
+        },
+    ),
+];
 
 impl OutstationFigure {
-    /// Its family.
-    fn family(self) -> Family {
-        match self {
-            OutstationFigure::Connected => Family::Gauge(
-                "gateway_outstation_connected",
-                "Whether a connection to the outstation stands.",
-            ),
-            OutstationFigure::ConnectedSince => Family::Gauge(
-                "gateway_outstation_connection_start_time_seconds",
-                "Unix time since which the connection stands.",
-            ),
-            OutstationFigure::LastAnswer => Family::Gauge(
-                "gateway_outstation_last_answer_time_seconds",
-                "Unix time of the last answer.",
-            ),
-            OutstationFigure::Requests => Family::Counter(
-                "gateway_outstation_requests_total",
-                "Requests sent to the outstation.",
-            ),
-            OutstationFigure::Unanswered => Family::Counter(
-                "gateway_outstation_unanswered_requests_total",
-                "Requests not answered in time.",
-            ),
-            OutstationFigure::Refused => Family::Counter(
-                "gateway_outstation_refused_fragments_total",
-                "Fragments of the outstation that were refused.",
-            ),
-            OutstationFigure::Skipped => Family::Counter(
-                "gateway_outstation_skipped_bytes_total",
-                "Octets of the outstation that the link skipped.",
-            ),
-            OutstationFigure::Events => Family::Counter(
-                "gateway_outstation_events_total",
-                "Events that the outstation reported.",
-            ),
-        }
-    }
-
     /// What it is at an outstation, if there is one.
     fn figure(self, outstation: &OutstationStatus) -> Option<Figure> {
-        match self {
+        let count = match self {
             OutstationFigure::Connected => {
-                Some(Figure::yes_or_no(outstation.connected_since.is_some()))
+                return Some(Figure::yes_or_no(outstation.connected_since.is_some()));
             }
-            OutstationFigure::ConnectedSince => Some(Figure::Time(outstation.connected_since?)),
-            OutstationFigure::LastAnswer => Some(Figure::Time(outstation.last_answer?)),
-            OutstationFigure::Requests => Some(Figure::Count(outstation.requests)),
-            OutstationFigure::Unanswered => Some(Figure::Count(outstation.unanswered)),
-            OutstationFigure::Refused => Some(Figure::Count(outstation.refused)),
-            OutstationFigure::Skipped => Some(Figure::Count(outstation.skipped)),
-            OutstationFigure::Events => Some(Figure::Count(outstation.events)),
+            OutstationFigure::ConnectedSince => {
+                return Some(Figure::Time(outstation.connected_since?));
+            }
+            OutstationFigure::LastAnswer => return Some(Figure::Time(outstation.last_answer?)),
+            OutstationFigure::Requests => outstation.requests,
+            OutstationFigure::Unanswered => outstation.unanswered,
+            OutstationFigure::Refused => outstation.refused,
+            OutstationFigure::Skipped => outstation.skipped,
+            OutstationFigure::Events => outstation.events,
+            OutstationFigure::Accepted => outstation.orders.accepted,
+            OutstationFigure::Done => outstation.orders.done,
+            OutstationFigure::Failed => outstation.orders.failed,
+            OutstationFigure::LetGo => outstation.orders.let_go,
+            OutstationFigure::Waiting => outstation.orders.waiting,
+        };
+        Some(Figure::Count(count))
+    }
+}
+
+/// Families of figures of outstations.
+#[derive(Clone, Copy)]
+pub struct OutstationFamilies<'a> {
+    pub families: &'static [(OutstationFigure, Family)],
+    pub outstations: &'a [OutstationStatus],
+}
+
+impl<'a> fmt::Display for OutstationFamilies<'a> {
+    fn fmt<W: fmt::Write>(&self, f: &mut fmt::Formatter<W>) -> fmt::Result {
+        for (what, family) in self.families {
+            write_family(f, *what, family, self.outstations)?;
         }
+        Ok(())
     }
 }
 
-/// Writes the figures of the outstations.
-pub fn write_outstations<W: fmt::Write>(
-    f: &mut fmt::Formatter<W>,
-    outstations: &[OutstationStatus],
-) -> fmt::Result {
-    for what in OUTSTATION_FIGURES {
-        write_family(f, what, outstations)?;
-    }
-    write_indications(f, outstations)
-}
-
-/// Writes a family of figures, one for each outstation.
+/// Writes a family of figures, one for each outstation that has one.
 fn write_family<W: fmt::Write>(
     f: &mut fmt::Formatter<W>,
     what: OutstationFigure,
+    family: &Family,
     outstations: &[OutstationStatus],
 ) -> fmt::Result {
-    what.family().write(f)?;
+    write!(f, "{family}")?;
     for (number, outstation) in outstations.iter().enumerate() {
-        write_figure(f, what, number, outstation)?;
+        if let Some(figure) = what.figure(outstation) {
+            write_figure(f, family.name, number, outstation, figure)?;
+        }
     }
     Ok(())
 }
 
-/// Writes the figure of an outstation, if there is one.
+/// Writes a figure of the family of a name, with the labels of an outstation.
 fn write_figure<W: fmt::Write>(
     f: &mut fmt::Formatter<W>,
-    what: OutstationFigure,
-    number: usize,
-    outstation: &OutstationStatus,
-) -> fmt::Result {
-    match what.figure(outstation) {
-        Some(figure) => write_labelled(f, what.family(), number, outstation, figure),
-        None => Ok(()),
-    }
-}
-
-/// Writes a figure of a family, with the labels of an outstation.
-pub fn write_labelled<W: fmt::Write>(
-    f: &mut fmt::Formatter<W>,
-    family: Family,
+    name: &str,
     number: usize,
     outstation: &OutstationStatus,
     figure: Figure,
 ) -> fmt::Result {
-    let (name, place) = (family.name(), Label(outstation.place.as_str()));
+    let place = Escaped::label(outstation.place.as_str());
     writeln!(
         f,
         "{name}{{outstation=\"{number}\",place=\"{place}\"}} {figure}"
     )
 }
 
-/// Writes the internal indications of each outstation that answered, one by one.
-fn write_indications<W: fmt::Write>(
-    f: &mut fmt::Formatter<W>,
-    outstations: &[OutstationStatus],
-) -> fmt::Result {
-    INDICATION.write(f)?;
-    for (number, outstation) in outstations.iter().enumerate() {
-        if outstation.last_answer.is_some() {
-            write_indications_of(f, number, outstation)?;
+/// The internal indications of the outstations that answered, one by one.
+#[derive(Clone, Copy)]
+pub struct Indications<'a>(pub &'a [OutstationStatus]);
+
+impl<'a> fmt::Display for Indications<'a> {
+    fn fmt<W: fmt::Write>(&self, f: &mut fmt::Formatter<W>) -> fmt::Result {
+        f.write_str(
+            "# HELP gateway_outstation_indication Whether the last response had this internal indication.\n\
+            # TYPE gateway_outstation_indication gauge\n",
+        )?;
+        for (number, outstation) in self.0.iter().enumerate() {
+            if outstation.last_answer.is_some() {
+                write_indications(f, number, outstation)?;
+            }
         }
+        Ok(())
     }
-    Ok(())
 }
 
 /// Writes the internal indications of an outstation.
-fn write_indications_of<W: fmt::Write>(
+fn write_indications<W: fmt::Write>(
     f: &mut fmt::Formatter<W>,
     number: usize,
     outstation: &OutstationStatus,
 ) -> fmt::Result {
-    let (name, place) = (INDICATION.name(), Label(outstation.place.as_str()));
+    let place = Escaped::label(outstation.place.as_str());
     for bit in 0..MEANINGS {
-        let figure = Figure::yes_or_no(is_set(outstation.indications, bit));
-        let indication = name_of(bit);
         writeln!(
             f,
-            "{name}{{outstation=\"{number}\",place=\"{place}\",indication=\"{indication}\"}} {figure}"
+            "gateway_outstation_indication{{outstation=\"{number}\",place=\"{place}\",indication=\"{}\"}} {}",
+            name_of(bit),
+            is_set(outstation.indications, bit) as u8
         )?;
     }
     Ok(())

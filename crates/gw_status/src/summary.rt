@@ -61,34 +61,6 @@ impl Summary {
             "Not all is well"
         }
     }
-
-    /// Writes how it is with the outstations.
-    fn write_outstations<W: fmt::Write>(self, f: &mut fmt::Formatter<W>) -> fmt::Result {
-        let (connected, outstations) = (self.connected, self.outstations);
-        let (begin, end) = marks(connected != outstations);
-        write!(
-            f,
-            "{begin}{connected} of {outstations} outstations connected{end}, "
-        )
-    }
-
-    /// Writes how many outstations tell of trouble, if some do.
-    fn write_troubled<W: fmt::Write>(self, f: &mut fmt::Formatter<W>) -> fmt::Result {
-        match self.troubled {
-            0 => Ok(()),
-            troubled => write!(f, "<strong>{troubled} with trouble</strong>, "),
-        }
-    }
-
-    /// Writes how it is with the clients.
-    fn write_clients<W: fmt::Write>(self, f: &mut fmt::Formatter<W>) -> fmt::Result {
-        let (clients, places, transferring) = (self.clients, self.places, self.transferring);
-        let (begin, end) = marks(transferring == 0);
-        write!(
-            f,
-            "{clients} of {places} clients, {begin}{transferring} in data transfer{end}"
-        )
-    }
 }
 
 /// What stands round something, by whether it is wrong.
@@ -107,8 +79,30 @@ fn add_if(count: &mut usize, is_one: bool) {
 
 impl fmt::Display for Summary {
     fn fmt<W: fmt::Write>(&self, f: &mut fmt::Formatter<W>) -> fmt::Result {
-        self.write_outstations(f)?;
-        self.write_troubled(f)?;
-        self.write_clients(f)
+        let (begin, end) = marks(self.connected != self.outstations);
+        let (start, stop) = marks(self.transferring == 0);
+        write!(
+            f,
+            "{begin}{} of {} outstations connected{end}, {}{} of {} clients, {start}{} in data transfer{stop}",
+            self.connected,
+            self.outstations,
+            Troubled(self.troubled),
+            self.clients,
+            self.places,
+            self.transferring
+        )
+    }
+}
+
+/// How many outstations tell of trouble; nothing where none does.
+#[derive(Clone, Copy)]
+struct Troubled(usize);
+
+impl fmt::Display for Troubled {
+    fn fmt<W: fmt::Write>(&self, f: &mut fmt::Formatter<W>) -> fmt::Result {
+        match self.0 {
+            0 => Ok(()),
+            troubled => write!(f, "<strong>{troubled} with trouble</strong>, "),
+        }
     }
 }

@@ -1,6 +1,7 @@
 //! Moments and spans of time.
 
-use jiff::Timestamp;
+use jiff_core::Timestamp;
+use jiff_fmt::temporal::DateTimePrinter;
 use std::fmt;
 
 /// A moment, by its milliseconds since 1970, as `2023-11-14T22:13:20Z`; `-` past the year 9999.
@@ -9,9 +10,9 @@ pub struct Moment(pub u64);
 
 impl fmt::Display for Moment {
     fn fmt<W: fmt::Write>(&self, f: &mut fmt::Formatter<W>) -> fmt::Result {
-        let seconds = i64::try_from(self.0 / 1000).unwrap_or(i64::MAX);
-        match Timestamp::from_second(seconds) {
-            Ok(moment) => write!(f, "{moment}"),
+        let seconds = i128::from(self.0 / 1000);
+        match Timestamp::from_nanosecond(seconds * 1_000_000_000) {
+            Ok(moment) => f.write_str(DateTimePrinter::new().timestamp_text(moment).as_str()),
             Err(_) => f.write_str("-"),
         }
     }
@@ -24,18 +25,22 @@ pub struct Span(pub u64);
 impl fmt::Display for Span {
     fn fmt<W: fmt::Write>(&self, f: &mut fmt::Formatter<W>) -> fmt::Result {
         let seconds = self.0 / 1000;
-        let (minutes, hours, days) = (seconds / 60, seconds / 3600, seconds / 86_400);
-        if minutes == 0 {
-            write!(f, "{seconds} s")
-        } else if hours == 0 {
-            let rest = seconds % 60;
-            write!(f, "{minutes} min {rest} s")
-        } else if days == 0 {
-            let rest = minutes % 60;
-            write!(f, "{hours} h {rest} min")
-        } else {
-            let rest = hours % 24;
-            write!(f, "{days} d {rest} h")
+        if seconds < 60 {
+            return write!(f, "{seconds} s");
         }
+        let (whole, unit, rest, lower) = in_two_units(seconds);
+        write!(f, "{whole} {unit} {rest} {lower}")
+    }
+}
+
+/// A minute or more, by its seconds, in the largest unit that it fills and the next one.
+fn in_two_units(seconds: u64) -> (u64, &'static str, u64, &'static str) {
+    let (minutes, hours) = (seconds / 60, seconds / 3600);
+    if hours == 0 {
+        (minutes, "min", seconds % 60, "s")
+    } else if hours < 24 {
+        (hours, "h", minutes % 60, "min")
+    } else {
+        (hours / 24, "d", hours % 24, "h")
     }
 }
