@@ -1,6 +1,6 @@
 //! The figures of a place for a client.
 
-use crate::family::{COUNTER, Family, Figure, GAUGE};
+use crate::family::{Family, Figure, Kind};
 use crate::status::ClientStatus;
 use std::fmt;
 use std::net::SocketAddr;
@@ -21,7 +21,7 @@ const CLIENT_FIGURES: &[(ClientFigure, Family)] = &[
     (
         ClientFigure::Connected,
         Family {
-            kind: GAUGE,
+            kind: Kind::Gauge,
             name: "gateway_client_connected",
             help: "Whether a client is connected at this place.",
         },
@@ -29,7 +29,7 @@ const CLIENT_FIGURES: &[(ClientFigure, Family)] = &[
     (
         ClientFigure::ConnectedSince,
         Family {
-            kind: GAUGE,
+            kind: Kind::Gauge,
             name: "gateway_client_connection_start_time_seconds",
             help: "Unix time since which the connection stands.",
         },
@@ -37,7 +37,7 @@ const CLIENT_FIGURES: &[(ClientFigure, Family)] = &[
     (
         ClientFigure::DataTransfer,
         Family {
-            kind: GAUGE,
+            kind: Kind::Gauge,
             name: "gateway_client_data_transfer",
             help: "Whether data transfer is started.",
         },
@@ -45,7 +45,7 @@ const CLIENT_FIGURES: &[(ClientFigure, Family)] = &[
     (
         ClientFigure::Unacknowledged,
         Family {
-            kind: GAUGE,
+            kind: Kind::Gauge,
             name: "gateway_client_unacknowledged_apdus",
             help: "I formats sent and not acknowledged.",
         },
@@ -53,7 +53,7 @@ const CLIENT_FIGURES: &[(ClientFigure, Family)] = &[
     (
         ClientFigure::Queued,
         Family {
-            kind: GAUGE,
+            kind: Kind::Gauge,
             name: "gateway_client_queued_observations",
             help: "Observations that wait.",
         },
@@ -61,7 +61,7 @@ const CLIENT_FIGURES: &[(ClientFigure, Family)] = &[
     (
         ClientFigure::Dropped,
         Family {
-            kind: COUNTER,
+            kind: Kind::Counter,
             name: "gateway_client_dropped_observations_total",
             help: "Observations dropped since too many waited.",
         },

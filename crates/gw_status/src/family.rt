@@ -2,17 +2,29 @@
 
 use std::fmt;
 
-/// Figures that go up and down.
-pub const GAUGE: &str = "gauge";
+/// How the figures of a family go.
+#[derive(Clone, Copy)]
+pub enum Kind {
+    /// Up and down.
+    Gauge,
+    /// Up alone while the program runs.
+    Counter,
+}
 
-/// Figures that go up alone while the program runs.
-pub const COUNTER: &str = "counter";
+impl Kind {
+    /// Its word in the text format.
+    fn word(self) -> &'static str {
+        match self {
+            Kind::Gauge => "gauge",
+            Kind::Counter => "counter",
+        }
+    }
+}
 
 /// What a family of figures is called, and what it tells. It is shown as the lines above its figures.
 #[derive(Clone, Copy)]
 pub struct Family {
-    /// `GAUGE` or `COUNTER`.
-    pub kind: &'static str,
+    pub kind: Kind,
     pub name: &'static str,
     pub help: &'static str,
 }
@@ -20,6 +32,7 @@ pub struct Family {
 impl fmt::Display for Family {
     fn fmt<W: fmt::Write>(&self, f: &mut fmt::Formatter<W>) -> fmt::Result {
         let Family { kind, name, help } = *self;
+        let kind = kind.word();
         write!(f, "# HELP {name} {help}\n# TYPE {name} {kind}\n")
     }
 }

@@ -1,7 +1,7 @@
 //! The figures of an outstation.
 
 use crate::escaped::Escaped;
-use crate::family::{COUNTER, Family, Figure, GAUGE};
+use crate::family::{Family, Figure, Kind};
 use crate::indications::{MEANINGS, is_set, name_of};
 use crate::status::OutstationStatus;
 use std::fmt;
@@ -29,7 +29,7 @@ pub const OUTSTATION_FIGURES: &[(OutstationFigure, Family)] = &[
     (
         OutstationFigure::Connected,
         Family {
-            kind: GAUGE,
+            kind: Kind::Gauge,
             name: "gateway_outstation_connected",
             help: "Whether a connection to the outstation stands.",
         },
@@ -37,7 +37,7 @@ pub const OUTSTATION_FIGURES: &[(OutstationFigure, Family)] = &[
     (
         OutstationFigure::ConnectedSince,
         Family {
-            kind: GAUGE,
+            kind: Kind::Gauge,
             name: "gateway_outstation_connection_start_time_seconds",
             help: "Unix time since which the connection stands.",
         },
@@ -45,7 +45,7 @@ pub const OUTSTATION_FIGURES: &[(OutstationFigure, Family)] = &[
     (
         OutstationFigure::LastAnswer,
         Family {
-            kind: GAUGE,
+            kind: Kind::Gauge,
             name: "gateway_outstation_last_answer_time_seconds",
             help: "Unix time of the last answer.",
         },
@@ -53,7 +53,7 @@ pub const OUTSTATION_FIGURES: &[(OutstationFigure, Family)] = &[
     (
         OutstationFigure::Requests,
         Family {
-            kind: COUNTER,
+            kind: Kind::Counter,
             name: "gateway_outstation_requests_total",
             help: "Requests sent to the outstation.",
         },
@@ -61,7 +61,7 @@ pub const OUTSTATION_FIGURES: &[(OutstationFigure, Family)] = &[
     (
         OutstationFigure::Unanswered,
         Family {
-            kind: COUNTER,
+            kind: Kind::Counter,
             name: "gateway_outstation_unanswered_requests_total",
             help: "Requests not answered in time.",
         },
@@ -69,7 +69,7 @@ pub const OUTSTATION_FIGURES: &[(OutstationFigure, Family)] = &[
     (
         OutstationFigure::Refused,
         Family {
-            kind: COUNTER,
+            kind: Kind::Counter,
             name: "gateway_outstation_refused_fragments_total",
             help: "Fragments of the outstation that were refused.",
         },
@@ -77,7 +77,7 @@ pub const OUTSTATION_FIGURES: &[(OutstationFigure, Family)] = &[
     (
         OutstationFigure::Skipped,
         Family {
-            kind: COUNTER,
+            kind: Kind::Counter,
             name: "gateway_outstation_skipped_bytes_total",
             help: "Octets of the outstation that the link skipped.",
         },
@@ -85,7 +85,7 @@ pub const OUTSTATION_FIGURES: &[(OutstationFigure, Family)] = &[
     (
         OutstationFigure::Events,
         Family {
-            kind: COUNTER,
+            kind: Kind::Counter,
             name: "gateway_outstation_events_total",
             help: "Events that the outstation reported.",
         },
@@ -97,7 +97,7 @@ pub const ORDER_FIGURES: &[(OutstationFigure, Family)] = &[
     (
         OutstationFigure::Accepted,
         Family {
-            kind: COUNTER,
+            kind: Kind::Counter,
             name: "gateway_outstation_orders_total",
             help: "Commands accepted as orders for the outstation.",
         },
@@ -105,7 +105,7 @@ pub const ORDER_FIGURES: &[(OutstationFigure, Family)] = &[
     (
         OutstationFigure::Done,
         Family {
-            kind: COUNTER,
+            kind: Kind::Counter,
             name: "gateway_outstation_done_orders_total",
             help: "Orders that the outstation did.",
         },
@@ -113,7 +113,7 @@ pub const ORDER_FIGURES: &[(OutstationFigure, Family)] = &[
     (
         OutstationFigure::Failed,
         Family {
-            kind: COUNTER,
+            kind: Kind::Counter,
             name: "gateway_outstation_failed_orders_total",
             help: "Orders that failed.",
         },
@@ -121,7 +121,7 @@ pub const ORDER_FIGURES: &[(OutstationFigure, Family)] = &[
     (
         OutstationFigure::LetGo,
         Family {
-            kind: COUNTER,
+            kind: Kind::Counter,
             name: "gateway_outstation_let_go_orders_total",
             help: "Orders whose client's session ended before they were given.",
         },
@@ -129,7 +129,7 @@ pub const ORDER_FIGURES: &[(OutstationFigure, Family)] = &[
     (
         OutstationFigure::Waiting,
         Family {
-            kind: GAUGE,
+            kind: Kind::Gauge,
             name: "gateway_outstation_waiting_orders",
             help: "Orders that wait for the outstation, or for its answer.",
         },
