@@ -22,41 +22,41 @@ position_from-le p n i (x ∷ xs) h = elim (cases_Bool (p x)) [
 ]
 
 module _ {A K : Type 0} (p : K → Bool) (t : A → Bool) (f : A → K) (same : (x : A) → p (f x) ≡ t x) where
-  -- no element of the front
-  pub none_front : (n m : ℕ) (xs : List A) (more : List K) → position_from p n (map f xs ++ more) ≡ None
+  -- none of them
+  pub finds_none : (n m : ℕ) (xs : List A) → position_from p n (map f xs) ≡ None
       → first_from t m xs ≡ None
-  none_front n m [] more h = refl
-  none_front n m (x ∷ xs) more h = elim (cases_Bool (t x)) [
+  finds_none n m [] h = refl
+  finds_none n m (x ∷ xs) h = elim (cases_Bool (t x)) [
     | inl hit ↦ absurd (no_some n (rw (same x, hit) at h))
-    | inr miss ↦ rw miss (none_front (n + 1) (m + 1) xs more (rw (same x, miss) at h))
+    | inr miss ↦ rw miss (finds_none (n + 1) (m + 1) xs (rw (same x, miss) at h))
   ]
 
-  -- an element of the front
-  pub some_front : (n m i j : ℕ) (xs : List A) (more : List K) (y : A) → position_from p n (map f xs ++ more) ≡ Some i
+  -- one of them
+  pub finds_one : (n m i j : ℕ) (xs : List A) (y : A) → position_from p n (map f xs) ≡ Some i
       → slice_get xs j ≡ Some y → i ≡ n + j
       → first_from t m xs ≡ Some (m + j, y)
-  some_front n m i j [] more y h g e = absurd cc
-  some_front n m i zero (x ∷ xs) more y h g e = elim (cases_Bool (t x)) [
+  finds_one n m i j [] y h g e = absurd cc
+  finds_one n m i zero (x ∷ xs) y h g e = elim (cases_Bool (t x)) [
     | inl hit ↦ rw (hit, same_Some _ _ g, add-zero)
-    | inr miss ↦ let le = position_from-le p (n + 1) i (map f xs ++ more) (rw (same x, miss) at h) in
+    | inr miss ↦ let le = position_from-le p (n + 1) i (map f xs) (rw (same x, miss) at h) in
         absurd (omega arith)
   ]
-  some_front n m i (suc j) (x ∷ xs) more y h g e = elim (cases_Bool (t x)) [
+  finds_one n m i (suc j) (x ∷ xs) y h g e = elim (cases_Bool (t x)) [
     | inl hit ↦ let at_n : n ≡ i = same_Some _ _ (rw (same x, hit) at h) in absurd (omega arith)
     | inr miss ↦ let shift : (m + 1) + j ≡ m + suc j = omega arith in
-        rw miss (some_front (n + 1) (m + 1) i j xs more y (rw (same x, miss) at h) g (omega arith)
+        rw miss (finds_one (n + 1) (m + 1) i j xs y (rw (same x, miss) at h) g (omega arith)
         ∙ ap (λ k. Some (k, y)) shift)
   ]
 
-  -- an element behind the front
-  pub past_front : (n m i j : ℕ) (xs : List A) (more : List K) → position_from p n (map f xs ++ more) ≡ Some i
+  -- none, where the place is behind them all
+  pub finds_past : (n m i j : ℕ) (xs : List A) → position_from p n (map f xs) ≡ Some i
       → slice_get xs j ≡ None → i ≡ n + j
       → first_from t m xs ≡ None
-  past_front n m i j [] more h g e = refl
-  past_front n m i zero (x ∷ xs) more h g e = absurd (no_some x g)
-  past_front n m i (suc j) (x ∷ xs) more h g e = elim (cases_Bool (t x)) [
+  finds_past n m i j [] h g e = refl
+  finds_past n m i zero (x ∷ xs) h g e = absurd (no_some x g)
+  finds_past n m i (suc j) (x ∷ xs) h g e = elim (cases_Bool (t x)) [
     | inl hit ↦ let at_n : n ≡ i = same_Some _ _ (rw (same x, hit) at h) in absurd (omega arith)
-    | inr miss ↦ rw miss (past_front (n + 1) (m + 1) i j xs more (rw (same x, miss) at h) g (omega arith))
+    | inr miss ↦ rw miss (finds_past (n + 1) (m + 1) i j xs (rw (same x, miss) at h) g (omega arith))
   ]
 
 -- ---- what stands twice
@@ -76,12 +76,11 @@ fresh_head false n more h = (refl, h)
 
 -- ---- in terms of positions
 
-pub some_front-zero : {A K : Type 0} (p : K → Bool) (t : A → Bool) (f : A → K) (same : (x : A) → p (f x) ≡ t x) (i : ℕ)
-    (xs : List A) (more : List K) (y : A)
-    → position_from p 0 (map f xs ++ more) ≡ Some i → slice_get xs i ≡ Some y → first_from t 0 xs ≡ Some (i, y)
-some_front-zero p t f same i xs more y h g =
+pub finds_at : {A K : Type 0} (p : K → Bool) (t : A → Bool) (f : A → K) (same : (x : A) → p (f x) ≡ t x) (i : ℕ)
+    (xs : List A) (y : A) → position_from p 0 (map f xs) ≡ Some i → slice_get xs i ≡ Some y → first_from t 0 xs ≡ Some (i, y)
+finds_at p t f same i xs y h g =
     let e : 0 + i ≡ i = omega arith in
-    some_front p t f same 0 0 i i xs more y h g (omega arith) ∙ ap (λ k. Some (k, y)) e
+    finds_one p t f same 0 0 i i xs y h g (omega arith) ∙ ap (λ k. Some (k, y)) e
 
 -- points by their source
 pub eq_comm : (a b : ℕ) → (a == b) ≡ (b == a)

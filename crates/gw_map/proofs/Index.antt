@@ -1,9 +1,9 @@
 -- Positions by keys: an index of some keys, with one more, and what it finds.
-use Rattle.std.proofs.Common.{◌≡◌, ℕ, ◌+◌, ◌<◌, ◌≤◌, ◌==◌, List, [], ◌∷◌, ◌++◌, length, map, take, get_or, slice_get, subst, Option, Some, None, Bool, true, false, ◌&&◌, cond, is_some, refl, ap, sym, ◌∙◌, inl, inr, arith}
+use Rattle.std.proofs.Common.{◌≡◌, ℕ, ◌+◌, ◌<◌, ◌≤◌, ◌==◌, List, [], ◌∷◌, ◌++◌, length, map, take, get_or, slice_get, subst, Some, None, Bool, true, false, ◌&&◌, cond, is_some, refl, ap, sym, ◌∙◌, inl, inr, arith}
 use Rattle.std.specs.List.{position_from, list_any}
 use Rattle.std.specs.Map.{lookup}
 use Rattle.std.proofs.lemmas.Bool.{cases_Bool, true≢false, and_parts, eqb-true}
-use Rattle.std.proofs.lemmas.List.{append-nil, length-map, length-take-le, take_all}
+use Rattle.std.proofs.lemmas.List.{length-map, length-take-le, take_all}
 use Rattle.gw_model.specs.declared.point.Kind.{Kind}
 use Rattle.gw_model.specs.declared.point.Kind.TheVariants.{Binary, Output, Double, Counter, Analog}
 use Rattle.gw_model.specs.declared.point.PointKey.{PointKey}
@@ -11,13 +11,13 @@ use Rattle.gw_model.specs.declared.point.ObjectKey.{ObjectKey}
 use Rattle.gw_model.specs.contracts.point.PointKeyPartialEq.TheImpl.{eq-value}
 use Rattle.gw_model.specs.Keys.{same_key, same_object}
 use Rattle.gw_map.specs.Settings.{first_from, IsIndex}
-use Rattle.gw_map.proofs.Finding.{none_front, past_front, some_front-zero, eq_comm, key_sym}
+use Rattle.gw_map.proofs.Finding.{finds_none, finds_past, finds_at, eq_comm, key_sym}
 use Rattle.gw_map.proofs.Loops.{map_take-more}
 use Rattle.gw_map.proofs.Repeats.{key_of, key_eq}
 
 -- ---- positions
 
-pub is_some-position : {K : Type 0} (p : K → Bool) (n : ℕ) (xs : List K) → is_some (position_from p n xs) ≡ list_any p xs
+is_some-position : {K : Type 0} (p : K → Bool) (n : ℕ) (xs : List K) → is_some (position_from p n xs) ≡ list_any p xs
 is_some-position p n [] = refl
 is_some-position p n (x ∷ xs) = elim (cases_Bool (p x)) [
   | inl hit ↦ rw hit
@@ -55,34 +55,7 @@ front-position p n (x ∷ xs) y h = elim (cases_Bool (p x)) [
   | inr miss ↦ rw miss (front-position p (n + 1) xs y (rw miss at h))
 ]
 
--- ---- one of two lists
-
-pub any-front : {K : Type 0} (p : K → Bool) (xs ys : List K) → list_any p xs ≡ true → list_any p (xs ++ ys) ≡ true
-any-front p [] ys h = absurd (true≢false (sym h))
-any-front p (x ∷ xs) ys h = elim (cases_Bool (p x)) [
-  | inl hit ↦ rw hit
-  | inr miss ↦ rw miss (any-front p xs ys (rw miss at h))
-]
-
-pub any-behind : {K : Type 0} (p : K → Bool) (xs ys : List K) → list_any p ys ≡ true → list_any p (xs ++ ys) ≡ true
-any-behind p [] ys h = h
-any-behind p (x ∷ xs) ys h = elim (cases_Bool (p x)) [
-  | inl hit ↦ rw hit
-  | inr miss ↦ rw miss (any-behind p xs ys h)
-]
-
-pub any-neither : {K : Type 0} (p : K → Bool) (xs ys : List K) → list_any p xs ≡ false → list_any p ys ≡ false
-    → list_any p (xs ++ ys) ≡ false
-any-neither p [] ys h g = g
-any-neither p (x ∷ xs) ys h g = elim (cases_Bool (p x)) [
-  | inl hit ↦ absurd (true≢false (rw hit at h))
-  | inr miss ↦ rw miss (any-neither p xs ys (rw miss at h) g)
-]
-
 -- ---- an index, key by key
-
-pub index-none : {K : Type 0} (same : K → K → Bool) (entries : List (K × ℕ)) → entries ≡ [] → IsIndex same entries []
-index-none same entries e = λ key. ap (λ es. lookup (same key) es) e
 
 -- whether it has a key
 pub index-has : {K : Type 0} (same : K → K → Bool) (entries : List (K × ℕ)) (keys : List K) (key : K)
@@ -177,20 +150,16 @@ key-next f all i d old new key within is index fresh put =
 
 module _ {A K : Type 0} (same : K → K → Bool) (f : A → K) (key : K) (entries : List (K × ℕ)) (xs : List A)
     (index : IsIndex same entries (map f xs)) where
-  at-position : (found : Option ℕ) → lookup (same key) entries ≡ found
-      → position_from (same key) 0 (map f xs ++ []) ≡ found
-  at-position found e = rw append-nil (sym (index key) ∙ e)
-
   pub finds-none : (t : A → Bool) → ((x : A) → same key (f x) ≡ t x) → lookup (same key) entries ≡ None
       → first_from t 0 xs ≡ None
-  finds-none t is e = none_front (same key) t f is 0 0 xs [] (at-position None e)
+  finds-none t is e = finds_none (same key) t f is 0 0 xs (sym (index key) ∙ e)
 
   pub finds-nothing : (t : A → Bool) → ((x : A) → same key (f x) ≡ t x) → (i : ℕ)
       → lookup (same key) entries ≡ Some i → slice_get xs i ≡ None
       → first_from t 0 xs ≡ None
-  finds-nothing t is i e out = past_front (same key) t f is 0 0 i i xs [] (at-position (Some i) e) out (omega arith)
+  finds-nothing t is i e out = finds_past (same key) t f is 0 0 i i xs (sym (index key) ∙ e) out (omega arith)
 
   pub finds : (t : A → Bool) → ((x : A) → same key (f x) ≡ t x) → (i : ℕ) (x : A)
       → lookup (same key) entries ≡ Some i → slice_get xs i ≡ Some x
       → first_from t 0 xs ≡ Some (i, x)
-  finds t is i x e there = some_front-zero (same key) t f is i xs [] x (at-position (Some i) e) there
+  finds t is i x e there = finds_at (same key) t f is i xs x (sym (index key) ∙ e) there

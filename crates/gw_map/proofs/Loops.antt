@@ -71,7 +71,3 @@ pub map_take-end : {X Y Z : Type 0} (f : Y → Z) (g : X → Y) (all : List X) (
     → done ≡ map (λ x. f (g x)) (take i all)
     → done ≡ map f (map g all)
 map_take-end f g all i done h so = so ∙ ap (map (λ x. f (g x))) (take_all i all h) ∙ sym (map-map f g all)
-
-pub take_end : {X Y : Type 0} (f : X → Y) (all : List X) (i : ℕ) (done : List Y) → length all ≤ i
-    → done ≡ map f (take i all) → done ≡ map f all
-take_end f all i done h so = so ∙ ap (map f) (take_all i all h)

@@ -1,16 +1,14 @@
 -- Elements that stand twice.
-use Rattle.std.proofs.Common.{◌≡◌, ℕ, ◌+◌, ◌-◌, nat_lt, codes, ◌<◌, ◌≤◌, List, [], ◌∷◌, ◌++◌, length, map, drop, take, get_or, Some, Bool, true, false, not, ◌&&◌, ◌==◌, add-zero, is_some, if◌then◌else◌, refl, ap, ◌∙◌, inl, inr, arith, append_assoc}
+use Rattle.std.proofs.Common.{◌≡◌, ℕ, ◌+◌, ◌-◌, nat_lt, codes, ◌<◌, ◌≤◌, List, [], ◌∷◌, ◌++◌, length, map, drop, take, get_or, Some, Bool, true, false, ◌&&◌, ◌==◌, add-zero, if◌then◌else◌, refl, ◌∙◌, inl, inr, arith, append_assoc}
 use Rattle.std.specs.List.{list_any}
-use Rattle.std.specs.Map.{lookup}
 use Rattle.std.proofs.lemmas.Bool.{cases_Bool}
-use Rattle.std.proofs.lemmas.List.{drop_all, drop_more, take_all, take_more, map-append, append-nil}
+use Rattle.std.proofs.lemmas.List.{drop_all, drop_more, take_more, map-append, append-nil}
 use Rattle.gw_model.specs.declared.point.Kind.{Kind}
 use Rattle.gw_model.specs.declared.point.Kind.TheVariants.{Binary, Output, Double, Counter, Analog}
 use Rattle.gw_model.specs.declared.point.PointKey.{PointKey}
 use Rattle.gw_model.specs.contracts.point.PointKeyPartialEq.TheImpl.{eq-value}
 use Rattle.gw_model.specs.declared.point.ObjectKey.{ObjectKey}
 use Rattle.gw_model.specs.Keys.{same_key, same_object}
-use Rattle.gw_entries.specs.declared.row.Row.{Row}
 use Rattle.gw_entries.specs.Answers.{first}
 use Rattle.gw_entries.specs.declared.fault.Fault.TheVariants.{DoubleAddress}
 use Rattle.gw_entries.specs.declared.fault.Section.TheVariants as of
@@ -42,16 +40,6 @@ key_eq_by o i p j _ _ = mid_false (o == p) (i == j)
 
 pub key_eq : (a b : PointKey) → eq-value.it a b ≡ same_key a b
 key_eq a b = key_eq_by a.outstation a.index b.outstation b.index a.kind b.kind
-
--- the map has a key where a row before has it
-pub found_before : (key : PointKey) (rows : List Row)
-    → is_some (lookup (eq-value.it key) (map (λ row. (row.key, row)) rows))
-    ≡ list_any (same_key key) (map (λ row. row.key) rows)
-found_before key [] = refl
-found_before key (row ∷ rows) = elim (cases_Bool (same_key key row.key)) [
-  | inl same ↦ rw (key_eq key row.key, same)
-  | inr other ↦ rw (key_eq key row.key, other) (found_before key rows)
-]
 
 -- ---- one after another
 
@@ -96,26 +84,6 @@ repeated-append same n old [] ys = rw (add-zero, append-nil)
 repeated-append same n old (x ∷ xs) ys =
     let e : (n + 1) + length xs ≡ n + length (x ∷ xs) = omega arith in
     rw (repeated-append same (n + 1) (old ++ x ∷ []) xs ys, append_assoc old (x ∷ []) xs, e) (simp append_assoc)
-
--- what is kept besides what was there
-pub kept_more : {X A : Type 0} (f : X → A) (old : List A) (all : List X) (i : ℕ) (d : X) (done : List A) {a : A}
-    → i < length all
-    → done ≡ old ++ map f (take i all) → a ≡ f (get_or all i d) → done ++ a ∷ [] ≡ old ++ map f (take (i + 1) all)
-kept_more f old all i d done h so e =
-    rw (so, e, take_more all i d h, map-append f (take i all) (get_or all i d ∷ []))
-    (append_assoc old (map f (take i all)) (f (get_or all i d) ∷ []))
-
-pub kept_end : {X A : Type 0} (f : X → A) (old : List A) (all : List X) (i : ℕ) (done : List A) → length all ≤ i
-    → done ≡ old ++ map f (take i all) → done ≡ old ++ map f all
-kept_end f old all i done h so = so ∙ ap (λ xs. old ++ map f xs) (take_all i all h)
-
-pub not-true : (b : Bool) → not b ≡ true → b ≡ false
-not-true true h = absurd cc
-not-true false h = refl
-
-pub not-false : (b : Bool) → not b ≡ false → b ≡ true
-not-false true h = refl
-not-false false h = absurd cc
 
 -- ---- addresses of points and of controls
 
