@@ -13,7 +13,7 @@ const BATCH: u32 = 1_000;
 const PIECE: usize = 1_460;
 
 /// What is to be written and read back.
-#[derive(Clone, Copy, Debug, PartialEq, Eq)]
+#[derive(Clone, Copy)]
 pub struct Load {
     /// How many APDUs.
     pub count: u32,
@@ -23,7 +23,7 @@ pub struct Load {
 }
 
 /// What came back.
-#[derive(Clone, Copy, Debug, PartialEq, Eq)]
+#[derive(Clone, Copy)]
 pub struct Tally {
     /// How many APDUs.
     apdus: u64,

@@ -16,7 +16,7 @@ const PIECE: usize = 65_536;
 
 /// How many octets there are, how many events they show (a frame, or an octet that was dropped), and how many
 /// fragments the frames carry.
-#[derive(Clone, Copy, Debug, PartialEq, Eq)]
+#[derive(Clone, Copy)]
 pub struct Counts {
     pub octets: u64,
     pub events: u64,

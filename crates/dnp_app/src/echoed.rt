@@ -7,7 +7,7 @@ use dnp_objects::{Header, number};
 
 /// A command object that a response gives back: a control relay output block (group 12, variation 1) or a
 /// 16-bit analog output (group 41, variation 2).
-#[derive(Clone, Copy, Debug, PartialEq, Eq)]
+#[derive(Clone, Copy)]
 pub struct Echo {
     /// The index of the output.
     pub index: u16,

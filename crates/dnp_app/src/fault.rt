@@ -3,7 +3,7 @@ use dnp_objects::ObjectFault;
 use thiserror::Error;
 
 /// What is wrong with a fragment that should be a response.
-#[derive(Clone, Copy, Debug, PartialEq, Eq, Error)]
+#[derive(Clone, Copy, Debug, PartialEq, Error)]
 pub enum AppFault {
     /// It has fewer than four octets.
     #[error("1 Short")]

@@ -7,7 +7,7 @@ use std::alloc::Global;
 use std::marker::Model;
 
 /// A response that was read, kept by its octets alone: at most 2,048 octets, where what they report may take 1.3 MB.
-#[derive(Debug, Drop)]
+#[derive(Drop)]
 pub struct KeptResponse {
     outstation: u8,
     octets: Vec<u8>,

@@ -10,7 +10,7 @@ use crate::request::{Request, control, request_from};
 use gw_model::{Act, Order, Shape};
 
 /// By which function an output is operated.
-#[derive(Clone, Copy, Debug, PartialEq, Eq)]
+#[derive(Clone, Copy)]
 pub enum Operation {
     /// SELECT: the outstation is made ready for the OPERATE that follows.
     Select,

@@ -33,7 +33,7 @@ const DISABLE_UNSOLICITED: u8 = 21;
 const RECORD_CURRENT_TIME: u8 = 24;
 
 /// A request: one fragment of at most 32 octets.
-#[derive(Clone, Copy, Debug, PartialEq, Eq)]
+#[derive(Clone, Copy)]
 pub struct Request {
     /// The fragment, in the first `len` octets, zeros behind it.
     pub octets: [u8; 32],

@@ -15,7 +15,7 @@ use std::alloc::Global;
 use std::marker::Model;
 
 /// The application control octet of a fragment (IEEE Std 1815, 4.2.2.4).
-#[derive(Clone, Copy, Debug, PartialEq, Eq)]
+#[derive(Clone, Copy)]
 pub struct ApplicationControl {
     /// The first fragment of a message.
     pub fir: bool,
@@ -30,7 +30,7 @@ pub struct ApplicationControl {
 }
 
 /// A response fragment, read for an outstation: at most 2,048 octets, and what they report.
-#[derive(Debug, Drop)]
+#[derive(Drop)]
 pub struct Response {
     outstation: u8,
     octets: Vec<u8>,

@@ -3,7 +3,7 @@
 use crate::frame::Frame;
 
 /// Why no frame begins at an octet, in the order in which it is tried.
-#[derive(Clone, Copy, Debug, PartialEq, Eq)]
+#[derive(Clone, Copy)]
 pub enum SkipReason {
     /// The start octets are not 05 64 hex.
     BadStart = 1,
@@ -16,7 +16,7 @@ pub enum SkipReason {
 }
 
 /// What the front of a stream shows.
-#[derive(Clone, Copy, Debug, PartialEq, Eq)]
+#[derive(Clone, Copy)]
 pub enum LinkEvent {
     /// A whole frame whose CRCs are right.
     Frame(Frame),

@@ -12,7 +12,7 @@ use std::marker::Model;
 
 /// Finds the frames in a stream of octets. A contract sees the octets that were fed and that no event
 /// has used up yet.
-#[derive(Debug, Drop)]
+#[derive(Drop)]
 pub struct LinkFeed {
     octets: OctetQueue,
 }

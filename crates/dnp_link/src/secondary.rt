@@ -20,7 +20,7 @@ const NOT_SUPPORTED: u8 = 0x8F;
 /// The secondary station of one link (IEEE Std 1815-2012, clause 9), at the master's end: frames come to it
 /// from an outstation as the primary station. A contract sees both addresses, and the frame count bit (FCB)
 /// that is expected next, if the link was reset.
-#[derive(Clone, Copy, Debug)]
+#[derive(Clone, Copy)]
 pub struct Secondary {
     own: u16,
     peer: u16,

@@ -2,7 +2,7 @@
 use gw_model::Ended;
 
 /// Why a fragment isn't taken; the first of these in this order.
-#[derive(Clone, Copy, Debug, PartialEq, Eq)]
+#[derive(Clone, Copy)]
 pub enum Ignored {
     /// A solicited response, and no request awaits one.
     NoRequest,
@@ -13,7 +13,7 @@ pub enum Ignored {
 }
 
 /// What became of a fragment. A confirmation is to be sent where there is one.
-#[derive(Clone, Copy, Debug, PartialEq, Eq)]
+#[derive(Clone, Copy)]
 pub enum Verdict {
     /// It was taken; whether the answer that it is of ended with it, and the order that ended with that.
     Accepted {

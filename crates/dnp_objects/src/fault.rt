@@ -4,7 +4,7 @@ ghost use Rattle.std.specs.Prelude.{◌≡◌};
 use thiserror::Error;
 
 /// What is wrong with an object header or its objects.
-#[derive(Clone, Copy, Debug, PartialEq, Eq, Error)]
+#[derive(Clone, Copy, Debug, PartialEq, Error)]
 pub enum HeaderFault {
     /// No such group and variation is known.
     #[error("1 UnknownObject")]
@@ -30,7 +30,7 @@ pub enum HeaderFault {
 }
 
 /// The first fault of an object part.
-#[derive(Clone, Copy, Debug, PartialEq, Eq, Error)]
+#[derive(Clone, Copy, Debug, PartialEq, Error)]
 #[error("{why} at {place}")]
 pub struct ObjectFault {
     /// What is wrong.

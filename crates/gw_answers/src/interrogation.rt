@@ -75,7 +75,7 @@ pub(crate) fn first_asked(settings: &Settings, common_address: u16) -> u16
 }
 
 /// The answer to an interrogation under one common address.
-#[derive(Debug, Drop)]
+#[derive(Drop)]
 pub struct AnswerSection {
     /// The act, under this common address.
     pub command: Command,

@@ -9,7 +9,7 @@ use iec_asdu::SPONTANEOUS;
 use iec_command::Command;
 
 /// An ASDU of the station's own, whole when it is made.
-#[derive(Clone, Copy, Debug, PartialEq, Eq)]
+#[derive(Clone, Copy)]
 pub enum OwnAsdu {
     /// A command with the cause of transmission and P/N of its confirmation or termination.
     Command(Command),
@@ -36,7 +36,7 @@ impl OwnAsdu {
 
 /// What answers an ASDU of the client. What comes back stays apart from `OwnAsdu`, since its octets would widen each
 /// row of the answer to an interrogation.
-#[derive(Clone, Copy, Debug, PartialEq, Eq)]
+#[derive(Clone, Copy)]
 pub enum AsduAnswer {
     /// The ASDU as it came, with the cause of transmission that tells what of it is unknown (44 to 47) and P/N set.
     Returned { asdu: Asdu, cause: u8 },

@@ -6,7 +6,7 @@ use gw_text::RecordEndCause;
 use std::alloc::Global;
 
 /// What is kept of a step before it is made, since the core takes it by value.
-#[derive(Debug, Drop)]
+#[derive(Drop)]
 pub enum Kept {
     /// Nothing, since nothing is captured.
     Nothing,

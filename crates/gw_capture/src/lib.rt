@@ -18,4 +18,4 @@ pub use gw_replay::replay;
 pub use kept::Kept;
 pub use lines::Lines;
 pub use pumps::Pumps;
-pub use step_line::push_step;
+pub use step_line::{has_line, push_step};

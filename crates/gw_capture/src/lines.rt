@@ -13,7 +13,7 @@ use iec_apci::Apdus;
 use std::alloc::Global;
 
 /// The lines of steps whose numbers follow one another, and those of the replies to them.
-#[derive(Debug, Drop)]
+#[derive(Drop)]
 pub struct Lines {
     /// The number of the first step.
     pub first: u64,

@@ -4,7 +4,7 @@ use gw_steps::{Reply, StepFault};
 
 /// Pumps for a client under one hold of the core's lock: their numbers follow one another, and their moment is the
 /// same.
-#[derive(Clone, Copy, Debug)]
+#[derive(Clone, Copy)]
 pub struct Pumps<'a> {
     /// The number of the first.
     pub first: u64,

@@ -12,7 +12,7 @@ const MOST_BATCHES: usize = 65_536;
 const MOST_OCTETS: usize = 16_000_000;
 
 /// How much lines are.
-#[derive(Clone, Copy, Debug, PartialEq, Eq)]
+#[derive(Clone, Copy)]
 pub struct Amount {
     pub batches: usize,
     pub octets: usize,
@@ -56,7 +56,7 @@ impl Amount {
 }
 
 /// What the thread that writes is to do.
-#[derive(Clone, Copy, Debug, PartialEq, Eq)]
+#[derive(Clone, Copy)]
 pub enum Turn {
     /// To write what it was given.
     Write,

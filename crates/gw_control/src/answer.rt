@@ -3,7 +3,7 @@
 use iec_command::Command;
 
 /// What is said of a command for a control.
-#[derive(Clone, Copy, Debug, PartialEq, Eq)]
+#[derive(Clone, Copy)]
 pub enum Answer {
     /// It is confirmed.
     Confirm,
@@ -16,7 +16,7 @@ pub enum Answer {
 }
 
 /// What became of an execute that was an order.
-#[derive(Clone, Copy, Debug, PartialEq, Eq)]
+#[derive(Clone, Copy)]
 pub struct Outcome {
     /// Whose it was, in which session.
     pub client: u8,

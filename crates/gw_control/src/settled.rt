@@ -2,7 +2,7 @@
 ghost use Rattle.std.specs.Prelude.{◌≡◌, ◌-◌};
 
 /// What became of an order without an answer of its outstation.
-#[derive(Clone, Copy, Debug, PartialEq, Eq)]
+#[derive(Clone, Copy, PartialEq)]
 pub enum Fate {
     /// Its outstation was lost.
     Lost,
@@ -13,7 +13,7 @@ pub enum Fate {
 }
 
 /// An order that ended without an answer of its outstation.
-#[derive(Clone, Copy, Debug, PartialEq, Eq)]
+#[derive(Clone, Copy, PartialEq)]
 pub struct Settled {
     /// Its number.
     pub order: u64,

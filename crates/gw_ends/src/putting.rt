@@ -35,7 +35,7 @@ pub trait Source {
 }
 
 /// How a run of APDUs ended.
-#[derive(Clone, Copy, Debug, PartialEq, Eq)]
+#[derive(Clone, Copy)]
 pub enum Put {
     /// With this, which is no APDU.
     Ended(Option<Result<Reply, StepFault>>),

@@ -4,7 +4,7 @@ use gw_station::Why;
 use iec_apci::ApciFault;
 
 /// Why a worker ended.
-#[derive(Clone, Copy, Debug, PartialEq, Eq)]
+#[derive(Clone, Copy, PartialEq)]
 pub enum WorkerEnd {
     /// The core closed the client's connection.
     Closed(Why),

@@ -5,7 +5,7 @@ use std::fmt;
 use thiserror::Error;
 
 /// What can be wrong with settings.
-#[derive(Clone, Copy, Debug, PartialEq, Eq, Error)]
+#[derive(Clone, Copy, Debug, PartialEq, Error)]
 pub enum Fault {
     /// A key that is required is not there.
     Missing,

@@ -6,7 +6,7 @@ ghost use Rattle.gw_hub.specs.Hub.{step_with, tally_of};
 use std::marker::Model;
 
 /// Counts that a hub begins with.
-#[derive(Clone, Copy, Debug, PartialEq, Eq)]
+#[derive(Clone, Copy)]
 pub struct Counts {
     /// The news that there were.
     pub news: u64,

@@ -9,7 +9,7 @@ use std::alloc::AllocError;
 use std::io::{self, BufRead, ErrorKind};
 
 /// Why the program ends before its input does.
-#[derive(Clone, Copy, Debug, PartialEq, Eq)]
+#[derive(Clone, Copy)]
 pub enum Stop {
     /// Reading or writing failed.
     Fault,

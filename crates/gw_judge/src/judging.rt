@@ -11,7 +11,7 @@ use iec_command::causes::{
 use iec_command::{Command, CommandFault, read_command};
 
 /// What is to be said of an ASDU from a client (IEC 60870-5-101, 7.2.3 and 7.3).
-#[derive(Clone, Copy, Debug, PartialEq, Eq)]
+#[derive(Clone, Copy)]
 pub enum Judged {
     /// The connection is closed: fewer than 6 octets, or a known type with a wrong count, SQ or length.
     Malformed,

@@ -1,7 +1,7 @@
 //! Controls: what a client asks of an outstation.
 
 /// How a switch is operated.
-#[derive(Clone, Copy, Debug, PartialEq, Eq)]
+#[derive(Clone, Copy)]
 pub enum Shape {
     /// It stays as it is set.
     Latch,
@@ -10,7 +10,7 @@ pub enum Shape {
 }
 
 /// What is done to a control point.
-#[derive(Clone, Copy, Debug, PartialEq, Eq)]
+#[derive(Clone, Copy)]
 pub enum Act {
     /// Switch it on or off.
     Switch { on: bool, shape: Shape },
@@ -19,7 +19,7 @@ pub enum Act {
 }
 
 /// An act on a control point of an outstation.
-#[derive(Clone, Copy, Debug, PartialEq, Eq)]
+#[derive(Clone, Copy)]
 pub struct Intent {
     pub outstation: u8,
     pub index: u16,
@@ -27,7 +27,7 @@ pub struct Intent {
 }
 
 /// An accepted command on its way to the outstation, with its number.
-#[derive(Clone, Copy, Debug, PartialEq, Eq)]
+#[derive(Clone, Copy)]
 pub struct Order {
     pub number: u64,
     pub intent: Intent,
@@ -36,7 +36,7 @@ pub struct Order {
 }
 
 /// What became of an order.
-#[derive(Clone, Copy, Debug, PartialEq, Eq)]
+#[derive(Clone, Copy)]
 pub struct Ended {
     pub number: u64,
     /// The outstation did it.

@@ -6,7 +6,7 @@ ghost use Rattle.gw_model.specs.Values.{is_total};
 use crate::point::Stamp;
 
 /// A value by the type that shows it (IEC 60870-5-101, 7.2.6).
-#[derive(Clone, Copy, Debug, PartialEq, Eq)]
+#[derive(Clone, Copy, PartialEq)]
 pub enum Value {
     /// Single-point information.
     Single(bool),
@@ -31,7 +31,7 @@ impl Value {
 
 /// The quality bits of IEC 60870-5-101: the quality descriptor (7.2.6.3) and those of a binary
 /// counter reading (7.2.6.9).
-#[derive(Clone, Copy, Debug, PartialEq, Eq)]
+#[derive(Clone, Copy, PartialEq)]
 pub struct Quality {
     /// IV: invalid.
     pub iv: bool,
@@ -63,7 +63,7 @@ impl Quality {
 }
 
 /// A value with its quality and time, of an information object.
-#[derive(Clone, Copy, Debug, PartialEq, Eq)]
+#[derive(Clone, Copy)]
 pub struct Observation {
     /// The common address of the object's station (IEC 60870-5-101, 7.2.4).
     pub common: u16,

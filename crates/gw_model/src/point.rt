@@ -8,7 +8,7 @@ ghost use Rattle.gw_model.specs.Point.{is_of_kind, is_stamped};
 use std::hash::{Hash, Hasher};
 
 /// The kinds of point that an outstation has (IEEE Std 1815, object library).
-#[derive(Clone, Copy, Debug, PartialEq, Eq, Hash)]
+#[derive(Clone, Copy, PartialEq, Eq, Hash)]
 pub enum Kind {
     /// Binary input: groups 1 and 2.
     Binary,
@@ -23,7 +23,7 @@ pub enum Kind {
 }
 
 /// Which point: the outstation's position in the settings, the kind, and the point's index.
-#[derive(Clone, Copy, Debug, PartialEq, Eq, Hash)]
+#[derive(Clone, Copy, PartialEq, Eq, Hash)]
 pub struct PointKey {
     pub outstation: u8,
     pub kind: Kind,
@@ -32,7 +32,7 @@ pub struct PointKey {
 
 /// Which information object: the common address of its station, and its information object address
 /// (IEC 60870-5-101, 7.2.4 and 7.2.5).
-#[derive(Clone, Copy, Debug, PartialEq, Eq)]
+#[derive(Clone, Copy, PartialEq, Eq)]
 pub struct ObjectKey {
     pub common_address: u16,
     pub address: u32,
@@ -50,7 +50,7 @@ impl Hash for ObjectKey {
 }
 
 /// A point's value as the outstation sends it.
-#[derive(Clone, Copy, Debug, PartialEq, Eq)]
+#[derive(Clone, Copy)]
 pub enum Raw {
     /// The state of a binary input or output.
     Bit(bool),
@@ -63,7 +63,7 @@ pub enum Raw {
 }
 
 /// When something happened, in milliseconds since 1970-01-01 UTC.
-#[derive(Clone, Copy, Debug, PartialEq, Eq)]
+#[derive(Clone, Copy, PartialEq)]
 pub enum Stamp {
     /// No time is known.
     Untimed,
@@ -74,7 +74,7 @@ pub enum Stamp {
 }
 
 /// What one object of a fragment says of one point.
-#[derive(Clone, Copy, Debug, PartialEq, Eq)]
+#[derive(Clone, Copy)]
 pub struct Report {
     pub key: PointKey,
     pub raw: Raw,

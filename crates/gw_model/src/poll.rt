@@ -1,7 +1,7 @@
 //! How an outstation is polled.
 
 /// The times, in milliseconds, and the habits of the master towards one outstation.
-#[derive(Clone, Copy, Debug, PartialEq, Eq)]
+#[derive(Clone, Copy)]
 pub struct Poll {
     /// From one event poll to the next.
     pub poll_ms: u64,

@@ -7,7 +7,7 @@ use std::marker::Model;
 
 /// Octets in a queue. Those at the front may be used up, and are kept for a while still: a contract sees
 /// the octets that are left, and how many are kept, used up or not.
-#[derive(Debug, Drop)]
+#[derive(Drop)]
 pub struct OctetQueue {
     octets: Vec<u8>,
     /// How many of them are used up.

@@ -4,7 +4,7 @@ use crate::kept::KeptStep;
 use gw_hub::{Reply, StepFault};
 
 /// A step that an actor asked for, and what it was answered.
-#[derive(Debug, Drop)]
+#[derive(Drop)]
 pub struct Entry {
     /// Who asked, by its position.
     pub actor: usize,

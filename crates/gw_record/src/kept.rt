@@ -8,7 +8,7 @@ use std::marker::Model;
 
 /// What is kept of a step: of a fragment its octets alone, since what it reports follows from them and may take 600
 /// times as much.
-#[derive(Debug, Drop)]
+#[derive(Drop)]
 pub enum Kept {
     /// A fragment that came at a moment, in milliseconds.
     Fragment { response: KeptResponse, moment: u64 },
@@ -17,7 +17,7 @@ pub enum Kept {
 }
 
 /// A step that is kept.
-#[derive(Debug, Drop)]
+#[derive(Drop)]
 pub struct KeptStep {
     kept: Kept,
 }

@@ -30,7 +30,7 @@ impl Model for Recorder {
 }
 
 /// Memory was refused for a new base.
-#[derive(Debug, Drop)]
+#[derive(Drop)]
 pub struct NoRoom {
     cause: Memory,
 }

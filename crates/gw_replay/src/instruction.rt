@@ -12,7 +12,7 @@ use std::alloc::Global;
 
 /// What a line of a replay asks for. Outstations and clients go by their position, moments are in
 /// milliseconds.
-#[derive(Debug, Drop)]
+#[derive(Drop)]
 pub enum Instruction {
     /// `up O M`: an outstation comes up. `down O M`: it is lost. `poll O M W`: its writer asks for the next request at
     /// a wall time. `open C M`: a client comes up. `close C M`: it is lost. `pump C M`: a client's writer asks for the

@@ -19,7 +19,7 @@ use std::marker::Model;
 const KEPT: usize = 8192;
 
 /// What came of an instruction.
-#[derive(Clone, Copy, Debug, PartialEq, Eq)]
+#[derive(Clone, Copy)]
 pub enum Played {
     /// A step was made, or not for a fault.
     Replied(Result<Reply, StepFault>),

@@ -9,7 +9,7 @@ use iec_apci::ApciFault;
 use std::io::{self, Write};
 
 /// Why octets make no step.
-#[derive(Clone, Copy, Debug, PartialEq, Eq)]
+#[derive(Clone, Copy)]
 pub enum StepRefusal {
     /// Those of a fragment are no response.
     Fragment(AppFault),

@@ -14,7 +14,7 @@ pub struct Closed {
 }
 
 /// Why a shared core isn't closed.
-#[derive(Clone, Copy, Debug)]
+#[derive(Clone, Copy)]
 pub enum CloseFault {
     /// Not all passes were handed over.
     Missing = 1,

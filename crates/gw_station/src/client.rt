@@ -1,7 +1,7 @@
 //! Where a client's connection stands.
 
 /// Where a client's connection stands (IEC 60870-5-104, 5.3).
-#[derive(Clone, Copy, Debug, PartialEq, Eq)]
+#[derive(Clone, Copy)]
 pub enum Stage {
     /// There is no connection.
     Down,

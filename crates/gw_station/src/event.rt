@@ -9,7 +9,7 @@ use iec_command::Command;
 const ORDER_PLACES: usize = 2;
 
 /// Why a client's connection is closed (IEC 60870-5-104, 5.1 to 5.3).
-#[derive(Clone, Copy, Debug, PartialEq, Eq)]
+#[derive(Clone, Copy, PartialEq)]
 pub enum Why {
     /// N(S) isn't the number of I formats received, or N(R) names no I format that waits for it.
     Sequence = 1,
@@ -35,7 +35,7 @@ pub enum Event {
 }
 
 /// What is said of a command for a control, or of the order that it became.
-#[derive(Clone, Copy, PartialEq, Eq)]
+#[derive(Clone, Copy)]
 pub enum Said {
     /// Its activation or deactivation is confirmed.
     Confirm,

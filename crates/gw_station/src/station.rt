@@ -388,7 +388,7 @@ impl Station {
         if self.window.check_numbers(ns, nr).is_err() {
             return Some(Why::Sequence);
         }
-        if *judged == Judged::Malformed {
+        if matches!(judged, Judged::Malformed) {
             return Some(Why::Malformed);
         }
         if self.answers.len() + self.held + places_for(self.is_pending(), judged) > MOST_ANSWERS {

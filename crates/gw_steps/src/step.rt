@@ -8,7 +8,7 @@ use iec_apci::{Apdu, ApduBuf};
 
 /// One event. Outstations and clients go by their position in the settings, moments are in
 /// milliseconds.
-#[derive(Debug, Drop)]
+#[derive(Drop)]
 pub enum Step {
     /// The connection to an outstation stands.
     OutstationUp {
@@ -72,7 +72,7 @@ impl Step {
 }
 
 /// The reply to a step.
-#[derive(Clone, Copy, Debug, PartialEq, Eq)]
+#[derive(Clone, Copy)]
 pub enum Reply {
     /// The outstation or client is up now, or down.
     Done,
@@ -93,7 +93,7 @@ pub enum Reply {
 }
 
 /// Why a step was not made; nothing changed. The first of these in this order, but `Memory` last.
-#[derive(Clone, Copy, Debug, PartialEq, Eq)]
+#[derive(Clone, Copy)]
 pub enum StepFault {
     /// No such outstation.
     NoOutstation = 1,

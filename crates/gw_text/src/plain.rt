@@ -4,7 +4,7 @@ use std::fmt;
 
 /// A text that came from outside: its control characters are written as Rust escapes them, so that it makes no line of
 /// its own and moves no cursor.
-#[derive(Clone, Copy, Debug)]
+#[derive(Clone, Copy)]
 pub struct Plain<'a>(pub &'a str);
 
 impl<'a> fmt::Display for Plain<'a> {

@@ -4,7 +4,7 @@ use gw_model::Memory;
 use std::{fmt, io};
 
 /// Why no further step is recorded.
-#[derive(Clone, Copy, Debug, PartialEq, Eq)]
+#[derive(Clone, Copy, PartialEq)]
 pub enum RecordEndCause {
     /// More waited to be written than may wait.
     QueueFull,
@@ -43,7 +43,7 @@ impl fmt::Display for RecordEndCause {
 }
 
 /// How a record ended: at which step, and why. The steps before this one are written, with their replies.
-#[derive(Clone, Copy, Debug, PartialEq, Eq)]
+#[derive(Clone, Copy, PartialEq)]
 pub struct RecordEnd {
     pub step: u64,
     pub cause: RecordEndCause,

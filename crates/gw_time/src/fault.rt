@@ -3,7 +3,7 @@
 use thiserror::Error;
 
 /// What is wrong with a tag, in the order in which it is tried.
-#[derive(Clone, Copy, Debug, PartialEq, Eq, Error)]
+#[derive(Clone, Copy, Debug, PartialEq, Error)]
 pub enum TagFault {
     /// Milliseconds, minute, hour, month or year is out of its range.
     #[error("1 Field")]

@@ -10,7 +10,7 @@ use gw_text::line_octets;
 use std::alloc::Global;
 
 /// What becomes of a line.
-#[derive(Clone, Copy, Debug, PartialEq, Eq)]
+#[derive(Clone, Copy)]
 pub enum Decision {
     /// The line is empty, and is skipped.
     Empty,

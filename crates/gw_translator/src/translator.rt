@@ -16,7 +16,7 @@ use std::io::{BufRead, Write};
 use std::marker::Model;
 
 /// What became of the lines so far.
-#[derive(Clone, Copy, Debug, PartialEq, Eq)]
+#[derive(Clone, Copy)]
 pub enum Finding {
     /// Each was empty or accepted.
     Fine,

@@ -6,7 +6,7 @@ ghost use Rattle.iec_apci.specs.Apdu.{confirmation_of};
 pub const START: u8 = 0x68;
 
 /// A function of the U format (IEC 60870-5-104, 5.2 and 5.3), numbered by its first control octet.
-#[derive(Clone, Copy, Debug, PartialEq, Eq)]
+#[derive(Clone, Copy)]
 pub enum Signal {
     /// STARTDT act: data transfer is to start.
     StartAct = 0x07,
@@ -37,7 +37,7 @@ impl Signal {
 }
 
 /// An ASDU, whatever it means: 0 to 249 octets.
-#[derive(Clone, Copy, Debug, PartialEq, Eq)]
+#[derive(Clone, Copy)]
 pub struct Asdu {
     /// The ASDU, in the first `len` octets.
     pub octets: [u8; 249],
@@ -56,7 +56,7 @@ impl Asdu {
 }
 
 /// An APDU (IEC 60870-5-104, clause 5). Numbers have 15 bits.
-#[derive(Clone, Copy, Debug, PartialEq, Eq)]
+#[derive(Clone, Copy)]
 pub enum Apdu {
     /// Numbered information transfer: N(S), N(R) and an ASDU.
     I {

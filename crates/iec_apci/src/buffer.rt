@@ -8,7 +8,7 @@ use crate::apdu::Apdu;
 use crate::writing::write_apdu;
 
 /// The octets of an APDU at the front of a buffer of zeros.
-#[derive(Clone, Copy, Debug, PartialEq, Eq)]
+#[derive(Clone, Copy)]
 pub struct ApduBuf {
     /// The APDU, in the first `len` octets.
     pub octets: [u8; 255],

@@ -3,7 +3,7 @@
 use thiserror::Error;
 
 /// What is wrong at the place where an APDU should begin, in the order in which it is tried.
-#[derive(Clone, Copy, Debug, PartialEq, Eq, Error)]
+#[derive(Clone, Copy, Debug, PartialEq, Error)]
 pub enum ApciFault {
     /// The start octet is not 68 hex.
     #[error("1 Start")]

@@ -2,7 +2,7 @@
 use thiserror::Error;
 
 /// What is wrong with an ASDU, by its first fault.
-#[derive(Clone, Copy, Debug, PartialEq, Eq, Error)]
+#[derive(Clone, Copy, Debug, PartialEq, Error)]
 pub enum AsduFault {
     /// It ends inside its header or its objects.
     #[error("1 Short")]

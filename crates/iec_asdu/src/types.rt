@@ -41,7 +41,7 @@ const M_ME_TE_1: u8 = 35;
 const M_IT_TB_1: u8 = 37;
 
 /// The information elements of process information.
-#[derive(Clone, Copy, PartialEq, Eq)]
+#[derive(Clone, Copy, PartialEq)]
 pub enum ElementKind {
     SinglePoint,
     DoublePoint,

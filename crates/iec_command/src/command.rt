@@ -21,7 +21,7 @@ pub const C_CI_NA_1: u8 = 101;
 pub const C_RD_NA_1: u8 = 102;
 
 /// A single command, SCO (IEC 60870-5-101, 7.2.6.15).
-#[derive(Clone, Copy, Debug, PartialEq, Eq)]
+#[derive(Clone, Copy)]
 pub struct SingleCommand {
     /// On, or else off: bit 0.
     pub on: bool,
@@ -34,7 +34,7 @@ pub struct SingleCommand {
 }
 
 /// A double command, DCO (IEC 60870-5-101, 7.2.6.16).
-#[derive(Clone, Copy, Debug, PartialEq, Eq)]
+#[derive(Clone, Copy)]
 pub struct DoubleCommand {
     /// 1 off, 2 on, 0 and 3 not permitted: bits 0 and 1.
     pub state: u8,
@@ -45,7 +45,7 @@ pub struct DoubleCommand {
 }
 
 /// A set point as a scaled value, SVA and QOS (IEC 60870-5-101, 7.2.6.7 and 7.2.6.39).
-#[derive(Clone, Copy, Debug, PartialEq, Eq)]
+#[derive(Clone, Copy)]
 pub struct SetpointCommand {
     pub value: i16,
     /// QL, 0 to 127: bits 0 to 6 of QOS.
@@ -55,7 +55,7 @@ pub struct SetpointCommand {
 }
 
 /// What a command asks for, by its type (IEC 60870-5-101, 7.3.2 and 7.3.4).
-#[derive(Clone, Copy, Debug, PartialEq, Eq)]
+#[derive(Clone, Copy)]
 pub enum Action {
     /// C_SC_NA_1.
     Single(SingleCommand),
@@ -72,7 +72,7 @@ pub enum Action {
 }
 
 /// An ASDU in control direction, of one information object.
-#[derive(Clone, Copy, Debug, PartialEq, Eq)]
+#[derive(Clone, Copy)]
 pub struct Command {
     /// Cause of transmission, 0 to 63: bits 0 to 5 of its octet (7.2.3).
     pub cause: u8,

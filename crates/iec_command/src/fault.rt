@@ -2,7 +2,7 @@
 use thiserror::Error;
 
 /// What is wrong with an ASDU in control direction, by its first fault.
-#[derive(Clone, Copy, Debug, PartialEq, Eq, Error)]
+#[derive(Clone, Copy, Debug, PartialEq, Error)]
 pub enum CommandFault {
     /// It ends inside its header or its object.
     #[error("1 Short")]

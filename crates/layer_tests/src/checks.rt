@@ -14,6 +14,11 @@ pub fn same_at<T: PartialEq + Debug>(rt: &impl Abort, found: &T, wanted: &T, pla
     assert_eq!(rt; found, wanted, "at {place}");
 }
 
+/// What was found is what was wanted, of a type that has no words for a test to show; else the place is told.
+pub fn alike_at<T: PartialEq>(rt: &impl Abort, found: &T, wanted: &T, place: &impl Display) {
+    assert!(rt; found == wanted, "at {place}");
+}
+
 /// The text that was found is the one that was wanted.
 pub fn same_text(rt: &impl Abort, found: &str, wanted: &str) {
     assert_eq!(rt; found, wanted);

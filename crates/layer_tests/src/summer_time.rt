@@ -1,5 +1,5 @@
 //! gw_time: time tags by rules for summer time, each with the instant that it means.
-use crate::checks::same_at;
+use crate::checks::{alike_at, same_at};
 use gw_model::Stamp;
 use gw_time::{Zone, from_tag, to_tag};
 use jiff_tz::posix;
@@ -107,7 +107,7 @@ fn summer_time(rt: HostRuntime) -> Result<(), Fail> {
             &Some(*tag),
             instant,
         );
-        same_at(
+        alike_at(
             &rt,
             &from_tag(tag, &zone),
             &Ok(Stamp::At(*instant)),
@@ -115,7 +115,7 @@ fn summer_time(rt: HostRuntime) -> Result<(), Fail> {
         );
     }
     for (offset, rule, instant, tag) in BY_ARITHMETIC {
-        same_at(
+        alike_at(
             &rt,
             &from_tag(tag, &zone(*offset, rule)?),
             &Ok(Stamp::At(*instant)),

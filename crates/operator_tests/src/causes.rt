@@ -1,6 +1,6 @@
 //! Tests of the words for why a connection ended, a call to the system failed, or a fragment was refused.
 
-use crate::checks::{same, same_text};
+use crate::checks::{alike, same_text};
 use dnp_app::read_response;
 use gw_journal::{Cause, Failure, Unreadable};
 use gw_station::Why;
@@ -115,16 +115,16 @@ fn failures(rt: HostRuntime) -> Result<(), Fail> {
         for (kind, words) in table {
             let failure = Failure::from(*kind);
             check_words(&rt, rt.alloc(), failure, words)?;
-            same(&rt, &Failure::from_code(failure.code()), &failure);
+            alike(&rt, &Failure::from_code(failure.code()), &failure);
         }
     }
-    same(&rt, &Failure::from_code(0), &Failure::Other);
-    same(
+    alike(&rt, &Failure::from_code(0), &Failure::Other);
+    alike(
         &rt,
         &Failure::of_look_up(ErrorKind::Uncategorized),
         &Failure::NoSuchHost,
     );
-    same(
+    alike(
         &rt,
         &Failure::of_look_up(ErrorKind::InvalidInput),
         &Failure::NoAddress,

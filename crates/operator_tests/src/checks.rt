@@ -9,6 +9,11 @@ pub fn same<T: PartialEq + Debug>(rt: &impl Abort, found: &T, wanted: &T) {
     assert_eq!(rt; found, wanted);
 }
 
+/// What was found is what was wanted, of a type that has no words for a test to show.
+pub fn alike<T: PartialEq>(rt: &impl Abort, found: &T, wanted: &T) {
+    assert!(rt; found == wanted);
+}
+
 /// The same, at a place that is told.
 pub fn same_at<T: PartialEq + Debug>(rt: &impl Abort, found: &T, wanted: &T, place: &impl Display) {
     assert_eq!(rt; found, wanted, "at {place}");

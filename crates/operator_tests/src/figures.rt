@@ -1,6 +1,6 @@
 //! Tests of the figures of peers, and of throttles, by example.
 
-use crate::checks::{same, same_at};
+use crate::checks::{alike, same, same_at};
 use crate::journal::{WALL, address};
 use gw_journal::{
     Cause, ClientFigures, DueNotes, Noticed, OutstationFigures, Refused, Throttle, Unreadable,
@@ -77,7 +77,7 @@ fn rising_indications(rt: HostRuntime) {
     for _ in 0..2 {
         figures.connected(WALL);
         for (indications, noticed) in INDICATIONS {
-            same(
+            alike(
                 &rt,
                 &figures.answered(0, WALL + 7, *indications, false, 2),
                 noticed,
@@ -110,7 +110,7 @@ fn clocks(rt: HostRuntime) {
     figures.connected(WALL);
     for (writes_time, indications, noticed) in SETTINGS_OF_THE_CLOCK {
         figures.asked(0, true, *writes_time);
-        same(
+        alike(
             &rt,
             &figures.answered(0, WALL, [*indications, 0], true, 0),
             noticed,
@@ -119,13 +119,13 @@ fn clocks(rt: HostRuntime) {
     // An unsolicited response, or the answer to a later request, tells nothing of it.
     figures.connected(WALL);
     figures.asked(0, true, true);
-    same(
+    alike(
         &rt,
         &figures.answered(0, WALL, [0x10, 0], false, 0),
         &NOTHING,
     );
     figures.asked(0, true, false);
-    same(
+    alike(
         &rt,
         &figures.answered(0, WALL, [0x10, 0], true, 0),
         &NOTHING,
@@ -174,7 +174,7 @@ fn overtaken_answer(rt: HostRuntime) {
     figures.asked(2, true, false);
     figures.asked(5, true, true);
     same(&rt, &figures.unanswered, &1);
-    same(
+    alike(
         &rt,
         &figures.answered(4, WALL, [0x10, 0], true, 0),
         &NOTHING,
@@ -184,7 +184,7 @@ fn overtaken_answer(rt: HostRuntime) {
         &(figures.unanswered, figures.due(WALL).unanswered),
         &(0, None),
     );
-    same(
+    alike(
         &rt,
         &figures.answered(7, WALL, [0x10, 0], true, 0),
         &CLOCK_NOT_SET,
@@ -210,11 +210,10 @@ fn overtaken_setting_of_the_clock(rt: HostRuntime) {
     figures.asked(1, true, false);
     for (step, writes_time, indications, noticed) in OVERTAKEN {
         figures.asked(*step + 1, true, *writes_time);
-        same_at(
+        alike(
             &rt,
             &figures.answered(*step, WALL, [*indications, 0], true, 0),
             noticed,
-            step,
         );
     }
     same(&rt, &(figures.requests, figures.unanswered), &(7, 0));
@@ -250,14 +249,14 @@ const DUE: DueNotes = DueNotes {
 fn refused_and_skipped(rt: HostRuntime) {
     let mut figures = OutstationFigures::new();
     same(&rt, &figures.refused(WALL, FUNCTION_0), &Some(0));
-    same(&rt, &figures.due(WALL + 1000), &NOTHING_DUE);
+    alike(&rt, &figures.due(WALL + 1000), &NOTHING_DUE);
     for (wall, fault, told) in REFUSED {
         same_at(&rt, &figures.refused(*wall, *fault), told, wall);
     }
     figures.skipped(7);
     figures.skipped(5);
-    same(&rt, &figures.due(WALL + 3000), &DUE);
-    same(&rt, &figures.due(WALL + 70_000), &NOTHING_DUE);
+    alike(&rt, &figures.due(WALL + 3000), &DUE);
+    alike(&rt, &figures.due(WALL + 70_000), &NOTHING_DUE);
     same(&rt, &(figures.refused, figures.skipped), &(4, 12));
 }
 

@@ -35,7 +35,7 @@ fn replies_to(alloc: Global, steps: Vec<Step>) -> Result<Vec<Result<Reply, StepF
 fn a_long_run(rt: HostRuntime) -> Result<(), Fail> {
     let replies = replies_to(rt.alloc(), many_steps(rt.alloc())?)?;
     same(&rt, &replies.len(), &10_001);
-    same(&rt, &replies.last(), &Some(&Ok(Reply::Nothing)));
+    assert!(&rt; matches!(replies.last(), Some(Ok(Reply::Nothing))));
     Ok(())
 }
 

@@ -1,7 +1,7 @@
 //! Tests of what calls on a shared core tell of the orders that end without an answer, and of how orders are counted.
 ghost use Rattle.std.specs.Prelude.{◌≡◌};
 
-use crate::checks::{same, same_list};
+use crate::checks::same;
 use gw_map::Settings;
 use gw_replay::{Instruction, read_instruction};
 use gw_shared::{Calls, Fate, Hub, Pass, Settled, Shared, Step};
@@ -138,7 +138,7 @@ fn run<L: Ledger, R: Wait + Abort + AllocGlobal>(rt: &R, blank: Blank, hub: Hub,
             make(rt, &shared, &mut pass, line, &mut ended);
         }
     }
-    same_list(rt, ended.as_slice(), course.settled);
+    assert!(rt; ended.as_slice() == course.settled);
     check_counts(rt, &shared, course);
 }
 

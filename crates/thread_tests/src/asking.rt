@@ -76,9 +76,19 @@ pub fn bring_up<L: Ledger, R: Wait + Abort + AllocGlobal>(
 
 /// Answers have these lines.
 pub fn check_answers<R: Abort + AllocGlobal>(rt: &R, answers: &[Answer], wanted: &str) {
+    same_list(rt, text_of(rt, answers).as_slice(), wanted.as_bytes());
+}
+
+/// The lines of answers.
+pub fn text_of<R: Abort + AllocGlobal>(rt: &R, answers: &[Answer]) -> Vec<u8> {
     let mut text = Vec::new(rt.alloc());
     for answer in answers {
-        push_reply(&mut text, *answer).expect(rt, "memory");
+        push_answer(rt, &mut text, *answer);
     }
-    same_list(rt, text.as_slice(), wanted.as_bytes());
+    text
+}
+
+/// Adds the line of an answer to a text.
+pub fn push_answer<R: Abort>(rt: &R, text: &mut Vec<u8>, answer: Answer) {
+    push_reply(text, answer).expect(rt, "memory");
 }

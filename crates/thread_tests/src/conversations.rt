@@ -2,8 +2,8 @@
 //! recorded.
 ghost use Rattle.std.specs.Prelude.{◌≡◌};
 
-use crate::asking::{Answer, Turn, answers_of, check_answers, steps_of};
-use crate::checks::{same, same_list, same_text};
+use crate::asking::{Answer, Turn, answers_of, check_answers, steps_of, text_of};
+use crate::checks::{same, same_list};
 use crate::opening::{end, hub_on, open, settings_of};
 use crate::telling::{entries_since, push_call, push_entry};
 use gw_map::DEFAULT_SETTINGS;
@@ -290,15 +290,19 @@ fn check<R: Abort + AllocGlobal>(
         recording,
     } = *conversation;
     check_answers(rt, answers, replies);
-    same_list(rt, answers, answers_alone(rt, lines).as_slice());
+    check_answers_alone(rt, lines, answers);
     check_recorder(rt, recorder, recording, lines, answers);
 }
 
-/// What a hub alone answers the steps of these lines.
-fn answers_alone<R: Abort + AllocGlobal>(rt: &R, lines: &str) -> Vec<Answer> {
+/// A hub alone answers the steps of these lines so.
+fn check_answers_alone<R: Abort + AllocGlobal>(rt: &R, lines: &str, answers: &[Answer]) {
     let settings = settings_of(rt, DEFAULT_SETTINGS);
-    let (_hub, answers) = Hub::run(rt.alloc(), settings, steps_of(rt, lines)).expect(rt, "a run");
-    answers
+    let (_hub, alone) = Hub::run(rt.alloc(), settings, steps_of(rt, lines)).expect(rt, "a run");
+    same_list(
+        rt,
+        text_of(rt, answers).as_slice(),
+        text_of(rt, &alone).as_slice(),
+    );
 }
 
 /// The recorder has kept the calls that were made, but for those that it has forgotten.
@@ -309,12 +313,12 @@ fn check_recorder<R: Abort + AllocGlobal>(
     lines: &str,
     answers: &[Answer],
 ) {
-    let mut kept = String::new(rt.alloc());
+    let mut kept = Vec::new(rt.alloc());
     for entry in entries_since(rt, recorder, &recording.counts) {
         push_entry(rt, &mut kept, entry);
     }
     let made = text_of_calls(rt, recording, lines, answers);
-    same_text(rt, kept.as_str(), made.as_str());
+    same_list(rt, kept.as_slice(), made.as_slice());
 }
 
 /// The lines of the calls that the recorder is to keep.
@@ -323,10 +327,10 @@ fn text_of_calls<R: Abort + AllocGlobal>(
     recording: &Recording,
     lines: &str,
     answers: &[Answer],
-) -> String {
+) -> Vec<u8> {
     let steps = steps_of(rt, lines);
     let calls = steps.iter().zip(answers).zip(recording.turns);
-    let mut text = String::new(rt.alloc());
+    let mut text = Vec::new(rt.alloc());
     for ((step, answer), turn) in calls.skip(recording.forgotten) {
         push_call(rt, &mut text, *turn, step, answer);
     }

@@ -47,7 +47,7 @@ pub fn total_of<L: Ledger, R: Wait + Abort>(
 ) -> u64 {
     match shared.close(rt, passes) {
         Ok(closed) => closed.total,
-        Err((fault, _)) => rt.panic(format_args!("not closed: {fault:?}")),
+        Err(_) => rt.panic("not closed"),
     }
 }
 

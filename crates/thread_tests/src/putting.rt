@@ -1,7 +1,7 @@
 //! Tests of put_out over a hub alone: what a writer takes of the replies to pumps, and where it fails.
 
 use crate::asking::{step_of, steps_of};
-use crate::checks::{same_at, same_list};
+use crate::checks::same_list;
 use crate::memory::Client;
 use crate::opening::{copy_of, hub_on};
 use crate::telling::answer_of;
@@ -29,10 +29,11 @@ const RUN: &[u8] = &[
 fn puts_out(rt: HostRuntime) {
     let hub = hub_after(&rt);
     same_list(&rt, replies_to_pumps(&rt, &hub).as_slice(), RUN);
-    let ended = Put::Ended(Some(Ok(Reply::Nothing)));
-    check_put(&rt, &hub, RUN.len(), ended);
+    let ended = check_put(&rt, &hub, RUN.len());
+    assert!(&rt; matches!(ended, Put::Ended(Some(Ok(Reply::Nothing)))));
     for room in [0, 5, 6, 21, 30, RUN.len() - 1] {
-        check_put(&rt, &hub, room, Put::Unwritten);
+        let ended = check_put(&rt, &hub, room);
+        assert!(&rt; matches!(ended, Put::Unwritten), "with room for {room}");
     }
 }
 
@@ -62,8 +63,8 @@ fn replies_to_pumps<R: Abort + AllocGlobal>(rt: &R, hub: &Hub) -> Vec<u8> {
     octets
 }
 
-/// A writer with room for so many octets takes the front of the run, which ends so.
-fn check_put<R: Abort + AllocGlobal>(rt: &R, hub: &Hub, room: usize, end: Put) {
+/// A writer with room for so many octets takes the front of the run. Tells how the run ends.
+fn check_put<R: Abort + AllocGlobal>(rt: &R, hub: &Hub, room: usize) -> Put {
     let has_ended = AtomicBool::new(false);
     let mut writer = Client {
         octets: Vec::new(rt.alloc()),
@@ -71,12 +72,9 @@ fn check_put<R: Abort + AllocGlobal>(rt: &R, hub: &Hub, room: usize, end: Put) {
         has_ended: &has_ended,
     };
     let ended = put(copy_of(rt, hub), &mut writer);
-    same_at(
-        rt,
-        &(ended, Some(writer.octets.as_slice())),
-        &(end, RUN.get(..room)),
-        &room,
-    );
+    let front = RUN.get(..room).expect(rt, "that much");
+    same_list(rt, writer.octets.as_slice(), front);
+    ended
 }
 
 /// Hands a run over to a writer.

@@ -1,21 +1,31 @@
 //! What a recorder has kept.
 
-use crate::asking::{Answer, Turn};
-use crate::checks::same;
+use crate::asking::{Answer, Turn, push_answer, text_of};
+use crate::checks::{same, same_list};
 use crate::opening::copy_of;
 use dnp_app::KeptResponse;
+use gw_capture::{has_line, push_step};
 use gw_readers::{Entry, Hub, Kept, KeptStep, Recorder, Step};
-use std::fmt::Write;
+use std::io::Write;
 use std::process::Abort;
 
 /// The calls that a recorder has kept since a base, before which the actors had made so many. A hub that is the base
 /// answers their steps as they were answered.
-pub fn entries_since<'a, R: Abort>(rt: &R, recorder: &'a Recorder, counts: &[u64]) -> &'a [Entry] {
+pub fn entries_since<'a, R: Abort + AllocGlobal>(
+    rt: &R,
+    recorder: &'a Recorder,
+    counts: &[u64],
+) -> &'a [Entry] {
     let dump = recorder.dump().expect(rt, "a recorder that is on");
     same(rt, &dump.counts, &counts);
     let mut hub = copy_of(rt, dump.base);
     for entry in dump.entries {
-        same(rt, &answer_of_kept(rt, &mut hub, &entry.step), &entry.reply);
+        let answer = answer_of_kept(rt, &mut hub, &entry.step);
+        same_list(
+            rt,
+            text_of(rt, &[answer]).as_slice(),
+            text_of(rt, &[entry.reply]).as_slice(),
+        );
     }
     dump.entries
 }
@@ -40,7 +50,7 @@ pub fn answer_of(hub: &mut Hub, step: &Step) -> Answer {
 }
 
 /// Adds the line of a call that was kept to a text.
-pub fn push_entry<R: Abort>(rt: &R, text: &mut String, entry: &Entry) {
+pub fn push_entry<R: Abort>(rt: &R, text: &mut Vec<u8>, entry: &Entry) {
     let turn = (entry.actor, entry.ordinal);
     match entry.step.kept() {
         Kept::Fragment { response, moment } => {
@@ -51,7 +61,13 @@ pub fn push_entry<R: Abort>(rt: &R, text: &mut String, entry: &Entry) {
     }
 }
 
-/// Adds the line of a call to a text: whose turn it was, all of the step, and all of the answer.
-pub fn push_call<R: Abort>(rt: &R, text: &mut String, turn: Turn, step: &Step, answer: &Answer) {
-    writeln!(text, "{turn:?} {step:?} {answer:?}").expect(rt, "memory");
+/// Adds the lines of a call to a text: whose turn it was, the step, and the answer.
+pub fn push_call<R: Abort>(rt: &R, text: &mut Vec<u8>, turn: Turn, step: &Step, answer: &Answer) {
+    let (actor, ordinal) = turn;
+    write!(text, "{actor} {ordinal} ").expect(rt, "memory");
+    if !has_line(step) {
+        rt.panic("a step has no line");
+    }
+    push_step(text, step).expect(rt, "memory");
+    push_answer(rt, text, *answer);
 }

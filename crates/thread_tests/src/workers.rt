@@ -166,7 +166,7 @@ fn perform_all<L: Ledger + Send + Sync, R: Host>(
 fn perform<L: Ledger, R: Host>(scene: &Scene<'_, L, R>, pass: Pass<L>) -> Pass<L> {
     let (role, wanted) = *WORKERS.get(pass.actor()).expect(scene.rt, "a worker");
     let (pass, end) = perform_as(scene, role, pass);
-    same(scene.rt, &end, &wanted);
+    assert!(scene.rt; end == wanted);
     // The clock and this one were at work.
     if scene.at_work.fetch_sub(1, Ordering::SeqCst) == 2 {
         assert!(scene.rt; !scene.shared.stopping());
