@@ -4,6 +4,7 @@ use gw_control::Controls;
 use gw_map::{DEFAULT_SETTINGS, Settings};
 use gw_replay::{Hub, Instruction, push_reply, read_instruction};
 use std::alloc::Global;
+use std::process::Abort;
 use std::test::Fail;
 
 /// How many orders a copy of new controls has taken.
@@ -42,61 +43,61 @@ request C3 03 29 02 28 01 00 04 00 E9 03 00
 ";
 
 /// A hub as it is at first.
-fn hub_at_first(alloc: Global) -> Result<Hub, Fail> {
-    Ok(Hub::new(alloc, Settings::read(alloc, DEFAULT_SETTINGS)?)?)
+fn hub_at_first<R: Abort + AllocGlobal>(rt: &R) -> Hub {
+    let settings = Settings::read(rt.alloc(), DEFAULT_SETTINGS).expect(rt, "settings");
+    Hub::new(rt.alloc(), settings).expect(rt, "memory")
 }
 
 /// Makes the step that a line asks for, and adds the reply as a line.
-fn make(alloc: Global, hub: &mut Hub, line: &str, text: &mut Vec<u8>) -> Result<(), Fail> {
-    if let Some(Instruction::Make(step)) = read_instruction(alloc, line.as_bytes())? {
-        push_reply(text, hub.step(&step))?;
+fn make<R: Abort + AllocGlobal>(rt: &R, hub: &mut Hub, line: &str, text: &mut Vec<u8>) {
+    match read_instruction(rt.alloc(), line.as_bytes()) {
+        Ok(Some(Instruction::Make(step))) => {
+            push_reply(text, hub.step(&step)).expect(rt, "memory");
+        }
+        _ => rt.panic("a line is no step"),
     }
-    Ok(())
 }
 
 /// What the steps of these lines are answered, a line each.
-fn replies_of(alloc: Global, hub: &mut Hub, lines: &str) -> Result<Vec<u8>, Fail> {
-    let mut text = Vec::new(alloc);
+fn replies_of<R: Abort + AllocGlobal>(rt: &R, hub: &mut Hub, lines: &str) -> Vec<u8> {
+    let mut text = Vec::new(rt.alloc());
     for line in lines.lines() {
-        make(alloc, hub, line, &mut text)?;
+        make(rt, hub, line, &mut text);
     }
-    Ok(text)
+    text
 }
 
 /// A hub with an order under way, and one that waits.
-fn ordered(alloc: Global) -> Result<Hub, Fail> {
-    let mut hub = hub_at_first(alloc)?;
-    replies_of(alloc, &mut hub, ORDERED)?;
-    Ok(hub)
+fn ordered<R: Abort + AllocGlobal>(rt: &R) -> Hub {
+    let mut hub = hub_at_first(rt);
+    replies_of(rt, &mut hub, ORDERED);
+    hub
 }
 
-/// What a copy of a hub with orders is answered; one that takes the room of another hub, where there is one.
-fn replies_of_a_copy(alloc: Global, spare: Option<Hub>) -> Result<Vec<u8>, Fail> {
-    let hub = ordered(alloc)?;
-    let mut copy = match spare {
-        Some(spare) => hub.copy_over(spare)?,
-        None => hub.copy()?,
-    };
-    replies_of(alloc, &mut copy, NEXT)
+/// A copy of a hub with orders goes on as that does.
+fn check_next<R: Abort + AllocGlobal>(rt: &R, copy: &mut Hub) {
+    let replies = replies_of(rt, copy, NEXT);
+    same_list(rt, replies.as_slice(), REPLIES.as_bytes());
 }
 
 #[test]
-fn a_copy_keeps_orders(rt: HostRuntime) -> Result<(), Fail> {
-    let replies = replies_of_a_copy(rt.alloc(), None)?;
-    same_list(&rt, replies.as_slice(), REPLIES.as_bytes());
-    Ok(())
+fn a_copy_keeps_orders(rt: HostRuntime) {
+    let mut copy = ordered(&rt).copy().expect(&rt, "memory");
+    check_next(&rt, &mut copy);
+}
+
+/// A hub with orders is copied over a spare one.
+fn check_copy_over<R: Abort + AllocGlobal>(rt: &R, spare: Hub) {
+    let mut copy = ordered(rt).copy_over(spare).expect(rt, "memory");
+    check_next(rt, &mut copy);
 }
 
 #[test]
-fn a_copy_over_another_hub_keeps_orders(rt: HostRuntime) -> Result<(), Fail> {
-    let replies = replies_of_a_copy(rt.alloc(), Some(hub_at_first(rt.alloc())?))?;
-    same_list(&rt, replies.as_slice(), REPLIES.as_bytes());
-    Ok(())
+fn a_copy_over_another_hub_keeps_orders(rt: HostRuntime) {
+    check_copy_over(&rt, hub_at_first(&rt));
 }
 
 #[test]
-fn a_copy_over_a_hub_with_orders_keeps_orders(rt: HostRuntime) -> Result<(), Fail> {
-    let replies = replies_of_a_copy(rt.alloc(), Some(ordered(rt.alloc())?))?;
-    same_list(&rt, replies.as_slice(), REPLIES.as_bytes());
-    Ok(())
+fn a_copy_over_a_hub_with_orders_keeps_orders(rt: HostRuntime) {
+    check_copy_over(&rt, ordered(&rt));
 }
