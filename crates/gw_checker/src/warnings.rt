@@ -2,9 +2,8 @@
 
 use crate::warning::Warning;
 use gw_map::{Control, Operates, Outstation, Settings, Station};
-use gw_model::Poll;
+use gw_model::{ClockRule, Poll};
 use indexmap::IndexMap;
-use jiff_tz::posix;
 use std::alloc::{AllocError, Global};
 use std::io::{self, Write};
 use std::net::SocketAddr;
@@ -104,10 +103,10 @@ fn add_of_rule(found: &mut Vec<Warning>, station: &Station) -> Result<(), AllocE
 }
 
 /// How many seconds a rule's standard time and its daylight saving time are ahead of UTC; twice the same without one.
-fn seconds_ahead(rule: posix::TimeZone) -> (i32, i32) {
-    let standard = rule.std_offset.seconds;
-    match rule.dst {
-        Some(daylight) => (standard, daylight.offset.seconds),
+fn seconds_ahead(rule: ClockRule) -> (i32, i32) {
+    let standard = rule.seconds;
+    match rule.daylight {
+        Some(daylight) => (standard, daylight.seconds),
         None => (standard, standard),
     }
 }

@@ -8,13 +8,14 @@ use mir.Syntax.{w16, w64}
 use Rattle.std.proofs.lemmas.Bool.{true≢false}
 use Rattle.std.proofs.lemmas.Option.{same_Some}
 use Rattle.toml.specs.Data.{Data, Members, get_member}
+use Rattle.gw_model.specs.Rule.{IsRuleOrNone}
 use Rattle.gw_entries.specs.declared.fault.Fault.TheVariants.{Missing}
 use Rattle.gw_entries.specs.declared.fault.Section.{Section}
 use Rattle.gw_entries.specs.declared.fault.Section.TheVariants.{Station, Outstation, Point, Control}
 use Rattle.gw_entries.specs.Complaints.{complaint, placed, is_allowed, fault_of, fault_there, wrong_by, rules_wrongs, key_wrongs}
 use Rattle.gw_entries.specs.Ranges.{IsWithin, IsStation, IsOutstation}
 use Rattle.gw_entries.specs.Tables.{KeyRule, Absence, required, default, usual_type, of_station, no_rule, whole, whole_to, whole_below, outstation_position, rule, number, station_keys, outstation_keys, point_keys, control_keys}
-use Rattle.gw_entries.specs.Values.{value_or, rule_named, value_at, as_signed, number_in, station_of, outstation_of}
+use Rattle.gw_entries.specs.Values.{value_or, rule_named, value_at, as_signed, as_rule, number_in, station_of, outstation_of}
 
 -- ---- one key
 
@@ -220,15 +221,25 @@ outstation_within common position known ms within fine =
           (number_within_there 0 outstation_keys ms none "common_address" _ _ _ refl);
     }
 
+pub minutes_within : (position : ℕ) (known : List (List ℕ)) (ms : Members)
+    → placed Station position (key_wrongs 0 known station_keys ms) ≡ []
+    → (negsuc 839 ≤ℤ as_signed (value_at station_keys (codes "offset_minutes") ms))
+    × (as_signed (value_at station_keys (codes "offset_minutes") ms) ≤ℤ pos 840)
+minutes_within position known ms fine =
+    signed_within 0 station_keys ms (no_wrongs Station position 0 known station_keys ms fine) "offset_minutes" _ _ _ refl
+    refl
+
 pub station_within : (position : ℕ) (known : List (List ℕ)) (ms : Members)
-    → placed Station position (key_wrongs 0 known station_keys ms) ≡ [] → IsStation (station_of ms)
+    → placed Station position (key_wrongs 0 known station_keys ms) ≡ []
+    → IsRuleOrNone (as_rule (value_at station_keys (codes "rule") ms)) → IsStation (station_of ms)
 unfolding station_of
-station_within position known ms fine =
+station_within position known ms fine rule_in =
     let none = no_wrongs Station position 0 known station_keys ms fine in record {
       common_address = number_within 0 station_keys ms none "common_address" _ _ _ refl refl;
       master_address = (number_within 0 station_keys ms none "master_address" _ _ _ refl refl).1;
-      offset_from = (signed_within 0 station_keys ms none "offset_minutes" _ _ _ refl refl).0;
-      offset_to = (signed_within 0 station_keys ms none "offset_minutes" _ _ _ refl refl).1;
+      offset_from = (minutes_within position known ms fine).0;
+      offset_to = (minutes_within position known ms fine).1;
+      rule = rule_in;
       k = number_within 0 station_keys ms none "k" _ _ _ refl refl;
       w = number_within_to 0 station_keys ms none "w" "k" _ refl refl;
       t1_ms = number_within 0 station_keys ms none "t1_ms" _ _ _ refl refl;

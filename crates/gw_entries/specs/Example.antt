@@ -1,5 +1,5 @@
 -- A station and an outstation of which nothing is said but their addresses.
-use Rattle.std.specs.Prelude.{pos, false, None, codes}
+use Rattle.std.specs.Prelude.{pos, false, [], None, codes}
 use Rattle.gw_entries.specs.Setup.{StationSetup, OutstationSetup}
 
 abbrev pub station : StationSetup
@@ -17,6 +17,7 @@ station = record {
   select_ms = 10000;
   recorder = 1024;
   listen = codes "127.0.0.1:2404";
+  rule_text = [];
 }
 
 abbrev pub outstation : OutstationSetup

@@ -1,6 +1,7 @@
 pub mod Texts
 pub mod Shown
 pub mod Tables
+pub mod Rule
 pub mod Setup
 pub mod Values
 pub mod Complaints

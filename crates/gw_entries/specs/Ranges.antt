@@ -1,5 +1,6 @@
 -- The ranges in which the numbers of settings are.
 use Rattle.std.specs.Prelude.{ℕ, pos, negsuc, ◌≤◌, ◌<◌, ◌≤ℤ◌}
+use Rattle.gw_model.specs.Rule.{IsRuleOrNone}
 use Rattle.gw_entries.specs.Setup.{StationSetup, OutstationSetup}
 
 -- from the first to the second
@@ -11,6 +12,7 @@ pub record IsStation (s : StationSetup) : Type 0 where
   pub master_address : s.master_address ≤ 65519
   pub offset_from : negsuc 839 ≤ℤ s.offset_minutes
   pub offset_to : s.offset_minutes ≤ℤ pos 840
+  pub rule : IsRuleOrNone s.rule
   pub k : IsWithin 1 32767 s.k
   pub w : IsWithin 1 s.k s.w
   pub t1_ms : IsWithin 1 255000 s.t1_ms

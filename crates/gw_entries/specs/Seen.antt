@@ -1,6 +1,5 @@
 -- How contracts see a station and an outstation.
-use Rattle.std.specs.Prelude.{option_map, string_bytes}
-use Rattle.jiff_tz.specs.PosixText.{tz_view}
+use Rattle.std.specs.Prelude.{string_bytes}
 use Rattle.gw_entries.specs.declared.station.Station.TheInside.{Inside as StationInside}
 use Rattle.gw_entries.specs.declared.outstation.Outstation.TheInside.{Inside as OutstationInside}
 use Rattle.gw_entries.specs.Setup.{StationSetup, OutstationSetup}
@@ -10,7 +9,7 @@ station_seen s = record {
   common_address = s.common_address;
   master_address = s.master_address;
   offset_minutes = s.offset_minutes;
-  rule = option_map tz_view s.rule;
+  rule = s.rule;
   k = s.k;
   w = s.w;
   t1_ms = s.t1_ms;
@@ -20,6 +19,7 @@ station_seen s = record {
   select_ms = s.select_ms;
   recorder = s.recorder;
   listen = string_bytes s.listen;
+  rule_text = string_bytes s.rule_text;
 }
 
 abbrev pub outstation_seen : OutstationInside → OutstationSetup

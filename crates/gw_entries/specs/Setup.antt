@@ -1,6 +1,6 @@
 -- What settings are, seen as plain values.
 use Rattle.std.specs.Prelude.{ℕ, ℤ, Bool, List, Option, option_map, slice_get, unwrap_or}
-use Rattle.jiff_tz.specs.PosixText.{TzText}
+use Rattle.gw_model.specs.declared.rule.ClockRule.{ClockRule}
 use Rattle.gw_model.specs.declared.poll.Poll.{Poll}
 use Rattle.gw_model.specs.declared.point.PointKey.{PointKey}
 use Rattle.gw_entries.specs.declared.row.Show.{Show}
@@ -14,7 +14,7 @@ pub record StationSetup : Type 0 where
   -- how many minutes its clocks are ahead of UTC
   pub offset_minutes : ℤ
   -- the rule for summer time, if there is one
-  pub rule : Option TzText
+  pub rule : Option ClockRule
   -- the parameters k, w, t1, t2 and t3 of IEC 60870-5-104
   pub k : ℕ
   pub w : ℕ
@@ -26,6 +26,8 @@ pub record StationSetup : Type 0 where
   pub select_ms : ℕ
   pub recorder : ℕ
   pub listen : List ℕ
+  -- the text of the rule, with the names of its times; empty if there is no rule
+  pub rule_text : List ℕ
 
 pub record OutstationSetup : Type 0 where
   pub address : ℕ

@@ -3,12 +3,11 @@ use Prim.Native.String.{String as Name}
 use Rattle.std.specs.Prelude.{ℕ, ℤ, pos, nat_abs, Bool, false, List, [], codes, Option, Some, None, is_some, option_and_then, unwrap_or, find, bytes_eq, if◌then◌else◌}
 use Rattle.std.specs.Option.{option_or}
 use Rattle.toml.specs.Data.{Data, Members, get_member, as_integer, as_str, as_bool}
-use Rattle.jiff_tz.specs.PosixReader.{read_whole}
-use Rattle.jiff_tz.specs.PosixText.{TzText}
 use Rattle.gw_model.specs.declared.point.Kind.{Kind}
 use Rattle.gw_model.specs.declared.point.Kind.TheVariants as kind
 use Rattle.gw_model.specs.declared.point.PointKey.{PointKey}
 use Rattle.gw_model.specs.declared.poll.Poll.{Poll}
+use Rattle.gw_model.specs.declared.rule.ClockRule.{ClockRule}
 use Rattle.gw_entries.specs.declared.row.Show.{Show}
 use Rattle.gw_entries.specs.declared.control.ControlShow.{ControlShow}
 use Rattle.gw_entries.specs.declared.control.ControlShow.TheVariants as control
@@ -17,6 +16,7 @@ use Rattle.gw_entries.specs.declared.control.Mode.TheVariants.{Direct}
 use Rattle.gw_entries.specs.declared.control.Rest.{Rest}
 use Rattle.gw_entries.specs.declared.control.Rest.TheVariants.{Latch}
 use Rattle.gw_entries.specs.Texts.{among}
+use Rattle.gw_entries.specs.Rule.{rule_in}
 use Rattle.gw_entries.specs.Shown.{usual_show}
 use Rattle.gw_entries.specs.Tables.{KeyRule, Absence, default, required, usual_type, of_station, no_rule, station_keys, outstation_keys, point_keys, control_keys, kinds, shows, control_shows, modes, rests}
 use Rattle.gw_entries.specs.Setup.{StationSetup, OutstationSetup, common_at, RowFields, Operation, single, double, setpoint, ControlFields}
@@ -75,8 +75,8 @@ abbrev pub as_word : {A : Type 0} → List (List ℕ × A) → Option Data → O
 as_word pairs value = among pairs (as_text value)
 
 -- the rule of POSIX's TZ variable (IEEE Std 1003.1) that the text is; none where there is no text, or it's no rule
-abbrev pub as_rule : Option Data → Option TzText
-as_rule value = option_and_then read_whole (text_in value)
+abbrev pub as_rule : Option Data → Option ClockRule
+as_rule value = option_and_then rule_in (text_in value)
 
 abbrev pub number_in : List KeyRule → Name → Members → ℕ
 number_in rules name table = as_number (value_at rules (codes name) table)
@@ -98,6 +98,7 @@ station_of table = record {
   select_ms = number_in station_keys "select_ms" table;
   recorder = number_in station_keys "recorder" table;
   listen = as_text (value_at station_keys (codes "listen") table);
+  rule_text = as_text (value_at station_keys (codes "rule") table);
 }
 
 abbrev pub poll_of : Members → Poll

@@ -1,10 +1,9 @@
 //! One table of a settings file, and what stands at its keys.
-ghost use Rattle.std.specs.Prelude.{◌≡◌, min, map, option_map, option_copied, unwrap_or, is_some, bytes_eq, zip};
+ghost use Rattle.std.specs.Prelude.{◌≡◌, IfSome, min, map, option_map, option_copied, unwrap_or, is_some, bytes_eq, zip};
 ghost use Rattle.std.specs.List.{position_from};
-ghost use Rattle.jiff_tz.specs.PosixReader.{read_whole};
-ghost use Rattle.jiff_tz.specs.PosixText.{tz_view};
 ghost use Rattle.toml.specs.Data.{get_member};
 ghost use Rattle.toml.specs.View.{view, table_view};
+ghost use Rattle.gw_model.specs.Rule.{IsClockRule};
 ghost use Rattle.gw_entries.specs.Answers.{Passes, first, wrong_of};
 ghost use Rattle.gw_entries.specs.Complaints.{complaint, placed, present, has_type, is_allowed, fault_left_out, wrong_by, key_wrongs, rules_wrongs};
 ghost use Rattle.gw_entries.specs.Faults.{refusal_of, refused};
@@ -17,7 +16,8 @@ ghost use Rattle.gw_entries.specs.declared.fault.Fault.TheVariants.{KindMismatch
 use crate::fault::{Fault, KeyFault, Section, SettingsFault};
 use crate::key::{Absence, Key, KeyContent};
 use crate::keys::{check_keys, key_named, keys_of};
-use jiff_tz::posix;
+use crate::rule::rule_read;
+use gw_model::ClockRule;
 use std::alloc::Global;
 use toml::{Table, Value};
 
@@ -113,13 +113,6 @@ fn place_of(words: &[&'static str], text: &str) -> Option<usize>
     None
 }
 
-/// The rule of POSIX's TZ variable (IEEE Std 1003.1) that a text is, if it's one.
-fn rule_read(text: &str) -> Option<posix::TimeZone>
-    ensures { option_map tz_view result ≡ read_whole text.now }
-{
-    posix::TimeZone::parse(text.as_bytes()).ok()
-}
-
 /// A table of a section.
 #[derive(Clone, Copy)]
 pub(crate) struct Entry<'a> {
@@ -187,9 +180,10 @@ impl<'a> Entry<'a> {
     }
 
     /// A rule of POSIX's TZ variable, if one stands there.
-    pub(crate) fn rule(self, name: &str) -> Option<posix::TimeZone>
-        ensures { option_map tz_view result
+    pub(crate) fn rule(self, name: &str) -> Option<ClockRule>
+        ensures value { result
             ≡ as_rule (value_in (rules_of self.entry.section) name.now (table_view self.entry.table.now)) }
+        ensures within { IfSome result IsClockRule }
     {
         rule_read(self.value(name).text()?)
     }

@@ -11,6 +11,7 @@ mod keys;
 mod outstation;
 mod points;
 mod row;
+mod rule;
 mod station;
 
 pub use control::{Control, Mode, Operates, Pulses, Rest};

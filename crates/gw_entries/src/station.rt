@@ -8,7 +8,7 @@ ghost use Rattle.gw_entries.specs.declared.fault.Section.TheVariants.{Station as
 
 use crate::entry::Entry;
 use crate::fault::{Section, SettingsFault};
-use jiff_tz::posix;
+use gw_model::ClockRule;
 use std::alloc::Global;
 use std::marker::Model;
 use toml::Table;
@@ -23,7 +23,7 @@ pub struct Station {
     /// How many minutes its clocks are ahead of UTC, from -840 to 840.
     pub offset_minutes: i16,
     /// The rule for summer time, if there is one.
-    pub rule: Option<posix::TimeZone>,
+    pub rule: Option<ClockRule>,
     /// How many I formats may be unacknowledged, from 1 to 32767.
     pub k: u16,
     /// After how many received I formats they are acknowledged, from 1 to k.
@@ -42,6 +42,8 @@ pub struct Station {
     pub recorder: u32,
     /// Where it listens for clients.
     pub listen: String,
+    /// The text of the rule for summer time, with the names of its times; empty if there is no rule.
+    pub rule_text: String,
 }
 
 impl Model for Station {
@@ -82,5 +84,6 @@ pub fn read_station(alloc: Global, table: &Table) -> Result<Station, SettingsFau
         select_ms: entry.number_u32("select_ms"),
         recorder: entry.number_u32("recorder"),
         listen: String::from_str(alloc, entry.text("listen"))?,
+        rule_text: String::from_str(alloc, entry.text("rule"))?,
     })
 }

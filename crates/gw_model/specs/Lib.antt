@@ -1,6 +1,7 @@
 pub mod Point
 pub mod Keys
 pub mod Clocks
+pub mod Rule
 pub mod Fit
 pub mod Outcome
 pub mod Optional

@@ -8,6 +8,7 @@ mod memory;
 mod observation;
 mod point;
 mod poll;
+mod rule;
 
 pub use control::{Act, Ended, Intent, Order, Shape};
 pub use element::Element;
@@ -15,3 +16,4 @@ pub use memory::Memory;
 pub use observation::{Observation, Quality, Value};
 pub use point::{Kind, ObjectKey, PointKey, Raw, Report, Stamp};
 pub use poll::Poll;
+pub use rule::{ClockRule, Daylight, RuleDay, RuleMoment};

@@ -3,6 +3,8 @@ ghost use Rattle.std.specs.Prelude.{◌≡◌, ◌+◌, ◌*◌, ◌/◌, ◌↔
 ghost use Rattle.jiff_core.specs.Date.{IsYmd};
 ghost use Rattle.jiff_core.specs.Time.{time_nanos};
 ghost use Rattle.jiff_core.specs.DateTime.{civil_nanos};
+ghost use Rattle.gw_time.specs.Tag.{is_in_range, has_day, civil_year, time_of_day, civil_milliseconds};
+ghost use Rattle.gw_time.specs.Spelling.{numbers_at};
 
 use jiff_core::civil::{Date, DateTime, Time};
 
@@ -25,8 +27,8 @@ pub struct BinaryTime {
 }
 
 impl BinaryTime {
-    ghost use Rattle.gw_time.specs.Tag.{numbers_in, is_in_range, has_day, civil_year, time_of_day, civil_milliseconds};
-    ghost use Rattle.gw_time.specs.Spelling.{numbers_at, octets_of};
+    ghost use Rattle.gw_time.specs.Tag.{numbers_in};
+    ghost use Rattle.gw_time.specs.Spelling.{octets_of};
 
     /// The numbers in seven octets. The day of week and the reserved bits are not looked at.
     pub fn read(tag: &[u8; 7]) -> BinaryTime
@@ -68,64 +70,64 @@ impl BinaryTime {
             && self.month <= 12
             && self.year < 100
     }
+}
 
-    /// The civil time, if the month has the day.
-    pub fn civil_time(&self) -> Option<DateTime>
-        requires { IsTrue (is_in_range self.now) }
-        ensures found { IsSome result ↔ IsTrue (has_day self.now) }
-        ensures value { IfSome result
-            (λ shown. civil_nanos shown ≡ civil_milliseconds self.now *ℤ pos 1_000_000) }
-        ensures low { IfSome result (λ shown. pos 2000 ≤ℤ shown.date.year) }
-        ensures high { IfSome result (λ shown. shown.date.year ≤ℤ pos 2099) }
-    {
-        let date = self.date()?;
-        Some(DateTime {
-            date,
-            time: self.time(),
-        })
-    }
+/// The civil time of a tag, if the month has the day.
+pub(crate) fn civil_time(tag: BinaryTime) -> Option<DateTime>
+    requires { IsTrue (is_in_range tag) }
+    ensures found { IsSome result ↔ IsTrue (has_day tag) }
+    ensures value { IfSome result
+        (λ shown. civil_nanos shown ≡ civil_milliseconds tag *ℤ pos 1_000_000) }
+    ensures low { IfSome result (λ shown. pos 2000 ≤ℤ shown.date.year) }
+    ensures high { IfSome result (λ shown. shown.date.year ≤ℤ pos 2099) }
+{
+    let date = date_of(tag)?;
+    Some(DateTime {
+        date,
+        time: time_of(tag),
+    })
+}
 
-    /// The date, if the month has the day.
-    fn date(&self) -> Option<Date>
-        requires { IsTrue (is_in_range self.now) }
-        ensures found { IsSome result ↔ IsTrue (has_day self.now) }
-        ensures value { IfSome result (IsYmd (civil_year self.now) (pos self.now.month) (pos self.now.day)) }
-    {
-        let day = i8::try_from(self.day).ok()?;
-        Date::new(2000 + i16::from(self.year), self.month as i8, day).ok()
-    }
+/// The date, if the month has the day.
+fn date_of(tag: BinaryTime) -> Option<Date>
+    requires { IsTrue (is_in_range tag) }
+    ensures found { IsSome result ↔ IsTrue (has_day tag) }
+    ensures value { IfSome result (IsYmd (civil_year tag) (pos tag.month) (pos tag.day)) }
+{
+    let day = i8::try_from(tag.day).ok()?;
+    Date::new(2000 + i16::from(tag.year), tag.month as i8, day).ok()
+}
 
-    /// The time of day.
-    fn time(&self) -> Time
-        requires { IsTrue (is_in_range self.now) }
-        ensures { time_nanos result ≡ time_of_day self.now * 1_000_000 }
-    {
-        let second = self.milliseconds / 1000;
-        let nanosecond = i32::from(self.milliseconds % 1000) * 1_000_000;
-        Time::new(self.hour as i8, self.minute as i8, second as i8, nanosecond).unwrap()
-    }
+/// The time of day.
+fn time_of(tag: BinaryTime) -> Time
+    requires { IsTrue (is_in_range tag) }
+    ensures { time_nanos result ≡ time_of_day tag * 1_000_000 }
+{
+    let second = tag.milliseconds / 1000;
+    let nanosecond = i32::from(tag.milliseconds % 1000) * 1_000_000;
+    Time::new(tag.hour as i8, tag.minute as i8, second as i8, nanosecond).unwrap()
+}
 
-    /// The numbers that show a civil time of whole milliseconds.
-    pub fn showing(shown: DateTime, invalid: bool, summer: bool) -> BinaryTime
-        requires low { pos 2000 ≤ℤ shown.date.year }
-        requires high { shown.date.year ≤ℤ pos 2099 }
-        ensures minute { result.minute < 64 }
-        ensures hour { result.hour < 32 }
-        ensures numbers { (n : ℕ) → civil_nanos shown ≡ pos n *ℤ pos 1_000_000
-            → result ≡ numbers_at invalid summer n }
-    {
-        let (milliseconds, minute, hour) = numbers_of_time(shown.time);
-        let (day, month, year) = numbers_of_date(shown.date);
-        BinaryTime {
-            milliseconds,
-            minute,
-            invalid,
-            summer,
-            hour,
-            day,
-            month,
-            year,
-        }
+/// The numbers that show a civil time of whole milliseconds.
+pub(crate) fn numbers_showing(shown: DateTime, invalid: bool, summer: bool) -> BinaryTime
+    requires low { pos 2000 ≤ℤ shown.date.year }
+    requires high { shown.date.year ≤ℤ pos 2099 }
+    ensures minute { result.minute < 64 }
+    ensures hour { result.hour < 32 }
+    ensures numbers { (n : ℕ) → civil_nanos shown ≡ pos n *ℤ pos 1_000_000
+        → result ≡ numbers_at invalid summer n }
+{
+    let (milliseconds, minute, hour) = numbers_of_time(shown.time);
+    let (day, month, year) = numbers_of_date(shown.date);
+    BinaryTime {
+        milliseconds,
+        minute,
+        invalid,
+        summer,
+        hour,
+        day,
+        month,
+        year,
     }
 }
 

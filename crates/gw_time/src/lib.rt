@@ -5,6 +5,8 @@ mod binary_time;
 pub mod examples;
 mod fault;
 pub mod laws;
+mod rule;
+mod shown;
 mod tag;
 mod zone;
 

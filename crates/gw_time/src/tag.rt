@@ -6,8 +6,9 @@ ghost use Rattle.gw_time.specs.Rule.{clocks_of};
 ghost use Rattle.gw_time.specs.Window.{HasTag};
 ghost use Rattle.gw_time.specs.Spelling.{tag_showing, tag_of};
 
-use crate::binary_time::BinaryTime;
+use crate::binary_time::{BinaryTime, civil_time, numbers_showing};
 use crate::fault::TagFault;
+use crate::shown::{instant_of, shown_at};
 use crate::zone::Zone;
 use gw_model::Stamp;
 
@@ -21,10 +22,10 @@ pub fn from_tag(tag: &[u8; 7], zone: &Zone) -> Result<Stamp, TagFault>
     if !time.is_in_range() {
         return Err(TagFault::Field);
     }
-    let Some(civil) = time.civil_time() else {
+    let Some(civil) = civil_time(time) else {
         return Err(TagFault::Date);
     };
-    let instant = zone.instant_of(civil, time.summer);
+    let instant = instant_of(zone, civil, time.summer);
     Ok(if time.invalid {
         Stamp::Doubtful(instant)
     } else {
@@ -63,7 +64,7 @@ fn is_shown(instant: u64, zone: &Zone) -> bool
     ensures { (invalid : Bool) → result ≡ is_some (tag_showing invalid (is_summer (clocks_of zone.now) instant)
         (shown_at (clocks_of zone.now) instant)) }
 {
-    zone.shown_at(instant).is_some()
+    shown_at(zone, instant).is_some()
 }
 
 /// The time tag of an instant.
@@ -71,6 +72,6 @@ fn tag_at(instant: u64, invalid: bool, zone: &Zone) -> Option<[u8; 7]>
     ensures { result ≡ tag_showing invalid (is_summer (clocks_of zone.now) instant)
         (shown_at (clocks_of zone.now) instant) }
 {
-    let shown = zone.shown_at(instant)?;
-    Some(BinaryTime::showing(shown.civil, invalid, shown.summer).octets())
+    let (civil, summer) = shown_at(zone, instant)?;
+    Some(numbers_showing(civil, invalid, summer).octets())
 }

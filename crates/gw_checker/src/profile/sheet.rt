@@ -4,6 +4,7 @@ use crate::profile::commands::{write_command_transmission, write_command_types};
 use crate::profile::types::point_types;
 use gw_map::{Row, Settings, Show, Station};
 use gw_text::Plain;
+use jiff_tz::posix;
 use std::io::{self, Write};
 
 const DEVICE: &str = "Interoperability of the controlled station, IEC 60870-5-104, clause 9
@@ -189,9 +190,9 @@ fn write_functions<W: Write>(station: &Station, writer: &mut W) -> io::Result<()
         writer,
         "[x] time tags CP56Time2a: {offset} minutes ahead of UTC, "
     )?;
-    match station.rule {
-        None => writer.write_all(b"the whole year round\n"),
-        Some(rule) => writeln!(writer, "60 more with SU by the rule {rule}"),
+    match posix::TimeZone::parse(station.rule_text.as_bytes()) {
+        Err(_) => writer.write_all(b"the whole year round\n"),
+        Ok(rule) => writeln!(writer, "60 more with SU by the rule {rule}"),
     }
 }
 

@@ -3,13 +3,13 @@ use Rattle.jiff_core.specs.Date.{IsYmd}
 use Rattle.jiff_core.specs.Time.{time_nanos}
 use Rattle.gw_time.specs.Tag.{civil_year, time_of_day}
 use Rattle.gw_time.proofs.Clocks.{civil_is}
-use Rattle.gw_time.proofs.binary_time.BinaryTime.civil_time.Goals as goal
+use Rattle.gw_time.proofs.binary_time.civil_time.Goals as goal
 
 pub returns-clause-value : goal.returns-clause-value
 returns-clause-value c =
-    let x = c.args.self.now in
+    let x = c.args.tag in
     let date : IsYmd (civil_year x) (pos x.month) (pos x.day) c.in_ok-date.date =
     c.in_ok-date.ensures.value in
-    let time : time_nanos c.time.result ≡ time_of_day x * 1_000_000 =
-    c.time.ensures in
-    civil_is x (record { date = c.in_ok-date.date; time = c.time.result }) date time
+    let time : time_nanos c.time_of.result ≡ time_of_day x * 1_000_000 =
+    c.time_of.ensures in
+    civil_is x (record { date = c.in_ok-date.date; time = c.time_of.result }) date time

@@ -11,7 +11,7 @@ use Rattle.gw_time.specs.Rule.{clocks_of}
 use Rattle.gw_time.proofs.Clocks.{IsNear, nanos_in_century, timestamp_range, millisecond_range, whole_millisecond}
 use Rattle.gw_time.proofs.Parts.{minutes_within}
 use Rattle.gw_time.proofs.Rules.{zone_clocks}
-use Rattle.gw_time.proofs.zone.Zone.instant_of.Goals as goal
+use Rattle.gw_time.proofs.shown.instant_of.Goals as goal
 
 near_by : (z minutes seconds : ℤ) → seconds ≡ pos 60 *ℤ minutes
     → (z -ℤ nanos_of_seconds seconds) ≡ z -ℤ (pos 60_000_000_000 *ℤ minutes)
@@ -19,7 +19,7 @@ near_by z minutes seconds e = omega (arith, signed_arith)
 
 pub unwrap-timestamp-requires : goal.unwrap-timestamp-requires
 unwrap-timestamp-requires c =
-    let zone = c.args.self.now in
+    let zone = c.args.zone.now in
     let z = civil_nanos c.args.civil in
     let minutes = minutes_ahead (clocks_of zone) c.is_of_summer.result in
     let within = minutes_within (clocks_of zone) c.is_of_summer.result (zone_clocks zone) in
@@ -36,9 +36,9 @@ cast_back a b range e =
     omega (arith, signed_casts)
 
 near : (c : goal.After-milliseconds_of) → IsNear (civil_nanos c.args.civil)
-    (minutes_ahead (clocks_of c.args.self.now) c.is_of_summer.result) c.unwrap-timestamp.result.nanosecond
+    (minutes_ahead (clocks_of c.args.zone.now) c.is_of_summer.result) c.unwrap-timestamp.result.nanosecond
 near c =
-    let zone = c.args.self.now in
+    let zone = c.args.zone.now in
     let z = civil_nanos c.args.civil in
     let minutes = minutes_ahead (clocks_of zone) c.is_of_summer.result in
     let within = minutes_within (clocks_of zone) c.is_of_summer.result (zone_clocks zone) in
@@ -52,7 +52,7 @@ near c =
 milliseconds_within : (c : goal.After-milliseconds_of)
     → (pos 0 ≤ℤ c.milliseconds_of.result) × (c.milliseconds_of.result <ℤ pos 5_000_000_000_000)
 milliseconds_within c = rw c.milliseconds_of.ensures (millisecond_range (civil_nanos c.args.civil)
-    (minutes_ahead (clocks_of c.args.self.now) c.is_of_summer.result) _
+    (minutes_ahead (clocks_of c.args.zone.now) c.is_of_summer.result) _
     (nanos_in_century c.args.civil c.requires.low c.requires.high) (near c))
 
 pub overflow_cast-result : goal.overflow_cast-result
@@ -64,7 +64,7 @@ overflow_cast-result c =
 
 pub returns : goal.returns
 returns c m e =
-    let clocks = clocks_of c.args.self.now in
+    let clocks = clocks_of c.args.zone.now in
     cast_back c.milliseconds_of.result _ (milliseconds_within c) (c.milliseconds_of.ensures
     ∙ whole_millisecond (civil_nanos c.args.civil) (minutes_ahead clocks c.is_of_summer.result) _ m
     (nanos_in_century c.args.civil c.requires.low c.requires.high) (near c) e)

@@ -1,6 +1,6 @@
 use Rattle.gw_time.specs.declared.binary_time.BinaryTime.{BinaryTime}
 use Rattle.gw_time.proofs.Clocks.{HasNumbers, numbers_shown}
-use Rattle.gw_time.proofs.binary_time.BinaryTime.showing.Goals as goal
+use Rattle.gw_time.proofs.binary_time.numbers_showing.Goals as goal
 
 pub returns-clause-numbers : goal.returns-clause-numbers
 returns-clause-numbers c n e =

@@ -5,12 +5,12 @@ use Rattle.gw_model.specs.Clocks.{shown_at}
 use Rattle.gw_time.specs.Rule.{clocks_of}
 use Rattle.gw_time.proofs.Clocks.{window_is_of_shown, shown_nanos, shown_has_timestamp}
 use Rattle.gw_time.proofs.Rules.{zone_clocks}
-use Rattle.gw_time.proofs.zone.Zone.shown_at.Goals as goal
-use Rattle.gw_time.proofs.zone.Zone.shown_at.Goals.{In_ok-timestamp, then-civil-lt2000-via-then-civil-lt2000, then-civil-lt2000-via-else-civil-lt2000+then-civil-gt2099}
+use Rattle.gw_time.proofs.shown.shown_at.Goals as goal
+use Rattle.gw_time.proofs.shown.shown_at.Goals.{In_ok-timestamp, then-civil-lt2000-via-then-civil-lt2000, then-civil-lt2000-via-else-civil-lt2000+then-civil-gt2099}
 
 pub returns-in_err-timestamp-clause-window : goal.returns-in_err-timestamp-clause-window
 returns-in_err-timestamp-clause-window c =
-    let zone = c.args.self.now in
+    let zone = c.args.zone.now in
     rw c.from_residual.ensures (
       λ some. absurd (cc),
       λ within. absurd (cc (c.in_err-timestamp.ensures.found.1 (shown_has_timestamp (clocks_of zone) c.args.instant
@@ -20,7 +20,7 @@ returns-in_err-timestamp-clause-window c =
 pub returns-then-civil-lt2000-clause-window : goal.returns-then-civil-lt2000-clause-window
 returns-then-civil-lt2000-clause-window c =
     let t = c.args.instant in
-    let clocks = clocks_of c.args.self.now in
+    let clocks = clocks_of c.args.zone.now in
     let shown = c.to_datetime-civil.result in
     let value : civil_nanos shown ≡ shown_at clocks t *ℤ pos 1_000_000 =
     shown_nanos clocks t _ _ _ _ c.in_ok-timestamp.ensures.value
@@ -36,7 +36,7 @@ returns-then-civil-lt2000-clause-window c =
 pub returns : goal.returns
 returns c =
     let t = c.args.instant in
-    let clocks = clocks_of c.args.self.now in
+    let clocks = clocks_of c.args.zone.now in
     let shown = c.to_datetime-civil.result in
     let summer = c.is_summer-summer.ensures t c.in_ok-timestamp.ensures.value in
     let value : civil_nanos shown ≡ shown_at clocks t *ℤ pos 1_000_000 =
