@@ -1,5 +1,7 @@
 //! iec_asdu: each bit of the information elements alone, as IEC 60870-5-101, 7.2.6, numbers them, the most objects, and
 //! what one ASDU carries of a list.
+#![tactic(auto, unfolding(gw_model::specs::Rule::IsRuleOrNone))]
+
 use crate::checks::{same, same_list};
 use gw_model::{Observation, Quality, Stamp, Value};
 use gw_time::Zone;
