@@ -248,15 +248,15 @@ class Link(Line):
 
 class Outstation:
     """Where the outstation of this number is reached. It listens from the beginning, or when it is told to; `room` is
-    that of its receive buffer."""
+    that of its receive buffer, and `host` where it listens."""
 
-    def __init__(self, number, listens=True, room=None):
+    def __init__(self, number, listens=True, room=None, host=HOST):
         self.number, self.address, self.listener = number, number + 1, socket.socket()
         if room:
             narrow(self.listener, room)
-        self.listener.bind((HOST, 0))
+        self.listener.bind((host, 0))
         self.listener.settimeout(PATIENCE)
-        self.place = f"{HOST}:{self.listener.getsockname()[1]}"
+        self.place = f"{host}:{self.listener.getsockname()[1]}"
         if listens:
             self.listener.listen()
 

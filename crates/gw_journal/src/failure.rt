@@ -6,7 +6,7 @@ use std::fmt;
 use std::io::ErrorKind;
 
 /// Why a call to the system failed, as far as it makes a difference to an operator. Its number is above 0.
-#[derive(Clone, Copy, PartialEq)]
+#[derive(Clone, Copy)]
 pub enum Failure {
     /// The host takes no connection at this port.
     ConnectionRefused = 1,

@@ -68,7 +68,7 @@ enum Setting {
 }
 
 /// What a response of an outstation has that it didn't have before.
-#[derive(Clone, Copy, PartialEq)]
+#[derive(Clone, Copy)]
 pub struct Noticed {
     /// The outstation restarted.
     pub restarted: bool,
@@ -79,7 +79,7 @@ pub struct Noticed {
 }
 
 /// What is due to be told of an outstation.
-#[derive(Clone, Copy, PartialEq)]
+#[derive(Clone, Copy)]
 pub struct DueNotes {
     /// So many requests weren't answered.
     pub unanswered: Option<u64>,
@@ -90,7 +90,7 @@ pub struct DueNotes {
 }
 
 /// Fragments that were refused.
-#[derive(Clone, Copy, PartialEq)]
+#[derive(Clone, Copy)]
 pub struct Refused {
     /// Why the last one was.
     pub fault: Unreadable,

@@ -9,7 +9,7 @@ const BEFORE_OBJECTS: usize = 4;
 
 /// Why a fragment couldn't be read, with what of its octets tells an operator where. Places are counted in its object
 /// part, from 0.
-#[derive(Clone, Copy, PartialEq)]
+#[derive(Clone, Copy)]
 pub enum Unreadable {
     /// It has fewer than four octets.
     Short,

@@ -1,0 +1,446 @@
+"""A gateway that runs between peers over the loopback: how it is started, what it tells on standard error, and what its
+status shows. `.ci/serve` plays cases on it."""
+import hashlib
+import json
+import os
+import re
+import socket
+import struct
+import subprocess
+import tempfile
+import threading
+import time
+from datetime import datetime
+from pathlib import Path
+
+from cases import ROOT
+from peers import (
+    ACTIVATION, CONFIRMATION, DIRECT_OPERATE, DISABLE, HOST, INTEGRITY, INTERROGATED, NEGATIVE, NEWS, NOTE, PATIENCE,
+    WITNESSED, Centre, Difference, Line, Outstation, Witness, asdu, free_place, latch, narrow, response, same, spelled,
+)
+
+# How many seconds later than it has to be something may come, since the machine does other things too, and how much
+# earlier, since two clocks tell of it, one of them in milliseconds.
+SLACK, EARLY = 1.0, 0.01
+# How many seconds the gateway may take to end, and an event to get through it.
+END_LIMIT, EVENT_LIMIT = 1.5, 2.0
+# The clock's ticks, the pause before an outstation is connected again, and how often a client is looked at, in seconds.
+TICK, PAUSE, LOOK = 0.1, 1.0, 0.25
+# Lines that are passed over, but in cases that are about them.
+TRANSFERS = r"client \d \S+ data transfer (started|stopped)"
+COUNTS = r"outstation \d+ \S+ \d+ (requests? unanswered|octets? skipped by the link)"
+TAKEN, FREE = "all eight places are taken", "a place is free"
+OTHER_HOST = "127.0.0.2"
+GAVE_WAY = "closed: gave way to a newer connection of its address"
+TROUBLES = ("restarted (IIN1.7)", "its event buffer overflowed (IIN2.3)", "its clock can't be set (IIN1.4 stays)")
+VERSION = (ROOT / "VERSION").read_text().strip()
+
+# Each kind of line, by its priority, which a journal takes from its front: error, warning, information.
+KINDS = {
+    3: [
+        r"outstation \d+ \S+ (not connected|lost): .+",
+        r"no connection accepted: .+",
+        r"\d+ events? of controls left out",
+    ],
+    4: [
+        r"the address of outstation \d+, .+, has no port",
+        r"outstations \d+ and \d+ are both reached at .+, and have the same link address",
+        TAKEN,
+        r"[\d.]+ isn't allowed to connect(, and \d+ more)?",
+        r"the recording ended at step \d+: .+",
+        r"\d+ events? left out",
+        *(rf"outstation \d+ \S+ {re.escape(it)}" for it in TROUBLES),
+        COUNTS,
+        r"outstation \d+ \S+ unreadable: .+",
+        r"outstation \d+ \S+ order \d+ (failed|let go): .+",
+        r"client \d \S+ (lost: .+|closed: (?!the gateway ends|gave way).+)",
+        r"client \d \S+ \d+ observations? dropped, since too many waited",
+        r"client \d \S+ told: .+, negative",
+    ],
+    6: [
+        r"gateway \S+ started: .+",
+        r"listening on \S+",
+        FREE,
+        r"outstation \d+ \S+ (connected|closed: the gateway ends)",
+        r"outstation \d+ \S+ order \d+ (given: [0-9A-F ]+|done)",
+        rf"client \d \S+ (connected|data transfer (started|stopped)|closed: the gateway ends|{GAVE_WAY})",
+        r"client \d \S+ (asks: .+|told: .+: (confirmed|deactivation confirmed|terminated))",
+        "stopped",
+    ],
+}
+KINDS = {priority: re.compile("|".join(kinds)) for priority, kinds in KINDS.items()}
+
+
+def table(head, keys):
+    return f"{head}\n" + "".join(f"{key} = {json.dumps(value)}\n" for key, value in keys.items())
+
+
+def point(outstation, kind, index, address):
+    return dict(outstation=outstation, kind=kind, index=index, address=address)
+
+
+EXAMPLE = (ROOT / "examples/first.toml").read_text()
+# The points of the example; their rows at the start in answers to an interrogation.
+BINARY, ANALOG, TOTAL = 4101, 4201, 4301
+POINTS = [point(0, "binary", 5, BINARY), point(0, "analog", 0, ANALOG), point(0, "counter", 0, TOTAL)]
+OPENING = [asdu(1, INTERROGATED, BINARY, "C0"), asdu(11, INTERROGATED, ANALOG, "00 00 C0")]
+# Objects that show them as on, 10 and 42; the news of that, the rows, the news of a loss, and the rows after it.
+OBJECTS = bytes.fromhex("01 02 00 05 05 81 1E 02 00 00 00 01 0A 00 14 01 00 00 00 01 2A 00 00 00")
+BINARY_ON, BINARY_OFF = asdu(1, NEWS, BINARY, "01"), asdu(1, NEWS, BINARY, "00")
+SHOWN = [BINARY_ON, asdu(11, NEWS, ANALOG, "0A 00 00"), asdu(15, NEWS, TOTAL, "2A 00 00 00 00")]
+ROWS = [asdu(1, INTERROGATED, BINARY, "01"), asdu(11, INTERROGATED, ANALOG, "0A 00 00")]
+LOST = [asdu(1, NEWS, BINARY, "41"), asdu(11, NEWS, ANALOG, "0A 00 40"), asdu(15, NEWS, TOTAL, "2A 00 00 00 80")]
+LOST_ROWS = [asdu(1, INTERROGATED, BINARY, "41"), asdu(11, INTERROGATED, ANALOG, "0A 00 40")]
+# A control that is selected before it is executed, one whose outstation is asked by SELECT and OPERATE, and one that
+# has nothing before it.
+SWITCH, SETPOINT, DOUBLE = 5001, 5002, 5003
+CONTROLS = [
+    dict(outstation=0, show="single", index=3, address=SWITCH, select=True),
+    dict(outstation=0, show="setpoint", index=4, address=SETPOINT, mode="sbo"),
+    dict(outstation=0, show="double", index=6, address=DOUBLE),
+]
+# A command for a control without a selection, its words, what it asks for, and the negative answer to it.
+OFF_COMMAND, OFF_WORDS = asdu(46, ACTIVATION, DOUBLE, "01"), "double command 5003 off, QU 0, execute"
+OFF_REFUSED = asdu(46, CONFIRMATION | NEGATIVE, DOUBLE, "01"), "confirmed, negative"
+OFF_GIVEN = spelled(bytes([0xC1, DIRECT_OPERATE]) + latch(6, False))
+# 2023-11-14 22:13:20 in UTC, in both protocols.
+EVENT_TIME, EVENT_TAG = bytes.fromhex("00 68 E5 CF 8B 01"), "20 4E 0D 16 0E 0B 17"
+# Binary input 5 alone, on and off, and a read of it.
+ON, OFF = bytes.fromhex("01 02 00 05 05 81"), bytes.fromhex("01 02 00 05 05 01")
+READ = bytes.fromhex("66 01 05 00 01 00 05 10 00")
+
+
+def inputs(count):
+    """The objects of so many events of binary input 5."""
+    return bytes.fromhex("02 01 17") + bytes([count]) + bytes.fromhex("05 81") * count
+
+
+def counted(count, name):
+    return f"{count} {name}" if count == 1 else f"{count} {name}s"
+
+
+def start_line(file):
+    """The first line on standard error of a gateway that is started on a file."""
+    octets = Path(file).read_bytes()
+    counts = [counted(octets.count(f"[[{it}]]".encode()), it) for it in ("point", "control", "outstation")]
+    return f"gateway {VERSION} started: {file} (SHA-256 {hashlib.sha256(octets).hexdigest()}), {', '.join(counts)}"
+
+
+def answered(line):
+    """What the status answers on a connection: the code, the fields and the body."""
+    head, _, body = line.rest().decode().partition("\r\n\r\n")
+    line.connection.close()
+    first, *fields = head.split("\r\n")
+    if not fields:
+        raise Difference(f"an answer of the status: wanted one, got {head!r}")
+    return int(first.split()[1]), dict(it.split(": ") for it in fields), body
+
+
+def within(what, took, least, most):
+    if not least - EARLY <= took <= most + SLACK:
+        raise Difference(f"{what}: wanted after {least:.3f} to {most + SLACK:.3f} s, got after {took:.3f} s")
+
+
+def priority_of(text):
+    """The priority of a line, by its kind; none where it is of no kind."""
+    return next((priority for priority, kinds in KINDS.items() if kinds.fullmatch(text)), None)
+
+
+def bent_library(folder):
+    """The library that bends the system's calls, made in a folder."""
+    library, source = f"{folder}/bent_system.so", ROOT / ".ci/bent_system.c"
+    subprocess.run(["cc", "-shared", "-fPIC", "-O2", "-o", library, source], check=True)
+    return library
+
+
+class Clock:
+    """The time of day as a gateway reads it, in milliseconds since 1970: it stands still until it is set."""
+
+    def __init__(self, now):
+        self.file, self.shown = tempfile.NamedTemporaryFile(), set()
+        self.slow(0)
+        self.set(now)
+
+    def set(self, now):
+        self.shown.add(now)
+        os.pwrite(self.file.fileno(), struct.pack("<q", now), 0)
+
+    def slow(self, hundredths):
+        """Threads that have no peer take so many hundredths of a second to read it."""
+        os.pwrite(self.file.fileno(), struct.pack("<q", hundredths), 8)
+
+
+class Scene:
+    """A gateway process, the peers that it has, and what it tells on standard error."""
+
+    # What bends the system's calls.
+    library = None
+
+    def __init__(self, words):
+        self.words, self.began, self.clock = words, time.time(), None
+        # In front of each line stands its priority, where a journal takes them.
+        self.environment, self.in_journal = {}, True
+        self.outstations, self.links, self.centres = {}, {}, []
+        self.process = self.witness = None
+        self.notes, self.noted, self.passed_over = [], threading.Condition(), f"{TRANSFERS}|{COUNTS}"
+        self.file = tempfile.NamedTemporaryFile("w", suffix=".toml")
+        SCENES.append(self)
+
+    def bend(self, now=None):
+        """The gateway that is started next has its calls to the system bent, and this time of day, if one is given."""
+        self.environment["LD_PRELOAD"] = self.library
+        if now:
+            self.clock = Clock(now)
+            self.environment["TIME_OF_DAY"] = self.clock.file.name
+
+    def outstation(self, listens=True, room=None, host=HOST, place=None, **keys):
+        """One more outstation, with these keys in the settings, which may say that it is reached at another place. Unless
+        they say so it isn't polled for events."""
+        outstation = Outstation(len(self.outstations), listens, room, host)
+        outstation.place = place or outstation.place
+        self.outstations[outstation] = dict(poll_ms=60000) | keys
+        return outstation
+
+    def settings(self, station, points, controls=()):
+        """The name of a file with settings for the outstations that were made."""
+        text = table("[station]", dict(common_address=1, listen=f"{HOST}:0") | station)
+        for outstation, keys in self.outstations.items():
+            text += table("[[outstation]]", dict(address=outstation.address, connect=outstation.place) | keys)
+        text += "".join(table("[[point]]", it) for it in points if self.outstations)
+        return self.write(text + "".join(table("[[control]]", it) for it in controls))
+
+    def write(self, text):
+        """The name of the file, which has this text now."""
+        self.file.truncate(0)
+        self.file.seek(0)
+        self.file.write(text)
+        self.file.flush()
+        return self.file.name
+
+    def run(self, file, *options, **more):
+        command = [*self.words, "run", file, *options]
+        pipes = dict.fromkeys(("stdin", "stdout", "stderr"), subprocess.PIPE)
+        environment = os.environ | self.environment | ({"JOURNAL_STREAM": "8:1815"} if self.in_journal else {})
+        self.process = subprocess.Popen(command, text=True, env=environment, **pipes | more)
+
+    def start(self, sessions=None, witness=False, options=(), status=False, controls=(), **station):
+        """Starts the gateway, with a point more where it has a witness, and with an address for the status."""
+        points = list(POINTS)
+        if status:
+            self.status = free_place()
+            options = ["--status", self.status]
+        if witness:
+            feeder = self.outstation()
+            points.append(point(len(self.outstations) - 1, "analog", 9, WITNESSED) | dict(show="word"))
+        self.begin(self.settings(station, points, controls), sessions, options, **station)
+        if witness:
+            link, centre = self.accept(feeder), self.client()
+            link.send(response(0))
+            centre.start()
+            self.witness = Witness(link, centre)
+
+    def begin(self, file, sessions=None, options=(), listen=f"{HOST}:#", **_):
+        """Starts the gateway on a file, and waits until it listens. It is to end after so many connections of control
+        centres, that of the witness included, or with standard input."""
+        self.sessions = sessions
+        self.run(file, *(["--sessions", str(sessions)] if sessions else ["--until-eof"]), *options)
+        threading.Thread(target=self.hear, daemon=True).start()
+        self.told(start_line(file))
+        self.port = int(self.told(f"listening on {listen}")[0].split(":")[-1])
+
+    def hear(self):
+        """Keeps what comes on standard error: lines, and when they say they are of."""
+        for line in self.process.stderr:
+            text, at = self.note_in(line.rstrip("\n"))
+            with self.noted:
+                if not re.fullmatch(self.passed_over, text):
+                    self.notes.append((text, at))
+                    self.noted.notify_all()
+
+    def note_in(self, line):
+        """A line behind its priority and its time, which are those that it has to have; and that time."""
+        match = NOTE.fullmatch(line)
+        if not match:
+            return f"no line: {line!r}", 0
+        at, priority = datetime.fromisoformat(match[2] + "+00:00").timestamp(), priority_of(match[3])
+        if not self.is_now(at):
+            return f"no line of now: {line!r}", 0
+        if match[1] != (f"<{priority}>" if self.in_journal else None):
+            return f"no line of priority {priority}: {line!r}", 0
+        return match[3], at
+
+    def is_now(self, at):
+        """Whether the gateway's time of day was this one since it started."""
+        if self.clock:
+            return round(at * 1000) in self.clock.shown
+        return self.began - EARLY <= at <= time.time() + EARLY
+
+    def told(self, *wanted):
+        """Waits for one of these lines, in which # stands for a number, and takes it away. Gives its text and time."""
+        pattern = re.compile("|".join(re.escape(it).replace(r"\#", r"\d+") for it in wanted))
+        find = lambda: next((it for it in self.notes if pattern.fullmatch(it[0])), None)
+        with self.noted:
+            if not self.noted.wait_for(find, PATIENCE):
+                got = [text for text, _ in self.notes]
+                raise Difference(f"standard error: wanted {' or '.join(wanted)!r}, got {got}")
+            note = find()
+            self.notes.remove(note)
+        return note
+
+    def tells_nothing(self, seconds):
+        """Nothing is told for so long but what was asked for."""
+        time.sleep(seconds)
+        with self.noted:
+            same("lines on standard error", [text for text, _ in self.notes], [])
+
+    def accept(self, outstation):
+        """The gateway connects to an outstation, and asks it for all."""
+        link = self.links[outstation] = outstation.accept()
+        link.began = self.told(f"{outstation.name} connected")[1]
+        link.request(0, DISABLE if self.outstations[outstation].get("unsolicited") else INTEGRITY)
+        return link
+
+    def watched(self, status=False, **keys):
+        """Starts the gateway with a witness and one outstation more, and gives this one, which was asked for all."""
+        outstation = self.outstation(**keys)
+        self.start(sessions=1, witness=True, status=status)
+        return outstation, self.accept(outstation)
+
+    def operating(self, sessions=1, status=False, **keys):
+        """Starts the gateway with controls of an outstation, which has answered that it has nothing. Gives the
+        outstation, its connection, and a control centre that has started."""
+        outstation = self.outstation(**keys)
+        self.start(sessions=sessions, status=status, controls=CONTROLS)
+        link = self.accept(outstation)
+        link.send(response(0))
+        return outstation, link, self.started()
+
+    def asks(self, centre, command, words, order=None):
+        """A control centre sends a command, which is told of in these words, and as this order if it is one."""
+        centre.ask(command)
+        more = f": order {order}" if order else ""
+        self.told(f"{centre.name} asks: {words}, originator 0, station 1{more}")
+
+    def answers(self, centre, words, *answers):
+        """A control centre gets these answers to a command, each with how that is told."""
+        for command, what in answers:
+            centre.takes(command)
+            self.told(f"{centre.name} told: {words}, originator 0, station 1: {what}")
+
+    def lost(self, outstation, why):
+        """The connection to an outstation is lost; gives when."""
+        _, at = self.told(f"{outstation.name} {why}")
+        self.links.pop(outstation).connection.close()
+        return at
+
+    def client(self, **more):
+        """A control centre connects, and has a place."""
+        centre = Centre(self.port, **more)
+        self.seated(centre)
+        return centre
+
+    def started(self):
+        """A control centre connects, and starts."""
+        centre = self.client()
+        centre.start()
+        return centre
+
+    def seated(self, centre):
+        text, _ = self.told(f"client # {centre.address} connected")
+        centre.name, centre.place = text.removesuffix(" connected"), text.split()[1]
+        self.centres.append(centre)
+
+    def closed(self, centre, *whys):
+        """The connection of a control centre has ended for one of these reasons; gives when."""
+        self.centres.remove(centre)
+        return self.told(*(f"{centre.name} {why}" for why in whys))[1]
+
+    def leave(self, centre):
+        centre.leave()
+        self.closed(centre, "lost: end of input")
+
+    def asking(self, request=b"", room=None, host=HOST):
+        """A connection to the status from this host, on which this was sent; `room` is that of its receive buffer."""
+        connection = socket.socket()
+        if host != HOST:
+            connection.bind((host, 0))
+        if room:
+            narrow(connection, room)
+        connection.connect((HOST, int(self.status.split(":")[1])))
+        line = Line(connection)
+        line.write(request)
+        return line
+
+    def figures(self):
+        """The figures of the status, each by its name with its labels, which is of the family above it."""
+        figures, family = {}, ""
+        for line in answered(self.asking(b"GET /metrics HTTP/1.1\r\n\r\n"))[2].splitlines():
+            if line.startswith("# TYPE "):
+                family = line.split()[2]
+            elif not line.startswith("# "):
+                name, value = line.rsplit(" ", 1)
+                same("the family of a figure", name.split("{")[0], family)
+                figures[name] = float(value)
+        return figures
+
+    def has_figures(self, labels, **wanted):
+        """The status has these figures with these labels; they may be counted a moment after what they tell of."""
+        names = {f"gateway_{name}{{{labels}}}": value for name, value in wanted.items()}
+        found, end = {}, time.monotonic() + EVENT_LIMIT
+        while found != names and time.monotonic() < end:
+            figures = self.figures()
+            found = {name: figures.get(name) for name in names}
+        same("figures of the status", found, names)
+
+    def finish(self):
+        """All control centres go, or standard input ends. The gateway ends by itself, and leaves nothing behind."""
+        if self.witness:
+            self.witness.finish(EVENT_LIMIT)
+        if self.sessions:
+            for centre in list(self.centres):
+                self.leave(centre)
+        else:
+            self.process.stdin.close()
+        try:
+            status = self.process.wait(END_LIMIT)
+        except subprocess.TimeoutExpired:
+            raise Difference(f"the end: wanted {END_LIMIT} s after the last connection or input, got none") from None
+        for peer, line in [*self.links.items(), *((it, it) for it in self.centres)]:
+            line.rest()
+            self.told(f"{peer.name} closed: the gateway ends")
+        self.told("stopped")
+        written = self.process.stdout.read()
+        if not re.fullmatch(r"steps [1-9]\d*\n", written):
+            raise Difference(f"standard output: wanted 'steps N', got {written!r}")
+        same("the status", status, 0)
+        same("more lines on standard error", [text for text, _ in self.notes], [])
+
+    def kill(self):
+        if self.process:
+            self.process.kill()
+            self.process.wait(PATIENCE)
+
+    def close(self):
+        """Ends whatever is still there."""
+        self.kill()
+        for line in [*self.links.values(), *self.centres]:
+            line.connection.close()
+        for outstation in self.outstations:
+            outstation.listener.close()
+        if self.clock:
+            self.clock.file.close()
+        self.file.close()
+
+# The cases, those that are run when no other one is, and what was set up for them.
+CASES, ALONE, SCENES = [], [], []
+
+
+def case(play):
+    CASES.append(play)
+    return play
+
+
+def alone(play):
+    """A case that is run when no other one is."""
+    ALONE.append(play)
+    return play

@@ -1,0 +1,409 @@
+"""Cases of `.ci/serve`: what the status shows, as a page and as figures, and what it answers to requests."""
+import re
+import socket
+import time
+from contextlib import suppress
+
+from peers import (
+    ACTIVATION, CONFIRMATION, DIRECT_OPERATE, EVENTS, INTEGRITY, NEGATIVE, STOP, STOP_CON, TERMINATION, asdu, general,
+    i_format, latch, response, same, unsolicited,
+)
+from scene import (
+    BINARY_ON, CONTROLS, DOUBLE, LOOK, OFF_COMMAND, TROUBLES, VERSION, answered, case, inputs,
+)
+
+# ---- requests to the status
+
+HTML, PLAIN, FIGURES = (f"text/{it}; charset=utf-8" for it in ("html", "plain", "plain; version=0.0.4"))
+PAGE, METRICS = ("200 OK", HTML, "<!DOCTYPE html>\n<html lang=en>\n"), ("200 OK", FIGURES, "# HELP gateway_info ")
+MALFORMED, NOT_FOUND = "400 Bad Request", "404 Not Found"
+NOT_ALLOWED, TOO_LONG = "405 Method Not Allowed", "431 Request Header Fields Too Large"
+REQUESTS = [
+    ("GET / HTTP/1.1\r\nHost: a\r\n\r\n", PAGE),
+    ("GET /?a=/metrics HTTP/1.0\n\n", PAGE),
+    ("HEAD / HTTP/1.1\r\n\r\n", PAGE),
+    ("GET /metrics HTTP/1.1\r\nContent-Length: 9\r\n\r\nbody", METRICS),
+    ("\r\nHEAD /metrics? HTTP/1.1\r\n\r\n", METRICS),
+    # Targets in absolute form.
+    ("GET http://a/ HTTP/1.1\r\n\r\n", PAGE),
+    ("GET http://a:80/metrics?b=/ HTTP/1.1\r\n\r\n", METRICS),
+    ("HEAD http://a?b=/metrics HTTP/1.1\r\n\r\n", PAGE),
+    ("GET http://a//metrics HTTP/1.1\r\n\r\n", NOT_FOUND),
+    ("GET /http://a/metrics HTTP/1.1\r\n\r\n", NOT_FOUND),
+    ("GET /metrics/ HTTP/1.1\r\n\r\n", NOT_FOUND),
+    ("HEAD /page HTTP/1.1\r\n\r\n", NOT_FOUND),
+    ("POST /favicon.ico HTTP/1.1\r\n\r\n", NOT_FOUND),
+    ("POST / HTTP/1.1\r\n\r\n", NOT_ALLOWED),
+    ("get /metrics HTTP/1.1\r\n\r\n", NOT_ALLOWED),
+    ("GET / HTTP/2.0\r\n\r\n", MALFORMED),
+    ("\x16\x03\x01", MALFORMED),
+    ("GET /\r\n\r\n", MALFORMED),
+    ("GET / HTTP/1.1\r\na b\r\n\r\n", MALFORMED),
+    ("garbage\r\n\r\n", MALFORMED),
+    ("", None),
+    ("GET / HTTP/1.1\r\n", None),
+    # As many fields as there may be, and one more; as many octets, and one more.
+    ("GET / HTTP/1.1\r\n" + "a:\r\n" * 64 + "\r\n", PAGE),
+    ("GET / HTTP/1.1\r\n" + "a:\r\n" * 65 + "\r\n", TOO_LONG),
+    (f"GET /?{'a' * 4077} HTTP/1.1\r\n\r\n", PAGE),
+    (f"GET /?{'a' * 4078} HTTP/1.1\r\n\r\n", TOO_LONG),
+    (f"GET / HTTP/1.1\r\nA: {'b' * 5000}\r\n\r\n", TOO_LONG),
+]
+# Those that come octet by octet.
+SLOW_REQUESTS = [
+    ("GET /metrics HTTP/1.1\r\n\r\n", METRICS),
+    ("GET /metrics HTTP/1.1\r\n\r", None),
+    ("GET\t/ HTTP/1.1\r\n\r\n", MALFORMED),
+]
+
+
+def answer_to(scene, request, apart=None):
+    """What a request is answered behind which nothing more comes: all octets."""
+    line, octets = scene.asking(), b""
+    with suppress(OSError):
+        line.write(request.encode(), apart)
+        line.connection.shutdown(socket.SHUT_WR)
+    with suppress(ConnectionResetError):
+        while piece := line.connection.recv(65536):
+            octets += piece
+    line.connection.close()
+    return octets.decode()
+
+
+def judge_answer(request, got, wanted):
+    """A request is answered with what is wanted: nothing, a refusal, or what is there."""
+    is_head, what = request.lstrip().startswith("HEAD "), f"the answer to {request[:50]!r}"
+    if not wanted:
+        same(what, got, "")
+        return
+    line, content, begins = wanted if isinstance(wanted, tuple) else (wanted, PLAIN, f"{wanted}\n")
+    head, _, body = got.partition("\r\n\r\n")
+    length = re.search(r"\r\nContent-Length: (\d+)", head)
+    fields = [f"Content-Type: {content}", f"Content-Length: {length[1] if length else 'N'}", "Cache-Control: no-store",
+              *(["Allow: GET, HEAD"] if line == NOT_ALLOWED else []), "Connection: close"]
+    same(f"the head of {what}", head.split("\r\n"), [f"HTTP/1.1 {line}", *fields])
+    size = int(length[1])
+    if content == PLAIN:
+        same(f"the length of {what}", size, len(begins))
+    same(f"the body of {what}", (body[: len(begins)], len(body.encode())), ("", 0) if is_head else (begins, size))
+
+
+@case
+def requests_to_the_status(scene):
+    """what each of some requests to the status is answered: a page, figures, a refusal or nothing"""
+    scene.start(status=True)
+    for apart, requests in ((None, REQUESTS), (0.005, SLOW_REQUESTS)):
+        for request, wanted in requests:
+            judge_answer(request, answer_to(scene, request, apart), wanted)
+
+
+# ---- the whole status
+
+# When it is asked for; when the gateway started, an outstation was connected, two control centres were, and the
+# outstation answered last.
+NOW = 1_700_000_000_000
+STARTED, CONNECTED, CAME, ANSWERED = NOW - 90_061_500, NOW - 12_000_000, NOW - 3_725_000, NOW - 12_345
+# Where an outstation is said to be reached, and how lines, figures and the page show that.
+ODD = "a\"b\\c\n<&'>\t"
+ODD_LINE, ODD_LABEL, ODD_HTML = "a\"b\\c\\n<&'>\\t", "a\\\"b\\\\c\\n<&'>\\\\t", "a&quot;b\\c\\n&lt;&amp;&#39;&gt;\\t"
+
+# Each family of figures, in order, with its type and its words.
+FAMILIES = """\
+gateway_info gauge The version of the gateway.
+gateway_uptime_seconds gauge Time since the gateway started.
+gateway_steps_total counter Steps of the core.
+gateway_news_total counter Spontaneous observations.
+gateway_outstation_connected gauge Whether a connection to the outstation stands.
+gateway_outstation_connection_start_time_seconds gauge Unix time since which the connection stands.
+gateway_outstation_last_answer_time_seconds gauge Unix time of the last answer.
+gateway_outstation_requests_total counter Requests sent to the outstation.
+gateway_outstation_unanswered_requests_total counter Requests not answered in time.
+gateway_outstation_refused_fragments_total counter Fragments of the outstation that were refused.
+gateway_outstation_skipped_bytes_total counter Octets of the outstation that the link skipped.
+gateway_outstation_events_total counter Events that the outstation reported.
+gateway_outstation_indication gauge Whether the last response had this internal indication.
+gateway_outstation_orders_total counter Commands accepted as orders for the outstation.
+gateway_outstation_done_orders_total counter Orders that the outstation did.
+gateway_outstation_failed_orders_total counter Orders that failed.
+gateway_outstation_let_go_orders_total counter Orders whose client's session ended before they were given.
+gateway_outstation_waiting_orders gauge Orders that wait for the outstation, or for its answer.
+gateway_client_connected gauge Whether a client is connected at this place.
+gateway_client_connection_start_time_seconds gauge Unix time since which the connection stands.
+gateway_client_data_transfer gauge Whether data transfer is started.
+gateway_client_unacknowledged_apdus gauge I formats sent and not acknowledged.
+gateway_client_queued_observations gauge Observations that wait.
+gateway_client_dropped_observations_total counter Observations dropped since too many waited.
+gateway_client_info gauge Who is connected at this place.
+gateway_client_closes_total counter Connections of this place that ended, by cause.
+"""
+INDICATIONS = (
+    "ALL_STATIONS CLASS_1 CLASS_2 CLASS_3 NEED_TIME LOCAL_CONTROL TROUBLE RESTART NO_FUNCTION OBJECT_UNKNOWN "
+    "PARAMETER_ERROR OVERFLOW ALREADY_EXECUTING CONFIGURATION_CORRUPT").split()
+CLOSES = "t1 sequence not_started malformed flooded lost".split()
+# The figures of the outstation with trouble, and of the one that was never reached.
+OF_OUTSTATIONS = {
+    "outstation_connected": (1, 0),
+    "outstation_connection_start_time_seconds": ("1699988000.000",),
+    "outstation_last_answer_time_seconds": ("1699999987.655",),
+    "outstation_requests_total": (11, 0),
+    "outstation_unanswered_requests_total": (1, 0),
+    "outstation_refused_fragments_total": (2, 0),
+    "outstation_skipped_bytes_total": (3, 0),
+    "outstation_events_total": (29, 0),
+    "outstation_orders_total": (10, 0),
+    "outstation_done_orders_total": (5, 0),
+    "outstation_failed_orders_total": (2, 0),
+    "outstation_let_go_orders_total": (1, 0),
+    "outstation_waiting_orders": (2, 0),
+}
+# The figures of each place for a client.
+OF_CLIENTS = {
+    "client_connected": (1, 1, 0, 0, 0, 0, 0, 0),
+    "client_connection_start_time_seconds": ("1699996275.000", "1699996275.000"),
+    "client_data_transfer": (1, 0, 0, 0, 0, 0, 0, 0),
+    "client_unacknowledged_apdus": (8, 0, 0, 0, 0, 0, 0, 0),
+    "client_queued_observations": (17, 0, 0, 0, 0, 0, 0, 0),
+    "client_dropped_observations_total": (4, 0, 0, 0, 0, 0, 0, 0),
+}
+
+
+def metrics_of(outstation, centres):
+    """All figures, as text, but for the steps of the core."""
+    labels = [outstation.labels, f'outstation="1",place="{ODD_LABEL}"']
+    clients = [f'client="{place}"' for place in range(8)]
+    figures = dict(info=[(f'version="{VERSION}"', 1)], uptime_seconds="90061.500", steps_total="#", news_total=29)
+    figures |= {name: list(zip(labels, values)) for name, values in OF_OUTSTATIONS.items()}
+    figures["outstation_indication"] = [
+        (f'{labels[0]},indication="{name}"', int(name in ("CLASS_1", "NEED_TIME", "RESTART", "OVERFLOW")))
+        for name in INDICATIONS]
+    figures |= {name: list(zip(clients, values)) for name, values in OF_CLIENTS.items()}
+    figures["client_info"] = [(f'{clients[n]},address="{it.address}"', 1) for n, it in enumerate(centres)]
+    closes = {(0, "not_started"): 2, (0, "lost"): 1}
+    figures["client_closes_total"] = [
+        (f'{clients[place]},cause="{cause}"', closes.get((place, cause), 0)) for place in range(8) for cause in CLOSES]
+    text = ""
+    for name, kind, words in (it.split(" ", 2) for it in FAMILIES.splitlines()):
+        text += f"# HELP {name} {words}\n# TYPE {name} {kind}\n"
+        values = figures[name.removeprefix("gateway_")]
+        lines = [(f"{{{labels}}}", value) for labels, value in values] if isinstance(values, list) else [("", values)]
+        text += "".join(f"{name}{labels} {value}\n" for labels, value in lines)
+    return text
+
+
+# The page: its head without its style, how all is, and the tables of the outstations and of the clients.
+PAGE_HEAD = """\
+<!DOCTYPE html>
+<html lang=en>
+<head>
+<meta charset=utf-8>
+<meta name=viewport content="width=device-width, initial-scale=1">
+<meta http-equiv=refresh content=2>
+<link rel=icon href="data:,">
+<title>Not all is well - gateway</title>
+<style>
+..</style>
+</head>
+"""
+PAGE_BODY = """\
+<body>
+<h1><span class=wrong>Not all is well:</span> <strong>1 of 2 outstations connected</strong>, \
+<strong>1 with trouble</strong>, 2 of 8 clients, 1 in data transfer</h1>
+<p>At 2023-11-14T22:13:20Z. The gateway runs for 1 d 1 h, since 2023-11-13T21:12:18Z.</p>
+<p>Version {version}, # steps of the core, 29 spontaneous observations.</p>
+<h2>Outstations</h2>
+<table>
+<thead><tr><th>Outstation</th><th>State</th><th>Last answer</th><th>Indications</th><th class=number>Events</th>\
+<th class=number>Requests</th><th class=number>Unanswered</th><th class=number>Refused fragments</th>\
+<th class=number>Skipped octets</th><th>Orders</th></tr></thead>
+<tbody>
+<tr><th scope=row><i>0</i> {place}</th>\
+<td data-column=State>connected <small>for 3 h 20 min</small> <small>since 2023-11-14T18:53:20Z</small></td>\
+<td data-column="Last answer">12 s ago <small>2023-11-14T22:13:07Z</small></td>\
+<td data-column=Indications><strong>TROUBLE:</strong> CLASS_1, NEED_TIME, RESTART, OVERFLOW <small>0x0892</small></td>\
+<td class=number data-column="Events">29</td><td class=number data-column="Requests">11</td>\
+<td class=number data-column="Unanswered">1</td><td class=number data-column="Refused fragments">2</td>\
+<td class=number data-column="Skipped octets">3</td>\
+<td data-column=Orders>5 done, 2 failed, 1 let go, 2 waiting</td></tr>
+<tr><th scope=row><i>1</i> {odd}</th>\
+<td data-column=State><strong>NOT CONNECTED</strong></td><td data-column="Last answer">never</td>\
+<td data-column=Indications>none</td><td class=number data-column="Events">0</td>\
+<td class=number data-column="Requests">0</td><td class=number data-column="Unanswered">0</td>\
+<td class=number data-column="Refused fragments">0</td><td class=number data-column="Skipped octets">0</td>\
+<td data-column=Orders>none</td></tr>
+</tbody>
+</table>
+<h2>Clients</h2>
+<table>
+<thead><tr><th>Client</th><th>State</th><th>Connected</th><th class=number>Not acknowledged</th>\
+<th class=number>Queued</th><th class=number>Dropped</th><th>Ended</th></tr></thead>
+<tbody>
+<tr><th scope=row><i>0</i> {first}</th><td data-column=State>data transfer</td>\
+<td data-column=Connected>for 1 h 2 min <small>since 2023-11-14T21:11:15Z</small></td>\
+<td class=number data-column="Not acknowledged">8</td><td class=number data-column="Queued">17</td>\
+<td class=number data-column="Dropped">4</td><td data-column=Ended>2 not_started, 1 lost</td></tr>
+<tr><th scope=row><i>1</i> {second}</th><td data-column=State>connected, no data transfer</td>\
+<td data-column=Connected>for 1 h 2 min <small>since 2023-11-14T21:11:15Z</small></td>\
+<td class=number data-column="Not acknowledged">0</td><td class=number data-column="Queued">0</td>\
+<td class=number data-column="Dropped">0</td><td data-column=Ended>none</td></tr>
+{free}</tbody>
+</table>
+</body>
+</html>
+"""
+FREE_ROW = """\
+<tr class=free><th scope=row><i>{}</i></th><td data-column=State>free</td><td data-column=Connected>no</td>\
+<td class=number data-column="Not acknowledged">0</td><td class=number data-column="Queued">0</td>\
+<td class=number data-column="Dropped">0</td><td data-column=Ended>none</td></tr>
+"""
+
+
+def page_of(outstation, centres):
+    """The page, but for its style and the steps of the core."""
+    free = "".join(FREE_ROW.format(place) for place in range(2, 8))
+    first, second = (it.address for it in centres)
+    return PAGE_HEAD + PAGE_BODY.format(
+        version=VERSION, place=outstation.place, odd=ODD_HTML, first=first, second=second, free=free)
+
+
+def shown_at(scene, path):
+    """What the status shows at a path, without the number of steps."""
+    body = answered(scene.asking(f"GET {path} HTTP/1.1\r\n\r\n".encode()))[2]
+    return re.sub(r"(gateway_steps_total )\d+$|\d+( steps of the core)", r"\1#\2", body, flags=re.MULTILINE)
+
+
+def same_lines(what, got, wanted):
+    """Two texts are the same, line by line."""
+    for got_line, wanted_line in zip(got.splitlines(), wanted.splitlines()):
+        same(what, got_line, wanted_line)
+    same(what, got, wanted)
+
+
+def ended_before(scene):
+    """Three connections of control centres at place 0 end, two of them by an I format before STARTDT."""
+    for _ in range(2):
+        centre = scene.client()
+        centre.write(i_format(0, 0, general(ACTIVATION)))
+        scene.closed(centre, "closed: an I format before STARTDT")
+        centre.connection.close()
+        time.sleep(LOOK)
+    scene.leave(scene.client())
+    time.sleep(LOOK)
+
+
+def operated(link, centre):
+    """Seven orders end: five are done, by the fifth of which no session is told, and two fail; one more is let go."""
+    for number, status in zip(range(3, 9), (0, 0, 0, 0, 4, 4)):
+        centre.ask(OFF_COMMAND)
+        link.operated(number, DIRECT_OPERATE, latch(6, False), latch(6, False, status=status))
+        answers = (CONFIRMATION | NEGATIVE,) if status else (CONFIRMATION, TERMINATION)
+        centre.takes(*(asdu(46, it, DOUBLE, "01") for it in answers))
+    centre.ask(OFF_COMMAND)
+    link.request(9, bytes([DIRECT_OPERATE]) + latch(6, False))
+    centre.ask(OFF_COMMAND)
+    centre.send(STOP)
+    centre.wants(STOP_CON)
+    link.send(response(9, latch(6, False)))
+    centre.start()
+
+
+def troubled(link, centre):
+    """Octets are skipped, two fragments are refused, and of 29 events, with trouble at the end, 17 wait."""
+    link.write(bytes(3))
+    for _ in range(2):
+        link.send(bytes.fromhex("C0 01 00 00"))
+    for number in range(8):
+        link.confirmed(unsolicited(number, inputs(1)))
+        centre.takes(BINARY_ON)
+    link.confirmed(bytes.fromhex("F8 82 92 08") + inputs(21))
+
+
+@case
+def whole_status(scene):
+    """the whole of the figures and of the page, with an outstation that has trouble and one that was never reached"""
+    scene.bend(STARTED)
+    scene.passed_over += r"|.* (asks|told): .*|.* order \d+ .*"
+    outstation = scene.outstation(listens=False, response_ms=3000)
+    scene.outstation(listens=False, place=ODD)
+    scene.start(status=True, controls=CONTROLS, k=8, w=8, queue=17)
+    scene.told(f"the address of outstation 1, {ODD_LINE}, has no port")
+    scene.told(f"{outstation.name} not connected: connection refused")
+    scene.told(f"outstation 1 {ODD_LINE} not connected: no address of a host and a port")
+    # That is told again behind hours; and what the outstation's loss brings at the end finds no room.
+    scene.passed_over += r"|outstation 1 .* not connected: .*|.* 1 observation dropped, since too many waited"
+    ended_before(scene)
+    scene.clock.set(CONNECTED)
+    outstation.listener.listen()
+    link = scene.accept(outstation)
+    scene.clock.set(CAME)
+    centres = [scene.started(), scene.client()]
+    # The first request has no answer; the second one has, and events wait behind it.
+    link.request(1, INTEGRITY)
+    link.send(response(1, iin=0x02))
+    link.request(2, EVENTS)
+    link.send(response(2))
+    operated(link, centres[0])
+    centres[0].ask(OFF_COMMAND)
+    link.request(10, bytes([DIRECT_OPERATE]) + latch(6, False))
+    centres[0].ask(OFF_COMMAND)
+    scene.has_figures(outstation.labels, outstation_waiting_orders=2)
+    scene.clock.set(ANSWERED)
+    troubled(link, centres[0])
+    scene.has_figures(outstation.labels, outstation_events_total=29)
+    scene.clock.set(NOW)
+    same_lines("the figures", shown_at(scene, "/metrics"), metrics_of(outstation, centres))
+    page = re.sub("<style>\n.*</style>", "<style>\n..</style>", shown_at(scene, "/"), flags=re.DOTALL)
+    same_lines("the page", page, page_of(outstation, centres))
+    for what in TROUBLES[:2]:
+        scene.told(f"{outstation.name} {what}")
+    for _ in range(2):
+        scene.told(f"{outstation.name} unreadable: function 1, which is no response")
+    scene.told(f"{centres[0].name} 4 observations dropped, since too many waited")
+
+
+# For how many seconds the gateway runs, and how the page tells that.
+SPANS = {
+    0: "0 s", 59: "59 s", 60: "1 min 0 s", 200: "3 min 20 s", 3599: "59 min 59 s", 3600: "1 h 0 min",
+    86_399: "23 h 59 min", 86_400: "1 d 0 h", 90_061: "1 d 1 h",
+}
+
+
+@case
+def page_of_a_gateway_that_is_well(scene):
+    """the page tells that all is well where it is, and for how long the gateway runs"""
+    scene.bend(NOW)
+    outstation = scene.outstation()
+    scene.start(status=True)
+    link, _ = scene.accept(outstation), scene.started()
+    link.send(response(0, iin=0x30))
+    scene.has_figures(f'{outstation.labels},indication="LOCAL_CONTROL"', outstation_indication=1)
+    wanted = "<span class=right>All is well:</span> 1 of 1 outstations connected, 1 of 8 clients, 1 in data transfer"
+    for seconds, words in SPANS.items():
+        scene.clock.set(NOW + seconds * 1000)
+        page = shown_at(scene, "/")
+        same("how all is", re.findall("<h1>(.*)</h1>", page), [wanted])
+        same("the title of the page", re.findall("<title>(.*)</title>", page), ["All is well - gateway"])
+        runs = re.findall(r"The gateway runs for (.*), since (.*)\.</p>", page)
+        same("for how long the gateway runs", runs, [(words, "2023-11-14T22:13:20Z")])
+
+
+# The indications that tell of trouble.
+OF_TROUBLE = "TROUBLE NO_FUNCTION OBJECT_UNKNOWN PARAMETER_ERROR OVERFLOW CONFIGURATION_CORRUPT".split()
+
+
+@case
+def indications_in_the_status(scene):
+    """each internal indication alone, by its name, on the page and in the figures, and whether it tells of trouble"""
+    scene.passed_over += "|.* restarted .*|.* its event buffer overflowed .*"
+    outstation = scene.outstation()
+    scene.start(status=True)
+    # While a request isn't answered no other one is sent, whatever is indicated.
+    link = scene.accept(outstation)
+    for bit, name in enumerate([*INDICATIONS, "RESERVED", "RESERVED"]):
+        link.confirmed(bytes([0xF0 | bit, 0x82]) + (1 << bit).to_bytes(2, "little"))
+        labels = [f'gateway_outstation_indication{{{outstation.labels},indication="{it}"}}' for it in INDICATIONS]
+        figures = scene.figures()
+        same(f"figures of bit {bit}", [figures.get(it) for it in labels], [it == name for it in INDICATIONS])
+        page, trouble = shown_at(scene, "/"), "<strong>TROUBLE:</strong> " if name in OF_TROUBLE else ""
+        same(f"the page of bit {bit}", re.findall("<td data-column=Indications>(.*?)</td>", page),
+             [f"{trouble}{name} <small>0x{1 << bit:04X}</small>"])
+        same(f"how all is with bit {bit}", "1 with trouble" in page, name in OF_TROUBLE)
