@@ -1,7 +1,7 @@
 //! Rules for summer time, which jiff reads.
-ghost use Rattle.std.specs.Prelude.{◌≡◌, IsTrue, IfSome};
+ghost use Rattle.std.specs.Prelude.{◌≡◌, IfSome};
 ghost use Rattle.jiff_tz.specs.PosixText.{day_time_view, dst_view, tz_view};
-ghost use Rattle.gw_model.specs.Rule.{is_rule_day, IsRuleMoment, IsDaylight, IsClockRule};
+ghost use Rattle.gw_model.specs.Rule.{IsRuleMoment, IsDaylight, IsClockRule};
 ghost use Rattle.gw_entries.specs.Rule.{day_of, moment_of, daylight_of, rule_of, rule_in};
 
 use gw_model::{ClockRule, Daylight, RuleDay, RuleMoment};
