@@ -28,7 +28,7 @@ pub struct OutstationFigures {
     pub last_answer: Option<u64>,
     /// The requests sent to it.
     pub requests: u64,
-    /// Those after which the next was sent before their answer had ended.
+    /// Those after which the next was sent before their answer had ended. It never goes down.
     pub unanswered: u64,
     /// The fragments of it that were refused.
     pub refused: u64,
@@ -46,6 +46,8 @@ pub struct OutstationFigures {
     asked_by: u64,
     /// Whether it writes the time.
     writes_time: bool,
+    /// Whether the request before it may turn out to be unanswered.
+    doubt: Doubt,
     /// How far the setting of the clock has come, and how far it had before the last request.
     setting: Setting,
     earlier_setting: Setting,
@@ -54,6 +56,18 @@ pub struct OutstationFigures {
     refused_told: Throttle,
     /// Why the last fragment was refused that wasn't told.
     last_refused: Option<Unreadable>,
+}
+
+/// Whether the request before the last one is unanswered. A fragment is told behind the core's lock, so the end of an
+/// answer may be told behind the request that followed it.
+#[derive(Clone, Copy)]
+enum Doubt {
+    /// It was answered, or counts as unanswered.
+    Settled,
+    /// No answer of it has ended, as far as was told.
+    New,
+    /// The same, and it was looked at what is due since.
+    Looked,
 }
 
 /// How far the setting of the outstation's clock has come.
@@ -119,6 +133,7 @@ impl OutstationFigures {
             is_awaited: false,
             asked_by: 0,
             writes_time: false,
+            doubt: Doubt::Settled,
             setting: Setting::Idle,
             earlier_setting: Setting::Idle,
             unanswered_told: Throttle::new(MINUTE_MS),
@@ -136,6 +151,7 @@ impl OutstationFigures {
 
     /// The connection is lost. A request that awaited its answer counts as none that wasn't answered in time.
     pub fn lost(&mut self) {
+        self.settle();
         self.connected_since = None;
         self.before = 0;
         self.is_awaited = false;
@@ -143,15 +159,14 @@ impl OutstationFigures {
         self.earlier_setting = Setting::Idle;
     }
 
-    /// A request is sent, which the step of this number gave: whether it awaits an answer, and whether it writes the
-    /// time.
-    pub fn asked(&mut self, step: u64, awaits_answer: bool, writes_time: bool) {
+    /// A request is sent, which the step of this number gave, and whether it writes the time.
+    pub fn asked(&mut self, step: u64, writes_time: bool) {
+        self.settle();
         self.requests = self.requests.saturating_add(1);
         if self.is_awaited {
-            self.unanswered = self.unanswered.saturating_add(1);
-            self.unanswered_told.add(1);
+            self.doubt = Doubt::New;
         }
-        self.is_awaited = awaits_answer;
+        self.is_awaited = true;
         self.asked_by = step;
         self.writes_time = writes_time;
         self.earlier_setting = self.setting;
@@ -182,12 +197,22 @@ impl OutstationFigures {
         }
     }
 
+    /// The request before the last one counts as unanswered, where that was in doubt.
+    fn settle(&mut self) {
+        if let Doubt::New | Doubt::Looked = self.doubt {
+            self.doubt = Doubt::Settled;
+            self.unanswered = self.unanswered.saturating_add(1);
+            self.unanswered_told.add(1);
+        }
+    }
+
     /// What a fragment means for the request that it may answer; whether it is to be told that the clock isn't set.
-    /// Where the next request was told first, the fragment is of the one before, which counted as unanswered then.
+    /// Where the next request was told first, the fragment is of the one before.
     fn ends(&mut self, step: u64, indications: u16, solicited_end: bool) -> bool {
         if step < self.asked_by {
             return self.ends_earlier(indications, solicited_end);
         }
+        self.settle();
         let (setting, clock_not_set) = self.setting.once_answered(indications, solicited_end);
         self.setting = setting;
         self.is_awaited = self.is_awaited && !solicited_end;
@@ -198,8 +223,7 @@ impl OutstationFigures {
     /// one was.
     fn ends_earlier(&mut self, indications: u16, solicited_end: bool) -> bool {
         if solicited_end {
-            self.unanswered = self.unanswered.saturating_sub(1);
-            self.unanswered_told.take_back(1);
+            self.doubt = Doubt::Settled;
         }
         let (earlier, clock_not_set) = self
             .earlier_setting
@@ -228,6 +252,11 @@ impl OutstationFigures {
 
     /// What is due to be told, which counts as told then.
     pub fn due(&mut self, wall: u64) -> DueNotes {
+        match self.doubt {
+            Doubt::Settled => {}
+            Doubt::New => self.doubt = Doubt::Looked,
+            Doubt::Looked => self.settle(),
+        }
         DueNotes {
             unanswered: self.unanswered_told.pending(wall),
             skipped: self.skipped_told.pending(wall),

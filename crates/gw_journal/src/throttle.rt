@@ -56,13 +56,6 @@ impl Throttle {
         self.left_out = self.left_out.saturating_add(count);
     }
 
-    /// So much wasn't left out after all.
-    pub fn take_back(&mut self, count: u64)
-        ensures { self.new ≡ self.old - count }
-    {
-        self.left_out = self.left_out.saturating_sub(count);
-    }
-
     /// How much was left out, where there is some and it may be told now.
     pub fn pending(&mut self, now: u64) -> Option<u64>
         ensures told { IfSome result (λ count. count ≡ self.old) }

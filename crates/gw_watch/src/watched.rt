@@ -59,7 +59,7 @@ fn tell_noticed<R: Wait, C: Clock>(desk: &Desk<'_, R, C>, outstation: u8, notice
 fn asked<R: Wait, C: Clock>(desk: &Desk<'_, R, C>, step: u64, outstation: u8, request: &[u8]) {
     if let Some(card) = desk.board.outstation(outstation) {
         let writes_time = writes_time(request);
-        card.figures.lock(desk.rt).asked(step, true, writes_time);
+        card.figures.lock(desk.rt).asked(step, writes_time);
     }
 }
 
