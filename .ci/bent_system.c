@@ -1,13 +1,14 @@
 /* To be preloaded by a program: bends what the system tells it, for peers at some addresses, and the time of day.
  *
- * 127.101.0.N: connecting fails with the error of this number; 127.102.0.N: reading does; 127.103.0.N: writing does;
- * 127.104.0.N: accepting a connection does, which is closed.
+ * 127.101.0.N: connecting fails with the error of this number; 127.102.C.N: reading does, behind C reads that don't;
+ * 127.103.C.N: writing does, behind C writes; 127.104.0.N: accepting a connection does, which is closed.
  * 127.105.0.N: a call reads or writes N octets at most, and is interrupted once before it is made.
  * 127.106.0.N: a thread that has read from it takes N hundredths of a second each time that it reads the time of day.
  * TIME_OF_DAY: a file with the time of day in milliseconds since 1970, which stands still until the file is written, and how
  * many hundredths of a second a thread without a peer takes each time that it reads it; eight octets each. */
 #include <errno.h>
 #include <fcntl.h>
+#include <stdatomic.h>
 #include <stddef.h>
 #include <stdint.h>
 #include <stdlib.h>
@@ -24,6 +25,10 @@ struct address {
     unsigned char host[4];
     unsigned char rest[120];
 };
+
+/* How often a connection may still be read, and written, before that fails. */
+enum { MOST_CONNECTIONS = 1024 };
+static atomic_int reads_left[MOST_CONNECTIONS], writes_left[MOST_CONNECTIONS];
 
 static const volatile int64_t *time_of_day;
 static _Thread_local long slow_by;
@@ -61,6 +66,12 @@ static int fails(int error)
     return -1;
 }
 
+/* A new connection to this address may be read and written as often as its third octet says. */
+static void begin_calls(int connection, const struct address *it)
+{
+    reads_left[connection % MOST_CONNECTIONS] = writes_left[connection % MOST_CONNECTIONS] = it->host[2];
+}
+
 /* Whether this call is interrupted; the next one of its thread isn't. */
 static int interrupts(void)
 {
@@ -73,12 +84,18 @@ int connect(int connection, const void *address, unsigned int length)
     int last;
     if (length >= 8 && bent(address, &last) == CONNECTING)
         return fails(last);
+    if (length >= 8)
+        begin_calls(connection, address);
     return (int)syscall(SYS_connect, connection, address, length);
 }
 
 int accept4(int listener, void *address, unsigned int *length, int flags)
 {
+    struct address peer = {0};
+    unsigned int size = sizeof peer;
     int connection = (int)syscall(SYS_accept4, listener, address, length, flags), last;
+    if (connection >= 0 && syscall(SYS_getpeername, connection, &peer, &size) == 0)
+        begin_calls(connection, &peer);
     if (connection < 0 || bent_for(connection, &last) != ACCEPTING)
         return connection;
     close(connection);
@@ -88,7 +105,8 @@ int accept4(int listener, void *address, unsigned int *length, int flags)
 ssize_t recv(int connection, void *octets, size_t count, int flags)
 {
     int last, what = bent_for(connection, &last);
-    if (what == READING)
+    ssize_t got;
+    if (what == READING && reads_left[connection % MOST_CONNECTIONS] <= 0)
         return fails(last);
     if (what == INTERRUPTED && interrupts())
         return fails(EINTR);
@@ -96,13 +114,16 @@ ssize_t recv(int connection, void *octets, size_t count, int flags)
         count = last;
     has_peer = 1;
     slow_by = what == SLOW ? last : 0;
-    return syscall(SYS_recvfrom, connection, octets, count, flags, NULL, NULL);
+    got = syscall(SYS_recvfrom, connection, octets, count, flags, NULL, NULL);
+    if (got > 0)
+        reads_left[connection % MOST_CONNECTIONS]--;
+    return got;
 }
 
 ssize_t send(int connection, const void *octets, size_t count, int flags)
 {
     int last, what = bent_for(connection, &last);
-    if (what == WRITING)
+    if (what == WRITING && writes_left[connection % MOST_CONNECTIONS]-- <= 0)
         return fails(last);
     if (what == INTERRUPTED && interrupts())
         return fails(EINTR);

@@ -9,8 +9,8 @@ from termios import FIONREAD
 
 from peers import (
     ACTIVATION, CANCEL, CANCELLED, CONFIRMATION, DIRECT_OPERATE, EVENTS, HOST, INTEGRITY, NEGATIVE, NOTE, PATIENCE,
-    START, START_CON, STOP, STOP_CON, TERMINATION, Centre, asdu, free_place, latch, response, same, same_octets, under,
-    unsolicited,
+    START, START_CON, STOP, STOP_CON, TERMINATION, Centre, Difference, asdu, free_place, general, i_format, latch, response,
+    same, same_octets, spelled, under, unsolicited,
 )
 from scene import (
     CONTROLS, DOUBLE, END_LIMIT, LOOK, OBJECTS, OFF_COMMAND, OFF_GIVEN, OFF_REFUSED, OTHER_HOST, PAUSE, POINTS, ROWS,
@@ -100,6 +100,104 @@ def failing_reads(scene):
 def failing_writes(scene):
     """each error with which writing to an outstation fails, or to a control centre"""
     losses(scene, WRITING, "written", "a write took longer than 5000 ms")
+
+
+# What a control centre that starts and interrogates is answered, an APDU each time that it acknowledges, under k = 1.
+ANSWERS = [general(CONFIRMATION), *ROWS, general(TERMINATION)]
+
+
+def exchanges(centre):
+    """What a control centre does to get each APDU of its start and its interrogation, and how it takes it."""
+    yield lambda: centre.send(START), lambda: centre.wants(START_CON)
+    yield lambda: centre.ask(general(ACTIVATION)), lambda: centre.takes(ANSWERS[0])
+    for it in ANSWERS[1:]:
+        yield centre.acknowledge, lambda it=it: centre.takes(it)
+
+
+def interrogated(scene, hosts, what):
+    """Control centres start and interrogate, for whom behind ever more calls one fails."""
+    outstation = scene.outstation()
+    scene.start(k=1, w=1)
+    scene.accept(outstation).send(response(0, OBJECTS))
+    for count in range(len(ANSWERS) + 1):
+        centre = scene.client(host=f"127.{hosts}.{count}.{errno.EIO}")
+        yield centre, list(exchanges(centre)), count
+        scene.closed(centre, f"lost: nothing could be {what}: {FAILURES[errno.EIO]}")
+        centre.connection.close()
+
+
+@case
+def late_failing_writes(scene):
+    """a control centre to which the first write fails, or the second, and so on: it has got whole APDUs until then, and no
+    octet more; its place is free again"""
+    scene.bend()
+    for centre, steps, count in interrogated(scene, 103, "written"):
+        for ask, take in steps[:count]:
+            ask()
+            take()
+        with suppress(OSError):
+            steps[count][0]()
+        same_octets("octets behind a write that fails", centre.rest(), b"")
+
+
+@case
+def late_failing_reads(scene):
+    """a control centre from which the first read fails, or the second, and so on: what it asked before that is answered
+    but for the last, which is whole or isn't there; its place is free again"""
+    scene.bend()
+    for centre, steps, count in interrogated(scene, 102, "read"):
+        for ask, take in steps[: max(count - 1, 0)]:
+            ask()
+            take()
+        if count:
+            steps[count - 1][0]()
+            rest = centre.rest()
+            whole = [bytes.fromhex(START_CON), *(i_format(it, 1, octets) for it, octets in enumerate(ANSWERS))]
+            if rest not in (b"", whole[count - 1]):
+                raise Difference(f"the last answer: {spelled(rest)}")
+
+
+def reported(scene, hosts, what):
+    """Outstations report events, for whom behind ever more calls one fails."""
+    scene.passed_over += r"|outstation \d+ \S+ (connected|not connected: .*)"
+    outstations = [scene.outstation(host=f"127.{hosts}.{it}.{errno.EIO}") for it in range(5)]
+    scene.start()
+    for count, outstation in enumerate(outstations):
+        link = outstation.accept()
+        outstation.listener.close()
+        yield link, count
+        scene.told(f"{outstation.name} lost: nothing could be {what}: {FAILURES[errno.EIO]}")
+        link.connection.close()
+
+
+@case
+def late_failing_writes_to_outstations(scene):
+    """an outstation to which the first write fails, or the second, and so on: it has got a request and confirmations until
+    then, and no octet more"""
+    scene.bend()
+    for link, count in reported(scene, 103, "written"):
+        if count:
+            link.request(0, INTEGRITY)
+        for number in range(1, count):
+            link.confirmed(unsolicited(number, b""))
+        if count:
+            link.send(unsolicited(count, b""))
+        same_octets("octets behind a write that fails", link.rest(), b"")
+
+
+@case
+def late_failing_reads_from_outstations(scene):
+    """an outstation from which the first read fails, or the second, and so on: what it sent before is confirmed, but for
+    the last one, of which that may come"""
+    scene.bend()
+    for link, count in reported(scene, 102, "read"):
+        if not count:
+            continue
+        link.request(0, INTEGRITY)
+        for number in range(1, count):
+            link.confirmed(unsolicited(number, b""))
+        link.send(unsolicited(count, b""))
+        link.rest()
 
 
 @case
