@@ -145,12 +145,15 @@ const BY_ARITHMETIC: [Row; 2] = [
 ];
 
 /// Instants without a tag.
-const WITHOUT_TAG: [(Zone, u64); 5] = [
+const WITHOUT_TAG: [(Zone, u64); 8] = [
     (NEW_SOUTH_WALES, 4_102_405_200_000),
     (NEW_SOUTH_WALES, 946_645_199_999),
     (CENTRAL_EUROPE, 0),
     (CENTRAL_EUROPE, 253_402_207_201_000),
     (CENTRAL_EUROPE, u64::MAX),
+    (NEW_SOUTH_WALES, u64::MAX),
+    (LORD_HOWE, u64::MAX),
+    (Zone::UTC, u64::MAX),
 ];
 
 #[test]

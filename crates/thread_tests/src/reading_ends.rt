@@ -1,12 +1,12 @@
-//! Tests of client_reader: why it ends where a client's octets are wrong.
+//! Tests of client_reader: why it ends where a client's octets are wrong, or a step can't be counted.
 ghost use Rattle.std.specs.Prelude.{◌≡◌};
 
 use crate::asking::bring_up;
 use crate::checks::same;
 use crate::memory::read_client;
-use crate::opening::{hub_on, open, total_of};
+use crate::opening::{hub_on, open, settings_of, total_of};
 use gw_map::DEFAULT_SETTINGS;
-use gw_readers::{Calls, Hub, OpenGate, Pass, Shared, Why, WorkerEnd};
+use gw_readers::{Calls, Counts, Hub, OpenGate, Pass, Shared, Why, WorkerEnd};
 use iec_apci::ApciFault;
 use std::marker::Brand;
 use std::process::Abort;
@@ -29,17 +29,37 @@ const ENDS: &[(&[u8], WorkerEnd)] = &[
 fn reading_ends(rt: HostRuntime) {
     for (octets, end) in ENDS {
         let hub = hub_on(&rt, DEFAULT_SETTINGS);
-        read::<Brand, _>(&rt, Blank::new(1), hub, octets, *end);
+        read::<Brand, _>(&rt, Blank::new(1), hub, octets, *end, 2);
     }
 }
 
-/// A client comes up and sends these octets; its reader ends so, and the client is down.
+/// STARTDT act.
+const START: &[u8] = &[0x68, 0x04, 0x07, 0x00, 0x00, 0x00];
+
+/// No further session can be counted.
+const LAST_SESSION: Counts = Counts {
+    news: 0,
+    sessions: u64::MAX,
+    orders: 0,
+    steps: 0,
+};
+
+/// A session that can't be counted ends the connection, behind the call that was refused.
+#[test]
+fn spent_ends(rt: HostRuntime) {
+    let settings = settings_of(&rt, DEFAULT_SETTINGS);
+    let hub = Hub::with_counts(rt.alloc(), settings, LAST_SESSION).expect(&rt, "a hub");
+    read::<Brand, _>(&rt, Blank::new(1), hub, START, WorkerEnd::Stopping, 3);
+}
+
+/// A client comes up and sends these octets; its reader ends so, the client is down, and so many calls were made.
 fn read<L: Ledger, R: Wait + Abort + AllocGlobal>(
     rt: &R,
     blank: Blank,
     hub: Hub,
     octets: &[u8],
     wanted: WorkerEnd,
+    calls: u64,
 )
     requires name { blank.name ≡ L.name }
     requires parts { (blank.parts ≡ L.parts) × (blank.parts ≡ 1) }
@@ -49,7 +69,7 @@ fn read<L: Ledger, R: Wait + Abort + AllocGlobal>(
     assert!(rt; shared.stands(rt, 0));
     assert!(rt; end_of_reading(rt, &shared, &mut passes, octets) == wanted);
     assert!(rt; !shared.stands(rt, 0));
-    same(rt, &total_of(rt, &shared, passes), &2);
+    same(rt, &total_of(rt, &shared, passes), &calls);
 }
 
 /// Why the reader ends, which works with the last pass.

@@ -26,7 +26,8 @@ fn check<R: Abort + AllocGlobal>(rt: &R, counts: Counts, lines: &str, replies: &
     check_answers(rt, &answers, replies);
 }
 
-/// An execute that can't be counted is neither carried out nor answered: what comes next takes its number.
+/// An execute that can't be counted is neither carried out nor answered: what comes next takes its number, and is out of
+/// sequence with the one behind it.
 #[test]
 fn no_further_order(rt: HostRuntime) {
     let counts = Counts {
@@ -47,7 +48,8 @@ frame 0 0 68 0E 02 00 02 00 2D 01 06 00 01 00 89 13 00 81
 pump 0 0
 frame 0 0 68 0E 04 00 04 00 2D 01 06 00 01 00 89 13 00 01
 frame 0 0 68 0E 04 00 04 00 2D 01 06 00 01 00 89 13 00 01
-poll 0 0 0";
+poll 0 0 0
+frame 0 0 68 0D 06 00 04 00 66 01 05 00 01 00 05 10 00";
     let replies = "ok
 request C0 01 3C 02 06 3C 03 06 3C 04 06 3C 01 06
 accepted end
@@ -63,6 +65,7 @@ apdu 68 0E 02 00 04 00 2D 01 07 00 01 00 89 13 00 81
 fault 6 Spent
 fault 6 Spent
 nothing
+closed Sequence
 ";
     check(&rt, counts, lines, replies);
 }
