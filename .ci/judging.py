@@ -1,6 +1,7 @@
 """Judges of what the gateway answers: what may come, what has to come, and that nothing comes twice."""
 import re
 from collections import deque
+from dataclasses import dataclass
 
 from peers import ELEMENTS, REQUESTED, Difference, confirmation, each_alone, spelled
 from random_steps import LARGEST
@@ -33,18 +34,35 @@ def key_of(asdu):
     return ("read", asdu[3:9]) if is_read else bytes(asdu)
 
 
+@dataclass(frozen=True)
 class Wanted:
     """What an ASDU may be answered: keys, each with the keys of what follows it; and whether it may take its time."""
 
-    def __init__(self, keys, session, is_late=False):
-        self.keys, self.session, self.is_late = keys, session, is_late
+    keys: tuple
+    session: int
+    is_late: bool
+
+    def told(self, key):
+        """What is wanted behind this answer, for each way in which it is one."""
+        for known, follows in self.keys:
+            if known == key:
+                yield (Wanted(((follows[0], follows[1:]),), self.session, self.is_late),) if follows else ()
+
+
+def ways_behind(way, key):
+    """What is wanted behind an answer, for each of what was wanted that it may be an answer to."""
+    for wanted in dict.fromkeys(it for it in way if any(known == key for known, _ in it.keys)):
+        place = way.index(wanted)
+        for more in wanted.told(key):
+            yield way[:place] + more + way[place + 1 :]
 
 
 class Owed:
-    """What the ASDUs of a client are owed."""
+    """What the ASDUs of a client are owed, in each way in which what came may have answered them: one answer may be that
+    of several."""
 
     def __init__(self, setup):
-        self.setup, self.waiting = setup, []
+        self.setup, self.ways = setup, [()]
 
     def answers(self, asdu):
         """The keys of the answers to an ASDU that was taken, and whether these may take their time."""
@@ -66,28 +84,28 @@ class Owed:
 
     def ask(self, asdu, session):
         keys, is_late = self.answers(asdu)
-        self.waiting.append(Wanted(keys, session, is_late))
+        wanted = Wanted(tuple((key, tuple(follows)) for key, follows in keys.items()), session, is_late)
+        self.ways = [(*way, wanted) for way in self.ways]
 
     def tell(self, asdu):
         """The client is told this."""
         key = key_of(asdu)
-        for place, wanted in enumerate(self.waiting):
-            if key in wanted.keys:
-                follows = wanted.keys[key]
-                del self.waiting[place]
-                if follows:
-                    next_key, *others = follows
-                    self.waiting.insert(place, Wanted({next_key: others}, wanted.session, wanted.is_late))
-                return
-        raise Difference(f"an answer that nothing asked for: {spelled(asdu)}")
+        self.ways = list(dict.fromkeys(it for way in self.ways for it in ways_behind(way, key)))
+        if not self.ways:
+            raise Difference(f"an answer that nothing asked for: {spelled(asdu)}")
 
     def forget(self, session):
         """What was asked up to a session isn't owed any more."""
-        self.waiting = [it for it in self.waiting if it.session > session]
+        self.ways = list(dict.fromkeys(tuple(it for it in way if it.session > session) for way in self.ways))
+
+    @property
+    def most(self):
+        """How many ASDUs await an answer at most."""
+        return max(map(len, self.ways))
 
     @property
     def is_settled(self):
-        return all(it.is_late for it in self.waiting)
+        return any(all(it.is_late for it in way) for way in self.ways)
 
 
 class ClientModel:
@@ -130,7 +148,7 @@ class ClientModel:
         if answer_to(apdu[6:], self.setup).closes:
             return found - {"taken"} | {"closed Malformed"}
         # Each answer takes two of the 32 places at most.
-        return found | ({"closed Flooded"} if len(self.owed.waiting) >= 15 else set())
+        return found | ({"closed Flooded"} if self.owed.most >= 15 else set())
 
     def take(self, apdu):
         """An APDU was taken, or may have been."""
@@ -182,9 +200,10 @@ class ClientModel:
 
 
 def shown(asdu):
-    """The address of an observation, its type without time, and its element without time."""
+    """The common address and the object's of an observation; its type without time, and its element without time."""
     kind = TIMELESS.get(asdu[0], asdu[0])
-    return int.from_bytes(asdu[6:9], "little"), (kind, bytes(asdu[9 : 9 + ELEMENTS[kind]]))
+    place = int.from_bytes(asdu[4:6], "little"), int.from_bytes(asdu[6:9], "little")
+    return place, (kind, bytes(asdu[9 : 9 + ELEMENTS[kind]]))
 
 
 # ---- requests of the master

@@ -13,9 +13,9 @@ from cases import resources
 from judging import shown
 from peers import (
     ACTIVATION, CONFIRMATION, ELEMENTS, NOTE, PATIENCE, TERMINATION, WITNESSED, Centre, Difference, Outstation, Witness,
-    asdu, free_place, general, same_octets, spelled,
+    asdu, free_place, general, same_octets, spelled, under,
 )
-from random_steps import Setup, random_control, random_outstation, random_point, random_points, table
+from random_steps import RULES, Setup, random_control, random_outstation, random_point, random_points, table
 
 # How many hostile outstations there are at a time.
 OUTSTATIONS = 2
@@ -42,8 +42,8 @@ class Picture:
             return
         if octets[0] not in ELEMENTS:
             raise Difference(f"the honest control centre is told {spelled(octets)}, which it didn't ask for")
-        address, value = shown(octets)
-        self.values[address] = value
+        place, value = shown(octets)
+        self.values[place] = value
         self.count += 1
 
 
@@ -150,24 +150,30 @@ class House:
         self.process = self.log = self.witness = None
 
     def random_setup(self):
-        """Settings whose first outstation is the honest one, with a point, and a control that nobody else knows of."""
+        """Settings whose first outstation is the honest one, with a point, and a control that nobody else knows of; the
+        others may have common addresses of their own."""
         rng, k = self.rng, self.rng.choice([8, 12, 100])
         self.recorder = rng.choice([1, 16, 1024])
+        own = [None, *(rng.choice([None, None, 1, 2, 258, 65534]) for _ in range(OUTSTATIONS))]
+        commons = [it or 1 for it in own]
         texts = [table("[station]", common_address=1, k=k, w=rng.randint(1, 8), queue=QUEUE, recorder=self.recorder,
-                       select_ms=rng.choice([30, 10000]), listen=self.listen)]
-        for it in self.outstations:
-            keys = random_outstation(rng, it.address)[0].split("\n", 1)[1] if it.number else "poll_ms = 60000\n"
+                       select_ms=rng.choice([30, 10000]), listen=self.listen, rule=rng.choice([None, *RULES]),
+                       offset_minutes=rng.choice([0, 60, -300]))]
+        for it, common in zip(self.outstations, own):
+            keys = random_outstation(rng, it.address, common)[0].split("\n", 1)[1] if it.number else "poll_ms = 60000\n"
             keys = re.sub(r"(?m)^(address|response_ms|poll_ms = 1$).*\n", "", keys)
             texts.append(table("[[outstation]]", address=it.address, connect=it.place) + keys)
-        free = iter(rng.sample([1, 255, 256, 65536, 16777215, *range(4101, 4161)], 60))
-        points = [(*it, next(free)) for it in random_points(rng, 1 + OUTSTATIONS) if it[0]]
-        shows = ["single", "double", "setpoint"]
-        controls = [(1 + rng.randrange(OUTSTATIONS), it, next(free)) for it in shows for _ in range(2)]
+        # Under each common address each object address stands once.
+        some = [1, 255, 256, 65536, 16777215, *range(4101, 4161)]
+        free = {it: iter(rng.sample(some, 60)) for it in commons}
+        points = [(*it, next(free[commons[it[0]]])) for it in random_points(rng, 1 + OUTSTATIONS) if it[0]]
+        places = [(1 + rng.randrange(OUTSTATIONS), it) for it in ["single", "double", "setpoint"] for _ in range(2)]
+        controls = [(*it, next(free[commons[it[0]]])) for it in places]
         texts += [random_point(rng, *it) for it in points] + [random_control(rng, *it) for it in controls]
         texts.append(table("[[point]]", outstation=0, kind="analog", index=9, address=WITNESSED, show="word"))
         texts.append(table("[[control]]", outstation=0, show="single", index=3, address=OPERATED))
         points.append((0, "analog", 9, WITNESSED))
-        return Setup("\n".join(texts), [1] * (1 + OUTSTATIONS), k, 1 + OUTSTATIONS, points, controls, [])
+        return Setup("\n".join(texts), commons, k, 1 + OUTSTATIONS, points, controls, [])
 
     @property
     def memory_bound(self):
@@ -207,16 +213,18 @@ class House:
             time.sleep(0.02)
 
     def rows(self):
-        """What interrogations of the station and of its counters are answered."""
+        """What interrogations of all stations and of their counters are answered."""
         for asked in (general, lambda cause: asdu(101, cause, 0, "05")):
-            self.centre.ask(asked(ACTIVATION))
-            while (octets := self.centre.asdu())[0] < 100 or octets[2] != 10:
+            self.centre.ask(under(65535, asked(ACTIVATION)))
+            left = len(self.setup.known)
+            while left:
+                octets = self.centre.asdu()
                 self.centre.acknowledge()
+                left -= octets[0] >= 100 and octets[2] == TERMINATION
                 if octets[2] in (20, 37):
                     yield octets
                 elif octets[0] < 100:
                     self.picture.put(octets)
-            self.centre.acknowledge()
 
     def look(self):
         """Judges the process as it is now."""
@@ -234,9 +242,9 @@ class House:
     def judge_rows(self):
         """The honest control centre's last values are the gateway's."""
         for row in self.rows():
-            address, value = shown(row)
-            if address != WITNESSED and self.picture.values.get(address) != value:
-                raise Difference(f"the last value at {address}: told {self.picture.values.get(address)}, shown {value}")
+            place, value = shown(row)
+            if place != (1, WITNESSED) and self.picture.values.get(place) != value:
+                raise Difference(f"the last value at {place}: told {self.picture.values.get(place)}, shown {value}")
 
     def finish(self):
         """The honest peers were served, the gateway ends in order, and its record replays."""
