@@ -1,5 +1,5 @@
 #!/usr/bin/env -S python3 -B
-"""Runs each command of README.md, docs/REPLAY.md and docs/OPERATE.md, and compares what it writes with the document.
+"""Runs each command of README.md, SETTINGS, REPLAY and OPERATE of docs/, and compares what it writes with the document.
 
 A command is a line `$ COMMAND` that is indented by four spaces. What it writes, on both streams, stands below it, up to
 an empty line or the next command. What varies from run to run is masked on both sides: times, the ports that the system
@@ -22,7 +22,7 @@ from contextlib import suppress
 from pathlib import Path
 
 ROOT = Path(__file__).resolve().parent.parent
-DOCUMENTS = ("README.md", "docs/REPLAY.md", "docs/OPERATE.md")
+DOCUMENTS = ("README.md", "docs/SETTINGS.md", "docs/REPLAY.md", "docs/OPERATE.md")
 # Dates and times, ports that the system gives, digests, which a document may cut short by `..`, counts of steps.
 VARIES = re.compile(r"\d{4}-\d\d-\d\d|\d\d:\d\d:\d\d(\.\d{3})?|(?<=127\.0\.0\.1:)[3-6]\d{4}"
                     r"|(?<=SHA-256 )[0-9a-f]+(\.\.)?|(?<=^steps )\d+")

@@ -6,7 +6,6 @@ from random_steps import SHOWN
 
 LARGEST_FILE = 16_777_216
 ROWS, OUTSTATIONS = 20_000, 32
-SECTIONS = ("outstation", "point", "control")
 
 RULE_NAME = r"(?:[A-Za-z]{3,15}|<[A-Za-z0-9+-]{3,15}>)"
 CLOCK = r"(?::[0-5]\d(?::[0-5]\d)?)?"
