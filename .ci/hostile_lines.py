@@ -4,6 +4,7 @@ import resource
 import subprocess
 import time
 import tomllib
+import unicodedata
 from collections import deque
 from pathlib import Path
 
@@ -186,20 +187,25 @@ def replay(task):
         task.tally.seen.update(kind_of(it) for it in output.splitlines())
 
 
+def is_plain(text):
+    """Whether a text has no control character."""
+    return all(unicodedata.category(it) != "Cc" for it in text)
+
+
 def judge_settings(octets, output, complaint, status):
     """What `gateway check` writes of a file is what the tables say."""
-    lines = output.splitlines()
+    lines = output.split("\n")[:-1]
     is_refused = lines[:1] == [it for it in lines[:1] if it.startswith("refused ")] != []
     if status != is_refused or is_refused and len(lines) != 1 or not is_refused and not lines:
         raise Difference(f"status {status} and {lines[:3]}")
-    if is_refused and not complaint.strip() or not complaint.replace("\n", "").isprintable():
+    if is_refused and not complaint.strip() or not is_plain(complaint.replace("\n", "")):
         raise Difference(f"standard error: {complaint[:300]!r}")
     try:
         wanted = answer_to_settings(octets)
     except RecursionError:
         return
-    # What isn't printable of a key's name is escaped.
-    if lines != wanted and not (len(wanted) == 1 and not wanted[0].isprintable() and "UnknownKey" in lines[0]):
+    # Control characters of a key's name are escaped.
+    if lines != wanted and not (len(wanted) == 1 and not is_plain(wanted[0]) and "UnknownKey" in lines[0]):
         raise Difference(first_difference("\n".join(lines).encode(), "\n".join(wanted).encode()))
 
 
