@@ -22,6 +22,8 @@ pub const CONFIRMATION: u8 = 7;
 pub const TERMINATION: u8 = 10;
 pub const INTERROGATED: u8 = 20;
 pub const COUNTERS_REQUESTED: u8 = 37;
+/// The common address of all stations.
+pub const ALL_STATIONS: u16 = 0xFFFF;
 /// The bit of a cause that refuses.
 pub const NEGATIVE: u8 = 0x40;
 /// Bits of a single command: on, and a select.
@@ -48,16 +50,23 @@ pub fn i_format(asdu: &[u8], sent: u16, received: u16) -> Vec<u8> {
     apdu
 }
 
-/// The ASDU of an interrogation of station 1.
-pub fn interrogation(kind: u8) -> [u8; 10] {
+/// The ASDU of an interrogation of the station with a common address, or of all.
+pub fn interrogation(kind: u8, common: u16) -> [u8; 10] {
     let qualifier = if kind == GENERAL { GENERAL_QUALIFIER } else { COUNTERS_QUALIFIER };
-    [kind, 1, ACTIVATION, 0, 1, 0, 0, 0, 0, qualifier]
+    let [common_low, common_high] = common.to_le_bytes();
+    [kind, 1, ACTIVATION, 0, common_low, common_high, 0, 0, 0, qualifier]
 }
 
-/// The ASDU of a single command, on, at station 1.
-pub fn command(address: u32, is_select: bool) -> [u8; 10] {
-    let [low, middle, high, _] = address.to_le_bytes();
-    [COMMAND, 1, ACTIVATION, 0, 1, 0, low, middle, high, if is_select { ON | SELECT } else { ON }]
+/// The ASDU of a single command, on.
+pub fn command(common: u16, address: u32, is_select: bool) -> [u8; 10] {
+    let ([common_low, common_high], [low, middle, high, _]) = (common.to_le_bytes(), address.to_le_bytes());
+    let element = if is_select { ON | SELECT } else { ON };
+    [COMMAND, 1, ACTIVATION, 0, common_low, common_high, low, middle, high, element]
+}
+
+/// The common address of an ASDU.
+pub fn common_of(asdu: &[u8]) -> u16 {
+    u16::from_le_bytes([asdu[4], asdu[5]])
 }
 
 /// An APDU that came.
@@ -89,6 +98,7 @@ pub fn read(octets: &[u8]) -> Result<Option<(usize, Apdu)>, String> {
 
 /// An object of process information.
 pub struct Object {
+    pub common: u16,
     pub address: u32,
     pub value: u32,
     pub quality: u8,
@@ -107,9 +117,10 @@ pub fn objects(asdu: &[u8]) -> Result<Vec<Object>, String> {
     let (element, is_total) = (5 + time, matches!(asdu[0], 15 | 37));
     let (count, is_sequence) = (usize::from(asdu[1] & !SQ), asdu[1] & SQ != 0);
     let each = if is_sequence { element } else { element + 3 };
-    if count == 0 || asdu.len() != 6 + count * each + if is_sequence { 3 } else { 0 } || asdu[3..6] != [0, 1, 0] {
+    if count == 0 || asdu.len() != 6 + count * each + if is_sequence { 3 } else { 0 } || asdu[3] != 0 {
         return Err(wrong());
     }
+    let common = common_of(asdu);
     let address_at = |at: usize| u32::from_le_bytes([asdu[at], asdu[at + 1], asdu[at + 2], 0]);
     let object = |place: usize| {
         let (address, at) = if is_sequence {
@@ -120,7 +131,7 @@ pub fn objects(asdu: &[u8]) -> Result<Vec<Object>, String> {
         let value = u32::from_le_bytes([asdu[at], asdu[at + 1], asdu[at + 2], asdu[at + 3]]);
         // A total has its sequence number, carry and adjustment beside IV.
         let quality = if is_total { asdu[at + 4] & IV } else { asdu[at + 4] };
-        Object { address, value, quality, time: asdu[at + 5..at + element].try_into().ok() }
+        Object { common, address, value, quality, time: asdu[at + 5..at + element].try_into().ok() }
     };
     Ok((0..count).map(object).collect())
 }

@@ -1,7 +1,7 @@
 //! One connection of a control centre.
 use crate::apdu::{
-    i_format, interrogation, read, s_format, Apdu, COMMAND, COUNTERS, GENERAL, START, START_CON_FUNCTION, STOP,
-    STOP_CON_FUNCTION, TEST, TEST_CON, TEST_CON_FUNCTION, TEST_FUNCTION,
+    i_format, interrogation, read, s_format, Apdu, ALL_STATIONS, COMMAND, COUNTERS, GENERAL, START, START_CON_FUNCTION,
+    STOP, STOP_CON_FUNCTION, TEST, TEST_CON, TEST_CON_FUNCTION, TEST_FUNCTION,
 };
 use crate::board::Phase;
 use crate::centre::{Desk, House};
@@ -351,8 +351,10 @@ impl<'a> Connection<'a> {
         let t1_us = self.rhythm.us(self.rhythm.t1_ms);
         let has_rested = now > self.hold_us.max(self.deaf_us) + t1_us / 4;
         match self.random.within(0, 100) {
-            0..=29 => self.interrogate(GENERAL, now),
-            30..=49 => self.interrogate(COUNTERS, now),
+            0..=19 => self.interrogate(GENERAL, ALL_STATIONS, now),
+            20..=29 => self.interrogate_one(GENERAL, now),
+            30..=39 => self.interrogate(COUNTERS, ALL_STATIONS, now),
+            40..=49 => self.interrogate_one(COUNTERS, now),
             50..=64 => self.test(now, 1),
             65..=88 if !has_rested => Ok(()),
             65..=76 => {
@@ -383,12 +385,19 @@ impl<'a> Connection<'a> {
         self.put(&START)
     }
 
-    fn interrogate(&mut self, kind: u8, now: u64) -> Result<(), End> {
+    /// Interrogates the station of an outstation, by chance.
+    fn interrogate_one(&mut self, kind: u8, now: u64) -> Result<(), End> {
+        let sites = &self.house.scene.sites;
+        let site = self.random.within(0, sites.len() as u64) as usize;
+        self.interrogate(kind, sites[site].common_address(), now)
+    }
+
+    fn interrogate(&mut self, kind: u8, common: u16, now: u64) -> Result<(), End> {
         let Some(session) = self.session.as_mut().filter(|it| !it.is_asking()) else { return Ok(()) };
-        session.ask(&self.house.scene.sites, kind, now);
+        session.ask(&self.house.scene.sites, kind, common, now);
         self.note(if kind == GENERAL { "station interrogation" } else { "counter interrogation" });
         self.asked_us = now;
-        self.put_i(&interrogation(kind), now)
+        self.put_i(&interrogation(kind, common), now)
     }
 
     /// Selects and executes, where no trouble is made.
@@ -422,7 +431,7 @@ impl<'a> Connection<'a> {
         if self.tests > 0 {
             return Ok(());
         }
-        self.interrogate(GENERAL, now)?;
+        self.interrogate(GENERAL, ALL_STATIONS, now)?;
         self.test(now, TESTS)?;
         self.note_acknowledged();
         self.desk.counts.s_formats.fetch_add(S_FORMATS as u64, Relaxed);
@@ -476,7 +485,7 @@ impl<'a> Connection<'a> {
                 Err(End::Wanted { is_whole: false })
             }
             Leaving::WithinApdu => {
-                let apdu = i_format(&interrogation(GENERAL), self.numbers.sent, self.numbers.received);
+                let apdu = i_format(&interrogation(GENERAL, ALL_STATIONS), self.numbers.sent, self.numbers.received);
                 let front = self.random.within(1, apdu.len() as u64) as usize;
                 self.put(&apdu[..front])?;
                 Err(End::Wanted { is_whole: false })
@@ -503,7 +512,7 @@ impl<'a> Connection<'a> {
             true => self.go(true),
             false if is_silent => {
                 self.asked_last = true;
-                self.interrogate(GENERAL, now)
+                self.interrogate(GENERAL, ALL_STATIONS, now)
             }
             false => Ok(()),
         }
@@ -618,7 +627,7 @@ impl<'a> Connection<'a> {
                 self.desk.counts.sessions.fetch_add(1, Relaxed);
                 self.note("STARTDT con");
                 if self.plan.is_calm || self.random.percent(70) {
-                    return self.interrogate(GENERAL, now);
+                    return self.interrogate(GENERAL, ALL_STATIONS, now);
                 }
             }
             STOP_CON_FUNCTION if self.stopping_us.take().is_some() => {

@@ -44,9 +44,10 @@ pub fn settings(station: &Station, rhythm: &Rhythm, sites: &[Site], ports: &[u16
     for (site, port) in sites.iter().zip(ports) {
         let _ = write!(
             text,
-            "[[outstation]]\naddress = {}\nconnect = \"127.0.0.1:{port}\"\npoll_ms = {poll_ms}\n\
+            "[[outstation]]\naddress = {}\ncommon_address = {}\nconnect = \"127.0.0.1:{port}\"\npoll_ms = {poll_ms}\n\
              integrity_ms = {integrity_ms}\nresponse_ms = {response_ms}\nunsolicited = {}\nlan_time = {}\n",
             site.link_address(),
+            site.common_address(),
             site.manner.is_unsolicited,
             rhythm.need_time_ms > 0
         );

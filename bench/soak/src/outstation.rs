@@ -132,9 +132,14 @@ impl Site {
         self.number as u16 + 1
     }
 
-    /// The information object address of a point.
+    /// The common address, which two outstations share.
+    pub fn common_address(&self) -> u16 {
+        self.number as u16 / 2 + 1
+    }
+
+    /// The information object address of a point, which each second outstation has as well.
     pub fn address_of(&self, point: u16) -> u32 {
-        (self.number as u32 + 1) << 16 | u32::from(point)
+        (self.number as u32 % 2 + 1) << 16 | u32::from(point)
     }
 
     /// The information object address of a control.

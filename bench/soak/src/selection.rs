@@ -68,7 +68,9 @@ impl Selection {
             _ => return None,
         }
         self.next_us = now;
-        self.sent = command(sites[self.site].control_address(self.client), self.stage == Stage::Selecting);
+        let site = &sites[self.site];
+        let address = site.control_address(self.client);
+        self.sent = command(site.common_address(), address, self.stage == Stage::Selecting);
         Some(self.sent)
     }
 

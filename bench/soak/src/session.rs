@@ -1,7 +1,7 @@
 //! What one data transfer of a control centre has to be: its news and its interrogations, judged against the ledgers.
 use crate::apdu::{
-    objects, Object, CONFIRMATION, COUNTERS, COUNTERS_REQUESTED, GENERAL, INTERROGATED, IV, NT, SPONTANEOUS,
-    TERMINATION,
+    common_of, objects, Object, ALL_STATIONS, CONFIRMATION, COUNTERS, COUNTERS_REQUESTED, GENERAL, INTERROGATED, IV,
+    NT, SPONTANEOUS, TERMINATION,
 };
 use crate::calendar::Civil;
 use crate::histogram::Histogram;
@@ -48,6 +48,10 @@ pub struct Doubt {
 struct Asked {
     kind: u8,
     at_us: u64,
+    /// The stations that have not answered, by their common addresses; the first one is to, or does.
+    stations: Range<u16>,
+    /// A station has confirmed it; and the first of these has.
+    has_begun: bool,
     is_confirmed: bool,
     /// Of each outstation, the last object that was confirmed before the interrogation, and that of each point.
     confirmed: Vec<u32>,
@@ -123,11 +127,13 @@ impl Session {
         self.asked.is_some()
     }
 
-    /// An interrogation is about to be sent.
-    pub fn ask(&mut self, sites: &[Site], kind: u8, now: u64) {
+    /// An interrogation of the station with a common address is about to be sent, or of all.
+    pub fn ask(&mut self, sites: &[Site], kind: u8, common: u16, now: u64) {
         self.asked = Some(Asked {
             kind,
             at_us: now,
+            stations: if common == ALL_STATIONS { stations(sites) } else { common..common + 1 },
+            has_begun: false,
             is_confirmed: false,
             confirmed: before(sites),
             floor: sites.iter().map(|it| it.ledger().confirmed_values()).collect(),
@@ -149,9 +155,9 @@ impl Session {
             return Err(format!("an ASDU that is too short: {asdu:02X?}"));
         }
         match (asdu[0], asdu[2]) {
-            (kind @ (GENERAL | COUNTERS), cause) => self.take_answer(sites, kind, cause, now),
+            (kind @ (GENERAL | COUNTERS), cause) => self.take_answer(sites, kind, cause, common_of(asdu), now),
             (_, SPONTANEOUS) => {
-                if self.asked.as_ref().is_some_and(|it| it.is_confirmed) {
+                if self.asked.as_ref().is_some_and(|it| it.has_begun) {
                     return Err(format!("news within the answer to an interrogation: {asdu:02X?}"));
                 }
                 for object in objects(asdu)? {
@@ -169,12 +175,15 @@ impl Session {
         }
     }
 
-    /// The confirmation or the termination of an interrogation.
-    fn take_answer(&mut self, sites: &[Site], kind: u8, cause: u8, now: u64) -> Result<(), String> {
-        let asked = self.asked.as_mut().filter(|it| it.kind == kind);
+    /// The confirmation or the termination of an interrogation, of one station.
+    fn take_answer(&mut self, sites: &[Site], kind: u8, cause: u8, common: u16, now: u64) -> Result<(), String> {
+        let asked = self.asked.as_mut().filter(|it| it.kind == kind && it.stations.start == common);
         match (asked, cause) {
             (Some(asked), CONFIRMATION) if !asked.is_confirmed => {
                 asked.is_confirmed = true;
+                if std::mem::replace(&mut asked.has_begun, true) {
+                    return Ok(());
+                }
                 // All news that were confirmed before the act went before its answer.
                 for (site, last) in asked.confirmed.iter().enumerate() {
                     self.gaps.extend(self.fronts[site].advance(site, *last + 1));
@@ -182,18 +191,21 @@ impl Session {
                 }
             }
             (Some(asked), TERMINATION) if asked.is_confirmed => {
-                for (site, shown) in sites.iter().zip(&asked.shown) {
+                for (site, shown) in sites.iter().zip(&asked.shown).filter(|it| it.0.common_address() == common) {
                     let points =
                         if kind == GENERAL { 0..site.manner.analogs } else { site.manner.analogs..site.points() };
                     if let Some(point) = points.clone().find(|it| !shown[usize::from(*it)]) {
                         return Err(format!("an answer without a row at address {}", site.address_of(point)));
                     }
                 }
-                self.doubt(now);
-                self.asked = None;
-                self.answers += 1;
+                (asked.stations.start, asked.is_confirmed) = (common + 1, false);
+                if asked.stations.is_empty() {
+                    self.doubt(now);
+                    self.asked = None;
+                    self.answers += 1;
+                }
             }
-            _ => return Err(format!("type {kind} with cause {cause}, which isn't to be expected")),
+            _ => return Err(format!("type {kind} with cause {cause} of station {common}, which isn't to be expected")),
         }
         Ok(())
     }
@@ -247,7 +259,8 @@ impl Session {
     fn take_row(&mut self, sites: &[Site], object: &Object, cause: u8) -> Result<(), String> {
         let (site, point) = point_at(sites, object)?;
         let wanted = if point < sites[site].manner.analogs { INTERROGATED } else { COUNTERS_REQUESTED };
-        let Some(asked) = self.asked.as_mut().filter(|it| it.is_confirmed && cause == wanted) else {
+        let is_asked = |it: &&mut Asked| it.is_confirmed && it.stations.start == object.common && cause == wanted;
+        let Some(asked) = self.asked.as_mut().filter(is_asked) else {
             return Err(wrong(object, "a row that wasn't asked for", 0));
         };
         if object.time.is_some() {
@@ -300,19 +313,24 @@ fn count_day(days: &mut Days, object: &Object, stamp_ms: Option<u64>) -> Result<
     Ok(())
 }
 
+/// The common addresses of outstations.
+fn stations(sites: &[Site]) -> Range<u16> {
+    1..1 + sites.iter().map(Site::common_address).max().unwrap_or(0)
+}
+
 /// The place of the outstation and the point that an object is of.
 fn point_at(sites: &[Site], object: &Object) -> Result<(usize, u16), String> {
-    let place = ((object.address >> 16) as usize).wrapping_sub(1);
     let point = object.address as u16;
-    match sites.get(place) {
-        Some(site) if point < site.points() => Ok((place, point)),
+    let is_of = |it: &Site| it.common_address() == object.common && it.address_of(point) == object.address;
+    match sites.iter().position(is_of) {
+        Some(place) if point < sites[place].points() => Ok((place, point)),
         _ => Err(wrong(object, "an object of no point", 0)),
     }
 }
 
 fn wrong(object: &Object, what: &str, than: u32) -> String {
-    let Object { address, value, quality, .. } = object;
-    format!("{what}: address {address}, value {value}, quality {quality:02X}; {than} was known")
+    let Object { common, address, value, quality, .. } = object;
+    format!("{what}: station {common}, address {address}, value {value}, quality {quality:02X}; {than} was known")
 }
 
 #[cfg(test)]
@@ -408,7 +426,7 @@ mod tests {
         let sites = site();
         let mut session = session(&sites);
         takes(&mut session, &sites, &[news(0, 3)])?;
-        session.ask(&sites, GENERAL, now_us());
+        session.ask(&sites, GENERAL, ALL_STATIONS, now_us());
         takes(&mut session, &sites, answer).map(|()| session)
     }
 
@@ -433,6 +451,38 @@ mod tests {
         ] {
             assert!(interrogation(&wrong).is_err(), "{wrong:02X?}");
         }
+    }
+
+    /// The answer of a station with so many outstations, each with a point of which nothing was told.
+    fn answer_of(common: u8, outstations: u8) -> Vec<Vec<u8>> {
+        let of_station = |kind, cause, place| {
+            let mut octets = asdu(kind, cause, 0, 0, NT);
+            (octets[4], octets[8]) = (common, place);
+            octets
+        };
+        let mut answer = vec![of_station(GENERAL, CONFIRMATION, 0)];
+        answer.extend((1..=outstations).map(|place| of_station(7, INTERROGATED, place)));
+        answer.push(of_station(GENERAL, TERMINATION, 0));
+        answer
+    }
+
+    #[test]
+    fn stations_answer_one_after_the_other() {
+        let judged = |common, answers: &[Vec<u8>]| {
+            let sites = [0, 1, 2].map(|number| Site::new(number, Manner { analogs: 1, ..site()[0].manner }));
+            let mut session = Session::new(&sites, &before(&sites));
+            session.ask(&sites, GENERAL, common, now_us());
+            let mut taken = answers.iter().map(|it| session.take(&sites, it, now_us(), &mut None));
+            taken.all(|it| it.is_ok()).then_some(session.answers)
+        };
+        let (first, last) = (answer_of(1, 2), answer_of(2, 1));
+        assert_eq!(judged(ALL_STATIONS, &[&first[..], &last].concat()), Some(1));
+        assert_eq!(judged(ALL_STATIONS, &first), Some(0));
+        assert_eq!(judged(2, &last), Some(1));
+        for wrong in [[&last[..], &first].concat(), [&first[..3], &last].concat(), [&first[..], &last[1..]].concat()] {
+            assert_eq!(judged(ALL_STATIONS, &wrong), None, "{wrong:02X?}");
+        }
+        assert!(judged(1, &last).is_none() && judged(2, &first).is_none());
     }
 
     #[test]

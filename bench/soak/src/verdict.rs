@@ -194,7 +194,7 @@ fn unsure_of_whole(grave: &Grave, sites: &[Site]) -> Option<u64> {
 #[cfg(test)]
 mod tests {
     use super::*;
-    use crate::apdu::{CONFIRMATION, GENERAL};
+    use crate::apdu::{ALL_STATIONS, CONFIRMATION, GENERAL};
     use crate::outstation::{Flood, Manner};
     use crate::session::before;
 
@@ -216,7 +216,7 @@ mod tests {
         ledger.confirm(place);
         drop(ledger);
         if is_answered {
-            session.ask(&sites, GENERAL, 3);
+            session.ask(&sites, GENERAL, ALL_STATIONS, 3);
             let confirmation = [GENERAL, 1, CONFIRMATION, 0, 1, 0, 0, 0, 0, 20];
             session.take(&sites, &confirmation, 4, &mut None).unwrap();
         }
