@@ -1,4 +1,5 @@
 """What `gateway check` has to say of a settings file, by the tables of docs/SETTINGS.md, apart from the gateway."""
+import math
 import re
 import tomllib
 
@@ -200,13 +201,21 @@ def has_large_number(value):
     return isinstance(value, int) and not -(2**63) <= value < 2**63
 
 
+def float_of(text):
+    """A float, which isn't TOML to most either where it is beyond 64 bits (IEEE 754)."""
+    number = float(text)
+    if math.isinf(number) and not text.endswith("inf"):
+        raise ValueError(f"{text} is out of range")
+    return number
+
+
 def answer_to_settings(octets):
     """What `gateway check` writes of a file: `refused ..`, or the listing."""
     if len(octets) > LARGEST_FILE:
         return ["refused file"]
     try:
-        top = tomllib.loads(octets.decode().removeprefix("\N{BOM}"))
-    except (UnicodeDecodeError, tomllib.TOMLDecodeError):
+        top = tomllib.loads(octets.decode().removeprefix("\N{BOM}"), parse_float=float_of)
+    except ValueError:
         return ["refused 1 Toml"]
     if has_large_number(top):
         return ["refused 1 Toml"]
