@@ -2,16 +2,15 @@
 //! recorded.
 ghost use Rattle.std.specs.Prelude.{◌≡◌};
 
-use crate::asking::{Answer, Turn, answers_of, check_answers, steps_of, text_of};
 use crate::checks::{same, same_list};
-use crate::opening::{end, hub_on, open, settings_of};
-use crate::telling::{entries_since, push_call, push_entry};
-use gw_map::DEFAULT_SETTINGS;
+use crate::telling::{check_same, entries_since, push_call, push_entry};
+use gw_map::{DEFAULT_SETTINGS, Settings};
 use gw_readers::{Hub, Recorder};
 use std::marker::Brand;
 use std::process::Abort;
 use std::sync::Wait;
 use std::sync::ledger::{Blank, Ledger};
+use test_tools::{Answer, Turn, answers_of, end_core, hub_on, open, steps_of, text_of};
 
 /// An unsolicited response that is repeated, and one that nobody asked for.
 const UNSOLICITED: &str = "open 0 0
@@ -253,7 +252,7 @@ const CONVERSATIONS: &[Conversation] = &[
 #[test]
 fn as_one_thread(rt: HostRuntime) {
     for conversation in CONVERSATIONS {
-        let hub = hub_on(&rt, DEFAULT_SETTINGS);
+        let hub = hub_on(rt.alloc(), DEFAULT_SETTINGS).expect(&rt, "a hub");
         converse::<Brand, _>(&rt, Blank::new(2), hub, conversation);
     }
 }
@@ -269,9 +268,14 @@ fn converse<L: Ledger, R: Wait + Abort + AllocGlobal>(
     requires parts { (blank.parts ≡ L.parts) × (blank.parts ≡ 2) }
 {
     let Recording { room, turns, .. } = conversation.recording;
-    let (shared, mut passes) = open::<L, R>(rt, blank, hub, 2, (*room).max(1));
-    let answers = answers_of(rt, &shared, &mut passes, turns, conversation.lines);
-    let (total, recorder) = end(rt, shared, passes);
+    let (shared, mut passes) = open::<L>(rt.alloc(), blank, hub, 2, (*room).max(1)).expect(
+        rt,
+        "a shared core",
+    );
+    let answers = answers_of(rt, &shared, &mut passes, turns, conversation.lines).expect(
+        rt, "answers",
+    );
+    let (total, recorder) = end_core(rt, shared, passes).expect(rt, "all passes");
     check(rt, conversation, &answers, total, &recorder);
 }
 
@@ -289,20 +293,18 @@ fn check<R: Abort + AllocGlobal>(
         replies,
         recording,
     } = *conversation;
-    check_answers(rt, answers, replies);
+    let text = text_of(rt.alloc(), answers).expect(rt, "memory");
+    same_list(rt, text.as_slice(), replies.as_bytes());
     check_answers_alone(rt, lines, answers);
     check_recorder(rt, recorder, recording, lines, answers);
 }
 
 /// A hub alone answers the steps of these lines so.
 fn check_answers_alone<R: Abort + AllocGlobal>(rt: &R, lines: &str, answers: &[Answer]) {
-    let settings = settings_of(rt, DEFAULT_SETTINGS);
-    let (_hub, alone) = Hub::run(rt.alloc(), settings, steps_of(rt, lines)).expect(rt, "a run");
-    same_list(
-        rt,
-        text_of(rt, answers).as_slice(),
-        text_of(rt, &alone).as_slice(),
-    );
+    let settings = Settings::read(rt.alloc(), DEFAULT_SETTINGS).expect(rt, "settings");
+    let steps = steps_of(rt.alloc(), lines).expect(rt, "steps");
+    let (_hub, alone) = Hub::run(rt.alloc(), settings, steps).expect(rt, "a run");
+    check_same(rt, answers, &alone);
 }
 
 /// The recorder has kept the calls that were made, but for those that it has forgotten.
@@ -328,7 +330,7 @@ fn text_of_calls<R: Abort + AllocGlobal>(
     lines: &str,
     answers: &[Answer],
 ) -> Vec<u8> {
-    let steps = steps_of(rt, lines);
+    let steps = steps_of(rt.alloc(), lines).expect(rt, "steps");
     let calls = steps.iter().zip(answers).zip(recording.turns);
     let mut text = Vec::new(rt.alloc());
     for ((step, answer), turn) in calls.skip(recording.forgotten) {

@@ -1,18 +1,20 @@
 //! What workers gave and took, beside the calls that a recorder has kept of them.
 
 use crate::checks::same;
-use crate::held::{CLIENT_1_WRITER, OUTSTATION_0_READER};
-use crate::memory::has_termination;
-use crate::peers::{MASTER, SOURCES, Source};
+use crate::held::{CLIENT_1_WRITER, OUTSTATION_0_READER, OUTSTATION_1_READER};
 use dnp_app::Response;
 use dnp_receive::responses_of;
 use gw_readers::{Entry, Kept, Reply};
 use std::process::Abort;
 use std::sync::{Mutex, Wait};
+use test_tools::{MASTER, SOURCES, Source, has_termination};
+
+/// The actors that read what the outstations send.
+const READERS: &[usize; 2] = &[OUTSTATION_0_READER, OUTSTATION_1_READER];
 
 /// The readers of outstations made a step of each response in their octets.
 pub fn check_outstations<R: Abort + AllocGlobal>(rt: &R, entries: &[Entry]) {
-    for source in SOURCES {
+    for (source, reader) in SOURCES.iter().zip(READERS) {
         let Source {
             outstation,
             address,
@@ -24,7 +26,7 @@ pub fn check_outstations<R: Abort + AllocGlobal>(rt: &R, entries: &[Entry]) {
         );
         same(rt, &responses.len(), &2);
         assert!(rt;
-            are_stepped(entries, source.reader, &responses),
+            are_stepped(entries, *reader, &responses),
             "outstation {outstation}"
         );
     }

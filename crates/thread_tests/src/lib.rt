@@ -4,8 +4,6 @@
 #![tactic(auto)]
 
 #[cfg(test)]
-mod asking;
-#[cfg(test)]
 mod checks;
 #[cfg(test)]
 mod conversations;
@@ -16,19 +14,7 @@ mod kept;
 #[cfg(test)]
 mod loopback;
 #[cfg(test)]
-mod memory;
-#[cfg(test)]
-mod opening;
-#[cfg(test)]
-mod peers;
-#[cfg(test)]
-mod putting;
-#[cfg(test)]
-mod reading_ends;
-#[cfg(test)]
 mod seen;
-#[cfg(test)]
-mod spent;
 #[cfg(test)]
 mod telling;
 #[cfg(test)]

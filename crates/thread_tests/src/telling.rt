@@ -1,13 +1,13 @@
 //! What a recorder has kept.
 
-use crate::asking::{Answer, Turn, push_answer, text_of};
 use crate::checks::{same, same_list};
-use crate::opening::copy_of;
 use dnp_app::KeptResponse;
 use gw_capture::{has_line, push_step};
 use gw_readers::{Entry, Hub, Kept, KeptStep, Recorder, Step};
+use gw_replay::push_reply;
 use std::io::Write;
 use std::process::Abort;
+use test_tools::{Answer, Turn, answer_of, text_of};
 
 /// The calls that a recorder has kept since a base, before which the actors had made so many. A hub that is the base
 /// answers their steps as they were answered.
@@ -18,16 +18,19 @@ pub fn entries_since<'a, R: Abort + AllocGlobal>(
 ) -> &'a [Entry] {
     let dump = recorder.dump().expect(rt, "a recorder that is on");
     same(rt, &dump.counts, &counts);
-    let mut hub = copy_of(rt, dump.base);
+    let mut hub = dump.base.copy().expect(rt, "a copy");
     for entry in dump.entries {
         let answer = answer_of_kept(rt, &mut hub, &entry.step);
-        same_list(
-            rt,
-            text_of(rt, &[answer]).as_slice(),
-            text_of(rt, &[entry.reply]).as_slice(),
-        );
+        check_same(rt, &[answer], &[entry.reply]);
     }
     dump.entries
+}
+
+/// Answers have the lines of others.
+pub fn check_same<R: Abort + AllocGlobal>(rt: &R, found: &[Answer], wanted: &[Answer]) {
+    let found = text_of(rt.alloc(), found).expect(rt, "memory");
+    let wanted = text_of(rt.alloc(), wanted).expect(rt, "memory");
+    same_list(rt, found.as_slice(), wanted.as_slice());
 }
 
 /// What a hub answers a step that was kept.
@@ -42,11 +45,6 @@ fn answer_of_kept<R: Abort>(rt: &R, hub: &mut Hub, step: &KeptStep) -> Answer {
 fn step_with<R: Abort>(rt: &R, response: &KeptResponse, moment: u64) -> Step {
     let response = response.response().expect(rt, "memory");
     Step::Fragment { response, moment }
-}
-
-/// What a hub answers a step.
-pub fn answer_of(hub: &mut Hub, step: &Step) -> Answer {
-    hub.step(step)
 }
 
 /// Adds the line of a call that was kept to a text.
@@ -69,5 +67,5 @@ pub fn push_call<R: Abort>(rt: &R, text: &mut Vec<u8>, turn: Turn, step: &Step, 
         rt.panic("a step has no line");
     }
     push_step(text, step).expect(rt, "memory");
-    push_answer(rt, text, *answer);
+    push_reply(text, *answer).expect(rt, "memory");
 }

@@ -2,21 +2,16 @@
 //! others go on.
 ghost use Rattle.std.specs.Prelude.{◌≡◌};
 
-use crate::asking::{Turn, bring_up};
 use crate::checks::same;
 use crate::held::{
     CLIENT_0_READER, CLIENT_0_WRITER, CLIENT_1_READER, CLIENT_1_WRITER, Held, OUTSTATION_0_READER,
     OUTSTATION_1_READER,
 };
 use crate::kept::{check_client, check_outstations, is_answered_first};
-use crate::memory::{Client, Outstation, Sent, read_client};
-use crate::opening::{end, hub_on, open};
-use crate::peers::{FROM_CLIENT, MASTER, SOURCES, Still, TWO_OUTSTATIONS};
 use crate::telling::entries_since;
-use dnp_receive::Receiver;
 use gw_readers::{
     Calls, CloseFault, Hub, Line, Pass, Recorder, Shared, WorkerEnd, client_writer, clock,
-    outstation_reader, outstation_writer,
+    outstation_writer,
 };
 use std::marker::Brand;
 use std::process::Abort;
@@ -25,6 +20,10 @@ use std::sync::atomic::{AtomicBool, AtomicU64, Ordering};
 use std::sync::ledger::{Blank, Ledger};
 use std::sync::{Mutex, Wait};
 use std::thread::{self, Threads};
+use test_tools::{
+    Client, FROM_CLIENT, MASTER, Outstation, SOURCES, Sent, Still, TWO_OUTSTATIONS, Turn,
+    answers_so, end_core, hub_on, open, read_client, read_outstation,
+};
 
 /// How many calls the recorder keeps: more than the workers make.
 const ROOM: usize = 4096;
@@ -100,7 +99,7 @@ const UP_TURNS: &[Turn] = &[
 
 #[test]
 fn workers(rt: HostRuntime) {
-    let hub = hub_on(&rt, TWO_OUTSTATIONS);
+    let hub = hub_on(rt.alloc(), TWO_OUTSTATIONS).expect(&rt, "a hub");
     work::<Brand, _>(&rt, Blank::new(9), hub);
 }
 
@@ -109,12 +108,15 @@ fn work<L: Ledger + Send + Sync, R: Host>(rt: &R, blank: Blank, hub: Hub)
     requires name { blank.name ≡ L.name }
     requires parts { (blank.parts ≡ L.parts) × (blank.parts ≡ 9) }
 {
-    let (shared, mut passes) = open::<L, R>(rt, blank, hub, 9, ROOM);
-    bring_up(rt, &shared, &mut passes, UP_TURNS, UPS, "ok\nok\nok\nok\n");
+    let (shared, mut passes) = open::<L>(rt.alloc(), blank, hub, 9, ROOM).expect(
+        rt,
+        "a shared core",
+    );
+    assert!(rt; answers_so(rt, &shared, &mut passes, UP_TURNS, UPS, "ok\nok\nok\nok\n"));
     let taken = [Taken::nothing(rt), Taken::nothing(rt)];
     let passes = serve(rt, &shared, &taken, passes);
     let passes = check_refusal(rt, &shared, passes);
-    let (total, recorder) = end(rt, shared, passes);
+    let (total, recorder) = end_core(rt, shared, passes).expect(rt, "all passes");
     check(rt, &recorder, &taken, total);
 }
 
@@ -183,24 +185,18 @@ fn perform_as<L: Ledger, R: Host>(
     pass: Pass<L>,
 ) -> (Pass<L>, WorkerEnd) {
     match role {
-        Role::ReadOutstation(outstation) => read_outstation(scene, outstation, pass),
+        Role::ReadOutstation(outstation) => read_source(scene, outstation, pass),
         Role::WriteOutstation(outstation) => write_outstation(scene, outstation, pass),
         Role::ReadClient(client) => {
-            read_client(
-                scene.rt,
-                scene.shared,
-                pass,
-                client,
-                FROM_CLIENT,
-                scene.gate,
-            )
+            let mut input = Sent { rest: FROM_CLIENT };
+            read_client(scene.rt, scene.shared, pass, client, &mut input, scene.gate)
         }
         Role::WriteClient(client) => write_client(scene, client, pass),
         Role::Tick => clock(scene.rt, scene.shared, pass, &Still, scene.gate),
     }
 }
 
-fn read_outstation<L: Ledger, R: Host>(
+fn read_source<L: Ledger, R: Host>(
     scene: &Scene<'_, L, R>,
     outstation: u8,
     pass: Pass<L>,
@@ -211,18 +207,14 @@ fn read_outstation<L: Ledger, R: Host>(
     let mut input = Sent {
         rest: source.octets,
     };
-    outstation_reader(
-        scene.rt.alloc(),
+    read_outstation(
         scene.rt,
         scene.shared,
         pass,
-        outstation,
-        Receiver::new(scene.rt.alloc(), MASTER, source.address),
+        source,
         &mut input,
         line_of(scene, outstation),
-        &Still,
         scene.gate,
-        0,
     )
 }
 

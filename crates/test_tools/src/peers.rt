@@ -1,6 +1,5 @@
 //! What outstations and clients send, and a clock that stands still.
 
-use crate::held::{OUTSTATION_0_READER, OUTSTATION_1_READER};
 use gw_readers::Clock;
 
 /// A clock that stands still.
@@ -64,8 +63,6 @@ pub const MASTER: u16 = 1024;
 #[derive(Clone, Copy)]
 pub struct Source {
     pub outstation: u8,
-    /// The actor that reads them.
-    pub reader: usize,
     /// The link address.
     pub address: u16,
     pub octets: &'static [u8],
@@ -75,13 +72,11 @@ pub struct Source {
 pub const SOURCES: &[Source; 2] = &[
     Source {
         outstation: 0,
-        reader: OUTSTATION_0_READER,
         address: 1,
         octets: FROM_OUTSTATION_0,
     },
     Source {
         outstation: 1,
-        reader: OUTSTATION_1_READER,
         address: 2,
         octets: FROM_OUTSTATION_1,
     },

@@ -1,9 +1,11 @@
 //! Ends of connections in memory.
 ghost use Rattle.std.specs.Prelude.{None};
 
-use crate::peers::Still;
+use crate::peers::{MASTER, Source, Still};
+use dnp_receive::Receiver;
 use gw_readers::{
-    Arrival, Gate, Incoming, Outgoing, Pass, Shared, Unwritten, WorkerEnd, client_reader,
+    Arrival, Gate, Incoming, Line, Outgoing, Pass, Shared, Unwritten, WorkerEnd, client_reader,
+    outstation_reader,
 };
 use std::sync::Wait;
 use std::sync::atomic::{AtomicBool, Ordering};
@@ -88,23 +90,38 @@ pub fn has_termination(octets: &[u8]) -> bool {
 }
 
 /// Reads what a client sends.
-pub fn read_client<L: Ledger, R: Wait + AllocGlobal, G: Gate>(
+pub fn read_client<L: Ledger, R: Wait + AllocGlobal, I: Incoming, G: Gate>(
     rt: &R,
     shared: &Shared<L>,
     pass: Pass<L>,
     client: u8,
-    octets: &[u8],
+    input: &mut I,
     gate: &G,
 ) -> (Pass<L>, WorkerEnd) {
-    let mut input = Sent { rest: octets };
-    client_reader(
+    client_reader(rt.alloc(), rt, shared, pass, client, input, &Still, gate)
+}
+
+/// Reads what an outstation sends.
+pub fn read_outstation<L: Ledger, R: Wait + AllocGlobal, I: Incoming, G: Gate>(
+    rt: &R,
+    shared: &Shared<L>,
+    pass: Pass<L>,
+    source: &Source,
+    input: &mut I,
+    line: &Line<Outstation>,
+    gate: &G,
+) -> (Pass<L>, WorkerEnd) {
+    outstation_reader(
         rt.alloc(),
         rt,
         shared,
         pass,
-        client,
-        &mut input,
+        source.outstation,
+        Receiver::new(rt.alloc(), MASTER, source.address),
+        input,
+        line,
         &Still,
         gate,
+        0,
     )
 }

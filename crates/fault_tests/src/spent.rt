@@ -1,12 +1,11 @@
 //! Tests of a core whose counts stand at their end: the step that would raise one beyond it is refused, and nothing is
 //! lost.
 
-use crate::asking::{check_answers, steps_of};
-use crate::opening::settings_of;
-use crate::telling::answer_of;
-use gw_map::DEFAULT_SETTINGS;
+use crate::checks::same_list;
+use gw_map::{DEFAULT_SETTINGS, Settings};
 use gw_readers::{Counts, Hub};
 use std::process::Abort;
+use test_tools::{answer_of, steps_of, text_of};
 
 const NONE: Counts = Counts {
     news: 0,
@@ -17,13 +16,14 @@ const NONE: Counts = Counts {
 
 /// A hub on which these counts stand gives these replies to the steps of these lines.
 fn check<R: Abort + AllocGlobal>(rt: &R, counts: Counts, lines: &str, replies: &str) {
-    let settings = settings_of(rt, DEFAULT_SETTINGS);
+    let settings = Settings::read(rt.alloc(), DEFAULT_SETTINGS).expect(rt, "settings");
     let mut hub = Hub::with_counts(rt.alloc(), settings, counts).expect(rt, "a hub");
     let mut answers = Vec::new(rt.alloc());
-    for step in &steps_of(rt, lines) {
+    for step in &steps_of(rt.alloc(), lines).expect(rt, "steps") {
         answers.push(answer_of(&mut hub, step)).expect(rt, "memory");
     }
-    check_answers(rt, &answers, replies);
+    let text = text_of(rt.alloc(), &answers).expect(rt, "memory");
+    same_list(rt, text.as_slice(), replies.as_bytes());
 }
 
 /// An execute that can't be counted is neither carried out nor answered: what comes next takes its number, and is out of

@@ -1,0 +1,217 @@
+//! The shared core and the readers round it, where memory is refused: a step that is refused is counted and noted, and the
+//! same step again is answered; a recorder goes off; a reader ends, and its peer is down.
+ghost use Rattle.std.specs.Prelude.{◌≡◌};
+
+use crate::checks::{same, same_list};
+use crate::reading::{Input, read_client_on, read_outstation_on};
+use crate::watched::{begin, end};
+use gw_map::DEFAULT_SETTINGS;
+use gw_readers::{Calls, Hub, Pass, Recorder, Reply, Shared, Step, StepFault, WorkerEnd};
+use std::io::Print;
+use std::marker::Brand;
+use std::process::Abort;
+use std::sync::Wait;
+use std::sync::ledger::{Blank, Ledger};
+use test_tools::{
+    Answer, FROM_CLIENT, SOURCES, TWO_OUTSTATIONS, end_core, hub_on, open, steps_of, text_of,
+};
+
+/// A station interrogation of a client that has started.
+const INTERROGATION: &str = "open 0 0
+frame 0 0 68 04 07 00 00 00
+pump 0 0
+frame 0 0 68 0E 00 00 00 00 64 01 06 00 01 00 00 00 00 14
+pump 0 0
+pump 0 0
+pump 0 0
+pump 0 0
+pump 0 0";
+
+const INTERROGATION_REPLIES: &str = "ok
+taken
+apdu 68 04 0B 00 00 00
+taken
+apdu 68 0E 00 00 02 00 64 01 07 00 01 00 00 00 00 14
+apdu 68 0E 02 00 02 00 01 01 14 00 01 00 05 10 00 C0
+apdu 68 10 04 00 02 00 0B 01 14 00 01 00 69 10 00 00 00 C0
+apdu 68 0E 06 00 02 00 64 01 0A 00 01 00 00 00 00 14
+nothing
+";
+
+/// What the steps of a conversation were answered.
+#[derive(Drop)]
+struct Course {
+    /// By all calls, and by those that were not refused memory.
+    made: Vec<Answer>,
+    taken: Vec<Answer>,
+}
+
+#[test]
+fn steps_again(rt: HostRuntime) {
+    let hub = hub_on(rt.alloc(), DEFAULT_SETTINGS).expect(&rt, "a hub");
+    interrogate::<Brand, _>(&rt, Blank::new(1), hub);
+}
+
+/// Interrogates the station. Each step that is refused memory is made again.
+fn interrogate<L: Ledger, R: Wait + Print + Abort + AllocGlobal>(rt: &R, blank: Blank, hub: Hub)
+    requires name { blank.name ≡ L.name }
+    requires parts { (blank.parts ≡ L.parts) × (blank.parts ≡ 1) }
+{
+    let (shared, mut passes) = open::<L>(rt.alloc(), blank, hub, 1, 64).expect(rt, "a shared core");
+    let mut pass = passes.pop().expect(rt, "a pass");
+    let course = course_of(rt, &shared, &mut pass);
+    passes.push(pass).expect(rt, "memory");
+    let text = text_of(rt.alloc(), &course.taken).expect(rt, "memory");
+    same_list(rt, text.as_slice(), INTERROGATION_REPLIES.as_bytes());
+    let (total, recorder) = end_core(rt, shared, passes).expect(rt, "all passes");
+    same(rt, &total, &(course.made.len() as u64));
+    check_noted(rt, &recorder, &course.made);
+}
+
+/// Makes the steps of the interrogation.
+fn course_of<L: Ledger, R: Wait + Print + Abort + AllocGlobal>(
+    rt: &R,
+    shared: &Shared<L>,
+    pass: &mut Pass<L>,
+) -> Course {
+    let steps = steps_of(rt.alloc(), INTERROGATION).expect(rt, "steps");
+    let spare = steps_of(rt.alloc(), INTERROGATION).expect(rt, "steps");
+    let mut course = Course {
+        made: Vec::with_capacity(rt.alloc(), 32).expect(rt, "memory"),
+        taken: Vec::with_capacity(rt.alloc(), 32).expect(rt, "memory"),
+    };
+    begin(rt);
+    for (step, again) in steps.into_iter().zip(spare) {
+        if !make(rt, shared, pass, step, &mut course) {
+            assert!(rt; make(rt, shared, pass, again, &mut course));
+        }
+    }
+    end(rt, course.made.len().saturating_sub(course.taken.len()));
+    course
+}
+
+/// Makes a step; whether it was not refused memory.
+fn make<L: Ledger, R: Wait + Abort>(
+    rt: &R,
+    shared: &Shared<L>,
+    pass: &mut Pass<L>,
+    step: Step,
+    course: &mut Course,
+) -> bool {
+    let (_number, answer) = shared.step(rt, pass, step);
+    course.made.push(answer).expect(rt, "memory");
+    if let Err(StepFault::Memory) = answer {
+        return false;
+    }
+    course.taken.push(answer).expect(rt, "memory");
+    true
+}
+
+/// A recorder has kept all calls of one actor, with these answers.
+fn check_noted<R: Abort + AllocGlobal>(rt: &R, recorder: &Recorder, made: &[Answer]) {
+    let dump = recorder.dump().expect(rt, "a recorder that is on");
+    let mut noted = Vec::new(rt.alloc());
+    for (entry, ordinal) in dump.entries.iter().zip(1..u64::MAX) {
+        same(rt, &(entry.actor, entry.ordinal), &(0, ordinal));
+        noted.push(entry.reply).expect(rt, "memory");
+    }
+    let noted = text_of(rt.alloc(), &noted).expect(rt, "memory");
+    let made = text_of(rt.alloc(), made).expect(rt, "memory");
+    same_list(rt, noted.as_slice(), made.as_slice());
+}
+
+/// STARTDT act and con.
+const START: &str = "open 0 0
+frame 0 0 68 04 07 00 00 00
+pump 0 0";
+
+const START_CON: &[u8] = &[0x68, 0x04, 0x0B, 0x00, 0x00, 0x00];
+
+/// A core that can't be made for want of memory can be made with a hub like the first one. A recorder that can't begin
+/// anew keeps no calls any more, and changes no reply.
+#[test]
+fn a_recorder(rt: HostRuntime) {
+    let (first, second) = (
+        hub_on(rt.alloc(), DEFAULT_SETTINGS).expect(&rt, "a hub"),
+        hub_on(rt.alloc(), DEFAULT_SETTINGS).expect(&rt, "a hub"),
+    );
+    let (steps, spare) = (
+        steps_of(rt.alloc(), START).expect(&rt, "steps"),
+        steps_of(rt.alloc(), START).expect(&rt, "steps"),
+    );
+    begin(&rt);
+    let is_kept = match start::<Brand, _>(&rt, Blank::new(2), first, steps) {
+        Some(is_on) => is_on,
+        None => {
+            let again = start::<Brand, _>(&rt, Blank::new(2), second, spare);
+            assert!(&rt; again == Some(true));
+            false
+        }
+    };
+    end(&rt, usize::from(!is_kept));
+}
+
+/// Makes the steps on a new core, whose recorder keeps two calls: two as actor 0, and the third as actor 1. Whether the
+/// recorder is on then; nothing where the core can't be made.
+fn start<L: Ledger, R: Wait + Abort + AllocGlobal>(
+    rt: &R,
+    blank: Blank,
+    hub: Hub,
+    steps: Vec<Step>,
+) -> Option<bool>
+    requires name { blank.name ≡ L.name }
+    requires parts { (blank.parts ≡ L.parts) × (blank.parts ≡ 2) }
+{
+    let (shared, mut passes) = Shared::<L>::new(rt.alloc(), blank, hub, 2, 2).ok()?;
+    for (step, actor) in steps.into_iter().zip([0, 0, 1]) {
+        let pass = passes.get_mut(actor).expect(rt, "a pass");
+        let (number, answer) = shared.step(rt, pass, step);
+        assert!(rt; is_start(number, &answer));
+    }
+    let (total, recorder) = end_core(rt, shared, passes).expect(rt, "all passes");
+    same(rt, &total, &3);
+    Some(is_on(rt, &recorder))
+}
+
+/// Whether the step with this number of the conversation is answered so.
+fn is_start(number: u64, answer: &Answer) -> bool {
+    match (number, answer) {
+        (1, Ok(Reply::Done)) | (2, Ok(Reply::Taken)) => true,
+        (3, Ok(Reply::Apdu(apdu))) => apdu.as_slice() == START_CON,
+        _ => false,
+    }
+}
+
+/// Whether a recorder is on; it has kept the third call then, and forgotten the two of actor 0.
+fn is_on<R: Abort>(rt: &R, recorder: &Recorder) -> bool {
+    match recorder.dump() {
+        Some(dump) => {
+            assert!(rt; dump.counts == [2, 0].as_slice());
+            same(rt, &dump.entries.len(), &1);
+            true
+        }
+        None => false,
+    }
+}
+
+/// A reader is refused memory, or reads to the end.
+fn has_ended(why: WorkerEnd) -> bool {
+    why == WorkerEnd::Memory || why == WorkerEnd::EndOfInput
+}
+
+#[test]
+fn a_reader_of_a_client(rt: HostRuntime) {
+    let hub = hub_on(rt.alloc(), DEFAULT_SETTINGS).expect(&rt, "a hub");
+    let input = Input::whole(FROM_CLIENT);
+    let (why, _calls) = read_client_on::<Brand, _>(&rt, Blank::new(1), hub, input);
+    assert!(&rt; has_ended(why));
+}
+
+#[test]
+fn a_reader_of_an_outstation(rt: HostRuntime) {
+    let hub = hub_on(rt.alloc(), TWO_OUTSTATIONS).expect(&rt, "a hub");
+    let [source, _] = SOURCES;
+    let input = Input::whole(source.octets);
+    let why = read_outstation_on::<Brand, _>(&rt, Blank::new(1), hub, source, input);
+    assert!(&rt; has_ended(why));
+}
