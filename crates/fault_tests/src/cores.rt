@@ -6,14 +6,14 @@ use crate::checks::{same, same_list};
 use crate::reading::{Input, read_client_on, read_outstation_on};
 use crate::watched::{begin, end};
 use gw_map::DEFAULT_SETTINGS;
-use gw_readers::{Calls, Hub, Pass, Recorder, Reply, Shared, Step, StepFault, WorkerEnd};
+use gw_readers::{Hub, Recorder, Reply, Step, StepFault, WorkerEnd};
 use std::io::Print;
 use std::marker::Brand;
 use std::process::Abort;
 use std::sync::Wait;
 use std::sync::ledger::{Blank, Ledger};
 use test_tools::{
-    Answer, FROM_CLIENT, SOURCES, TWO_OUTSTATIONS, end_core, hub_on, open, steps_of, text_of,
+    Answer, FROM_CLIENT, SOURCES, TWO_OUTSTATIONS, TestCore, hub_on, steps_of, text_of,
 };
 
 /// A station interrogation of a client that has started.
@@ -57,22 +57,20 @@ fn interrogate<L: Ledger, R: Wait + Print + Abort + AllocGlobal>(rt: &R, blank: 
     requires name { blank.name ≡ L.name }
     requires parts { (blank.parts ≡ L.parts) × (blank.parts ≡ 1) }
 {
-    let (shared, mut passes) = open::<L>(rt.alloc(), blank, hub, 1, 64).expect(rt, "a shared core");
-    let mut pass = passes.pop().expect(rt, "a pass");
-    let course = course_of(rt, &shared, &mut pass);
-    passes.push(pass).expect(rt, "memory");
+    let mut core = TestCore::<L>::new(rt.alloc(), blank, hub, 1, 64).expect(rt, "a core");
+    let course = course_of(rt, &mut core);
     let text = text_of(rt.alloc(), &course.taken).expect(rt, "memory");
     same_list(rt, text.as_slice(), INTERROGATION_REPLIES.as_bytes());
-    let (total, recorder) = end_core(rt, shared, passes).expect(rt, "all passes");
+    let (total, recorder) = core.end(rt).expect(rt, "all passes");
     same(rt, &total, &(course.made.len() as u64));
     check_noted(rt, &recorder, &course.made);
+    drop(recorder);
 }
 
 /// Makes the steps of the interrogation.
 fn course_of<L: Ledger, R: Wait + Print + Abort + AllocGlobal>(
     rt: &R,
-    shared: &Shared<L>,
-    pass: &mut Pass<L>,
+    core: &mut TestCore<L>,
 ) -> Course {
     let steps = steps_of(rt.alloc(), INTERROGATION).expect(rt, "steps");
     let spare = steps_of(rt.alloc(), INTERROGATION).expect(rt, "steps");
@@ -82,8 +80,8 @@ fn course_of<L: Ledger, R: Wait + Print + Abort + AllocGlobal>(
     };
     begin(rt);
     for (step, again) in steps.into_iter().zip(spare) {
-        if !make(rt, shared, pass, step, &mut course) {
-            assert!(rt; make(rt, shared, pass, again, &mut course));
+        if !make(rt, core, step, &mut course) {
+            assert!(rt; make(rt, core, again, &mut course));
         }
     }
     end(rt, course.made.len().saturating_sub(course.taken.len()));
@@ -93,12 +91,11 @@ fn course_of<L: Ledger, R: Wait + Print + Abort + AllocGlobal>(
 /// Makes a step; whether it was not refused memory.
 fn make<L: Ledger, R: Wait + Abort>(
     rt: &R,
-    shared: &Shared<L>,
-    pass: &mut Pass<L>,
+    core: &mut TestCore<L>,
     step: Step,
     course: &mut Course,
 ) -> bool {
-    let (_number, answer) = shared.step(rt, pass, step);
+    let (_number, answer) = core.step(rt, 0, step).expect(rt, "a pass");
     course.made.push(answer).expect(rt, "memory");
     if let Err(StepFault::Memory) = answer {
         return false;
@@ -127,32 +124,22 @@ pump 0 0";
 
 const START_CON: &[u8] = &[0x68, 0x04, 0x0B, 0x00, 0x00, 0x00];
 
-/// A core that can't be made for want of memory can be made with a hub like the first one. A recorder that can't begin
-/// anew keeps no calls any more, and changes no reply.
+/// A recorder that can't begin anew for want of memory keeps no calls any more, and changes no reply. Where the core can't
+/// be made, or its recorder is off, another one like it is made, whose recorder is on.
 #[test]
 fn a_recorder(rt: HostRuntime) {
-    let (first, second) = (
-        hub_on(rt.alloc(), DEFAULT_SETTINGS).expect(&rt, "a hub"),
-        hub_on(rt.alloc(), DEFAULT_SETTINGS).expect(&rt, "a hub"),
-    );
-    let (steps, spare) = (
-        steps_of(rt.alloc(), START).expect(&rt, "steps"),
-        steps_of(rt.alloc(), START).expect(&rt, "steps"),
-    );
+    let hub = hub_on(rt.alloc(), DEFAULT_SETTINGS).expect(&rt, "a hub");
+    let steps = steps_of(rt.alloc(), START).expect(&rt, "steps");
     begin(&rt);
-    let is_kept = match start::<Brand, _>(&rt, Blank::new(2), first, steps) {
-        Some(is_on) => is_on,
-        None => {
-            let again = start::<Brand, _>(&rt, Blank::new(2), second, spare);
-            assert!(&rt; again == Some(true));
-            false
-        }
-    };
-    end(&rt, usize::from(!is_kept));
+    let is_on = start::<Brand, _>(&rt, Blank::new(2), hub, steps);
+    end(&rt, usize::from(is_on != Some(true)));
+    let hub = hub_on(rt.alloc(), DEFAULT_SETTINGS).expect(&rt, "a hub");
+    let steps = steps_of(rt.alloc(), START).expect(&rt, "steps");
+    assert!(&rt; start::<Brand, _>(&rt, Blank::new(2), hub, steps) == Some(true));
 }
 
-/// Makes the steps on a new core, whose recorder keeps two calls: two as actor 0, and the third as actor 1. Whether the
-/// recorder is on then; nothing where the core can't be made.
+/// Makes the steps on a new core, whose recorder keeps two calls. Whether the recorder is on then; nothing where the core
+/// can't be made.
 fn start<L: Ledger, R: Wait + Abort + AllocGlobal>(
     rt: &R,
     blank: Blank,
@@ -162,15 +149,21 @@ fn start<L: Ledger, R: Wait + Abort + AllocGlobal>(
     requires name { blank.name ≡ L.name }
     requires parts { (blank.parts ≡ L.parts) × (blank.parts ≡ 2) }
 {
-    let (shared, mut passes) = Shared::<L>::new(rt.alloc(), blank, hub, 2, 2).ok()?;
+    let mut core = TestCore::<L>::new(rt.alloc(), blank, hub, 2, 2)?;
+    make_start(rt, &mut core, steps);
+    let (total, recorder) = core.end(rt).expect(rt, "all passes");
+    same(rt, &total, &3);
+    let is_on = is_on(rt, &recorder);
+    drop(recorder);
+    Some(is_on)
+}
+
+/// Makes two steps as actor 0, and the third as actor 1.
+fn make_start<L: Ledger, R: Wait + Abort>(rt: &R, core: &mut TestCore<L>, steps: Vec<Step>) {
     for (step, actor) in steps.into_iter().zip([0, 0, 1]) {
-        let pass = passes.get_mut(actor).expect(rt, "a pass");
-        let (number, answer) = shared.step(rt, pass, step);
+        let (number, answer) = core.step(rt, actor, step).expect(rt, "a pass");
         assert!(rt; is_start(number, &answer));
     }
-    let (total, recorder) = end_core(rt, shared, passes).expect(rt, "all passes");
-    same(rt, &total, &3);
-    Some(is_on(rt, &recorder))
 }
 
 /// Whether the step with this number of the conversation is answered so.

@@ -2,15 +2,12 @@
 ghost use Rattle.std.specs.Prelude.{◌≡◌};
 
 use crate::watched::{begin, end};
-use gw_readers::{Arrival, Calls, Hub, Incoming, Line, OpenGate, WorkerEnd};
+use gw_readers::{Arrival, Hub, Incoming, OpenGate, WorkerEnd};
 use std::io::Print;
 use std::process::Abort;
 use std::sync::Wait;
 use std::sync::ledger::{Blank, Ledger};
-use test_tools::{
-    MASTER, Outstation, Sent, Source, answers_so, comes_up, open, read_client, read_outstation,
-    total_of,
-};
+use test_tools::{Sent, Source, TestCore};
 
 /// Octets of which so many reads give some; the next one fails.
 #[derive(Drop)]
@@ -55,17 +52,17 @@ pub fn read_client_on<L: Ledger, R: Wait + Print + Abort + AllocGlobal>(
     requires name { blank.name ≡ L.name }
     requires parts { (blank.parts ≡ L.parts) × (blank.parts ≡ 1) }
 {
-    let (shared, mut passes) = open::<L>(rt.alloc(), blank, hub, 1, 64).expect(rt, "a shared core");
-    assert!(rt; answers_so(rt, &shared, &mut passes, &[(0, 1)], "open 0 0", "ok\n"));
-    assert!(rt; shared.stands(rt, 0));
-    let pass = passes.pop().expect(rt, "a pass");
+    let mut core = TestCore::<L>::new(rt.alloc(), blank, hub, 1, 64).expect(rt, "a core");
+    assert!(rt; core.answers_so(rt, &[(0, 1)], "open 0 0", "ok\n"));
+    assert!(rt; core.stands(rt, 0));
     let mut input = input;
     begin(rt);
-    let (pass, why) = read_client(rt, &shared, pass, 0, &mut input, &OpenGate);
+    let why = core
+        .read_client(rt, &mut input, &OpenGate)
+        .expect(rt, "a pass");
     end(rt, usize::from(why == WorkerEnd::Memory));
-    assert!(rt; !shared.stands(rt, 0));
-    passes.push(pass).expect(rt, "memory");
-    (why, total_of(rt, &shared, passes).expect(rt, "all passes"))
+    assert!(rt; !core.stands(rt, 0));
+    (why, core.total(rt).expect(rt, "all passes"))
 }
 
 /// Outstation 0 comes up and sends octets. It is down behind its reader: why this ended.
@@ -79,17 +76,16 @@ pub fn read_outstation_on<L: Ledger, R: Wait + Print + Abort + AllocGlobal>(
     requires name { blank.name ≡ L.name }
     requires parts { (blank.parts ≡ L.parts) × (blank.parts ≡ 1) }
 {
-    let (shared, mut passes) = open::<L>(rt.alloc(), blank, hub, 1, 64).expect(rt, "a shared core");
-    assert!(rt; answers_so(rt, &shared, &mut passes, &[(0, 1)], "up 0 0", "ok\n"));
-    let mut pass = passes.pop().expect(rt, "a pass");
-    assert!(rt; !comes_up(rt, &shared, &mut pass));
-    let line = Line::new(Outstation, MASTER, source.address);
+    let mut core = TestCore::<L>::new(rt.alloc(), blank, hub, 1, 64).expect(rt, "a core");
+    assert!(rt; core.answers_so(rt, &[(0, 1)], "up 0 0", "ok\n"));
+    assert!(rt; !core.comes_up(rt));
     let mut input = input;
     begin(rt);
-    let (mut pass, why) = read_outstation(rt, &shared, pass, source, &mut input, &line, &OpenGate);
+    let why = core
+        .read_outstation(rt, source, &mut input, &OpenGate)
+        .expect(rt, "a pass");
     end(rt, usize::from(why == WorkerEnd::Memory));
-    assert!(rt; comes_up(rt, &shared, &mut pass));
-    passes.push(pass).expect(rt, "memory");
-    total_of(rt, &shared, passes).expect(rt, "all passes");
+    assert!(rt; core.comes_up(rt));
+    core.total(rt).expect(rt, "all passes");
     why
 }

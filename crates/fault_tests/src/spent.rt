@@ -5,7 +5,7 @@ use crate::checks::same_list;
 use gw_map::{DEFAULT_SETTINGS, Settings};
 use gw_readers::{Counts, Hub};
 use std::process::Abort;
-use test_tools::{answer_of, steps_of, text_of};
+use test_tools::replies_of;
 
 const NONE: Counts = Counts {
     news: 0,
@@ -18,12 +18,9 @@ const NONE: Counts = Counts {
 fn check<R: Abort + AllocGlobal>(rt: &R, counts: Counts, lines: &str, replies: &str) {
     let settings = Settings::read(rt.alloc(), DEFAULT_SETTINGS).expect(rt, "settings");
     let mut hub = Hub::with_counts(rt.alloc(), settings, counts).expect(rt, "a hub");
-    let mut answers = Vec::new(rt.alloc());
-    for step in &steps_of(rt.alloc(), lines).expect(rt, "steps") {
-        answers.push(answer_of(&mut hub, step)).expect(rt, "memory");
-    }
-    let text = text_of(rt.alloc(), &answers).expect(rt, "memory");
+    let text = replies_of(rt.alloc(), &mut hub, lines).expect(rt, "replies");
     same_list(rt, text.as_slice(), replies.as_bytes());
+    drop(hub);
 }
 
 /// An execute that can't be counted is neither carried out nor answered: what comes next takes its number, and is out of

@@ -3,13 +3,13 @@ ghost use Rattle.std.specs.Prelude.{◌≡◌};
 
 use crate::checks::same_list;
 use crate::putting::{RUN, hub_after};
-use gw_readers::{Calls, Hub, OpenGate, WorkerEnd, client_writer};
+use gw_readers::{Hub, OpenGate, WorkerEnd};
 use std::marker::Brand;
 use std::process::Abort;
 use std::sync::Wait;
 use std::sync::atomic::AtomicBool;
 use std::sync::ledger::{Blank, Ledger};
-use test_tools::{Client, Still, open, total_of};
+use test_tools::{Client, TestCore};
 
 /// A client that takes so many octets of the answer to an interrogation, and fails then.
 #[test]
@@ -25,20 +25,20 @@ fn write<L: Ledger, R: Wait + Abort + AllocGlobal>(rt: &R, blank: Blank, hub: Hu
     requires name { blank.name ≡ L.name }
     requires parts { (blank.parts ≡ L.parts) × (blank.parts ≡ 1) }
 {
-    let (shared, mut passes) = open::<L>(rt.alloc(), blank, hub, 1, 16).expect(rt, "a shared core");
-    let pass = passes.pop().expect(rt, "a pass");
+    let mut core = TestCore::<L>::new(rt.alloc(), blank, hub, 1, 16).expect(rt, "a core");
     let has_ended = AtomicBool::new(false);
     let mut writer = Client {
         octets: Vec::new(rt.alloc()),
         room,
         has_ended: &has_ended,
     };
-    assert!(rt; shared.stands(rt, 0));
-    let (pass, end) = client_writer(rt, &shared, pass, 0, &mut writer, &Still, &OpenGate);
+    assert!(rt; core.stands(rt, 0));
+    let end = core
+        .write_client(rt, &mut writer, &OpenGate)
+        .expect(rt, "a pass");
     assert!(rt; end == WorkerEnd::WriteFault);
-    assert!(rt; !shared.stands(rt, 0));
+    assert!(rt; !core.stands(rt, 0));
     let front = RUN.get(..room).expect(rt, "that much");
     same_list(rt, writer.octets.as_slice(), front);
-    passes.push(pass).expect(rt, "memory");
-    total_of(rt, &shared, passes).expect(rt, "all passes");
+    core.total(rt).expect(rt, "all passes");
 }

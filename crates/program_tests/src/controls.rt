@@ -75,21 +75,25 @@ fn ordered<R: Abort + AllocGlobal>(rt: &R) -> Hub {
 }
 
 /// A copy of a hub with orders goes on as that does.
-fn check_next<R: Abort + AllocGlobal>(rt: &R, copy: &mut Hub) {
-    let replies = replies_of(rt, copy, NEXT);
+fn check_next<R: Abort + AllocGlobal>(rt: &R, copy: Hub) {
+    let mut copy = copy;
+    let replies = replies_of(rt, &mut copy, NEXT);
     same_list(rt, replies.as_slice(), REPLIES.as_bytes());
+    drop(copy);
 }
 
 #[test]
 fn a_copy_keeps_orders(rt: HostRuntime) {
-    let mut copy = ordered(&rt).copy().expect(&rt, "memory");
-    check_next(&rt, &mut copy);
+    let hub = ordered(&rt);
+    check_next(&rt, hub.copy().expect(&rt, "memory"));
+    drop(hub);
 }
 
 /// A hub with orders is copied over a spare one.
 fn check_copy_over<R: Abort + AllocGlobal>(rt: &R, spare: Hub) {
-    let mut copy = ordered(rt).copy_over(spare).expect(rt, "memory");
-    check_next(rt, &mut copy);
+    let hub = ordered(rt);
+    check_next(rt, hub.copy_over(spare).expect(rt, "memory"));
+    drop(hub);
 }
 
 #[test]

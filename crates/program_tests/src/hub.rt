@@ -26,7 +26,8 @@ fn many_steps(alloc: Global) -> Result<Vec<Step>, Fail> {
 /// The replies to steps, with the default settings.
 fn replies_to(alloc: Global, steps: Vec<Step>) -> Result<Vec<Result<Reply, StepFault>>, Fail> {
     let settings = Settings::read(alloc, DEFAULT_SETTINGS)?;
-    let (_hub, replies) = Hub::run(alloc, settings, steps)?;
+    let (hub, replies) = Hub::run(alloc, settings, steps)?;
+    drop(hub);
     Ok(replies)
 }
 

@@ -1,10 +1,8 @@
-//! Steps as the lines of a replay, and calls of them on a shared core.
+//! Steps and answers as the lines of a replay.
 
-use gw_readers::{Calls, Hub, Pass, Reply, Shared, Step, StepFault};
+use gw_readers::{Hub, Reply, Step, StepFault};
 use gw_replay::{Instruction, push_reply, read_instruction};
 use std::alloc::Global;
-use std::sync::Wait;
-use std::sync::ledger::Ledger;
 
 /// What a step was answered.
 pub type Answer = Result<Reply, StepFault>;
@@ -34,44 +32,18 @@ pub fn answer_of(hub: &mut Hub, step: &Step) -> Answer {
     hub.step(step)
 }
 
-/// Makes the steps of these lines on a new core, each as the actor whose turn it is. Gives what they were answered; nothing
-/// where a line is no step's, an actor has no pass, or the calls aren't numbered from 1.
-pub fn answers_of<L: Ledger, R: Wait + AllocGlobal>(
-    rt: &R,
-    shared: &Shared<L>,
-    passes: &mut [Pass<L>],
-    turns: &[Turn],
-    lines: &str,
-) -> Option<Vec<Answer>> {
-    let mut answers = Vec::new(rt.alloc());
-    for ((wanted, line), (actor, _)) in (1..u64::MAX).zip(lines.lines()).zip(turns) {
-        let step = step_of(rt.alloc(), line)?;
-        let (number, answer) = shared.step(rt, passes.get_mut(*actor)?, step);
-        if number != wanted {
-            return None;
-        }
-        answers.push(answer).ok()?;
+/// What a hub answers the steps of these lines, as lines; if they are steps', where there is memory.
+pub fn replies_of(alloc: Global, hub: &mut Hub, lines: &str) -> Option<Vec<u8>> {
+    let mut text = Vec::new(alloc);
+    for line in lines.lines() {
+        let step = step_of(alloc, line)?;
+        push_reply(&mut text, hub.step(&step)).ok()?;
     }
-    Some(answers)
-}
-
-/// The same; whether these lines are the answers.
-pub fn answers_so<L: Ledger, R: Wait + AllocGlobal>(
-    rt: &R,
-    shared: &Shared<L>,
-    passes: &mut [Pass<L>],
-    turns: &[Turn],
-    lines: &str,
-    replies: &str,
-) -> bool {
-    match answers_of(rt, shared, passes, turns, lines) {
-        Some(answers) => has_text(rt.alloc(), &answers, replies),
-        None => false,
-    }
+    Some(text)
 }
 
 /// Whether answers have these lines.
-fn has_text(alloc: Global, answers: &[Answer], wanted: &str) -> bool {
+pub fn has_text(alloc: Global, answers: &[Answer], wanted: &str) -> bool {
     match text_of(alloc, answers) {
         Some(text) => text.as_slice() == wanted.as_bytes(),
         None => false,

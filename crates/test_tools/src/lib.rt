@@ -7,7 +7,7 @@ mod memory;
 mod opening;
 mod peers;
 
-pub use asking::{Answer, Turn, answer_of, answers_of, answers_so, step_of, steps_of, text_of};
+pub use asking::{Answer, Turn, answer_of, replies_of, step_of, steps_of, text_of};
 pub use memory::{Client, Outstation, Sent, has_termination, read_client, read_outstation};
-pub use opening::{comes_up, end_core, hub_on, open, total_of};
+pub use opening::{TestCore, hub_on};
 pub use peers::{FROM_CLIENT, MASTER, SOURCES, Source, Still, TWO_OUTSTATIONS};

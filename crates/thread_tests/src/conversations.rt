@@ -3,14 +3,14 @@
 ghost use Rattle.std.specs.Prelude.{◌≡◌};
 
 use crate::checks::{same, same_list};
-use crate::telling::{check_same, entries_since, push_call, push_entry};
-use gw_map::{DEFAULT_SETTINGS, Settings};
+use crate::telling::{entries_since, push_call, push_entry};
+use gw_map::DEFAULT_SETTINGS;
 use gw_readers::{Hub, Recorder};
 use std::marker::Brand;
 use std::process::Abort;
 use std::sync::Wait;
 use std::sync::ledger::{Blank, Ledger};
-use test_tools::{Answer, Turn, answers_of, end_core, hub_on, open, steps_of, text_of};
+use test_tools::{Answer, TestCore, Turn, hub_on, replies_of, steps_of, text_of};
 
 /// An unsolicited response that is repeated, and one that nobody asked for.
 const UNSOLICITED: &str = "open 0 0
@@ -268,15 +268,15 @@ fn converse<L: Ledger, R: Wait + Abort + AllocGlobal>(
     requires parts { (blank.parts ≡ L.parts) × (blank.parts ≡ 2) }
 {
     let Recording { room, turns, .. } = conversation.recording;
-    let (shared, mut passes) = open::<L>(rt.alloc(), blank, hub, 2, (*room).max(1)).expect(
-        rt,
-        "a shared core",
+    let mut core = TestCore::<L>::new(rt.alloc(), blank, hub, 2, (*room).max(1)).expect(
+        rt, "a core",
     );
-    let answers = answers_of(rt, &shared, &mut passes, turns, conversation.lines).expect(
-        rt, "answers",
-    );
-    let (total, recorder) = end_core(rt, shared, passes).expect(rt, "all passes");
+    let answers = core
+        .answers_of(rt, turns, conversation.lines)
+        .expect(rt, "answers");
+    let (total, recorder) = core.end(rt).expect(rt, "all passes");
     check(rt, conversation, &answers, total, &recorder);
+    drop(recorder);
 }
 
 /// The answers are the replies, and those of a hub alone; and the calls are recorded.
@@ -295,16 +295,16 @@ fn check<R: Abort + AllocGlobal>(
     } = *conversation;
     let text = text_of(rt.alloc(), answers).expect(rt, "memory");
     same_list(rt, text.as_slice(), replies.as_bytes());
-    check_answers_alone(rt, lines, answers);
+    check_alone(rt, lines, replies);
     check_recorder(rt, recorder, recording, lines, answers);
 }
 
-/// A hub alone answers the steps of these lines so.
-fn check_answers_alone<R: Abort + AllocGlobal>(rt: &R, lines: &str, answers: &[Answer]) {
-    let settings = Settings::read(rt.alloc(), DEFAULT_SETTINGS).expect(rt, "settings");
-    let steps = steps_of(rt.alloc(), lines).expect(rt, "steps");
-    let (_hub, alone) = Hub::run(rt.alloc(), settings, steps).expect(rt, "a run");
-    check_same(rt, answers, &alone);
+/// A hub alone gives these replies to the steps of these lines.
+fn check_alone<R: Abort + AllocGlobal>(rt: &R, lines: &str, replies: &str) {
+    let mut hub = hub_on(rt.alloc(), DEFAULT_SETTINGS).expect(rt, "a hub");
+    let alone = replies_of(rt.alloc(), &mut hub, lines).expect(rt, "replies");
+    same_list(rt, alone.as_slice(), replies.as_bytes());
+    drop(hub);
 }
 
 /// The recorder has kept the calls that were made, but for those that it has forgotten.

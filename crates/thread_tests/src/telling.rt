@@ -23,11 +23,12 @@ pub fn entries_since<'a, R: Abort + AllocGlobal>(
         let answer = answer_of_kept(rt, &mut hub, &entry.step);
         check_same(rt, &[answer], &[entry.reply]);
     }
+    drop(hub);
     dump.entries
 }
 
 /// Answers have the lines of others.
-pub fn check_same<R: Abort + AllocGlobal>(rt: &R, found: &[Answer], wanted: &[Answer]) {
+fn check_same<R: Abort + AllocGlobal>(rt: &R, found: &[Answer], wanted: &[Answer]) {
     let found = text_of(rt.alloc(), found).expect(rt, "memory");
     let wanted = text_of(rt.alloc(), wanted).expect(rt, "memory");
     same_list(rt, found.as_slice(), wanted.as_slice());

@@ -21,8 +21,8 @@ use std::sync::ledger::{Blank, Ledger};
 use std::sync::{Mutex, Wait};
 use std::thread::{self, Threads};
 use test_tools::{
-    Client, FROM_CLIENT, MASTER, Outstation, SOURCES, Sent, Still, TWO_OUTSTATIONS, Turn,
-    answers_so, end_core, hub_on, open, read_client, read_outstation,
+    Client, FROM_CLIENT, MASTER, Outstation, SOURCES, Sent, Still, TWO_OUTSTATIONS, TestCore, Turn,
+    hub_on, read_client, read_outstation,
 };
 
 /// How many calls the recorder keeps: more than the workers make.
@@ -108,16 +108,15 @@ fn work<L: Ledger + Send + Sync, R: Host>(rt: &R, blank: Blank, hub: Hub)
     requires name { blank.name ≡ L.name }
     requires parts { (blank.parts ≡ L.parts) × (blank.parts ≡ 9) }
 {
-    let (shared, mut passes) = open::<L>(rt.alloc(), blank, hub, 9, ROOM).expect(
-        rt,
-        "a shared core",
-    );
-    assert!(rt; answers_so(rt, &shared, &mut passes, UP_TURNS, UPS, "ok\nok\nok\nok\n"));
+    let mut core = TestCore::<L>::new(rt.alloc(), blank, hub, 9, ROOM).expect(rt, "a core");
+    assert!(rt; core.answers_so(rt, UP_TURNS, UPS, "ok\nok\nok\nok\n"));
     let taken = [Taken::nothing(rt), Taken::nothing(rt)];
+    let TestCore { shared, passes } = core;
     let passes = serve(rt, &shared, &taken, passes);
     let passes = check_refusal(rt, &shared, passes);
-    let (total, recorder) = end_core(rt, shared, passes).expect(rt, "all passes");
+    let (total, recorder) = TestCore { shared, passes }.end(rt).expect(rt, "all passes");
     check(rt, &recorder, &taken, total);
+    drop(recorder);
 }
 
 /// Serves the peers with these passes, which are those that come back. None of the held workers is held for too long.
