@@ -4,6 +4,7 @@
  * 127.103.C.N: writing does, behind C writes; 127.104.0.N: accepting a connection does, which is closed.
  * 127.105.0.N: a call reads or writes N octets at most, and is interrupted once before it is made.
  * 127.106.0.N: a thread that has read from it takes N hundredths of a second each time that it reads the time of day.
+ * 127.107.0.N: of what is written to it the system keeps some N kB at most until it reads.
  * TIME_OF_DAY: a file with the time of day in milliseconds since 1970, which stands still until the file is written, and how
  * many hundredths of a second a thread without a peer takes each time that it reads it; eight octets each. */
 #include <errno.h>
@@ -17,7 +18,10 @@
 #include <time.h>
 #include <unistd.h>
 
-enum { CONNECTING = 101, READING, WRITING, ACCEPTING, INTERRUPTED, SLOW };
+enum { CONNECTING = 101, READING, WRITING, ACCEPTING, INTERRUPTED, SLOW, NARROW };
+
+/* Of sys/socket.h. */
+enum { SOL_SOCKET = 1, SO_SNDBUF = 7 };
 
 /* An address of IPv4, whose family is 2; sys/socket.h may declare addresses as unions. */
 struct address {
@@ -48,7 +52,7 @@ __attribute__((constructor)) static void begin(void)
 /* What is bent for an address, and its last octet; 0 where nothing is. */
 static int bent(const struct address *it, int *last)
 {
-    int is_bent = it->family == 2 && it->host[0] == 127 && it->host[1] >= CONNECTING && it->host[1] <= SLOW;
+    int is_bent = it->family == 2 && it->host[0] == 127 && it->host[1] >= CONNECTING && it->host[1] <= NARROW;
     *last = it->host[3];
     return is_bent ? it->host[1] : 0;
 }
@@ -66,10 +70,17 @@ static int fails(int error)
     return -1;
 }
 
-/* A new connection to this address may be read and written as often as its third octet says. */
+/* A new connection to this address may be read and written as often as its third octet says, and has the room to write that
+ * it is to have. */
 static void begin_calls(int connection, const struct address *it)
 {
+    int last, room;
     reads_left[connection % MOST_CONNECTIONS] = writes_left[connection % MOST_CONNECTIONS] = it->host[2];
+    if (bent(it, &last) != NARROW)
+        return;
+    /* The system takes twice of it, half for its own needs. */
+    room = last * 1024;
+    syscall(SYS_setsockopt, connection, SOL_SOCKET, SO_SNDBUF, &room, sizeof room);
 }
 
 /* Whether this call is interrupted; the next one of its thread isn't. */

@@ -18,7 +18,7 @@ from scene import (
 )
 
 # The hosts for which calls to the system are bent, as bent_system.c has them.
-CONNECTING, READING, WRITING, ACCEPTING, INTERRUPTED, SLOW = (f"127.{it}.0" for it in range(101, 107))
+CONNECTING, READING, WRITING, ACCEPTING, INTERRUPTED, SLOW, NARROW = (f"127.{it}.0" for it in range(101, 108))
 # 2023-11-14 22:13:20.250 in UTC; a second, a minute and an hour; and how many seconds lie between two looks at all peers
 # at most.
 WALL, SECOND, MINUTE, HOUR, LOOKS = 1_700_000_000_250, 1000, 60_000, 3_600_000, 1.3
