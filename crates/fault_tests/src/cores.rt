@@ -6,14 +6,14 @@ use crate::checks::{same, same_list};
 use crate::reading::{Input, read_client_on, read_outstation_on};
 use crate::watched::{begin, end};
 use gw_map::DEFAULT_SETTINGS;
-use gw_readers::{Hub, Recorder, Reply, Step, StepFault, WorkerEnd};
 use std::io::Print;
 use std::marker::Brand;
 use std::process::Abort;
 use std::sync::Wait;
 use std::sync::ledger::{Blank, Ledger};
 use test_tools::{
-    Answer, FROM_CLIENT, SOURCES, TWO_OUTSTATIONS, TestCore, hub_on, steps_of, text_of,
+    Answer, FROM_CLIENT, Hub, Recorder, Reply, SOURCES, Step, StepFault, TWO_OUTSTATIONS, TestCore,
+    WorkerEnd, hub_on, steps_of, text_of,
 };
 
 /// A station interrogation of a client that has started.

@@ -2,10 +2,9 @@
 
 use crate::checks::same_list;
 use gw_map::DEFAULT_SETTINGS;
-use gw_readers::{Batch, Hub, HubSource, Put, Reply, put_out};
 use std::process::Abort;
 use std::sync::atomic::AtomicBool;
-use test_tools::{Client, hub_on, replies_of};
+use test_tools::{Batch, Client, Hub, HubSource, Put, Reply, hub_on, put_out, replies_of};
 
 /// What comes before the run: a client that interrogates the station.
 const STEPS: &str = "open 0 0

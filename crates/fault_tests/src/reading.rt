@@ -2,12 +2,11 @@
 ghost use Rattle.std.specs.Prelude.{◌≡◌};
 
 use crate::watched::{begin, end};
-use gw_readers::{Arrival, Hub, Incoming, OpenGate, WorkerEnd};
 use std::io::Print;
 use std::process::Abort;
 use std::sync::Wait;
 use std::sync::ledger::{Blank, Ledger};
-use test_tools::{Sent, Source, TestCore};
+use test_tools::{Arrival, Hub, Incoming, OpenGate, Sent, Source, TestCore, WorkerEnd};
 
 /// Octets of which so many reads give some; the next one fails.
 #[derive(Drop)]

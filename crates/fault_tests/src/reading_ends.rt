@@ -2,12 +2,11 @@
 
 use crate::reading::{Input, read_client_on, read_outstation_on};
 use gw_map::{DEFAULT_SETTINGS, Settings};
-use gw_readers::{Counts, Hub, Why, WorkerEnd};
 use iec_apci::ApciFault;
 use std::marker::Brand;
 use std::process::Abort;
 use std::sync::ledger::Blank;
-use test_tools::{FROM_CLIENT, SOURCES, TWO_OUTSTATIONS, hub_on};
+use test_tools::{Counts, FROM_CLIENT, Hub, SOURCES, TWO_OUTSTATIONS, Why, WorkerEnd, hub_on};
 
 /// An interrogation, which is an I format.
 const I_FORMAT: &[u8] = &[

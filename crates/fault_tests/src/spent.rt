@@ -3,9 +3,8 @@
 
 use crate::checks::same_list;
 use gw_map::{DEFAULT_SETTINGS, Settings};
-use gw_readers::{Counts, Hub};
 use std::process::Abort;
-use test_tools::replies_of;
+use test_tools::{Counts, Hub, replies_of};
 
 const NONE: Counts = Counts {
     news: 0,

@@ -3,13 +3,12 @@ ghost use Rattle.std.specs.Prelude.{◌≡◌};
 
 use crate::checks::same_list;
 use crate::putting::{RUN, hub_after};
-use gw_readers::{Hub, OpenGate, WorkerEnd};
 use std::marker::Brand;
 use std::process::Abort;
 use std::sync::Wait;
 use std::sync::atomic::AtomicBool;
 use std::sync::ledger::{Blank, Ledger};
-use test_tools::{Client, TestCore};
+use test_tools::{Client, Hub, OpenGate, TestCore, WorkerEnd};
 
 /// A client that takes so many octets of the answer to an interrogation, and fails then.
 #[test]

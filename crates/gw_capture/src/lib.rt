@@ -14,7 +14,7 @@ mod step_line;
 mod waiting;
 
 pub use capture::Capture;
-pub use gw_replay::replay;
+pub use gw_replay::{Instruction, push_reply, read_instruction, replay};
 pub use kept::Kept;
 pub use lines::Lines;
 pub use pumps::Pumps;

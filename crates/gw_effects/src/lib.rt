@@ -14,5 +14,6 @@ pub use dropped::{Dropped, Watch};
 pub use fates::Fates;
 pub use figures::Figures;
 pub use gw_control::{Fate, OrderCounts, Orders, Settled};
+pub use gw_hub::{Apdu, ApduBuf, Counts, Hub, Reply, Step, StepFault, Verdict, Why};
 pub use pace::{Load, Pace};
 pub use roused::{CLIENTS, OUTSTATIONS, Roused, Topic};

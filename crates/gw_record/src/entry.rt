@@ -1,7 +1,7 @@
 //! A call that was recorded.
 
 use crate::kept::KeptStep;
-use gw_hub::{Reply, StepFault};
+use gw_effects::{Reply, StepFault};
 
 /// A step that an actor asked for, and what it was answered.
 #[derive(Drop)]

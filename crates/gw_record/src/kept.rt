@@ -3,7 +3,7 @@ ghost use Rattle.std.specs.Prelude.{◌≡◌};
 ghost use Rattle.gw_record.specs.Kept.{step_of};
 
 use dnp_app::KeptResponse;
-use gw_hub::Step;
+use gw_effects::Step;
 use std::marker::Model;
 
 /// What is kept of a step: of a fragment its octets alone, since what it reports follows from them and may take 600

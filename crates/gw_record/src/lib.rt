@@ -8,6 +8,9 @@ mod recorder;
 mod tape;
 
 pub use entry::Entry;
-pub use gw_hub::{Apdu, ApduBuf, Counts, Hub, Reply, Step, StepFault, Verdict, Why};
+pub use gw_effects::{
+    Apdu, ApduBuf, Awake, CLIENTS, Counts, Dropped, Fate, Fates, Figures, Hub, Load, OUTSTATIONS,
+    OrderCounts, Orders, Pace, Reply, Roused, Settled, Step, StepFault, Topic, Verdict, Watch, Why,
+};
 pub use kept::{Kept, KeptStep};
 pub use recorder::{Dump, NoRoom, Recorder};

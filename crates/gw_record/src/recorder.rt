@@ -6,7 +6,7 @@ ghost use Rattle.gw_record.specs.Recording.{is_tape_full, noted, recording_off, 
 use crate::entry::Entry;
 use crate::kept::KeptStep;
 use crate::tape::Tape;
-use gw_hub::{Hub, Reply, Step, StepFault};
+use gw_effects::{Hub, Reply, Step, StepFault};
 use gw_model::Memory;
 use std::alloc::Global;
 use std::marker::Model;

@@ -3,7 +3,7 @@ ghost use Rattle.std.specs.Prelude.{◌≡◌, ◌<◌, IfOk, OnErr, OnOk, lengt
 ghost use Rattle.gw_record.specs.Recording.{tape_on, tape_with};
 
 use crate::entry::Entry;
-use gw_hub::Hub;
+use gw_effects::Hub;
 use gw_model::Memory;
 use std::alloc::Global;
 use std::marker::Model;

@@ -6,9 +6,8 @@ ghost use Rattle.gw_shared.specs.Turn.{Answers};
 use crate::pass::Pass;
 use crate::pumped::Pumped;
 use gw_bell::Bell;
-use gw_effects::{Figures, Load};
 use gw_ends::Batch;
-use gw_record::{Reply, Step, StepFault};
+use gw_record::{Figures, Load, Reply, Step, StepFault};
 use std::sync::Wait;
 use std::sync::ledger::Ledger;
 

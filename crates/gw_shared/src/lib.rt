@@ -14,10 +14,9 @@ mod shared;
 pub use calls::Calls;
 pub use close::{CloseFault, Closed};
 pub use gw_bell::Bell;
-pub use gw_effects::{Fate, Figures, Load, OrderCounts, Orders, Settled};
 pub use gw_record::{
-    Apdu, ApduBuf, Counts, Entry, Hub, Kept, KeptStep, Recorder, Reply, Step, StepFault, Verdict,
-    Why,
+    Apdu, ApduBuf, Counts, Entry, Fate, Figures, Hub, Kept, KeptStep, Load, OrderCounts, Orders,
+    Recorder, Reply, Settled, Step, StepFault, Verdict, Why,
 };
 pub use hub_source::HubSource;
 pub use locked::Core;

@@ -8,10 +8,12 @@ ghost use Rattle.gw_shared.specs.Turn.{last_call, Answers, IsMadeReady, Steps};
 
 use crate::pass::Pass;
 use crate::pumped::Pumped;
-use gw_effects::{Awake, Dropped, Fates, Figures, Load, Pace, Roused, Topic, Watch};
 use gw_ends::{Batch, LONGEST_APDU, apdu_in};
 use gw_model::Memory;
-use gw_record::{Hub, Recorder, Reply, Step, StepFault};
+use gw_record::{
+    Awake, Dropped, Fates, Figures, Hub, Load, Pace, Recorder, Reply, Roused, Step, StepFault,
+    Topic, Watch,
+};
 use std::alloc::Global;
 use std::marker::Model;
 use std::sync::ledger::{Book, Ledger, Share};

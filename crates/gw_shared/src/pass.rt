@@ -1,7 +1,7 @@
 //! The right to make calls.
 ghost use Rattle.std.specs.Prelude.{◌≡◌};
 
-use gw_effects::Orders;
+use gw_record::Orders;
 use std::marker::Model;
 use std::sync::ledger::{Ledger, Share};
 

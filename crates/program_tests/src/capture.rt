@@ -1,8 +1,7 @@
 //! Tests of what is written, and of how a capture ends.
 
 use crate::checks::{alike, same, same_list, same_text};
-use gw_capture::{Capture, Kept, Lines, Pumps, push_step};
-use gw_replay::{Instruction, read_instruction};
+use gw_capture::{Capture, Instruction, Kept, Lines, Pumps, push_step, read_instruction};
 use gw_shared::{Apdu, Reply, Step, StepFault};
 use gw_text::{RecordEnd, RecordEndCause};
 use std::alloc::{AllocError, Global};

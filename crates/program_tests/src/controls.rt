@@ -1,8 +1,9 @@
 //! The core's part for controls, where there is memory: copies of hubs with orders go on as these do.
 use crate::checks::{same, same_list};
+use gw_capture::{Instruction, push_reply, read_instruction};
 use gw_control::Controls;
 use gw_map::{DEFAULT_SETTINGS, Settings};
-use gw_replay::{Hub, Instruction, push_reply, read_instruction};
+use gw_shared::Hub;
 use std::alloc::Global;
 use std::process::Abort;
 use std::test::Fail;

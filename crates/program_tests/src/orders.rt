@@ -2,8 +2,8 @@
 ghost use Rattle.std.specs.Prelude.{◌≡◌};
 
 use crate::checks::same;
+use gw_capture::{Instruction, read_instruction};
 use gw_map::Settings;
-use gw_replay::{Instruction, read_instruction};
 use gw_shared::{Calls, Fate, Hub, Pass, Settled, Shared, Step};
 use std::marker::Brand;
 use std::process::Abort;

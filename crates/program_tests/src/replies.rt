@@ -1,6 +1,7 @@
 //! Tests of gw_replay: words and numbers that no transcript shows.
 use crate::checks::same_list;
-use gw_replay::{Reply, StepFault, Why, push_reply};
+use gw_capture::push_reply;
+use gw_shared::{Reply, StepFault, Why};
 use std::test::Fail;
 
 #[test]

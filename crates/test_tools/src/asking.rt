@@ -1,7 +1,7 @@
 //! Steps and answers as the lines of a replay.
 
+use gw_capture::{Instruction, push_reply, read_instruction};
 use gw_readers::{Hub, Reply, Step, StepFault};
-use gw_replay::{Instruction, push_reply, read_instruction};
 use std::alloc::Global;
 
 /// What a step was answered.

@@ -1,5 +1,5 @@
-//! What tests stand on: steps from the lines of a replay, cores, and peers in memory. None of it ends a test; where
-//! something isn't as it has to be, it gives nothing.
+//! What tests stand on: steps from the lines of a replay, cores, and peers in memory, with the workers and lines that are
+//! tested. None of it ends a test; where something isn't as it has to be, it gives nothing.
 #![tactic(auto)]
 
 mod asking;
@@ -8,6 +8,12 @@ mod opening;
 mod peers;
 
 pub use asking::{Answer, Turn, answer_of, replies_of, step_of, steps_of, text_of};
+pub use gw_capture::{has_line, push_reply, push_step};
+pub use gw_readers::{
+    Arrival, Batch, Calls, CloseFault, Counts, Entry, Gate, Hub, HubSource, Incoming, Kept,
+    KeptStep, Line, OpenGate, Pass, Place, Put, Recorder, Reply, Shared, Step, StepFault, Why,
+    WorkerEnd, client_writer, clock, outstation_writer, put_out,
+};
 pub use memory::{Client, Outstation, Sent, has_termination, read_client, read_outstation};
 pub use opening::{TestCore, hub_on};
 pub use peers::{FROM_CLIENT, MASTER, SOURCES, Source, Still, TWO_OUTSTATIONS};

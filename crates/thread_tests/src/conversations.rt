@@ -5,12 +5,11 @@ ghost use Rattle.std.specs.Prelude.{◌≡◌};
 use crate::checks::{same, same_list};
 use crate::telling::{entries_since, push_call, push_entry};
 use gw_map::DEFAULT_SETTINGS;
-use gw_readers::{Hub, Recorder};
 use std::marker::Brand;
 use std::process::Abort;
 use std::sync::Wait;
 use std::sync::ledger::{Blank, Ledger};
-use test_tools::{Answer, TestCore, Turn, hub_on, replies_of, steps_of, text_of};
+use test_tools::{Answer, Hub, Recorder, TestCore, Turn, hub_on, replies_of, steps_of, text_of};
 
 /// An unsolicited response that is repeated, and one that nobody asked for.
 const UNSOLICITED: &str = "open 0 0

@@ -1,10 +1,10 @@
 //! A gate that holds workers until clients have taken an interrogation's termination.
 
-use gw_readers::{Gate, Place};
 use std::rt::Clock;
 use std::sync::atomic::{AtomicBool, AtomicU64, Ordering};
 use std::thread;
 use std::time::Duration;
+use test_tools::{Gate, Place};
 
 /// How often a worker that is held looks whether it may go on, a millisecond apart.
 const LOOKS: u16 = 10_000;

@@ -4,10 +4,9 @@ use crate::checks::same;
 use crate::held::{CLIENT_1_WRITER, OUTSTATION_0_READER, OUTSTATION_1_READER};
 use dnp_app::Response;
 use dnp_receive::responses_of;
-use gw_readers::{Entry, Kept, Reply};
 use std::process::Abort;
 use std::sync::{Mutex, Wait};
-use test_tools::{MASTER, SOURCES, Source, has_termination};
+use test_tools::{Entry, Kept, MASTER, Reply, SOURCES, Source, has_termination};
 
 /// The actors that read what the outstations send.
 const READERS: &[usize; 2] = &[OUTSTATION_0_READER, OUTSTATION_1_READER];

@@ -2,12 +2,12 @@
 
 use crate::checks::{same, same_list};
 use dnp_app::KeptResponse;
-use gw_capture::{has_line, push_step};
-use gw_readers::{Entry, Hub, Kept, KeptStep, Recorder, Step};
-use gw_replay::push_reply;
 use std::io::Write;
 use std::process::Abort;
-use test_tools::{Answer, Turn, answer_of, text_of};
+use test_tools::{
+    Answer, Entry, Hub, Kept, KeptStep, Recorder, Step, Turn, answer_of, has_line, push_reply,
+    push_step, text_of,
+};
 
 /// The calls that a recorder has kept since a base, before which the actors had made so many. A hub that is the base
 /// answers their steps as they were answered.

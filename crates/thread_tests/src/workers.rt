@@ -9,10 +9,6 @@ use crate::held::{
 };
 use crate::kept::{check_client, check_outstations, is_answered_first};
 use crate::telling::entries_since;
-use gw_readers::{
-    Calls, CloseFault, Hub, Line, Pass, Recorder, Shared, WorkerEnd, client_writer, clock,
-    outstation_writer,
-};
 use std::marker::Brand;
 use std::process::Abort;
 use std::rt::Clock as Sleeps;
@@ -21,8 +17,9 @@ use std::sync::ledger::{Blank, Ledger};
 use std::sync::{Mutex, Wait};
 use std::thread::{self, Threads};
 use test_tools::{
-    Client, FROM_CLIENT, MASTER, Outstation, SOURCES, Sent, Still, TWO_OUTSTATIONS, TestCore, Turn,
-    hub_on, read_client, read_outstation,
+    Calls, Client, CloseFault, FROM_CLIENT, Hub, Line, MASTER, Outstation, Pass, Recorder, SOURCES,
+    Sent, Shared, Still, TWO_OUTSTATIONS, TestCore, Turn, WorkerEnd, client_writer, clock, hub_on,
+    outstation_writer, read_client, read_outstation,
 };
 
 /// How many calls the recorder keeps: more than the workers make.
