@@ -1,6 +1,7 @@
 //! What may stand at each key of a settings file, in words.
 
 use gw_map::{Absence, Key, KeyContent, OUTSTATIONS, ROWS, Section, keys_of};
+use std::fmt;
 use std::io::{self, Write};
 
 const POSIX_RULE: &str = "a rule of the variable TZ of POSIX, as \"CET-1CEST,M3.5.0,M10.5.0/3\"";
@@ -48,24 +49,35 @@ fn allowed_at_top(name: &str) -> &'static str {
 /// Writes what may stand at a key by its row.
 fn write_content<W: Write>(key: &Key, writer: &mut W) -> io::Result<()> {
     match key.content {
-        KeyContent::Number(first, last) => write!(writer, "a whole number from {first} to {last}"),
-        KeyContent::NumberTo(first, other) => {
-            write!(writer, "a whole number from {first} to {other}")
-        }
-        KeyContent::NumberBelow(first, other) => {
-            write!(writer, "a whole number from {first} on, below {other}")
-        }
+        KeyContent::Number(first, last) => write_range(first, &last, writer),
+        KeyContent::NumberTo(first, other) => write_range(first, &other, writer),
+        KeyContent::NumberBelow(first, other) => write_below(first, other, writer),
         KeyContent::Outstation => {
             writer.write_all(b"the position of an outstation in the file, from 0")
         }
         KeyContent::Word(words) => write_words(words, writer),
         KeyContent::Text => match key.absence {
-            Absence::Text(text) => write!(writer, "a text, as \"{text}\""),
+            Absence::Text(text) => write_text_as(text, writer),
             _ => writer.write_all(b"a text"),
         },
         KeyContent::PosixRule => writer.write_all(POSIX_RULE.as_bytes()),
         KeyContent::Flag => writer.write_all(b"true or false"),
     }
+}
+
+/// Writes from which number to which a key may have.
+fn write_range<W: Write, L: fmt::Display>(first: i64, last: &L, writer: &mut W) -> io::Result<()> {
+    write!(writer, "a whole number from {first} to {last}")
+}
+
+/// Writes that a number is below that of another key.
+fn write_below<W: Write>(first: i64, other: &str, writer: &mut W) -> io::Result<()> {
+    write!(writer, "a whole number from {first} on, below {other}")
+}
+
+/// Writes that a text may stand at a key, with one that might.
+fn write_text_as<W: Write>(text: &str, writer: &mut W) -> io::Result<()> {
+    write!(writer, "a text, as \"{text}\"")
 }
 
 /// What else holds of a key.

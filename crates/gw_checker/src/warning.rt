@@ -89,8 +89,8 @@ impl<'a> Warning<'a> {
             | Warning::SamePlace {
                 second: outstation,
                 ..
-            } => write!(f, "outstation {outstation}"),
-            Warning::SameOutput { second, .. } => write!(f, "control {second}"),
+            } => write_numbered(f, "outstation", usize::from(*outstation)),
+            Warning::SameOutput { second, .. } => write_numbered(f, "control", *second),
         }
     }
 
@@ -99,26 +99,14 @@ impl<'a> Warning<'a> {
         match *self {
             Warning::ListenWithoutPort { listen } => write_without_port(f, "listen", listen),
             Warning::ListenEverywhere { listen } => write_everywhere(f, listen),
-            Warning::WideWindow { w, k } => write!(f, "w = {w} is above two thirds of k = {k}"),
-            Warning::RuleOfAnotherZone { offset_minutes } => {
-                write!(
-                    f,
-                    "rule is never offset_minutes = {offset_minutes} ahead of UTC"
-                )
-            }
+            Warning::WideWindow { w, k } => write_wide_window(f, w, k),
+            Warning::RuleOfAnotherZone { offset_minutes } => write_other_zone(f, offset_minutes),
             Warning::OddSummer { offset_minutes } => write_odd_summer(f, offset_minutes),
             Warning::ConnectWithoutPort { connect, .. } => write_without_port(
                 f, "connect", connect,
             ),
-            Warning::SamePlace { first, .. } => {
-                write!(f, "address and connect are those of outstation {first}")
-            }
-            Warning::SlowPoll { poll_ms, .. } => {
-                write!(
-                    f,
-                    "poll_ms = {poll_ms} is above 60000 while unsolicited is false"
-                )
-            }
+            Warning::SamePlace { first, .. } => write_same_place(f, first),
+            Warning::SlowPoll { poll_ms, .. } => write_slow_poll(f, poll_ms),
             Warning::SameOutput {
                 first,
                 outstation,
@@ -127,6 +115,41 @@ impl<'a> Warning<'a> {
             } => write_same_output(f, first, outstation, index),
         }
     }
+}
+
+/// Writes an entry of a section by its position.
+fn write_numbered<W: fmt::Write>(
+    f: &mut fmt::Formatter<W>,
+    section: &str,
+    position: usize,
+) -> fmt::Result {
+    write!(f, "{section} {position}")
+}
+
+/// Writes that w is too large for k.
+fn write_wide_window<W: fmt::Write>(f: &mut fmt::Formatter<W>, w: u16, k: u16) -> fmt::Result {
+    write!(f, "w = {w} is above two thirds of k = {k}")
+}
+
+/// Writes that the rule never has the station's offset.
+fn write_other_zone<W: fmt::Write>(f: &mut fmt::Formatter<W>, offset_minutes: i16) -> fmt::Result {
+    write!(
+        f,
+        "rule is never offset_minutes = {offset_minutes} ahead of UTC"
+    )
+}
+
+/// Writes which other outstation is reached at the same place.
+fn write_same_place<W: fmt::Write>(f: &mut fmt::Formatter<W>, first: u8) -> fmt::Result {
+    write!(f, "address and connect are those of outstation {first}")
+}
+
+/// Writes how seldom an outstation is polled.
+fn write_slow_poll<W: fmt::Write>(f: &mut fmt::Formatter<W>, poll_ms: u64) -> fmt::Result {
+    write!(
+        f,
+        "poll_ms = {poll_ms} is above 60000 while unsolicited is false"
+    )
 }
 
 /// Writes that the address at a key has no port.

@@ -1,15 +1,17 @@
 //! The lines of the journal.
 
 use crate::command_words::{AskedWords, ToldWords};
-use crate::control_event::CommandEvent;
+use crate::control_event::{CommandEvent, OrderEvent};
 use crate::counted::{AndMore, Counted};
 use crate::doubt::Doubt;
 use crate::event::{JournalEvent, Priority, Subject};
+use crate::unreadable::Unreadable;
 use gw_text::Plain;
 use iec_command::Command;
 use jiff_core::Timestamp;
 use jiff_fmt::temporal::DateTimePrinter;
 use std::fmt;
+use std::net::IpAddr;
 
 /// An event, and when it was.
 #[derive(Drop)]
@@ -105,12 +107,16 @@ impl<'a> fmt::Display for Happened<'a> {
             Subject::Gateway => self.write_of_gateway(f),
             Subject::Outstation(outstation) => {
                 let place = self.place(outstation);
-                let what = OutstationWords(self.event);
-                write!(f, "outstation {outstation} {place} {what}")
+                write_of_peer(
+                    f,
+                    "outstation",
+                    outstation,
+                    &place,
+                    &OutstationWords(self.event),
+                )
             }
             Subject::Client(client, address) => {
-                let what = ClientWords(self.event);
-                write!(f, "client {client} {address} {what}")
+                write_of_peer(f, "client", client, &address, &ClientWords(self.event))
             }
         }
     }
@@ -130,15 +136,14 @@ impl<'a> Happened<'a> {
         match self.event {
             JournalEvent::Started { .. } => self.write_start(f),
             JournalEvent::Doubtful(doubt) => self.write_doubt(f, *doubt),
-            JournalEvent::Listening(address) => write!(f, "listening on {address}"),
+            JournalEvent::Listening(address) => write_said(f, "listening on", address),
             JournalEvent::AllPlacesTaken => f.write_str("all eight places are taken"),
             JournalEvent::PlaceFree => f.write_str("a place is free"),
             JournalEvent::NotAllowed { address, left_out } => {
-                let more = AndMore(*left_out);
-                write!(f, "{address} isn't allowed to connect{more}")
+                write_not_allowed(f, address, *left_out)
             }
-            JournalEvent::NotAccepted(cause) => write!(f, "no connection accepted: {cause}"),
-            JournalEvent::RecordingEnded(ended) => write!(f, "the {ended}"),
+            JournalEvent::NotAccepted(cause) => write_said(f, "no connection accepted:", cause),
+            JournalEvent::RecordingEnded(ended) => write_said(f, "the", ended),
             JournalEvent::LeftOut(count) => write_counted(f, *count, "event", "left out"),
             JournalEvent::ControlsLeftOut(count) => {
                 write_counted(f, *count, "event", "of controls left out")
@@ -176,18 +181,10 @@ impl<'a> Happened<'a> {
     fn write_doubt<W: fmt::Write>(&self, f: &mut fmt::Formatter<W>, doubt: Doubt) -> fmt::Result {
         match doubt {
             Doubt::ConnectWithoutPort { outstation } => {
-                let place = self.place(outstation);
-                write!(
-                    f,
-                    "the address of outstation {outstation}, {place}, has no port"
-                )
+                write_no_port(f, outstation, self.place(outstation))
             }
             Doubt::SamePlace { first, second } => {
-                let place = self.place(first);
-                write!(
-                    f,
-                    "outstations {first} and {second} are both reached at {place}, and have the same link address"
-                )
+                write_same_place(f, first, second, self.place(first))
             }
         }
     }
@@ -202,9 +199,9 @@ impl<'a> fmt::Display for OutstationWords<'a> {
         let words = match self.0 {
             JournalEvent::OutstationConnected { .. } => "connected",
             JournalEvent::OutstationUnreachable { cause, .. } => {
-                return write!(f, "not connected: {cause}");
+                return write_said(f, "not connected:", cause);
             }
-            JournalEvent::OutstationLost { cause, .. } => return write!(f, "{cause}"),
+            JournalEvent::OutstationLost { cause, .. } => return fmt::Display::fmt(cause, f),
             JournalEvent::OutstationRestarted { .. } => "restarted (IIN1.7)",
             JournalEvent::EventsOverflowed { .. } => "its event buffer overflowed (IIN2.3)",
             JournalEvent::ClockNotSet { .. } => "its clock can't be set (IIN1.4 stays)",
@@ -215,11 +212,11 @@ impl<'a> fmt::Display for OutstationWords<'a> {
                 fault,
                 left_out,
                 ..
-            } => return write!(f, "unreadable: {fault}{}", AndMore(*left_out)),
+            } => return write_unreadable(f, fault, *left_out),
             JournalEvent::OctetsSkipped { count, .. } => {
                 return write_counted(f, *count, "octet", "skipped by the link");
             }
-            JournalEvent::Order { order, what, .. } => return write!(f, "order {order} {what}"),
+            JournalEvent::Order { order, what, .. } => return write_order(f, *order, what),
             _ => "",
         };
         f.write_str(words)
@@ -236,7 +233,7 @@ impl<'a> fmt::Display for ClientWords<'a> {
             JournalEvent::ClientConnected { .. } => f.write_str("connected"),
             JournalEvent::TransferStarted { .. } => f.write_str("data transfer started"),
             JournalEvent::TransferStopped { .. } => f.write_str("data transfer stopped"),
-            JournalEvent::ClientLost { cause, .. } => write!(f, "{cause}"),
+            JournalEvent::ClientLost { cause, .. } => fmt::Display::fmt(cause, f),
             JournalEvent::NewsDropped { count, .. } => {
                 write_counted(f, *count, "observation", "dropped, since too many waited")
             }
@@ -244,6 +241,90 @@ impl<'a> fmt::Display for ClientWords<'a> {
             _ => Ok(()),
         }
     }
+}
+
+/// Writes words, and what follows them.
+fn write_said<W: fmt::Write, D: fmt::Display>(
+    f: &mut fmt::Formatter<W>,
+    words: &str,
+    what: &D,
+) -> fmt::Result {
+    write!(f, "{words} {what}")
+}
+
+/// Writes whom a line is of, and what happened to it.
+fn write_of_peer<W: fmt::Write, P: fmt::Display, D: fmt::Display>(
+    f: &mut fmt::Formatter<W>,
+    kind: &str,
+    number: u8,
+    place: &P,
+    what: &D,
+) -> fmt::Result {
+    write!(f, "{kind} {number} {place} {what}")
+}
+
+/// Writes who isn't allowed to connect.
+fn write_not_allowed<W: fmt::Write>(
+    f: &mut fmt::Formatter<W>,
+    address: &IpAddr,
+    left_out: u64,
+) -> fmt::Result {
+    let more = AndMore(left_out);
+    write!(f, "{address} isn't allowed to connect{more}")
+}
+
+/// Writes that the address of an outstation has no port.
+fn write_no_port<W: fmt::Write>(
+    f: &mut fmt::Formatter<W>,
+    outstation: u8,
+    place: Plain<'_>,
+) -> fmt::Result {
+    write!(
+        f,
+        "the address of outstation {outstation}, {place}, has no port"
+    )
+}
+
+/// Writes that two outstations are one, as far as their settings tell.
+fn write_same_place<W: fmt::Write>(
+    f: &mut fmt::Formatter<W>,
+    first: u8,
+    second: u8,
+    place: Plain<'_>,
+) -> fmt::Result {
+    write!(
+        f,
+        "outstations {first} and {second} are both reached at {place}, and have the same link address"
+    )
+}
+
+/// Writes why a fragment couldn't be read, and how many more couldn't.
+fn write_unreadable<W: fmt::Write>(
+    f: &mut fmt::Formatter<W>,
+    fault: &Unreadable,
+    left_out: u64,
+) -> fmt::Result {
+    let more = AndMore(left_out);
+    write!(f, "unreadable: {fault}{more}")
+}
+
+/// Writes what became of an order.
+fn write_order<W: fmt::Write>(
+    f: &mut fmt::Formatter<W>,
+    order: u64,
+    what: &OrderEvent,
+) -> fmt::Result {
+    write!(f, "order {order} {what}")
+}
+
+/// Writes that a command came, and was accepted as an order.
+fn write_accepted<W: fmt::Write>(
+    f: &mut fmt::Formatter<W>,
+    command: &Command,
+    order: u64,
+) -> fmt::Result {
+    let words = AskedWords(command);
+    write!(f, "asks: {words}: order {order}")
 }
 
 /// Writes how many things there are, and what of them.
@@ -264,10 +345,8 @@ fn write_command<W: fmt::Write>(
     what: CommandEvent,
 ) -> fmt::Result {
     match what {
-        CommandEvent::Came { order: Some(order) } => {
-            write!(f, "asks: {}: order {order}", AskedWords(command))
-        }
-        CommandEvent::Came { order: None } => write!(f, "asks: {}", AskedWords(command)),
-        CommandEvent::Told => write!(f, "told: {}", ToldWords(command)),
+        CommandEvent::Came { order: Some(order) } => write_accepted(f, command, order),
+        CommandEvent::Came { order: None } => write_said(f, "asks:", &AskedWords(command)),
+        CommandEvent::Told => write_said(f, "told:", &ToldWords(command)),
     }
 }

@@ -76,25 +76,39 @@ impl fmt::Display for Unreadable {
     fn fmt<W: fmt::Write>(&self, f: &mut fmt::Formatter<W>) -> fmt::Result {
         match *self {
             Unreadable::Short => f.write_str("fewer than four octets"),
-            Unreadable::NotResponse { function } => {
-                write!(f, "function {function}, which is no response")
-            }
-            Unreadable::ShortHeader { place } => {
-                write!(f, "a header of fewer than three octets at {place}")
-            }
+            Unreadable::NotResponse { function } => write_function(f, function),
+            Unreadable::ShortHeader { place } => write_short_header(f, place),
             Unreadable::Object {
                 group,
                 variation,
                 qualifier,
                 place,
                 why,
-            } => {
-                let why = Why(why, qualifier);
-                write!(f, "group {group} variation {variation} at {place} {why}")
-            }
+            } => write_header(f, (group, variation), place, Why(why, qualifier)),
             Unreadable::Memory => f.write_str("no memory"),
         }
     }
+}
+
+/// Writes which function a fragment has that is no response.
+fn write_function<W: fmt::Write>(f: &mut fmt::Formatter<W>, function: u8) -> fmt::Result {
+    write!(f, "function {function}, which is no response")
+}
+
+/// Writes where a header is cut off.
+fn write_short_header<W: fmt::Write>(f: &mut fmt::Formatter<W>, place: usize) -> fmt::Result {
+    write!(f, "a header of fewer than three octets at {place}")
+}
+
+/// Writes what is wrong with the header of an object, by its group and variation.
+fn write_header<W: fmt::Write>(
+    f: &mut fmt::Formatter<W>,
+    object: (u8, u8),
+    place: usize,
+    why: Why,
+) -> fmt::Result {
+    let (group, variation) = object;
+    write!(f, "group {group} variation {variation} at {place} {why}")
 }
 
 /// What is wrong with an object header of some qualifier, or its objects.

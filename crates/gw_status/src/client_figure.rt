@@ -105,10 +105,20 @@ fn write_family<W: fmt::Write>(
     write!(f, "{family}")?;
     for (number, client) in clients.iter().enumerate() {
         if let Some(figure) = what.figure(client) {
-            writeln!(f, "{}{{client=\"{number}\"}} {figure}", family.name)?;
+            write_figure(f, family.name, number, figure)?;
         }
     }
     Ok(())
+}
+
+/// Writes a figure of the family of a name, with the label of a place.
+fn write_figure<W: fmt::Write>(
+    f: &mut fmt::Formatter<W>,
+    name: &str,
+    number: usize,
+    figure: Figure,
+) -> fmt::Result {
+    writeln!(f, "{name}{{client=\"{number}\"}} {figure}")
 }
 
 /// Who is connected at each place. The address, which changes with each connection, is a label of this family alone.
@@ -167,10 +177,20 @@ fn write_closes<W: fmt::Write>(
     closes: &[(&'static str, u64)],
 ) -> fmt::Result {
     for (cause, count) in closes {
-        writeln!(
-            f,
-            "gateway_client_closes_total{{client=\"{number}\",cause=\"{cause}\"}} {count}"
-        )?;
+        write_close(f, number, cause, *count)?;
     }
     Ok(())
+}
+
+/// Writes how many connections of a place ended for a cause.
+fn write_close<W: fmt::Write>(
+    f: &mut fmt::Formatter<W>,
+    number: usize,
+    cause: &str,
+    count: u64,
+) -> fmt::Result {
+    writeln!(
+        f,
+        "gateway_client_closes_total{{client=\"{number}\",cause=\"{cause}\"}} {count}"
+    )
 }

@@ -59,10 +59,19 @@ impl fmt::Display for Names {
         let mut separator = "";
         for bit in 0..16u32 {
             if is_set(self.0, bit) {
-                write!(f, "{separator}{}", name_of(bit))?;
+                write_name(f, separator, name_of(bit))?;
                 separator = ", ";
             }
         }
         Ok(())
     }
+}
+
+/// Writes a name behind those before it.
+fn write_name<W: fmt::Write>(
+    f: &mut fmt::Formatter<W>,
+    separator: &str,
+    name: &str,
+) -> fmt::Result {
+    write!(f, "{separator}{name}")
 }

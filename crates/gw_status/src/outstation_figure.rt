@@ -234,14 +234,24 @@ fn write_indications<W: fmt::Write>(
     number: usize,
     outstation: &OutstationStatus,
 ) -> fmt::Result {
-    let place = Escaped::label(outstation.place.as_str());
     for bit in 0..MEANINGS {
-        writeln!(
-            f,
-            "gateway_outstation_indication{{outstation=\"{number}\",place=\"{place}\",indication=\"{}\"}} {}",
-            name_of(bit),
-            is_set(outstation.indications, bit) as u8
-        )?;
+        let is_set = is_set(outstation.indications, bit) as u8;
+        write_indication(f, number, outstation, name_of(bit), is_set)?;
     }
     Ok(())
+}
+
+/// Writes whether an outstation has an internal indication.
+fn write_indication<W: fmt::Write>(
+    f: &mut fmt::Formatter<W>,
+    number: usize,
+    outstation: &OutstationStatus,
+    name: &str,
+    is_set: u8,
+) -> fmt::Result {
+    let place = Escaped::label(outstation.place.as_str());
+    writeln!(
+        f,
+        "gateway_outstation_indication{{outstation=\"{number}\",place=\"{place}\",indication=\"{name}\"}} {is_set}"
+    )
 }

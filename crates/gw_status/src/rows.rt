@@ -67,15 +67,22 @@ struct Connection {
 impl fmt::Display for Connection {
     fn fmt<W: fmt::Write>(&self, f: &mut fmt::Formatter<W>) -> fmt::Result {
         match self.since {
-            Some(since) => write!(
-                f,
-                "<td data-column=State>connected <small>for {}</small> <small>since {}</small></td>",
-                Span(self.now.saturating_sub(since)),
-                Moment(since)
-            ),
+            Some(since) => write_connected(f, Span(self.now.saturating_sub(since)), Moment(since)),
             None => f.write_str("<td data-column=State><strong>NOT CONNECTED</strong></td>"),
         }
     }
+}
+
+/// Writes for how long an outstation is connected, and since when.
+fn write_connected<W: fmt::Write>(
+    f: &mut fmt::Formatter<W>,
+    span: Span,
+    since: Moment,
+) -> fmt::Result {
+    write!(
+        f,
+        "<td data-column=State>connected <small>for {span}</small> <small>since {since}</small></td>"
+    )
 }
 
 /// The cells that tell when an outstation answered last, and what it indicated, at a moment.
@@ -93,25 +100,38 @@ impl fmt::Display for LastAnswer {
             indications,
             now,
         } = *self;
-        let trouble = if tell_of_trouble(indications) {
-            "<strong>TROUBLE:</strong> "
-        } else {
-            ""
-        };
         match at {
-            Some(at) => write!(
-                f,
-                "<td data-column=\"Last answer\">{} ago <small>{}</small></td>\
-                <td data-column=Indications>{trouble}{} <small>0x{indications:04X}</small></td>",
-                Span(now.saturating_sub(at)),
-                Moment(at),
-                Names(indications)
-            ),
+            Some(at) => {
+                write_answer(f, Span(now.saturating_sub(at)), Moment(at))?;
+                write_indications(f, indications)
+            }
             None => f.write_str(
                 "<td data-column=\"Last answer\">never</td><td data-column=Indications>none</td>",
             ),
         }
     }
+}
+
+/// Writes how long ago an outstation answered, and when.
+fn write_answer<W: fmt::Write>(f: &mut fmt::Formatter<W>, span: Span, at: Moment) -> fmt::Result {
+    write!(
+        f,
+        "<td data-column=\"Last answer\">{span} ago <small>{at}</small></td>"
+    )
+}
+
+/// Writes what an outstation indicated.
+fn write_indications<W: fmt::Write>(f: &mut fmt::Formatter<W>, indications: u16) -> fmt::Result {
+    let trouble = if tell_of_trouble(indications) {
+        "<strong>TROUBLE:</strong> "
+    } else {
+        ""
+    };
+    let names = Names(indications);
+    write!(
+        f,
+        "<td data-column=Indications>{trouble}{names} <small>0x{indications:04X}</small></td>"
+    )
 }
 
 /// Cells with a number each, below the words of its column.
@@ -121,10 +141,15 @@ struct Counts<'a>(&'a [(&'static str, u64)]);
 impl<'a> fmt::Display for Counts<'a> {
     fn fmt<W: fmt::Write>(&self, f: &mut fmt::Formatter<W>) -> fmt::Result {
         for (column, count) in self.0 {
-            write!(f, "<td class=number data-column=\"{column}\">{count}</td>")?;
+            write_count(f, column, *count)?;
         }
         Ok(())
     }
+}
+
+/// Writes the cell of a column.
+fn write_count<W: fmt::Write>(f: &mut fmt::Formatter<W>, column: &str, count: u64) -> fmt::Result {
+    write!(f, "<td class=number data-column=\"{column}\">{count}</td>")
 }
 
 /// How many there are of each part, where there are some, as `2 done, 1 waiting`; `none` where there are none at all.
@@ -136,12 +161,22 @@ impl<'a> fmt::Display for Parts<'a> {
         let mut separator = "";
         for (part, count) in self.0 {
             if *count != 0 {
-                write!(f, "{separator}{count} {part}")?;
+                write_part(f, separator, part, *count)?;
                 separator = ", ";
             }
         }
         f.write_str(if separator.is_empty() { "none" } else { "" })
     }
+}
+
+/// Writes how many there are of a part, behind those before it.
+fn write_part<W: fmt::Write>(
+    f: &mut fmt::Formatter<W>,
+    separator: &str,
+    part: &str,
+    count: u64,
+) -> fmt::Result {
+    write!(f, "{separator}{count} {part}")
 }
 
 /// The rows of the places for clients at a moment.

@@ -156,44 +156,70 @@ fn write_device<W: Write>(known: &[u16], writer: &mut W) -> io::Result<()> {
 fn write_point_types<W: Write>(rows: &[Row], writer: &mut W) -> io::Result<()> {
     writer.write_all(b"\nProcess information in monitor direction\n")?;
     for listed in &POINT_TYPES {
-        write_type(listed, mark_of(rows, listed.show), writer)?;
+        write_type(listed, rows, writer)?;
     }
     Ok(())
 }
 
 /// Writes a type of a way to show a point, and those behind it.
-fn write_type<W: Write>(listed: &Listed, mark: char, writer: &mut W) -> io::Result<()> {
+fn write_type<W: Write>(listed: &Listed, rows: &[Row], writer: &mut W) -> io::Result<()> {
     let types = point_types(listed.show);
     let (name, tag) = if listed.is_timed {
         (types.timed, ", with CP56Time2a")
     } else {
         (types.untimed, "")
     };
-    let (about, behind) = (types.about, listed.unused_behind);
-    write!(writer, "[{mark}] {name} {about}{tag}\n{behind}")
+    let mark = mark_of(rows, listed.show);
+    write_parts(
+        &[
+            mark,
+            name,
+            " ",
+            types.about,
+            tag,
+            "\n",
+            listed.unused_behind,
+        ],
+        writer,
+    )
 }
 
-/// What stands in the brackets at the types of a way to show a point.
-fn mark_of(rows: &[Row], show: Show) -> char {
+/// Writes parts of a text, one after the other.
+fn write_parts<W: Write>(parts: &[&str], writer: &mut W) -> io::Result<()> {
+    for part in parts {
+        writer.write_all(part.as_bytes())?;
+    }
+    Ok(())
+}
+
+/// What stands in front of the types of a way to show a point.
+fn mark_of(rows: &[Row], show: Show) -> &'static str {
     if rows.iter().any(|row| row.show == show) {
-        'x'
+        "[x] "
     } else {
-        ' '
+        "[ ] "
     }
 }
 
 /// Writes what the station does, and by how many minutes its clock is ahead of UTC.
 fn write_functions<W: Write>(station: &Station, writer: &mut W) -> io::Result<()> {
     writer.write_all(FUNCTIONS.as_bytes())?;
-    let offset = station.offset_minutes;
-    write!(
-        writer,
-        "[x] time tags CP56Time2a: {offset} minutes ahead of UTC, "
-    )?;
+    write_offset(station.offset_minutes, writer)?;
     match posix::TimeZone::parse(station.rule_text.as_bytes()) {
         Err(_) => writer.write_all(b"the whole year round\n"),
-        Ok(rule) => writeln!(writer, "60 more with SU by the rule {rule}"),
+        Ok(rule) => write_rule(&rule, writer),
     }
+}
+
+fn write_offset<W: Write>(offset_minutes: i16, writer: &mut W) -> io::Result<()> {
+    write!(
+        writer,
+        "[x] time tags CP56Time2a: {offset_minutes} minutes ahead of UTC, "
+    )
+}
+
+fn write_rule<W: Write>(rule: &posix::TimeZone, writer: &mut W) -> io::Result<()> {
+    writeln!(writer, "60 more with SU by the rule {rule}")
 }
 
 /// Writes the time-outs and the windows.

@@ -156,9 +156,14 @@ impl fmt::Display for Effect {
     fn fmt<W: fmt::Write>(&self, f: &mut fmt::Formatter<W>) -> fmt::Result {
         match self.0 {
             Operates::Single(pulses) | Operates::Double(pulses) => write_pulses(f, pulses),
-            Operates::Setpoint(scale) => write!(f, "value times {}", Factor(scale)),
+            Operates::Setpoint(scale) => write_factor(f, Factor(scale)),
         }
     }
+}
+
+/// Writes what a set point is multiplied by.
+fn write_factor<W: fmt::Write>(f: &mut fmt::Formatter<W>, factor: Factor) -> fmt::Result {
+    write!(f, "value times {factor}")
 }
 
 /// Writes how an output rests, and how long it is on, by the qualifier of the command, QU.
